@@ -1,17 +1,9 @@
 -- What the reasons of refusals advise: that `compact` makes room, or that a fresh space would not.
-use Rattle.std.proofs.Common.{◌≡◌, ◌≢◌, ◌↔◌, ℕ, suc, ◌+◌, ◌*◌, ◌^◌, ◌<◌, ◌≤◌, true, false, List, [], ◌∷◌, ◌++◌, length, sum, replicate}
-use Rattle.std.proofs.Common.{if◌then◌else◌, refl, sym, ap, subst, ◌∙◌, inl, inr, arith, length-append}
-use Rattle.std.specs.List.{AllByRecursion}
-use Rattle.std.proofs.lemmas.Bool.{cases_lt, cases_eq}
-use Rattle.std.proofs.lemmas.List.{length-replicate}
-use Rattle.std.proofs.lemmas.List.Sums.{sum_by-cons}
+use Rattle.offset_allocator.proofs.Common.{◌≡◌, ◌≢◌, ◌↔◌, ℕ, suc, ◌+◌, ◌*◌, ◌^◌, ◌<◌, ◌≤◌, true, false, List, [], ◌∷◌, ◌++◌, length, sum, replicate, if◌then◌else◌, refl, sym, ap, subst, ◌∙◌, inl, inr}
+use Rattle.offset_allocator.proofs.Common.{arith, length-append, AllByRecursion, cases_lt, cases_eq, length-replicate, sum_by-cons, value, up, down, Block, View, free_sizes, bin_at, push, push_all}
+use Rattle.offset_allocator.proofs.Common.{IsWellFormed, IsFresh, Compacts, live, gathered, CanGrant, HasRoomFor, IsWhy, size_needed}
 use Rattle.offset_allocator.specs.declared.reports.Refusal.{Refusal}
 use Rattle.offset_allocator.specs.declared.reports.Refusal.TheVariants.{Nodes, TooLarge, Space, Fragmented}
-use Rattle.offset_allocator.specs.Classes.{value, up, down}
-use Rattle.offset_allocator.specs.View.{Block, View, free_sizes, bin_at, push, push_all, IsWellFormed}
-use Rattle.offset_allocator.specs.Relations.{IsFresh}
-use Rattle.offset_allocator.specs.Compacting.{Compacts, live, gathered}
-use Rattle.offset_allocator.specs.Requests.{CanGrant, HasRoomFor, IsWhy, size_needed}
 use Rattle.offset_allocator.proofs.Always.{adds_up}
 use Rattle.offset_allocator.proofs.Classes.{down_law, down_small, value_down, value_grows, up_reached}
 use Rattle.offset_allocator.proofs.Counting.{value_within_free}

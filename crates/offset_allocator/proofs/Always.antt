@@ -1,13 +1,7 @@
 -- Sums and bounds of a well formed view.
-use Rattle.std.proofs.Common.{◌≡◌, ℕ, ◌+◌, ◌*◌, ◌<◌, ◌≤◌, Bool, true, false, not, ◌&&◌, ◌↔◌, List, [], ◌∷◌, ◌++◌, length, sum, if◌then◌else◌, refl, sym, ap}
-use Rattle.std.proofs.Common.{ap₂, subst, ◌∙◌, arith, le-leb, true≢false}
-use Rattle.std.specs.List.{AllByRecursion}
-use Rattle.std.proofs.lemmas.List.Sums.{sum_by-cons}
-use Rattle.offset_allocator.specs.Classes.{value, up, down}
-use Rattle.offset_allocator.specs.Reports.{largest}
-use Rattle.offset_allocator.specs.View.{Block, View, used_units, used_of, one, starts_free, total_free, largest_free, units, free_sizes, free_block, IsApart, IsWellFormed, max_size}
-use Rattle.offset_allocator.specs.Relations.{IsFresh}
-use Rattle.offset_allocator.specs.Requests.{CanGrant}
+use Rattle.offset_allocator.proofs.Common.{◌≡◌, ℕ, ◌+◌, ◌*◌, ◌<◌, ◌≤◌, Bool, true, false, not, ◌&&◌, ◌↔◌, List, [], ◌∷◌, ◌++◌, length, sum, if◌then◌else◌, refl, sym, ap, ap₂, subst, ◌∙◌, arith}
+use Rattle.offset_allocator.proofs.Common.{le-leb, true≢false, AllByRecursion, sum_by-cons, value, up, down, largest, Block, View, used_units, used_of, one, starts_free, total_free, largest_free}
+use Rattle.offset_allocator.proofs.Common.{units, free_sizes, free_block, IsApart, IsWellFormed, max_size, IsFresh, CanGrant}
 use Rattle.offset_allocator.proofs.Taken.{fitting}
 use Rattle.offset_allocator.proofs.Classes.{down_law}
 use Rattle.offset_allocator.proofs.ViewTaken.{well_alone}

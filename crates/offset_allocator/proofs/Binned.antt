@@ -1,11 +1,7 @@
 -- The bins after a change of one of them.
-use Rattle.std.proofs.Common.{◌≡◌, ◌≢◌, ◌<◌, ◌≤◌, ◌+◌, ◌⊎◌, ℕ, List, [], ◌∷◌, ◌++◌, map, refl, sym, ap, subst, ◌∙◌, inl, inr, arith, length, drop}
-use Rattle.std.proofs.Common.{slice_index, slice_set}
-use Rattle.std.proofs.lemmas.Bool.{cases_eq}
-use Rattle.std.proofs.lemmas.List.{length-set, length-map, get_or-set_same, get_or-set_other, get_or-map, ext_get_or, set-get_or, set-set, set_comm}
-use Rattle.offset_allocator.specs.Cells.{Links}
-use Rattle.offset_allocator.specs.View.{bin_at, times, without, push, remove}
-use Rattle.offset_allocator.specs.Bins.{IsLinked, Among, flag, first_of, walk, HasBins, AreMasks, IsUnlisted, IsBinned, bins_in}
+use Rattle.offset_allocator.proofs.Common.{◌≡◌, ◌≢◌, ◌<◌, ◌≤◌, ◌+◌, ◌⊎◌, ℕ, List, [], ◌∷◌, ◌++◌, map, refl, sym, ap, subst, ◌∙◌, inl, inr, arith, length, drop, slice_index, slice_set, cases_eq}
+use Rattle.offset_allocator.proofs.Common.{length-set, length-map, get_or-set_same, get_or-set_other, get_or-map, ext_get_or, set-get_or, set-set, set_comm, Links, bin_at, times, without, push}
+use Rattle.offset_allocator.proofs.Common.{remove, IsLinked, Among, flag, first_of, walk, HasBins, AreMasks, IsUnlisted, IsBinned, bins_in}
 use Rattle.offset_allocator.proofs.Masks.{masked_same, flag_full}
 use Rattle.offset_allocator.proofs.Tallies.{hit_cases, one-same, times-join}
 use Rattle.offset_allocator.proofs.ViewOrders.{names_same, names_other, times_without_le, unlisted_removed}

@@ -1,18 +1,8 @@
 -- What it leaves of the whole allocator to slide the live ranges to the front.
-use Rattle.std.proofs.Common.{◌≡◌, ℕ, suc, ◌+◌, ◌≤◌, Bool, true, false, not, ◌&&◌, Some, None, List, [], ◌∷◌, ◌++◌, length, replicate, sum, if◌then◌else◌, nat_eq}
-use Rattle.std.proofs.Common.{refl, sym, ap, ap₂, subst, ◌∙◌, inl, inr, arith, append-nil, length-append, eq-zero-or-pos}
-use Rattle.std.specs.List.{AllByRecursion}
-use Rattle.std.proofs.lemmas.Bool.Decides.{nat_tests}
-use Rattle.std.proofs.lemmas.List.{length-replicate, ext_get_or}
-use Rattle.offset_allocator.specs.Classes.{down}
-use Rattle.offset_allocator.specs.Cells.{Cells, Room}
-use Rattle.offset_allocator.specs.View.{Block, View, Place, one, free_block, units, free_sizes, used_units, used_of, count_named, count_in_bin, bin_at, push, push_all, IsApart, IsWellFormed}
-use Rattle.offset_allocator.specs.View.{starts_free}
-use Rattle.offset_allocator.specs.Compacting.{live, moves, move_of, first_free, gathered, Compacts}
-use Rattle.offset_allocator.specs.Relations.{SameSpace}
-use Rattle.offset_allocator.specs.Chain.{HasPlace, blocks}
-use Rattle.offset_allocator.specs.Bins.{IsBinned, bins_in}
-use Rattle.offset_allocator.specs.Soundness.{AreInBins, free_units}
+use Rattle.offset_allocator.proofs.Common.{◌≡◌, ℕ, suc, ◌+◌, ◌≤◌, Bool, true, false, not, ◌&&◌, Some, None, List, [], ◌∷◌, ◌++◌, length, replicate, sum, if◌then◌else◌, nat_eq, refl, sym, ap, ap₂}
+use Rattle.offset_allocator.proofs.Common.{subst, ◌∙◌, inl, inr, arith, append-nil, length-append, eq-zero-or-pos, AllByRecursion, nat_tests, length-replicate, ext_get_or, down, Cells, Room, Block}
+use Rattle.offset_allocator.proofs.Common.{View, Place, one, free_block, units, free_sizes, used_units, used_of, count_named, count_in_bin, bin_at, push, push_all, IsApart, IsWellFormed, starts_free}
+use Rattle.offset_allocator.proofs.Common.{live, moves, move_of, first_free, gathered, Compacts, SameSpace, HasPlace, blocks, IsBinned, bins_in, AreInBins, free_units}
 use Rattle.offset_allocator.proofs.Always.{parted}
 use Rattle.offset_allocator.proofs.Emptied.{no_name, none_at}
 use Rattle.offset_allocator.proofs.Exchange.{each-le, there-below, unused}

@@ -1,14 +1,7 @@
 -- The names of a class are as many as its free blocks.
-use Rattle.std.proofs.Common.{◌≡◌, ◌≢◌, ℕ, zero, suc, ◌+◌, ◌*◌, ◌<◌, ◌≤◌, true, false, not, cond, ◌&&◌, List, [], ◌∷◌, length, sum, nat_eq, nat_lt}
-use Rattle.std.proofs.Common.{if◌then◌else◌, refl, sym, ap, inl, inr, arith, eq-eqb, ne_eqb}
-use Rattle.std.proofs.lemmas.Bool.{cases_eq, cases_lt}
-use Rattle.std.proofs.lemmas.Bool.Decides.{nat_tests}
-use Rattle.std.proofs.lemmas.List.{get_or_past}
-use Rattle.std.proofs.lemmas.List.Sums.{sum_by-cons}
-use Rattle.offset_allocator.specs.Classes.{value, up, down}
-use Rattle.offset_allocator.specs.Reports.{count_of, largest}
-use Rattle.offset_allocator.specs.View.{Block, View, one, times, count_in_bin, bin_at, free_sizes, IsWellFormed}
-use Rattle.offset_allocator.specs.Requests.{IsLargestClass}
+use Rattle.offset_allocator.proofs.Common.{◌≡◌, ◌≢◌, ℕ, zero, suc, ◌+◌, ◌*◌, ◌<◌, ◌≤◌, true, false, not, cond, ◌&&◌, List, [], ◌∷◌, length, sum, nat_eq, nat_lt, if◌then◌else◌, refl, sym, ap, inl, inr}
+use Rattle.offset_allocator.proofs.Common.{arith, eq-eqb, ne_eqb, cases_eq, cases_lt, nat_tests, get_or_past, sum_by-cons, value, up, down, count_of, largest, Block, View, one, times, count_in_bin}
+use Rattle.offset_allocator.proofs.Common.{bin_at, free_sizes, IsWellFormed, IsLargestClass}
 use Rattle.offset_allocator.proofs.Classes.{down_small, value_down, value_grows, up_reached}
 use Rattle.offset_allocator.proofs.Walks.{drop_one}
 use Rattle.offset_allocator.proofs.Tallies.{one-same}

@@ -1,11 +1,9 @@
 -- Entries as a list of nodes.
-use Rattle.std.proofs.Common.{◌≡◌, ◌≢◌, ℕ, zero, suc, ◌-◌, [], ◌∷◌, ◌++◌, ◌<◌, ◌≤◌, Bool, true, false, List, length, map, set, get_or, refl, sym, ◌∙◌, ap}
-use Rattle.std.proofs.Common.{arith, eqb, eq-eqb, ne_eqb}
-use Rattle.std.proofs.lemmas.List.{get_or_past, length-map, length-set, map-set, map-append, set-get_or}
-use Rattle.std.specs.Vec.{vec_len, vec_capacity, with_item}
+use Rattle.offset_allocator.proofs.Common.{◌≡◌, ◌≢◌, ℕ, zero, suc, ◌-◌, [], ◌∷◌, ◌++◌, ◌<◌, ◌≤◌, Bool, true, false, List, length, map, set, get_or, refl, sym, ◌∙◌, ap, arith, eqb, eq-eqb, ne_eqb}
+use Rattle.offset_allocator.proofs.Common.{get_or_past, length-map, length-set, map-set, map-append, set-get_or, vec_len, vec_capacity, Cells, Node, blank, mark_of, node, put, AreShaped, node_of}
+use Rattle.offset_allocator.proofs.Common.{nodes_of, cells_by_node, AreEven}
+use Rattle.std.specs.Vec.{with_item}
 use Rattle.std.proofs.Math.Seq.{map-set_same}
-use Rattle.offset_allocator.specs.Cells.{Cells, Node, blank, mark_of, node, put, AreShaped}
-use Rattle.offset_allocator.specs.Layouts.{node_of, nodes_of, cells_by_node, AreEven}
 use Rattle.offset_allocator.specs.declared.by_node.Node.{Node as Entry}
 use Rattle.offset_allocator.specs.declared.by_node.ByNode.TheInside.{Inside}
 

@@ -1,18 +1,8 @@
 -- What more units at the end leave of the whole allocator.
-use Rattle.std.proofs.Common.{◌≡◌, ◌↔◌, ℕ, ◌+◌, ◌-◌, ◌<◌, ◌≤◌, ◌^◌, Bool, true, false, not, ◌⊎◌, List, [], ◌∷◌, ◌++◌, length, refl, sym, ap, subst}
-use Rattle.std.proofs.Common.{◌∙◌, inl, inr, arith, slice_set, append-nil}
-use Rattle.std.proofs.lemmas.Bool.{true≢false, false≢true}
-use Rattle.offset_allocator.specs.Classes.{down}
-use Rattle.offset_allocator.specs.Cells.{Cells, Room, Node, node}
-use Rattle.std.specs.List.{AllByRecursion}
-use Rattle.offset_allocator.specs.View.{Block, View, count_named, bin_at, count_in_bin, is_free, IsApart, IsWellFormed, IsNew, free_block, units, replace, remove_all, push, remove, without, times}
-use Rattle.offset_allocator.specs.View.{ends_used}
-use Rattle.offset_allocator.specs.Requests.{HasRoomFor}
-use Rattle.offset_allocator.specs.Ranges.{KeepsAll}
-use Rattle.offset_allocator.specs.Relations.{Adds, CanExtend, Extends}
-use Rattle.offset_allocator.specs.Chain.{IsChain, HasPlace, blocks}
-use Rattle.offset_allocator.specs.Bins.{Among, IsUnlisted, bins_in, IsBinned}
-use Rattle.offset_allocator.specs.Soundness.{free_units}
+use Rattle.offset_allocator.proofs.Common.{◌≡◌, ◌↔◌, ℕ, ◌+◌, ◌-◌, ◌<◌, ◌≤◌, ◌^◌, Bool, true, false, not, ◌⊎◌, List, [], ◌∷◌, ◌++◌, length, refl, sym, ap, subst, ◌∙◌, inl, inr, arith, slice_set}
+use Rattle.offset_allocator.proofs.Common.{append-nil, true≢false, false≢true, AllByRecursion, down, Cells, Room, Node, node, Block, View, count_named, bin_at, count_in_bin, is_free, IsApart}
+use Rattle.offset_allocator.proofs.Common.{IsWellFormed, IsNew, free_block, units, replace, remove_all, push, remove, without, times, ends_used, HasRoomFor, KeepsAll, Adds, CanExtend, Extends}
+use Rattle.offset_allocator.proofs.Common.{IsChain, HasPlace, blocks, Among, IsUnlisted, bins_in, IsBinned, free_units}
 use Rattle.offset_allocator.proofs.Sound.{Fields, AreSound, shown, well_counted, well_same}
 use Rattle.offset_allocator.proofs.Ends.{Ended, ended}
 use Rattle.offset_allocator.proofs.Places.{at_place, end_place}

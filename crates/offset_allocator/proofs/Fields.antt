@@ -1,10 +1,7 @@
 -- A table for each field as a list of nodes.
-use Rattle.std.proofs.Common.{◌≡◌, ◌≢◌, ℕ, zero, suc, ◌+◌, ◌-◌, [], ◌∷◌, ◌++◌, ◌<◌, ◌≤◌, List, length, map, set, get_or, refl, sym, ◌∙◌, ap, ap₂}
-use Rattle.std.proofs.Common.{arith, Bool, false, Some, None, if◌then◌else◌, eqb, eq-eqb, ne_eqb}
-use Rattle.std.proofs.lemmas.List.{get_or-set_same, get_or-set_other, length-map, length-append, map-append, map-set, set-get_or}
-use Rattle.std.specs.Prelude.{vec_len, vec_capacity}
-use Rattle.offset_allocator.specs.Cells.{Cells, Node, blank, link_of, mark_of, node, put, AreShaped}
-use Rattle.offset_allocator.specs.Layouts.{FieldTables, node_in, nodes_in, values, field_tables, cells_by_field, AreLevel}
+use Rattle.offset_allocator.proofs.Common.{◌≡◌, ◌≢◌, ℕ, zero, suc, ◌+◌, ◌-◌, [], ◌∷◌, ◌++◌, ◌<◌, ◌≤◌, List, length, map, set, get_or, refl, sym, ◌∙◌, ap, ap₂, arith, Bool, false, Some, None}
+use Rattle.offset_allocator.proofs.Common.{if◌then◌else◌, eqb, eq-eqb, ne_eqb, get_or-set_same, get_or-set_other, length-map, length-append, map-append, map-set, set-get_or, vec_len, vec_capacity}
+use Rattle.offset_allocator.proofs.Common.{Cells, Node, blank, link_of, mark_of, node, put, AreShaped, FieldTables, node_in, nodes_in, values, field_tables, cells_by_field, AreLevel}
 use Rattle.offset_allocator.proofs.Entries.{marked}
 use Rattle.offset_allocator.specs.declared.by_field.ByField.TheInside.{Inside}
 

@@ -1,11 +1,7 @@
 -- A block in no bin, where the bins hold the other free blocks.
-use Rattle.std.proofs.Common.{◌≡◌, ℕ, ◌+◌, ◌≤◌, Bool, true, false, ◌&&◌, Some, None, List, [], ◌∷◌, ◌++◌, length, nat_eq, refl, sym, ap, ◌∙◌, arith, inl, inr}
-use Rattle.offset_allocator.specs.Classes.{down}
-use Rattle.offset_allocator.specs.Cells.{Room, Node, node}
-use Rattle.offset_allocator.specs.View.{Block, Place, one, is_free, count_named, count_in_bin, bin_at, free_end, without_end, free_start, without_start, remove_all}
-use Rattle.offset_allocator.specs.Chain.{HasPlace, first_or}
-use Rattle.offset_allocator.specs.Bins.{Among, IsUnlisted}
-use Rattle.offset_allocator.specs.Soundness.{AreInBins, AreUnlisted}
+use Rattle.offset_allocator.proofs.Common.{◌≡◌, ℕ, ◌+◌, ◌≤◌, Bool, true, false, ◌&&◌, Some, None, List, [], ◌∷◌, ◌++◌, length, nat_eq, refl, sym, ap, ◌∙◌, arith, inl, inr, down, Room, Node, node}
+use Rattle.offset_allocator.proofs.Common.{Block, Place, one, is_free, count_named, count_in_bin, bin_at, free_end, without_end, free_start, without_start, remove_all, HasPlace, first_or, Among}
+use Rattle.offset_allocator.proofs.Common.{IsUnlisted, AreInBins, AreUnlisted}
 use Rattle.offset_allocator.proofs.Exchange.{each-le}
 use Rattle.offset_allocator.proofs.Places.{at_place, next_place, previous_place}
 use Rattle.offset_allocator.proofs.Tallies.{listed_named, tally_append, hit_cases, one-eq, times-append}

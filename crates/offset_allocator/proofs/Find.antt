@@ -1,15 +1,9 @@
 -- The first and the last class that has a name, by the masks.
-use Rattle.std.proofs.Common.{◌≡◌, ◌≢◌, ◌<◌, ◌≤◌, ℕ, suc, ◌+◌, ◌-◌, ◌*◌, ◌/◌, ◌%◌, ◌^◌, List, [], ◌∷◌, bit_and, refl, sym, ap, ◌∙◌, inl}
-use Rattle.std.proofs.Common.{inr, arith, slice_index, w32, w64, ne_eqb, pow-suc, ⊎_elim}
+use Rattle.offset_allocator.proofs.Common.{◌≡◌, ◌≢◌, ◌<◌, ◌≤◌, ℕ, suc, ◌+◌, ◌-◌, ◌*◌, ◌/◌, ◌%◌, ◌^◌, List, [], ◌∷◌, bit_and, refl, sym, ap, ◌∙◌, inl, inr, arith, slice_index, w32, w64, ne_eqb}
+use Rattle.offset_allocator.proofs.Common.{pow-suc, ⊎_elim, bit_at, Width, trailing_zeros, count_trailing_zeros, count_leading_zeros, pow_pos, leading_top, le-div, div_below, div-mul-add, mod-mul-add}
+use Rattle.offset_allocator.proofs.Common.{and_le_l, bit_at_above, bit_at-zero, bit_at-trailing_zeros, bit_at_and, bit_at_mask_inside, bit_at_mask_below, bit_at-lt, ones_shl, cases_lt, cases_eq}
+use Rattle.offset_allocator.proofs.Common.{bin_at, flag, mark, IsSmallestFrom, AreMasks, IsLargestClass}
 use mir.Val.{bits}
-use Rattle.std.specs.Int.{bit_at, Width, trailing_zeros}
-use Rattle.std.specs.Int.Count.{count_trailing_zeros, count_leading_zeros}
-use Rattle.std.proofs.lemmas.Nat.{pow_pos, leading_top, le-div, div_below, div-mul-add, mod-mul-add, and_le_l}
-use Rattle.std.proofs.lemmas.Nat.Bits.{bit_at_above, bit_at-zero, bit_at-trailing_zeros, bit_at_and, bit_at_mask_inside, bit_at_mask_below, bit_at-lt, ones_shl}
-use Rattle.std.proofs.lemmas.Bool.{cases_lt, cases_eq}
-use Rattle.offset_allocator.specs.View.{bin_at}
-use Rattle.offset_allocator.specs.Bins.{flag, mark, IsSmallestFrom, AreMasks}
-use Rattle.offset_allocator.specs.Requests.{IsLargestClass}
 
 -- the lowest bit of a word at or above a place, as code finds it: `(n & (MAX << k)).trailing_zeros()`
 module _ (w : Width) (n k : ℕ) (small : n < 2 ^ bits w) (within : k ≤ bits w) where

@@ -1,14 +1,8 @@
 -- What it leaves of the whole allocator to free a block.
-use Rattle.std.proofs.Common.{◌≡◌, ℕ, ◌+◌, ◌<◌, ◌^◌, Bool, true, false, not, ◌&&◌, List, [], ◌∷◌, ◌++◌, Option, Some, None, if◌then◌else◌, refl, sym, ap, ap₂}
-use Rattle.std.proofs.Common.{subst, ◌∙◌, arith, nat_eq}
-use Rattle.std.proofs.lemmas.Bool.{false≢true}
-use Rattle.offset_allocator.specs.Classes.{down}
-use Rattle.offset_allocator.specs.Cells.{Cells}
-use Rattle.offset_allocator.specs.View.{Block, View, Place, one, count_named, count_in_bin, IsWellFormed, units, place_of, is_used_at, free_end, without_end, free_start, without_start, remove_all}
-use Rattle.offset_allocator.specs.View.{push, free_block, replace, IsApart, remove}
-use Rattle.offset_allocator.specs.Chain.{IsChain, HasPlace, blocks}
-use Rattle.offset_allocator.specs.Bins.{bins_in, IsBinned}
-use Rattle.offset_allocator.specs.Soundness.{IsSound, view_of, free_units, AreInBins}
+use Rattle.offset_allocator.proofs.Common.{◌≡◌, ℕ, ◌+◌, ◌<◌, ◌^◌, Bool, true, false, not, ◌&&◌, List, [], ◌∷◌, ◌++◌, Option, Some, None, if◌then◌else◌, refl, sym, ap, ap₂, subst, ◌∙◌, arith, nat_eq}
+use Rattle.offset_allocator.proofs.Common.{false≢true, down, Cells, Block, View, Place, one, count_named, count_in_bin, IsWellFormed, units, place_of, is_used_at, free_end, without_end, free_start}
+use Rattle.offset_allocator.proofs.Common.{without_start, remove_all, push, free_block, replace, IsApart, remove, IsChain, HasPlace, blocks, bins_in, IsBinned, IsSound, view_of, free_units, AreInBins}
+use Rattle.offset_allocator.proofs.Common.{SameSpace, Frees}
 use Rattle.offset_allocator.proofs.Filed.{share}
 use Rattle.offset_allocator.proofs.Sound.{Fields, AreSound, shown, well_counted}
 use Rattle.offset_allocator.proofs.Places.{located}
@@ -16,7 +10,6 @@ use Rattle.offset_allocator.proofs.ViewSteps.{place_at}
 use Rattle.offset_allocator.proofs.ViewTaken.{well_frees, tally_end, tally_start}
 use Rattle.offset_allocator.proofs.ViewApart.{apart_parts, apart_coalesced, coalesced_parts}
 use Rattle.offset_allocator.proofs.Released.{idle_append, idle_end, idle_start}
-use Rattle.offset_allocator.specs.Relations.{SameSpace, Frees}
 use Rattle.offset_allocator.proofs.Joints.{stepped, free_most, free_units-append, free_units-free, free_units-used}
 use Rattle.offset_allocator.proofs.Tallies.{tally_append}
 

@@ -1,16 +1,8 @@
 -- A fresh space.
-use Rattle.std.proofs.Common.{◌≡◌, ◌≢◌, ℕ, zero, suc, ◌+◌, ◌/◌, ◌%◌, ◌<◌, ◌≤◌, ◌^◌, false, None, List, [], ◌∷◌, length, get_or, replicate, refl, sym}
-use Rattle.std.proofs.Common.{◌∙◌, ap, ap₂, subst, arith, inl, inr, slice_index}
-use Rattle.std.proofs.lemmas.List.{length-replicate, get_or-replicate}
-use Rattle.std.proofs.lemmas.Nat.Bits.{bit_at-zero}
-use Rattle.std.proofs.lemmas.Bool.{cases_eq}
-use Rattle.std.proofs.lemmas.Bool.Decides.{nat_tests}
-use Rattle.offset_allocator.specs.Classes.{down}
-use Rattle.offset_allocator.specs.Cells.{Cells, Links, Room, Node, blank, node, put, AreEmpty, IsBare, AreShaped}
-use Rattle.offset_allocator.specs.View.{Block, View, IsWellFormed, free_block, push, bin_at}
-use Rattle.offset_allocator.specs.Chain.{IsChain, IsSpace, blocks, spares}
-use Rattle.offset_allocator.specs.Bins.{HasBins, AreMasks, IsBinned, bins_in, Among, IsUnlisted}
-use Rattle.offset_allocator.specs.Soundness.{IsSound, view_of, free_units}
+use Rattle.offset_allocator.proofs.Common.{◌≡◌, ◌≢◌, ℕ, zero, suc, ◌+◌, ◌/◌, ◌%◌, ◌<◌, ◌≤◌, ◌^◌, false, None, List, [], ◌∷◌, length, get_or, replicate, refl, sym, ◌∙◌, ap, ap₂, subst, arith, inl, inr}
+use Rattle.offset_allocator.proofs.Common.{slice_index, length-replicate, get_or-replicate, bit_at-zero, cases_eq, nat_tests, down, Cells, Links, Room, Node, blank, node, put, AreEmpty, IsBare}
+use Rattle.offset_allocator.proofs.Common.{AreShaped, Block, View, IsWellFormed, free_block, push, bin_at, IsChain, IsSpace, blocks, spares, HasBins, AreMasks, IsBinned, bins_in, Among, IsUnlisted}
+use Rattle.offset_allocator.proofs.Common.{IsSound, view_of, free_units}
 use Rattle.offset_allocator.proofs.Nodes.{node-put, node-put_other, length-put, spare-put, reserved-put}
 use Rattle.offset_allocator.proofs.Binned.{binned}
 use Rattle.offset_allocator.proofs.ViewTaken.{well_alone}

@@ -1,14 +1,8 @@
 -- What a grant leaves of the whole allocator.
-use Rattle.std.proofs.Common.{◌≡◌, ℕ, zero, suc, ◌+◌, ◌-◌, ◌<◌, ◌≤◌, ◌^◌, List, [], ◌∷◌, ◌++◌, length, refl, sym, ap, ap₂, ◌∙◌, arith, slice_set}
-use Rattle.std.proofs.Common.{append_assoc, le-leb, nat_eq}
-use Rattle.offset_allocator.specs.Classes.{up, down}
-use Rattle.offset_allocator.specs.Cells.{Cells, Room}
-use Rattle.offset_allocator.specs.View.{Block, View, Place, Grant, one, count_named, bin_at, IsWellFormed, IsNew, free_part, used_block, units, replace, remove_all, push_all, remove, without}
-use Rattle.offset_allocator.specs.Chain.{HasPlace}
-use Rattle.offset_allocator.specs.Bins.{IsSmallestFrom, bins_in, IsBinned}
-use Rattle.offset_allocator.specs.Soundness.{AreUnlisted, free_units}
+use Rattle.offset_allocator.proofs.Common.{◌≡◌, ℕ, zero, suc, ◌+◌, ◌-◌, ◌<◌, ◌≤◌, ◌^◌, List, [], ◌∷◌, ◌++◌, length, refl, sym, ap, ap₂, ◌∙◌, arith, slice_set, append_assoc, le-leb, nat_eq, up, down}
+use Rattle.offset_allocator.proofs.Common.{Cells, Room, Block, View, Place, Grant, one, count_named, bin_at, IsWellFormed, IsNew, free_part, used_block, units, replace, remove_all, push_all, remove}
+use Rattle.offset_allocator.proofs.Common.{without, HasPlace, IsSmallestFrom, bins_in, IsBinned, AreUnlisted, free_units, SameSpace, Splits}
 use Rattle.offset_allocator.proofs.Sound.{Fields, AreSound, shown, well_counted}
-use Rattle.offset_allocator.specs.Relations.{SameSpace, Splits}
 use Rattle.offset_allocator.proofs.Exchange.{each-le, there-below}
 use Rattle.offset_allocator.proofs.Places.{placed, end_fits}
 use Rattle.offset_allocator.proofs.Classes.{fits_size}

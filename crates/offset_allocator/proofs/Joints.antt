@@ -1,12 +1,7 @@
 -- The chain, the bins and the view together.
-use Rattle.std.proofs.Common.{◌≡◌, ℕ, zero, suc, ◌+◌, ◌≤◌, Bool, true, false, List, [], ◌∷◌, ◌++◌, if◌then◌else◌, refl, sym, ap, subst, ◌∙◌, arith}
-use Rattle.offset_allocator.specs.Classes.{down}
-use Rattle.offset_allocator.specs.View.{units, Block, View, count_named, count_in_bin, IsWellFormed, free_part, remove_all, remove}
-use Rattle.offset_allocator.specs.Cells.{Cells}
-use Rattle.offset_allocator.specs.Chain.{IsChain}
-use Rattle.offset_allocator.specs.Bins.{IsBinned, bins_in, IsUnlisted}
+use Rattle.offset_allocator.proofs.Common.{◌≡◌, ℕ, zero, suc, ◌+◌, ◌≤◌, Bool, true, false, List, [], ◌∷◌, ◌++◌, if◌then◌else◌, refl, sym, ap, subst, ◌∙◌, arith, down, units, Block, View, count_named}
+use Rattle.offset_allocator.proofs.Common.{count_in_bin, IsWellFormed, free_part, remove_all, remove, Cells, IsChain, IsBinned, bins_in, IsUnlisted, view_of, free_units}
 use Rattle.offset_allocator.proofs.Views.{blocks-chain, space-chain}
-use Rattle.offset_allocator.specs.Soundness.{view_of, free_units}
 use Rattle.offset_allocator.proofs.Sound.{Fields, AreSound, well_counted}
 use Rattle.offset_allocator.proofs.Tallies.{listed_named, tally_append}
 

@@ -1,11 +1,7 @@
 -- The last of the first blocks of a space, and the list of what an iterator has left.
-use Rattle.std.proofs.Common.{◌≡◌, ℕ, suc, ◌+◌, ◌-◌, ◌<◌, ◌≤◌, Bool, None, Some, List, [], ◌∷◌, ◌++◌, length, take, drop, reverse, refl, sym, ap, ap₂, subst}
-use Rattle.std.proofs.Common.{◌∙◌, arith, if◌then◌else◌}
-use Rattle.std.proofs.lemmas.List.{length_push, length-take-le, take-take, take-append-le, take_all, take-append-drop, append_assoc, reverse-append, length-reverse}
-use Rattle.offset_allocator.specs.Cells.{Room, Node, node}
-use Rattle.offset_allocator.specs.View.{View, Block, units, count_named}
-use Rattle.offset_allocator.specs.Chain.{last_or, IsRow}
-use Rattle.offset_allocator.specs.Listing.{Placed, placed_at, placed}
+use Rattle.offset_allocator.proofs.Common.{◌≡◌, ℕ, suc, ◌+◌, ◌-◌, ◌<◌, ◌≤◌, Bool, None, Some, List, [], ◌∷◌, ◌++◌, length, take, drop, reverse, refl, sym, ap, ap₂, subst, ◌∙◌, arith, if◌then◌else◌}
+use Rattle.offset_allocator.proofs.Common.{length_push, length-take-le, take-take, take-append-le, take_all, take-append-drop, append_assoc, reverse-append, length-reverse, Room, Node, node, View}
+use Rattle.offset_allocator.proofs.Common.{Block, units, count_named, last_or, IsRow, Placed, placed_at, placed}
 use Rattle.offset_allocator.proofs.Exchange.{there-below}
 use Rattle.offset_allocator.proofs.Ends.{Ended, ended, last_none}
 use Rattle.offset_allocator.proofs.Rows.{node_at}

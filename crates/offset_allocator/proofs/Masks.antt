@@ -1,12 +1,7 @@
 -- The masks after a change of one bin.
-use Rattle.std.proofs.Common.{◌≡◌, ◌≢◌, ◌<◌, ℕ, ◌*◌, ◌/◌, ◌%◌, ◌^◌, List, [], ◌∷◌, refl, sym, ap, ◌∙◌, inl, inr, arith, length, slice_index, slice_set}
-use Rattle.std.proofs.Common.{bit_and, bit_or, w32, w64, ne_eqb, length-set, get_or-set_same, get_or-set_other}
-use Rattle.std.specs.Int.{bit_at, bit_not}
-use Rattle.std.proofs.lemmas.Nat.{or_lt, one_shl, and_le_l, pow_below}
-use Rattle.std.proofs.lemmas.Nat.Bits.{bit_at_set_same, bit_at_set_other, bit_at_clear_same, bit_at_clear_other, bit_at-zero}
-use Rattle.std.proofs.lemmas.Bool.{cases_eq}
-use Rattle.offset_allocator.specs.View.{bin_at}
-use Rattle.offset_allocator.specs.Bins.{flag, mark, AreMasks}
+use Rattle.offset_allocator.proofs.Common.{◌≡◌, ◌≢◌, ◌<◌, ℕ, ◌*◌, ◌/◌, ◌%◌, ◌^◌, List, [], ◌∷◌, refl, sym, ap, ◌∙◌, inl, inr, arith, length, slice_index, slice_set, bit_and, bit_or, w32, w64, ne_eqb}
+use Rattle.offset_allocator.proofs.Common.{length-set, get_or-set_same, get_or-set_other, bit_at, bit_not, or_lt, one_shl, and_le_l, pow_below, bit_at_set_same, bit_at_set_other, bit_at_clear_same}
+use Rattle.offset_allocator.proofs.Common.{bit_at_clear_other, bit_at-zero, cases_eq, bin_at, flag, mark, AreMasks}
 use Rattle.offset_allocator.proofs.ViewOrders.{names_same, names_other}
 
 mark_some : (n : ℕ) → n ≢ 0 → mark n ≡ 1

@@ -1,16 +1,7 @@
 -- What holds after the live ranges are packed, and of the moves that pack them.
-use Rattle.std.proofs.Common.{◌≡◌, ◌↔◌, ℕ, ◌+◌, ◌≤◌, Bool, true, false, Option, Some, None, List, [], ◌∷◌, ◌++◌, sum, if◌then◌else◌, nat_eq, option_map}
-use Rattle.std.proofs.Common.{option_and_then, refl, sym, ap, subst, ◌∙◌, inl, inr, arith}
-use Rattle.std.specs.List.{AllByRecursion}
-use Rattle.std.proofs.lemmas.Bool.{cases_eq}
-use Rattle.std.proofs.lemmas.Bool.Decides.{nat_tests}
-use Rattle.std.proofs.lemmas.List.Sums.{sum_by-cons}
-use Rattle.offset_allocator.specs.Classes.{value, down}
-use Rattle.offset_allocator.specs.Reports.{largest}
-use Rattle.offset_allocator.specs.View.{Block, View, Place, one, place_of, count_named, free_sizes, units, IsWellFormed}
-use Rattle.offset_allocator.specs.Requests.{CanGrant, HasRoomFor}
-use Rattle.offset_allocator.specs.Ranges.{Range}
-use Rattle.offset_allocator.specs.Compacting.{Move, live, moves, move_of, gathered, AreSafe, KeepsSizes, Compacts}
+use Rattle.offset_allocator.proofs.Common.{◌≡◌, ◌↔◌, ℕ, ◌+◌, ◌≤◌, Bool, true, false, Option, Some, None, List, [], ◌∷◌, ◌++◌, sum, if◌then◌else◌, nat_eq, option_map, option_and_then, refl, sym, ap}
+use Rattle.offset_allocator.proofs.Common.{subst, ◌∙◌, inl, inr, arith, AllByRecursion, cases_eq, nat_tests, sum_by-cons, value, down, largest, Block, View, Place, one, place_of, count_named}
+use Rattle.offset_allocator.proofs.Common.{free_sizes, units, IsWellFormed, CanGrant, HasRoomFor, Range, Move, live, moves, move_of, gathered, AreSafe, KeepsSizes, Compacts}
 use Rattle.offset_allocator.proofs.Classes.{down_law}
 use Rattle.offset_allocator.proofs.Compacting.{live_are_used, AreUsed}
 use Rattle.offset_allocator.proofs.Refusals.{fit_small}

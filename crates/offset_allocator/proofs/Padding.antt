@@ -1,8 +1,5 @@
 -- Padding: the smallest number that takes an offset to a multiple of an alignment.
-use Rattle.std.proofs.Common.{◌≡◌, ℕ, ◌+◌, ◌-◌, ◌*◌, ◌/◌, ◌%◌, ◌<◌, ◌≤◌, ◌⊎◌, ap, ◌∙◌, inl, inr, arith}
-use Rattle.std.proofs.lemmas.Bool.{cases_lt}
-use Rattle.std.proofs.lemmas.Nat.{mod-mul-add}
-use Rattle.offset_allocator.specs.View.{padding_to}
+use Rattle.offset_allocator.proofs.Common.{◌≡◌, ℕ, ◌+◌, ◌-◌, ◌*◌, ◌/◌, ◌%◌, ◌<◌, ◌≤◌, ◌⊎◌, ap, ◌∙◌, inl, inr, arith, cases_lt, mod-mul-add, padding_to}
 
 module _ (align offset : ℕ) (some : 1 ≤ align) where
   padded : ((offset % align ≡ 0) × (padding_to align offset ≡ 0)) ⊎ ((0 < offset % align) × (offset % align < align) × (padding_to align offset ≡ align - offset % align))

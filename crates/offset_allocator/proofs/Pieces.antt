@@ -1,13 +1,6 @@
 -- Blocks that are split, and the bins of their parts.
-use Rattle.std.proofs.Common.{◌≡◌, ◌≢◌, ℕ, zero, suc, ◌-◌, ◌<◌, List, [], ◌∷◌, ◌++◌, length, refl, sym, ap, ◌∙◌, subst, arith, inl, inr, append-nil}
-use Rattle.std.proofs.Common.{get_or-set_same, get_or-set_other}
-use Rattle.std.proofs.lemmas.Bool.{cases_eq}
-use Rattle.offset_allocator.specs.Cells.{Room}
-use Rattle.offset_allocator.specs.Classes.{down}
-use Rattle.offset_allocator.specs.View.{Block, Place, count_named, bin_at, free_part, free_block, used_block, push, push_all}
-use Rattle.offset_allocator.specs.Bins.{Among, IsUnlisted}
-use Rattle.offset_allocator.specs.Chain.{HasPlace}
-use Rattle.offset_allocator.specs.Soundness.{AreUnlisted}
+use Rattle.offset_allocator.proofs.Common.{◌≡◌, ◌≢◌, ℕ, zero, suc, ◌-◌, ◌<◌, List, [], ◌∷◌, ◌++◌, length, refl, sym, ap, ◌∙◌, subst, arith, inl, inr, append-nil, get_or-set_same, get_or-set_other}
+use Rattle.offset_allocator.proofs.Common.{cases_eq, Room, down, Block, Place, count_named, bin_at, free_part, free_block, used_block, push, push_all, Among, IsUnlisted, HasPlace, AreUnlisted}
 use Rattle.offset_allocator.proofs.Classes.{down_small}
 use Rattle.offset_allocator.proofs.Exchange.{each-le}
 use Rattle.offset_allocator.proofs.Tallies.{one-eq, one-other, times-append}

@@ -1,10 +1,7 @@
 -- A block at its place, and the blocks beside it.
-use Rattle.std.proofs.Common.{◌≡◌, ℕ, ◌+◌, ◌<◌, ◌^◌, true, false, Option, None, Some, IfSome, List, [], ◌∷◌, ◌++◌, length, refl, sym, ◌∙◌, ap, arith, append_assoc}
-use Rattle.std.proofs.Common.{length-append}
-use Rattle.offset_allocator.specs.Classes.{down}
-use Rattle.offset_allocator.specs.Cells.{Room, Node, node}
-use Rattle.offset_allocator.specs.Chain.{first_or, last_or, IsChain, IsSpace, HasPlace, blocks, coalesced_before, coalesced_after}
-use Rattle.offset_allocator.specs.View.{Block, Place, free_block, place_of, units, free_end, free_start, remove, remove_all}
+use Rattle.offset_allocator.proofs.Common.{◌≡◌, ℕ, ◌+◌, ◌<◌, ◌^◌, true, false, Option, None, Some, IfSome, List, [], ◌∷◌, ◌++◌, length, refl, sym, ◌∙◌, ap, arith, append_assoc, length-append, down}
+use Rattle.offset_allocator.proofs.Common.{Room, Node, node, first_or, last_or, IsChain, IsSpace, HasPlace, blocks, coalesced_before, coalesced_after, Block, Place, free_block, place_of, units}
+use Rattle.offset_allocator.proofs.Common.{free_end, free_start, remove, remove_all}
 use Rattle.offset_allocator.proofs.Tallies.{one-eq, times-append, units-append}
 use Rattle.offset_allocator.proofs.Rows.{last_or-append, node_at}
 use Rattle.offset_allocator.proofs.Ends.{ended, last_none, end_free, end_used, end_kept, start_kept}

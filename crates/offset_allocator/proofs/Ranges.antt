@@ -1,12 +1,8 @@
 -- What each call leaves of the ranges of live handles.
-use Rattle.std.proofs.Common.{◌≡◌, ◌≢◌, ℕ, IfSome, zero, suc, ◌+◌, ◌≤◌, Bool, true, false, ◌&&◌, List, [], ◌∷◌, ◌++◌, Option, Some, None, nat_eq}
-use Rattle.std.proofs.Common.{if◌then◌else◌, refl, sym, ap, subst, ◌∙◌, inl, inr, arith, append_assoc, add-zero, add_assoc, eq-eqb, ne_eqb}
-use Rattle.std.proofs.lemmas.Bool.{false≢true, and_right}
-use Rattle.offset_allocator.specs.View.{Block, View, Place, Grant, one, units, count_named, used_block, free_block, free_part, IsWellFormed, place_of}
-use Rattle.offset_allocator.specs.Ranges.{Range, range_of, AreDisjoint, Grants, KeepsAll, KeepsOthers, KeepsRanges}
-use Rattle.offset_allocator.specs.Resizing.{Resizes, HasUnits}
-use Rattle.offset_allocator.specs.Relations.{SameSpace, Splits, Frees, Adds}
-use Rattle.std.specs.List.{AllByRecursion}
+use Rattle.offset_allocator.proofs.Common.{◌≡◌, ◌≢◌, ℕ, IfSome, zero, suc, ◌+◌, ◌≤◌, Bool, true, false, ◌&&◌, List, [], ◌∷◌, ◌++◌, Option, Some, None, nat_eq, if◌then◌else◌, refl, sym, ap, subst, ◌∙◌}
+use Rattle.offset_allocator.proofs.Common.{inl, inr, arith, append_assoc, add-zero, add_assoc, eq-eqb, ne_eqb, false≢true, and_right, AllByRecursion, Block, View, Place, Grant, one, units}
+use Rattle.offset_allocator.proofs.Common.{count_named, used_block, free_block, free_part, IsWellFormed, place_of, Range, range_of, AreDisjoint, Grants, KeepsAll, KeepsOthers, KeepsRanges, Resizes}
+use Rattle.offset_allocator.proofs.Common.{HasUnits, SameSpace, Splits, Frees, Adds}
 use Rattle.offset_allocator.proofs.ViewSteps.{place_at, no_place}
 use Rattle.offset_allocator.proofs.Released.{idle_parts}
 use Rattle.offset_allocator.proofs.Reading.{range_at}

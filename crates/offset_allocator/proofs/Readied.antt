@@ -1,13 +1,7 @@
 -- Nodes that are made before names are taken.
-use Rattle.std.proofs.Common.{◌≡◌, ◌<◌, ◌≤◌, ◌+◌, ℕ, zero, suc, List, [], ◌∷◌, ◌++◌, None, refl, sym, ap, ◌∙◌, inl, inr, arith, length, length-append, length-set}
-use Rattle.std.proofs.Common.{get_or, take, set}
-use Rattle.std.proofs.lemmas.Bool.{cases_eq}
-use Rattle.std.proofs.lemmas.Bool.Decides.{nat_tests}
-use Rattle.std.proofs.lemmas.List.{take_more_set}
-use Rattle.offset_allocator.specs.Cells.{Cells, Room, Node, blank, node, with_node, AreShaped}
-use Rattle.offset_allocator.specs.View.{Block, times}
+use Rattle.offset_allocator.proofs.Common.{◌≡◌, ◌<◌, ◌≤◌, ◌+◌, ℕ, zero, suc, List, [], ◌∷◌, ◌++◌, None, refl, sym, ap, ◌∙◌, inl, inr, arith, length, length-append, length-set, get_or, take, set}
+use Rattle.offset_allocator.proofs.Common.{cases_eq, nat_tests, take_more_set, Cells, Room, Node, blank, node, with_node, AreShaped, Block, times, IsChain, spares, blocks}
 use Rattle.offset_allocator.specs.Readies.{Readies}
-use Rattle.offset_allocator.specs.Chain.{IsChain, spares, blocks}
 use Rattle.offset_allocator.proofs.Rows.{IsRow-kept}
 use Rattle.offset_allocator.proofs.Sound.{Fields, AreSound, shown}
 use Rattle.offset_allocator.proofs.Tallies.{one-eq, one-other, times-join}

@@ -1,11 +1,6 @@
 -- What a read of cells says of the view.
-use Rattle.std.proofs.Common.{◌≡◌, ℕ, ◌<◌, inl, inr, length, arith, Bool, is_some, true, false, Option, None, Some, option_and_then, option_map, unwrap_or, if◌then◌else◌, refl, sym}
-use Rattle.std.proofs.Common.{ap, subst, ◌∙◌}
-use Rattle.std.proofs.lemmas.Bool.{cases_lt, false≢true}
-use Rattle.offset_allocator.specs.Cells.{Room, Node, node}
-use Rattle.offset_allocator.specs.View.{View, Place, units, place_of, is_used_at}
-use Rattle.offset_allocator.specs.Ranges.{Range, range_of, size_of, IsLive}
-use Rattle.offset_allocator.specs.Chain.{blocks, IsRow, IsSpace}
+use Rattle.offset_allocator.proofs.Common.{◌≡◌, ℕ, ◌<◌, inl, inr, length, arith, Bool, is_some, true, false, Option, None, Some, option_and_then, option_map, unwrap_or, if◌then◌else◌, refl, sym, ap}
+use Rattle.offset_allocator.proofs.Common.{subst, ◌∙◌, cases_lt, false≢true, Room, Node, node, View, Place, units, place_of, is_used_at, Range, range_of, size_of, IsLive, blocks, IsRow, IsSpace}
 use Rattle.offset_allocator.proofs.Nodes.{past_idle}
 use Rattle.offset_allocator.proofs.Sound.{Fields, AreSound, shown}
 use Rattle.offset_allocator.proofs.Rows.{node_at}

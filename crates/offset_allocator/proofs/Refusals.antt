@@ -1,11 +1,7 @@
 -- Why a request is refused.
-use Rattle.std.proofs.Common.{◌≡◌, ℕ, ◌+◌, ◌<◌, ◌≤◌, true, false, List, [], ◌∷◌, length, sum, if◌then◌else◌, refl, sym, ap, ◌∙◌, arith}
-use Rattle.std.proofs.lemmas.List.Sums.{sum_by-cons}
-use Rattle.offset_allocator.specs.View.{Block, View, units, free_sizes, IsWellFormed}
-use Rattle.offset_allocator.specs.Chain.{blocks}
-use Rattle.offset_allocator.specs.Soundness.{free_units}
+use Rattle.offset_allocator.proofs.Common.{◌≡◌, ℕ, ◌+◌, ◌<◌, ◌≤◌, true, false, List, [], ◌∷◌, length, sum, if◌then◌else◌, refl, sym, ap, ◌∙◌, arith, sum_by-cons, Block, View, units, free_sizes}
+use Rattle.offset_allocator.proofs.Common.{IsWellFormed, blocks, free_units, HasRoomFor}
 use Rattle.offset_allocator.proofs.Sound.{Fields, AreSound, shown}
-use Rattle.offset_allocator.specs.Requests.{HasRoomFor}
 use Rattle.offset_allocator.proofs.Counting.{class_within}
 use Rattle.offset_allocator.proofs.Taken.{HasFit}
 

@@ -1,18 +1,9 @@
 -- A block that is resized with the free block after it: what that leaves of a view, and of the whole allocator.
-use Rattle.std.specs.Prelude.{IsSome}
-use Rattle.std.proofs.Common.{◌≡◌, ◌≢◌, ◌↔◌, ℕ, zero, suc, ◌+◌, ◌-◌, ◌<◌, ◌≤◌, Bool, true, false, ◌⊎◌, List, [], ◌∷◌, ◌++◌, length, Option, Some}
-use Rattle.std.proofs.Common.{None, is_some, nat_eq, refl, sym, ap, ap₂, subst, ◌∙◌, inl, inr, arith, length-append, eq-zero-or-pos, if◌then◌else◌}
-use Rattle.std.proofs.lemmas.Bool.{false≢true, true≢false, and_right}
-use Rattle.offset_allocator.specs.Cells.{Cells, Node}
-use Rattle.offset_allocator.specs.View.{Block, View, Place, one, units, count_named, used_of, used_block, IsApart, IsWellFormed, IsNew, free_start, without_start, free_part, remove_all, push_all}
-use Rattle.offset_allocator.specs.View.{replace}
-use Rattle.offset_allocator.specs.Requests.{HasRoomFor}
-use Rattle.offset_allocator.specs.Ranges.{range_of, size_of, KeepsOthers}
-use Rattle.offset_allocator.specs.Relations.{SameSpace}
-use Rattle.offset_allocator.specs.Resizing.{Resizes, ResizesTo, Shrinks, Grows, CanShrink, CanGrow, HasUnits, free_after, free_beyond}
-use Rattle.offset_allocator.specs.Chain.{HasPlace, IsFreeAfter}
-use Rattle.offset_allocator.specs.Bins.{bins_in, IsBinned}
-use Rattle.offset_allocator.specs.Soundness.{free_units}
+use Rattle.offset_allocator.proofs.Common.{IsSome, ◌≡◌, ◌≢◌, ◌↔◌, ℕ, zero, suc, ◌+◌, ◌-◌, ◌<◌, ◌≤◌, Bool, true, false, ◌⊎◌, List, [], ◌∷◌, ◌++◌, length, Option, Some, None, is_some, nat_eq, refl, sym}
+use Rattle.offset_allocator.proofs.Common.{ap, ap₂, subst, ◌∙◌, inl, inr, arith, length-append, eq-zero-or-pos, if◌then◌else◌, false≢true, true≢false, and_right, Cells, Node, Block, View, Place, one}
+use Rattle.offset_allocator.proofs.Common.{units, count_named, used_of, used_block, IsApart, IsWellFormed, IsNew, free_start, without_start, free_part, remove_all, push_all, replace, HasRoomFor}
+use Rattle.offset_allocator.proofs.Common.{range_of, size_of, KeepsOthers, SameSpace, Resizes, ResizesTo, Shrinks, Grows, CanShrink, CanGrow, HasUnits, free_after, free_beyond, HasPlace, IsFreeAfter}
+use Rattle.offset_allocator.proofs.Common.{bins_in, IsBinned, free_units}
 use Rattle.offset_allocator.proofs.Exchange.{each-le, there-below}
 use Rattle.offset_allocator.proofs.Freeing.{Release, at, used, w, remove_used, units_start}
 use Rattle.offset_allocator.proofs.Granting.{part_names}

@@ -1,10 +1,7 @@
 -- Rows of linked nodes: split, appended, and left alone by writes elsewhere.
-use Rattle.std.proofs.Common.{◌≡◌, ◌≢◌, ℕ, zero, suc, ◌+◌, ◌≤◌, Option, None, Some, List, [], ◌∷◌, ◌++◌, length, refl, sym, ◌∙◌, ap, arith, add_assoc, zero-add}
-use Rattle.std.proofs.Common.{add-zero, inl, inr}
-use Rattle.std.proofs.lemmas.Bool.{cases_eq}
-use Rattle.offset_allocator.specs.Cells.{Room, node}
-use Rattle.offset_allocator.specs.Chain.{first_or, last_or, IsRow, walk}
-use Rattle.offset_allocator.specs.View.{Block, units, count_named}
+use Rattle.offset_allocator.proofs.Common.{◌≡◌, ◌≢◌, ℕ, zero, suc, ◌+◌, ◌≤◌, Option, None, Some, List, [], ◌∷◌, ◌++◌, length, refl, sym, ◌∙◌, ap, arith, add_assoc, zero-add, add-zero, inl, inr}
+use Rattle.offset_allocator.proofs.Common.{cases_eq, Room, node, first_or, last_or, IsRow, Block, units, count_named}
+use Rattle.offset_allocator.specs.Chain.{walk}
 use Rattle.offset_allocator.proofs.Tallies.{one-same, one-eq}
 
 -- the first of a list is in it

@@ -1,17 +1,11 @@
 -- What contracts say of a request, from the relation that says it all.
-use Rattle.std.proofs.Common.{◌≡◌, ◌↔◌, ℕ, ◌+◌, ◌%◌, ◌<◌, ◌≤◌, Bool, length, Option, Some, None, IsSome, IfSome, if◌then◌else◌, refl, sym, ap, ap₂, subst}
-use Rattle.std.proofs.Common.{◌∙◌, inl, inr, arith, le-leb}
-use Rattle.std.proofs.lemmas.Bool.{cases_lt, false≢true, lt-leb}
-use Rattle.offset_allocator.specs.Classes.{down}
-use Rattle.offset_allocator.specs.View.{View, Grant, units, count_named, place_of, IsWellFormed, free_sizes, largest_free, padding_to, max_size}
-use Rattle.offset_allocator.specs.Reports.{largest, IsGoodRefusal}
-use Rattle.offset_allocator.specs.Requests.{HasRoomFor, CanGrant, units_needed}
-use Rattle.offset_allocator.specs.Relations.{SameSpace, Splits, Serves, Allocates, Aligns, IsSplitNearBest}
+use Rattle.offset_allocator.proofs.Common.{◌≡◌, ◌↔◌, ℕ, ◌+◌, ◌%◌, ◌<◌, ◌≤◌, Bool, length, Option, Some, None, IsSome, IfSome, if◌then◌else◌, refl, sym, ap, ap₂, subst, ◌∙◌, inl, inr, arith, le-leb}
+use Rattle.offset_allocator.proofs.Common.{cases_lt, false≢true, lt-leb, down, View, Grant, units, count_named, place_of, IsWellFormed, free_sizes, largest_free, padding_to, max_size, largest}
+use Rattle.offset_allocator.proofs.Common.{IsGoodRefusal, HasRoomFor, CanGrant, units_needed, SameSpace, Splits, Serves, Allocates, Aligns, IsSplitNearBest, Grants}
 use Rattle.offset_allocator.proofs.Padding.{reaches}
 use Rattle.offset_allocator.proofs.Refusals.{fit_small}
 use Rattle.offset_allocator.proofs.Split.{well_split, part_room}
 use Rattle.offset_allocator.proofs.Ranges.{beside, split_grants}
-use Rattle.offset_allocator.specs.Ranges.{Grants}
 use Rattle.offset_allocator.proofs.ViewFits.{HasName, there_middle, near_best_fit, good_refusal, fits_exactly, refusal_past, largest_small}
 use Rattle.offset_allocator.proofs.ViewSteps.{place_here}
 

@@ -1,14 +1,7 @@
 -- A free block that moves to the end of the space: used blocks pass it, and free ones are coalesced with it.
-use Rattle.std.proofs.Common.{◌≡◌, ◌≢◌, ℕ, inl, inr, ◌+◌, ◌-◌, ◌≤◌, Bool, true, false, Some, None, List, [], ◌∷◌, ◌++◌, length, if◌then◌else◌, refl, sym}
-use Rattle.std.proofs.Common.{ap, ap₂, subst, ◌*◌, ◌∙◌, arith, append_assoc, append-nil}
-use Rattle.std.specs.List.{FoldsTo}
-use Rattle.std.proofs.lemmas.Bool.{cases_eq}
-use Rattle.std.proofs.lemmas.Bool.Decides.{nat_tests}
-use Rattle.offset_allocator.specs.Cells.{Cells, Room, Node, node}
-use Rattle.offset_allocator.specs.View.{Block, Place, free_block, units}
-use Rattle.offset_allocator.specs.Chain.{HasPlace, IsSpace, blocks, first_or, last_or, coalesced_before, coalesced_after}
-use Rattle.offset_allocator.specs.Compacting.{Move, first_free, live, moves, move_of}
-use Rattle.offset_allocator.specs.Soundness.{free_units}
+use Rattle.offset_allocator.proofs.Common.{◌≡◌, ◌≢◌, ℕ, inl, inr, ◌+◌, ◌-◌, ◌≤◌, Bool, true, false, Some, None, List, [], ◌∷◌, ◌++◌, length, if◌then◌else◌, refl, sym, ap, ap₂, subst, ◌*◌, ◌∙◌, arith}
+use Rattle.offset_allocator.proofs.Common.{append_assoc, append-nil, FoldsTo, cases_eq, nat_tests, Cells, Room, Node, node, Block, Place, free_block, units, HasPlace, IsSpace, blocks, first_or}
+use Rattle.offset_allocator.proofs.Common.{last_or, coalesced_before, coalesced_after, Move, first_free, live, moves, move_of, free_units}
 use Rattle.offset_allocator.proofs.Ends.{end_free, ended}
 use Rattle.offset_allocator.proofs.Joints.{free_units-free, free_units-used}
 use Rattle.offset_allocator.proofs.Places.{placed, at_place, next_place}

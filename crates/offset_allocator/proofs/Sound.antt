@@ -1,10 +1,6 @@
 -- The fields of an allocator, and what their invariant says of the view.
-use Rattle.std.proofs.Common.{◌≡◌, ℕ, ◌≤◌, sym, ap, subst, arith}
-use Rattle.offset_allocator.specs.View.{View, IsWellFormed}
-use Rattle.offset_allocator.specs.Cells.{Cells}
-use Rattle.offset_allocator.specs.Soundness.{view_of, IsSound}
+use Rattle.offset_allocator.proofs.Common.{◌≡◌, ℕ, ◌≤◌, sym, ap, subst, arith, View, IsWellFormed, Cells, view_of, IsSound, SameSpace}
 use Rattle.offset_allocator.specs.declared.AllocatorOf.TheInside.{Inside}
-use Rattle.offset_allocator.specs.Relations.{SameSpace}
 
 -- the fields, with the largest number of the index type
 pub record Fields : Type 0 where

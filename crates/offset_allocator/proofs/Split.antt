@@ -1,8 +1,6 @@
 -- What a split leaves is well formed.
-use Rattle.std.proofs.Common.{◌≡◌, ℕ, zero, suc, ◌+◌, ◌<◌, ◌≤◌, true, false, not, ◌⊎◌, List, [], ◌∷◌, ◌++◌, length, nat_eq, refl, sym, ap, subst, ◌∙◌, inl}
-use Rattle.std.proofs.Common.{inr, arith, length-append, append_assoc}
-use Rattle.offset_allocator.specs.View.{Block, View, Grant, one, used_block, count_named, used_of, IsApart, IsWellFormed, IsNew, free_part, replace}
-use Rattle.offset_allocator.specs.Relations.{Splits}
+use Rattle.offset_allocator.proofs.Common.{◌≡◌, ℕ, zero, suc, ◌+◌, ◌<◌, ◌≤◌, true, false, not, ◌⊎◌, List, [], ◌∷◌, ◌++◌, length, nat_eq, refl, sym, ap, subst, ◌∙◌, inl, inr, arith, length-append}
+use Rattle.offset_allocator.proofs.Common.{append_assoc, Block, View, Grant, one, used_block, count_named, used_of, IsApart, IsWellFormed, IsNew, free_part, replace, Splits}
 use Rattle.offset_allocator.proofs.Sound.{well_same}
 use Rattle.offset_allocator.proofs.ViewReplaced.{well_replaced}
 use Rattle.offset_allocator.proofs.ViewApart.{apart_granted}

@@ -1,8 +1,6 @@
 -- The block that a request takes, and when there is one.
-use Rattle.std.proofs.Common.{◌≡◌, ◌≢◌, ℕ, ◌≤◌, Bool, true, false, ◌&&◌, List, [], ◌∷◌, ◌++◌, Option, Some, None, nat_eq, refl, sym, ap, inl, inr, arith}
-use Rattle.std.proofs.lemmas.Bool.{not-true}
-use Rattle.offset_allocator.specs.Classes.{up, down}
-use Rattle.offset_allocator.specs.View.{Block, View, Place, one, is_free, times, count_named, count_in_bin, bin_at, place_of, IsWellFormed}
+use Rattle.offset_allocator.proofs.Common.{◌≡◌, ◌≢◌, ℕ, ◌≤◌, Bool, true, false, ◌&&◌, List, [], ◌∷◌, ◌++◌, Option, Some, None, nat_eq, refl, sym, ap, inl, inr, arith, not-true, up, down, Block, View}
+use Rattle.offset_allocator.proofs.Common.{Place, one, is_free, times, count_named, count_in_bin, bin_at, place_of, IsWellFormed}
 use Rattle.offset_allocator.proofs.ViewSteps.{place_at, no_place}
 use Rattle.offset_allocator.proofs.Tallies.{listed_named, tally_append, hit_cases, one-same}
 

@@ -1,9 +1,6 @@
 -- Sums over lists, and a test of names as a number.
-use Rattle.std.proofs.Common.{◌≡◌, ◌≢◌, ℕ, zero, suc, ◌+◌, ◌≤◌, length, ◌⊎◌, true, false, ◌&&◌, List, [], ◌∷◌, ◌++◌, nat_eq, refl, ap, ◌∙◌, inl, inr}
-use Rattle.std.proofs.Common.{arith, eq-eqb, ne_eqb}
-use Rattle.std.proofs.lemmas.Bool.{cases_eq}
-use Rattle.offset_allocator.specs.Classes.{down}
-use Rattle.offset_allocator.specs.View.{Block, tally, one, is_free, units, times, count_named, count_in_bin, used_of, free_part}
+use Rattle.offset_allocator.proofs.Common.{◌≡◌, ◌≢◌, ℕ, zero, suc, ◌+◌, ◌≤◌, length, ◌⊎◌, true, false, ◌&&◌, List, [], ◌∷◌, ◌++◌, nat_eq, refl, ap, ◌∙◌, inl, inr, arith, eq-eqb, ne_eqb, cases_eq}
+use Rattle.offset_allocator.proofs.Common.{down, Block, tally, one, is_free, units, times, count_named, count_in_bin, used_of, free_part}
 
 pub tally_append : {A : Type 0} (f : A → ℕ) (xs ys : List A) → tally f (xs ++ ys) ≡ tally f xs + tally f ys
 tally_append f [] ys = omega arith

@@ -1,11 +1,7 @@
 -- Bins and the nodes that are used: a name in a bin is that of a node that is not, and a name in none may be marked.
-use Rattle.std.proofs.Common.{◌≡◌, ◌≢◌, ◌<◌, ◌≤◌, ◌+◌, ◌-◌, ℕ, false, List, [], ◌∷◌, ◌++◌, sym, ap, subst, ◌∙◌, inl, inr, arith, length, length-append}
-use Rattle.std.proofs.Common.{length-set, slice_index, slice_set, get_or-set_other, ne_eqb}
-use Rattle.std.proofs.lemmas.Bool.{cases_eq}
-use Rattle.std.proofs.lemmas.List.{get_or_append_left}
-use Rattle.offset_allocator.specs.Cells.{Cells, Links, node, AreShaped}
-use Rattle.offset_allocator.specs.View.{bin_at, remove, times, without}
-use Rattle.offset_allocator.specs.Bins.{IsLinked, Among, HasBins, IsBinned, IsUnlisted, bins_in}
+use Rattle.offset_allocator.proofs.Common.{◌≡◌, ◌≢◌, ◌<◌, ◌≤◌, ◌+◌, ◌-◌, ℕ, false, List, [], ◌∷◌, ◌++◌, sym, ap, subst, ◌∙◌, inl, inr, arith, length, length-append, length-set, slice_index, slice_set}
+use Rattle.offset_allocator.proofs.Common.{get_or-set_other, ne_eqb, cases_eq, get_or_append_left, Cells, Links, node, AreShaped, bin_at, remove, times, without, IsLinked, Among, HasBins, IsBinned}
+use Rattle.offset_allocator.proofs.Common.{IsUnlisted, bins_in}
 use Rattle.offset_allocator.proofs.Binned.{below, binned, head, newer_in, older_among}
 use Rattle.offset_allocator.proofs.Tallies.{one-same}
 use Rattle.offset_allocator.proofs.ViewOrders.{names_other, names_same, times_without_self}

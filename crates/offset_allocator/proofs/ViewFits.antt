@@ -1,11 +1,6 @@
 -- When a request is granted, and how well what it takes fits.
-use Rattle.std.proofs.Common.{◌≡◌, ℕ, ◌*◌, ◌^◌, ◌<◌, ◌≤◌, true, not, ◌⊎◌, ◌↔◌, List, [], ◌∷◌, ◌++◌, refl, sym, ap, subst, ◌∙◌, inl, inr, arith}
-use Rattle.std.proofs.Common.{eq-eqb, le_trans}
-use Rattle.std.specs.List.{AllByRecursion}
-use Rattle.std.proofs.lemmas.Bool.{cases_lt, true≢false, cond_both}
-use Rattle.offset_allocator.specs.Classes.{value, up, down}
-use Rattle.offset_allocator.specs.Reports.{largest, IsGoodRefusal}
-use Rattle.offset_allocator.specs.View.{Block, View, is_free, times, count_in_bin, units, bin_at, free_sizes, IsWellFormed}
+use Rattle.offset_allocator.proofs.Common.{◌≡◌, ℕ, ◌*◌, ◌^◌, ◌<◌, ◌≤◌, true, not, ◌⊎◌, ◌↔◌, List, [], ◌∷◌, ◌++◌, refl, sym, ap, subst, ◌∙◌, inl, inr, arith, eq-eqb, le_trans, AllByRecursion, cases_lt}
+use Rattle.offset_allocator.proofs.Common.{true≢false, cond_both, value, up, down, largest, IsGoodRefusal, Block, View, is_free, times, count_in_bin, units, bin_at, free_sizes, IsWellFormed}
 use Rattle.offset_allocator.proofs.Taken.{HasFit, fitting}
 use Rattle.offset_allocator.proofs.Classes.{serves, near_best, up_law, down_law}
 

@@ -1,14 +1,10 @@
 -- A request that is granted, and released at once, leaves no trace.
-use Rattle.std.proofs.Common.{◌≡◌, ℕ, zero, suc, ◌<◌, ◌≤◌, Bool, true, false, not, ◌&&◌, List, [], ◌∷◌, ◌++◌, length, Some, slice_set, refl, sym, ap, ap₂, subst}
-use Rattle.std.proofs.Common.{◌∙◌, arith, append_assoc}
+use Rattle.offset_allocator.proofs.Common.{◌≡◌, ℕ, zero, suc, ◌<◌, ◌≤◌, Bool, true, false, not, ◌&&◌, List, [], ◌∷◌, ◌++◌, length, Some, slice_set, refl, sym, ap, ap₂, subst, ◌∙◌, arith, append_assoc}
+use Rattle.offset_allocator.proofs.Common.{set-get_or, AllByRecursion, down, Block, View, Place, Grant, used_block, free_block, units, times, count_named, starts_free, IsApart, bin_at, push, without}
+use Rattle.offset_allocator.proofs.Common.{remove, push_all, remove_all, replace, free_start, without_start, free_end, without_end, free_part, IsWellFormed, place_of, SameSpace, Splits, Frees}
+use Rattle.offset_allocator.proofs.Common.{Allocates}
 use Rattle.offset_allocator.proofs.Served.{split_as, well_served}
 use Rattle.offset_allocator.proofs.Walks.{without_first}
-use Rattle.std.proofs.lemmas.List.{set-get_or}
-use Rattle.offset_allocator.specs.Classes.{down}
-use Rattle.std.specs.List.{AllByRecursion}
-use Rattle.offset_allocator.specs.View.{Block, View, Place, Grant, used_block, free_block, units, times, count_named, starts_free, IsApart, bin_at, push, without, remove, push_all, remove_all}
-use Rattle.offset_allocator.specs.View.{replace, free_start, without_start, free_end, without_end, free_part, IsWellFormed, place_of}
-use Rattle.offset_allocator.specs.Relations.{SameSpace, Splits, Frees, Allocates}
 use Rattle.offset_allocator.proofs.Ranges.{beside}
 use Rattle.offset_allocator.proofs.Released.{idle_parts, end_is, start_is}
 use Rattle.offset_allocator.proofs.Classes.{down_small}

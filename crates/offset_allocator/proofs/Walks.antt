@@ -1,10 +1,6 @@
 -- Names linked back and forth: what a change of the links leaves of them.
-use Rattle.std.proofs.Common.{◌≡◌, ◌≢◌, ◌<◌, ◌≤◌, ◌+◌, ◌⊎◌, ℕ, zero, suc, List, [], ◌∷◌, ◌++◌, refl, sym, ap, ◌∙◌, inl, inr, arith, length, drop}
-use Rattle.std.proofs.Common.{nat_eq, slice_index, slice_set, eq-eqb, ne_eqb, length-set, get_or-set_same, get_or-set_other}
-use Rattle.std.proofs.lemmas.Bool.{cases_eq}
-use Rattle.offset_allocator.specs.Cells.{Links}
-use Rattle.offset_allocator.specs.View.{one, times, without}
-use Rattle.offset_allocator.specs.Bins.{IsLinked, Among, first_of, walk}
+use Rattle.offset_allocator.proofs.Common.{◌≡◌, ◌≢◌, ◌<◌, ◌≤◌, ◌+◌, ◌⊎◌, ℕ, zero, suc, List, [], ◌∷◌, ◌++◌, refl, sym, ap, ◌∙◌, inl, inr, arith, length, drop, nat_eq, slice_index, slice_set, eq-eqb}
+use Rattle.offset_allocator.proofs.Common.{ne_eqb, length-set, get_or-set_same, get_or-set_other, cases_eq, Links, one, times, without, IsLinked, Among, first_of, walk}
 use Rattle.offset_allocator.proofs.Tallies.{hit_cases, one-same, times-join}
 
 -- ---- lists of names

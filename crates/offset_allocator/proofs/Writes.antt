@@ -1,10 +1,7 @@
 -- What the writes of each change of the chain leave.
-use Rattle.std.proofs.Common.{◌≡◌, ◌≢◌, ℕ, ◌+◌, ◌-◌, ◌<◌, ◌≤◌, ◌^◌, Bool, false, Option, None, Some, MatchOption, List, [], ◌∷◌, ◌++◌, length, get_or}
-use Rattle.std.proofs.Common.{refl, sym, ◌∙◌, ap, arith, append_assoc, length-append, length-set, set, nat_eq, inl, inr}
-use Rattle.std.proofs.lemmas.Bool.{cases_eq}
-use Rattle.offset_allocator.specs.Cells.{Room, Node, node, put, with_spare}
-use Rattle.offset_allocator.specs.Chain.{first_or, last_or, IsRow, IsChain, HasPlace, coalesced_before, coalesced_after}
-use Rattle.offset_allocator.specs.View.{Block, Place, free_block, units, count_named, one}
+use Rattle.offset_allocator.proofs.Common.{◌≡◌, ◌≢◌, ℕ, ◌+◌, ◌-◌, ◌<◌, ◌≤◌, ◌^◌, Bool, false, Option, None, Some, MatchOption, List, [], ◌∷◌, ◌++◌, length, get_or, refl, sym, ◌∙◌, ap, arith}
+use Rattle.offset_allocator.proofs.Common.{append_assoc, length-append, length-set, set, nat_eq, inl, inr, cases_eq, Room, Node, node, put, with_spare, first_or, last_or, IsRow, IsChain, HasPlace}
+use Rattle.offset_allocator.proofs.Common.{coalesced_before, coalesced_after, Block, Place, free_block, units, count_named, one}
 use Rattle.offset_allocator.proofs.Nodes.{nodes-with_spare, reserved-with_spare}
 use Rattle.offset_allocator.proofs.Ends.{end_free}
 use Rattle.offset_allocator.proofs.Exchange.{IsTop, IsExchange, IsRelinked, back_to, on_to, wrote, top, kept_names, pushed_names, link_back, link_on, link_none, back, relinked_spare, relinked_memory}

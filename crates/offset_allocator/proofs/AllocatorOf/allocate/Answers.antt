@@ -1,4 +1,4 @@
-use Rattle.std.proofs.Common.{arith}
+use Rattle.offset_allocator.proofs.Common.{arith}
 use Rattle.offset_allocator.proofs.Served.{one_aligns, reported_room, same, granted, can_grant, grants, nearly, refused}
 use Rattle.offset_allocator.proofs.AllocatorOf.allocate.Goals as goal
 

@@ -1,6 +1,4 @@
-use Rattle.std.proofs.Common.{arith}
-use Rattle.offset_allocator.specs.View.{padding_to}
-use Rattle.offset_allocator.specs.Requests.{blocks_needed, units_needed}
+use Rattle.offset_allocator.proofs.Common.{arith, padding_to, blocks_needed, units_needed}
 use Rattle.offset_allocator.proofs.Powers.{not_zero}
 use Rattle.offset_allocator.proofs.Served.{same, granted, can_grant, grants, nearly, refused, multiple}
 use Rattle.offset_allocator.proofs.AllocatorOf.allocate_aligned.Goals as goal

@@ -1,6 +1,4 @@
-use Rattle.std.proofs.Common.{◌∙◌, ℕ, true, refl, ap, arith}
-use Rattle.offset_allocator.specs.Cells.{Node}
-use Rattle.offset_allocator.specs.View.{View, ends_used, units}
+use Rattle.offset_allocator.proofs.Common.{◌∙◌, ℕ, true, refl, ap, arith, Node, View, ends_used, units}
 use Rattle.offset_allocator.proofs.Sound.{fields_of}
 use Rattle.offset_allocator.proofs.Classes.{down_small}
 use Rattle.offset_allocator.proofs.Places.{at_place, end_place, last_place, placed}

@@ -1,9 +1,5 @@
-use Rattle.std.proofs.Common.{◌≡◌, ℕ, suc, ◌+◌, List, [], ◌∷◌, length, refl, sym, ap, ap₂, subst, ◌∙◌, arith, length-append, replicate}
-use Rattle.offset_allocator.specs.View.{Block, Place, View, units, free_sizes}
-use Rattle.offset_allocator.specs.Cells.{Links, Node}
-use Rattle.offset_allocator.specs.Bins.{bins_in}
-use Rattle.offset_allocator.specs.Chain.{blocks}
-use Rattle.offset_allocator.specs.Compacting.{live, moves, KeepsSizes, Compacts}
+use Rattle.offset_allocator.proofs.Common.{◌≡◌, ℕ, suc, ◌+◌, List, [], ◌∷◌, length, refl, sym, ap, ap₂, subst, ◌∙◌, arith, length-append, replicate, Block, Place, View, units, free_sizes, Links, Node}
+use Rattle.offset_allocator.proofs.Common.{bins_in, blocks, live, moves, KeepsSizes, Compacts}
 use Rattle.offset_allocator.proofs.Sound.{AreSound, Fields, shown, fields_of, known_sound}
 use Rattle.offset_allocator.proofs.Packed.{compacts_sizes}
 use Rattle.offset_allocator.proofs.Places.{at_place, kept_place}

@@ -1,5 +1,4 @@
-use Rattle.std.proofs.Common.{subst}
-use Rattle.offset_allocator.specs.View.{IsWellFormed}
+use Rattle.offset_allocator.proofs.Common.{subst, IsWellFormed}
 use Rattle.offset_allocator.proofs.Sound.{Fields, AreSound, shown, fields_of}
 use Rattle.offset_allocator.proofs.AllocatorOf.formed.Goals as goal
 

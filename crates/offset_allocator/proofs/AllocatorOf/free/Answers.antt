@@ -1,4 +1,4 @@
-use Rattle.std.proofs.Common.{◌≡◌}
+use Rattle.offset_allocator.proofs.Common.{◌≡◌}
 use Rattle.offset_allocator.proofs.AllocatorOf.free.Goals as goal
 
 pub release-requires : goal.release-requires

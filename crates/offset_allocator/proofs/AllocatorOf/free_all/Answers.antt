@@ -1,5 +1,4 @@
-use Rattle.std.proofs.Common.{◌∙◌, ap, refl, arith}
-use Rattle.offset_allocator.specs.View.{View, used_of}
+use Rattle.offset_allocator.proofs.Common.{◌∙◌, ap, refl, arith, View, used_of}
 use Rattle.offset_allocator.proofs.Emptied.{freed_fewer, reset_alike}
 use Rattle.offset_allocator.proofs.AllocatorOf.free_all.Goals as goal
 

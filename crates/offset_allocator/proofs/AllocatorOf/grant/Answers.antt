@@ -1,10 +1,5 @@
-use Rattle.std.proofs.Common.{◌≡◌, ◌+◌, ◌-◌, ◌≤◌, ◌<◌, ◌^◌, ◌∙◌, ℕ, ap, arith, refl, subst, sym}
-use Rattle.offset_allocator.specs.Classes.{up}
-use Rattle.offset_allocator.specs.Cells.{Node}
-use Rattle.offset_allocator.specs.View.{View, padding_to}
-use Rattle.offset_allocator.specs.Bins.{IsSmallestFrom}
-use Rattle.offset_allocator.specs.Requests.{HasRoomFor, blocks_needed, units_needed}
-use Rattle.offset_allocator.specs.Relations.{Splits}
+use Rattle.offset_allocator.proofs.Common.{◌≡◌, ◌+◌, ◌-◌, ◌≤◌, ◌<◌, ◌^◌, ◌∙◌, ℕ, ap, arith, refl, subst, sym, up, Node, View, padding_to, IsSmallestFrom, HasRoomFor, blocks_needed, units_needed}
+use Rattle.offset_allocator.proofs.Common.{Splits}
 use Rattle.offset_allocator.proofs.Sound.{shown, AreSound, Fields, fields_of}
 use Rattle.offset_allocator.proofs.Granting.{Call, held, unlisted, whole_fits, padding_fits, units_free, granted}
 use Rattle.offset_allocator.proofs.Places.{at_place, kept_place}

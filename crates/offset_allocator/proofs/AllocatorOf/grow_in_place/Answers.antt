@@ -1,9 +1,4 @@
-use Rattle.std.proofs.Common.{◌≡◌, ◌∙◌, ℕ, sym, ap, subst, arith}
-use Rattle.std.proofs.lemmas.Bool.{false≢true}
-use Rattle.offset_allocator.specs.Cells.{Node}
-use Rattle.offset_allocator.specs.View.{View}
-use Rattle.offset_allocator.specs.Ranges.{size_of}
-use Rattle.offset_allocator.specs.Resizing.{ResizesTo}
+use Rattle.offset_allocator.proofs.Common.{◌≡◌, ◌∙◌, ℕ, sym, ap, subst, arith, false≢true, Node, View, size_of, ResizesTo}
 use Rattle.offset_allocator.proofs.Freeing.{Release, at, named_live}
 use Rattle.offset_allocator.proofs.Places.{at_place}
 use Rattle.offset_allocator.proofs.Reading.{live_used}

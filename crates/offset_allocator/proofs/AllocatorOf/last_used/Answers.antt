@@ -1,7 +1,4 @@
-use Rattle.std.proofs.Common.{refl, sym, ap, subst, ◌∙◌}
-use Rattle.offset_allocator.specs.Cells.{Node}
-use Rattle.offset_allocator.specs.View.{View}
-use Rattle.offset_allocator.specs.Relations.{Resets}
+use Rattle.offset_allocator.proofs.Common.{refl, sym, ap, subst, ◌∙◌, Node, View, Resets}
 use Rattle.offset_allocator.proofs.Sound.{shown, fields_of, known_sound}
 use Rattle.offset_allocator.proofs.Places.{at_place, end_place}
 use Rattle.offset_allocator.proofs.Emptied.{as_reset, before_live, none_used}

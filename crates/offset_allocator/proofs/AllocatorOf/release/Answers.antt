@@ -1,8 +1,4 @@
-use Rattle.std.proofs.Common.{◌≡◌, false, refl, ◌+◌, ◌∙◌, ℕ, ap, arith, sym}
-use Rattle.offset_allocator.specs.Cells.{Node}
-use Rattle.offset_allocator.specs.View.{IsWellFormed}
-use Rattle.offset_allocator.specs.Bins.{IsBinned, bins_in}
-use Rattle.offset_allocator.specs.Chain.{HasPlace}
+use Rattle.offset_allocator.proofs.Common.{◌≡◌, false, refl, ◌+◌, ◌∙◌, ℕ, ap, arith, sym, Node, IsWellFormed, IsBinned, bins_in, HasPlace, Frees}
 use Rattle.offset_allocator.proofs.Filed.{unlisted}
 use Rattle.offset_allocator.proofs.Sound.{Fields, AreSound, shown, fields_of, known_sound}
 use Rattle.offset_allocator.proofs.Places.{at_place}
@@ -10,7 +6,6 @@ use Rattle.offset_allocator.proofs.Freeing.{Release, at, room_for, filed, freed,
 use Rattle.offset_allocator.proofs.Ranges.{frees_gone, frees_others}
 use Rattle.offset_allocator.proofs.Reading.{live_used}
 use Rattle.offset_allocator.proofs.ViewTaken.{well_frees}
-use Rattle.offset_allocator.specs.Relations.{Frees}
 use Rattle.offset_allocator.proofs.AllocatorOf.release.Goals as goal
 use Rattle.offset_allocator.proofs.AllocatorOf.release.Goals.{After-self, After-mark, After-coalesce}
 use Rattle.offset_allocator.proofs.AllocatorOf.release.Given.{Over}

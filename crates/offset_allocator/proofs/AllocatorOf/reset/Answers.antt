@@ -1,4 +1,4 @@
-use Rattle.std.proofs.Common.{arith}
+use Rattle.offset_allocator.proofs.Common.{arith}
 use Rattle.offset_allocator.proofs.Emptied.{half_used}
 use Rattle.offset_allocator.proofs.Split.{used_most}
 use Rattle.offset_allocator.proofs.AllocatorOf.reset.Goals as goal

@@ -1,9 +1,5 @@
-use Rattle.std.proofs.Common.{◌≡◌, ◌⊎◌, ◌+◌, ◌-◌, ◌<◌, ◌≤◌, ◌∙◌, ℕ, true, false, length, inl, inr, refl, sym, ap, subst, arith}
-use Rattle.offset_allocator.specs.Cells.{Node}
-use Rattle.offset_allocator.specs.View.{View, IsWellFormed, free_start, units}
-use Rattle.offset_allocator.specs.Requests.{HasRoomFor}
-use Rattle.offset_allocator.specs.Ranges.{range_of, size_of}
-use Rattle.offset_allocator.specs.Resizing.{Resizes, ResizesTo}
+use Rattle.offset_allocator.proofs.Common.{◌≡◌, ◌⊎◌, ◌+◌, ◌-◌, ◌<◌, ◌≤◌, ◌∙◌, ℕ, true, false, length, inl, inr, refl, sym, ap, subst, arith, Node, View, IsWellFormed, free_start, units, HasRoomFor}
+use Rattle.offset_allocator.proofs.Common.{range_of, size_of, Resizes, ResizesTo}
 use Rattle.offset_allocator.proofs.Freeing.{Release, at, filed, room_for, named_live}
 use Rattle.offset_allocator.proofs.Places.{at_place}
 use Rattle.offset_allocator.proofs.Reading.{live_used}

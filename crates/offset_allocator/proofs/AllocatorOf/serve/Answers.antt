@@ -1,8 +1,5 @@
-use Rattle.std.proofs.Common.{◌<◌, ◌+◌, ◌-◌, Some, None, arith, ap, length, refl, subst}
-use Rattle.offset_allocator.specs.View.{View, max_size, padding_to}
+use Rattle.offset_allocator.proofs.Common.{◌<◌, ◌+◌, ◌-◌, Some, None, arith, ap, length, refl, subst, View, max_size, padding_to, blocks_needed, units_needed, Aligns}
 use Rattle.offset_allocator.proofs.Sound.{Fields, shown, fields_of, known_sound}
-use Rattle.offset_allocator.specs.Requests.{blocks_needed, units_needed}
-use Rattle.offset_allocator.specs.Relations.{Aligns}
 use Rattle.offset_allocator.proofs.Classes.{below_value_up}
 use Rattle.offset_allocator.proofs.Served.{serves_counted, past_refuses}
 use Rattle.offset_allocator.proofs.AllocatorOf.serve.Goals as goal

@@ -1,5 +1,4 @@
-use Rattle.std.proofs.Common.{◌+◌, ◌∙◌, ℕ, length, false, ap, arith}
-use Rattle.offset_allocator.specs.Cells.{Node, Room}
+use Rattle.offset_allocator.proofs.Common.{◌+◌, ◌∙◌, ℕ, length, false, ap, arith, Node, Room}
 use Rattle.offset_allocator.proofs.Sound.{fields_of}
 use Rattle.offset_allocator.proofs.Classes.{down_small}
 use Rattle.offset_allocator.proofs.Places.{at_place, end_place}

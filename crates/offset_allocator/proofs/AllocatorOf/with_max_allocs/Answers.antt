@@ -1,5 +1,4 @@
-use Rattle.std.proofs.Common.{◌≡◌, ℕ, sym, subst, arith}
-use Rattle.offset_allocator.specs.Soundness.{view_of}
+use Rattle.offset_allocator.proofs.Common.{◌≡◌, ℕ, sym, subst, arith, view_of}
 use Rattle.offset_allocator.proofs.Fresh.{fresh}
 use Rattle.offset_allocator.proofs.AllocatorOf.with_max_allocs.Goals as goal
 

@@ -1,6 +1,4 @@
-use Rattle.std.proofs.Common.{◌∙◌, ap, sym, arith, refl}
-use Rattle.std.proofs.lemmas.List.{set_past}
-use Rattle.offset_allocator.specs.Bins.{first_of}
+use Rattle.offset_allocator.proofs.Common.{◌∙◌, ap, sym, arith, refl, set_past, first_of}
 use Rattle.offset_allocator.proofs.Binned.{head, without_head, none_left, beheaded, changed}
 use Rattle.offset_allocator.proofs.Masks.{flag_full, masked_same}
 use Rattle.offset_allocator.proofs.Uses.{no_mark, second_idle}

@@ -1,5 +1,4 @@
-use Rattle.std.proofs.Common.{◌≡◌, ℕ, ap, sym, ◌∙◌, arith, refl, length, take_all, replicate}
-use Rattle.offset_allocator.specs.Cells.{Cells}
+use Rattle.offset_allocator.proofs.Common.{◌≡◌, ℕ, ap, sym, ◌∙◌, arith, refl, length, take_all, replicate, Cells}
 use Rattle.offset_allocator.proofs.Fresh.{empty_binned}
 use Rattle.offset_allocator.proofs.bins.empty.Goals as goal
 

@@ -1,6 +1,4 @@
-use Rattle.std.proofs.Common.{◌≡◌, ◌∙◌, sym, arith, refl}
-use Rattle.std.proofs.lemmas.List.{length-set}
-use Rattle.offset_allocator.specs.Classes.{down}
+use Rattle.offset_allocator.proofs.Common.{◌≡◌, ◌∙◌, sym, arith, refl, length-set, down}
 use Rattle.offset_allocator.proofs.Binned.{below, older_in, is_first, exchanged, exchange_masked, changed}
 use Rattle.offset_allocator.proofs.Classes.{down_small}
 use Rattle.offset_allocator.proofs.ViewOrders.{unlisted_removed}

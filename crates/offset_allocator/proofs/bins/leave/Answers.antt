@@ -1,4 +1,4 @@
-use Rattle.std.proofs.Common.{◌≡◌, ◌≢◌, ◌∙◌, arith, refl, slice_index}
+use Rattle.offset_allocator.proofs.Common.{◌≡◌, ◌≢◌, ◌∙◌, arith, refl, slice_index}
 use Rattle.offset_allocator.proofs.Binned.{below, newer_in, older_in, is_first, is_later, later_masked, left, changed}
 use Rattle.offset_allocator.proofs.Classes.{down_small}
 use Rattle.offset_allocator.proofs.Uses.{after_idle, no_mark}

@@ -1,4 +1,4 @@
-use Rattle.std.proofs.Common.{◌≤◌, ◌∙◌, arith, rules}
+use Rattle.offset_allocator.proofs.Common.{◌≤◌, ◌∙◌, arith, rules}
 use Rattle.offset_allocator.proofs.Binned.{fits}
 use Rattle.offset_allocator.proofs.Walks.{tail_next, tail_end}
 use Rattle.offset_allocator.proofs.bins.length_of.Goals as goal

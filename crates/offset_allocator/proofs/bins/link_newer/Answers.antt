@@ -1,5 +1,4 @@
-use Rattle.std.proofs.Common.{arith, refl}
-use Rattle.std.proofs.lemmas.List.{set_past}
+use Rattle.offset_allocator.proofs.Common.{arith, refl, set_past}
 use Rattle.offset_allocator.proofs.bins.link_newer.Goals as goal
 
 pub returns-else-number-MAX-clause-cells : goal.returns-else-number-MAX-clause-cells

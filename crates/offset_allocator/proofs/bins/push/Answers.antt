@@ -1,6 +1,4 @@
-use Rattle.std.proofs.Common.{◌∙◌, ap, sym, arith, refl}
-use Rattle.std.proofs.lemmas.List.{length-set, set_past}
-use Rattle.offset_allocator.specs.Bins.{first_of}
+use Rattle.offset_allocator.proofs.Common.{◌∙◌, ap, sym, arith, refl, length-set, set_past, first_of}
 use Rattle.offset_allocator.proofs.Binned.{head_among, head_below, head_small, pushed, changed}
 use Rattle.offset_allocator.proofs.Masks.{flag_full, masked_same, masked_set}
 use Rattle.offset_allocator.proofs.Uses.{listed_idle, no_mark}

@@ -1,5 +1,4 @@
-use Rattle.std.proofs.Common.{◌∙◌, length, ap, arith, refl, List, ℕ}
-use Rattle.offset_allocator.specs.Cells.{Cells, Room}
+use Rattle.offset_allocator.proofs.Common.{◌∙◌, length, ap, arith, refl, List, ℕ, Cells, Room}
 use Rattle.offset_allocator.proofs.Exchange.{on_to, relinked_spare}
 use Rattle.offset_allocator.proofs.Nodes.{length-put, spare-put, nodes-with_spare}
 use Rattle.offset_allocator.proofs.Places.{previous_place, previous_below, spare_room}

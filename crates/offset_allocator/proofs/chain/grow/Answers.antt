@@ -1,6 +1,4 @@
-use Rattle.std.proofs.Common.{ap, arith, [], ◌∷◌}
-use Rattle.offset_allocator.specs.Cells.{Cells, Node}
-use Rattle.offset_allocator.specs.View.{units}
+use Rattle.offset_allocator.proofs.Common.{ap, arith, [], ◌∷◌, Cells, Node, units}
 use Rattle.offset_allocator.proofs.Views.{blocks-chain}
 use Rattle.offset_allocator.proofs.Places.{at_place}
 use Rattle.offset_allocator.proofs.Writes.{grow_place}

@@ -1,4 +1,4 @@
-use Rattle.std.proofs.Common.{◌∙◌, arith, sym}
+use Rattle.offset_allocator.proofs.Common.{◌∙◌, arith, sym}
 use Rattle.offset_allocator.proofs.Nodes.{past_idle}
 use Rattle.offset_allocator.proofs.Reading.{used_read}
 use Rattle.offset_allocator.proofs.chain.is_live.Goals as goal

@@ -1,4 +1,4 @@
-use Rattle.std.proofs.Common.{arith}
+use Rattle.offset_allocator.proofs.Common.{arith}
 use Rattle.offset_allocator.proofs.Readied.{has_memory, not_readied, readied}
 use Rattle.offset_allocator.proofs.chain.ready.Goals as goal
 

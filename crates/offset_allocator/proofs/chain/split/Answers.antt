@@ -1,5 +1,4 @@
-use Rattle.std.proofs.Common.{◌∙◌, ap, arith, refl}
-use Rattle.offset_allocator.specs.Cells.{Cells, Room, Node}
+use Rattle.offset_allocator.proofs.Common.{◌∙◌, ap, arith, refl, Cells, Room, Node}
 use Rattle.offset_allocator.proofs.Exchange.{top}
 use Rattle.offset_allocator.proofs.Nodes.{length-put}
 use Rattle.offset_allocator.proofs.Places.{at_place, end_fits, next_below}

@@ -1,7 +1,4 @@
-use Rattle.std.proofs.Common.{ℕ, ◌∙◌, [], ◌∷◌, Option, false, ap, ap₂, arith}
-use Rattle.offset_allocator.specs.Cells.{Cells, put}
-use Rattle.offset_allocator.specs.View.{free_block}
-use Rattle.offset_allocator.specs.Chain.{IsChain}
+use Rattle.offset_allocator.proofs.Common.{ℕ, ◌∙◌, [], ◌∷◌, Option, false, ap, ap₂, arith, Cells, put, free_block, IsChain}
 use Rattle.offset_allocator.proofs.Fresh.{bare_idle, bare_length, start-chain}
 use Rattle.offset_allocator.proofs.Views.{blocks-chain, space-chain}
 use Rattle.offset_allocator.proofs.chain.start.Goals as goal

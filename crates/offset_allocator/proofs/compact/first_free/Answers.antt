@@ -1,8 +1,5 @@
-use Rattle.std.proofs.Common.{◌≡◌, ◌+◌, List, [], ◌∷◌, ◌++◌, Some, None, length, refl, sym, ap, ◌∙◌, arith, append-nil, append_assoc, length-append}
-use Rattle.offset_allocator.specs.Cells.{Node}
-use Rattle.offset_allocator.specs.View.{Block}
-use Rattle.offset_allocator.specs.Chain.{blocks, last_or}
-use Rattle.offset_allocator.specs.Compacting.{first_free}
+use Rattle.offset_allocator.proofs.Common.{◌≡◌, ◌+◌, List, [], ◌∷◌, ◌++◌, Some, None, length, refl, sym, ap, ◌∙◌, arith, append-nil, append_assoc, length-append, Node, Block, blocks, last_or}
+use Rattle.offset_allocator.proofs.Common.{first_free}
 use Rattle.offset_allocator.proofs.Ends.{Ended, ended, last_none}
 use Rattle.offset_allocator.proofs.Places.{at_place}
 use Rattle.offset_allocator.proofs.Sliding.{walked, first_used, first_idle}

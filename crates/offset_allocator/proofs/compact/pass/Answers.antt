@@ -1,5 +1,4 @@
-use Rattle.std.proofs.Common.{ap, sym, ◌∙◌, arith}
-use Rattle.offset_allocator.specs.Cells.{Node}
+use Rattle.offset_allocator.proofs.Common.{ap, sym, ◌∙◌, arith, Node}
 use Rattle.offset_allocator.proofs.Places.{at_place, next_place, after_fits}
 use Rattle.offset_allocator.proofs.Sliding.{next_is, before_next, joined_node, passed}
 use Rattle.offset_allocator.proofs.compact.pass.Goals as goal

@@ -1,4 +1,4 @@
-use Rattle.std.proofs.Common.{refl, ◌∙◌, arith}
+use Rattle.offset_allocator.proofs.Common.{refl, ◌∙◌, arith}
 use Rattle.offset_allocator.proofs.Sliding.{moved_one}
 use Rattle.offset_allocator.proofs.compact.report.Goals as goal
 

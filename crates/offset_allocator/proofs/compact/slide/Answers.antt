@@ -1,8 +1,4 @@
-use Rattle.std.proofs.Common.{◌≡◌, ◌≤◌, true, false, List, ◌∷◌, length, refl, sym, ap, subst, ◌∙◌, arith, length-append}
-use Rattle.std.specs.List.{FoldsTo}
-use Rattle.offset_allocator.specs.Cells.{Node}
-use Rattle.offset_allocator.specs.View.{Block, Place, units}
-use Rattle.offset_allocator.specs.Compacting.{Move, IsCalledWith}
+use Rattle.offset_allocator.proofs.Common.{◌≡◌, ◌≤◌, true, false, List, ◌∷◌, length, refl, sym, ap, subst, ◌∙◌, arith, length-append, FoldsTo, Node, Block, Place, units, Move, IsCalledWith}
 use Rattle.offset_allocator.proofs.Places.{at_place, next_place, end_fits, after_fits}
 use Rattle.offset_allocator.proofs.Sliding.{absorbed, slid_past, slid_into, slid_end, at_end, same_move}
 use Rattle.offset_allocator.proofs.compact.slide.Goals as goal

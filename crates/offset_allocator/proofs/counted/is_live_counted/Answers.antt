@@ -1,5 +1,4 @@
-use Rattle.std.proofs.Common.{arith}
-use Rattle.std.proofs.lemmas.Grind.{common_steps}
+use Rattle.offset_allocator.proofs.Common.{arith, common_steps}
 use Rattle.offset_allocator.proofs.counted.is_live_counted.Goals as goal
 
 pub returns-clause-accesses_min : goal.returns-clause-accesses_min

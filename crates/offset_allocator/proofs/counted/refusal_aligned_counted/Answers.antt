@@ -1,10 +1,6 @@
-use Rattle.std.proofs.Common.{◌≡◌, ◌∙◌, ◌<◌, ◌≤◌, ◌+◌, ◌-◌, ◌^◌, ℕ, [], max, sum, subst, ap, arith, refl, inl, inr}
-use Rattle.std.proofs.lemmas.Bool.{cases_lt}
-use Rattle.std.proofs.lemmas.List.{get_or_past}
-use Rattle.offset_allocator.specs.View.{View, free_sizes}
-use Rattle.offset_allocator.specs.Classes.{value, up, down}
+use Rattle.offset_allocator.proofs.Common.{◌≡◌, ◌∙◌, ◌<◌, ◌≤◌, ◌+◌, ◌-◌, ◌^◌, ℕ, [], max, sum, subst, ap, arith, refl, inl, inr, cases_lt, get_or_past, View, free_sizes, value, up, down, CanGrant}
+use Rattle.offset_allocator.proofs.Common.{size_needed, blocks_needed, units_needed}
 use Rattle.offset_allocator.proofs.Sound.{Fields, fields_of, known_sound}
-use Rattle.offset_allocator.specs.Requests.{CanGrant, size_needed, blocks_needed, units_needed}
 use Rattle.offset_allocator.proofs.Advice.{free_within, too_small}
 use Rattle.offset_allocator.proofs.Classes.{past_words, down_law, value_small, below_value_up}
 use Rattle.offset_allocator.proofs.Powers.{not_zero}

@@ -1,9 +1,5 @@
-use Rattle.std.proofs.lemmas.Grind.{common_steps}
-use Rattle.std.proofs.Common.{◌≡◌, ℕ, sym, subst, ◌<◌, ◌+◌, length, arith, false, ◌∙◌, refl}
-use Rattle.std.proofs.lemmas.Bool.Decides.{nat_tests}
-use Rattle.offset_allocator.specs.View.{View, total_free, largest_free, free_sizes, is_full}
+use Rattle.offset_allocator.proofs.Common.{common_steps, ◌≡◌, ℕ, sym, subst, ◌<◌, ◌+◌, length, arith, false, ◌∙◌, refl, nat_tests, View, total_free, largest_free, free_sizes, is_full, largest}
 use Rattle.offset_allocator.proofs.Sound.{shown, Fields, AreSound, fields_of, known_sound}
-use Rattle.offset_allocator.specs.Reports.{largest}
 use Rattle.offset_allocator.proofs.Counting.{largest_none, largest_some}
 use Rattle.offset_allocator.proofs.Refusals.{is_open, total_is}
 use Rattle.offset_allocator.proofs.counted.storage_report_counted.Goals.{in-None, in-Some}

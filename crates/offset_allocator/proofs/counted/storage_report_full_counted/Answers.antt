@@ -1,9 +1,5 @@
-use Rattle.std.proofs.lemmas.Grind.{common_steps}
-use Rattle.std.proofs.Common.{◌≡◌, ℕ, ◌+◌, ◌*◌, ◌%◌, ◌^◌, ◌≤◌, length, slice_index_or, subst, ap, ◌∙◌, arith}
+use Rattle.offset_allocator.proofs.Common.{common_steps, ◌≡◌, ℕ, ◌+◌, ◌*◌, ◌%◌, ◌^◌, ◌≤◌, length, slice_index_or, subst, ap, ◌∙◌, arith, value, count_of, View, free_sizes}
 use Rattle.offset_allocator.specs.declared.reports.StorageReportFullRegion.{StorageReportFullRegion}
-use Rattle.offset_allocator.specs.Classes.{value}
-use Rattle.offset_allocator.specs.Reports.{count_of}
-use Rattle.offset_allocator.specs.View.{View, free_sizes}
 use Rattle.offset_allocator.proofs.Sound.{shown, fields_of}
 use Rattle.offset_allocator.proofs.Counting.{length_names, accesses_most}
 use Rattle.offset_allocator.proofs.counted.storage_report_full_counted.Goals as goal

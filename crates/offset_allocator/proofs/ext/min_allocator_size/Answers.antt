@@ -1,5 +1,4 @@
-use Rattle.std.proofs.Common.{arith, ap, ◌∙◌, ◌%◌, ◌^◌}
-use Rattle.offset_allocator.specs.Classes.{value}
+use Rattle.offset_allocator.proofs.Common.{arith, ap, ◌∙◌, ◌%◌, ◌^◌, value}
 use Rattle.offset_allocator.proofs.Classes.{value_up_fits, below_value_up}
 use Rattle.offset_allocator.proofs.ext.min_allocator_size.Goals as goal
 

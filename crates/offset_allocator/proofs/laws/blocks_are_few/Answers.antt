@@ -1,4 +1,4 @@
-use Rattle.std.proofs.Common.{arith}
+use Rattle.offset_allocator.proofs.Common.{arith}
 use Rattle.offset_allocator.proofs.Always.{few_blocks}
 use Rattle.offset_allocator.proofs.laws.blocks_are_few.Goals as goal
 

@@ -1,6 +1,4 @@
-use Rattle.std.proofs.Common.{◌≡◌, ◌+◌, refl, sym, ap, arith, ◌∙◌}
-use Rattle.offset_allocator.specs.Cells.{Node, node}
-use Rattle.offset_allocator.specs.View.{push}
+use Rattle.offset_allocator.proofs.Common.{◌≡◌, ◌+◌, refl, sym, ap, arith, ◌∙◌, Node, node, push}
 use Rattle.offset_allocator.proofs.Classes.{down_small}
 use Rattle.offset_allocator.proofs.Places.{at_place, next_place, previous_place, kept_before, kept_after, kept_place, free_before, free_after, before_fits, after_fits}
 use Rattle.offset_allocator.proofs.Filed.{unlisted, previous_filed, next_filed, filed_before, next_same}

@@ -1,7 +1,4 @@
-use Rattle.std.proofs.Common.{◌≡◌, ◌∙◌, List, refl, ap, arith, inl, inr, eq-zero-or-pos, sym}
-use Rattle.offset_allocator.specs.Cells.{Node}
-use Rattle.offset_allocator.specs.View.{Block, free_part, push_all}
-use Rattle.offset_allocator.specs.Bins.{IsBinned, IsUnlisted, bins_in}
+use Rattle.offset_allocator.proofs.Common.{◌≡◌, ◌∙◌, List, refl, ap, arith, inl, inr, eq-zero-or-pos, sym, Node, Block, free_part, push_all, IsBinned, IsUnlisted, bins_in}
 use Rattle.offset_allocator.proofs.Pieces.{padded_unlisted, pushed_parts, unlisted_part}
 use Rattle.offset_allocator.proofs.Places.{at_place}
 use Rattle.offset_allocator.proofs.Tallies.{part_sums, units-append}

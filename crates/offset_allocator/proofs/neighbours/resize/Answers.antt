@@ -1,9 +1,6 @@
-use Rattle.std.proofs.Common.{◌≡◌, ◌∙◌, ℕ, ◌+◌, ◌-◌, ◌<◌, ap, arith}
-use Rattle.offset_allocator.specs.Cells.{Node}
-use Rattle.offset_allocator.specs.View.{Place, units, free_start}
+use Rattle.offset_allocator.proofs.Common.{◌≡◌, ◌∙◌, ℕ, ◌+◌, ◌-◌, ◌<◌, ap, arith, Node, Place, units, free_start, HasPlace}
 use Rattle.offset_allocator.proofs.Filed.{unlisted_after}
 use Rattle.offset_allocator.proofs.Places.{at_place}
-use Rattle.offset_allocator.specs.Chain.{HasPlace}
 use Rattle.offset_allocator.proofs.neighbours.resize.Goals as goal
 use Rattle.offset_allocator.proofs.neighbours.resize.Goals.{After-with_after-whole}
 use Rattle.offset_allocator.proofs.neighbours.resize.Given.{Over}

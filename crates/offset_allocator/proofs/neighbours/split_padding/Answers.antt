@@ -1,4 +1,4 @@
-use Rattle.std.proofs.Common.{arith}
+use Rattle.offset_allocator.proofs.Common.{arith}
 use Rattle.offset_allocator.proofs.Pieces.{no_padding, some_part}
 use Rattle.offset_allocator.proofs.Places.{previous_idle}
 use Rattle.offset_allocator.proofs.Classes.{down_small}

@@ -1,5 +1,4 @@
-use Rattle.std.proofs.Common.{◌≡◌, ◌-◌, ap, arith}
-use Rattle.offset_allocator.specs.Cells.{Node}
+use Rattle.offset_allocator.proofs.Common.{◌≡◌, ◌-◌, ap, arith, Node}
 use Rattle.offset_allocator.proofs.Pieces.{no_remainder, some_part}
 use Rattle.offset_allocator.proofs.Places.{at_place, end_fits, next_idle}
 use Rattle.offset_allocator.proofs.Classes.{down_small}

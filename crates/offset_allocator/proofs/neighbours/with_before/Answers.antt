@@ -1,5 +1,4 @@
-use Rattle.std.proofs.Common.{refl, sym, ap, arith}
-use Rattle.offset_allocator.specs.Cells.{Node}
+use Rattle.offset_allocator.proofs.Common.{refl, sym, ap, arith, Node}
 use Rattle.offset_allocator.proofs.Places.{at_place, previous_place, kept_before, free_before, before_fits, kept_place}
 use Rattle.offset_allocator.proofs.Filed.{previous_filed}
 use Rattle.offset_allocator.proofs.neighbours.with_before.Goals as goal

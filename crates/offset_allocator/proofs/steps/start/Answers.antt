@@ -1,6 +1,4 @@
-use Rattle.std.proofs.Common.{◌≡◌, ap, ◌∙◌, arith, ℕ, List, [], replicate}
-use Rattle.offset_allocator.specs.View.{push}
-use Rattle.offset_allocator.specs.Bins.{bins_in}
+use Rattle.offset_allocator.proofs.Common.{◌≡◌, ap, ◌∙◌, arith, ℕ, List, [], replicate, push, bins_in}
 use Rattle.offset_allocator.proofs.Classes.{down_small}
 use Rattle.offset_allocator.proofs.Fresh.{empty_unlisted, first_idle, started}
 use Rattle.offset_allocator.proofs.steps.start.Goals as goal

@@ -1,4 +1,4 @@
-use Rattle.std.proofs.Common.{ap, length, arith}
+use Rattle.offset_allocator.proofs.Common.{ap, length, arith}
 use Rattle.offset_allocator.proofs.Listing.{length-left}
 use Rattle.offset_allocator.proofs.blocks.BlocksOfIterator.size_hint.Goals as goal
 

@@ -1,7 +1,4 @@
-use Rattle.std.proofs.Common.{◌≡◌, ◌≤◌, ◌∙◌, ℕ, List, [], ◌∷◌, ◌++◌, ap, ap₂, arith, length, refl, set, sym}
-use Rattle.std.proofs.lemmas.List.{length-map, length-set, map-set}
-use Rattle.offset_allocator.specs.Cells.{Cells, with_node}
-use Rattle.offset_allocator.specs.Layouts.{nodes_in, field_tables}
+use Rattle.offset_allocator.proofs.Common.{◌≡◌, ◌≤◌, ◌∙◌, ℕ, List, [], ◌∷◌, ◌++◌, ap, ap₂, arith, length, refl, set, sym, length-map, length-set, map-set, Cells, with_node, nodes_in, field_tables}
 use Rattle.offset_allocator.proofs.Fields.{length-nodes_in, pushed, linked, longer, room_left}
 use Rattle.offset_allocator.proofs.by_field.ByFieldTables.add.Goals as goal
 

@@ -1,6 +1,4 @@
-use Rattle.std.proofs.Common.{◌∙◌, ap, sym, arith}
-use Rattle.std.proofs.lemmas.List.{get_or-map}
-use Rattle.offset_allocator.specs.Cells.{link_of}
+use Rattle.offset_allocator.proofs.Common.{◌∙◌, ap, sym, arith, get_or-map, link_of}
 use Rattle.offset_allocator.proofs.Fields.{read, within, bound-after}
 use Rattle.offset_allocator.proofs.by_field.ByFieldTables.after.Goals as goal
 

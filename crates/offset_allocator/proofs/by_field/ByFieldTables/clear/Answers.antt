@@ -1,5 +1,4 @@
-use Rattle.std.proofs.Common.{◌∙◌, ℕ, List, [], ◌∷◌, ◌++◌, ap, arith}
-use Rattle.offset_allocator.specs.Cells.{Cells}
+use Rattle.offset_allocator.proofs.Common.{◌∙◌, ℕ, List, [], ◌∷◌, ◌++◌, ap, arith, Cells}
 use Rattle.offset_allocator.proofs.Fields.{first_node, alone}
 use Rattle.offset_allocator.proofs.by_field.ByFieldTables.clear.Goals as goal
 

@@ -1,5 +1,4 @@
-use Rattle.std.proofs.Common.{◌∙◌, ap, sym}
-use Rattle.std.proofs.lemmas.Grind.{get_or_default_zero}
+use Rattle.offset_allocator.proofs.Common.{◌∙◌, ap, sym, get_or_default_zero}
 use Rattle.offset_allocator.proofs.Fields.{read, within, bound-offset}
 use Rattle.offset_allocator.proofs.by_field.ByFieldTables.offset.Goals as goal
 

@@ -1,7 +1,4 @@
-use Rattle.std.proofs.Common.{◌≡◌, ◌≢◌, ℕ, map, set, refl, arith}
-use Rattle.std.proofs.lemmas.List.{length-set}
-use Rattle.offset_allocator.specs.Cells.{Node, link_of}
-use Rattle.offset_allocator.specs.Layouts.{FieldTables, node_in, field_tables}
+use Rattle.offset_allocator.proofs.Common.{◌≡◌, ◌≢◌, ℕ, map, set, refl, arith, length-set, Node, link_of, FieldTables, node_in, field_tables}
 use Rattle.offset_allocator.proofs.Fields.{other, at, within, wrote-room, level_kept, bound-after}
 use Rattle.offset_allocator.proofs.by_field.ByFieldTables.set_after.Goals as goal
 

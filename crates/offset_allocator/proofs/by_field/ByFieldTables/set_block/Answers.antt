@@ -1,7 +1,5 @@
-use Rattle.std.proofs.Common.{◌≡◌, ◌≢◌, ◌∙◌, ℕ, Bool, map, set, refl, ap, arith}
-use Rattle.std.proofs.lemmas.List.{get_or-set_same, get_or-set_other, length-set}
-use Rattle.offset_allocator.specs.Cells.{Node, node, put, link_of}
-use Rattle.offset_allocator.specs.Layouts.{FieldTables, node_in, field_tables}
+use Rattle.offset_allocator.proofs.Common.{◌≡◌, ◌≢◌, ◌∙◌, ℕ, Bool, map, set, refl, ap, arith, get_or-set_same, get_or-set_other, length-set, Node, node, put, link_of, FieldTables, node_in}
+use Rattle.offset_allocator.proofs.Common.{field_tables}
 use Rattle.offset_allocator.proofs.Fields.{other, at, within, wrote-room, level_kept, bound-offset, bound-size, bound-before, bound-after}
 use Rattle.offset_allocator.proofs.by_field.ByFieldTables.set_block.Goals as goal
 

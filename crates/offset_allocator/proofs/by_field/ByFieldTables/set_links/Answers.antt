@@ -1,7 +1,4 @@
-use Rattle.std.proofs.Common.{◌<◌, ◌∙◌, ℕ, List, ap, length, map, set, arith, refl}
-use Rattle.std.proofs.lemmas.List.{length-map, length-set, map-set}
-use Rattle.offset_allocator.specs.Cells.{Cells}
-use Rattle.offset_allocator.specs.Layouts.{field_tables}
+use Rattle.offset_allocator.proofs.Common.{◌<◌, ◌∙◌, ℕ, List, ap, length, map, set, arith, refl, length-map, length-set, map-set, Cells, field_tables}
 use Rattle.offset_allocator.proofs.Fields.{length-nodes_in, wrote-newer, level_kept, bound-newer}
 use Rattle.offset_allocator.proofs.by_field.ByFieldTables.set_links.Goals as goal
 

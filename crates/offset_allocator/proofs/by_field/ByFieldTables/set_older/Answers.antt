@@ -1,5 +1,4 @@
-use Rattle.std.proofs.Common.{refl}
-use Rattle.std.proofs.lemmas.List.{length-set, map-set}
+use Rattle.offset_allocator.proofs.Common.{refl, length-set, map-set}
 use Rattle.offset_allocator.proofs.Fields.{level_kept, bound-older}
 use Rattle.offset_allocator.proofs.by_field.ByFieldTables.set_older.Goals as goal
 

@@ -1,7 +1,4 @@
-use Rattle.std.proofs.Common.{◌≡◌, ◌≢◌, ℕ, set, refl, arith}
-use Rattle.std.proofs.lemmas.List.{get_or-set_same, get_or-set_other, length-set}
-use Rattle.offset_allocator.specs.Cells.{Node}
-use Rattle.offset_allocator.specs.Layouts.{FieldTables, node_in, field_tables}
+use Rattle.offset_allocator.proofs.Common.{◌≡◌, ◌≢◌, ℕ, set, refl, arith, get_or-set_same, get_or-set_other, length-set, Node, FieldTables, node_in, field_tables}
 use Rattle.offset_allocator.proofs.Fields.{within, wrote-room, level_kept, bound-size}
 use Rattle.offset_allocator.proofs.by_field.ByFieldTables.set_size.Goals as goal
 

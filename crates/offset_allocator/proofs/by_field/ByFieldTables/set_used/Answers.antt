@@ -1,5 +1,4 @@
-use Rattle.std.proofs.Common.{◌∙◌, ap, map, set, arith, refl}
-use Rattle.std.proofs.lemmas.List.{length-map, length-set, map-set}
+use Rattle.offset_allocator.proofs.Common.{◌∙◌, ap, map, set, arith, refl, length-map, length-set, map-set}
 use Rattle.offset_allocator.proofs.Fields.{wrote-used, level_kept, bound-used}
 use Rattle.offset_allocator.proofs.by_field.ByFieldTables.set_used.Goals as goal
 

@@ -1,5 +1,4 @@
-use Rattle.std.proofs.Common.{◌∙◌, ap, sym, arith}
-use Rattle.std.proofs.lemmas.Grind.{get_or_default_zero}
+use Rattle.offset_allocator.proofs.Common.{◌∙◌, ap, sym, arith, get_or_default_zero}
 use Rattle.offset_allocator.proofs.Fields.{read, within, bound-size}
 use Rattle.offset_allocator.proofs.by_field.ByFieldTables.size.Goals as goal
 

@@ -1,5 +1,4 @@
-use Rattle.std.proofs.Common.{◌∙◌, ap, sym, arith}
-use Rattle.std.proofs.lemmas.List.{get_or-map}
+use Rattle.offset_allocator.proofs.Common.{◌∙◌, ap, sym, arith, get_or-map}
 use Rattle.offset_allocator.proofs.Fields.{read, within, bound-used}
 use Rattle.offset_allocator.proofs.by_field.ByFieldTables.used.Goals as goal
 

@@ -1,4 +1,4 @@
-use Rattle.std.proofs.Common.{◌∙◌, ℕ, List, [], ◌∷◌, ◌++◌, ap, arith, length, refl, sym}
+use Rattle.offset_allocator.proofs.Common.{◌∙◌, ℕ, List, [], ◌∷◌, ◌++◌, ap, arith, length, refl, sym}
 use Rattle.offset_allocator.proofs.Fields.{first_node, alone, longer}
 use Rattle.offset_allocator.proofs.by_field.ByFieldTables.with_len.Goals as goal
 

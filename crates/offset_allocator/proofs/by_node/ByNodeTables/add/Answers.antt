@@ -1,7 +1,4 @@
-use Rattle.std.proofs.Common.{◌≡◌, ◌∙◌, ℕ, List, [], ◌∷◌, ◌++◌, ap, ap₂, arith, length, map, refl, set, sym}
-use Rattle.std.proofs.lemmas.List.{length-set, map-append, map-set}
-use Rattle.offset_allocator.specs.Cells.{Cells, Node, with_node}
-use Rattle.offset_allocator.specs.Layouts.{nodes_of}
+use Rattle.offset_allocator.proofs.Common.{◌≡◌, ◌∙◌, ℕ, List, [], ◌∷◌, ◌++◌, ap, ap₂, arith, length, map, refl, set, sym, length-set, map-append, map-set, Cells, Node, with_node, nodes_of}
 use Rattle.offset_allocator.specs.declared.by_node.Node.{Node as Entry}
 use Rattle.offset_allocator.proofs.Entries.{entry_added, length-nodes_of, room_left, spare_left}
 use Rattle.offset_allocator.proofs.by_node.ByNodeTables.add.Goals as goal

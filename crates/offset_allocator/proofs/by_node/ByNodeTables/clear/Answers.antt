@@ -1,5 +1,4 @@
-use Rattle.std.proofs.Common.{◌∙◌, [], ◌∷◌, ap}
-use Rattle.offset_allocator.specs.Cells.{Cells}
+use Rattle.offset_allocator.proofs.Common.{◌∙◌, [], ◌∷◌, ap, Cells}
 use Rattle.offset_allocator.proofs.Entries.{first_node}
 use Rattle.offset_allocator.proofs.by_node.ByNodeTables.clear.Goals as goal
 

@@ -1,5 +1,4 @@
-use Rattle.std.proofs.Common.{◌∙◌, Bool, ap, refl}
-use Rattle.offset_allocator.specs.Cells.{Node, put, link_of}
+use Rattle.offset_allocator.proofs.Common.{◌∙◌, Bool, ap, refl, Node, put, link_of}
 use Rattle.offset_allocator.proofs.Entries.{wrote-room, even_set, bound}
 use Rattle.offset_allocator.proofs.by_node.ByNodeTables.set_block.Goals as goal
 

@@ -1,4 +1,4 @@
-use Rattle.std.proofs.Common.{arith}
+use Rattle.offset_allocator.proofs.Common.{arith}
 use Rattle.offset_allocator.proofs.Entries.{wrote-used, even_set, bound}
 use Rattle.offset_allocator.proofs.by_node.ByNodeTables.set_used.Goals as goal
 

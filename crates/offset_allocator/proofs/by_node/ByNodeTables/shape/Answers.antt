@@ -1,4 +1,4 @@
-use Rattle.std.proofs.Common.{◌≤◌, rules}
+use Rattle.offset_allocator.proofs.Common.{◌≤◌, rules}
 use Rattle.offset_allocator.proofs.Entries.{shaped}
 use Rattle.offset_allocator.proofs.by_node.ByNodeTables.shape.Goals as goal
 

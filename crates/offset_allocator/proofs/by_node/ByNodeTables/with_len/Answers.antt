@@ -1,4 +1,4 @@
-use Rattle.std.proofs.Common.{◌∙◌, [], ◌∷◌, ap, arith, length, refl, sym}
+use Rattle.offset_allocator.proofs.Common.{◌∙◌, [], ◌∷◌, ap, arith, length, refl, sym}
 use Rattle.offset_allocator.proofs.Entries.{first_node}
 use Rattle.offset_allocator.proofs.by_node.ByNodeTables.with_len.Goals as goal
 
