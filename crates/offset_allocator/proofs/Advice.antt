@@ -4,13 +4,8 @@ use Rattle.offset_allocator.proofs.Common.{arith, length-append, AllByRecursion,
 use Rattle.offset_allocator.proofs.Common.{IsWellFormed, IsFresh, Compacts, live, gathered, CanGrant, HasRoomFor, IsWhy, size_needed}
 use Rattle.offset_allocator.specs.declared.reports.Refusal.{Refusal}
 use Rattle.offset_allocator.specs.declared.reports.Refusal.TheVariants.{Nodes, TooLarge, Space, Fragmented}
-use Rattle.offset_allocator.proofs.Always.{adds_up}
 use Rattle.offset_allocator.proofs.Classes.{down_law, down_small, value_down, value_grows, up_reached}
-use Rattle.offset_allocator.proofs.Counting.{value_within_free}
-use Rattle.offset_allocator.proofs.Emptied.{none_at}
-use Rattle.offset_allocator.proofs.Taken.{HasFit}
-use Rattle.offset_allocator.proofs.ViewFits.{good_refusal}
-use Rattle.offset_allocator.proofs.ViewOrders.{names_same, names_other}
+use Rattle.offset_allocator.proofs.{Always.adds_up, Counting.value_within_free, Emptied.none_at, Taken.HasFit, ViewFits.good_refusal, ViewOrders.names_same, ViewOrders.names_other}
 
 -- one block of s units, alone in its bin
 abbrev alone : ℕ → ℕ → List (List ℕ)

@@ -2,9 +2,7 @@
 use Rattle.offset_allocator.proofs.Common.{◌≡◌, ℕ, ◌+◌, ◌*◌, ◌<◌, ◌≤◌, Bool, true, false, not, ◌&&◌, ◌↔◌, List, [], ◌∷◌, ◌++◌, length, sum, if◌then◌else◌, refl, sym, ap, ap₂, subst, ◌∙◌, arith}
 use Rattle.offset_allocator.proofs.Common.{le-leb, true≢false, AllByRecursion, sum_by-cons, value, up, down, largest, Block, View, used_units, used_of, one, starts_free, total_free, largest_free}
 use Rattle.offset_allocator.proofs.Common.{units, free_sizes, free_block, IsApart, IsWellFormed, max_size, IsFresh, CanGrant}
-use Rattle.offset_allocator.proofs.Taken.{fitting}
-use Rattle.offset_allocator.proofs.Classes.{down_law}
-use Rattle.offset_allocator.proofs.ViewTaken.{well_alone}
+use Rattle.offset_allocator.proofs.{Taken.fitting, Classes.down_law, ViewTaken.well_alone}
 
 -- used and free units
 pub parted : (bs : List Block) → used_units bs + sum (free_sizes bs) ≡ units bs

@@ -2,11 +2,10 @@
 use Rattle.offset_allocator.proofs.Common.{◌≡◌, ◌≢◌, ◌<◌, ◌≤◌, ◌+◌, ◌⊎◌, ℕ, List, [], ◌∷◌, ◌++◌, map, refl, sym, ap, subst, ◌∙◌, inl, inr, arith, length, drop, slice_index, slice_set, cases_eq}
 use Rattle.offset_allocator.proofs.Common.{length-set, length-map, get_or-set_same, get_or-set_other, get_or-map, ext_get_or, set-get_or, set-set, set_comm, Links, bin_at, times, without, push}
 use Rattle.offset_allocator.proofs.Common.{remove, IsLinked, Among, flag, first_of, walk, HasBins, AreMasks, IsUnlisted, IsBinned, bins_in}
-use Rattle.offset_allocator.proofs.Masks.{masked_same, flag_full}
-use Rattle.offset_allocator.proofs.Tallies.{hit_cases, one-same, times-join}
 use Rattle.offset_allocator.proofs.ViewOrders.{names_same, names_other, times_without_le, unlisted_removed}
 use Rattle.offset_allocator.proofs.Walks.{name_below, older_below, chain_fits, walk_is, IsLater, found, kept, led, not_first, first_same, newer_kept, next_among, older_kept, unlinked, without_first}
 use Rattle.offset_allocator.proofs.Walks.{without_later}
+use Rattle.offset_allocator.proofs.{Masks.masked_same, Masks.flag_full, Tallies.hit_cases, Tallies.one-same, Tallies.times-join}
 
 module _ {none : ℕ} {t : Links} {ls : List (List ℕ)} (k : HasBins none t ls) where
   pub single : (c : ℕ) → c < 256 → (x : ℕ) → times x (bin_at ls c) ≤ 1

@@ -3,17 +3,10 @@ use Rattle.offset_allocator.proofs.Common.{◌≡◌, ℕ, suc, ◌+◌, ◌≤�
 use Rattle.offset_allocator.proofs.Common.{subst, ◌∙◌, inl, inr, arith, append-nil, length-append, eq-zero-or-pos, AllByRecursion, nat_tests, length-replicate, ext_get_or, down, Cells, Room, Block}
 use Rattle.offset_allocator.proofs.Common.{View, Place, one, free_block, units, free_sizes, used_units, used_of, count_named, count_in_bin, bin_at, push, push_all, IsApart, IsWellFormed, starts_free}
 use Rattle.offset_allocator.proofs.Common.{live, moves, move_of, first_free, gathered, Compacts, SameSpace, HasPlace, blocks, IsBinned, bins_in, AreInBins, free_units}
-use Rattle.offset_allocator.proofs.Always.{parted}
-use Rattle.offset_allocator.proofs.Emptied.{no_name, none_at}
-use Rattle.offset_allocator.proofs.Exchange.{each-le, there-below, unused}
-use Rattle.offset_allocator.proofs.Filed.{share}
-use Rattle.offset_allocator.proofs.Joints.{stepped, free_units-append, free_units-free, free_units-used}
-use Rattle.offset_allocator.proofs.Places.{placed}
 use Rattle.offset_allocator.proofs.Sliding.{first_used, first_idle, live_used, live_idle, moves_used, moves_idle}
-use Rattle.offset_allocator.proofs.Sound.{Fields, AreSound, shown, well_counted}
-use Rattle.offset_allocator.proofs.Tallies.{one-same, tally_append, units-append}
-use Rattle.offset_allocator.proofs.ViewOrders.{times_put_all, length_put}
-use Rattle.offset_allocator.proofs.ViewTaken.{replicate_none}
+use Rattle.offset_allocator.proofs.{Always.parted, Emptied.no_name, Emptied.none_at, Exchange.each-le, Exchange.there-below, Exchange.unused, Filed.share, Joints.stepped, Joints.free_units-append}
+use Rattle.offset_allocator.proofs.{Joints.free_units-free, Joints.free_units-used, Places.placed, Sound.Fields, Sound.AreSound, Sound.shown, Sound.well_counted, Tallies.one-same}
+use Rattle.offset_allocator.proofs.{Tallies.tally_append, Tallies.units-append, ViewOrders.times_put_all, ViewOrders.length_put, ViewTaken.replicate_none}
 
 abbrev pub AreUsed : List Block → Type 0
 AreUsed bs = AllByRecursion (λ b. b.used ≡ true) bs

@@ -2,9 +2,7 @@
 use Rattle.offset_allocator.proofs.Common.{◌≡◌, ◌≢◌, ℕ, zero, suc, ◌+◌, ◌*◌, ◌<◌, ◌≤◌, true, false, not, cond, ◌&&◌, List, [], ◌∷◌, length, sum, nat_eq, nat_lt, if◌then◌else◌, refl, sym, ap, inl, inr}
 use Rattle.offset_allocator.proofs.Common.{arith, eq-eqb, ne_eqb, cases_eq, cases_lt, nat_tests, get_or_past, sum_by-cons, value, up, down, count_of, largest, Block, View, one, times, count_in_bin}
 use Rattle.offset_allocator.proofs.Common.{bin_at, free_sizes, IsWellFormed, IsLargestClass}
-use Rattle.offset_allocator.proofs.Classes.{down_small, value_down, value_grows, up_reached}
-use Rattle.offset_allocator.proofs.Walks.{drop_one}
-use Rattle.offset_allocator.proofs.Tallies.{one-same}
+use Rattle.offset_allocator.proofs.{Classes.down_small, Classes.value_down, Classes.value_grows, Classes.up_reached, Walks.drop_one, Tallies.one-same}
 
 -- ---- sizes by their classes
 -- a class of which a size is

@@ -3,14 +3,9 @@
 use Rattle.offset_allocator.proofs.Common.{◌≡◌, ℕ, ◌+◌, ◌*◌, append_assoc, ◌<◌, ◌≤◌, Bool, true, false, not, List, [], ◌∷◌, ◌++◌, length, replicate, Option, Some, None, IfSome, nat_eq, refl, sym, ap}
 use Rattle.offset_allocator.proofs.Common.{ap₂, subst, ◌∙◌, arith, inl, inr, length-replicate, ext_get_or, cases_lt, false≢true, not-false, down, Block, View, one, is_free, free_block, units}
 use Rattle.offset_allocator.proofs.Common.{count_named, used_of, times, count_in_bin, bin_at, push, IsApart, IsWellFormed, place_of, is_used_at, SameSpace, Frees, Resets, last_or, IsLive}
-use Rattle.offset_allocator.proofs.Ends.{Ended, ended, last_none}
-use Rattle.offset_allocator.proofs.Classes.{down_small}
-use Rattle.offset_allocator.proofs.Reading.{used_live}
-use Rattle.offset_allocator.proofs.ViewApart.{apart_parts, left_false}
-use Rattle.offset_allocator.proofs.Tallies.{hit_cases, tally_append, one-same, one-eq}
 use Rattle.offset_allocator.proofs.ViewOrders.{hit_at, hit_other, names_same, names_other, length_put}
-use Rattle.offset_allocator.proofs.ViewSteps.{place_here}
-use Rattle.offset_allocator.proofs.ViewTaken.{replicate_none}
+use Rattle.offset_allocator.proofs.{Ends.Ended, Ends.ended, Ends.last_none, Classes.down_small, Reading.used_live, ViewApart.apart_parts, ViewApart.left_false, Tallies.hit_cases, Tallies.tally_append}
+use Rattle.offset_allocator.proofs.{Tallies.one-same, Tallies.one-eq, ViewSteps.place_here, ViewTaken.replicate_none}
 
 -- lists of names
 pub no_name : (l : List ℕ) → ((y : ℕ) → times y l ≡ 0) → l ≡ []

@@ -3,16 +3,10 @@ use Rattle.offset_allocator.proofs.Common.{◌≡◌, ◌↔◌, ℕ, ◌+◌, �
 use Rattle.offset_allocator.proofs.Common.{append-nil, true≢false, false≢true, AllByRecursion, down, Cells, Room, Node, node, Block, View, count_named, bin_at, count_in_bin, is_free, IsApart}
 use Rattle.offset_allocator.proofs.Common.{IsWellFormed, IsNew, free_block, units, replace, remove_all, push, remove, without, times, ends_used, HasRoomFor, KeepsAll, Adds, CanExtend, Extends}
 use Rattle.offset_allocator.proofs.Common.{IsChain, HasPlace, blocks, Among, IsUnlisted, bins_in, IsBinned, free_units}
-use Rattle.offset_allocator.proofs.Sound.{Fields, AreSound, shown, well_counted, well_same}
-use Rattle.offset_allocator.proofs.Ends.{Ended, ended}
-use Rattle.offset_allocator.proofs.Places.{at_place, end_place}
-use Rattle.offset_allocator.proofs.Filed.{share, counts_once}
-use Rattle.offset_allocator.proofs.ViewApart.{ends_free, apart_parts, left_false}
 use Rattle.offset_allocator.proofs.Tallies.{listed_named, tally_append, units-append, times-append, one-eq}
-use Rattle.offset_allocator.proofs.ViewOrders.{times_remove_all}
-use Rattle.offset_allocator.proofs.ViewTaken.{well_added}
-use Rattle.offset_allocator.proofs.Ranges.{adds_keep}
 use Rattle.offset_allocator.proofs.Joints.{stepped, free_most, unused_unlisted, remove_free, free_units-append, free_units-free}
+use Rattle.offset_allocator.proofs.{Sound.Fields, Sound.AreSound, Sound.shown, Sound.well_counted, Sound.well_same, Ends.Ended, Ends.ended, Places.at_place, Places.end_place, Filed.share}
+use Rattle.offset_allocator.proofs.{Filed.counts_once, ViewApart.ends_free, ViewApart.apart_parts, ViewApart.left_false, ViewOrders.times_remove_all, ViewTaken.well_added, Ranges.adds_keep}
 
 pub ends_last : (fs : List Block) (b : Block) → ends_used (fs ++ b ∷ []) ≡ b.used
 ends_last [] b = refl

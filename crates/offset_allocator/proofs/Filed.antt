@@ -2,11 +2,8 @@
 use Rattle.offset_allocator.proofs.Common.{◌≡◌, ℕ, ◌+◌, ◌≤◌, Bool, true, false, ◌&&◌, Some, None, List, [], ◌∷◌, ◌++◌, length, nat_eq, refl, sym, ap, ◌∙◌, arith, inl, inr, down, Room, Node, node}
 use Rattle.offset_allocator.proofs.Common.{Block, Place, one, is_free, count_named, count_in_bin, bin_at, free_end, without_end, free_start, without_start, remove_all, HasPlace, first_or, Among}
 use Rattle.offset_allocator.proofs.Common.{IsUnlisted, AreInBins, AreUnlisted}
-use Rattle.offset_allocator.proofs.Exchange.{each-le}
-use Rattle.offset_allocator.proofs.Places.{at_place, next_place, previous_place}
 use Rattle.offset_allocator.proofs.Tallies.{listed_named, tally_append, hit_cases, one-eq, times-append}
-use Rattle.offset_allocator.proofs.ViewOrders.{times_remove_all}
-use Rattle.offset_allocator.proofs.ViewTaken.{tally_end, tally_start}
+use Rattle.offset_allocator.proofs.{Exchange.each-le, Places.at_place, Places.next_place, Places.previous_place, ViewOrders.times_remove_all, ViewTaken.tally_end, ViewTaken.tally_start}
 
 -- the sum that `count_in_bin` takes, of one block
 abbrev pub share : ℕ → ℕ → Block → ℕ

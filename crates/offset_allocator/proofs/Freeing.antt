@@ -3,15 +3,9 @@ use Rattle.offset_allocator.proofs.Common.{◌≡◌, ℕ, ◌+◌, ◌<◌, ◌
 use Rattle.offset_allocator.proofs.Common.{false≢true, down, Cells, Block, View, Place, one, count_named, count_in_bin, IsWellFormed, units, place_of, is_used_at, free_end, without_end, free_start}
 use Rattle.offset_allocator.proofs.Common.{without_start, remove_all, push, free_block, replace, IsApart, remove, IsChain, HasPlace, blocks, bins_in, IsBinned, IsSound, view_of, free_units, AreInBins}
 use Rattle.offset_allocator.proofs.Common.{SameSpace, Frees}
-use Rattle.offset_allocator.proofs.Filed.{share}
-use Rattle.offset_allocator.proofs.Sound.{Fields, AreSound, shown, well_counted}
-use Rattle.offset_allocator.proofs.Places.{located}
-use Rattle.offset_allocator.proofs.ViewSteps.{place_at}
-use Rattle.offset_allocator.proofs.ViewTaken.{well_frees, tally_end, tally_start}
-use Rattle.offset_allocator.proofs.ViewApart.{apart_parts, apart_coalesced, coalesced_parts}
-use Rattle.offset_allocator.proofs.Released.{idle_append, idle_end, idle_start}
-use Rattle.offset_allocator.proofs.Joints.{stepped, free_most, free_units-append, free_units-free, free_units-used}
-use Rattle.offset_allocator.proofs.Tallies.{tally_append}
+use Rattle.offset_allocator.proofs.{Filed.share, Sound.Fields, Sound.AreSound, Sound.shown, Sound.well_counted, Places.located, ViewSteps.place_at, ViewTaken.well_frees, ViewTaken.tally_end}
+use Rattle.offset_allocator.proofs.{ViewTaken.tally_start, ViewApart.apart_parts, ViewApart.apart_coalesced, ViewApart.coalesced_parts, Released.idle_append, Released.idle_end, Released.idle_start}
+use Rattle.offset_allocator.proofs.{Joints.stepped, Joints.free_most, Joints.free_units-append, Joints.free_units-free, Joints.free_units-used, Tallies.tally_append}
 
 share_used : (k y : ℕ) (b : Block) → b.used ≡ true → share k y b ≡ 0
 share_used k y b e = ap (λ (u : Bool). one (not u && (nat_eq k (down b.size) && nat_eq y b.name))) e

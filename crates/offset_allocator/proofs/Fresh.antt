@@ -3,10 +3,7 @@ use Rattle.offset_allocator.proofs.Common.{◌≡◌, ◌≢◌, ℕ, zero, suc,
 use Rattle.offset_allocator.proofs.Common.{slice_index, length-replicate, get_or-replicate, bit_at-zero, cases_eq, nat_tests, down, Cells, Links, Room, Node, blank, node, put, AreEmpty, IsBare}
 use Rattle.offset_allocator.proofs.Common.{AreShaped, Block, View, IsWellFormed, free_block, push, bin_at, IsChain, IsSpace, blocks, spares, HasBins, AreMasks, IsBinned, bins_in, Among, IsUnlisted}
 use Rattle.offset_allocator.proofs.Common.{IsSound, view_of, free_units}
-use Rattle.offset_allocator.proofs.Nodes.{node-put, node-put_other, length-put, spare-put, reserved-put}
-use Rattle.offset_allocator.proofs.Binned.{binned}
-use Rattle.offset_allocator.proofs.ViewTaken.{well_alone}
-use Rattle.offset_allocator.proofs.Tallies.{one-eq, one-other}
+use Rattle.offset_allocator.proofs.{Nodes.node-put, Nodes.node-put_other, Nodes.length-put, Nodes.spare-put, Nodes.reserved-put, Binned.binned, ViewTaken.well_alone, Tallies.one-eq, Tallies.one-other}
 
 -- one free block of the whole size
 abbrev pub fresh : ℕ → ℕ → View

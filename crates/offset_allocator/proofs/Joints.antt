@@ -1,9 +1,7 @@
 -- The chain, the bins and the view together.
 use Rattle.offset_allocator.proofs.Common.{◌≡◌, ℕ, zero, suc, ◌+◌, ◌≤◌, Bool, true, false, List, [], ◌∷◌, ◌++◌, if◌then◌else◌, refl, sym, ap, subst, ◌∙◌, arith, down, units, Block, View, count_named}
 use Rattle.offset_allocator.proofs.Common.{count_in_bin, IsWellFormed, free_part, remove_all, remove, Cells, IsChain, IsBinned, bins_in, IsUnlisted, view_of, free_units}
-use Rattle.offset_allocator.proofs.Views.{blocks-chain, space-chain}
-use Rattle.offset_allocator.proofs.Sound.{Fields, AreSound, well_counted}
-use Rattle.offset_allocator.proofs.Tallies.{listed_named, tally_append}
+use Rattle.offset_allocator.proofs.{Views.blocks-chain, Views.space-chain, Sound.Fields, Sound.AreSound, Sound.well_counted, Tallies.listed_named, Tallies.tally_append}
 
 -- a name that no free block has is in no list
 pub unlisted : (v : View) → IsWellFormed v → (x : ℕ) → ((c : ℕ) → count_in_bin c x v.blocks ≡ 0) → IsUnlisted x v.order

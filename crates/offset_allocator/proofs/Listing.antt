@@ -2,11 +2,7 @@
 use Rattle.offset_allocator.proofs.Common.{◌≡◌, ℕ, suc, ◌+◌, ◌-◌, ◌<◌, ◌≤◌, Bool, None, Some, List, [], ◌∷◌, ◌++◌, length, take, drop, reverse, refl, sym, ap, ap₂, subst, ◌∙◌, arith, if◌then◌else◌}
 use Rattle.offset_allocator.proofs.Common.{length_push, length-take-le, take-take, take-append-le, take_all, take-append-drop, append_assoc, reverse-append, length-reverse, Room, Node, node, View}
 use Rattle.offset_allocator.proofs.Common.{Block, units, count_named, last_or, IsRow, Placed, placed_at, placed}
-use Rattle.offset_allocator.proofs.Exchange.{there-below}
-use Rattle.offset_allocator.proofs.Ends.{Ended, ended, last_none}
-use Rattle.offset_allocator.proofs.Rows.{node_at}
-use Rattle.offset_allocator.proofs.Sound.{Fields, AreSound, shown}
-use Rattle.offset_allocator.proofs.Tallies.{times-append, one-eq}
+use Rattle.offset_allocator.proofs.{Exchange.there-below, Ends.Ended, Ends.ended, Ends.last_none, Rows.node_at, Sound.Fields, Sound.AreSound, Sound.shown, Tallies.times-append, Tallies.one-eq}
 
 -- the first k blocks end in the block of a name
 pub record EndsIn (bs : List Block) (k x : ℕ) : Type 0 where

@@ -2,12 +2,8 @@
 use Rattle.offset_allocator.proofs.Common.{◌≡◌, ◌↔◌, ℕ, ◌+◌, ◌≤◌, Bool, true, false, Option, Some, None, List, [], ◌∷◌, ◌++◌, sum, if◌then◌else◌, nat_eq, option_map, option_and_then, refl, sym, ap}
 use Rattle.offset_allocator.proofs.Common.{subst, ◌∙◌, inl, inr, arith, AllByRecursion, cases_eq, nat_tests, sum_by-cons, value, down, largest, Block, View, Place, one, place_of, count_named}
 use Rattle.offset_allocator.proofs.Common.{free_sizes, units, IsWellFormed, CanGrant, HasRoomFor, Range, Move, live, moves, move_of, gathered, AreSafe, KeepsSizes, Compacts}
-use Rattle.offset_allocator.proofs.Classes.{down_law}
-use Rattle.offset_allocator.proofs.Compacting.{live_are_used, AreUsed}
-use Rattle.offset_allocator.proofs.Refusals.{fit_small}
-use Rattle.offset_allocator.proofs.Sliding.{live_used, live_idle}
-use Rattle.offset_allocator.proofs.Tallies.{hit_cases}
 use Rattle.offset_allocator.proofs.ViewFits.{fits_exactly, largest_small}
+use Rattle.offset_allocator.proofs.{Classes.down_law, Compacting.live_are_used, Compacting.AreUsed, Refusals.fit_small, Sliding.live_used, Sliding.live_idle, Tallies.hit_cases}
 
 -- the units that a name holds, if it is live
 abbrev units_at : Option Place → Option ℕ

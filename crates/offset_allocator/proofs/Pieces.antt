@@ -1,9 +1,7 @@
 -- Blocks that are split, and the bins of their parts.
 use Rattle.offset_allocator.proofs.Common.{◌≡◌, ◌≢◌, ℕ, zero, suc, ◌-◌, ◌<◌, List, [], ◌∷◌, ◌++◌, length, refl, sym, ap, ◌∙◌, subst, arith, inl, inr, append-nil, get_or-set_same, get_or-set_other}
 use Rattle.offset_allocator.proofs.Common.{cases_eq, Room, down, Block, Place, count_named, bin_at, free_part, free_block, used_block, push, push_all, Among, IsUnlisted, HasPlace, AreUnlisted}
-use Rattle.offset_allocator.proofs.Classes.{down_small}
-use Rattle.offset_allocator.proofs.Exchange.{each-le}
-use Rattle.offset_allocator.proofs.Tallies.{one-eq, one-other, times-append}
+use Rattle.offset_allocator.proofs.{Classes.down_small, Exchange.each-le, Tallies.one-eq, Tallies.one-other, Tallies.times-append}
 
 unlisted_put : (y x c : ℕ) (ls : List (List ℕ)) → length ls ≡ 256 → c < 256 → y ≢ x → IsUnlisted y ls → IsUnlisted y (push c x ls)
 unlisted_put y x c ls n ch ne u d dh a =

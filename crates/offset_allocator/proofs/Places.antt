@@ -2,11 +2,8 @@
 use Rattle.offset_allocator.proofs.Common.{◌≡◌, ℕ, ◌+◌, ◌<◌, ◌^◌, true, false, Option, None, Some, IfSome, List, [], ◌∷◌, ◌++◌, length, refl, sym, ◌∙◌, ap, arith, append_assoc, length-append, down}
 use Rattle.offset_allocator.proofs.Common.{Room, Node, node, first_or, last_or, IsChain, IsSpace, HasPlace, blocks, coalesced_before, coalesced_after, Block, Place, free_block, place_of, units}
 use Rattle.offset_allocator.proofs.Common.{free_end, free_start, remove, remove_all}
-use Rattle.offset_allocator.proofs.Tallies.{one-eq, times-append, units-append}
-use Rattle.offset_allocator.proofs.Rows.{last_or-append, node_at}
 use Rattle.offset_allocator.proofs.Ends.{ended, last_none, end_free, end_used, end_kept, start_kept}
-use Rattle.offset_allocator.proofs.Exchange.{there-below}
-use Rattle.offset_allocator.proofs.ViewSteps.{place_at}
+use Rattle.offset_allocator.proofs.{Tallies.one-eq, Tallies.times-append, Tallies.units-append, Rows.last_or-append, Rows.node_at, Exchange.there-below, ViewSteps.place_at}
 
 pub placed : {c : Room} {m last count x : ℕ} {p : Place} → IsChain c m last count (p.before ++ p.block ∷ p.after) → p.block.name ≡ x → HasPlace c m last count x p
 placed {c} {m} {last} {count} {x} {p} h e = record {

@@ -3,10 +3,7 @@ use Rattle.offset_allocator.proofs.Common.{◌≡◌, ◌≢◌, ℕ, IfSome, ze
 use Rattle.offset_allocator.proofs.Common.{inl, inr, arith, append_assoc, add-zero, add_assoc, eq-eqb, ne_eqb, false≢true, and_right, AllByRecursion, Block, View, Place, Grant, one, units}
 use Rattle.offset_allocator.proofs.Common.{count_named, used_block, free_block, free_part, IsWellFormed, place_of, Range, range_of, AreDisjoint, Grants, KeepsAll, KeepsOthers, KeepsRanges, Resizes}
 use Rattle.offset_allocator.proofs.Common.{HasUnits, SameSpace, Splits, Frees, Adds}
-use Rattle.offset_allocator.proofs.ViewSteps.{place_at, no_place}
-use Rattle.offset_allocator.proofs.Released.{idle_parts}
-use Rattle.offset_allocator.proofs.Reading.{range_at}
-use Rattle.offset_allocator.proofs.Tallies.{part_sums, tally_append, hit_cases}
+use Rattle.offset_allocator.proofs.{ViewSteps.place_at, ViewSteps.no_place, Released.idle_parts, Reading.range_at, Tallies.part_sums, Tallies.tally_append, Tallies.hit_cases}
 
 -- the range of the used block named x, where the first of the blocks has this offset
 abbrev range_from : ℕ → ℕ → List Block → Option Range

@@ -1,10 +1,7 @@
 -- What a read of cells says of the view.
 use Rattle.offset_allocator.proofs.Common.{◌≡◌, ℕ, ◌<◌, inl, inr, length, arith, Bool, is_some, true, false, Option, None, Some, option_and_then, option_map, unwrap_or, if◌then◌else◌, refl, sym, ap}
 use Rattle.offset_allocator.proofs.Common.{subst, ◌∙◌, cases_lt, false≢true, Room, Node, node, View, Place, units, place_of, is_used_at, Range, range_of, size_of, IsLive, blocks, IsRow, IsSpace}
-use Rattle.offset_allocator.proofs.Nodes.{past_idle}
-use Rattle.offset_allocator.proofs.Sound.{Fields, AreSound, shown}
-use Rattle.offset_allocator.proofs.Rows.{node_at}
-use Rattle.offset_allocator.proofs.ViewSteps.{place_at, no_place}
+use Rattle.offset_allocator.proofs.{Nodes.past_idle, Sound.Fields, Sound.AreSound, Sound.shown, Rows.node_at, ViewSteps.place_at, ViewSteps.no_place}
 
 -- the range of the used block at a place
 abbrev pub range_at : Option Place → Option Range

@@ -1,9 +1,7 @@
 -- Why a request is refused.
 use Rattle.offset_allocator.proofs.Common.{◌≡◌, ℕ, ◌+◌, ◌<◌, ◌≤◌, true, false, List, [], ◌∷◌, length, sum, if◌then◌else◌, refl, sym, ap, ◌∙◌, arith, sum_by-cons, Block, View, units, free_sizes}
 use Rattle.offset_allocator.proofs.Common.{IsWellFormed, blocks, free_units, HasRoomFor}
-use Rattle.offset_allocator.proofs.Sound.{Fields, AreSound, shown}
-use Rattle.offset_allocator.proofs.Counting.{class_within}
-use Rattle.offset_allocator.proofs.Taken.{HasFit}
+use Rattle.offset_allocator.proofs.{Sound.Fields, Sound.AreSound, Sound.shown, Counting.class_within, Taken.HasFit}
 
 -- the units of the free blocks are the sum of their sizes, and no more than those of all
 free_units_sum : (bs : List Block) → (free_units bs ≡ sum (free_sizes bs)) × (free_units bs ≤ units bs)

@@ -4,18 +4,11 @@ use Rattle.offset_allocator.proofs.Common.{ap, ap₂, subst, ◌∙◌, inl, inr
 use Rattle.offset_allocator.proofs.Common.{units, count_named, used_of, used_block, IsApart, IsWellFormed, IsNew, free_start, without_start, free_part, remove_all, push_all, replace, HasRoomFor}
 use Rattle.offset_allocator.proofs.Common.{range_of, size_of, KeepsOthers, SameSpace, Resizes, ResizesTo, Shrinks, Grows, CanShrink, CanGrow, HasUnits, free_after, free_beyond, HasPlace, IsFreeAfter}
 use Rattle.offset_allocator.proofs.Common.{bins_in, IsBinned, free_units}
-use Rattle.offset_allocator.proofs.Exchange.{each-le, there-below}
 use Rattle.offset_allocator.proofs.Freeing.{Release, at, used, w, remove_used, units_start}
-use Rattle.offset_allocator.proofs.Granting.{part_names}
-use Rattle.offset_allocator.proofs.Joints.{stepped, free_part_units, free_units-append, free_units-used}
-use Rattle.offset_allocator.proofs.Places.{at_place, next_place}
-use Rattle.offset_allocator.proofs.Ranges.{resizes_units, resizes_others}
-use Rattle.offset_allocator.proofs.Reading.{size_is, size_at, units_in}
-use Rattle.offset_allocator.proofs.Released.{idle_start}
-use Rattle.offset_allocator.proofs.Sound.{Fields, AreSound, shown, well_same}
-use Rattle.offset_allocator.proofs.Tallies.{tally_three, part_sums, hit_cases, one-same}
 use Rattle.offset_allocator.proofs.ViewApart.{ends_free, apart_parts, apart_append, apart_without_start, apart_free_part, start_parts}
-use Rattle.offset_allocator.proofs.ViewReplaced.{well_replaced}
+use Rattle.offset_allocator.proofs.{Exchange.each-le, Exchange.there-below, Granting.part_names, Joints.stepped, Joints.free_part_units, Joints.free_units-append, Joints.free_units-used}
+use Rattle.offset_allocator.proofs.{Places.at_place, Places.next_place, Ranges.resizes_units, Ranges.resizes_others, Reading.size_is, Reading.size_at, Reading.units_in, Released.idle_start}
+use Rattle.offset_allocator.proofs.{Sound.Fields, Sound.AreSound, Sound.shown, Sound.well_same, Tallies.tally_three, Tallies.part_sums, Tallies.hit_cases, Tallies.one-same, ViewReplaced.well_replaced}
 
 -- the name of a free part, where it has units
 part_named : (z m y : ℕ) → (count_named y (free_part z m) ≡ 0) ⊎ ((y ≡ z) × (1 ≤ m) × (count_named y (free_part z m) ≡ 1))

@@ -2,12 +2,8 @@
 use Rattle.offset_allocator.proofs.Common.{◌≡◌, ◌↔◌, ℕ, ◌+◌, ◌%◌, ◌<◌, ◌≤◌, Bool, length, Option, Some, None, IsSome, IfSome, if◌then◌else◌, refl, sym, ap, ap₂, subst, ◌∙◌, inl, inr, arith, le-leb}
 use Rattle.offset_allocator.proofs.Common.{cases_lt, false≢true, lt-leb, down, View, Grant, units, count_named, place_of, IsWellFormed, free_sizes, largest_free, padding_to, max_size, largest}
 use Rattle.offset_allocator.proofs.Common.{IsGoodRefusal, HasRoomFor, CanGrant, units_needed, SameSpace, Splits, Serves, Allocates, Aligns, IsSplitNearBest, Grants}
-use Rattle.offset_allocator.proofs.Padding.{reaches}
-use Rattle.offset_allocator.proofs.Refusals.{fit_small}
-use Rattle.offset_allocator.proofs.Split.{well_split, part_room}
-use Rattle.offset_allocator.proofs.Ranges.{beside, split_grants}
 use Rattle.offset_allocator.proofs.ViewFits.{HasName, there_middle, near_best_fit, good_refusal, fits_exactly, refusal_past, largest_small}
-use Rattle.offset_allocator.proofs.ViewSteps.{place_here}
+use Rattle.offset_allocator.proofs.{Padding.reaches, Refusals.fit_small, Split.well_split, Split.part_room, Ranges.beside, Ranges.split_grants, ViewSteps.place_here}
 
 -- where a region is reported, one more block may exist
 pub reported_room : (v : View) → 1 ≤ largest_free v → HasRoomFor 1 v

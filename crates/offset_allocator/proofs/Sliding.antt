@@ -2,11 +2,8 @@
 use Rattle.offset_allocator.proofs.Common.{◌≡◌, ◌≢◌, ℕ, inl, inr, ◌+◌, ◌-◌, ◌≤◌, Bool, true, false, Some, None, List, [], ◌∷◌, ◌++◌, length, if◌then◌else◌, refl, sym, ap, ap₂, subst, ◌*◌, ◌∙◌, arith}
 use Rattle.offset_allocator.proofs.Common.{append_assoc, append-nil, FoldsTo, cases_eq, nat_tests, Cells, Room, Node, node, Block, Place, free_block, units, HasPlace, IsSpace, blocks, first_or}
 use Rattle.offset_allocator.proofs.Common.{last_or, coalesced_before, coalesced_after, Move, first_free, live, moves, move_of, free_units}
-use Rattle.offset_allocator.proofs.Ends.{end_free, ended}
-use Rattle.offset_allocator.proofs.Joints.{free_units-free, free_units-used}
 use Rattle.offset_allocator.proofs.Places.{placed, at_place, next_place}
-use Rattle.offset_allocator.proofs.Rows.{last_or-append}
-use Rattle.offset_allocator.proofs.Tallies.{units-append}
+use Rattle.offset_allocator.proofs.{Ends.end_free, Ends.ended, Joints.free_units-free, Joints.free_units-used, Rows.last_or-append, Tallies.units-append}
 
 -- the block after a block, where the list of those after it is known
 pub next_is : {c : Room} {m last count x y : ℕ} {p : Place} {b : Block} {bs : List Block} → HasPlace c m last count x p → p.after ≡ b ∷ bs → Some y ≡ (node c x).after

@@ -1,10 +1,7 @@
 -- What a split leaves is well formed.
 use Rattle.offset_allocator.proofs.Common.{◌≡◌, ℕ, zero, suc, ◌+◌, ◌<◌, ◌≤◌, true, false, not, ◌⊎◌, List, [], ◌∷◌, ◌++◌, length, nat_eq, refl, sym, ap, subst, ◌∙◌, inl, inr, arith, length-append}
 use Rattle.offset_allocator.proofs.Common.{append_assoc, Block, View, Grant, one, used_block, count_named, used_of, IsApart, IsWellFormed, IsNew, free_part, replace, Splits}
-use Rattle.offset_allocator.proofs.Sound.{well_same}
-use Rattle.offset_allocator.proofs.ViewReplaced.{well_replaced}
-use Rattle.offset_allocator.proofs.ViewApart.{apart_granted}
-use Rattle.offset_allocator.proofs.Tallies.{tally_three, part_sums, tally_append, hit_cases}
+use Rattle.offset_allocator.proofs.{Sound.well_same, ViewReplaced.well_replaced, ViewApart.apart_granted, Tallies.tally_three, Tallies.part_sums, Tallies.tally_append, Tallies.hit_cases}
 
 -- the room that padding asks for, beside that for a remainder
 pub part_room : (y n k : ℕ) → 1 ≤ k → (1 ≤ n → 2 ≤ k) → length (free_part y n) + 1 ≤ k

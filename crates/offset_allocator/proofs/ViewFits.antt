@@ -1,8 +1,7 @@
 -- When a request is granted, and how well what it takes fits.
 use Rattle.offset_allocator.proofs.Common.{◌≡◌, ℕ, ◌*◌, ◌^◌, ◌<◌, ◌≤◌, true, not, ◌⊎◌, ◌↔◌, List, [], ◌∷◌, ◌++◌, refl, sym, ap, subst, ◌∙◌, inl, inr, arith, eq-eqb, le_trans, AllByRecursion, cases_lt}
 use Rattle.offset_allocator.proofs.Common.{true≢false, cond_both, value, up, down, largest, IsGoodRefusal, Block, View, is_free, times, count_in_bin, units, bin_at, free_sizes, IsWellFormed}
-use Rattle.offset_allocator.proofs.Taken.{HasFit, fitting}
-use Rattle.offset_allocator.proofs.Classes.{serves, near_best, up_law, down_law}
+use Rattle.offset_allocator.proofs.{Taken.HasFit, Taken.fitting, Classes.serves, Classes.near_best, Classes.up_law, Classes.down_law}
 
 -- b is in a list
 abbrev pub HasName : Block → List Block → Type 0

@@ -3,15 +3,9 @@ use Rattle.offset_allocator.proofs.Common.{◌≡◌, ℕ, zero, suc, ◌<◌, �
 use Rattle.offset_allocator.proofs.Common.{set-get_or, AllByRecursion, down, Block, View, Place, Grant, used_block, free_block, units, times, count_named, starts_free, IsApart, bin_at, push, without}
 use Rattle.offset_allocator.proofs.Common.{remove, push_all, remove_all, replace, free_start, without_start, free_end, without_end, free_part, IsWellFormed, place_of, SameSpace, Splits, Frees}
 use Rattle.offset_allocator.proofs.Common.{Allocates}
-use Rattle.offset_allocator.proofs.Served.{split_as, well_served}
-use Rattle.offset_allocator.proofs.Walks.{without_first}
-use Rattle.offset_allocator.proofs.Ranges.{beside}
-use Rattle.offset_allocator.proofs.Released.{idle_parts, end_is, start_is}
-use Rattle.offset_allocator.proofs.Classes.{down_small}
 use Rattle.offset_allocator.proofs.ViewApart.{ends_free, apart_parts, left_false, right_false, no_end, no_start}
-use Rattle.offset_allocator.proofs.ViewOrders.{names_same, length_remove, times_remove}
-use Rattle.offset_allocator.proofs.ViewSteps.{place_here}
-use Rattle.offset_allocator.proofs.Tallies.{listed_named, part_sums, one-same}
+use Rattle.offset_allocator.proofs.{Served.split_as, Served.well_served, Walks.without_first, Ranges.beside, Released.idle_parts, Released.end_is, Released.start_is, Classes.down_small}
+use Rattle.offset_allocator.proofs.{ViewOrders.names_same, ViewOrders.length_remove, ViewOrders.times_remove, ViewSteps.place_here, Tallies.listed_named, Tallies.part_sums, Tallies.one-same}
 
 set_again : (order : List (List ℕ)) (c : ℕ) (l m : List ℕ) → slice_set (slice_set order c l) c m ≡ slice_set order c m
 set_again [] c l m = refl

@@ -2,11 +2,9 @@
 use Rattle.offset_allocator.proofs.Common.{◌≡◌, ◌≢◌, ℕ, ◌+◌, ◌-◌, ◌<◌, ◌≤◌, ◌^◌, Bool, false, Option, None, Some, MatchOption, List, [], ◌∷◌, ◌++◌, length, get_or, refl, sym, ◌∙◌, ap, arith}
 use Rattle.offset_allocator.proofs.Common.{append_assoc, length-append, length-set, set, nat_eq, inl, inr, cases_eq, Room, Node, node, put, with_spare, first_or, last_or, IsRow, IsChain, HasPlace}
 use Rattle.offset_allocator.proofs.Common.{coalesced_before, coalesced_after, Block, Place, free_block, units, count_named, one}
-use Rattle.offset_allocator.proofs.Nodes.{nodes-with_spare, reserved-with_spare}
-use Rattle.offset_allocator.proofs.Ends.{end_free}
 use Rattle.offset_allocator.proofs.Exchange.{IsTop, IsExchange, IsRelinked, back_to, on_to, wrote, top, kept_names, pushed_names, link_back, link_on, link_none, back, relinked_spare, relinked_memory}
-use Rattle.offset_allocator.proofs.Places.{placed, at_place, next_place, previous_place}
 use Rattle.offset_allocator.proofs.Tallies.{one-eq, one-other, times-append, units-append}
+use Rattle.offset_allocator.proofs.{Nodes.nodes-with_spare, Nodes.reserved-with_spare, Ends.end_free, Places.placed, Places.at_place, Places.next_place, Places.previous_place}
 
 spare-with_spare : (c : Room) (i v : ℕ) → (with_spare c i v).spare ≡ set c.spare i v
 unfolding with_spare

@@ -1,6 +1,5 @@
 use Rattle.offset_allocator.proofs.Common.{arith, padding_to, blocks_needed, units_needed}
-use Rattle.offset_allocator.proofs.Powers.{not_zero}
-use Rattle.offset_allocator.proofs.Served.{same, granted, can_grant, grants, nearly, refused, multiple}
+use Rattle.offset_allocator.proofs.{Powers.not_zero, Served.same, Served.granted, Served.can_grant, Served.grants, Served.nearly, Served.refused, Served.multiple}
 use Rattle.offset_allocator.proofs.AllocatorOf.allocate_aligned.Goals as goal
 
 pub serve-requires : goal.serve-requires

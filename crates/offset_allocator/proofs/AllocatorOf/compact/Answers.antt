@@ -1,14 +1,10 @@
 use Rattle.offset_allocator.proofs.Common.{◌≡◌, ℕ, suc, ◌+◌, List, [], ◌∷◌, length, refl, sym, ap, ap₂, subst, ◌∙◌, arith, length-append, replicate, Block, Place, View, units, free_sizes, Links, Node}
 use Rattle.offset_allocator.proofs.Common.{bins_in, blocks, live, moves, KeepsSizes, Compacts}
 use Rattle.offset_allocator.proofs.Sound.{AreSound, Fields, shown, fields_of, known_sound}
-use Rattle.offset_allocator.proofs.Packed.{compacts_sizes}
-use Rattle.offset_allocator.proofs.Places.{at_place, kept_place}
-use Rattle.offset_allocator.proofs.Classes.{down_small}
 use Rattle.offset_allocator.proofs.Compacting.{IsFirst, first_is, packed, compacts_live, first_held, packs, stays_packed}
-use Rattle.offset_allocator.proofs.Fresh.{empty_unlisted}
+use Rattle.offset_allocator.proofs.{Packed.compacts_sizes, Places.at_place, Places.kept_place, Classes.down_small, Fresh.empty_unlisted}
 use Rattle.offset_allocator.proofs.AllocatorOf.compact.Goals as goal
-use Rattle.offset_allocator.proofs.AllocatorOf.compact.Goals.{After-slide-hole, After-push}
-use Rattle.offset_allocator.proofs.AllocatorOf.compact.Given.{Over}
+use Rattle.offset_allocator.proofs.AllocatorOf.compact.{Goals.After-slide-hole, Goals.After-push, Given.Over}
 
 pub returns-in_default-clause-moved : goal.returns-in_default-clause-moved
 returns-in_default-clause-moved g c =

@@ -1,11 +1,8 @@
 use Rattle.offset_allocator.proofs.Common.{◌≡◌, ◌∙◌, true, false, length, refl, inl, inr, arith, ap, subst, sym, View, Extends, ends_used, blocks}
-use Rattle.offset_allocator.proofs.Sound.{shown, Fields, fields_of}
 use Rattle.offset_allocator.proofs.Extending.{used_at_end, can_widen, cannot_append, adds_counted, extends_done}
-use Rattle.offset_allocator.proofs.Places.{end_place}
-use Rattle.offset_allocator.proofs.Reading.{used_read}
+use Rattle.offset_allocator.proofs.{Sound.shown, Sound.Fields, Sound.fields_of, Places.end_place, Reading.used_read}
 use Rattle.offset_allocator.proofs.AllocatorOf.extend.Goals as goal
-use Rattle.offset_allocator.proofs.AllocatorOf.extend.Goals.{After-is_used-used}
-use Rattle.offset_allocator.proofs.AllocatorOf.extend.Given.{Over}
+use Rattle.offset_allocator.proofs.AllocatorOf.extend.{Goals.After-is_used-used, Given.Over}
 
 pub is_used-used-requires : goal.is_used-used-requires
 is_used-used-requires g c = (end_place c.self.invariant.space).below

@@ -2,13 +2,9 @@ use Rattle.offset_allocator.proofs.Common.{◌≡◌, ◌+◌, ◌-◌, ◌≤�
 use Rattle.offset_allocator.proofs.Common.{Splits}
 use Rattle.offset_allocator.proofs.Sound.{shown, AreSound, Fields, fields_of}
 use Rattle.offset_allocator.proofs.Granting.{Call, held, unlisted, whole_fits, padding_fits, units_free, granted}
-use Rattle.offset_allocator.proofs.Places.{at_place, kept_place}
-use Rattle.offset_allocator.proofs.Readied.{made, made_shown, with_made}
-use Rattle.offset_allocator.proofs.Tallies.{one-same}
-use Rattle.offset_allocator.proofs.Uses.{removed_unlisted}
+use Rattle.offset_allocator.proofs.{Places.at_place, Places.kept_place, Readied.made, Readied.made_shown, Readied.with_made, Tallies.one-same, Uses.removed_unlisted}
 use Rattle.offset_allocator.proofs.AllocatorOf.grant.Goals as goal
-use Rattle.offset_allocator.proofs.AllocatorOf.grant.Goals.{After-pop-name, After-size-whole, After-divide}
-use Rattle.offset_allocator.proofs.AllocatorOf.grant.Given.{Over}
+use Rattle.offset_allocator.proofs.AllocatorOf.grant.{Goals.After-pop-name, Goals.After-size-whole, Goals.After-divide, Given.Over}
 
 pub ready_for-requires-clause-memory : goal.ready_for-requires-clause-memory
 ready_for-requires-clause-memory g c = (_, _, _, c.self.invariant.space, omega (arith, c.min.ensures, rw (← c.self.view_is) at c.requires.enough, c.self.invariant.memory))

@@ -1,11 +1,8 @@
 use Rattle.offset_allocator.proofs.Common.{◌≡◌, ◌⊎◌, ◌+◌, ◌-◌, ◌<◌, ◌≤◌, ◌∙◌, ℕ, true, false, length, inl, inr, refl, sym, ap, subst, arith, Node, View, IsWellFormed, free_start, units, HasRoomFor}
 use Rattle.offset_allocator.proofs.Common.{range_of, size_of, Resizes, ResizesTo}
-use Rattle.offset_allocator.proofs.Freeing.{Release, at, filed, room_for, named_live}
-use Rattle.offset_allocator.proofs.Places.{at_place}
-use Rattle.offset_allocator.proofs.Reading.{live_used}
-use Rattle.offset_allocator.proofs.Readied.{made, made_shown, with_made}
 use Rattle.offset_allocator.proofs.Resizing.{resized, free_beside, next_some, some_after, resizes_full, resizes_short, resizes_done, resized_units, resized_others, size_there}
-use Rattle.offset_allocator.proofs.Sound.{Fields, AreSound, shown, fields_of, known_sound}
+use Rattle.offset_allocator.proofs.{Freeing.Release, Freeing.at, Freeing.filed, Freeing.room_for, Freeing.named_live, Places.at_place, Reading.live_used, Readied.made, Readied.made_shown}
+use Rattle.offset_allocator.proofs.{Readied.with_made, Sound.Fields, Sound.AreSound, Sound.shown, Sound.fields_of, Sound.known_sound}
 use Rattle.offset_allocator.proofs.AllocatorOf.resize_to.Goals as goal
 use Rattle.offset_allocator.proofs.AllocatorOf.resize_to.Goals.{After-ready, After-units_after-more, After-resize, else-is_none-via-then-is_none+else-left-lt2, else-is_none-via-else-is_none}
 use Rattle.offset_allocator.proofs.AllocatorOf.resize_to.Given.{Over}

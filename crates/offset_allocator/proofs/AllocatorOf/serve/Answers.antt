@@ -1,7 +1,5 @@
 use Rattle.offset_allocator.proofs.Common.{◌<◌, ◌+◌, ◌-◌, Some, None, arith, ap, length, refl, subst, View, max_size, padding_to, blocks_needed, units_needed, Aligns}
-use Rattle.offset_allocator.proofs.Sound.{Fields, shown, fields_of, known_sound}
-use Rattle.offset_allocator.proofs.Classes.{below_value_up}
-use Rattle.offset_allocator.proofs.Served.{serves_counted, past_refuses}
+use Rattle.offset_allocator.proofs.{Sound.Fields, Sound.shown, Sound.fields_of, Sound.known_sound, Classes.below_value_up, Served.serves_counted, Served.past_refuses}
 use Rattle.offset_allocator.proofs.AllocatorOf.serve.Goals as goal
 
 pub returns-then-size-align-clause-step : goal.returns-then-size-align-clause-step

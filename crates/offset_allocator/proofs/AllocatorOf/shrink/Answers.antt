@@ -1,12 +1,8 @@
 use Rattle.offset_allocator.proofs.Common.{◌≡◌, ◌∙◌, ℕ, sym, ap, subst, arith, false≢true, Node, View, size_of, ResizesTo}
-use Rattle.offset_allocator.proofs.Freeing.{Release, at, named_live}
-use Rattle.offset_allocator.proofs.Places.{at_place}
-use Rattle.offset_allocator.proofs.Reading.{live_used}
 use Rattle.offset_allocator.proofs.Resizing.{shrinks_can, shrinks_of, resized_counted, size_there}
-use Rattle.offset_allocator.proofs.Sound.{shown, fields_of}
+use Rattle.offset_allocator.proofs.{Freeing.Release, Freeing.at, Freeing.named_live, Places.at_place, Reading.live_used, Sound.shown, Sound.fields_of}
 use Rattle.offset_allocator.proofs.AllocatorOf.shrink.Goals as goal
-use Rattle.offset_allocator.proofs.AllocatorOf.shrink.Goals.{After-self, After-size-old_size}
-use Rattle.offset_allocator.proofs.AllocatorOf.shrink.Given.{Over}
+use Rattle.offset_allocator.proofs.AllocatorOf.shrink.{Goals.After-self, Goals.After-size-old_size, Given.Over}
 
 -- where the block is, and its size
 block : (g : Over) (c : After-self g) → Release (fields_of g.T.Tables.cells g.T.Index.NodeIndex.MAX c.self.inside) c.number-name.result

@@ -1,11 +1,8 @@
 use Rattle.offset_allocator.proofs.Common.{◌+◌, ◌∙◌, ℕ, length, false, ap, arith, Node, Room}
-use Rattle.offset_allocator.proofs.Sound.{fields_of}
-use Rattle.offset_allocator.proofs.Classes.{down_small}
-use Rattle.offset_allocator.proofs.Places.{at_place, end_place}
 use Rattle.offset_allocator.proofs.Extending.{Growth, Grown, b_used, end_held, end_small, free_fits, widen_listed, widen_unlisted, widened}
+use Rattle.offset_allocator.proofs.{Sound.fields_of, Classes.down_small, Places.at_place, Places.end_place}
 use Rattle.offset_allocator.proofs.AllocatorOf.widen.Goals as goal
-use Rattle.offset_allocator.proofs.AllocatorOf.widen.Goals.{After-self, After-push}
-use Rattle.offset_allocator.proofs.AllocatorOf.widen.Given.{Over}
+use Rattle.offset_allocator.proofs.AllocatorOf.widen.{Goals.After-self, Goals.After-push, Given.Over}
 
 -- what the call knows of the fields
 pre : (g : Over) (c : After-self g) → Growth (fields_of g.T.Tables.cells g.T.Index.NodeIndex.MAX c.self.inside) c.args.more false

@@ -1,7 +1,5 @@
 use Rattle.offset_allocator.proofs.Common.{◌∙◌, ap, sym, arith, refl, set_past, first_of}
-use Rattle.offset_allocator.proofs.Binned.{head, without_head, none_left, beheaded, changed}
-use Rattle.offset_allocator.proofs.Masks.{flag_full, masked_same}
-use Rattle.offset_allocator.proofs.Uses.{no_mark, second_idle}
+use Rattle.offset_allocator.proofs.{Binned.head, Binned.without_head, Binned.none_left, Binned.beheaded, Binned.changed, Masks.flag_full, Masks.masked_same, Uses.no_mark, Uses.second_idle}
 use Rattle.offset_allocator.proofs.bins.behead.Goals as goal
 
 pub set_newer-requires-clause-idle : goal.set_newer-requires-clause-idle

@@ -1,7 +1,6 @@
 use Rattle.offset_allocator.proofs.Common.{◌≡◌, ◌≢◌, ◌∙◌, arith, refl, slice_index}
 use Rattle.offset_allocator.proofs.Binned.{below, newer_in, older_in, is_first, is_later, later_masked, left, changed}
-use Rattle.offset_allocator.proofs.Classes.{down_small}
-use Rattle.offset_allocator.proofs.Uses.{after_idle, no_mark}
+use Rattle.offset_allocator.proofs.{Classes.down_small, Uses.after_idle, Uses.no_mark}
 use Rattle.offset_allocator.proofs.bins.leave.Goals as goal
 
 pub older-older-requires : goal.older-older-requires

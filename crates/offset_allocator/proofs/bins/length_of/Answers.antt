@@ -1,6 +1,5 @@
 use Rattle.offset_allocator.proofs.Common.{◌≤◌, ◌∙◌, arith, rules}
-use Rattle.offset_allocator.proofs.Binned.{fits}
-use Rattle.offset_allocator.proofs.Walks.{tail_next, tail_end}
+use Rattle.offset_allocator.proofs.{Binned.fits, Walks.tail_next, Walks.tail_end}
 use Rattle.offset_allocator.proofs.bins.length_of.Goals as goal
 
 pub loop-name-init : goal.loop-name-init

@@ -1,7 +1,6 @@
 use Rattle.offset_allocator.proofs.Common.{◌∙◌, ap, sym, arith, refl, length-set, set_past, first_of}
 use Rattle.offset_allocator.proofs.Binned.{head_among, head_below, head_small, pushed, changed}
-use Rattle.offset_allocator.proofs.Masks.{flag_full, masked_same, masked_set}
-use Rattle.offset_allocator.proofs.Uses.{listed_idle, no_mark}
+use Rattle.offset_allocator.proofs.{Masks.flag_full, Masks.masked_same, Masks.masked_set, Uses.listed_idle, Uses.no_mark}
 use Rattle.offset_allocator.proofs.bins.push.Goals as goal
 
 pub set_newer-requires-clause-name : goal.set_newer-requires-clause-name

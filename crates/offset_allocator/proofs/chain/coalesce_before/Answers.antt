@@ -1,8 +1,6 @@
 use Rattle.offset_allocator.proofs.Common.{◌∙◌, length, ap, arith, refl, List, ℕ, Cells, Room}
-use Rattle.offset_allocator.proofs.Exchange.{on_to, relinked_spare}
-use Rattle.offset_allocator.proofs.Nodes.{length-put, spare-put, nodes-with_spare}
 use Rattle.offset_allocator.proofs.Places.{previous_place, previous_below, spare_room}
-use Rattle.offset_allocator.proofs.Writes.{coalesce_before_place}
+use Rattle.offset_allocator.proofs.{Exchange.on_to, Exchange.relinked_spare, Nodes.length-put, Nodes.spare-put, Nodes.nodes-with_spare, Writes.coalesce_before_place}
 use Rattle.offset_allocator.proofs.chain.coalesce_before.Goals as goal
 
 pub offset-offset-requires : goal.offset-offset-requires

@@ -1,8 +1,5 @@
 use Rattle.offset_allocator.proofs.Common.{◌∙◌, ap, arith, refl, Cells, Room, Node}
-use Rattle.offset_allocator.proofs.Exchange.{top}
-use Rattle.offset_allocator.proofs.Nodes.{length-put}
-use Rattle.offset_allocator.proofs.Places.{at_place, end_fits, next_below}
-use Rattle.offset_allocator.proofs.Writes.{split_place}
+use Rattle.offset_allocator.proofs.{Exchange.top, Nodes.length-put, Places.at_place, Places.end_fits, Places.next_below, Writes.split_place}
 use Rattle.offset_allocator.proofs.chain.split.Goals as goal
 
 pub overflow_add-offset : goal.overflow_add-offset

@@ -1,8 +1,5 @@
 use Rattle.offset_allocator.proofs.Common.{◌∙◌, ap, arith, refl, Cells, Room, Node}
-use Rattle.offset_allocator.proofs.Exchange.{top}
-use Rattle.offset_allocator.proofs.Nodes.{length-put}
-use Rattle.offset_allocator.proofs.Places.{at_place, end_fits, previous_below}
-use Rattle.offset_allocator.proofs.Writes.{split_before_place}
+use Rattle.offset_allocator.proofs.{Exchange.top, Nodes.length-put, Places.at_place, Places.end_fits, Places.previous_below, Writes.split_before_place}
 use Rattle.offset_allocator.proofs.chain.split_before.Goals as goal
 
 pub set_block-requires-clause-name : goal.set_block-requires-clause-name

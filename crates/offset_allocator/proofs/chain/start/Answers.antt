@@ -1,6 +1,5 @@
 use Rattle.offset_allocator.proofs.Common.{ℕ, ◌∙◌, [], ◌∷◌, Option, false, ap, ap₂, arith, Cells, put, free_block, IsChain}
-use Rattle.offset_allocator.proofs.Fresh.{bare_idle, bare_length, start-chain}
-use Rattle.offset_allocator.proofs.Views.{blocks-chain, space-chain}
+use Rattle.offset_allocator.proofs.{Fresh.bare_idle, Fresh.bare_length, Fresh.start-chain, Views.blocks-chain, Views.space-chain}
 use Rattle.offset_allocator.proofs.chain.start.Goals as goal
 use Rattle.offset_allocator.proofs.chain.start.Given.{Over}
 

@@ -1,8 +1,6 @@
 use Rattle.offset_allocator.proofs.Common.{◌≡◌, ◌+◌, List, [], ◌∷◌, ◌++◌, Some, None, length, refl, sym, ap, ◌∙◌, arith, append-nil, append_assoc, length-append, Node, Block, blocks, last_or}
 use Rattle.offset_allocator.proofs.Common.{first_free}
-use Rattle.offset_allocator.proofs.Ends.{Ended, ended, last_none}
-use Rattle.offset_allocator.proofs.Places.{at_place}
-use Rattle.offset_allocator.proofs.Sliding.{walked, first_used, first_idle}
+use Rattle.offset_allocator.proofs.{Ends.Ended, Ends.ended, Ends.last_none, Places.at_place, Sliding.walked, Sliding.first_used, Sliding.first_idle}
 use Rattle.offset_allocator.proofs.compact.first_free.Goals as goal
 use Rattle.offset_allocator.proofs.compact.first_free.Goals.{then-not-is_used, else-not-is_used}
 

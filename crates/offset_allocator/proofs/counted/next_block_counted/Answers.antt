@@ -1,8 +1,7 @@
 use Rattle.offset_allocator.proofs.Common.{◌≡◌, Bool, Option, None, Some, ◌∷◌, ◌-◌, if◌then◌else◌, sym, ap, subst, ◌∙◌, arith, node, Grant, Placed, as_placed}
 use Rattle.std.specs.Iterator.{YieldsFirstBy}
 use Rattle.offset_allocator.specs.declared.blocks.Block.{Block}
-use Rattle.offset_allocator.proofs.Sound.{fields_of}
-use Rattle.offset_allocator.proofs.Listing.{left, none_left, node_placed, read_is}
+use Rattle.offset_allocator.proofs.{Sound.fields_of, Listing.left, Listing.none_left, Listing.node_placed, Listing.read_is}
 use Rattle.offset_allocator.proofs.counted.next_block_counted.Goals.{then-is_used, else-is_used}
 use Rattle.offset_allocator.proofs.counted.next_block_counted.Goals as goal
 

@@ -1,10 +1,7 @@
 use Rattle.offset_allocator.proofs.Common.{◌≡◌, ◌∙◌, ◌<◌, ◌≤◌, ◌+◌, ◌-◌, ◌^◌, ℕ, [], max, sum, subst, ap, arith, refl, inl, inr, cases_lt, get_or_past, View, free_sizes, value, up, down, CanGrant}
 use Rattle.offset_allocator.proofs.Common.{size_needed, blocks_needed, units_needed}
-use Rattle.offset_allocator.proofs.Sound.{Fields, fields_of, known_sound}
-use Rattle.offset_allocator.proofs.Advice.{free_within, too_small}
 use Rattle.offset_allocator.proofs.Classes.{past_words, down_law, value_small, below_value_up}
-use Rattle.offset_allocator.proofs.Powers.{not_zero}
-use Rattle.offset_allocator.proofs.Refusals.{is_open, total_is}
+use Rattle.offset_allocator.proofs.{Sound.Fields, Sound.fields_of, Sound.known_sound, Advice.free_within, Advice.too_small, Powers.not_zero, Refusals.is_open, Refusals.total_is}
 use Rattle.offset_allocator.proofs.counted.refusal_aligned_counted.Goals as goal
 
 -- the class that is searched from is that of the units needed

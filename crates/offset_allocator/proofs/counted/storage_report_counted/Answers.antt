@@ -1,7 +1,5 @@
 use Rattle.offset_allocator.proofs.Common.{common_steps, ◌≡◌, ℕ, sym, subst, ◌<◌, ◌+◌, length, arith, false, ◌∙◌, refl, nat_tests, View, total_free, largest_free, free_sizes, is_full, largest}
-use Rattle.offset_allocator.proofs.Sound.{shown, Fields, AreSound, fields_of, known_sound}
-use Rattle.offset_allocator.proofs.Counting.{largest_none, largest_some}
-use Rattle.offset_allocator.proofs.Refusals.{is_open, total_is}
+use Rattle.offset_allocator.proofs.{Sound.shown, Sound.Fields, Sound.AreSound, Sound.fields_of, Sound.known_sound, Counting.largest_none, Counting.largest_some, Refusals.is_open, Refusals.total_is}
 use Rattle.offset_allocator.proofs.counted.storage_report_counted.Goals.{in-None, in-Some}
 use Rattle.offset_allocator.proofs.counted.storage_report_counted.Goals as goal
 

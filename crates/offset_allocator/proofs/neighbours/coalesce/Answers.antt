@@ -1,7 +1,6 @@
 use Rattle.offset_allocator.proofs.Common.{◌≡◌, ◌+◌, refl, sym, ap, arith, ◌∙◌, Node, node, push}
-use Rattle.offset_allocator.proofs.Classes.{down_small}
 use Rattle.offset_allocator.proofs.Places.{at_place, next_place, previous_place, kept_before, kept_after, kept_place, free_before, free_after, before_fits, after_fits}
-use Rattle.offset_allocator.proofs.Filed.{unlisted, previous_filed, next_filed, filed_before, next_same}
+use Rattle.offset_allocator.proofs.{Classes.down_small, Filed.unlisted, Filed.previous_filed, Filed.next_filed, Filed.filed_before, Filed.next_same}
 use Rattle.offset_allocator.proofs.neighbours.coalesce.Goals as goal
 use Rattle.offset_allocator.proofs.neighbours.coalesce.Goals.{in-Some, in_default+in-Some-free_before}
 

@@ -1,10 +1,7 @@
 use Rattle.offset_allocator.proofs.Common.{◌≡◌, ◌∙◌, List, refl, ap, arith, inl, inr, eq-zero-or-pos, sym, Node, Block, free_part, push_all, IsBinned, IsUnlisted, bins_in}
-use Rattle.offset_allocator.proofs.Pieces.{padded_unlisted, pushed_parts, unlisted_part}
-use Rattle.offset_allocator.proofs.Places.{at_place}
-use Rattle.offset_allocator.proofs.Tallies.{part_sums, units-append}
+use Rattle.offset_allocator.proofs.{Pieces.padded_unlisted, Pieces.pushed_parts, Pieces.unlisted_part, Places.at_place, Tallies.part_sums, Tallies.units-append}
 use Rattle.offset_allocator.proofs.neighbours.divide.Goals as goal
-use Rattle.offset_allocator.proofs.neighbours.divide.Goals.{After-mark}
-use Rattle.offset_allocator.proofs.neighbours.divide.Given.{Over}
+use Rattle.offset_allocator.proofs.neighbours.divide.{Goals.After-mark, Given.Over}
 
 pub split_padding-front-requires-clause-place : goal.split_padding-front-requires-clause-place
 split_padding-front-requires-clause-place g c = (_, _, c.requires.place.2, c.requires.place.3)

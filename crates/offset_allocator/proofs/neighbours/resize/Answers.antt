@@ -1,9 +1,7 @@
 use Rattle.offset_allocator.proofs.Common.{◌≡◌, ◌∙◌, ℕ, ◌+◌, ◌-◌, ◌<◌, ap, arith, Node, Place, units, free_start, HasPlace}
-use Rattle.offset_allocator.proofs.Filed.{unlisted_after}
-use Rattle.offset_allocator.proofs.Places.{at_place}
+use Rattle.offset_allocator.proofs.{Filed.unlisted_after, Places.at_place}
 use Rattle.offset_allocator.proofs.neighbours.resize.Goals as goal
-use Rattle.offset_allocator.proofs.neighbours.resize.Goals.{After-with_after-whole}
-use Rattle.offset_allocator.proofs.neighbours.resize.Given.{Over}
+use Rattle.offset_allocator.proofs.neighbours.resize.{Goals.After-with_after-whole, Given.Over}
 
 -- the size of the whole block
 whole : (g : Over) (c : After-with_after-whole g) (p : Place) {m : ℕ} → HasPlace (g.T.Tables.cells c.args.store.now.tables).room m c.args.store.now.last c.args.store.now.spare_count c.args.name p

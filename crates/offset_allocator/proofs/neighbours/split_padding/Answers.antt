@@ -1,7 +1,5 @@
 use Rattle.offset_allocator.proofs.Common.{arith}
-use Rattle.offset_allocator.proofs.Pieces.{no_padding, some_part}
-use Rattle.offset_allocator.proofs.Places.{previous_idle}
-use Rattle.offset_allocator.proofs.Classes.{down_small}
+use Rattle.offset_allocator.proofs.{Pieces.no_padding, Pieces.some_part, Places.previous_idle, Classes.down_small}
 use Rattle.offset_allocator.proofs.neighbours.split_padding.Goals as goal
 
 pub returns-then-units-eq0-clause-place : goal.returns-then-units-eq0-clause-place

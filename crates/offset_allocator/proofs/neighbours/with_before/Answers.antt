@@ -1,6 +1,5 @@
 use Rattle.offset_allocator.proofs.Common.{refl, sym, ap, arith, Node}
-use Rattle.offset_allocator.proofs.Places.{at_place, previous_place, kept_before, free_before, before_fits, kept_place}
-use Rattle.offset_allocator.proofs.Filed.{previous_filed}
+use Rattle.offset_allocator.proofs.{Places.at_place, Places.previous_place, Places.kept_before, Places.free_before, Places.before_fits, Places.kept_place, Filed.previous_filed}
 use Rattle.offset_allocator.proofs.neighbours.with_before.Goals as goal
 
 pub size-more-requires : goal.size-more-requires

@@ -1,6 +1,5 @@
 use Rattle.offset_allocator.proofs.Common.{◌≡◌, ap, ◌∙◌, arith, ℕ, List, [], replicate, push, bins_in}
-use Rattle.offset_allocator.proofs.Classes.{down_small}
-use Rattle.offset_allocator.proofs.Fresh.{empty_unlisted, first_idle, started}
+use Rattle.offset_allocator.proofs.{Classes.down_small, Fresh.empty_unlisted, Fresh.first_idle, Fresh.started}
 use Rattle.offset_allocator.proofs.steps.start.Goals as goal
 
 pub push-requires-clause-named : goal.push-requires-clause-named
