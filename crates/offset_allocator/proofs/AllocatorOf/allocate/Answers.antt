@@ -1,5 +1,4 @@
-use Rattle.offset_allocator.proofs.Common.{arith}
-use Rattle.offset_allocator.proofs.Served.{one_aligns, reported_room, same, granted, can_grant, grants, nearly, refused}
+use Rattle.offset_allocator.proofs.{Common.arith, Served.one_aligns, Served.reported_room, Served.same, Served.granted, Served.can_grant, Served.grants, Served.nearly, Served.refused}
 use Rattle.offset_allocator.proofs.AllocatorOf.allocate.Goals as goal
 
 pub returns-clause-step : goal.returns-clause-step

@@ -1,5 +1,4 @@
-use Rattle.offset_allocator.proofs.Common.{subst, IsWellFormed}
-use Rattle.offset_allocator.proofs.Sound.{Fields, AreSound, shown, fields_of}
+use Rattle.offset_allocator.proofs.{Common.subst, Common.IsWellFormed, Sound.Fields, Sound.AreSound, Sound.shown, Sound.fields_of}
 use Rattle.offset_allocator.proofs.AllocatorOf.formed.Goals as goal
 
 -- The blocks and the bins of a sound allocator agree, whatever its accesses.

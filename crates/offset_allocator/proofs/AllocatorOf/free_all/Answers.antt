@@ -1,5 +1,4 @@
-use Rattle.offset_allocator.proofs.Common.{◌∙◌, ap, refl, arith, View, used_of}
-use Rattle.offset_allocator.proofs.Emptied.{freed_fewer, reset_alike}
+use Rattle.offset_allocator.proofs.{Common.◌∙◌, Common.ap, Common.refl, Common.arith, Common.View, Common.used_of, Emptied.freed_fewer, Emptied.reset_alike}
 use Rattle.offset_allocator.proofs.AllocatorOf.free_all.Goals as goal
 
 pub loop-name-init : goal.loop-name-init

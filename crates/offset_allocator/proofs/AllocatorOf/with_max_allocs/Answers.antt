@@ -1,5 +1,4 @@
-use Rattle.offset_allocator.proofs.Common.{◌≡◌, ℕ, sym, subst, arith, view_of}
-use Rattle.offset_allocator.proofs.Fresh.{fresh}
+use Rattle.offset_allocator.proofs.{Common.◌≡◌, Common.ℕ, Common.sym, Common.subst, Common.arith, Common.view_of, Fresh.fresh}
 use Rattle.offset_allocator.proofs.AllocatorOf.with_max_allocs.Goals as goal
 
 pub returns : goal.returns

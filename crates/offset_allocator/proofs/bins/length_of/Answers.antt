@@ -1,5 +1,4 @@
-use Rattle.offset_allocator.proofs.Common.{◌≤◌, ◌∙◌, arith, rules}
-use Rattle.offset_allocator.proofs.{Binned.fits, Walks.tail_next, Walks.tail_end}
+use Rattle.offset_allocator.proofs.{Common.◌≤◌, Common.◌∙◌, Common.arith, Common.rules, Binned.fits, Walks.tail_next, Walks.tail_end}
 use Rattle.offset_allocator.proofs.bins.length_of.Goals as goal
 
 pub loop-name-init : goal.loop-name-init

@@ -1,5 +1,4 @@
-use Rattle.offset_allocator.proofs.Common.{arith}
-use Rattle.offset_allocator.proofs.Readied.{has_memory, not_readied, readied}
+use Rattle.offset_allocator.proofs.{Common.arith, Readied.has_memory, Readied.not_readied, Readied.readied}
 use Rattle.offset_allocator.proofs.chain.ready.Goals as goal
 
 pub add-requires-clause-memory : goal.add-requires-clause-memory

@@ -1,5 +1,4 @@
-use Rattle.offset_allocator.proofs.Common.{refl, ◌∙◌, arith}
-use Rattle.offset_allocator.proofs.Sliding.{moved_one}
+use Rattle.offset_allocator.proofs.{Common.refl, Common.◌∙◌, Common.arith, Sliding.moved_one}
 use Rattle.offset_allocator.proofs.compact.report.Goals as goal
 
 pub returns-clause-called : goal.returns-clause-called

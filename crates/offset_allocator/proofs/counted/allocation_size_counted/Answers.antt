@@ -1,5 +1,4 @@
-use Rattle.offset_allocator.proofs.Common.{ap, ◌∙◌, ℕ, refl, size_of}
-use Rattle.offset_allocator.proofs.{Sound.fields_of, Reading.live_below, Reading.live_size}
+use Rattle.offset_allocator.proofs.{Common.ap, Common.◌∙◌, Common.ℕ, Common.refl, Common.size_of, Sound.fields_of, Reading.live_below, Reading.live_size}
 use Rattle.offset_allocator.proofs.counted.allocation_size_counted.Goals as goal
 
 pub size-requires : goal.size-requires

@@ -1,5 +1,4 @@
-use Rattle.offset_allocator.proofs.Common.{arith, ap, ◌∙◌, ◌%◌, ◌^◌, value}
-use Rattle.offset_allocator.proofs.Classes.{value_up_fits, below_value_up}
+use Rattle.offset_allocator.proofs.{Common.arith, Common.ap, Common.◌∙◌, Common.◌%◌, Common.◌^◌, Common.value, Classes.value_up_fits, Classes.below_value_up}
 use Rattle.offset_allocator.proofs.ext.min_allocator_size.Goals as goal
 
 pub float_to_uint-requires : goal.float_to_uint-requires

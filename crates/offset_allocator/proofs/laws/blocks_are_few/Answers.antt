@@ -1,5 +1,4 @@
-use Rattle.offset_allocator.proofs.Common.{arith}
-use Rattle.offset_allocator.proofs.Always.{few_blocks}
+use Rattle.offset_allocator.proofs.{Common.arith, Always.few_blocks}
 use Rattle.offset_allocator.proofs.laws.blocks_are_few.Goals as goal
 
 pub returns-clause-count : goal.returns-clause-count

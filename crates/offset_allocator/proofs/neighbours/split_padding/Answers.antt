@@ -1,5 +1,4 @@
-use Rattle.offset_allocator.proofs.Common.{arith}
-use Rattle.offset_allocator.proofs.{Pieces.no_padding, Pieces.some_part, Places.previous_idle, Classes.down_small}
+use Rattle.offset_allocator.proofs.{Common.arith, Pieces.no_padding, Pieces.some_part, Places.previous_idle, Classes.down_small}
 use Rattle.offset_allocator.proofs.neighbours.split_padding.Goals as goal
 
 pub returns-then-units-eq0-clause-place : goal.returns-then-units-eq0-clause-place

@@ -1,5 +1,4 @@
-use Rattle.offset_allocator.proofs.Common.{ap, length, arith}
-use Rattle.offset_allocator.proofs.Listing.{length-left}
+use Rattle.offset_allocator.proofs.{Common.ap, Common.length, Common.arith, Listing.length-left}
 use Rattle.offset_allocator.proofs.blocks.BlocksOfIterator.size_hint.Goals as goal
 
 pub returns-clause-lower : goal.returns-clause-lower

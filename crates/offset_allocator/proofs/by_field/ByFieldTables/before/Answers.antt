@@ -1,5 +1,4 @@
-use Rattle.offset_allocator.proofs.Common.{◌∙◌, ap, sym, arith, get_or-map, link_of}
-use Rattle.offset_allocator.proofs.Fields.{read, within, bound-before}
+use Rattle.offset_allocator.proofs.{Common.◌∙◌, Common.ap, Common.sym, Common.arith, Common.get_or-map, Common.link_of, Fields.read, Fields.within, Fields.bound-before}
 use Rattle.offset_allocator.proofs.by_field.ByFieldTables.before.Goals as goal
 
 pub returns-clause-cell : goal.returns-clause-cell

@@ -1,5 +1,4 @@
-use Rattle.offset_allocator.proofs.Common.{◌∙◌, ℕ, List, [], ◌∷◌, ◌++◌, ap, arith, Cells}
-use Rattle.offset_allocator.proofs.Fields.{first_node, alone}
+use Rattle.offset_allocator.proofs.{Common.◌∙◌, Common.ℕ, Common.List, Common.[], Common.◌∷◌, Common.◌++◌, Common.ap, Common.arith, Common.Cells, Fields.first_node, Fields.alone}
 use Rattle.offset_allocator.proofs.by_field.ByFieldTables.clear.Goals as goal
 
 pub returns-clause-room : goal.returns-clause-room

@@ -1,5 +1,4 @@
-use Rattle.offset_allocator.proofs.Common.{refl, length-set, map-set}
-use Rattle.offset_allocator.proofs.Fields.{level_kept, bound-older}
+use Rattle.offset_allocator.proofs.{Common.refl, Common.length-set, Common.map-set, Fields.level_kept, Fields.bound-older}
 use Rattle.offset_allocator.proofs.by_field.ByFieldTables.set_older.Goals as goal
 
 pub returns-clause-cells : goal.returns-clause-cells

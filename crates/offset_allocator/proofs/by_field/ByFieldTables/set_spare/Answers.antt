@@ -1,5 +1,4 @@
-use Rattle.offset_allocator.proofs.Common.{map-set, with_spare}
-use Rattle.offset_allocator.proofs.Fields.{bound-spare}
+use Rattle.offset_allocator.proofs.{Common.map-set, Common.with_spare, Fields.bound-spare}
 use Rattle.offset_allocator.proofs.by_field.ByFieldTables.set_spare.Goals as goal
 
 pub returns-clause-cells : goal.returns-clause-cells

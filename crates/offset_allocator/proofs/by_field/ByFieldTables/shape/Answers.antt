@@ -1,5 +1,4 @@
-use Rattle.offset_allocator.proofs.Common.{◌≤◌, rules}
-use Rattle.offset_allocator.proofs.Fields.{shaped}
+use Rattle.offset_allocator.proofs.{Common.◌≤◌, Common.rules, Fields.shaped}
 use Rattle.offset_allocator.proofs.by_field.ByFieldTables.shape.Goals as goal
 
 pub returns : goal.returns

@@ -1,5 +1,4 @@
-use Rattle.offset_allocator.proofs.Common.{◌∙◌, ap, sym, arith, get_or-map}
-use Rattle.offset_allocator.proofs.Fields.{read, within, bound-used}
+use Rattle.offset_allocator.proofs.{Common.◌∙◌, Common.ap, Common.sym, Common.arith, Common.get_or-map, Fields.read, Fields.within, Fields.bound-used}
 use Rattle.offset_allocator.proofs.by_field.ByFieldTables.used.Goals as goal
 
 pub returns-clause-cell : goal.returns-clause-cell

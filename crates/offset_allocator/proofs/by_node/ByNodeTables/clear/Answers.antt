@@ -1,5 +1,4 @@
-use Rattle.offset_allocator.proofs.Common.{◌∙◌, [], ◌∷◌, ap, Cells}
-use Rattle.offset_allocator.proofs.Entries.{first_node}
+use Rattle.offset_allocator.proofs.{Common.◌∙◌, Common.[], Common.◌∷◌, Common.ap, Common.Cells, Entries.first_node}
 use Rattle.offset_allocator.proofs.by_node.ByNodeTables.clear.Goals as goal
 
 pub returns-clause-room : goal.returns-clause-room

@@ -1,5 +1,4 @@
-use Rattle.offset_allocator.proofs.Common.{◌∙◌, Bool, ap, refl, Node, put, link_of}
-use Rattle.offset_allocator.proofs.Entries.{wrote-room, even_set, bound}
+use Rattle.offset_allocator.proofs.{Common.◌∙◌, Common.Bool, Common.ap, Common.refl, Common.Node, Common.put, Common.link_of, Entries.wrote-room, Entries.even_set, Entries.bound}
 use Rattle.offset_allocator.proofs.by_node.ByNodeTables.set_block.Goals as goal
 
 pub returns-clause-cells : goal.returns-clause-cells

@@ -1,5 +1,4 @@
-use Rattle.offset_allocator.proofs.Common.{refl, length-set}
-use Rattle.offset_allocator.proofs.Entries.{even_kept}
+use Rattle.offset_allocator.proofs.{Common.refl, Common.length-set, Entries.even_kept}
 use Rattle.offset_allocator.proofs.by_node.ByNodeTables.set_mask.Goals as goal
 
 pub invariant_of-self : goal.invariant_of-self

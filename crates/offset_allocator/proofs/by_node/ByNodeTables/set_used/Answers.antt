@@ -1,5 +1,4 @@
-use Rattle.offset_allocator.proofs.Common.{arith}
-use Rattle.offset_allocator.proofs.Entries.{wrote-used, even_set, bound}
+use Rattle.offset_allocator.proofs.{Common.arith, Entries.wrote-used, Entries.even_set, Entries.bound}
 use Rattle.offset_allocator.proofs.by_node.ByNodeTables.set_used.Goals as goal
 
 pub returns-clause-cells : goal.returns-clause-cells

@@ -1,5 +1,4 @@
-use Rattle.offset_allocator.proofs.Common.{◌≤◌, rules}
-use Rattle.offset_allocator.proofs.Entries.{shaped}
+use Rattle.offset_allocator.proofs.{Common.◌≤◌, Common.rules, Entries.shaped}
 use Rattle.offset_allocator.proofs.by_node.ByNodeTables.shape.Goals as goal
 
 pub returns : goal.returns

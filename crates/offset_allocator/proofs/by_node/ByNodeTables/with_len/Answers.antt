@@ -1,5 +1,4 @@
-use Rattle.offset_allocator.proofs.Common.{◌∙◌, [], ◌∷◌, ap, arith, length, refl, sym}
-use Rattle.offset_allocator.proofs.Entries.{first_node}
+use Rattle.offset_allocator.proofs.{Common.◌∙◌, Common.[], Common.◌∷◌, Common.ap, Common.arith, Common.length, Common.refl, Common.sym, Entries.first_node}
 use Rattle.offset_allocator.proofs.by_node.ByNodeTables.with_len.Goals as goal
 
 pub returns-clause-room : goal.returns-clause-room
