@@ -2,10 +2,10 @@
 use Rattle.offset_allocator.proofs.Common.{◌≡◌, ◌≢◌, ◌↔◌, ℕ, suc, ◌+◌, ◌*◌, ◌^◌, ◌<◌, ◌≤◌, true, false, List, [], ◌∷◌, ◌++◌, length, sum, replicate, if◌then◌else◌, refl, sym, ap, subst, ◌∙◌, inl, inr}
 use Rattle.offset_allocator.proofs.Common.{arith, length-append, AllByRecursion, cases_lt, cases_eq, length-replicate, sum_by-cons, value, up, down, Block, View, free_sizes, bin_at, push, push_all}
 use Rattle.offset_allocator.proofs.Common.{IsWellFormed, IsFresh, Compacts, live, gathered, CanGrant, HasRoomFor, IsWhy, size_needed}
-use Rattle.offset_allocator.specs.declared.reports.Refusal.{Refusal}
-use Rattle.offset_allocator.specs.declared.reports.Refusal.TheVariants.{Nodes, TooLarge, Space, Fragmented}
 use Rattle.offset_allocator.proofs.Classes.{down_law, down_small, value_down, value_grows, up_reached}
 use Rattle.offset_allocator.proofs.{Always.adds_up, Counting.value_within_free, Emptied.none_at, Taken.HasFit, ViewFits.good_refusal, ViewOrders.names_same, ViewOrders.names_other}
+use Rattle.offset_allocator.specs.declared.reports.Refusal.{Refusal}
+use Rattle.offset_allocator.specs.declared.reports.Refusal.TheVariants.{Nodes, TooLarge, Space, Fragmented}
 
 -- one block of s units, alone in its bin
 abbrev alone : ℕ → ℕ → List (List ℕ)

@@ -2,10 +2,9 @@
 use Rattle.offset_allocator.proofs.Common.{◌≡◌, ◌≢◌, ◌<◌, ◌≤◌, ◌+◌, ◌⊎◌, ℕ, List, [], ◌∷◌, ◌++◌, map, refl, sym, ap, subst, ◌∙◌, inl, inr, arith, length, drop, slice_index, slice_set, cases_eq}
 use Rattle.offset_allocator.proofs.Common.{length-set, length-map, get_or-set_same, get_or-set_other, get_or-map, ext_get_or, set-get_or, set-set, set_comm, Links, bin_at, times, without, push}
 use Rattle.offset_allocator.proofs.Common.{remove, IsLinked, Among, flag, first_of, walk, HasBins, AreMasks, IsUnlisted, IsBinned, bins_in}
-use Rattle.offset_allocator.proofs.ViewOrders.{names_same, names_other, times_without_le, unlisted_removed}
-use Rattle.offset_allocator.proofs.Walks.{name_below, older_below, chain_fits, walk_is, IsLater, found, kept, led, not_first, first_same, newer_kept, next_among, older_kept, unlinked, without_first}
-use Rattle.offset_allocator.proofs.Walks.{without_later}
-use Rattle.offset_allocator.proofs.{Masks.masked_same, Masks.flag_full, Tallies.hit_cases, Tallies.one-same, Tallies.times-join}
+use Rattle.offset_allocator.proofs.{ViewOrders.names_same, ViewOrders.names_other, ViewOrders.times_without_le, ViewOrders.unlisted_removed, Walks.name_below, Walks.older_below, Walks.chain_fits}
+use Rattle.offset_allocator.proofs.{Walks.walk_is, Walks.IsLater, Walks.found, Walks.kept, Walks.led, Walks.not_first, Walks.first_same, Walks.newer_kept, Walks.next_among, Walks.older_kept}
+use Rattle.offset_allocator.proofs.{Walks.unlinked, Walks.without_first, Walks.without_later, Masks.masked_same, Masks.flag_full, Tallies.hit_cases, Tallies.one-same, Tallies.times-join}
 
 module _ {none : ℕ} {t : Links} {ls : List (List ℕ)} (k : HasBins none t ls) where
   pub single : (c : ℕ) → c < 256 → (x : ℕ) → times x (bin_at ls c) ≤ 1
@@ -67,10 +66,7 @@ module _ {none : ℕ} {t : Links} {ls : List (List ℕ)} (k : HasBins none t ls)
         cons (x ∷ xs) f e = ap (λ i. i ∷ xs) (sym e)
 
     pub head_among : slice_index t.heads c ≢ none → Among (slice_index t.heads c) (bin_at ls c)
-    head_among n =
-        let e = (head (λ e. n (k.heads c ch ∙ ap (first_of none) e))).0 in
-        let q = ap (times (slice_index t.heads c)) e in
-        omega (arith, q, one-same (slice_index t.heads c))
+    head_among n = grind (arith, head, one-same)
 
     pub head_below : slice_index t.heads c ≢ none → slice_index t.heads c < length t.newer
     head_below n = (head (λ e. n (k.heads c ch ∙ ap (first_of none) e))).1.0

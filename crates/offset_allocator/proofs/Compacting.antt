@@ -29,9 +29,8 @@ live_whole [] h = refl
 live_whole (b ∷ bs) h = live_used b bs h.0 ∙ ap (λ l. b ∷ l) (live_whole bs h.1)
 
 live_append : (bs cs : List Block) → live (bs ++ cs) ≡ live bs ++ live cs
-live_append [] cs = refl
-live_append (b ∷ bs) cs = let ih = live_append bs cs in
-    elim b.used as (λ u. (if u then b ∷ live (bs ++ cs) else live (bs ++ cs)) ≡ (if u then b ∷ live bs else live bs) ++ live cs) [ true ↦ ap (λ l. b ∷ l) ih | false ↦ ih ]
+live_append [] cs = grind (arith)
+live_append (b ∷ bs) cs = grind (arith, live_append bs cs)
 
 none_listed : (bs : List Block) → AreUsed bs → (c x : ℕ) → count_in_bin c x bs ≡ 0
 none_listed [] h c x = refl
@@ -43,9 +42,8 @@ no_free_units (b ∷ bs) h = free_units-used b bs h.0 ∙ no_free_units bs h.1
 
 -- of all blocks, the live ones have the units that are not free, and are fewer where one is free
 live_units : (bs : List Block) → units bs ≡ units (live bs) + free_units bs
-live_units [] = refl
-live_units (b ∷ bs) = let ih = live_units bs in
-    elim b.used as (λ u. b.size + units bs ≡ units (if u then b ∷ live bs else live bs) + ((if u then 0 else b.size) + free_units bs)) [ true ↦ omega arith | false ↦ omega arith ]
+live_units [] = grind (arith)
+live_units (b ∷ bs) = grind (arith, live_units bs)
 
 live_fewer : (bs : List Block) → length (live bs) ≤ length bs
 live_fewer [] = omega arith
@@ -143,10 +141,7 @@ sum_sizes bs = omega (arith, parted bs, all bs)
 
 -- the live blocks stay
 pub compacts_live : (v w : View) → Compacts v w → live w.blocks ≡ live v.blocks
-compacts_live v w c =
-    let none : (ns : List ℕ) → live (gathered c.name ns) ≡ [] = λ ns. elim ns as (λ l. live (gathered c.name l) ≡ []) [ [] ↦ refl | n ∷ ms ↦ refl ] in
-    ap (λ (u : View). live u.blocks) c.view ∙ live_append (live v.blocks) (gathered c.name (free_sizes v.blocks))
-    ∙ ap₂ (λ (k l : List Block). k ++ l) (live_whole (live v.blocks) (live_are_used v.blocks)) (none (free_sizes v.blocks)) ∙ append-nil (live v.blocks)
+compacts_live v w c = grind (arith, live_append, live_whole, live_are_used, append-nil)
 
 -- a space with a free block
 module _ (f : Fields) (s : AreSound f) where

@@ -101,13 +101,8 @@ sizes_none [] = refl
 sizes_none (n ∷ ns) = let ih = sizes_none ns in grind (arith, nat_tests)
 
 sizes_more : (c : ℕ) (ns : List ℕ) → (sizes_below (suc c) ns ≡ sizes_below c ns + count_of c ns) × (sizes_below c ns ≤ length ns)
-sizes_more c [] = (refl, omega arith)
-sizes_more c (n ∷ ns) =
-    let (e, l) = sizes_more c ns in
-    elim (cases_eq (down n) c) [
-      | inl q ↦ rw (eq-eqb (down n) c q) (grind (arith, nat_tests, e), grind (arith, nat_tests, l))
-      | inr m ↦ rw (ne_eqb (down n) c m) (grind (arith, nat_tests, e, m), grind (arith, nat_tests, l))
-    ]
+sizes_more c [] = grind (arith)
+sizes_more c (n ∷ ns) = grind (arith, cases_eq, eq-eqb, nat_tests, ne_eqb, sizes_more c ns)
 
 names_counts : (v : View) → IsWellFormed v → (c : ℕ) → names_below c v.order ≡ sizes_below c (free_sizes v.blocks)
 names_counts v w zero = sym (sizes_none (free_sizes v.blocks))

@@ -34,15 +34,9 @@ lone (b ∷ d ∷ bs) s a u = absurd (false≢true (sym (rw (unused b.used (omeg
 
 -- of two neighbours one is used
 pub half_used : (bs : List Block) → IsApart bs → length bs ≤ 2 * used_of bs + 1
-half_used [] a = omega arith
-half_used (b ∷ []) a = omega arith
-half_used (b ∷ d ∷ bs) a =
-    let next = half_used (d ∷ bs) a.1 in
-    let rest = half_used bs a.1.1 in
-    elim b.used as (λ u. b.used ≡ u → length (b ∷ d ∷ bs) ≤ 2 * (one u + used_of (d ∷ bs)) + 1) [
-      | true ↦ λ e. omega (arith, next)
-      | false ↦ λ e. let taken : d.used ≡ true = not-false d.used (rw e at a.0) in omega (arith, rest, ap one taken)
-    ] refl
+half_used [] a = grind (arith)
+half_used (b ∷ []) a = grind (arith)
+half_used (b ∷ d ∷ bs) a = grind (arith, not-false, half_used (d ∷ bs) a.1, half_used bs a.1.1)
 
 pub emptied : (v : View) → IsWellFormed v → used_of v.blocks ≡ 0 → (x : ℕ) × (x < v.max_allocs)
     × (v ≡ record v { blocks = free_block x v.size ∷ []; order = push (down v.size) x (replicate 256 []) })
@@ -116,21 +110,11 @@ module _ (bs : List Block) (last : ℕ) (ends : last_or None bs ≡ Some last) (
 
 -- a release leaves fewer used blocks
 pub freed_fewer : (x : ℕ) (v w : View) → Frees x v w → used_of w.blocks < used_of v.blocks
-freed_fewer x v w f =
-    let used : Block → ℕ = λ b. one b.used in
-    let old = ap used_of f.blocks ∙ tally_append used f.before ((f.left ++ (f.block ∷ f.right)) ++ f.after) in
-    let middle = tally_append used (f.left ++ (f.block ∷ f.right)) f.after in
-    let inner = tally_append used f.left (f.block ∷ f.right) in
-    let new = ap (λ (u : View). used_of u.blocks) f.view ∙ tally_append used f.before _ in
-    omega (arith, ap one f.used, old, middle, inner, new)
+freed_fewer x v w f = grind (arith, tally_append)
 
 -- a space without a used block is as a reset leaves one
 pub as_reset : (v w : View) → IsWellFormed v → used_of v.blocks ≡ 0 → SameSpace v w → Resets v w
 as_reset v w well none same = let e = emptied v well none in record { name = e.0; below = e.1; view = same ∙ ap (λ (u : View). record u { accesses = w.accesses }) e.2 }
 
 pub reset_alike : (u v w : View) → v.size ≡ u.size → v.max_allocs ≡ u.max_allocs → Resets v w → Resets u w
-reset_alike u v w e f r = record {
-  name = r.name;
-  below = omega (arith, r.below, f);
-  view = r.view ∙ ap₂ (λ (n m : ℕ). record { size = n; max_allocs = m; blocks = free_block r.name n ∷ []; order = push (down n) r.name (replicate 256 []); accesses = w.accesses }) e f;
-}
+reset_alike u v w e f r = grind (arith)

@@ -1,7 +1,7 @@
 -- Blocks in the middle of a chain make room for others.
 use Rattle.offset_allocator.proofs.Common.{◌≡◌, ◌≢◌, ℕ, ◌+◌, ◌-◌, ◌<◌, ◌≤◌, ◌^◌, false, Option, None, Some, MatchOption, List, [], ◌∷◌, ◌++◌, length, get_or, take, set, refl, sym, ◌∙◌, ap, arith, inl}
 use Rattle.offset_allocator.proofs.Common.{inr, length-append, nat_eq, take_more, take_more_set, cases_eq, cases_lt, nat_tests, Room, Node, node, put, first_or, last_or, IsRow, IsChain, spares, Block}
-use Rattle.offset_allocator.proofs.Common.{units, count_named, times, one}
+use Rattle.offset_allocator.proofs.Common.{units, count_named, times, one, common_steps}
 use Rattle.offset_allocator.proofs.Nodes.{node-put, node-put_other, length-put, spare-put, reserved-put}
 use Rattle.offset_allocator.proofs.Tallies.{one-same, times-join, times-append, units-append}
 use Rattle.offset_allocator.proofs.Rows.{times-first, times-end, first_or-append, last_or-append, IsRow-front, IsRow-back, IsRow-append, IsRow-kept, IsRow-moved, IsRow-aimed}
@@ -17,10 +17,7 @@ there-below c m last count x bs h st = let e = h.each x in grind (arith, nat_tes
 top_names : (c : Room) (count : ℕ) → 0 < count → count ≤ length c.spare → (k : ℕ)
     → times k (spares c count) ≡ times k (spares c (count - 1)) + one (nat_eq k (get_or c.spare (count - 1) 0))
 unfolding spares
-top_names c count some l k =
-    let same : count ≡ (count - 1) + 1 = omega arith in
-    ap (λ n. times k (take n c.spare)) same ∙ ap (times k) (take_more c.spare (count - 1) 0 (omega arith))
-    ∙ omega (arith, times-join k (take (count - 1) c.spare) (get_or c.spare (count - 1) 0 ∷ []))
+top_names c count some l k = grind (arith, common_steps, take_more, times-join)
 
 -- what is true of an unused name
 spare_new : (c : Room) (m last count : ℕ) (bs : List Block) → IsChain c m last count bs → (y : ℕ) → 1 ≤ times y (spares c count) → (count_named y bs ≡ 0) × (y < length c.nodes)
@@ -55,8 +52,7 @@ kept_names c e count same k = ap (λ s. times k (take count s)) same
 pub pushed_names : (c e : Room) (count y : ℕ) → count < length c.spare → e.spare ≡ set c.spare count y → (k : ℕ)
     → times k (spares e (count + 1)) ≡ times k (spares c count) + one (nat_eq k y)
 unfolding spares
-pushed_names c e count y l same k =
-    ap (λ s. times k (take (count + 1) s)) same ∙ ap (times k) (take_more_set c.spare count y l) ∙ omega (arith, times-join k (take count c.spare) (y ∷ []))
+pushed_names c e count y l same k = grind (arith, take_more_set, times-join)
 
 -- one write
 pub record Wrote (c d : Room) (x : ℕ) (n : Node) : Type 0 where
@@ -67,13 +63,7 @@ pub record Wrote (c d : Room) (x : ℕ) (n : Node) : Type 0 where
   pub memory : d.reserved ≡ c.reserved
 
 pub wrote : {c d : Room} {x : ℕ} {n : Node} → d ≡ put c x n → x < length c.nodes → Wrote c d x n
-wrote {c} {d} {x} {n} e l = record {
-  here = rw e (node-put c x n l);
-  other = λ k ne. rw e (node-put_other c x n k ne);
-  cells = rw e (length-put c x n);
-  spare = rw e (spare-put c x n);
-  memory = rw e (reserved-put c x n);
-}
+wrote {c} {d} {x} {n} e l = grind (arith, node-put, node-put_other, length-put, spare-put, reserved-put)
 
 -- a node with another link
 abbrev pub back_to : ℕ → Node → Node

@@ -39,11 +39,7 @@ module _ (it : Fields) (more : ℕ) (s : AreSound it) where
   can_widen fits e = let f = ended old it.last s.space.ends in (fits, inr (f.front, f.last, f.is, sym (ap ends_used f.is ∙ ends_last f.front f.last) ∙ e))
 
   pub cannot_append : ends_used (blocks it.cells.room it.last) ≡ true → it.limit ≤ length (shown it).blocks + 1 → CanExtend more (shown it) → ⊥
-  cannot_append e full c =
-      elim c.1 [
-        | inl room ↦ absurd (omega (arith, room, full))
-        | inr h ↦ true≢false (sym e ∙ ap ends_used h.2 ∙ ends_last h.0 h.1 ∙ h.3)
-      ]
+  cannot_append e full c = grind (arith, true≢false, ends_last)
 
 -- a request that is done: sound fields, and whether the last block is used
 pub record Growth (it : Fields) (more : ℕ) (used : Bool) : Type 0 where
@@ -206,18 +202,7 @@ module _ {it : Fields} {more : ℕ} (r : Growth it more false) where
 
 -- what was counted before changes nothing of it
 pub adds_counted : (more : ℕ) (v w : View) (accesses : ℕ) → Adds more (record v { accesses = accesses }) w → Adds more v w
-adds_counted more v w accesses g = record {
-  before = g.before;
-  last = g.last;
-  blocks = g.blocks;
-  free = g.free;
-  name = g.name;
-  named = g.named;
-  new = λ n. let u = g.new n in
-      record { below = u.below; absent = u.absent };
-  view = g.view;
-  apart = g.apart;
-}
+adds_counted more v w accesses g = grind (arith)
 
 -- when it is done
 pub extends_done : (more : ℕ) (v w : View) (done : Bool) → Extends more v w done → (done ≡ true) ↔ (1 ≤ more → CanExtend more v)

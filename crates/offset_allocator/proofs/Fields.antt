@@ -217,24 +217,7 @@ pub level_kept : {A B : Type 0} (max : ℕ) (t u : Inside A B) → AreLevel max 
     → vec_capacity u.after ≡ vec_capacity t.after
     → vec_capacity u.newer ≡ vec_capacity t.newer → vec_capacity u.older ≡ vec_capacity t.older → vec_capacity u.spare ≡ vec_capacity t.spare
     → length u.heads ≡ length t.heads → length u.masks ≡ length t.masks → AreLevel max u
-level_kept max t u h o s b a n d p co cs cb ca cn cd cp hs ms = record {
-  size = s ∙ h.size ∙ sym o;
-  before = b ∙ h.before ∙ sym o;
-  after = a ∙ h.after ∙ sym o;
-  newer = n ∙ h.newer ∙ sym o;
-  older = d ∙ h.older ∙ sym o;
-  spare = p ∙ h.spare ∙ sym o;
-  size_memory = cs ∙ h.size_memory ∙ sym co;
-  before_memory = cb ∙ h.before_memory ∙ sym co;
-  after_memory = ca ∙ h.after_memory ∙ sym co;
-  newer_memory = cn ∙ h.newer_memory ∙ sym co;
-  older_memory = cd ∙ h.older_memory ∙ sym co;
-  spare_memory = cp ∙ h.spare_memory ∙ sym co;
-  heads = hs ∙ h.heads;
-  masks = ms ∙ h.masks;
-  within = omega (arith, o, co, h.within);
-  limit = omega (arith, co, h.limit);
-}
+level_kept max t u h o s b a n d p co cs cb ca cn cd cp hs ms = grind (arith)
 
 pub shaped : {A B : Type 0} (max : ℕ) (number : A → ℕ) (t : Inside A B) → AreLevel max t → max ≤ 4294967295 → AreShaped max (cells_by_field max number t)
 unfolding node

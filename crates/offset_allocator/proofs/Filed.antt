@@ -63,15 +63,7 @@ module _ {c : Room} {m last count x : ℕ} {p : Place} (h : HasPlace c m last co
 
   -- then a name that no block has is in no bin
   pub unlisted_after : (n : ℕ) → AreUnlisted (p.before ++ record p.block { size = n } ∷ without_start p.after) (remove_all (free_start p.after) ls)
-  unlisted_after n y e k b a = omega (
-    arith,
-    e,
-    a,
-    filed_after k y,
-    listed_named k y (p.before ++ without_start p.after),
-    times-append y p.before (without_start p.after),
-    times-append y p.before (record p.block { size = n } ∷ without_start p.after),
-  )
+  unlisted_after n y e k b a = grind (arith, filed_after, listed_named, times-append)
 
 -- the block after a block is the same, whatever became of those before it
 pub next_same : {c d : Room} {m last count last' count' x y : ℕ} {p q : Place} → HasPlace c m last count x p → HasPlace d m last' count' x q → p.after ≡ q.after

@@ -1,5 +1,5 @@
 -- What it leaves of the whole allocator to free a block.
-use Rattle.offset_allocator.proofs.Common.{◌≡◌, ℕ, ◌+◌, ◌<◌, ◌^◌, Bool, true, false, not, ◌&&◌, List, [], ◌∷◌, ◌++◌, Option, Some, None, if◌then◌else◌, refl, sym, ap, ap₂, subst, ◌∙◌, arith, nat_eq}
+use Rattle.offset_allocator.proofs.Common.{◌≡◌, ℕ, ◌+◌, ◌<◌, ◌^◌, Bool, true, not, ◌&&◌, List, [], ◌∷◌, ◌++◌, Option, Some, None, if◌then◌else◌, refl, sym, ap, ap₂, subst, ◌∙◌, arith, nat_eq}
 use Rattle.offset_allocator.proofs.Common.{false≢true, down, Cells, Block, View, Place, one, count_named, count_in_bin, IsWellFormed, units, place_of, is_used_at, free_end, without_end, free_start}
 use Rattle.offset_allocator.proofs.Common.{without_start, remove_all, push, free_block, replace, IsApart, remove, IsChain, HasPlace, blocks, bins_in, IsBinned, IsSound, view_of, free_units, AreInBins}
 use Rattle.offset_allocator.proofs.Common.{SameSpace, Frees}
@@ -19,15 +19,13 @@ remove_used b zs o e = ap (λ (u : Bool). remove_all zs (if u then o else remove
 
 -- free blocks alone
 units_end : (l : List Block) → free_units (free_end l) ≡ units (free_end l)
-units_end [] = refl
-units_end (b ∷ []) = elim b.used as (λ u. b.used ≡ u → free_units (if not u then b ∷ [] else []) ≡ units (if not u then b ∷ [] else []))
-    [ true ↦ λ e. refl | false ↦ λ e. free_units-free b [] e ] refl
-units_end (b ∷ d ∷ l) = units_end (d ∷ l)
+units_end [] = grind (arith)
+units_end (b ∷ []) = grind (arith, free_units-free)
+units_end (b ∷ d ∷ l) = grind (arith, units_end (d ∷ l))
 
 pub units_start : (l : List Block) → free_units (free_start l) ≡ units (free_start l)
-units_start [] = refl
-units_start (b ∷ l) = elim b.used as (λ u. b.used ≡ u → free_units (if not u then b ∷ [] else []) ≡ units (if not u then b ∷ [] else []))
-    [ true ↦ λ e. refl | false ↦ λ e. free_units-free b [] e ] refl
+units_start [] = grind (arith)
+units_start (b ∷ l) = grind (arith, free_units-free)
 
 -- the handle names a used block, as the fields see it
 pub named_live : (u v : View) (x y : ℕ) → u ≡ v → y ≡ x → is_used_at (place_of y v.blocks) ≡ true → is_used_at (place_of x u.blocks) ≡ true
@@ -94,10 +92,7 @@ module _ {f : Fields} {x : ℕ} (r : Release f x) where
   used = sym (ap is_used_at at.is) ∙ r.live
 
   pub room_for : f.free + at.place.block.size < 2 ^ 32
-  room_for =
-      let t = ap free_units at.stood ∙ free_units-append fs (b ∷ cs) ∙ ap (λ k. free_units fs + k) (free_units-used b cs used) in
-      let u = ap units at.stood ∙ tally_append (λ (d : Block). d.size) fs (b ∷ cs) in
-      omega (arith, s.total, t, u, free_most fs, free_most cs, s.space.fits)
+  room_for = grind (arith, free_units-append, free_units-used, used, tally_append, free_most)
 
   -- the bins hold the other free blocks
   pub filed : AreInBins (at.place.before ++ at.place.after) (bins_in f.max f.cells.links)

@@ -36,15 +36,11 @@ ends_in bs k x l e =
 
 -- one block more at the end
 placed-push : (o : ℕ) (fs : List Block) (b : Block) → placed o (fs ++ b ∷ []) ≡ placed o fs ++ placed_at (o + units fs) b ∷ []
-placed-push o [] b = let same : o + 0 ≡ o = omega arith in rw same
-placed-push o (a ∷ fs) b =
-    let same : o + a.size + units fs ≡ o + (a.size + units fs) = omega arith in
-    ap (λ l. placed_at o a ∷ l) (placed-push (o + a.size) fs b ∙ ap (λ (i : ℕ). placed (o + a.size) fs ++ placed_at i b ∷ []) same)
+placed-push o [] b = grind (arith)
+placed-push o (a ∷ fs) b = grind (arith, placed-push (o + a.size) fs b)
 
 listing-push : (fs : List Block) (b : Block) → reverse (placed 0 (fs ++ b ∷ [])) ≡ placed_at (units fs) b ∷ reverse (placed 0 fs)
-listing-push fs b =
-    let same : 0 + units fs ≡ units fs = omega arith in
-    ap reverse (placed-push 0 fs b ∙ ap (λ (i : ℕ). placed 0 fs ++ placed_at i b ∷ []) same) ∙ reverse-append (placed 0 fs) (placed_at (units fs) b ∷ [])
+listing-push fs b = grind (arith, placed-push, reverse-append)
 
 length-placed : (o : ℕ) (bs : List Block) → length (placed o bs) ≡ length bs
 length-placed o [] = refl

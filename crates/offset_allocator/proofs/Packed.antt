@@ -38,8 +38,7 @@ held_is x (b ∷ bs) =
     here false = refl
 
 held_other : (x : ℕ) (b : Block) (bs : List Block) → one (nat_eq x b.name) ≡ 0 → held x (b ∷ bs) ≡ held x bs
-held_other x b bs e = elim (nat_eq x b.name) as (λ t. one t ≡ 0 → (if t then (if b.used then Some b.size else None) else held x bs) ≡ held x bs)
-    [ true ↦ λ q. absurd (omega (arith, q)) | false ↦ λ q. refl ] e
+held_other x b bs e = grind (arith)
 
 held_here : (x : ℕ) (b : Block) (bs : List Block) → x ≡ b.name → held x (b ∷ bs) ≡ (if b.used then Some b.size else None)
 held_here x b bs e = let t : nat_eq x b.name ≡ true = grind (arith, nat_tests) in ap (λ (t : Bool). if t then (if b.used then Some b.size else None) else held x bs) t
@@ -75,8 +74,7 @@ held_live x y ns (b ∷ bs) l = go b.used refl (held_live x y ns bs (omega (arit
     ]
 
 pub compacts_sizes : (v w : View) → IsWellFormed v → Compacts v w → KeepsSizes v w
-compacts_sizes v w well c x =
-    held_is x w.blocks ∙ ap (λ (u : View). held x u.blocks) c.view ∙ held_live x c.name (free_sizes v.blocks) v.blocks (well.distinct x) ∙ sym (held_is x v.blocks)
+compacts_sizes v w well c x = grind (arith, held_is, held_live)
 
 -- the free units are one region
 sizes_live : (bs : List Block) → AreUsed bs → (cs : List Block) → free_sizes (bs ++ cs) ≡ free_sizes cs

@@ -1,9 +1,9 @@
 -- Nodes that are made before names are taken.
 use Rattle.offset_allocator.proofs.Common.{◌≡◌, ◌<◌, ◌≤◌, ◌+◌, ℕ, zero, suc, List, [], ◌∷◌, ◌++◌, None, refl, sym, ap, ◌∙◌, inl, inr, arith, length, length-append, length-set, get_or, take, set}
 use Rattle.offset_allocator.proofs.Common.{cases_eq, nat_tests, take_more_set, Cells, Room, Node, blank, node, with_node, AreShaped, Block, times, IsChain, spares, blocks}
-use Rattle.offset_allocator.specs.Readies.{Readies}
 use Rattle.offset_allocator.proofs.Tallies.{one-eq, one-other, times-join}
 use Rattle.offset_allocator.proofs.{Rows.IsRow-kept, Sound.Fields, Sound.AreSound, Sound.shown, Uses.binned_more, Views.blocks-chain, Views.space-chain}
+use Rattle.offset_allocator.specs.Readies.{Readies}
 
 -- a blank node at the end is what stands for a node that is not made
 blank_at : (ns : List Node) (x : ℕ) → get_or (ns ++ blank ∷ []) x blank ≡ get_or ns x blank

@@ -26,9 +26,8 @@ range_some None = refl
 range_some (Some p) = elim p.block.used as (λ u. is_some {T = Range} (if u then Some (record { offset = units p.before; size = p.block.size }) else None) ≡ u) [ true ↦ refl | false ↦ refl ]
 
 range_units : (o : Option Place) → units_in (range_at o) ≡ size_at o
-range_units None = refl
-range_units (Some p) = elim p.block.used as (λ u. units_in (if u then Some (record { offset = units p.before; size = p.block.size }) else None) ≡ (if u then p.block.size else 0))
-    [ true ↦ refl | false ↦ refl ]
+range_units None = grind (arith)
+range_units (Some p) = grind (arith)
 
 module _ (x : ℕ) (v : View) where
   pub live_is : is_some {T = Range} (range_of x v) ≡ is_used_at (place_of x v.blocks)

@@ -31,22 +31,10 @@ module _ {x n : ℕ} {v u : View} (r : Resizes x n v u) (k : IsWellFormed v) whe
       ∙ ap (λ i. count_named y r.before + ((one (nat_eq y i) + count_named y r.next) + count_named y r.after)) r.named
 
   distinct_parts : (y : ℕ) → count_named y parts ≤ 1
-  distinct_parts y = elim (part_named r.name r.left y) [
-    | inl z ↦ omega (arith, z, count_of y, k.distinct y)
-    | inr p ↦ elim (r.new p.1) [
-      | inl a ↦ omega (arith, p.2, count_of y, k.distinct y, subst (λ i. 1 ≤ count_named i r.next) (sym p.0) a)
-      | inr a ↦ omega (arith, p.2, count_of y, subst (λ i. count_named i v.blocks ≡ 0) (sym p.0) a.absent)
-    ]
-  ]
+  distinct_parts y = grind (arith, part_named, count_of)
 
   named_parts : (y : ℕ) → 1 ≤ count_named y parts → (1 ≤ count_named y old) ⊎ IsNew y v
-  named_parts y l = elim (part_named r.name r.left y) [
-    | inl z ↦ inl (omega (arith, l, z, ap (λ i. one (nat_eq y i)) r.named))
-    | inr p ↦ elim (r.new p.1) [
-      | inl a ↦ inl (omega (arith, subst (λ i. 1 ≤ count_named i r.next) (sym p.0) a))
-      | inr a ↦ inr (subst (λ i. IsNew i v) (sym p.0) a)
-    ]
-  ]
+  named_parts y l = grind (arith, part_named)
 
   pub well_resized : (1 ≤ length r.next) ⊎ HasRoomFor 1 v → IsWellFormed u
   well_resized room = well_same (replace v r.before old parts r.after) u r.view (well_replaced v r.before old parts r.after v.size k
@@ -103,8 +91,7 @@ module _ {f : Fields} {x : ℕ} (call : Release f x) where
   split = (at call).stood ∙ ap (λ l. p.before ++ p.block ∷ l) (start_parts p.after)
 
   had_free : f.free ≡ free_units p.before + (units next + free_units after)
-  had_free = sym call.sound.total ∙ ap free_units split ∙ free_units-append p.before (p.block ∷ (next ++ after))
-      ∙ ap (λ k. free_units p.before + k) (free_units-used p.block (next ++ after) (used call) ∙ free_units-append next after ∙ ap (λ k. k + free_units after) (units_start p.after))
+  had_free = grind (arith, split, free_units-append, free_units-used, used, units_start)
 
   pub free_beside : units (free_start (at call).place.after) ≤ f.free
   free_beside = omega (arith, had_free)
@@ -153,22 +140,7 @@ module _ {f : Fields} {x : ℕ} (call : Release f x) where
         apart_append p.before (new ++ after) parts.0 (refl, apart_free_part name left after tail.0 tail.1) (and_right (ends_free p.before) false refl)
 
     resizes : (u : View) → SameSpace left_view u → Resizes x n v u
-    resizes u same = record {
-      before = p.before;
-      block = p.block;
-      next = next;
-      after = after;
-      blocks = split;
-      named = (at call).held.name;
-      used = used call;
-      free = idle_start p.after;
-      left = left;
-      whole = omega (arith, enough);
-      name = name;
-      new = named;
-      view = same;
-      apart = subst IsApart (sym (ap (λ (z : View). z.blocks) same)) apart;
-    }
+    resizes u same = grind (arith, split, named, at, used, idle_start, apart)
 
     pub resized : {top : ℕ} (accesses free : ℕ) → IsBinned f.max d.links top
         → bins_in f.max d.links ≡ push_all (free_part name (both - n)) (remove_all (free_start (at call).place.after) (bins_in f.max f.cells.links))
@@ -217,15 +189,7 @@ module _ {f : Fields} {x : ℕ} (call : Release f x) where
 
   pub resizes_done : (n : ℕ) (u : View) → n ≢ (at call).place.block.size → n ≤ both → (1 ≤ length (free_start (at call).place.after)) ⊎ HasRoomFor 1 (shown f)
       → Resizes x n (shown f) u → ResizesTo x n (shown f) u true
-  resizes_done n u ne m room r =
-      inr (
-        λ e. ne (e ∙ size_there),
-        (
-          omega (arith, m, size_there, ap units next_there),
-          λ _. elim room [ inl some ↦ inl (λ e. omega (arith, some, ap length (sym next_there ∙ e))) | inr o ↦ inr o ],
-        ),
-        r,
-      )
+  resizes_done n u ne m room r = grind (arith, size_there, next_there)
 
 -- blocks of some units are some
 pub some_units : (bs : List Block) → 1 ≤ units bs → 1 ≤ length bs
@@ -234,22 +198,7 @@ some_units (b ∷ bs) l = omega arith
 
 -- however many accesses were counted before
 resizes_counted : (x n : ℕ) (v w : View) (accesses : ℕ) → Resizes x n (record v { accesses = accesses }) w → Resizes x n v w
-resizes_counted x n v w accesses r = record {
-  before = r.before;
-  block = r.block;
-  next = r.next;
-  after = r.after;
-  blocks = r.blocks;
-  named = r.named;
-  used = r.used;
-  free = r.free;
-  left = r.left;
-  whole = r.whole;
-  name = r.name;
-  new = λ l. elim (r.new l) [ inl a ↦ inl a | inr u ↦ inr (record { below = u.below; absent = u.absent }) ];
-  view = r.view;
-  apart = r.apart;
-}
+resizes_counted x n v w accesses r = grind (arith, used)
 
 pub resized_counted : (x n : ℕ) (v w : View) (accesses : ℕ) (done : Bool) → ResizesTo x n (record v { accesses = accesses }) w done → ResizesTo x n v w done
 resized_counted x n v w accesses true s = elim s [ inl z ↦ inl z | inr r ↦ inr (r.0, r.1, resizes_counted x n v w accesses r.2) ]
@@ -275,9 +224,7 @@ grows_can x n v w false s = (λ h. absurd (false≢true h), λ h. absurd (s.0 h)
 
 -- a range of n units has them already
 pub has_units : (x n : ℕ) (v w : View) → n ≡ size_of x v → SameSpace v w → HasUnits x n v w
-has_units x n v w e same r is =
-    let sized : size_of x v ≡ r.size = ap units_in is in
-    ap (range_of x) same ∙ is ∙ ap (λ i. Some (record { offset = r.offset; size = i })) (sym (e ∙ sized))
+has_units x n v w e same r is = grind (arith, units_in)
 
 -- what the calls leave of ranges
 module _ (x n : ℕ) (v w : View) (k : IsWellFormed v) (left : IsWellFormed w) where

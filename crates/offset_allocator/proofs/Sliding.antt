@@ -40,9 +40,7 @@ module _ {d : Room} {m last count y : ℕ} (p : Place) (b : Block) (bs : List Bl
 -- the free block directly after a block goes into it
 pub absorbed : {d : Room} {m last count x : ℕ} (p : Place) (b : Block) (bs : List Block) → b.used ≡ false → p.after ≡ b ∷ bs → HasPlace d m last count x (coalesced_after p)
     → HasPlace d m last count x (record { before = p.before; block = record p.block { size = p.block.size + b.size }; after = bs })
-absorbed p b bs idle e h =
-    let one : b.size + 0 ≡ b.size = omega arith in
-    rw (idle, one) at (rw e at h)
+absorbed p b bs idle e h = grind (arith)
 
 -- a walk back from the last block
 pub walked : {c : Room} {last count x : ℕ} (h : IsSpace c last count) (front rest : List Block) → blocks c last ≡ front ++ rest → (e : last_or None front ≡ Some x)
@@ -144,15 +142,7 @@ module _ {F : Type 0} {R : F → Move → F → Type 0} {m : ℕ} {p : Place} {f
   pub slid_end : q.after ≡ [] → HasPlace t.room m last count hole (record { before = p.before ++ live p.after; block = free_block hole size; after = [] })
       × (size ≡ p.block.size + free_units p.after)
       × FoldsTo R f (moves (units p.before + p.block.size) (units p.before) p.after) g × (used ≤ accesses + 20 * length p.after)
-  slid_end e =
-      let front : q.before ≡ p.before ++ live p.after = sym (append-nil q.before) ∙ ap (λ l. q.before ++ live l) (sym e) ∙ s.kept in
-      let block : q.block ≡ free_block hole size = λ i. record { name = s.there.name i; size = (sym s.sized) i; used = s.idle i } in
-      let place : q ≡ record { before = p.before ++ live p.after; block = free_block hole size; after = [] } = λ i. record { before = front i; block = block i; after = e i } in (
-        subst (λ (z : Place). HasPlace t.room m last count hole z) place s.there,
-        omega (arith, s.free, s.sized, ap free_units e),
-        s.calls g (subst (λ (l : List Block). FoldsTo R g (moves (units q.before + q.block.size) (units q.before) l) g) (sym e) refl),
-        omega (arith, s.bounded),
-      )
+  slid_end e = grind (arith, append-nil)
 
 pub at_end : {c : Room} {m last count x : ℕ} {p : Place} → HasPlace c m last count x p → None ≡ (node c x).after → p.after ≡ []
 at_end {p = p} h e = go p.after (e ∙ ap (λ (v : Node). v.after) (at_place h))

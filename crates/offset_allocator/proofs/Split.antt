@@ -1,5 +1,5 @@
 -- What a split leaves is well formed.
-use Rattle.offset_allocator.proofs.Common.{◌≡◌, ℕ, zero, suc, ◌+◌, ◌<◌, ◌≤◌, true, false, not, ◌⊎◌, List, [], ◌∷◌, ◌++◌, length, nat_eq, refl, sym, ap, subst, ◌∙◌, inl, inr, arith, length-append}
+use Rattle.offset_allocator.proofs.Common.{◌≡◌, ℕ, zero, suc, ◌+◌, ◌<◌, ◌≤◌, true, false, not, ◌⊎◌, List, [], ◌∷◌, ◌++◌, length, nat_eq, sym, ap, subst, ◌∙◌, inl, inr, arith, length-append}
 use Rattle.offset_allocator.proofs.Common.{append_assoc, Block, View, Grant, one, used_block, count_named, used_of, IsApart, IsWellFormed, IsNew, free_part, replace, Splits}
 use Rattle.offset_allocator.proofs.{Sound.well_same, ViewReplaced.well_replaced, ViewApart.apart_granted, Tallies.tally_three, Tallies.part_sums, Tallies.tally_append, Tallies.hit_cases}
 
@@ -15,11 +15,8 @@ used_most (b ∷ bs) = let ih = used_most bs in elim b.used as (λ u. one u + us
 -- its name, where it has units, is new
 part_name : (v : View) (y n : ℕ) → (1 ≤ n → IsNew y v) → (x : ℕ) → (count_named x (free_part y n) ≡ 0)
     ⊎ ((x ≡ y) × (1 ≤ n) × (count_named x (free_part y n) ≡ 1) × IsNew x v)
-part_name v y zero new x = inl refl
-part_name v y (suc n) new x = elim (hit_cases x y) [
-  | inl h ↦ inr (h.0, omega arith, omega (arith, h.1), subst (λ z. IsNew z v) (sym h.0) (new (omega arith)))
-  | inr h ↦ inl (omega (arith, h.1))
-]
+part_name v y zero new x = grind (arith)
+part_name v y (suc n) new x = grind (arith, hit_cases)
 
 module _ {needed n : ℕ} {padding_at : ℕ → ℕ} {v u : View} {g : Grant} (s : Splits needed n padding_at v u g) where
   abbrev padding : List Block

@@ -120,13 +120,8 @@ module _ (none : ℕ) (t t' : Links) (even : length t'.newer ≡ length t.newer)
   pub led : (b b' : ℕ) (xs : List ℕ) → ((x : ℕ) → times x xs ≤ 1) → slice_index t'.newer (first_of none xs) ≡ b' ⊎ (xs ≡ [])
       → ((y : ℕ) → Among y xs → y ≢ first_of none xs → slice_index t'.newer y ≡ slice_index t.newer y) → ((y : ℕ) → Among y xs → slice_index t'.older y ≡ slice_index t.older y)
       → IsLinked none t b xs → IsLinked none t' b' xs
-  led b b' [] o f n s c = tt
-  led b b' (x ∷ xs) o f n s c = (
-    omega (arith, c.0),
-    elim f [ inl e ↦ e | inr e ↦ absurd (cc) ],
-    s x (omega (arith, one-same x)) ∙ c.2,
-    kept x xs (λ y a. (n y (omega arith) (λ e. let q = ap (λ z. times z xs) e in omega (arith, o x, one-same x)), s y (omega arith))) c.3,
-  )
+  led b b' [] o f n s c = grind (arith)
+  led b b' (x ∷ xs) o f n s c = grind (arith, one-same, kept)
 
 -- a name that is not in a list is not its first one
 pub not_first : {none : ℕ} (y : ℕ) (xs : List ℕ) → y < none → times y xs ≡ 0 → y ≢ first_of none xs

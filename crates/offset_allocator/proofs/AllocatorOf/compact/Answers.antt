@@ -108,10 +108,7 @@ returns-clause-accesses g c =
     )
 
 pub returns-in_default-clause-accesses : goal.returns-in_default-clause-accesses
-returns-in_default-clause-accesses g c =
-    let same : length (blocks (g.T.Tables.cells c.self.inside.store.tables).room c.self.inside.store.last) ≡ length c.args.self.now.blocks = ap (λ (u : View). length u.blocks) c.self.view_is in
-    let counted : c.self.inside.store.accesses ≡ c.args.self.now.accesses = ap (λ (u : View). u.accesses) c.self.view_is in
-    (omega (arith, same, counted, c.first_free.ensures.accesses), omega (arith, same, counted, c.first_free.ensures.accesses))
+returns-in_default-clause-accesses g c = grind (arith)
 
 pub returns-clause-step : goal.returns-clause-step
 returns-clause-step g c =
@@ -125,12 +122,7 @@ returns-clause-step g c =
     subst P c.self.view_is (done g (goal.at.returns-clause-step g c).After-push c.push.new.store.accesses _ refl).1
 
 pub returns-in_default-clause-sizes : goal.returns-in_default-clause-sizes
-returns-in_default-clause-sizes g c =
-    let f : Fields = fields_of g.T.Tables.cells g.T.Index.NodeIndex.MAX c.self.inside in
-    let left : View = shown (record f { accesses = c.first_free.new.count }) in
-    let P : View → Type 0 = λ u. KeepsSizes u left in
-    subst P c.self.view_is (compacts_sizes (shown f) left (known_sound f c.self.invariant (shown f) refl).0
-    (stays_packed f c.self.invariant c.first_free.new.count (sym c.first_free.ensures.first ∙ c.in_default.is)))
+returns-in_default-clause-sizes g c = grind (arith, fields_of, shown, compacts_sizes, known_sound, stays_packed)
 
 pub returns-clause-sizes : goal.returns-clause-sizes
 returns-clause-sizes g c =

@@ -1,4 +1,4 @@
-use Rattle.offset_allocator.proofs.Common.{◌≡◌, ◌∙◌, true, false, length, refl, inl, inr, arith, ap, subst, sym, View, Extends, ends_used, blocks}
+use Rattle.offset_allocator.proofs.Common.{◌≡◌, ◌∙◌, true, false, length, refl, inr, arith, ap, subst, sym, View, Extends, ends_used, blocks}
 use Rattle.offset_allocator.proofs.Extending.{used_at_end, can_widen, cannot_append, adds_counted, extends_done}
 use Rattle.offset_allocator.proofs.{Sound.shown, Sound.Fields, Sound.fields_of, Places.end_place, Reading.used_read}
 use Rattle.offset_allocator.proofs.AllocatorOf.extend.Goals as goal
@@ -46,14 +46,7 @@ returns-then-not-used-clause-step g c =
     ))
 
 pub returns-clause-step : goal.returns-clause-step
-returns-clause-step g c =
-    let f : Fields = fields_of g.T.Tables.cells g.T.Index.NodeIndex.MAX c.self.inside in
-    let P : View → Type 0 = λ u. Extends c.args.more u c.append.new.self true in
-    subst P c.self.view_is (inr (
-      omega arith,
-      (omega arith, inl (omega (arith, c.names_left-left.ensures, ap (λ (u : View). length u.blocks) c.self.view_is, ap (λ (u : View). u.max_allocs) c.self.view_is))),
-      adds_counted c.args.more (shown f) c.append.new.self c.is_used-used.new.count c.append.ensures.step,
-    ))
+returns-clause-step g c = grind (arith, fields_of, adds_counted, shown)
 
 pub returns-then-more-self-clause-done : goal.returns-then-more-self-clause-done
 returns-then-more-self-clause-done g c = extends_done c.args.more c.args.self.now c.args.self.now false (returns-then-more-self-clause-step g c)

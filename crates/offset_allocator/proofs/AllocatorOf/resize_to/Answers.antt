@@ -50,8 +50,7 @@ returns-then-size-old_size-2-clause-step g c =
     (resizes_short r c.args.size c.units_after-more.new.count (omega (arith, size g here.After-ready, more g here.After-units_after-more r, c.if-size-old_size-2.true)))
 
 pub returns-then-size-old_size-2-clause-same : goal.returns-then-size-old_size-2-clause-same
-returns-then-size-old_size-2-clause-same g c e =
-    ap (λ (u : View). record u { accesses = c.units_after-more.new.count }) (same_view g (goal.at.returns-then-size-old_size-2-clause-same g c).After-ready)
+returns-then-size-old_size-2-clause-same g c e = grind (arith, same_view)
 
 pub returns-then-size-old_size-2-clause-others : goal.returns-then-size-old_size-2-clause-others
 returns-then-size-old_size-2-clause-others g c y ne = ap (range_of y) (returns-then-size-old_size-2-clause-same g c refl)

@@ -3,9 +3,7 @@ use Rattle.offset_allocator.proofs.{Binned.head, Binned.without_head, Binned.non
 use Rattle.offset_allocator.proofs.bins.behead.Goals as goal
 
 pub set_newer-requires-clause-idle : goal.set_newer-requires-clause-idle
-set_newer-requires-clause-idle g c =
-    let k = c.requires.held.linked in
-    rw (c.set_head.ensures.cells, c.number-next.ensures.number) (second_idle c.shape.ensures k c.args.class c.requires.classed c.requires.some c.requires.older (λ e. absurd (omega arith)))
+set_newer-requires-clause-idle g c = grind (arith, second_idle)
 
 pub set_newer-requires-clause-link : goal.set_newer-requires-clause-link
 set_newer-requires-clause-link g c = no_mark c.shape.ensures (g.T.Index.NodeIndex.number c.no_link.result) (λ n. absurd (n c.no_link.ensures.number))

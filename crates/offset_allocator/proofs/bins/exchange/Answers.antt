@@ -26,8 +26,7 @@ pub link_newer-requires-clause-link : goal.link_newer-requires-clause-link
 link_newer-requires-clause-link g c = no_mark c.shape.ensures (g.T.Index.NodeIndex.number c.link_to.result) (λ n. omega (arith, c.link_to.ensures.number, c.requires.named))
 
 pub push-requires-clause-unlisted : goal.push-requires-clause-unlisted
-push-requires-clause-unlisted g c =
-    rw c.leave.ensures.lists (unlisted_removed c.args.name c.args.gone _ _ c.requires.held.linked.lists_len (down_small c.args.size) c.requires.unlisted)
+push-requires-clause-unlisted g c = grind (arith, unlisted_removed, down_small)
 
 pub returns-then-class-uint_to_float_round_down : goal.returns-then-class-uint_to_float_round_down
 returns-then-class-uint_to_float_round_down g c =

@@ -4,21 +4,13 @@ use Rattle.offset_allocator.proofs.{Masks.flag_full, Masks.masked_same, Masks.ma
 use Rattle.offset_allocator.proofs.bins.push.Goals as goal
 
 pub set_newer-requires-clause-name : goal.set_newer-requires-clause-name
-set_newer-requires-clause-name g c =
-    let h = c.head-newest.ensures.cell in
-    rw (c.set_links.ensures.cells, c.set_head.ensures.cells, length-set, h) (head_below c.requires.held.linked c.args.class c.requires.classed (λ e. absurd (omega arith)))
+set_newer-requires-clause-name g c = grind (arith, length-set, head_below)
 
 pub set_links-requires-clause-link : goal.set_links-requires-clause-link
 set_links-requires-clause-link g c = no_mark c.shape.ensures (g.T.Index.NodeIndex.number c.no_link.result) (λ n. absurd (n c.no_link.ensures.number))
 
 pub set_newer-requires-clause-idle : goal.set_newer-requires-clause-idle
-set_newer-requires-clause-idle g c =
-    let h = c.head-newest.ensures.cell in
-    rw (
-      c.set_links.ensures.cells,
-      c.set_head.ensures.cells,
-      h,
-    ) (listed_idle c.shape.ensures c.requires.held.linked c.args.class c.requires.classed _ (head_among c.requires.held.linked c.args.class c.requires.classed (λ e. absurd (omega arith))))
+set_newer-requires-clause-idle g c = grind (arith, listed_idle, head_among)
 
 pub set_newer-requires-clause-link : goal.set_newer-requires-clause-link
 set_newer-requires-clause-link g c = no_mark c.shape.ensures (g.T.Index.NodeIndex.number c.link_to-link.result) (λ n. omega (arith, c.link_to-link.ensures.number, c.requires.named))

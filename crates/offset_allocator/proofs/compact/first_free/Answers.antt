@@ -1,5 +1,4 @@
-use Rattle.offset_allocator.proofs.Common.{◌≡◌, ◌+◌, List, [], ◌∷◌, ◌++◌, Some, None, length, refl, sym, ap, ◌∙◌, arith, append-nil, append_assoc, length-append, Node, Block, blocks, last_or}
-use Rattle.offset_allocator.proofs.Common.{first_free}
+use Rattle.offset_allocator.proofs.Common.{◌≡◌, ◌+◌, List, [], ◌∷◌, ◌++◌, Some, None, length, sym, ap, ◌∙◌, arith, append-nil, append_assoc, length-append, Node, Block, last_or}
 use Rattle.offset_allocator.proofs.{Ends.Ended, Ends.ended, Ends.last_none, Places.at_place, Sliding.walked, Sliding.first_used, Sliding.first_idle}
 use Rattle.offset_allocator.proofs.compact.first_free.Goals as goal
 use Rattle.offset_allocator.proofs.compact.first_free.Goals.{then-not-is_used, else-not-is_used}
@@ -8,14 +7,7 @@ pub is_used-requires : goal.is_used-requires
 is_used-requires g c = (walked c.requires.space.1 c.loop-at.invariant.front c.loop-at.invariant.rest c.loop-at.invariant.is (c.loop-at.invariant.ends ∙ c.in-Some.is)).below
 
 pub loop-at-init : goal.loop-at-init
-loop-at-init g c = record {
-  front = blocks (g.T.Tables.cells c.args.tables.now).room c.args.last;
-  rest = [];
-  is = sym (append-nil _);
-  ends = c.requires.space.1.ends;
-  first = refl;
-  accesses = omega arith;
-}
+loop-at-init g c = grind (arith, append-nil)
 
 pub before-at-requires : goal.before-at-requires
 before-at-requires g c = (walked c.requires.space.1 c.loop-at.invariant.front c.loop-at.invariant.rest c.loop-at.invariant.is (c.loop-at.invariant.ends ∙ c.in-Some.is)).below
@@ -41,11 +33,7 @@ loop-at-preserved g c =
     }
 
 pub returns-clause-first : goal.returns-clause-first
-returns-clause-first g c =
-    let i = c.loop-at.invariant in
-    i.first ∙ sym (ap first_free (i.is ∙ ap (λ (l : List Block). l ++ i.rest) (last_none i.front (i.ends ∙ c.in_default.is))))
+returns-clause-first g c = grind (arith, last_none)
 
 pub returns-clause-accesses : goal.returns-clause-accesses
-returns-clause-accesses g c =
-    let i = c.loop-at.invariant in
-    omega (arith, i.accesses, ap (λ (l : List Block). length l) (last_none i.front (i.ends ∙ c.in_default.is)))
+returns-clause-accesses g c = grind (arith, last_none)

@@ -1,6 +1,6 @@
 use Rattle.offset_allocator.proofs.Common.{◌≡◌, ℕ, ◌+◌, ◌-◌, ◌*◌, ◌≤◌, false, length, Place, HasPlace, IsCalledWith}
-use Rattle.offset_allocator.specs.Store.{SameBins}
 use Rattle.offset_allocator.proofs.Sliding.{IsSliding}
+use Rattle.offset_allocator.specs.Store.{SameBins}
 use Rattle.offset_allocator.proofs.compact.slide.Given as goal
 
 abbrev pub invariant-loop-next : goal.invariant-loop-next

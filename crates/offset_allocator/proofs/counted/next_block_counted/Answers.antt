@@ -1,6 +1,4 @@
-use Rattle.offset_allocator.proofs.Common.{◌≡◌, Bool, Option, None, Some, ◌∷◌, ◌-◌, if◌then◌else◌, sym, ap, subst, ◌∙◌, arith, node, Grant, Placed, as_placed}
-use Rattle.std.specs.Iterator.{YieldsFirstBy}
-use Rattle.offset_allocator.specs.declared.blocks.Block.{Block}
+use Rattle.offset_allocator.proofs.Common.{◌≡◌, Bool, Option, None, Some, ◌∷◌, ◌-◌, if◌then◌else◌, sym, ap, ◌∙◌, arith, node, Grant, Placed}
 use Rattle.offset_allocator.proofs.{Sound.fields_of, Listing.left, Listing.none_left, Listing.node_placed, Listing.read_is}
 use Rattle.offset_allocator.proofs.counted.next_block_counted.Goals.{then-is_used, else-is_used}
 use Rattle.offset_allocator.proofs.counted.next_block_counted.Goals as goal
@@ -10,9 +8,7 @@ is_used-requires g c = (read_is (fields_of g.T.Tables.cells g.T.Index.NodeIndex.
     (c.blocks-2.invariant.1 ∙ c.in_ok-name.was)).below
 
 pub returns-in_err-name-clause-yields : goal.returns-in_err-name-clause-yields
-returns-in_err-name-clause-yields g c =
-    let e = sym c.blocks-2.view_is ∙ none_left c.blocks-2.inside.left c.blocks-2.inside.allocator.now.blocks (c.blocks-2.invariant.1 ∙ c.in_err-name.was) in
-    subst (λ (r : Option (Block _ _ _)). YieldsFirstBy as_placed (λ rest. rest) c.args.blocks.now r c.args.blocks.now) (sym c.from_residual.ensures) (e, e)
+returns-in_err-name-clause-yields g c = grind (arith, none_left)
 
 pub offset-offset-requires : goal.offset-offset-requires
 offset-offset-requires g c = (read_is (fields_of g.T.Tables.cells g.T.Index.NodeIndex.MAX c.allocator.inside) c.allocator.invariant _ _ _ c.allocator.view_is c.blocks-2.invariant.0

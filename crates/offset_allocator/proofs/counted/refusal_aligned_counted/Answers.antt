@@ -25,12 +25,7 @@ enough n s k d h e f l =
     omega (arith, a, b, ap value e, value_small 1 (omega arith))
 
 pub returns-then-units-clause-why : goal.returns-then-units-clause-why
-returns-then-units-clause-why g c =
-    let known = known_sound (fields_of g.T.Tables.cells g.T.Index.NodeIndex.MAX c.allocator.inside) c.allocator.invariant c.args.allocator.now c.allocator.view_is in
-    let some = not_zero c.args.align c.requires.power in (
-      omega (arith, c.names_left.ensures, c.min-blocks.ensures, c.if-names_left-blocks.false),
-      omega (arith, known.0.fits, past_words (units_needed c.args.size c.args.align) (omega (arith, some, c.if-units.true))),
-    )
+returns-then-units-clause-why g c = grind (arith, known_sound, fields_of, not_zero, past_words)
 
 pub returns-then-units-clause-granted : goal.returns-then-units-clause-granted
 returns-then-units-clause-granted g c =

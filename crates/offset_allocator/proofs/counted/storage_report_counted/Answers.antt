@@ -1,4 +1,4 @@
-use Rattle.offset_allocator.proofs.Common.{common_steps, ◌≡◌, ℕ, sym, subst, ◌<◌, ◌+◌, length, arith, false, ◌∙◌, refl, nat_tests, View, total_free, largest_free, free_sizes, is_full, largest}
+use Rattle.offset_allocator.proofs.Common.{common_steps, ◌≡◌, ℕ, sym, subst, ◌<◌, ◌+◌, length, arith, ◌∙◌, refl, nat_tests, View, total_free, largest_free, free_sizes, largest}
 use Rattle.offset_allocator.proofs.{Sound.shown, Sound.Fields, Sound.AreSound, Sound.fields_of, Sound.known_sound, Counting.largest_none, Counting.largest_some, Refusals.is_open, Refusals.total_is}
 use Rattle.offset_allocator.proofs.counted.storage_report_counted.Goals.{in-None, in-Some}
 use Rattle.offset_allocator.proofs.counted.storage_report_counted.Goals as goal
@@ -6,9 +6,7 @@ use Rattle.offset_allocator.proofs.counted.storage_report_counted.Goals as goal
 -- where two names are left, the report is of the free blocks
 open_report : (it : Fields) → AreSound it → length (shown it).blocks + 1 < it.limit → (r : ℕ) → r ≡ largest (free_sizes (shown it).blocks) → (it.free ≡ total_free (shown it))
     × (r ≡ largest_free (shown it))
-open_report it s room r e =
-    let short : is_full (shown it) ≡ false = grind (arith, nat_tests) in
-    (rw short (total_is it s 1 1), rw short e)
+open_report it s room r e = grind (arith, shown, nat_tests, total_is)
 
 pub returns-clause-report : goal.returns-clause-report
 returns-clause-report g c =

@@ -1,6 +1,6 @@
 use Rattle.offset_allocator.proofs.Common.{common_steps, ◌≡◌, ℕ, ◌+◌, ◌*◌, ◌%◌, ◌^◌, ◌≤◌, length, slice_index_or, subst, ap, ◌∙◌, arith, value, count_of, View, free_sizes}
-use Rattle.offset_allocator.specs.declared.reports.StorageReportFullRegion.{StorageReportFullRegion}
 use Rattle.offset_allocator.proofs.{Sound.shown, Sound.fields_of, Counting.length_names, Counting.accesses_most}
+use Rattle.offset_allocator.specs.declared.reports.StorageReportFullRegion.{StorageReportFullRegion}
 use Rattle.offset_allocator.proofs.counted.storage_report_full_counted.Goals as goal
 
 pub returns-clause-report : goal.returns-clause-report

@@ -167,7 +167,4 @@ pub returns-clause-held : goal.returns-clause-held
 returns-clause-held g c = c.exchange.ensures.held
 
 pub exchange-requires-clause-held : goal.exchange-requires-clause-held
-exchange-requires-clause-held g c = elim c.match-next.branch [
-  | in-Some w ↦ rw (w.store-is, w.coalesce_after.ensures.bins.0, w.coalesce_after.ensures.bins.1) w.with_before-size.ensures.held
-  | in_default+in-Some-free_before w ↦ rw (w.store-is, w.coalesce_before.ensures.bins.0, w.coalesce_before.ensures.bins.1) c.requires.held
-]
+exchange-requires-clause-held g c = grind (arith, in-Some, in_default+in-Some-free_before)

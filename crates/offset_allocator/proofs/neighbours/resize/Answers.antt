@@ -20,20 +20,14 @@ split_remainder-requires-clause-place g c =
     (_, _, c.with_after-whole.ensures.place _ _ r.2, rw (c.with_after-whole.ensures.lists _ _ r.2) (unlisted_after r.2 _ r.3 c.requires.held.linked.lists_len _))
 
 pub split_remainder-requires-clause-whole : goal.split_remainder-requires-clause-whole
-split_remainder-requires-clause-whole g c = omega (
-  arith,
-  whole g (goal.at.split_remainder-requires-clause-whole g c).After-with_after-whole _ c.requires.place.2,
-  c.requires.place.4,
-  c.with_after-whole.ensures.size,
-)
+split_remainder-requires-clause-whole g c = grind (arith, whole)
 
 pub returns-clause-place : goal.returns-clause-place
 returns-clause-place g c m p h =
     rw (← whole g (goal.at.returns-clause-place g c).After-with_after-whole p h) (c.split_remainder.ensures.place _ _ (c.with_after-whole.ensures.place _ _ h))
 
 pub returns-clause-lists : goal.returns-clause-lists
-returns-clause-lists g c m p h =
-    rw (← whole g (goal.at.returns-clause-lists g c).After-with_after-whole p h, ← c.with_after-whole.ensures.lists _ _ h) c.split_remainder.ensures.lists
+returns-clause-lists g c m p h = grind (arith, whole)
 
 pub returns-clause-accesses_less : goal.returns-clause-accesses_less
 returns-clause-accesses_less g c l =

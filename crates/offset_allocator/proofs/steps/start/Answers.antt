@@ -9,8 +9,7 @@ pub push-requires-clause-idle : goal.push-requires-clause-idle
 push-requires-clause-idle g c = first_idle c.start.ensures.space c.start.ensures.blocks
 
 pub push-requires-clause-classed : goal.push-requires-clause-classed
-push-requires-clause-classed g c =
-    let s = down_small c.args.size in omega (arith, s, c.uint_to_float_round_down.ensures.is)
+push-requires-clause-classed g c = grind (arith, down_small)
 
 pub push-requires-clause-unlisted : goal.push-requires-clause-unlisted
 push-requires-clause-unlisted g c = empty_unlisted 0 (rw c.start.ensures.links c.requires.empty)

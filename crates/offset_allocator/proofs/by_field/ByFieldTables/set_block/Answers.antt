@@ -52,8 +52,7 @@ returns-clause-cells g c =
     }) c.requires.idle
 
 pub invariant_of-self : goal.invariant_of-self
-invariant_of-self g c = level_kept _ c.self.inside _ c.self.invariant (length-set c.self.inside.offset.items c.args.name c.args.offset) (length-set c.self.inside.size.items c.args.name c.args.size)
-    (length-set c.self.inside.before.items c.args.name c.args.before) (length-set c.self.inside.after.items c.args.name c.args.after) refl refl refl refl refl refl refl refl refl refl refl refl
+invariant_of-self g c = grind (arith, level_kept, length-set)
 
 pub index_mut-requires : goal.index_mut-requires
 index_mut-requires g c = bound-offset _ _ c.self.inside c.self.view_is c.args.name c.requires.name

@@ -18,8 +18,7 @@ returns-clause-cells g c =
     wrote-room _ _ t c.self.view_is u x (λ (n : Node). record n { size = c.args.size; after = link_of max (g.NI.NodeIndex.number c.args.link) }) c.requires refl refl off is
 
 pub invariant_of-self : goal.invariant_of-self
-invariant_of-self g c = level_kept _ c.self.inside _ c.self.invariant refl (length-set c.self.inside.size.items c.args.name c.args.size) refl
-    (length-set c.self.inside.after.items c.args.name c.args.link) refl refl refl refl refl refl refl refl refl refl refl refl
+invariant_of-self g c = grind (arith, level_kept, length-set)
 
 pub index_mut-requires : goal.index_mut-requires
 index_mut-requires g c = bound-size _ _ c.self.inside c.self.view_is c.self.invariant c.args.name c.requires

@@ -1,4 +1,4 @@
-use Rattle.offset_allocator.proofs.Common.{◌<◌, ◌∙◌, ℕ, List, ap, length, map, set, arith, refl, length-map, length-set, map-set, Cells, field_tables}
+use Rattle.offset_allocator.proofs.Common.{◌<◌, ◌∙◌, ℕ, List, ap, length, map, set, arith, length-map, length-set, map-set, Cells, field_tables}
 use Rattle.offset_allocator.proofs.Fields.{length-nodes_in, wrote-newer, level_kept, bound-newer}
 use Rattle.offset_allocator.proofs.by_field.ByFieldTables.set_links.Goals as goal
 
@@ -28,13 +28,10 @@ returns-clause-cells g c =
     }) (ap (λ (v : Cells). v.links.older) c.self.view_is)
 
 pub invariant_of-self : goal.invariant_of-self
-invariant_of-self g c = level_kept _ c.self.inside _ c.self.invariant refl refl refl refl (length-set c.self.inside.newer.items c.args.name c.args.newer)
-    (length-set c.self.inside.older.items c.args.name c.args.older) refl refl refl refl refl refl refl refl refl refl
+invariant_of-self g c = grind (arith, level_kept, length-set)
 
 pub index_mut-requires : goal.index_mut-requires
 index_mut-requires g c = bound-newer _ _ c.self.inside c.self.view_is c.args.name c.requires.name
 
 pub index_mut-requires-2 : goal.index_mut-requires-2
-index_mut-requires-2 g c =
-    let t = c.self.inside in
-    omega (arith, bound-newer _ _ t c.self.view_is c.args.name c.requires.name, c.self.invariant.newer, c.self.invariant.older, t.newer.ok.0, t.older.ok.0)
+index_mut-requires-2 g c = grind (arith, bound-newer)

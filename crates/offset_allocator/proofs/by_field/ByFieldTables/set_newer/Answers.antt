@@ -1,4 +1,4 @@
-use Rattle.offset_allocator.proofs.Common.{◌<◌, ◌∙◌, ℕ, List, ap, length, map, set, arith, refl, length-map, length-set, map-set, Cells, field_tables}
+use Rattle.offset_allocator.proofs.Common.{◌<◌, ◌∙◌, ℕ, List, ap, length, map, set, arith, length-map, length-set, map-set, Cells, field_tables}
 use Rattle.offset_allocator.proofs.Fields.{length-nodes_in, wrote-newer, level_kept, bound-newer}
 use Rattle.offset_allocator.proofs.by_field.ByFieldTables.set_newer.Goals as goal
 
@@ -22,8 +22,7 @@ returns-clause-cells g c =
     (ap (λ (v : Cells). v.links.older) c.self.view_is)
 
 pub invariant_of-self : goal.invariant_of-self
-invariant_of-self g c = level_kept _ c.self.inside _ c.self.invariant refl refl refl refl (length-set c.self.inside.newer.items c.args.name c.args.link) refl refl refl refl refl
-    refl refl refl refl refl refl
+invariant_of-self g c = grind (arith, level_kept, length-set)
 
 pub index_mut-requires : goal.index_mut-requires
 index_mut-requires g c = bound-newer _ _ c.self.inside c.self.view_is c.args.name c.requires.name
