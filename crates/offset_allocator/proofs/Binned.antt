@@ -1,7 +1,7 @@
 -- The bins after a change of one of them.
 use Rattle.offset_allocator.proofs.Common.{◌≡◌, ◌≢◌, ◌<◌, ◌≤◌, ◌+◌, ◌⊎◌, ℕ, List, [], ◌∷◌, ◌++◌, map, refl, sym, ap, subst, ◌∙◌, inl, inr, arith, length, drop, slice_index, slice_set, cases_eq}
 use Rattle.offset_allocator.proofs.Common.{length-set, length-map, get_or-set_same, get_or-set_other, get_or-map, ext_get_or, set-get_or, set-set, set_comm, Links, bin_at, times, without, push}
-use Rattle.offset_allocator.proofs.Common.{remove, IsLinked, Among, flag, first_of, walk, HasBins, AreMasks, IsUnlisted, IsBinned, bins_in}
+use Rattle.offset_allocator.proofs.Common.{remove, IsLinked, Among, flag, first_of, walk, HasBins, AreMasks, IsUnlisted, IsBinned, bins_in, common_steps}
 use Rattle.offset_allocator.proofs.{ViewOrders.names_same, ViewOrders.names_other, ViewOrders.times_without_le, ViewOrders.unlisted_removed, Walks.name_below, Walks.older_below, Walks.chain_fits}
 use Rattle.offset_allocator.proofs.{Walks.walk_is, Walks.IsLater, Walks.found, Walks.kept, Walks.led, Walks.not_first, Walks.first_same, Walks.newer_kept, Walks.next_among, Walks.older_kept}
 use Rattle.offset_allocator.proofs.{Walks.unlinked, Walks.without_first, Walks.without_later, Masks.masked_same, Masks.flag_full, Tallies.hit_cases, Tallies.one-same, Tallies.times-join}
@@ -41,19 +41,13 @@ module _ {none : ℕ} {t : Links} {ls : List (List ℕ)} (k : HasBins none t ls)
         names_small = omega (arith, k.names_small);
         heads_len = rw hd (length-set t.heads c (first_of none ys) ∙ hl);
         lists_len = length-set ls c ys ∙ ll;
-        heads = λ d h. elim (cases_eq d c) [
-          | inl e ↦ rw (hd, here d e, e) (get_or-set_same t.heads c (first_of none ys) 0 (omega arith))
-          | inr n ↦ rw (hd, other d n) (get_or-set_other t.heads c d (first_of none ys) 0 n ∙ k.heads d h)
-        ];
+        heads = grind (arith, common_steps, cases_eq, get_or-set_same, get_or-set_other);
         chains = λ d h. elim (cases_eq d c) [
           | inl e ↦ rw (here d e) chain
           | inr n ↦ rw (other d n) (kept none t t' nl none (bin_at ls d) (λ y a. same y (name_below none t k.names_small none (bin_at ls d) (k.chains d h) y a) (omega (arith, new y d h n))
               (omega (arith, k.once d c y h ch n))) (k.chains d h))
         ];
-        once = λ d e x dh eh n. elim (cases_eq d c) [
-          | inl p ↦ let m : e ≢ c = λ q. n (p ∙ sym q) in rw (here d p, other e m) (new x e eh m)
-          | inr p ↦ elim (cases_eq e c) [ inl q ↦ rw (other d p, here e q) (omega (arith, new x d dh p)) | inr q ↦ rw (other d p, other e q) (k.once d e x dh eh n) ]
-        ];
+        once = grind (arith, common_steps, cases_eq);
       }
 
   module _ (c : ℕ) (ch : c < 256) where
@@ -144,8 +138,7 @@ module _ {none : ℕ} {t : Links} {ls : List (List ℕ)} (k : HasBins none t ls)
           )
           (λ y b u v. let n : y ≢ x = λ e. let q = ap (λ i. times i (x ∷ [])) e in omega (arith, one-same x) in (newer_kept y n (not_head y b v), older_kept y n))
           (λ y d dh n. elim (hit_cases y x) [
-            | inl i ↦ let q = ap (λ j. times j (bin_at ls d)) i.0 in let p = ap (λ j. times j (bin_at ls c)) i.0 in
-                omega (arith, i.1, fresh d dh)
+            | inl i ↦ grind (arith, common_steps)
             | inr i ↦ omega (arith, i.1, k.once d c y dh ch n)
           ])
         where
@@ -187,8 +180,7 @@ module _ {none : ℕ} {t : Links} {ls : List (List ℕ)} (k : HasBins none t ls)
           let first : after ≡ first_of none f.rest = af ∙ rest_first f.front none chain in
           let newer' : t'.newer ≡ slice_set t.newer (first_of none f.rest) w = rw (← first, ← be) newer in
           let older' : t'.older ≡ slice_set t.older w (first_of none f.rest) = rw (← first, ← be) older in
-          let head : slice_index t.heads c ≡ first_of none (without x (bin_at ls c)) = k.heads c ch ∙ ap (first_of none) f.is ∙ first_same none w x f.rest f.front
-          ∙ ap (first_of none) (sym is) in
+          let head : slice_index t.heads c ≡ first_of none (without x (bin_at ls c)) = grind (arith, common_steps, first_same) in
           relisted c ch t' (without x (bin_at ls c)) (rw newer (length-set t.newer after before)) (rw older (length-set t.older before after)) (heads ∙ sym (rw (← head) (set-get_or t.heads c 0)))
           (rw is (unlinked none t t' w x f.rest k.names_small k.older_len newer' older' none f.front o chain))
           (λ y l u v.

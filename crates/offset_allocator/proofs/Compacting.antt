@@ -1,8 +1,8 @@
 -- What it leaves of the whole allocator to slide the live ranges to the front.
 use Rattle.offset_allocator.proofs.Common.{◌≡◌, ℕ, suc, ◌+◌, ◌≤◌, Bool, true, false, not, ◌&&◌, Some, None, List, [], ◌∷◌, ◌++◌, length, replicate, sum, if◌then◌else◌, nat_eq, refl, sym, ap, ap₂}
-use Rattle.offset_allocator.proofs.Common.{subst, ◌∙◌, inl, inr, arith, append-nil, length-append, eq-zero-or-pos, AllByRecursion, nat_tests, length-replicate, ext_get_or, down, Cells, Room, Block}
-use Rattle.offset_allocator.proofs.Common.{View, Place, one, free_block, units, free_sizes, used_units, used_of, count_named, count_in_bin, bin_at, push, push_all, IsApart, IsWellFormed, starts_free}
-use Rattle.offset_allocator.proofs.Common.{live, moves, move_of, first_free, gathered, Compacts, SameSpace, HasPlace, blocks, IsBinned, bins_in, AreInBins, free_units}
+use Rattle.offset_allocator.proofs.Common.{subst, ◌∙◌, arith, append-nil, length-append, eq-zero-or-pos, AllByRecursion, nat_tests, length-replicate, ext_get_or, down, Cells, Room, Block, View, Place}
+use Rattle.offset_allocator.proofs.Common.{one, free_block, units, free_sizes, used_units, used_of, count_named, count_in_bin, bin_at, push, push_all, IsApart, IsWellFormed, starts_free, live, moves}
+use Rattle.offset_allocator.proofs.Common.{move_of, first_free, gathered, Compacts, SameSpace, HasPlace, blocks, IsBinned, bins_in, AreInBins, free_units, common_steps}
 use Rattle.offset_allocator.proofs.Sliding.{first_used, first_idle, live_used, live_idle, moves_used, moves_idle}
 use Rattle.offset_allocator.proofs.{Always.parted, Emptied.no_name, Emptied.none_at, Exchange.each-le, Exchange.there-below, Exchange.unused, Filed.share, Joints.stepped, Joints.free_units-append}
 use Rattle.offset_allocator.proofs.{Joints.free_units-free, Joints.free_units-used, Places.placed, Sound.Fields, Sound.AreSound, Sound.shown, Sound.well_counted, Tallies.one-same}
@@ -181,20 +181,8 @@ module _ (f : Fields) (s : AreSound f) where
         left_well = record {
           some = omega (arith, length-append packed_blocks (free_block hole size ∷ []));
           distinct = λ y. omega (arith, each-le d.room _ last count _ there.chain y);
-          below = λ y l. elim (eq-zero-or-pos (count_named y (packed_blocks ++ free_block hole size ∷ []))) [
-            | inl z ↦ z
-            | inr some ↦ absurd (omega (arith, there-below d.room _ last count y _ there.chain some, there.chain.within, s.memory))
-          ];
-          whole = omega (
-            arith,
-            w.whole,
-            ap units o.is,
-            units-append p.before (p.block ∷ p.after),
-            units-append packed_blocks (free_block hole size ∷ []),
-            units-append p.before (live p.after),
-            live_units p.after,
-            sized,
-          );
+          below = grind (arith, common_steps, eq-zero-or-pos, there-below);
+          whole = grind (arith, common_steps, units-append, live_units);
           fits = w.fits;
           apart = apart_end packed_blocks (free_block hole size) are_used;
           classes = length_put (down size) hole (replicate 256 []) ∙ length-replicate {A = List ℕ} 256 [];
@@ -211,8 +199,7 @@ module _ (f : Fields) (s : AreSound f) where
 
         compacted : (u : View) → SameSpace left_view u → Compacts v u
         compacted u same =
-            let gathers : gathered hole (free_sizes v.blocks) ≡ free_block hole size ∷ [] = ap (gathered hole) o.sizes
-            ∙ ap (λ n. free_block hole n ∷ []) (omega (arith, sized, sum_sizes p.after)) in
+            let gathers : gathered hole (free_sizes v.blocks) ≡ free_block hole size ∷ [] = grind (arith, common_steps, sum_sizes) in
             record {
               name = hole;
               below = omega (arith, there.below, there.chain.within, s.memory);
@@ -250,11 +237,4 @@ module _ (f : Fields) (s : AreSound f) where
       let r = packed v.blocks e in
       let t = unused s.space (omega (arith, w.room, s.memory)) in
       let whole = live_whole v.blocks r.used in
-      record {
-        name = t.0;
-        below = omega (arith, t.1, s.memory);
-        absent = ap (count_named t.0) whole ∙ t.2;
-        view = ap₂ (λ (bs : List Block) (o : List (List ℕ)). record v { blocks = bs; order = o; accesses = accesses }) (sym (append-nil v.blocks)
-            ∙ ap₂ (λ (k l : List Block). k ++ l) (sym whole) (sym (ap (gathered _) r.sizes))) (none_filed ls v.blocks w.classes r.used (λ k y. w.orders k y)
-            ∙ sym (ap (λ ns. push_all (gathered t.0 ns) (replicate 256 [])) r.sizes));
-      }
+      grind (arith, common_steps, append-nil, none_filed)

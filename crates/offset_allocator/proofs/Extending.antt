@@ -2,7 +2,7 @@
 use Rattle.offset_allocator.proofs.Common.{◌≡◌, ◌↔◌, ℕ, ◌+◌, ◌-◌, ◌<◌, ◌≤◌, ◌^◌, Bool, true, false, not, ◌⊎◌, List, [], ◌∷◌, ◌++◌, length, refl, sym, ap, subst, ◌∙◌, inl, inr, arith, slice_set}
 use Rattle.offset_allocator.proofs.Common.{append-nil, true≢false, false≢true, AllByRecursion, down, Cells, Room, Node, node, Block, View, count_named, bin_at, count_in_bin, is_free, IsApart}
 use Rattle.offset_allocator.proofs.Common.{IsWellFormed, IsNew, free_block, units, replace, remove_all, push, remove, without, times, ends_used, HasRoomFor, KeepsAll, Adds, CanExtend, Extends}
-use Rattle.offset_allocator.proofs.Common.{IsChain, HasPlace, blocks, Among, IsUnlisted, bins_in, IsBinned, free_units}
+use Rattle.offset_allocator.proofs.Common.{IsChain, HasPlace, blocks, Among, IsUnlisted, bins_in, IsBinned, free_units, common_steps}
 use Rattle.offset_allocator.proofs.Tallies.{listed_named, tally_append, units-append, times-append, one-eq}
 use Rattle.offset_allocator.proofs.Joints.{stepped, free_most, unused_unlisted, remove_free, free_units-append, free_units-free}
 use Rattle.offset_allocator.proofs.{Sound.Fields, Sound.AreSound, Sound.shown, Sound.well_counted, Sound.well_same, Ends.Ended, Ends.ended, Places.at_place, Places.end_place, Filed.share}
@@ -110,18 +110,7 @@ module _ {it : Fields} {more : ℕ} {used : Bool} (r : Growth it more used) wher
       let left = stepped it s left_view d (it.free + more) k well refl chain refl bins lists
       (free_units-append before (free_block x (units old + more) ∷ [])
       ∙ omega (arith, r.sound.total, ap free_units e, total, idle_units old idle, free_units-free (free_block x (units old + more)) [] refl)) in
-      let added : Adds more v (shown (record it { size = it.size + more; cells = d; last = last; count = count; top = top; free = it.free + more; accesses = k })) =
-      record {
-        before = before;
-        last = old;
-        blocks = e;
-        free = idle;
-        name = x;
-        named = named;
-        new = λ n. new n;
-        view = left.1;
-        apart = subst IsApart (sym (ap (λ (u : View). u.blocks) left.1)) well.apart;
-      } in
+      let added : Adds more v (shown (record it { size = it.size + more; cells = d; last = last; count = count; top = top; free = it.free + more; accesses = k })) = grind (arith, common_steps) in
       (left.0, added, adds_keep v _ w (well_same left_view _ left.1 well) more added)
 
 -- after a used block

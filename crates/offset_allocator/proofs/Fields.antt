@@ -1,7 +1,7 @@
 -- A table for each field as a list of nodes.
 use Rattle.offset_allocator.proofs.Common.{◌≡◌, ◌≢◌, ℕ, zero, suc, ◌+◌, ◌-◌, [], ◌∷◌, ◌++◌, ◌<◌, ◌≤◌, List, length, map, set, get_or, refl, sym, ◌∙◌, ap, ap₂, arith, Bool, false, Some, None}
 use Rattle.offset_allocator.proofs.Common.{if◌then◌else◌, eqb, eq-eqb, ne_eqb, get_or-set_same, get_or-set_other, length-map, length-append, map-append, map-set, set-get_or, vec_len, vec_capacity}
-use Rattle.offset_allocator.proofs.Common.{Cells, Node, blank, link_of, mark_of, node, put, AreShaped, FieldTables, node_in, nodes_in, values, field_tables, cells_by_field, AreLevel}
+use Rattle.offset_allocator.proofs.Common.{Cells, Node, blank, link_of, mark_of, node, put, AreShaped, FieldTables, node_in, nodes_in, values, field_tables, cells_by_field, AreLevel, common_steps}
 use Rattle.offset_allocator.proofs.Entries.{marked}
 use Rattle.offset_allocator.specs.declared.by_field.ByField.TheInside.{Inside}
 
@@ -86,19 +86,7 @@ module _ (max : ℕ) where
       → nodes_in max u ≡ nodes_in max t ++ blank ∷ []
   pushed t u some ls lb la ln o s b a n =
       let len : length u.offset ≡ length t.offset + 1 = ap (λ (l : List ℕ). length l) o ∙ length-append t.offset (0 ∷ []) in
-      let old : (i : ℕ) → i < length t.offset → node_in max u i ≡ node_in max t i =
-      λ i l. rw (
-        o,
-        s,
-        b,
-        a,
-        n,
-        kept t.offset 0 i l,
-        kept t.size 0 i (omega (arith, l, ls)),
-        kept t.before max i (omega (arith, l, lb)),
-        kept t.after max i (omega (arith, l, la)),
-        kept t.newer max i (omega (arith, l, ln)),
-      ) refl in
+      let old : (i : ℕ) → i < length t.offset → node_in max u i ≡ node_in max t i = grind (arith, common_steps, kept) in
       let used : eqb max (max - 1) ≡ false = ne_eqb max (max - 1) (λ e. omega (arith, e, some)) in
       let new : node_in max u (length t.offset) ≡ blank =
       rw (o, s, b, a, n, added t.offset 0 _ refl, added t.size 0 _ ls, added t.before max _ lb, added t.after max _ la, added t.newer max _ ln, used, no_link) refl in

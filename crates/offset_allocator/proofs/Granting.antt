@@ -1,7 +1,7 @@
 -- What a grant leaves of the whole allocator.
 use Rattle.offset_allocator.proofs.Common.{◌≡◌, ℕ, zero, suc, ◌+◌, ◌-◌, ◌<◌, ◌≤◌, ◌^◌, List, [], ◌∷◌, ◌++◌, length, refl, sym, ap, ap₂, ◌∙◌, arith, slice_set, append_assoc, le-leb, nat_eq, up, down}
 use Rattle.offset_allocator.proofs.Common.{Cells, Room, Block, View, Place, Grant, one, count_named, bin_at, IsWellFormed, IsNew, free_part, used_block, units, replace, remove_all, push_all, remove}
-use Rattle.offset_allocator.proofs.Common.{without, HasPlace, IsSmallestFrom, bins_in, IsBinned, AreUnlisted, free_units, SameSpace, Splits}
+use Rattle.offset_allocator.proofs.Common.{without, HasPlace, IsSmallestFrom, bins_in, IsBinned, AreUnlisted, free_units, SameSpace, Splits, common_steps}
 use Rattle.offset_allocator.proofs.Joints.{stepped, unused_unlisted, free_part_units, remove_free, free_units-append, free_units-free, free_units-used}
 use Rattle.offset_allocator.proofs.{Sound.Fields, Sound.AreSound, Sound.shown, Sound.well_counted, Exchange.each-le, Exchange.there-below, Places.placed, Places.end_fits, Classes.fits_size}
 use Rattle.offset_allocator.proofs.{Split.well_split, Split.part_room, Taken.Taken, Taken.taken, ViewOrders.unlisted_removed, Tallies.one-same, Tallies.one-eq, Tallies.times-append}
@@ -97,14 +97,7 @@ module _ {f : Fields} {needed class x : ℕ} (call : Call f needed class x) wher
 
       unused : (y : ℕ) → 1 ≤ count_named y (free_part front padding) + count_named y (free_part rest left) → IsNew y v
       unused y l =
-          let some : 1 ≤ count_named y ((p.before ++ free_part front padding) ++ used_block p.block.name n ∷ (free_part rest left ++ p.after)) =
-          omega (
-            arith,
-            l,
-            times-append y (p.before ++ free_part front padding) (used_block p.block.name n ∷ (free_part rest left ++ p.after)),
-            times-append y p.before (free_part front padding),
-            times-append y (free_part rest left) p.after,
-          ) in
+          let some : 1 ≤ count_named y ((p.before ++ free_part front padding) ++ used_block p.block.name n ∷ (free_part rest left ++ p.after)) = grind (arith, common_steps, times-append) in
           record {
             below = omega (arith, there-below d.room _ last count y _ there.chain some, there.chain.within, call.sound.memory);
             absent = ap (count_named y) got.stood ∙ omega (arith, l, names y, times-append y p.before (p.block ∷ p.after));

@@ -1,7 +1,7 @@
 -- The last of the first blocks of a space, and the list of what an iterator has left.
-use Rattle.offset_allocator.proofs.Common.{◌≡◌, ℕ, suc, ◌+◌, ◌-◌, ◌<◌, ◌≤◌, Bool, None, Some, List, [], ◌∷◌, ◌++◌, length, take, drop, reverse, refl, sym, ap, ap₂, subst, ◌∙◌, arith, if◌then◌else◌}
+use Rattle.offset_allocator.proofs.Common.{◌≡◌, ℕ, suc, ◌+◌, ◌-◌, ◌<◌, ◌≤◌, Bool, None, Some, List, [], ◌∷◌, ◌++◌, length, take, drop, reverse, refl, sym, ap, subst, ◌∙◌, arith, if◌then◌else◌}
 use Rattle.offset_allocator.proofs.Common.{length_push, length-take-le, take-take, take-append-le, take_all, take-append-drop, append_assoc, reverse-append, length-reverse, Room, Node, node, View}
-use Rattle.offset_allocator.proofs.Common.{Block, units, count_named, last_or, IsRow, Placed, placed_at, placed}
+use Rattle.offset_allocator.proofs.Common.{Block, units, count_named, last_or, IsRow, Placed, placed_at, placed, common_steps}
 use Rattle.offset_allocator.proofs.{Exchange.there-below, Ends.Ended, Ends.ended, Ends.last_none, Rows.node_at, Sound.Fields, Sound.AreSound, Sound.shown, Tallies.times-append, Tallies.one-eq}
 
 -- the first k blocks end in the block of a name
@@ -79,19 +79,8 @@ module _ (it : Fields) (s : AreSound it) (k x : ℕ) where
       let d : EndsIn bs k x = ends_in bs k x l e in
       let n = node_at c d.front d.block d.after x (subst (λ l. IsRow c None 0 l None) d.is s.space.row) d.named in
       let there : 1 ≤ count_named x bs = omega (arith, ap (count_named x) d.is, times-append x d.front (d.block ∷ d.after), one-eq x d.block.name d.named) in
-      let at : placed_node x (node c x) ≡ placed_at (units d.front) d.block =
-      ap (placed_node x) n ∙ ap (λ (i : ℕ). record {
-        offset = units d.front;
-        size = d.block.size;
-        grant = if d.block.used then Some (record { name = i; offset = units d.front }) else None;
-      }) (sym d.named) in
-      record {
-        below = there-below c _ _ _ x bs s.space there;
-        some = d.some;
-        block = ap (λ (l : List Block). reverse (placed 0 l)) d.taken ∙ listing-push d.front d.block
-            ∙ ap₂ (λ (p : Placed) (l : List Block). p ∷ reverse (placed 0 l)) (sym at) (sym d.before);
-        before = ap (last_or None) d.before ∙ sym (ap (λ (n : Node). n.before) n);
-      }
+      let at : placed_node x (node c x) ≡ placed_at (units d.front) d.block = grind (arith, common_steps) in
+      grind (arith, common_steps, there-below, listing-push)
 
   pub read_is : (v : View) → shown it ≡ v → k ≤ length v.blocks → last_or None (take k v.blocks) ≡ Some x → IsRead it.cells.room v.blocks k x
   read_is v e = subst (λ (u : View). k ≤ length u.blocks → last_or None (take k u.blocks) ≡ Some x → IsRead it.cells.room u.blocks k x) e read_shown

@@ -1,7 +1,7 @@
 -- What holds after the live ranges are packed, and of the moves that pack them.
 use Rattle.offset_allocator.proofs.Common.{◌≡◌, ◌↔◌, ℕ, ◌+◌, ◌≤◌, Bool, true, false, Option, Some, None, List, [], ◌∷◌, ◌++◌, sum, if◌then◌else◌, nat_eq, option_map, option_and_then, refl, sym, ap}
-use Rattle.offset_allocator.proofs.Common.{subst, ◌∙◌, inl, inr, arith, AllByRecursion, cases_eq, nat_tests, sum_by-cons, value, down, largest, Block, View, Place, one, place_of, count_named}
-use Rattle.offset_allocator.proofs.Common.{free_sizes, units, IsWellFormed, CanGrant, HasRoomFor, Range, Move, live, moves, move_of, gathered, AreSafe, KeepsSizes, Compacts}
+use Rattle.offset_allocator.proofs.Common.{◌∙◌, inl, inr, arith, AllByRecursion, cases_eq, nat_tests, sum_by-cons, value, down, largest, Block, View, Place, one, place_of, count_named, free_sizes}
+use Rattle.offset_allocator.proofs.Common.{units, IsWellFormed, CanGrant, HasRoomFor, Range, Move, live, moves, move_of, gathered, AreSafe, KeepsSizes, Compacts, common_steps}
 use Rattle.offset_allocator.proofs.ViewFits.{fits_exactly, largest_small}
 use Rattle.offset_allocator.proofs.{Classes.down_law, Compacting.live_are_used, Compacting.AreUsed, Refusals.fit_small, Sliding.live_used, Sliding.live_idle, Tallies.hit_cases}
 
@@ -17,11 +17,7 @@ held_is : (x : ℕ) (bs : List Block) → units_at (place_of x bs) ≡ held x bs
 held_is x [] = refl
 held_is x (b ∷ bs) =
     let ih = held_is x bs in
-    let later : (o : Option Place) → units_at (option_map (λ (p : Place). record p { before = b ∷ p.before }) o) ≡ units_at o =
-    λ o. elim o as (λ q. units_at (option_map (λ (p : Place). record p { before = b ∷ p.before }) q) ≡ units_at q) [
-      | None ↦ refl
-      | Some p ↦ both p.block.used p
-    ] in
+    let later : (o : Option Place) → units_at (option_map (λ (p : Place). record p { before = b ∷ p.before }) o) ≡ units_at o = grind (arith, common_steps, both) in
     elim (nat_eq x b.name) as (λ t. units_at (if t then Some (record { before = []; block = b; after = bs }) else option_map (λ (p : Place). record p { before = b ∷ p.before })
     (place_of x bs)) ≡ (if t then (if b.used then Some b.size else None) else held x bs)) [
       | true ↦ here b.used
@@ -87,8 +83,7 @@ largest_gathered x (n ∷ ns) = let e : sum (n ∷ ns) ≡ n + sum ns = sum_by-c
 
 pub compacted_grants : (v w : View) (n : ℕ) → IsWellFormed w → 1 ≤ n → Compacts v w → CanGrant 1 n w ↔ (HasRoomFor 1 w × (n ≤ value (down (sum (free_sizes v.blocks)))))
 compacted_grants v w n well some c =
-    let is : largest (free_sizes w.blocks) ≡ value (down (sum (free_sizes v.blocks))) = ap (λ (u : View). largest (free_sizes u.blocks)) c.view
-    ∙ ap largest (sizes_live (live v.blocks) (live_are_used v.blocks) (gathered c.name (free_sizes v.blocks))) ∙ largest_gathered c.name (free_sizes v.blocks) in (
+    let is : largest (free_sizes w.blocks) ≡ value (down (sum (free_sizes v.blocks))) = grind (arith, common_steps, sizes_live, live_are_used, largest_gathered) in (
       λ h. (h.0, let small : n ≤ 4294967295 = omega (arith, fit_small n w well h.1, well.fits) in omega (arith, (fits_exactly w well n small well.fits some).0 h.1, is)),
       λ h. (h.0, (fits_exactly w well n (largest_small w well well.fits n some (omega (arith, h.1, is))) well.fits some).1 (omega (arith, h.1, is))),
     )
@@ -100,8 +95,7 @@ later n from to (b ∷ bs) l =
     let ih = later n (from + b.size) (to + b.size) bs (omega (arith, l)) in
     let other = later n (from + b.size) to bs (omega (arith, l)) in
     elim b.used as (λ u. AllByRecursion (λ (k : Move). n ≤ k.from) (if u then move_of from to b ++ moves (from + b.size) (to + b.size) bs else moves (from + b.size) to bs)) [
-      | true ↦ elim (nat_eq from to) as (λ t. AllByRecursion (λ (k : Move). n ≤ k.from)
-          ((if t then [] else record { name = b.name; from = from; to = to; size = b.size } ∷ []) ++ moves (from + b.size) (to + b.size) bs)) [ true ↦ ih | false ↦ (l, ih) ]
+      | true ↦ grind (arith, common_steps)
       | false ↦ other
     ]
 
@@ -112,12 +106,6 @@ safe from to (b ∷ bs) l =
     let other = safe (from + b.size) to bs (omega (arith, l)) in
     let rest = later (to + b.size) (from + b.size) (to + b.size) bs (omega (arith, l)) in
     elim b.used as (λ u. AreSafe (if u then move_of from to b ++ moves (from + b.size) (to + b.size) bs else moves (from + b.size) to bs)) [
-      | true ↦ elim (cases_eq from to) [
-        | inl e ↦ let t : nat_eq from to ≡ true = grind (arith, nat_tests) in
-            subst (λ (t : Bool). AreSafe ((if t then [] else record { name = b.name; from = from; to = to; size = b.size } ∷ []) ++ moves (from + b.size) (to + b.size) bs)) (sym t) ih
-        | inr e ↦ let t : nat_eq from to ≡ false = grind (arith, nat_tests) in
-            subst (λ (t : Bool). AreSafe ((if t then [] else record { name = b.name; from = from; to = to; size = b.size } ∷ []) ++ moves (from + b.size) (to + b.size) bs)) (sym t)
-            (omega (arith, l, e), rest, ih)
-      ]
+      | true ↦ grind (arith, common_steps, cases_eq, nat_tests)
       | false ↦ other
     ]

@@ -1,6 +1,6 @@
 -- Nodes that are made before names are taken.
-use Rattle.offset_allocator.proofs.Common.{◌≡◌, ◌<◌, ◌≤◌, ◌+◌, ℕ, zero, suc, List, [], ◌∷◌, ◌++◌, None, refl, sym, ap, ◌∙◌, inl, inr, arith, length, length-append, length-set, get_or, take, set}
-use Rattle.offset_allocator.proofs.Common.{cases_eq, nat_tests, take_more_set, Cells, Room, Node, blank, node, with_node, AreShaped, Block, times, IsChain, spares, blocks}
+use Rattle.offset_allocator.proofs.Common.{◌≡◌, ◌<◌, ◌≤◌, ◌+◌, ℕ, zero, suc, List, [], ◌∷◌, ◌++◌, None, refl, ap, ◌∙◌, arith, length, length-append, length-set, get_or, take, set, cases_eq, nat_tests}
+use Rattle.offset_allocator.proofs.Common.{take_more_set, Cells, Room, Node, blank, node, with_node, AreShaped, Block, times, IsChain, spares, blocks, common_steps}
 use Rattle.offset_allocator.proofs.Tallies.{one-eq, one-other, times-join}
 use Rattle.offset_allocator.proofs.{Rows.IsRow-kept, Sound.Fields, Sound.AreSound, Sound.shown, Uses.binned_more, Views.blocks-chain, Views.space-chain}
 use Rattle.offset_allocator.specs.Readies.{Readies}
@@ -55,12 +55,7 @@ chain_more {c} {d} {m} {last} {count} {bs} h e room =
       stack = omega (arith, spare, long, h.stack);
       row = IsRow-kept c d None 0 bs None (λ k l. at k) h.row;
       ends = h.ends;
-      each = λ k.
-          let names = ap (λ (r : Room). times k (spares r (count + 1))) e ∙ names-with_node c count k (omega (arith, few, h.stack)) in
-          rw long (elim (cases_eq k (length c.nodes)) [
-            | inl q ↦ grind (arith, nat_tests, names, h.each k, one-eq k (length c.nodes) (sym q), q)
-            | inr n ↦ grind (arith, nat_tests, names, h.each k, one-other k (length c.nodes) n, n)
-          ]);
+      each = grind (arith, common_steps, names-with_node, cases_eq, nat_tests, one-eq, one-other);
       idle = λ k gone. ap (λ (n : Node). n.used) (at k) ∙ h.idle k gone;
       full = omega (arith, long, h.full);
       fits = h.fits;

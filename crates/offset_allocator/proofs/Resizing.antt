@@ -3,7 +3,7 @@ use Rattle.offset_allocator.proofs.Common.{IsSome, ◌≡◌, ◌≢◌, ◌↔�
 use Rattle.offset_allocator.proofs.Common.{ap, ap₂, subst, ◌∙◌, inl, inr, arith, length-append, eq-zero-or-pos, if◌then◌else◌, false≢true, true≢false, and_right, Cells, Node, Block, View, Place, one}
 use Rattle.offset_allocator.proofs.Common.{units, count_named, used_of, used_block, IsApart, IsWellFormed, IsNew, free_start, without_start, free_part, remove_all, push_all, replace, HasRoomFor}
 use Rattle.offset_allocator.proofs.Common.{range_of, size_of, KeepsOthers, SameSpace, Resizes, ResizesTo, Shrinks, Grows, CanShrink, CanGrow, HasUnits, free_after, free_beyond, HasPlace, IsFreeAfter}
-use Rattle.offset_allocator.proofs.Common.{bins_in, IsBinned, free_units}
+use Rattle.offset_allocator.proofs.Common.{bins_in, IsBinned, free_units, common_steps}
 use Rattle.offset_allocator.proofs.Freeing.{Release, at, used, w, remove_used, units_start}
 use Rattle.offset_allocator.proofs.ViewApart.{ends_free, apart_parts, apart_append, apart_without_start, apart_free_part, start_parts}
 use Rattle.offset_allocator.proofs.{Exchange.each-le, Exchange.there-below, Granting.part_names, Joints.stepped, Joints.free_part_units, Joints.free_units-append, Joints.free_units-used}
@@ -44,10 +44,7 @@ module _ {x n : ℕ} {v u : View} (r : Resizes x n v u) (k : IsWellFormed v) whe
         distinct = distinct_parts;
         names = named_parts;
         apart = subst IsApart (ap (λ (z : View). z.blocks) r.view) r.apart;
-        room = elim room [
-          | inl l ↦ omega (arith, l, k.room, old_length, new_length, (part_sums r.name r.left).0)
-          | inr l ↦ omega (arith, l, old_length, new_length, (part_sums r.name r.left).0)
-        ];
+        room = grind (arith, common_steps, old_length, new_length, part_sums);
         spare = omega (
           arith,
           k.spare,

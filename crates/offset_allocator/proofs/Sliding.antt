@@ -1,7 +1,7 @@
 -- A free block that moves to the end of the space: used blocks pass it, and free ones are coalesced with it.
-use Rattle.offset_allocator.proofs.Common.{◌≡◌, ◌≢◌, ℕ, inl, inr, ◌+◌, ◌-◌, ◌≤◌, Bool, true, false, Some, None, List, [], ◌∷◌, ◌++◌, length, if◌then◌else◌, refl, sym, ap, ap₂, subst, ◌*◌, ◌∙◌, arith}
+use Rattle.offset_allocator.proofs.Common.{◌≡◌, ◌≢◌, ℕ, inl, inr, ◌+◌, ◌-◌, ◌≤◌, Bool, true, false, Some, None, List, [], ◌∷◌, ◌++◌, length, if◌then◌else◌, refl, sym, ap, subst, ◌*◌, ◌∙◌, arith}
 use Rattle.offset_allocator.proofs.Common.{append_assoc, append-nil, FoldsTo, cases_eq, nat_tests, Cells, Room, Node, node, Block, Place, free_block, units, HasPlace, IsSpace, blocks, first_or}
-use Rattle.offset_allocator.proofs.Common.{last_or, coalesced_before, coalesced_after, Move, first_free, live, moves, move_of, free_units}
+use Rattle.offset_allocator.proofs.Common.{last_or, coalesced_before, coalesced_after, Move, first_free, live, moves, move_of, free_units, common_steps}
 use Rattle.offset_allocator.proofs.Places.{placed, at_place, next_place}
 use Rattle.offset_allocator.proofs.{Ends.end_free, Ends.ended, Joints.free_units-free, Joints.free_units-used, Rows.last_or-append, Tallies.units-append}
 
@@ -103,11 +103,7 @@ module _ {F : Type 0} {R : F → Move → F → Type 0} {m : ℕ} {p : Place} {f
     sized = s.sized;
     kept = append_assoc q.before (b ∷ []) (live bs) ∙ ap (λ l. q.before ++ l) (sym (ap live e ∙ live_used b bs live_b)) ∙ s.kept;
     free = omega (arith, s.free, ap free_units e, free_units-used b bs live_b);
-    calls = λ h k. s.calls h (subst (λ l. FoldsTo R g l h)
-        (sym (ap (moves (units q.before + q.block.size) (units q.before)) e ∙ moves_used (units q.before + q.block.size) (units q.before) b bs live_b))
-        (folds_append R (move_of (units q.before + q.block.size) (units q.before) b) (moves ((units q.before + q.block.size) + b.size) (units q.before + b.size) bs) g g' h
-        (subst (λ n. FoldsTo R g (move_of (units q.before + n) (units q.before) b) g') s.sized call)
-        (subst (λ l. FoldsTo R g' l h) (ap₂ (λ i j. moves i j bs) from to) k)));
+    calls = grind (arith, common_steps, moves_used, folds_append, from, to);
     bounded = omega (arith, s.bounded, more, ap (λ (l : List Block). length l) e);
   }
     where
@@ -129,9 +125,7 @@ module _ {F : Type 0} {R : F → Move → F → Type 0} {m : ℕ} {p : Place} {f
     sized = omega (arith, size_is, s.sized);
     kept = ap (λ l. q.before ++ l) (sym (ap live e ∙ live_idle b bs idle_b)) ∙ s.kept;
     free = omega (arith, s.free, ap free_units e, free_units-free b bs idle_b);
-    calls = λ h k. s.calls h (subst (λ l. FoldsTo R g l h)
-        (sym (ap (moves (units q.before + q.block.size) (units q.before)) e ∙ moves_idle (units q.before + q.block.size) (units q.before) b bs idle_b))
-        (subst (λ i. FoldsTo R g (moves i (units q.before) bs) h) from k));
+    calls = grind (arith, common_steps, moves_idle, from);
     bounded = omega (arith, s.bounded, more, ap (λ (l : List Block). length l) e);
   }
     where

@@ -1,6 +1,6 @@
 -- What a split leaves is well formed.
 use Rattle.offset_allocator.proofs.Common.{◌≡◌, ℕ, zero, suc, ◌+◌, ◌<◌, ◌≤◌, true, false, not, ◌⊎◌, List, [], ◌∷◌, ◌++◌, length, nat_eq, sym, ap, subst, ◌∙◌, inl, inr, arith, length-append}
-use Rattle.offset_allocator.proofs.Common.{append_assoc, Block, View, Grant, one, used_block, count_named, used_of, IsApart, IsWellFormed, IsNew, free_part, replace, Splits}
+use Rattle.offset_allocator.proofs.Common.{append_assoc, Block, View, Grant, one, used_block, count_named, used_of, IsApart, IsWellFormed, IsNew, free_part, replace, Splits, common_steps}
 use Rattle.offset_allocator.proofs.{Sound.well_same, ViewReplaced.well_replaced, ViewApart.apart_granted, Tallies.tally_three, Tallies.part_sums, Tallies.tally_append, Tallies.hit_cases}
 
 -- the room that padding asks for, beside that for a remainder
@@ -71,14 +71,8 @@ module _ {needed n : ℕ} {padding_at : ℕ → ℕ} {v u : View} {g : Grant} (s
 
       distinct : (x : ℕ) → count_named x new ≤ 1
       distinct x = elim (part_name v s.padding_name s.padding s.padding_new x) [
-        | inl a ↦ elim (part_name v s.remainder_name s.remainder s.remainder_new x) [
-          | inl b ↦ omega (arith, a, b, names_new x, there x, w.distinct x)
-          | inr b ↦ omega (arith, a, b.2, b.3.absent, names_new x, there x)
-        ]
-        | inr a ↦ elim (part_name v s.remainder_name s.remainder s.remainder_new x) [
-          | inl b ↦ omega (arith, a.2, a.3.absent, b, names_new x, there x)
-          | inr b ↦ absurd (s.differ a.1 b.1 (sym a.0 ∙ b.0))
-        ]
+        | inl a ↦ grind (arith, common_steps, part_name, names_new, there)
+        | inr a ↦ grind (arith, common_steps, part_name, names_new, there)
       ]
 
       names : (x : ℕ) → 1 ≤ count_named x new → (1 ≤ count_named x (s.block ∷ [])) ⊎ IsNew x v

@@ -1,6 +1,6 @@
 -- Names linked back and forth: what a change of the links leaves of them.
 use Rattle.offset_allocator.proofs.Common.{◌≡◌, ◌≢◌, ◌<◌, ◌≤◌, ◌+◌, ◌⊎◌, ℕ, zero, suc, List, [], ◌∷◌, ◌++◌, refl, sym, ap, ◌∙◌, inl, inr, arith, length, drop, nat_eq, slice_index, slice_set, eq-eqb}
-use Rattle.offset_allocator.proofs.Common.{ne_eqb, length-set, get_or-set_same, get_or-set_other, cases_eq, Links, one, times, without, IsLinked, Among, first_of, walk}
+use Rattle.offset_allocator.proofs.Common.{ne_eqb, length-set, get_or-set_same, get_or-set_other, cases_eq, Links, one, times, without, IsLinked, Among, first_of, walk, common_steps}
 use Rattle.offset_allocator.proofs.Tallies.{hit_cases, one-same, times-join}
 
 -- ---- lists of names
@@ -23,8 +23,7 @@ length_below (suc m) xs o l = elim (cases_eq (times m xs) 0) [
       let ih = length_below m r.0 (λ x. omega (arith, r.2 x, o x))
       (λ x a. elim (hit_cases x m) [
         | inl h ↦ absurd (let q = ap (λ y. times y xs) h.0 in omega (arith, o x, r.2 x, h.1))
-        | inr h ↦ let b = l x (omega (arith, r.2 x)) in
-            let n = h.0 in omega arith
+        | inr h ↦ grind (arith, common_steps)
       ]) in
       omega (arith, r.1)
 ]

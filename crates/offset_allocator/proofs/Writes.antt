@@ -1,7 +1,7 @@
 -- What the writes of each change of the chain leave.
 use Rattle.offset_allocator.proofs.Common.{◌≡◌, ◌≢◌, ℕ, ◌+◌, ◌-◌, ◌<◌, ◌≤◌, ◌^◌, Bool, false, Option, None, Some, MatchOption, List, [], ◌∷◌, ◌++◌, length, get_or, refl, sym, ◌∙◌, ap, arith}
 use Rattle.offset_allocator.proofs.Common.{append_assoc, length-append, length-set, set, nat_eq, cases_eq, Room, Node, node, put, with_spare, first_or, last_or, IsRow, IsChain, HasPlace}
-use Rattle.offset_allocator.proofs.Common.{coalesced_before, coalesced_after, Block, Place, free_block, units, count_named, one}
+use Rattle.offset_allocator.proofs.Common.{coalesced_before, coalesced_after, Block, Place, free_block, units, count_named, one, common_steps}
 use Rattle.offset_allocator.proofs.Exchange.{IsTop, IsExchange, IsRelinked, back_to, on_to, wrote, top, kept_names, pushed_names, link_back, link_on, link_none, back, relinked_spare, relinked_memory}
 use Rattle.offset_allocator.proofs.Tallies.{one-eq, one-other, times-append, units-append}
 use Rattle.offset_allocator.proofs.{Nodes.nodes-with_spare, Nodes.reserved-with_spare, Ends.end_free, Places.placed, Places.at_place, Places.next_place, Places.previous_place}
@@ -47,8 +47,7 @@ split_place {t} {w₁} {w₂} {d} {m} {last} {last'} {count} {x} {n} {y} {o} {s}
     let s₂ = wrote e₂ (omega (arith, s₁.cells, h.below)) in
     let at_x : node w₂ x ≡ record { offset = units p.before; size = n; used = p.block.used; before = last_or None p.before; after = Some y } =
     s₂.here ∙ ap (λ (v : Node). record v { size = n; after = c }) (s₁.other x (λ q. ne (sym q)) ∙ at) ∙ rw ec refl in
-    let at_y : node w₂ y ≡ record { offset = units p.before + n; size = p.block.size - n; used = false; before = Some x; after = first_or None p.after } = s₂.other y ne ∙ s₁.here
-    ∙ rw (ao, sized, aa, eb) refl in
+    let at_y : node w₂ y ≡ record { offset = units p.before + n; size = p.block.size - n; used = false; before = Some x; after = first_or None p.after } = grind (arith, common_steps) in
     let exchange : IsExchange t w₂ d d count (count - 1) p.before (p.block ∷ []) (record p.block { size = n } ∷ free_block y (p.block.size - n) ∷ []) p.after =
     name_taken tp some (λ k u v. let nx : k ≢ x = λ q. u (q ∙ sym h.name) in s₂.other k nx ∙ s₁.other k v) (s₂.cells ∙ s₁.cells) (relinked_spare (back_to y) w₂ d a linked
     ∙ s₂.spare ∙ s₁.spare) (relinked_memory (back_to y) w₂ d a linked ∙ s₂.memory ∙ s₁.memory)

@@ -1,5 +1,5 @@
-use Rattle.offset_allocator.proofs.Common.{◌≡◌, ℕ, suc, ◌+◌, List, [], ◌∷◌, length, refl, sym, ap, ap₂, subst, ◌∙◌, arith, length-append, replicate, Block, Place, View, units, free_sizes, Links, Node}
-use Rattle.offset_allocator.proofs.Common.{bins_in, blocks, live, moves, KeepsSizes, Compacts}
+use Rattle.offset_allocator.proofs.Common.{◌≡◌, ℕ, suc, ◌+◌, [], length, refl, sym, ap, subst, ◌∙◌, arith, length-append, replicate, Place, View, units, free_sizes, Links, Node, bins_in, blocks, live}
+use Rattle.offset_allocator.proofs.Common.{moves, KeepsSizes, Compacts, common_steps}
 use Rattle.offset_allocator.proofs.Sound.{AreSound, Fields, shown, fields_of, known_sound}
 use Rattle.offset_allocator.proofs.Compacting.{IsFirst, first_is, packed, compacts_live, first_held, packs, stays_packed}
 use Rattle.offset_allocator.proofs.{Packed.compacts_sizes, Places.at_place, Places.kept_place, Classes.down_small, Fresh.empty_unlisted}
@@ -89,8 +89,7 @@ returns-clause-moved g c =
     let e = c.slide-hole.ensures.place _ _ (kept_place c.empty.ensures.chain (first_held f c.self.invariant o refl)) o.idle in
     let from : 0 + (units p.before + p.block.size) ≡ units p.before + p.block.size = omega arith in
     let to : 0 + units p.before ≡ units p.before = omega arith in
-    let same : moves 0 0 c.args.self.now.blocks ≡ moves (units p.before + p.block.size) (units p.before) p.after = ap (λ (u : View). moves 0 0 u.blocks) (sym c.self.view_is) ∙ o.moves 0
-    ∙ ap₂ (λ j k. moves j k p.after) from to in
+    let same : moves 0 0 c.args.self.now.blocks ≡ moves (units p.before + p.block.size) (units p.before) p.after = grind (arith, common_steps) in
     rw same e.2
 
 pub returns-clause-accesses : goal.returns-clause-accesses
@@ -99,13 +98,10 @@ returns-clause-accesses g c =
     let o : IsFirst (blocks (g.T.Tables.cells c.self.inside.store.tables).room c.self.inside.store.last) c.in-Some.first = first_is _ _ (sym c.first_free.ensures.first ∙ c.in-Some.is) in
     let p : Place = o.place in
     let e = c.slide-hole.ensures.place _ _ (kept_place c.empty.ensures.chain (first_held f c.self.invariant o refl)) o.idle in
-    let long : length (blocks (g.T.Tables.cells c.self.inside.store.tables).room c.self.inside.store.last) ≡ length p.before + suc (length p.after) = ap (λ (l : List Block). length l) o.is
-    ∙ length-append p.before (p.block ∷ p.after) in
+    let long : length (blocks (g.T.Tables.cells c.self.inside.store.tables).room c.self.inside.store.last) ≡ length p.before + suc (length p.after) = grind (arith, common_steps, length-append) in
     let same : length (blocks (g.T.Tables.cells c.self.inside.store.tables).room c.self.inside.store.last) ≡ length c.args.self.now.blocks = ap (λ (u : View). length u.blocks) c.self.view_is in
-    let counted : c.self.inside.store.accesses ≡ c.args.self.now.accesses = ap (λ (u : View). u.accesses) c.self.view_is in (
-      omega (arith, same, counted, c.first_free.ensures.accesses, c.size-units.ensures.accesses, c.empty.ensures.accesses, c.slide-hole.ensures.accesses_min, c.push.ensures.accesses.0),
-      omega (arith, e.3, long, same, counted, c.first_free.ensures.accesses, c.size-units.ensures.accesses, c.empty.ensures.accesses, c.push.ensures.accesses.1),
-    )
+    let counted : c.self.inside.store.accesses ≡ c.args.self.now.accesses = ap (λ (u : View). u.accesses) c.self.view_is in
+    grind (arith, common_steps)
 
 pub returns-in_default-clause-accesses : goal.returns-in_default-clause-accesses
 returns-in_default-clause-accesses g c = grind (arith)

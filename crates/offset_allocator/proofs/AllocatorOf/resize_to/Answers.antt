@@ -1,5 +1,5 @@
 use Rattle.offset_allocator.proofs.Common.{◌≡◌, ◌⊎◌, ◌+◌, ◌-◌, ◌<◌, ◌≤◌, ◌∙◌, ℕ, true, false, length, inl, inr, refl, sym, ap, subst, arith, Node, View, IsWellFormed, free_start, units, HasRoomFor}
-use Rattle.offset_allocator.proofs.Common.{range_of, size_of, Resizes, ResizesTo}
+use Rattle.offset_allocator.proofs.Common.{range_of, size_of, Resizes, ResizesTo, common_steps}
 use Rattle.offset_allocator.proofs.Resizing.{resized, free_beside, next_some, some_after, resizes_full, resizes_short, resizes_done, resized_units, resized_others, size_there}
 use Rattle.offset_allocator.proofs.{Freeing.Release, Freeing.at, Freeing.filed, Freeing.room_for, Freeing.named_live, Places.at_place, Reading.live_used, Readied.made, Readied.made_shown}
 use Rattle.offset_allocator.proofs.{Readied.with_made, Sound.Fields, Sound.AreSound, Sound.shown, Sound.fields_of, Sound.known_sound}
@@ -63,16 +63,7 @@ returns-then-left-lt2-clause-step g c =
     let none = (next_some r _ c.free_after-next.ensures.free).1 c.if-is_none.ensures in
     let less : c.args.size < (at r).place.block.size =
     omega (arith, size g here.After-ready, more g here.After-units_after-more r, ap units none, c.if-size-old_size.false, c.if-size-old_size-2.false) in
-    subst (λ (u : View). ResizesTo c.args.name c.args.size u
-    (shown (record (with_made (fields_of g.T.Tables.cells g.T.Index.NodeIndex.MAX c.self.inside) (g.T.Tables.cells c.ready.new.tables) c.ready.new.spare_count)
-    { accesses = c.units_after-more.new.count })) false) (same_view g here.After-ready)
-    (resizes_full r c.args.size c.units_after-more.new.count less none (omega (
-      arith,
-      c.names_left-left.ensures,
-      c.if-left-lt2.true,
-      ap (λ (u : View). length u.blocks) (same_view g here.After-ready),
-      ap (λ (u : View). u.max_allocs) c.self.view_is,
-    )))
+    grind (arith, common_steps, shown, with_made, fields_of, same_view, resizes_full)
 
 pub returns-then-left-lt2-clause-same : goal.returns-then-left-lt2-clause-same
 returns-then-left-lt2-clause-same g c e = ap (λ (u : View). record u { accesses = c.units_after-more.new.count }) (same_view g (goal.at.returns-then-left-lt2-clause-same g c).After-ready)

@@ -1,4 +1,4 @@
-use Rattle.offset_allocator.proofs.Common.{◌≡◌, ◌+◌, List, [], ◌∷◌, ◌++◌, Some, None, length, sym, ap, ◌∙◌, arith, append-nil, append_assoc, length-append, Node, Block, last_or}
+use Rattle.offset_allocator.proofs.Common.{◌≡◌, ◌+◌, List, [], ◌∷◌, ◌++◌, Some, None, length, sym, ap, ◌∙◌, arith, append-nil, append_assoc, length-append, Node, Block, last_or, common_steps}
 use Rattle.offset_allocator.proofs.{Ends.Ended, Ends.ended, Ends.last_none, Places.at_place, Sliding.walked, Sliding.first_used, Sliding.first_idle}
 use Rattle.offset_allocator.proofs.compact.first_free.Goals as goal
 use Rattle.offset_allocator.proofs.compact.first_free.Goals.{then-not-is_used, else-not-is_used}
@@ -25,10 +25,7 @@ loop-at-preserved g c =
       rest = f.last ∷ i.rest;
       is = i.is ∙ ap (λ (l : List Block). l ++ i.rest) f.is ∙ append_assoc f.front (f.last ∷ []) i.rest;
       ends = sym (c.before-at.ensures.before ∙ ap (λ (n : Node). n.before) (at_place h));
-      first = elim c.if-not-is_used.branch [
-        | then-not-is_used w ↦ w.first-is ∙ ap (λ k. Some k) (sym f.name) ∙ sym (first_idle f.last i.rest (sym used ∙ w.if-not-is_used.true))
-        | else-not-is_used w ↦ w.first-is ∙ i.first ∙ sym (first_used f.last i.rest (sym used ∙ w.if-not-is_used.false))
-      ];
+      first = grind (arith, common_steps, then-not-is_used, first_idle, else-not-is_used, first_used);
       accesses = omega (arith, i.accesses, long);
     }
 

@@ -1,4 +1,4 @@
-use Rattle.offset_allocator.proofs.Common.{◌≡◌, Bool, Option, None, Some, ◌∷◌, ◌-◌, if◌then◌else◌, sym, ap, ◌∙◌, arith, node, Grant, Placed}
+use Rattle.offset_allocator.proofs.Common.{◌≡◌, Bool, Option, None, Some, ◌∷◌, ◌-◌, if◌then◌else◌, sym, ap, ◌∙◌, arith, node, Grant, Placed, common_steps}
 use Rattle.offset_allocator.proofs.{Sound.fields_of, Listing.left, Listing.none_left, Listing.node_placed, Listing.read_is}
 use Rattle.offset_allocator.proofs.counted.next_block_counted.Goals.{then-is_used, else-is_used}
 use Rattle.offset_allocator.proofs.counted.next_block_counted.Goals as goal
@@ -34,10 +34,7 @@ returns-clause-yields g c =
     (c.blocks-2.invariant.1 ∙ c.in_ok-name.was) in
     let P : Option Grant → Placed = λ h. record { offset = c.offset-offset.result; size = c.size-size.result; grant = h } in
     let grant_if : Bool → Option Grant = λ b. if b then Some (record { name = c.in_ok-name.name; offset = c.offset-offset.result }) else None in
-    let grant : grant_if c.is_used.result ≡ c.if-is_used.allocation = elim c.if-is_used.branch [
-      | then-is_used w ↦ ap grant_if w.if-is_used.true ∙ ap (λ (h : Grant). Some h) (sym w.handle_of.ensures) ∙ sym w.allocation-is
-      | else-is_used w ↦ ap grant_if w.if-is_used.false ∙ sym w.allocation-is
-    ] in
+    let grant : grant_if c.is_used.result ≡ c.if-is_used.allocation = grind (arith, common_steps, then-is_used, else-is_used) in
     let block = node_placed c.in_ok-name.name (node (g.T.Tables.cells c.allocator.inside.store.tables).room c.in_ok-name.name) _ _ _ c.offset-offset.ensures.offset c.size-size.ensures.size
     c.is_used.ensures.cell ∙ ap P grant in
     sym c.blocks-2.view_is ∙ r.block ∙ ap (λ (p : Placed). p ∷ left (c.blocks-2.inside.left - 1) c.blocks-2.inside.allocator.now.blocks) block

@@ -23,10 +23,7 @@ returns-clause-report g c =
 pub returns-clause-accesses_min : goal.returns-clause-accesses_min
 returns-clause-accesses_min g c l =
     let r = (returns-clause-report g c).1 in
-    elim c.match-largest.branch [
-      | in-None w ↦ absurd (omega (arith, l, r, w.largest_free_region-is))
-      | in-Some w ↦ omega (arith, w.in-Some.ensures.accesses)
-    ]
+    grind (arith, common_steps, in-None, in-Some)
 
 pub returns-clause-accesses : goal.returns-clause-accesses
 returns-clause-accesses g c = (grind (arith, common_steps), grind (arith, common_steps))
