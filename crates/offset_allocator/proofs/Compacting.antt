@@ -122,22 +122,15 @@ packed [] e = record { used = tt; sizes = refl; moves = λ i. refl }
 packed (b ∷ bs) e = go b.used refl (λ h. packed bs h)
   where
     go : (u : Bool) → b.used ≡ u → (first_free bs ≡ None → IsPacked bs) → IsPacked (b ∷ bs)
-    go true u rest =
-        let r : IsPacked bs = rest (sym (first_used b bs u) ∙ e) in
-        record {
-          used = (u, r.used);
-          sizes = ap (λ (v : Bool). if v then free_sizes bs else b.size ∷ free_sizes bs) u ∙ r.sizes;
-          moves = λ i. moves_used i i b bs u ∙ ap (λ l. l ++ moves (i + b.size) (i + b.size) bs) (stays i b) ∙ r.moves (i + b.size);
-        }
-    go false u rest = let n : Some b.name ≡ None = sym (first_idle b bs u) ∙ e in absurd (cc)
+    go true u rest = grind (arith, common_steps, first_used, moves_used, stays)
+    go false u rest = grind (arith, common_steps, first_idle)
 
 sum_sizes : (bs : List Block) → sum (free_sizes bs) ≡ free_units bs
 sum_sizes bs = omega (arith, parted bs, all bs)
   where
     all : (bs : List Block) → used_units bs + free_units bs ≡ units bs
-    all [] = refl
-    all (b ∷ bs) = let ih = all bs in elim b.used as (λ u. ((if u then b.size else 0) + used_units bs) + ((if u then 0 else b.size) + free_units bs) ≡ b.size + units bs)
-        [ true ↦ omega arith | false ↦ omega arith ]
+    all [] = grind (arith, common_steps)
+    all (b ∷ bs) = grind (arith, common_steps, all bs)
 
 -- the live blocks stay
 pub compacts_live : (v w : View) → Compacts v w → live w.blocks ≡ live v.blocks

@@ -1,7 +1,7 @@
 -- What holds after the live ranges are packed, and of the moves that pack them.
-use Rattle.offset_allocator.proofs.Common.{◌≡◌, ◌↔◌, ℕ, ◌+◌, ◌≤◌, Bool, true, false, Option, Some, None, List, [], ◌∷◌, ◌++◌, sum, if◌then◌else◌, nat_eq, option_map, option_and_then, refl, sym, ap}
-use Rattle.offset_allocator.proofs.Common.{◌∙◌, inl, inr, arith, AllByRecursion, cases_eq, nat_tests, sum_by-cons, value, down, largest, Block, View, Place, one, place_of, count_named, free_sizes}
-use Rattle.offset_allocator.proofs.Common.{units, IsWellFormed, CanGrant, HasRoomFor, Range, Move, live, moves, move_of, gathered, AreSafe, KeepsSizes, Compacts, common_steps}
+use Rattle.offset_allocator.proofs.Common.{◌≡◌, ◌↔◌, ℕ, ◌+◌, ◌≤◌, Bool, true, false, Option, Some, None, List, [], ◌∷◌, ◌++◌, sum, if◌then◌else◌, nat_eq, option_map, option_and_then, refl, ap, ◌∙◌}
+use Rattle.offset_allocator.proofs.Common.{arith, AllByRecursion, cases_eq, nat_tests, sum_by-cons, value, down, largest, Block, View, Place, one, place_of, count_named, free_sizes, units}
+use Rattle.offset_allocator.proofs.Common.{IsWellFormed, CanGrant, HasRoomFor, Range, Move, live, moves, move_of, gathered, AreSafe, KeepsSizes, Compacts, common_steps}
 use Rattle.offset_allocator.proofs.ViewFits.{fits_exactly, largest_small}
 use Rattle.offset_allocator.proofs.{Classes.down_law, Compacting.live_are_used, Compacting.AreUsed, Refusals.fit_small, Sliding.live_used, Sliding.live_idle, Tallies.hit_cases}
 
@@ -60,14 +60,8 @@ held_live x y ns [] l = held_gathered x y ns
 held_live x y ns (b ∷ bs) l = go b.used refl (held_live x y ns bs (omega (arith, l)))
   where
     go : (u : Bool) → b.used ≡ u → held x (live bs ++ gathered y ns) ≡ held x bs → held x (live (b ∷ bs) ++ gathered y ns) ≡ held x (b ∷ bs)
-    go true u ih = ap (λ k. held x (k ++ gathered y ns)) (live_used b bs u) ∙ elim (hit_cases x b.name) [
-      | inl h ↦ held_here x b (live bs ++ gathered y ns) h.0 ∙ sym (held_here x b bs h.0)
-      | inr h ↦ held_other x b (live bs ++ gathered y ns) h.1 ∙ ih ∙ sym (held_other x b bs h.1)
-    ]
-    go false u ih = ap (λ k. held x (k ++ gathered y ns)) (live_idle b bs u) ∙ elim (hit_cases x b.name) [
-      | inl h ↦ held_absent x y ns bs (omega (arith, l, h.1)) ∙ sym (held_here x b bs h.0 ∙ ap (λ (v : Bool). if v then Some b.size else None) u)
-      | inr h ↦ ih ∙ sym (held_other x b bs h.1)
-    ]
+    go true u ih = grind (arith, common_steps, live_used, hit_cases, held_here, held_other)
+    go false u ih = grind (arith, common_steps, live_idle, hit_cases, held_absent, held_here, held_other)
 
 pub compacts_sizes : (v w : View) → IsWellFormed v → Compacts v w → KeepsSizes v w
 compacts_sizes v w well c x = grind (arith, held_is, held_live)

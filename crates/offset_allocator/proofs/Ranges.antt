@@ -2,7 +2,7 @@
 use Rattle.offset_allocator.proofs.Common.{◌≡◌, ◌≢◌, ℕ, IfSome, zero, suc, ◌+◌, ◌≤◌, Bool, true, false, ◌&&◌, List, [], ◌∷◌, ◌++◌, Option, Some, None, nat_eq, if◌then◌else◌, refl, sym, ap, subst, ◌∙◌}
 use Rattle.offset_allocator.proofs.Common.{inl, inr, arith, append_assoc, add-zero, add_assoc, eq-eqb, ne_eqb, false≢true, and_right, AllByRecursion, Block, View, Place, Grant, one, units}
 use Rattle.offset_allocator.proofs.Common.{count_named, used_block, free_block, free_part, IsWellFormed, place_of, Range, range_of, AreDisjoint, Grants, KeepsAll, KeepsOthers, KeepsRanges, Resizes}
-use Rattle.offset_allocator.proofs.Common.{HasUnits, SameSpace, Splits, Frees, Adds}
+use Rattle.offset_allocator.proofs.Common.{HasUnits, SameSpace, Splits, Frees, Adds, common_steps}
 use Rattle.offset_allocator.proofs.{ViewSteps.place_at, ViewSteps.no_place, Released.idle_parts, Reading.range_at, Tallies.part_sums, Tallies.tally_append, Tallies.hit_cases}
 
 -- the range of the used block named x, where the first of the blocks has this offset
@@ -95,9 +95,8 @@ beyond x offset (b ∷ bs) r e = either (b.used && nat_eq x b.name) (beyond x (o
     either : (t : Bool) → (range_from x (offset + b.size) bs ≡ Some r → (offset + b.size ≤ r.offset) × (r.offset + r.size ≤ offset + b.size + units bs))
         → (if t then Some (record { offset = offset; size = b.size }) else range_from x (offset + b.size) bs) ≡ Some r → (offset ≤ r.offset)
         × (r.offset + r.size ≤ offset + (b.size + units bs))
-    either true later e = let q : (let z : Range = record { offset = offset; size = b.size } in z) ≡ r = cc in let o = ap (λ (z : Range). z.offset) q in
-        let n = ap (λ (z : Range). z.size) q in (omega arith, omega arith)
-    either false later e = let ih = later e in let a = ih.0 in let z = ih.1 in (omega arith, omega arith)
+    either true later e = grind (arith, common_steps)
+    either false later e = grind (arith, common_steps)
 
 both : (x y : ℕ) (u : Bool) (z : ℕ) → x ≢ y → (u && nat_eq x z) ≡ true → (u && nat_eq y z) ≡ true → ⊥
 both x y true z d e f = grind (arith, hit_cases, false≢true, ne_eqb)
@@ -110,20 +109,10 @@ apart x y offset (b ∷ bs) r s d e f = either (b.used && nat_eq x b.name) (b.us
     either : (t u : Bool) → (t ≡ true → u ≡ true → ⊥) → (range_from x (offset + b.size) bs ≡ Some r → range_from y (offset + b.size) bs ≡ Some s → AreDisjoint r s)
         → (if t then Some (record { offset = offset; size = b.size }) else range_from x (offset + b.size) bs) ≡ Some r
         → (if u then Some (record { offset = offset; size = b.size }) else range_from y (offset + b.size) bs) ≡ Some s → AreDisjoint r s
-    either true true n later e f = absurd (n refl refl)
-    either true false n later e f =
-        let q : (let z : Range = record { offset = offset; size = b.size } in z) ≡ r = cc in
-        let o = ap (λ (z : Range). z.offset) q in
-        let k = ap (λ (z : Range). z.size) q in
-        let l = (beyond y (offset + b.size) bs s f).0 in
-        inl (omega arith)
-    either false true n later e f =
-        let q : (let z : Range = record { offset = offset; size = b.size } in z) ≡ s = cc in
-        let o = ap (λ (z : Range). z.offset) q in
-        let k = ap (λ (z : Range). z.size) q in
-        let l = (beyond x (offset + b.size) bs r e).0 in
-        inr (omega arith)
-    either false false n later e f = later e f
+    either true true n later e f = grind (arith, common_steps)
+    either true false n later e f = grind (arith, common_steps, beyond)
+    either false true n later e f = grind (arith, common_steps, beyond)
+    either false false n later e f = grind (arith, common_steps)
 
 -- the ranges of two live handles share no unit
 pub live_disjoint : (v : View) → IsWellFormed v → (x y : ℕ) (r s : Range) → x ≢ y → range_of x v ≡ Some r → range_of y v ≡ Some s → AreDisjoint r s

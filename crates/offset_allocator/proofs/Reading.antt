@@ -1,6 +1,7 @@
 -- What a read of cells says of the view.
-use Rattle.offset_allocator.proofs.Common.{◌≡◌, ℕ, ◌<◌, inl, inr, length, arith, Bool, is_some, true, false, Option, None, Some, option_and_then, option_map, unwrap_or, if◌then◌else◌, refl, sym, ap}
-use Rattle.offset_allocator.proofs.Common.{subst, ◌∙◌, cases_lt, false≢true, Room, Node, node, View, Place, units, place_of, is_used_at, Range, range_of, size_of, IsLive, blocks, IsRow, IsSpace}
+use Rattle.offset_allocator.proofs.Common.{◌≡◌, ℕ, ◌<◌, inl, inr, length, arith, is_some, true, false, Option, None, Some, option_and_then, option_map, unwrap_or, if◌then◌else◌, refl, sym, ap, subst}
+use Rattle.offset_allocator.proofs.Common.{◌∙◌, cases_lt, false≢true, Room, Node, node, View, Place, units, place_of, is_used_at, Range, range_of, size_of, IsLive, blocks, IsRow, IsSpace}
+use Rattle.offset_allocator.proofs.Common.{common_steps}
 use Rattle.offset_allocator.proofs.{Nodes.past_idle, Sound.Fields, Sound.AreSound, Sound.shown, Rows.node_at, ViewSteps.place_at, ViewSteps.no_place}
 
 -- the range of the used block at a place
@@ -67,10 +68,8 @@ module _ (c : Room) (last count x : ℕ) (h : IsSpace c last count) where
   offset_read u = go (place_of x (blocks c last)) refl
     where
       go : (o : Option Place) → place_of x (blocks c last) ≡ o → offset_in (range_at o) ≡ Some (node c x).offset
-      go None e = let f = sym (h.idle x (no_place x (blocks c last) e)) ∙ u in absurd (cc)
-      go (Some p) e =
-          let r = place_read p e in
-          ap (λ (b : Bool). offset_in (if b then Some (record { offset = units p.before; size = p.block.size }) else None)) (sym r.0 ∙ u) ∙ ap (λ (i : ℕ). Some i) (sym r.2)
+      go None e = grind (arith, common_steps, no_place)
+      go (Some p) e = grind (arith, common_steps, place_read)
 
 module _ (it : Fields) (x : ℕ) (s : AreSound it) where
   module _ (v : View) (e : shown it ≡ v) (live : IsLive x v) where

@@ -1,6 +1,6 @@
 -- What a split leaves is well formed.
-use Rattle.offset_allocator.proofs.Common.{◌≡◌, ℕ, zero, suc, ◌+◌, ◌<◌, ◌≤◌, true, false, not, ◌⊎◌, List, [], ◌∷◌, ◌++◌, length, nat_eq, sym, ap, subst, ◌∙◌, inl, inr, arith, length-append}
-use Rattle.offset_allocator.proofs.Common.{append_assoc, Block, View, Grant, one, used_block, count_named, used_of, IsApart, IsWellFormed, IsNew, free_part, replace, Splits, common_steps}
+use Rattle.offset_allocator.proofs.Common.{◌≡◌, ℕ, zero, suc, ◌+◌, ◌<◌, ◌≤◌, true, false, not, ◌⊎◌, List, [], ◌∷◌, ◌++◌, length, nat_eq, sym, ap, subst, ◌∙◌, arith, length-append, append_assoc, Block}
+use Rattle.offset_allocator.proofs.Common.{View, Grant, one, used_block, count_named, used_of, IsApart, IsWellFormed, IsNew, free_part, replace, Splits, common_steps}
 use Rattle.offset_allocator.proofs.{Sound.well_same, ViewReplaced.well_replaced, ViewApart.apart_granted, Tallies.tally_three, Tallies.part_sums, Tallies.tally_append, Tallies.hit_cases}
 
 -- the room that padding asks for, beside that for a remainder
@@ -60,8 +60,7 @@ module _ {needed n : ℕ} {padding_at : ℕ → ℕ} {v u : View} {g : Grant} (s
       new_length = length-append s.before (new ++ s.after) ∙ ap (λ m. length s.before + m) (length-append new s.after ∙ ap (λ m. m + length s.after) lengths)
 
       used_new : used_of (s.before ++ (new ++ s.after)) ≡ used_of s.before + ((used_of padding + suc (used_of remainder)) + used_of s.after)
-      used_new = tally_three (λ (b : Block). one b.used) s.before new s.after
-          ∙ ap (λ m. used_of s.before + (m + used_of s.after)) (tally_append (λ (b : Block). one b.used) padding (used_block s.block.name n ∷ remainder) ∙ omega arith)
+      used_new = grind (arith, common_steps, tally_three, tally_append)
 
       names_new : (x : ℕ) → count_named x new ≡ count_named x padding + (one (nat_eq x s.block.name) + count_named x remainder)
       names_new x = tally_append (λ (b : Block). one (nat_eq x b.name)) padding (used_block s.block.name n ∷ remainder)
@@ -70,13 +69,7 @@ module _ {needed n : ℕ} {padding_at : ℕ → ℕ} {v u : View} {g : Grant} (s
       there x = omega (arith, ap (count_named x) s.blocks, tally_append (λ (b : Block). one (nat_eq x b.name)) s.before (s.block ∷ s.after))
 
       distinct : (x : ℕ) → count_named x new ≤ 1
-      distinct x = elim (part_name v s.padding_name s.padding s.padding_new x) [
-        | inl a ↦ grind (arith, common_steps, part_name, names_new, there)
-        | inr a ↦ grind (arith, common_steps, part_name, names_new, there)
-      ]
+      distinct x = grind (arith, common_steps, part_name, names_new, there)
 
       names : (x : ℕ) → 1 ≤ count_named x new → (1 ≤ count_named x (s.block ∷ [])) ⊎ IsNew x v
-      names x l = elim (part_name v s.padding_name s.padding s.padding_new x) [
-        | inl a ↦ elim (part_name v s.remainder_name s.remainder s.remainder_new x) [ inl b ↦ inl (omega (arith, a, b, l, names_new x)) | inr b ↦ inr b.3 ]
-        | inr a ↦ inr a.3
-      ]
+      names x l = grind (arith, common_steps, part_name, names_new)
