@@ -27,7 +27,7 @@ no_neighbours v w before run after e f = alone_if run after (apart_after_one bef
 
 -- free blocks are few: at most one more than the used ones, and no more where the first block is used
 few : (bs : List Block) → IsApart bs → length bs + one (not (starts_free bs)) ≤ 2 * used_of bs + 1
-few [] a = grind (arith)
+few [] a = grind arith
 few (b ∷ bs) a = grind (arith, few bs a.1)
 
 pub few_blocks : (v : View) → IsWellFormed v → length v.blocks ≤ 2 * used_of v.blocks + 1

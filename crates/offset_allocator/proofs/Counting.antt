@@ -101,7 +101,7 @@ sizes_none [] = refl
 sizes_none (n ∷ ns) = let ih = sizes_none ns in grind (arith, nat_tests)
 
 sizes_more : (c : ℕ) (ns : List ℕ) → (sizes_below (suc c) ns ≡ sizes_below c ns + count_of c ns) × (sizes_below c ns ≤ length ns)
-sizes_more c [] = grind (arith)
+sizes_more c [] = grind arith
 sizes_more c (n ∷ ns) = grind (arith, cases_eq, eq-eqb, nat_tests, ne_eqb, sizes_more c ns)
 
 names_counts : (v : View) → IsWellFormed v → (c : ℕ) → names_below c v.order ≡ sizes_below c (free_sizes v.blocks)

@@ -34,8 +34,8 @@ lone (b ∷ d ∷ bs) s a u = absurd (false≢true (sym (rw (unused b.used (omeg
 
 -- of two neighbours one is used
 pub half_used : (bs : List Block) → IsApart bs → length bs ≤ 2 * used_of bs + 1
-half_used [] a = grind (arith)
-half_used (b ∷ []) a = grind (arith)
+half_used [] a = grind arith
+half_used (b ∷ []) a = grind arith
 half_used (b ∷ d ∷ bs) a = grind (arith, not-false, half_used (d ∷ bs) a.1, half_used bs a.1.1)
 
 pub emptied : (v : View) → IsWellFormed v → used_of v.blocks ≡ 0 → (x : ℕ) × (x < v.max_allocs)
@@ -117,4 +117,4 @@ pub as_reset : (v w : View) → IsWellFormed v → used_of v.blocks ≡ 0 → Sa
 as_reset v w well none same = let e = emptied v well none in record { name = e.0; below = e.1; view = same ∙ ap (λ (u : View). record u { accesses = w.accesses }) e.2 }
 
 pub reset_alike : (u v w : View) → v.size ≡ u.size → v.max_allocs ≡ u.max_allocs → Resets v w → Resets u w
-reset_alike u v w e f r = grind (arith)
+reset_alike u v w e f r = grind arith

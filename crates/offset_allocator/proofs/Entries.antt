@@ -1,7 +1,7 @@
 -- Entries as a list of nodes.
 use Rattle.offset_allocator.proofs.Common.{◌≡◌, ◌≢◌, ℕ, zero, suc, ◌-◌, [], ◌∷◌, ◌++◌, ◌<◌, ◌≤◌, Bool, true, false, List, length, map, set, get_or, refl, sym, ◌∙◌, ap, arith, eqb, eq-eqb, ne_eqb}
-use Rattle.offset_allocator.proofs.Common.{get_or_past, length-map, length-set, map-set, map-append, set-get_or, vec_len, vec_capacity, Cells, Node, blank, mark_of, node, put, AreShaped, node_of}
-use Rattle.offset_allocator.proofs.Common.{nodes_of, cells_by_node, AreEven, common_steps}
+use Rattle.offset_allocator.proofs.Common.{length-map, length-set, map-set, map-append, set-get_or, vec_len, vec_capacity, Cells, Node, blank, mark_of, node, put, AreShaped, node_of, nodes_of}
+use Rattle.offset_allocator.proofs.Common.{cells_by_node, AreEven, common_steps}
 use Rattle.std.specs.Vec.{with_item}
 use Rattle.std.proofs.Math.Seq.{map-set_same}
 use Rattle.offset_allocator.specs.declared.by_node.Node.{Node as Entry}
@@ -86,11 +86,6 @@ module _ {A B : Type 0} (max : ℕ) (number : A → ℕ) (t : Inside A B) {c : C
   unfolding node
   read x n l at = rw (← e) (entry_at max number ns x n (within x l) at)
 
-  -- past the table no node is used
-  pub read_past : (x : ℕ) → length ns ≤ x → (node c.room x).used ≡ false
-  unfolding node
-  read_past x l = rw (← e) (ap (λ (v : Node). v.used) (get_or_past (nodes_of max number ns) x blank (omega (arith, l, length-nodes_of max number ns))))
-
   -- an entry written in what the chain of blocks sees: f is the change of the node
   pub wrote-room : (x : ℕ) (n m : Entry A) (f : Node → Node) → x < length c.room.nodes → n ≡ get_or ns x n → node_of max number m ≡ f (node_of max number n)
       → number m.newer ≡ number n.newer → number m.older ≡ number n.older
@@ -170,4 +165,4 @@ even_set max t h x m = grind (arith, length-set)
 -- other tables of the same lengths and memory
 pub even_kept : {A B : Type 0} (max : ℕ) (t u : Inside A B) → AreEven max t → length u.nodes.items ≡ length t.nodes.items → length u.spare.items ≡ length t.spare.items
     → vec_capacity u.nodes ≡ vec_capacity t.nodes → vec_capacity u.spare ≡ vec_capacity t.spare → length u.heads ≡ length t.heads → length u.masks ≡ length t.masks → AreEven max u
-even_kept max t u h n s cn cs hs ms = grind (arith)
+even_kept max t u h n s cn cs hs ms = grind arith

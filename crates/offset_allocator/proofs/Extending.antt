@@ -25,8 +25,6 @@ idle_units (b ∷ bs) i = let ih = idle_units bs i.1 in free_units-free b bs i.0
 
 -- the end of the space
 module _ (it : Fields) (more : ℕ) (s : AreSound it) where
-  abbrev was : View
-  was = shown it
 
   abbrev old : List Block
   old = blocks it.cells.room it.last
@@ -191,7 +189,7 @@ module _ {it : Fields} {more : ℕ} (r : Growth it more false) where
 
 -- what was counted before changes nothing of it
 pub adds_counted : (more : ℕ) (v w : View) (accesses : ℕ) → Adds more (record v { accesses = accesses }) w → Adds more v w
-adds_counted more v w accesses g = grind (arith)
+adds_counted more v w accesses g = grind arith
 
 -- when it is done
 pub extends_done : (more : ℕ) (v w : View) (done : Bool) → Extends more v w done → (done ≡ true) ↔ (1 ≤ more → CanExtend more v)

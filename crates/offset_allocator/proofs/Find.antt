@@ -7,21 +7,16 @@ use mir.Val.{bits}
 
 -- the lowest bit of a word at or above a place, as code finds it: `(n & (MAX << k)).trailing_zeros()`
 module _ (w : Width) (n k : ℕ) (small : n < 2 ^ bits w) (within : k ≤ bits w) where
-  masked : ℕ
-  masked = bit_and n ((2 ^ bits w - 1) * 2 ^ k % 2 ^ bits w)
 
   masked_from : (i : ℕ) → k ≤ i → i < bits w → bit_at (bit_and n ((2 ^ bits w - 1) * 2 ^ k % 2 ^ bits w)) i ≡ bit_at n i
   masked_from i l h = grind (arith, bit_at-lt, ones_shl, bits, bit_at_and, bit_at_mask_inside)
-
-  masked_below : (i : ℕ) → i < k → bit_at (bit_and n ((2 ^ bits w - 1) * 2 ^ k % 2 ^ bits w)) i ≡ 0
-  masked_below i l = grind (arith, ones_shl, bits, bit_at_and, bit_at_mask_below)
 
   pub none_from : bit_and n ((2 ^ bits w - 1) * 2 ^ k % 2 ^ bits w) ≡ 0 → (i : ℕ) → k ≤ i → i < bits w → bit_at n i ≡ 0
   none_from z i l h = sym (masked_from i l h) ∙ ap (λ x. bit_at x i) z ∙ bit_at-zero i
 
   pub least_from : bit_and n ((2 ^ bits w - 1) * 2 ^ k % 2 ^ bits w) ≢ 0 → (t : ℕ) → t ≡ trailing_zeros w (bit_and n ((2 ^ bits w - 1) * 2 ^ k % 2 ^ bits w)) → (k ≤ t) × (t < bits w)
       × (bit_at n t ≡ 1) × ((i : ℕ) → k ≤ i → i < t → bit_at n i ≡ 0)
-  least_from z t e = grind (arith, bits, and_le_l, bit_at-trailing_zeros, masked_below, masked_from, cases_lt)
+  least_from z t e = grind (arith, bits, and_le_l, bit_at-trailing_zeros, ones_shl, bit_at_and, bit_at_mask_below, masked_from, cases_lt)
 
 -- the highest bit of a word
 highest_bit : (k n : ℕ) → n ≢ 0 → n < 2 ^ k → (j : ℕ) × (count_leading_zeros k n + suc j ≡ k) × (bit_at n j ≡ 1) × ((i : ℕ) → j < i → bit_at n i ≡ 0)

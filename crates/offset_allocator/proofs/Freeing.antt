@@ -19,12 +19,12 @@ remove_used b zs o e = ap (λ (u : Bool). remove_all zs (if u then o else remove
 
 -- free blocks alone
 units_end : (l : List Block) → free_units (free_end l) ≡ units (free_end l)
-units_end [] = grind (arith)
+units_end [] = grind arith
 units_end (b ∷ []) = grind (arith, free_units-free)
 units_end (b ∷ d ∷ l) = grind (arith, units_end (d ∷ l))
 
 pub units_start : (l : List Block) → free_units (free_start l) ≡ units (free_start l)
-units_start [] = grind (arith)
+units_start [] = grind arith
 units_start (b ∷ l) = grind (arith, free_units-free)
 
 -- the handle names a used block, as the fields see it

@@ -55,9 +55,6 @@ module _ {f : Fields} {needed class x : ℕ} (call : Call f needed class x) wher
   had_free : f.free ≡ free_units p.before + (p.block.size + free_units p.after)
   had_free = sym call.sound.total ∙ ap free_units got.stood ∙ free_units-append p.before (p.block ∷ p.after) ∙ ap (λ k. free_units p.before + k) (free_units-free p.block p.after got.free)
 
-  pub free_enough : needed ≤ f.free
-  free_enough = omega (arith, had_free, enough)
-
   -- a request for n units, with padding
   module _ (n : ℕ) (padding_at : ℕ → ℕ) (within : (o : ℕ) → padding_at o + n ≤ needed) where
     abbrev padding : ℕ
@@ -73,7 +70,7 @@ module _ {f : Fields} {needed class x : ℕ} (call : Call f needed class x) wher
     padding_fits = omega (arith, whole_fits, end_fits (held refl))
 
     pub units_free : n ≤ f.free
-    units_free = omega (arith, free_enough, within 0)
+    units_free = omega (arith, had_free, enough, within 0)
 
     -- with room for the blocks that it adds; the tables that are left
     module _ (k : ℕ) (room : length (shown f).blocks + k < f.limit) (some : 1 ≤ k) (two : (o : ℕ) → 1 ≤ padding_at o → 2 ≤ k) (d : Cells) (last count front rest : ℕ)

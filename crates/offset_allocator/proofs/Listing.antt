@@ -36,11 +36,8 @@ ends_in bs k x l e =
 
 -- one block more at the end
 placed-push : (o : ℕ) (fs : List Block) (b : Block) → placed o (fs ++ b ∷ []) ≡ placed o fs ++ placed_at (o + units fs) b ∷ []
-placed-push o [] b = grind (arith)
+placed-push o [] b = grind arith
 placed-push o (a ∷ fs) b = grind (arith, placed-push (o + a.size) fs b)
-
-listing-push : (fs : List Block) (b : Block) → reverse (placed 0 (fs ++ b ∷ [])) ≡ placed_at (units fs) b ∷ reverse (placed 0 fs)
-listing-push fs b = grind (arith, placed-push, reverse-append)
 
 length-placed : (o : ℕ) (bs : List Block) → length (placed o bs) ≡ length bs
 length-placed o [] = refl
@@ -80,7 +77,7 @@ module _ (it : Fields) (s : AreSound it) (k x : ℕ) where
       let n = node_at c d.front d.block d.after x (subst (λ l. IsRow c None 0 l None) d.is s.space.row) d.named in
       let there : 1 ≤ count_named x bs = omega (arith, ap (count_named x) d.is, times-append x d.front (d.block ∷ d.after), one-eq x d.block.name d.named) in
       let at : placed_node x (node c x) ≡ placed_at (units d.front) d.block = grind (arith, common_steps) in
-      grind (arith, common_steps, there-below, listing-push)
+      grind (arith, common_steps, there-below, placed-push, reverse-append)
 
   pub read_is : (v : View) → shown it ≡ v → k ≤ length v.blocks → last_or None (take k v.blocks) ≡ Some x → IsRead it.cells.room v.blocks k x
   read_is v e = subst (λ (u : View). k ≤ length u.blocks → last_or None (take k u.blocks) ≡ Some x → IsRead it.cells.room u.blocks k x) e read_shown

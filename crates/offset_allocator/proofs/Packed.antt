@@ -34,10 +34,7 @@ held_is x (b ∷ bs) =
     here false = refl
 
 held_other : (x : ℕ) (b : Block) (bs : List Block) → one (nat_eq x b.name) ≡ 0 → held x (b ∷ bs) ≡ held x bs
-held_other x b bs e = grind (arith)
-
-held_here : (x : ℕ) (b : Block) (bs : List Block) → x ≡ b.name → held x (b ∷ bs) ≡ (if b.used then Some b.size else None)
-held_here x b bs e = let t : nat_eq x b.name ≡ true = grind (arith, nat_tests) in ap (λ (t : Bool). if t then (if b.used then Some b.size else None) else held x bs) t
+held_other x b bs e = grind arith
 
 -- a free block holds nothing
 abbrev the_none : Option ℕ
@@ -60,8 +57,8 @@ held_live x y ns [] l = held_gathered x y ns
 held_live x y ns (b ∷ bs) l = go b.used refl (held_live x y ns bs (omega (arith, l)))
   where
     go : (u : Bool) → b.used ≡ u → held x (live bs ++ gathered y ns) ≡ held x bs → held x (live (b ∷ bs) ++ gathered y ns) ≡ held x (b ∷ bs)
-    go true u ih = grind (arith, common_steps, live_used, hit_cases, held_here, held_other)
-    go false u ih = grind (arith, common_steps, live_idle, hit_cases, held_absent, held_here, held_other)
+    go true u ih = grind (arith, common_steps, live_used, hit_cases, nat_tests, held_other)
+    go false u ih = grind (arith, common_steps, live_idle, hit_cases, held_absent, nat_tests, held_other)
 
 pub compacts_sizes : (v w : View) → IsWellFormed v → Compacts v w → KeepsSizes v w
 compacts_sizes v w well c x = grind (arith, held_is, held_live)

@@ -27,8 +27,8 @@ range_some None = refl
 range_some (Some p) = elim p.block.used as (λ u. is_some {T = Range} (if u then Some (record { offset = units p.before; size = p.block.size }) else None) ≡ u) [ true ↦ refl | false ↦ refl ]
 
 range_units : (o : Option Place) → units_in (range_at o) ≡ size_at o
-range_units None = grind (arith)
-range_units (Some p) = grind (arith)
+range_units None = grind arith
+range_units (Some p) = grind arith
 
 module _ (x : ℕ) (v : View) where
   pub live_is : is_some {T = Range} (range_of x v) ≡ is_used_at (place_of x v.blocks)
@@ -81,9 +81,6 @@ module _ (it : Fields) (x : ℕ) (s : AreSound it) where
       | inl l ↦ l
       | inr l ↦ let f = sym (past_idle it.cells.room x l) ∙ used_read it.cells.room it.last it.count x s.space ∙ used in absurd (false≢true f)
     ]
-
-    pub live_within : x < it.limit
-    live_within = omega (arith, live_below, s.space.within, s.memory)
 
     pub live_size : (node it.cells.room x).size ≡ size_of x v
     live_size = size_read it.cells.room it.last it.count x s.space (used_read it.cells.room it.last it.count x s.space ∙ used)

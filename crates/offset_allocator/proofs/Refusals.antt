@@ -5,7 +5,7 @@ use Rattle.offset_allocator.proofs.{Sound.Fields, Sound.AreSound, Sound.shown, C
 
 -- the units of the free blocks are the sum of their sizes, and no more than those of all
 free_units_sum : (bs : List Block) → (free_units bs ≡ sum (free_sizes bs)) × (free_units bs ≤ units bs)
-free_units_sum [] = grind (arith)
+free_units_sum [] = grind arith
 free_units_sum (b ∷ bs) = grind (arith, sum_by-cons, free_units_sum bs)
 
 -- where a class fits, a free block has the units, which are no more than those of the space

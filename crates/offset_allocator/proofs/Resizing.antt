@@ -188,11 +188,6 @@ module _ {f : Fields} {x : ℕ} (call : Release f x) where
       → Resizes x n (shown f) u → ResizesTo x n (shown f) u true
   resizes_done n u ne m room r = grind (arith, size_there, next_there)
 
--- blocks of some units are some
-pub some_units : (bs : List Block) → 1 ≤ units bs → 1 ≤ length bs
-some_units [] l = absurd (omega arith)
-some_units (b ∷ bs) l = omega arith
-
 -- however many accesses were counted before
 resizes_counted : (x n : ℕ) (v w : View) (accesses : ℕ) → Resizes x n (record v { accesses = accesses }) w → Resizes x n v w
 resizes_counted x n v w accesses r = grind (arith, used)
@@ -221,7 +216,7 @@ grows_can x n v w false s = (λ h. absurd (false≢true h), λ h. absurd (s.0 h)
 
 -- a range of n units has them already
 pub has_units : (x n : ℕ) (v w : View) → n ≡ size_of x v → SameSpace v w → HasUnits x n v w
-has_units x n v w e same r is = grind (arith, units_in)
+has_units x n v w e same r is = grind arith
 
 -- what the calls leave of ranges
 module _ (x n : ℕ) (v w : View) (k : IsWellFormed v) (left : IsWellFormed w) where

@@ -17,7 +17,7 @@ times-last k p (b ∷ bs) e h =
 
 -- the last of a list is in it
 pub times-end : (k : ℕ) (bs : List Block) → last_or None bs ≡ Some k → 1 ≤ count_named k bs
-times-end k [] e = grind (arith)
+times-end k [] e = grind arith
 times-end k (b ∷ bs) e = grind (arith, cases_eq, one-eq, times-last)
 
 pub first_or-append : (q : Option ℕ) (fs bs : List Block) → first_or q (fs ++ bs) ≡ first_or (first_or q bs) fs
@@ -60,7 +60,7 @@ IsRow-kept c d p o (b ∷ bs) q same h = (
 pub IsRow-moved : (c d : Room) (p p' : Option ℕ) (o : ℕ) (bs : List Block) (q : Option ℕ) → ((k : ℕ) → count_named k bs ≤ 1)
     → ((z : ℕ) → first_or None bs ≡ Some z → node d z ≡ record (node c z) { before = p' })
     → ((k : ℕ) → 1 ≤ count_named k bs → first_or None bs ≢ Some k → node d k ≡ node c k) → IsRow c p o bs q → IsRow d p' o bs q
-IsRow-moved c d p p' o [] q once head others h = grind (arith)
+IsRow-moved c d p p' o [] q once head others h = grind arith
 IsRow-moved c d p p' o (b ∷ bs) q once head others h = grind (arith, IsRow-kept, one-eq)
 
 -- a row whose last node is linked on to another

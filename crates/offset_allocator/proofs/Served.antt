@@ -30,7 +30,7 @@ module _ (blocks needed n : ℕ) (padding_at : ℕ → ℕ) (v w : View) (known 
       reported room = ap (λ (b : Bool). if b then 0 else largest (free_sizes v.blocks)) (lt-leb v.max_allocs (length v.blocks + 1) (omega (arith, room, some)))
 
   pub refused : (r : Option Grant) → Serves blocks needed n padding_at v w r → r ≡ None → HasRoomFor blocks v → IsGoodRefusal needed (free_sizes v.blocks)
-  refused (Some g) a e room = grind (arith)
+  refused (Some g) a e room = grind arith
   refused None a e room = grind (arith, cases_lt, refusal_past, good_refusal)
 
   pub nearly : (r : Option Grant) → Serves blocks needed n padding_at v w r → IfSome r (IsSplitNearBest needed v)
@@ -57,7 +57,7 @@ module _ (blocks needed n : ℕ) (padding_at : ℕ → ℕ) (v w : View) (known 
 -- what was counted changes nothing of a split, nor does other padding of the same units
 pub split_as : {needed n : ℕ} {padding_at : ℕ → ℕ} {v w : View} {g : Grant} → Splits needed n padding_at v w g → (a b : ℕ) (padded_at : ℕ → ℕ)
     → ((o : ℕ) → padding_at o ≡ padded_at o) → Splits needed n padded_at (record v { accesses = a }) (record w { accesses = b }) g
-split_as {w = w} s a b padded_at alike = grind (arith)
+split_as {w = w} s a b padded_at alike = grind arith
 
 pub serves_counted : (blocks needed n : ℕ) (padding_at : ℕ → ℕ) (v w : View) (accesses : ℕ) (r : Option Grant) → Serves blocks needed n padding_at (record v { accesses = accesses }) w r
     → Serves blocks needed n padding_at v w r
@@ -81,5 +81,5 @@ past_refuses n align v known far accesses = (λ h. absurd (omega (arith, far, fi
 
 -- an aligned grant begins at a multiple of the alignment
 pub multiple : (n align : ℕ) (v w : View) (r : Option Grant) → 1 ≤ align → Aligns n align v w r → IfSome r (λ h. h.offset % align ≡ 0)
-multiple n align v w None some a = grind (arith)
+multiple n align v w None some a = grind arith
 multiple n align v w (Some g) some a = grind (arith, reaches)

@@ -40,7 +40,7 @@ module _ {d : Room} {m last count y : ℕ} (p : Place) (b : Block) (bs : List Bl
 -- the free block directly after a block goes into it
 pub absorbed : {d : Room} {m last count x : ℕ} (p : Place) (b : Block) (bs : List Block) → b.used ≡ false → p.after ≡ b ∷ bs → HasPlace d m last count x (coalesced_after p)
     → HasPlace d m last count x (record { before = p.before; block = record p.block { size = p.block.size + b.size }; after = bs })
-absorbed p b bs idle e h = grind (arith)
+absorbed p b bs idle e h = grind arith
 
 -- a walk back from the last block
 pub walked : {c : Room} {last count x : ℕ} (h : IsSpace c last count) (front rest : List Block) → blocks c last ≡ front ++ rest → (e : last_or None front ≡ Some x)

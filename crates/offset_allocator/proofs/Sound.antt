@@ -38,7 +38,7 @@ fields_of cells max a = record {
 
 -- whatever was counted
 pub well_counted : (v : View) (k : ℕ) → IsWellFormed v → IsWellFormed (record v { accesses = k })
-well_counted v k w = grind (arith)
+well_counted v k w = grind arith
 
 pub well_same : (v w : View) → SameSpace v w → IsWellFormed v → IsWellFormed w
 well_same v w e k = subst IsWellFormed (sym e) (well_counted v w.accesses k)

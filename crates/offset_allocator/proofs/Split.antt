@@ -15,7 +15,7 @@ used_most (b ∷ bs) = let ih = used_most bs in elim b.used as (λ u. one u + us
 -- its name, where it has units, is new
 part_name : (v : View) (y n : ℕ) → (1 ≤ n → IsNew y v) → (x : ℕ) → (count_named x (free_part y n) ≡ 0)
     ⊎ ((x ≡ y) × (1 ≤ n) × (count_named x (free_part y n) ≡ 1) × IsNew x v)
-part_name v y zero new x = grind (arith)
+part_name v y zero new x = grind arith
 part_name v y (suc n) new x = grind (arith, hit_cases)
 
 module _ {needed n : ℕ} {padding_at : ℕ → ℕ} {v u : View} {g : Grant} (s : Splits needed n padding_at v u g) where

@@ -13,7 +13,7 @@ pub record Taken (v : View) (c x : ℕ) : Type 0 where
 
 hit_parts : (f : Bool) (c d : ℕ) (r : Bool) → 1 ≤ one (f && (nat_eq c d && r)) → (f ≡ true) × (c ≡ d)
 hit_parts true c d r l = grind (arith, hit_cases)
-hit_parts false c d r l = grind (arith)
+hit_parts false c d r l = grind arith
 
 -- the block of a name that is listed is free, and of that class
 listed_block : (c x : ℕ) (before : List Block) (b : Block) (after : List Block) → x ≡ b.name → count_named x (before ++ b ∷ after) ≤ 1 → 1 ≤ count_in_bin c x (before ++ b ∷ after)

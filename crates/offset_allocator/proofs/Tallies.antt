@@ -37,5 +37,5 @@ part_sums y (suc n) = (omega arith, omega arith, omega arith)
 
 -- a free block of a name is a block of that name
 pub listed_named : (c x : ℕ) (bs : List Block) → count_in_bin c x bs ≤ count_named x bs
-listed_named c x [] = grind (arith)
+listed_named c x [] = grind arith
 listed_named c x (b ∷ bs) = grind (arith, listed_named c x bs)

@@ -9,13 +9,13 @@ HasName b [] = ⊥
 HasName b (c ∷ bs) = (b ≡ c) ⊎ HasName b bs
 
 pub there_listed : (b : Block) (bs : List Block) → HasName b bs → is_free b ≡ true → 1 ≤ count_in_bin (down b.size) b.name bs
-there_listed b [] i f = grind (arith)
+there_listed b [] i f = grind arith
 there_listed b (c ∷ bs) (inl e) f = grind (arith, eq-eqb)
 there_listed b (c ∷ bs) (inr i) f = grind (arith, there_listed b bs i f)
 
 -- what holds of each free block in a list holds of their sizes
 all_free : (P : ℕ → Type 0) (bs : List Block) → ((b : Block) → HasName b bs → is_free b ≡ true → P b.size) → AllByRecursion P (free_sizes bs)
-all_free P [] h = grind (arith)
+all_free P [] h = grind arith
 all_free P (b ∷ bs) h = grind (arith, cond_both, all_free P bs (λ c i. h c (inr i)), all_free P bs (λ c i. h c (inr i)))
 
 pub reported : (n : ℕ) (bs : List Block) → 1 ≤ n → n ≤ largest (free_sizes bs) → (b : Block) × (HasName b bs) × (is_free b ≡ true) × (n ≤ value (down b.size))
@@ -29,9 +29,9 @@ reported n (b ∷ bs) l = cond_both b.used (free_sizes bs) (b.size ∷ free_size
     ])
 
 pub reports_all : (b : Block) (bs : List Block) → HasName b bs → is_free b ≡ true → value (down b.size) ≤ largest (free_sizes bs)
-reports_all b [] i f = grind (arith)
+reports_all b [] i f = grind arith
 reports_all b (c ∷ bs) (inl e) f = grind (arith, cond_both, true≢false)
-reports_all b (c ∷ bs) (inr i) f = grind (arith, cond_both, reports_all b bs i f, reports_all b bs i f)
+reports_all b (c ∷ bs) (inr i) f = grind (arith, cond_both, reports_all b bs i f)
 
 pub there_middle : (xs : List Block) (b : Block) (ys : List Block) → HasName b (xs ++ b ∷ ys)
 there_middle [] b ys = inl refl

@@ -119,7 +119,7 @@ module _ (none : ℕ) (t t' : Links) (even : length t'.newer ≡ length t.newer)
   pub led : (b b' : ℕ) (xs : List ℕ) → ((x : ℕ) → times x xs ≤ 1) → slice_index t'.newer (first_of none xs) ≡ b' ⊎ (xs ≡ [])
       → ((y : ℕ) → Among y xs → y ≢ first_of none xs → slice_index t'.newer y ≡ slice_index t.newer y) → ((y : ℕ) → Among y xs → slice_index t'.older y ≡ slice_index t.older y)
       → IsLinked none t b xs → IsLinked none t' b' xs
-  led b b' [] o f n s c = grind (arith)
+  led b b' [] o f n s c = grind arith
   led b b' (x ∷ xs) o f n s c = grind (arith, one-same, kept)
 
 -- a name that is not in a list is not its first one

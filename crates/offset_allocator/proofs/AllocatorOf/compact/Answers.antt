@@ -104,7 +104,7 @@ returns-clause-accesses g c =
     grind (arith, common_steps)
 
 pub returns-in_default-clause-accesses : goal.returns-in_default-clause-accesses
-returns-in_default-clause-accesses g c = grind (arith)
+returns-in_default-clause-accesses g c = grind arith
 
 pub returns-clause-step : goal.returns-clause-step
 returns-clause-step g c =
@@ -118,7 +118,7 @@ returns-clause-step g c =
     subst P c.self.view_is (done g (goal.at.returns-clause-step g c).After-push c.push.new.store.accesses _ refl).1
 
 pub returns-in_default-clause-sizes : goal.returns-in_default-clause-sizes
-returns-in_default-clause-sizes g c = grind (arith, fields_of, shown, compacts_sizes, known_sound, stays_packed)
+returns-in_default-clause-sizes g c = grind (arith, compacts_sizes, known_sound, stays_packed)
 
 pub returns-clause-sizes : goal.returns-clause-sizes
 returns-clause-sizes g c =

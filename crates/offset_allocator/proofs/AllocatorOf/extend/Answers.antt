@@ -46,7 +46,7 @@ returns-then-not-used-clause-step g c =
     ))
 
 pub returns-clause-step : goal.returns-clause-step
-returns-clause-step g c = grind (arith, fields_of, adds_counted, shown)
+returns-clause-step g c = grind (arith, adds_counted)
 
 pub returns-then-more-self-clause-done : goal.returns-then-more-self-clause-done
 returns-then-more-self-clause-done g c = extends_done c.args.more c.args.self.now c.args.self.now false (returns-then-more-self-clause-step g c)

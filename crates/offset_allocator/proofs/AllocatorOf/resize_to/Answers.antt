@@ -63,7 +63,7 @@ returns-then-left-lt2-clause-step g c =
     let none = (next_some r _ c.free_after-next.ensures.free).1 c.if-is_none.ensures in
     let less : c.args.size < (at r).place.block.size =
     omega (arith, size g here.After-ready, more g here.After-units_after-more r, ap units none, c.if-size-old_size.false, c.if-size-old_size-2.false) in
-    grind (arith, common_steps, shown, with_made, fields_of, same_view, resizes_full)
+    grind (arith, common_steps, same_view, resizes_full)
 
 pub returns-then-left-lt2-clause-same : goal.returns-then-left-lt2-clause-same
 returns-then-left-lt2-clause-same g c e = ap (λ (u : View). record u { accesses = c.units_after-more.new.count }) (same_view g (goal.at.returns-then-left-lt2-clause-same g c).After-ready)

@@ -17,7 +17,7 @@ returns-in-Some-clause-formed g c = (known_sound (fields_of g.T.Tables.cells g.T
 
 -- the search for a class counts, and changes nothing else of the view
 pub returns-in-Some-clause-step : goal.returns-in-Some-clause-step
-returns-in-Some-clause-step g c = grind (arith, fields_of, serves_counted, shown)
+returns-in-Some-clause-step g c = grind (arith, serves_counted)
 
 pub invariant_of-self : goal.invariant_of-self
 invariant_of-self g c = c.self.invariant

@@ -30,7 +30,7 @@ pub resize_to-requires-clause-old_size : goal.resize_to-requires-clause-old_size
 resize_to-requires-clause-old_size g c = grind (arith, size, block)
 
 pub returns-clause-step : goal.returns-clause-step
-returns-clause-step g c = grind (arith, resized_counted, shown, fields_of, there, block, shrinks_of)
+returns-clause-step g c = grind (arith, resized_counted, there, block, shrinks_of)
 
 pub returns-clause-done : goal.returns-clause-done
 returns-clause-done g c = shrinks_can c.args.allocation.name c.args.size c.args.self.now c.resize_to.new.self c.resize_to.result (returns-clause-step g c)

@@ -2,7 +2,7 @@ use Rattle.offset_allocator.proofs.{Common.◌≤◌, Common.arith, Common.rules
 use Rattle.offset_allocator.proofs.bins.length_of.Goals as goal
 
 pub loop-name-init : goal.loop-name-init
-loop-name-init g c = grind (arith)
+loop-name-init g c = grind arith
 
 pub overflow_add-names : goal.overflow_add-names
 overflow_add-names g c =

@@ -17,7 +17,7 @@ pub link_to-requires : goal.link_to-requires
 link_to-requires g c = omega (arith, c.shape.ensures.limit, (previous_place c.requires.place.2 c.requires.previous).place.below)
 
 pub set_spare-requires : goal.set_spare-requires
-set_spare-requires g c = grind (arith, common_steps, relinked_spare, on_to, spare-put, spare_room)
+set_spare-requires g c = grind (arith, common_steps, relinked_spare, spare-put, spare_room)
 
 pub returns-clause-place : goal.returns-clause-place
 returns-clause-place g c m p h =

@@ -25,7 +25,7 @@ enough n s k d h e f l =
     omega (arith, a, b, ap value e, value_small 1 (omega arith))
 
 pub returns-then-units-clause-why : goal.returns-then-units-clause-why
-returns-then-units-clause-why g c = grind (arith, known_sound, fields_of, not_zero, past_words)
+returns-then-units-clause-why g c = grind (arith, known_sound, not_zero, past_words)
 
 pub returns-then-units-clause-granted : goal.returns-then-units-clause-granted
 returns-then-units-clause-granted g c =
@@ -51,7 +51,7 @@ returns-in-Some-clause-granted g c =
     let low = low_is c.args.size c.args.align _ (not_zero c.args.align c.requires.power) c.uint_to_float_round_up-smallest.ensures.is in
     let P : View → Type 0 = λ u. CanGrant (blocks_needed c.args.align) (units_needed c.args.size c.args.align) u in
     let some = c.in-Some.ensures.smallest in
-    grind (arith, common_steps, is_open, fields_of)
+    grind (arith, common_steps, is_open)
 
 -- where no bin from the class on has a block
 refused : goal.returns-then-uint_to_float_round_down-max-clause-granted

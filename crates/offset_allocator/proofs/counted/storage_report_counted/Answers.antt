@@ -6,7 +6,7 @@ use Rattle.offset_allocator.proofs.counted.storage_report_counted.Goals as goal
 -- where two names are left, the report is of the free blocks
 open_report : (it : Fields) → AreSound it → length (shown it).blocks + 1 < it.limit → (r : ℕ) → r ≡ largest (free_sizes (shown it).blocks) → (it.free ≡ total_free (shown it))
     × (r ≡ largest_free (shown it))
-open_report it s room r e = grind (arith, shown, nat_tests, total_is)
+open_report it s room r e = grind (arith, nat_tests, total_is)
 
 pub returns-clause-report : goal.returns-clause-report
 returns-clause-report g c =
