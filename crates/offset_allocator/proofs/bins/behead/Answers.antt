@@ -1,12 +1,9 @@
-use Rattle.offset_allocator.proofs.Common.{◌∙◌, ap, sym, arith, refl, set_past, first_of}
+use Rattle.offset_allocator.proofs.Common.{◌∙◌, ap, sym, arith, refl, set_past, first_of, common_steps}
 use Rattle.offset_allocator.proofs.{Binned.head, Binned.without_head, Binned.none_left, Binned.beheaded, Binned.changed, Masks.flag_full, Masks.masked_same, Uses.no_mark, Uses.second_idle}
 use Rattle.offset_allocator.proofs.bins.behead.Goals as goal
 
-pub set_newer-requires-clause-idle : goal.set_newer-requires-clause-idle
-set_newer-requires-clause-idle g c = grind (arith, second_idle)
-
-pub set_newer-requires-clause-link : goal.set_newer-requires-clause-link
-set_newer-requires-clause-link g c = no_mark c.shape.ensures (g.T.Index.NodeIndex.number c.no_link.result) (λ n. absurd (n c.no_link.ensures.number))
+pub set_newer-requires : goal.set_newer-requires
+set_newer-requires g c = grind (arith, common_steps, second_idle, no_mark)
 
 pub returns-then-next-MAX : goal.returns-then-next-MAX
 returns-then-next-MAX g c =

@@ -29,8 +29,5 @@ loop-at-preserved g c =
       accesses = omega (arith, i.accesses, long);
     }
 
-pub returns-clause-first : goal.returns-clause-first
-returns-clause-first g c = grind (arith, last_none)
-
-pub returns-clause-accesses : goal.returns-clause-accesses
-returns-clause-accesses g c = grind (arith, last_none)
+pub returns : goal.returns
+returns g c = grind (arith, common_steps, last_none)

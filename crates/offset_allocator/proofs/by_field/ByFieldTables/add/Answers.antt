@@ -1,10 +1,6 @@
-use Rattle.offset_allocator.proofs.Common.{ap, arith, length-map, length-set, map-set, Cells, with_node, common_steps}
+use Rattle.offset_allocator.proofs.Common.{arith, length-map, length-set, map-set, with_node, common_steps}
 use Rattle.offset_allocator.proofs.Fields.{length-nodes_in, pushed, linked, longer, room_left}
 use Rattle.offset_allocator.proofs.by_field.ByFieldTables.add.Goals as goal
-
-pub returns-clause-room : goal.returns-clause-room
-unfolding with_node
-returns-clause-room g c = grind (arith, common_steps, pushed, length-map, linked, length-nodes_in, map-set)
 
 pub push_within-requires : goal.push_within-requires
 push_within-requires g c = room_left _ _ c.self.inside c.self.view_is c.requires.memory
@@ -33,17 +29,9 @@ link_to-name-requires g c = omega (arith, c.len.ensures, c.self.inside.offset.ok
 pub index_mut-requires : goal.index_mut-requires
 index_mut-requires g c = grind (arith, length-nodes_in)
 
-pub returns-clause-newer : goal.returns-clause-newer
-returns-clause-newer g c = grind (arith, linked)
-
-pub returns-clause-older : goal.returns-clause-older
-returns-clause-older g c = grind (arith, linked)
-
-pub returns-clause-heads : goal.returns-clause-heads
-returns-clause-heads g c = ap (λ (v : Cells). v.links.heads) c.self.view_is
-
-pub returns-clause-masks : goal.returns-clause-masks
-returns-clause-masks g c = ap (λ (v : Cells). v.links.masks) c.self.view_is
+pub returns : goal.returns
+unfolding with_node
+returns g c = grind (arith, common_steps, pushed, length-map, linked, length-nodes_in, map-set)
 
 pub invariant_of-self : goal.invariant_of-self
 invariant_of-self g c = grind (arith, longer, length-set, room_left)

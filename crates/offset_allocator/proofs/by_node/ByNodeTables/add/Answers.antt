@@ -1,14 +1,10 @@
-use Rattle.offset_allocator.proofs.Common.{ap, arith, length-set, map-append, map-set, Cells, with_node}
+use Rattle.offset_allocator.proofs.Common.{arith, length-set, map-append, map-set, with_node, common_steps}
 use Rattle.offset_allocator.proofs.Entries.{entry_added, length-nodes_of, room_left, spare_left}
 use Rattle.offset_allocator.specs.declared.by_node.Node.{Node as Entry}
 use Rattle.offset_allocator.proofs.by_node.ByNodeTables.add.Goals as goal
 
 pub index_mut-requires : goal.index_mut-requires
 index_mut-requires g c = grind (arith, length-nodes_of)
-
-pub returns-clause-room : goal.returns-clause-room
-unfolding with_node
-returns-clause-room g c = grind (arith, entry_added, length-nodes_of, map-append, map-set)
 
 pub push_within-requires : goal.push_within-requires
 push_within-requires g c = room_left _ _ c.self.inside c.self.view_is c.requires.memory
@@ -22,14 +18,6 @@ invariant_of-self g c = grind (arith, length-set, room_left)
 pub link_to-name-requires : goal.link_to-name-requires
 link_to-name-requires g c = omega (arith, c.len.ensures, c.self.inside.nodes.ok.0, c.self.invariant.within, c.self.invariant.limit)
 
-pub returns-clause-newer : goal.returns-clause-newer
-returns-clause-newer g c = grind (arith, map-append)
-
-pub returns-clause-older : goal.returns-clause-older
-returns-clause-older g c = grind (arith, map-append)
-
-pub returns-clause-heads : goal.returns-clause-heads
-returns-clause-heads g c = ap (λ (v : Cells). v.links.heads) c.self.view_is
-
-pub returns-clause-masks : goal.returns-clause-masks
-returns-clause-masks g c = ap (λ (v : Cells). v.links.masks) c.self.view_is
+pub returns : goal.returns
+unfolding with_node
+returns g c = grind (arith, common_steps, entry_added, length-nodes_of, map-append, map-set)
