@@ -103,9 +103,6 @@ returns-clause-accesses g c =
     let counted : c.self.inside.store.accesses ≡ c.args.self.now.accesses = ap (λ (u : View). u.accesses) c.self.view_is in
     grind (arith, common_steps)
 
-pub returns-in_default-clause-accesses : goal.returns-in_default-clause-accesses
-returns-in_default-clause-accesses g c = grind arith
-
 pub returns-clause-step : goal.returns-clause-step
 returns-clause-step g c =
     let P : View → Type 0 = λ u. Compacts u (shown (record (fields_of g.T.Tables.cells g.T.Index.NodeIndex.MAX c.self.inside) {

@@ -1,8 +1,5 @@
-use Rattle.offset_allocator.proofs.Common.{◌≡◌, arith, common_steps}
+use Rattle.offset_allocator.proofs.Common.{◌≡◌}
 use Rattle.offset_allocator.proofs.AllocatorOf.free.Goals as goal
 
 pub release-requires : goal.release-requires
 release-requires g c = let e : c.number.result ≡ c.args.allocation.name = cc in record { live = rw e c.requires.live }
-
-pub returns : goal.returns
-returns g c = grind (arith, common_steps)

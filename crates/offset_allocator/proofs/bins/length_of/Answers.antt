@@ -1,9 +1,6 @@
 use Rattle.offset_allocator.proofs.{Common.◌≤◌, Common.arith, Common.rules, Binned.fits, Walks.tail_next, Walks.tail_end}
 use Rattle.offset_allocator.proofs.bins.length_of.Goals as goal
 
-pub loop-name-init : goal.loop-name-init
-loop-name-init g c = grind arith
-
 pub overflow_add-names : goal.overflow_add-names
 overflow_add-names g c =
     let word : g.T.Index.NodeIndex.MAX ≤ 4294967295 = search rules in

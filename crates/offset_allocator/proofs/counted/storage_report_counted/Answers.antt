@@ -27,6 +27,3 @@ returns-clause-accesses_min g c l =
 
 pub returns-clause-accesses : goal.returns-clause-accesses
 returns-clause-accesses g c = (grind (arith, common_steps), grind (arith, common_steps))
-
-pub returns-then-names_left-lt2-clause-report : goal.returns-then-names_left-lt2-clause-report
-returns-then-names_left-lt2-clause-report g c = grind (arith, common_steps)

@@ -1,4 +1,4 @@
-use Rattle.offset_allocator.proofs.Common.{◌≡◌, ◌+◌, refl, sym, ap, arith, ◌∙◌, Node, node, push, common_steps}
+use Rattle.offset_allocator.proofs.Common.{◌≡◌, ◌+◌, refl, sym, ap, arith, ◌∙◌, Node, node, push}
 use Rattle.offset_allocator.proofs.Places.{at_place, next_place, previous_place, kept_before, kept_after, kept_place, free_before, free_after, before_fits, after_fits}
 use Rattle.offset_allocator.proofs.{Classes.down_small, Filed.unlisted, Filed.previous_filed, Filed.next_filed, Filed.filed_before, Filed.next_same}
 use Rattle.offset_allocator.proofs.neighbours.coalesce.Goals as goal
@@ -144,12 +144,6 @@ free_after-next-requires g c = record { place = (_, _, _, _, c.requires.place.2)
 
 pub free_before-requires : goal.free_before-requires
 free_before-requires g c = record { place = (_, _, _, _, c.requires.place.2) }
-
-pub with_before-size-requires : goal.with_before-size-requires
-with_before-size-requires g c = grind (arith, common_steps)
-
-pub coalesce_before-requires : goal.coalesce_before-requires
-coalesce_before-requires g c = grind (arith, common_steps)
 
 pub returns-clause-held : goal.returns-clause-held
 returns-clause-held g c = c.exchange.ensures.held

@@ -10,9 +10,6 @@ split_before-front-requires-clause-place g c = (_, _, c.requires.place.2)
 pub push-requires-clause-classed : goal.push-requires-clause-classed
 push-requires-clause-classed g c = omega (arith, down_small c.args.units, c.uint_to_float_round_down.ensures.is)
 
-pub push-requires-clause-unlisted : goal.push-requires-clause-unlisted
-push-requires-clause-unlisted g c = grind arith
-
 pub push-requires-clause-idle : goal.push-requires-clause-idle
 push-requires-clause-idle g c = previous_idle c.split_before-front.result c.args.units c.requires.place.1.before (c.split_before-front.ensures.place _ _ c.requires.place.2)
 

@@ -4,9 +4,6 @@ use Rattle.offset_allocator.proofs.by_node.ByNodeTables.with_len.Goals as goal
 pub returns-clause-room : goal.returns-clause-room
 returns-clause-room g c = grind (arith, first_node)
 
-pub invariant_of-result : goal.invariant_of-result
-invariant_of-result g c = grind arith
-
 pub push_within-requires : goal.push_within-requires
 push_within-requires g c = omega (arith, ap length c.in_ok-nodes.ensures.empty, c.in_ok-nodes.ensures.exact, c.in_ok-nodes.nodes.ok.0, c.requires.some)
 
