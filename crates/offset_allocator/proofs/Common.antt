@@ -2,8 +2,8 @@
 pub use Rattle.std.proofs.Common.{arith, ap, refl, ◌∙◌, ◌≡◌, sym, ℕ, length, List, ◌+◌, [], ◌∷◌, ◌≤◌, ◌<◌, ◌++◌, subst, false, inr, inl, true, ◌≢◌, None, Bool, length-set, ◌-◌, suc, Some}
 pub use Rattle.std.proofs.Common.{if◌then◌else◌, nat_eq, ◌^◌, zero, ap₂, set, ◌*◌, length-append, Option, ◌&&◌, ◌⊎◌, not, map, get_or-set_other, get_or-set_same, ne_eqb, append_assoc, ◌%◌, replicate}
 pub use Rattle.std.proofs.Common.{eq-eqb, ◌↔◌, slice_set, append-nil, sum, slice_index, ◌/◌, get_or, true≢false, eq-zero-or-pos, IfSome, take, option_map, le-leb, drop, bit_and, pow-suc, rules}
-pub use Rattle.std.proofs.Common.{nat_lt, bit_or, cond, eqb, MatchOption, w32, w64, take_all, option_and_then, add-zero, add_assoc, is_some, IsSome, slice_index_or, nat_le, add-one, leb-true, ⊎_elim}
-pub use Rattle.std.proofs.Common.{reverse, count_ones, unwrap_or, zero-add, le_trans, max}
+pub use Rattle.std.proofs.Common.{nat_lt, bit_or, cond, eqb, MatchOption, w32, w64, take_all, option_and_then, add-zero, add_assoc, is_some, IsSome, slice_index_or, nat_le, add-one, leb-true, reverse}
+pub use Rattle.std.proofs.Common.{count_ones, unwrap_or, zero-add, le_trans, max}
 pub use Rattle.std.proofs.Math.Nat.{mul_assoc, mul-add, add-mul, mul-zero, div-add-mod}
 pub use Rattle.std.proofs.lemmas.Bool.{cases_eq, cases_lt, false≢true, and_right, cond_both, lt-ltb, le-ltb, ltb-true, ltb-false, leb-false, not-false, lt-leb, not-true, and_left}
 pub use Rattle.std.proofs.lemmas.Bool.Decides.{nat_tests}
@@ -30,7 +30,7 @@ unfoldable pub use Rattle.offset_allocator.specs.Classes.{down, value, up}
 pub use Rattle.offset_allocator.specs.Compacting.{live, Compacts, moves, first_free, gathered, move_of, Move, KeepsSizes, IsCalledWith, AreSafe}
 pub use Rattle.offset_allocator.specs.Layouts.{field_tables, FieldTables, node_in, node_of, cells_by_node, AreEven, values, cells_by_field, AreLevel}
 unfoldable pub use Rattle.offset_allocator.specs.Layouts.{nodes_of, nodes_in}
-pub use Rattle.offset_allocator.specs.Listing.{Placed, placed_at, placed, as_placed}
+pub use Rattle.offset_allocator.specs.Listing.{Placed, placed_at, placed}
 pub use Rattle.offset_allocator.specs.Ranges.{size_of, range_of, Range, IsLive, KeepsAll, Grants, KeepsOthers, AreDisjoint, KeepsRanges}
 pub use Rattle.offset_allocator.specs.Relations.{SameSpace, Splits, Frees, Resets, IsFresh, Extends, Aligns, Adds, Allocates, CanExtend, IsAlignment, Serves, IsSplitNearBest}
 pub use Rattle.offset_allocator.specs.Reports.{largest, count_of, IsGoodRefusal}
@@ -39,4 +39,4 @@ pub use Rattle.offset_allocator.specs.Resizing.{ResizesTo, Resizes, HasUnits, Sh
 pub use Rattle.offset_allocator.specs.Soundness.{free_units, view_of, AreInBins, AreUnlisted, IsSound}
 pub use Rattle.offset_allocator.specs.View.{Block, View, units, IsWellFormed, count_named, bin_at, one, Place, times, free_block, push, free_sizes, IsApart, count_in_bin, free_start, place_of}
 pub use Rattle.offset_allocator.specs.View.{used_of, remove_all, free_part, remove, push_all, is_free, free_end, without_start, replace, without, without_end, used_block, IsNew, Grant, padding_to}
-pub use Rattle.offset_allocator.specs.View.{max_size, starts_free, is_used_at, ends_used, largest_free, used_units, total_free, tally, is_full}
+pub use Rattle.offset_allocator.specs.View.{max_size, starts_free, is_used_at, ends_used, largest_free, used_units, total_free, tally}

@@ -167,8 +167,7 @@ module _ {c w d e : Room} {m last count count' : ℕ} {fs old new cs : List Bloc
   -- no neighbour is linked anew
   pub link_none : d ≡ w → first_or (first_or None cs) new ≡ first_or (first_or None cs) old → last_or (last_or None fs) new ≡ last_or (last_or None fs) old
       → IsRow w (last_or (last_or None fs) new) (units fs + units new) cs None → units fs + (units new + units cs) < 2 ^ 32 → IsChain e m last count' (fs ++ (new ++ cs))
-  link_none q first final after fits =
-      finish None (λ n. n) q (λ z k. absurd (cc)) last (rw (q, first) front) (rw q after) (rw final (sym (ends_are old) ∙ h.ends)) fits
+  link_none q first final after fits = finish None (λ n. n) q (λ z k. absurd (cc)) last (rw (q, first) front) (rw q after) (rw final (sym (ends_are old) ∙ h.ends)) fits
 
   fits_still : units new ≡ units old → units fs + (units new + units cs) < 2 ^ 32
   fits_still even = omega (arith, h.fits, even, units-append fs (old ++ cs), units-append old cs)

@@ -33,8 +33,7 @@ pub push-requires-clause-classed : goal.push-requires-clause-classed
 push-requires-clause-classed g c = omega (arith, down_small (c.size-size.result + c.args.more), c.uint_to_float_round_down.ensures.is)
 
 pub push-requires-clause-unlisted : goal.push-requires-clause-unlisted
-push-requires-clause-unlisted g c =
-    rw (c.grow.ensures.links, c.remove.ensures.lists, c.size-size.ensures.size) (widen_unlisted (pre g (goal.at.push-requires-clause-unlisted g c).After-self))
+push-requires-clause-unlisted g c = rw (c.grow.ensures.links, c.remove.ensures.lists, c.size-size.ensures.size) (widen_unlisted (pre g (goal.at.push-requires-clause-unlisted g c).After-self))
 
 pub overflow_add-self-2 : goal.overflow_add-self-2
 overflow_add-self-2 g c = omega (arith, free_fits (pre g (goal.at.overflow_add-self-2 g c).After-self))

@@ -7,8 +7,7 @@ pub after-next-requires : goal.after-next-requires
 after-next-requires g c = (next_place c.requires.place.2 c.requires.next).place.below
 
 pub point_back-requires-clause-link : goal.point_back-requires-clause-link
-point_back-requires-clause-link g c =
-    rw (c.after-next.ensures.cell, c.set_end.ensures.cells, length-put) (next_below (next_place c.requires.place.2 c.requires.next).place)
+point_back-requires-clause-link g c = rw (c.after-next.ensures.cell, c.set_end.ensures.cells, length-put) (next_below (next_place c.requires.place.2 c.requires.next).place)
 
 pub link_to-requires : goal.link_to-requires
 link_to-requires g c = omega (arith, c.shape.ensures.limit, (next_place c.requires.place.2 c.requires.next).place.below)

@@ -10,8 +10,7 @@ pub before-link-requires : goal.before-link-requires
 before-link-requires g c = (previous_place c.requires.place.2 c.requires.previous).place.below
 
 pub point_on-requires-clause-link : goal.point_on-requires-clause-link
-point_on-requires-clause-link g c =
-    rw (c.before-link.ensures.cell, c.set_start.ensures.cells, length-put) (previous_below (previous_place c.requires.place.2 c.requires.previous).place)
+point_on-requires-clause-link g c = rw (c.before-link.ensures.cell, c.set_start.ensures.cells, length-put) (previous_below (previous_place c.requires.place.2 c.requires.previous).place)
 
 pub link_to-requires : goal.link_to-requires
 link_to-requires g c = omega (arith, c.shape.ensures.limit, (previous_place c.requires.place.2 c.requires.previous).place.below)

@@ -18,8 +18,7 @@ pub link_to-on-requires : goal.link_to-on-requires
 link_to-on-requires g c = (top _ c.requires.place.2.chain c.requires.spare (c.number-rest.ensures.number ∙ c.spare.ensures.cell)).below
 
 pub point_back-requires-clause-link : goal.point_back-requires-clause-link
-point_back-requires-clause-link g c =
-    rw (c.after-next.ensures.cell, c.set_end.ensures.cells, length-put, c.set_block.ensures.cells, length-put) (next_below c.requires.place.2)
+point_back-requires-clause-link g c = rw (c.after-next.ensures.cell, c.set_end.ensures.cells, length-put, c.set_block.ensures.cells, length-put) (next_below c.requires.place.2)
 
 pub point_back-requires-clause-name : goal.point_back-requires-clause-name
 point_back-requires-clause-name g c =

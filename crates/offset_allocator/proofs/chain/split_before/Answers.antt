@@ -18,8 +18,7 @@ pub link_to-back-requires : goal.link_to-back-requires
 link_to-back-requires g c = (top _ c.requires.place.2.chain c.requires.spare (c.number-front.ensures.number ∙ c.spare.ensures.cell)).below
 
 pub point_on-requires-clause-link : goal.point_on-requires-clause-link
-point_on-requires-clause-link g c =
-    rw (c.before-link.ensures.cell, c.set_start.ensures.cells, length-put, c.set_block.ensures.cells, length-put) (previous_below c.requires.place.2)
+point_on-requires-clause-link g c = rw (c.before-link.ensures.cell, c.set_start.ensures.cells, length-put, c.set_block.ensures.cells, length-put) (previous_below c.requires.place.2)
 
 pub point_on-requires-clause-name : goal.point_on-requires-clause-name
 point_on-requires-clause-name g c =

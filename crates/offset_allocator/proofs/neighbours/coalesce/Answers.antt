@@ -21,12 +21,10 @@ pub coalesce_after-requires-clause-place : goal.coalesce_after-requires-clause-p
 coalesce_after-requires-clause-place g c = (_, _, c.with_before-size.ensures.place _ _ c.requires.place.2)
 
 pub coalesce_after-requires-clause-next : goal.coalesce_after-requires-clause-next
-coalesce_after-requires-clause-next g c =
-    let h = c.requires.place.2 in (next_same h (c.with_before-size.ensures.place _ _ h) refl c.in-Some.ensures.free.0).0
+coalesce_after-requires-clause-next g c = let h = c.requires.place.2 in (next_same h (c.with_before-size.ensures.place _ _ h) refl c.in-Some.ensures.free.0).0
 
 pub coalesce_after-requires-clause-free : goal.coalesce_after-requires-clause-free
-coalesce_after-requires-clause-free g c =
-    let h = c.requires.place.2 in (next_same h (c.with_before-size.ensures.place _ _ h) refl c.in-Some.ensures.free.0).1 ∙ c.in-Some.ensures.free.1
+coalesce_after-requires-clause-free g c = let h = c.requires.place.2 in (next_same h (c.with_before-size.ensures.place _ _ h) refl c.in-Some.ensures.free.0).1 ∙ c.in-Some.ensures.free.1
 
 -- a free block before it alone
 pub size-more-requires-in-Some-free_before : goal.size-more-requires-in-Some-free_before

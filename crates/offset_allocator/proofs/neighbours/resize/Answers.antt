@@ -23,8 +23,7 @@ pub split_remainder-requires-clause-whole : goal.split_remainder-requires-clause
 split_remainder-requires-clause-whole g c = grind (arith, whole)
 
 pub returns-clause-place : goal.returns-clause-place
-returns-clause-place g c m p h =
-    rw (← whole g (goal.at.returns-clause-place g c).After-with_after-whole p h) (c.split_remainder.ensures.place _ _ (c.with_after-whole.ensures.place _ _ h))
+returns-clause-place g c m p h = rw (← whole g (goal.at.returns-clause-place g c).After-with_after-whole p h) (c.split_remainder.ensures.place _ _ (c.with_after-whole.ensures.place _ _ h))
 
 pub returns-clause-lists : goal.returns-clause-lists
 returns-clause-lists g c m p h = grind (arith, whole)
