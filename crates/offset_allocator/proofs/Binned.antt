@@ -18,8 +18,6 @@ module _ {none : ℕ} {t : Links} {ls : List (List ℕ)} (k : HasBins none t ls)
   unfolding bins_in
   shown =
       let long = length-map t.heads (walk none t.older (length t.older)) in
-      let hl = k.heads_len in
-      let ll = k.lists_len in
       ext_get_or [] (map (walk none t.older (length t.older)) t.heads) ls (omega arith) (λ c h.
       let ch : c < 256 = omega arith in
       get_or-map (walk none t.older (length t.older)) t.heads c 0 [] (omega arith) ∙ ap (walk none t.older (length t.older)) (k.heads c ch)
@@ -122,7 +120,6 @@ module _ {none : ℕ} {t : Links} {ls : List (List ℕ)} (k : HasBins none t ls)
           let h : ℕ = slice_index t.heads c in
           let long : length t'.newer ≡ length t.newer = rw newer (length-set (slice_set t.newer x none) h x ∙ length-set t.newer x none) in
           let absent : times x (bin_at ls c) ≡ 0 = omega (arith, fresh c ch) in
-          let ns = k.names_small in
           let newer_kept : (y : ℕ) → y ≢ x → y ≢ h → slice_index t'.newer y ≡ slice_index t.newer y =
           λ y n m. rw newer (get_or-set_other (slice_set t.newer x none) h y x 0 m ∙ get_or-set_other t.newer x y none 0 n) in
           let older_kept : (y : ℕ) → y ≢ x → slice_index t'.older y ≡ slice_index t.older y = λ y n. rw older (get_or-set_other t.older x y h 0 n) in
@@ -157,7 +154,6 @@ module _ {none : ℕ} {t : Links} {ls : List (List ℕ)} (k : HasBins none t ls)
           let long : length t'.newer ≡ length t.newer = rw newer (length-set t.newer after none) in
           let newer_kept : (y : ℕ) → y ≢ first_of none xs → slice_index t'.newer y ≡ slice_index t.newer y =
           λ y n. rw newer (get_or-set_other t.newer after y none 0 (λ s. n (s ∙ first))) in
-          let ns = k.names_small in
           relisted c ch t' xs long (rw older) (rw first at heads)
           (led none t t' long (slice_index t.heads c) none xs (λ y. omega (arith, few y, single c ch y)) (linked_back xs first (slice_index t.heads c) h.1.3)
           (λ y a n. newer_kept y n) (λ y a. rw older) h.1.3)
@@ -173,7 +169,6 @@ module _ {none : ℕ} {t : Links} {ls : List (List ℕ)} (k : HasBins none t ls)
           → t'.newer ≡ slice_set t.newer after before → t'.older ≡ slice_set t.older before after → t'.heads ≡ t.heads → HasBins none t' (slice_set ls c (without x (bin_at ls c)))
       left x before after f be af newer older heads =
           let w : ℕ = slice_index t.newer x in
-          let ns = k.names_small in
           let chain : IsLinked none t none (f.front ++ w ∷ x ∷ f.rest) = rw f.is at (k.chains c ch) in
           let o : (y : ℕ) → times y (f.front ++ w ∷ x ∷ f.rest) ≤ 1 = rw f.is at (single c ch) in
           let is : without x (bin_at ls c) ≡ f.front ++ w ∷ f.rest = ap (without x) f.is ∙ without_later x w f.front f.rest (o x) in
@@ -201,8 +196,6 @@ pub exchanged : {none : ℕ} {t : Links} {ls : List (List ℕ)} (k : HasBins non
     → HasBins none t' (push c x (remove c (slice_index t.heads c) ls))
 exchanged {none} {t} {ls} k c ch t' x after l fresh full next newer older heads =
     let h = head k c ch full in
-    let ns = k.names_small in
-    let hl = k.heads_len in
     let absent : times x (drop 1 (bin_at ls c)) ≡ 0 = omega (arith, fresh c ch, ap (times x) h.0) in
     let apart : after ≢ x = λ e. not_first x (drop 1 (bin_at ls c)) (omega arith) absent (sym e ∙ next ∙ h.1.2) in
     let left : Links = record t { newer = slice_set t.newer after none; heads = slice_set t.heads c after } in

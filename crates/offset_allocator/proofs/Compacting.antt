@@ -97,7 +97,6 @@ first_is (b ∷ bs) x e = go b.used refl (λ h. first_is bs x h)
           moves = λ i. moves_used i i b bs u ∙ ap (λ l. l ++ moves (i + b.size) (i + b.size) bs) (stays i b) ∙ f.moves (i + b.size) ∙ ap₂ (λ j k. moves j k p.after) (from i) (to i);
         }
     go false u rest =
-        let n : Some b.name ≡ Some x = sym (first_idle b bs u) ∙ e in
         let from : (i : ℕ) → i + b.size ≡ i + (0 + b.size) = λ i. omega arith in
         let to : (i : ℕ) → i ≡ i + 0 = λ i. omega arith in
         record {

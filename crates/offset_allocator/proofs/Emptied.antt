@@ -45,7 +45,6 @@ emptied v w u =
     let x : ℕ = l.0.name in
     let n : ℕ = l.0.size in
     let sized : n ≡ v.size = omega (arith, w.whole, ap units l.1) in
-    let kept : View = record v { blocks = free_block x n ∷ []; order = push (down n) x (replicate 256 []) } in
     let below : x < v.max_allocs = elim (cases_lt x v.max_allocs) [
       | inl b ↦ b
       | inr b ↦ absurd (omega (arith, w.below x b, ap (count_named x) l.1, one-same x))

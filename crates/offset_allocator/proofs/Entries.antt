@@ -108,7 +108,6 @@ module _ {A B : Type 0} (max : ℕ) (number : A → ℕ) (t : Inside A B) {c : C
   wrote-used x n link used some l at q =
       let m : Entry A = record n { newer = link } in
       let was = entry_at max number ns x n (within x l) at in
-      let flag : eqb (number link) (max - 1) ≡ used = ap (λ i. eqb i (max - 1)) q ∙ marked max used some in
       let is : node_of max number m ≡ record (get_or (nodes_of max number ns) x blank) { used = used } = grind (arith, common_steps) in
       let nodes = entry_set max number ns x m ∙ ap (set (nodes_of max number ns) x) is in
       let newer = map-set (λ (k : Entry A). number k.newer) ns x m ∙ ap (set (map (λ (k : Entry A). number k.newer) ns) x) q in

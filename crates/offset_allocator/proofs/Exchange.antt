@@ -31,7 +31,6 @@ pub record IsTop (c : Room) (count y : ℕ) (bs : List Block) : Type 0 where
 
 pub top : {c : Room} {m last count : ℕ} {bs : List Block} (y : ℕ) → IsChain c m last count bs → 0 < count → y ≡ get_or c.spare (count - 1) 0 → IsTop c count y bs
 top {c} {m} {last} {count} {bs} y h some e =
-    let long = h.full in
     let names : (k : ℕ) → times k (spares c count) ≡ times k (spares c (count - 1)) + one (nat_eq k y) = λ k. rw e (top_names c count some (omega (arith, h.stack)) k) in
     let new = spare_new c m last count bs h y (omega (arith, names y, one-same y)) in
     record { below = new.1; absent = new.0; idle = h.idle y new.0; names = names }

@@ -72,6 +72,5 @@ next_same {c} {d} {x = x} {y = y} h g same e =
     let n = next_place h e in
     let e' : Some y ≡ (node d x).after = e ∙ ap (λ (v : Node). v.after) (at_place h) ∙ ap (first_or None) same ∙ sym (ap (λ (v : Node). v.after) (at_place g)) in
     let n' = next_place g e' in
-    let both : n'.block ∷ n'.rest ≡ n.block ∷ n.rest = sym n'.is ∙ sym same ∙ n.is in
     let one : n'.block ≡ n.block = cc in
     (e', ap (λ (v : Node). v.used) (at_place n'.place) ∙ ap (λ (b : Block). b.used) one ∙ sym (ap (λ (v : Node). v.used) (at_place n.place)))

@@ -1,8 +1,8 @@
 -- The first and the last class that has a name, by the masks.
-use Rattle.offset_allocator.proofs.Common.{◌≡◌, ◌≢◌, ◌<◌, ◌≤◌, ℕ, suc, ◌+◌, ◌-◌, ◌*◌, ◌/◌, ◌%◌, ◌^◌, List, [], ◌∷◌, bit_and, refl, sym, ap, ◌∙◌, inl, inr, arith, slice_index, w32, w64, ne_eqb}
-use Rattle.offset_allocator.proofs.Common.{pow-suc, bit_at, Width, trailing_zeros, count_trailing_zeros, count_leading_zeros, pow_pos, leading_top, le-div, div_below, div-mul-add, mod-mul-add}
-use Rattle.offset_allocator.proofs.Common.{and_le_l, bit_at_above, bit_at-zero, bit_at-trailing_zeros, bit_at_and, bit_at_mask_inside, bit_at_mask_below, bit_at-lt, ones_shl, cases_lt, cases_eq}
-use Rattle.offset_allocator.proofs.Common.{bin_at, flag, mark, IsSmallestFrom, AreMasks, IsLargestClass}
+use Rattle.offset_allocator.proofs.Common.{◌≡◌, ◌≢◌, ◌<◌, ◌≤◌, ℕ, suc, ◌+◌, ◌-◌, ◌*◌, ◌/◌, ◌%◌, ◌^◌, List, [], ◌∷◌, bit_and, refl, sym, ap, ◌∙◌, inl, inr, arith, slice_index, w32, w64, ne_eqb, bit_at}
+use Rattle.offset_allocator.proofs.Common.{Width, trailing_zeros, count_trailing_zeros, count_leading_zeros, pow_pos, leading_top, le-div, div_below, div-mul-add, mod-mul-add, and_le_l, bit_at_above}
+use Rattle.offset_allocator.proofs.Common.{bit_at-zero, bit_at-trailing_zeros, bit_at_and, bit_at_mask_inside, bit_at_mask_below, bit_at-lt, ones_shl, cases_lt, cases_eq, bin_at, flag, mark}
+use Rattle.offset_allocator.proofs.Common.{IsSmallestFrom, AreMasks, IsLargestClass}
 use mir.Val.{bits}
 
 -- the lowest bit of a word at or above a place, as code finds it: `(n & (MAX << k)).trailing_zeros()`
@@ -22,7 +22,6 @@ module _ (w : Width) (n k : ℕ) (small : n < 2 ^ bits w) (within : k ≤ bits w
 highest_bit : (k n : ℕ) → n ≢ 0 → n < 2 ^ k → (j : ℕ) × (count_leading_zeros k n + suc j ≡ k) × (bit_at n j ≡ 1) × ((i : ℕ) → j < i → bit_at n i ≡ 0)
 highest_bit k n p h =
     let (j, q, low, high) = leading_top k n (omega arith) h in
-    let two : 2 ^ suc j ≡ 2 ^ j * 2 = pow-suc 2 j in
     let at_least : 1 ≤ n / 2 ^ j = le-div 1 n (2 ^ j) (pow_pos j) (omega arith) in
     let at_most : n / 2 ^ j < 2 = div_below n (2 ^ j) 2 (pow_pos j) (omega arith) in
     let is : n / 2 ^ j ≡ 1 = omega arith in

@@ -20,7 +20,6 @@ pub stepped : (f : Fields) → AreSound f → (v : View) (d : Cells) (free k : �
     → AreSound (record f { size = v.size; cells = d; last = last; count = count; top = top; free = free }) × (view_of f.max v.size f.limit d last k ≡ with_accesses k v)
 stepped f s v d free k {last} {count} {top} {bs} well limit chain eb bins eo total =
     let is = blocks-chain d.room _ last count bs chain in
-    let left : (j : ℕ) → view_of f.max v.size f.limit d last j ≡ with_accesses j v = λ j. rw (is, eb, eo, limit) refl in
     grind (arith, common_steps, space-chain, well_counted)
 
 -- small parts of steps

@@ -76,7 +76,6 @@ module _ (it : Fields) (s : AreSound it) (k x : ℕ) where
       let d : EndsIn bs k x = ends_in bs k x l e in
       let n = node_at c d.front d.block d.after x (subst (λ l. IsRow c None 0 l None) d.is s.space.row) d.named in
       let there : 1 ≤ count_named x bs = omega (arith, ap (count_named x) d.is, times-append x d.front (d.block ∷ d.after), one-eq x d.block.name d.named) in
-      let at : placed_node x (node c x) ≡ placed_at (units d.front) d.block = grind (arith, common_steps) in
       grind (arith, common_steps, there-below, placed-push, reverse-append)
 
   pub read_is : (v : View) → shown it ≡ v → k ≤ length v.blocks → last_or None (take k v.blocks) ≡ Some x → IsRead it.cells.room v.blocks k x

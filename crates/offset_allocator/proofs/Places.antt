@@ -136,7 +136,6 @@ free_after h e u =
     let n = next_place h e in
     let at = at_place n.place in
     let idle : n.block.used ≡ false = sym (ap (λ (v : Node). v.used) at) ∙ u in
-    let is : free_start (n.block ∷ n.rest) ≡ n.block ∷ [] = rw idle refl in
     grind (arith, common_steps)
 
 pub after_fits : {c : Room} {m last count x y : ℕ} {p : Place} → HasPlace c m last count x p → Some y ≡ (node c x).after → (node c x).size + (node c y).size < 2 ^ 32

@@ -48,7 +48,6 @@ chain_more {c} {d} {m} {last} {count} {bs} h e room =
     let long : length d.nodes ≡ length c.nodes + 1 = rw e (length-with_node c count) in
     let spare : length d.spare ≡ length c.spare + 1 =
     rw (e, spare-with_node) (length-set (c.spare ++ length c.nodes ∷ []) count (length c.nodes) ∙ length-append c.spare (length c.nodes ∷ [])) in
-    let few = h.full in
     record {
       memory = rw e (reserved-with_node c count) ∙ h.memory;
       within = omega (arith, long, room);

@@ -39,7 +39,6 @@ pub split_place : {t w₁ w₂ d : Room} {m last last' count x n y o s : ℕ} {a
 split_place {t} {w₁} {w₂} {d} {m} {last} {last'} {count} {x} {n} {y} {o} {s} {a} {b} {c} {p} h some popped within eo es ea eb ec e₁ e₂ linked moved =
     let at = at_place h in
     let tp = top y h.chain some popped in
-    let ao : o ≡ units p.before = eo ∙ ap (λ v. v.offset) at in
     let sized : s ≡ p.block.size = es ∙ ap (λ v. v.size) at in
     let aa : a ≡ first_or None p.after = ea ∙ ap (λ v. v.after) at in
     let ne : y ≢ x = not_top h tp in

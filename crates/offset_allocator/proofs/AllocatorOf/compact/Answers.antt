@@ -1,5 +1,5 @@
-use Rattle.offset_allocator.proofs.Common.{◌≡◌, ℕ, suc, ◌+◌, [], length, refl, sym, ap, subst, ◌∙◌, arith, length-append, replicate, Place, View, units, free_sizes, Links, Node, bins_in, blocks, live}
-use Rattle.offset_allocator.proofs.Common.{moves, KeepsSizes, Compacts, common_steps}
+use Rattle.offset_allocator.proofs.Common.{◌≡◌, ℕ, ◌+◌, [], refl, sym, ap, subst, ◌∙◌, arith, replicate, Place, View, units, free_sizes, Links, Node, bins_in, blocks, live, moves, KeepsSizes}
+use Rattle.offset_allocator.proofs.Common.{Compacts, common_steps}
 use Rattle.offset_allocator.proofs.Sound.{AreSound, Fields, shown, fields_of, known_sound}
 use Rattle.offset_allocator.proofs.Compacting.{IsFirst, first_is, packed, compacts_live, first_held, packs, stays_packed}
 use Rattle.offset_allocator.proofs.{Packed.compacts_sizes, Places.at_place, Places.kept_place, Classes.down_small, Fresh.empty_unlisted}
@@ -98,9 +98,6 @@ returns-clause-accesses g c =
     let o : IsFirst (blocks (g.T.Tables.cells c.self.inside.store.tables).room c.self.inside.store.last) c.in-Some.first = first_is _ _ (sym c.first_free.ensures.first ∙ c.in-Some.is) in
     let p : Place = o.place in
     let e = c.slide-hole.ensures.place _ _ (kept_place c.empty.ensures.chain (first_held f c.self.invariant o refl)) o.idle in
-    let long : length (blocks (g.T.Tables.cells c.self.inside.store.tables).room c.self.inside.store.last) ≡ length p.before + suc (length p.after) = grind (arith, common_steps, length-append) in
-    let same : length (blocks (g.T.Tables.cells c.self.inside.store.tables).room c.self.inside.store.last) ≡ length c.args.self.now.blocks = ap (λ (u : View). length u.blocks) c.self.view_is in
-    let counted : c.self.inside.store.accesses ≡ c.args.self.now.accesses = ap (λ (u : View). u.accesses) c.self.view_is in
     grind (arith, common_steps)
 
 pub returns-clause-step : goal.returns-clause-step

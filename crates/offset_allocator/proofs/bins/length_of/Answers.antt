@@ -1,9 +1,8 @@
-use Rattle.offset_allocator.proofs.{Common.◌≤◌, Common.arith, Common.rules, Binned.fits, Walks.tail_next, Walks.tail_end}
+use Rattle.offset_allocator.proofs.{Common.arith, Binned.fits, Walks.tail_next, Walks.tail_end}
 use Rattle.offset_allocator.proofs.bins.length_of.Goals as goal
 
 pub overflow_add-names : goal.overflow_add-names
 overflow_add-names g c =
-    let word : g.T.Index.NodeIndex.MAX ≤ 4294967295 = search rules in
     omega (arith, (tail_next c.loop-name.invariant.tail (omega arith)).1, fits c.requires.linked c.args.class c.requires.classed, c.requires.linked.names_small)
 
 pub older-requires : goal.older-requires

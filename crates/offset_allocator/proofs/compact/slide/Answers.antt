@@ -52,9 +52,7 @@ report-requires-clause-named g c =
 pub loop-next-smaller-then-is_used : goal.loop-next-smaller-then-is_used
 loop-next-smaller-then-is_used g c =
     let s = c.loop-next.invariant.at _ _ c.requires.place.2 c.requires.place.3 in
-    let n = next_place s.there (sym c.in-Some.is ∙ c.after.ensures.after) in
     let p : Place = c.requires.place.1 in
-    let all : length p.after ≤ length (g.T.Tables.cells c.args.store.now.tables).room.nodes = omega (arith, c.requires.place.2.chain.full, length-append p.before (p.block ∷ p.after)) in
     grind (arith, common_steps)
 
 pub loop-next-preserved-then-is_used : goal.loop-next-preserved-then-is_used

@@ -49,15 +49,12 @@ find_at_or_above-requires-clause-classed g c = omega (arith, (below_value_up (c.
 pub returns-in-Some-clause-granted : goal.returns-in-Some-clause-granted
 returns-in-Some-clause-granted g c =
     let low = low_is c.args.size c.args.align _ (not_zero c.args.align c.requires.power) c.uint_to_float_round_up-smallest.ensures.is in
-    let P : View → Type 0 = λ u. CanGrant (blocks_needed c.args.align) (units_needed c.args.size c.args.align) u in
-    let some = c.in-Some.ensures.smallest in
     grind (arith, common_steps, is_open)
 
 -- where no bin from the class on has a block
 refused : goal.returns-then-uint_to_float_round_down-max-clause-granted
 refused g c =
     let low = low_is c.args.size c.args.align _ (not_zero c.args.align c.requires.power) c.uint_to_float_round_up-smallest.ensures.is in
-    let classes = c.allocator.invariant.well.classes in
     let P : View → Type 0 = λ u. CanGrant (blocks_needed c.args.align) (units_needed c.args.size c.args.align) u → ⊥ in
     let none = subst P c.allocator.view_is (λ h. elim (cases_lt h.1.0 256)
     [ inl l ↦ h.1.2 (c.in-None.ensures.smallest h.1.0 (omega (arith, h.1.1)) l) | inr l ↦ h.1.2 (get_or_past _ h.1.0 [] (omega arith)) ]) in
@@ -81,7 +78,6 @@ returns-then-uint_to_float_round_down-max-clause-why g c =
 pub returns-else-uint_to_float_round_down-max-clause-granted : goal.returns-else-uint_to_float_round_down-max-clause-granted
 returns-else-uint_to_float_round_down-max-clause-granted g c =
     let low = low_is c.args.size c.args.align _ (not_zero c.args.align c.requires.power) c.uint_to_float_round_up-smallest.ensures.is in
-    let classes = c.allocator.invariant.well.classes in
     let P : View → Type 0 = λ u. CanGrant (blocks_needed c.args.align) (units_needed c.args.size c.args.align) u → ⊥ in
     let none = subst P c.allocator.view_is (λ h. elim (cases_lt h.1.0 256)
     [ inl l ↦ h.1.2 (c.in-None.ensures.smallest h.1.0 (omega (arith, h.1.1)) l) | inr l ↦ h.1.2 (get_or_past _ h.1.0 [] (omega arith)) ]) in

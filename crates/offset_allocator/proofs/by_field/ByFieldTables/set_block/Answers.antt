@@ -6,7 +6,6 @@ use Rattle.offset_allocator.proofs.by_field.ByFieldTables.set_block.Goals as goa
 pub returns-clause-cells : goal.returns-clause-cells
 returns-clause-cells g c =
     let t = c.self.inside in
-    let h = c.self.invariant in
     let max : ℕ = g.NI.NodeIndex.MAX in
     let x : ℕ = c.args.name in
     let fs : FieldTables = field_tables g.NI.NodeIndex.number t in
