@@ -51,10 +51,7 @@ node_at c fs b cs x row e = grind (arith, IsRow-back)
 pub IsRow-kept : (c d : Room) (p : Option ℕ) (o : ℕ) (bs : List Block) (q : Option ℕ) → ((k : ℕ) → 1 ≤ count_named k bs → node d k ≡ node c k)
     → IsRow c p o bs q → IsRow d p o bs q
 IsRow-kept c d p o [] q same h = tt
-IsRow-kept c d p o (b ∷ bs) q same h = (
-  same b.name (omega (arith, one-same b.name)) ∙ h.0,
-  IsRow-kept c d (Some b.name) (o + b.size) bs q (λ k l. same k (omega arith)) h.1,
-)
+IsRow-kept c d p o (b ∷ bs) q same h = (same b.name (omega (arith, one-same b.name)) ∙ h.0, IsRow-kept c d (Some b.name) (o + b.size) bs q (λ k l. same k (omega arith)) h.1)
 
 -- a row whose first node is linked back to another
 pub IsRow-moved : (c d : Room) (p p' : Option ℕ) (o : ℕ) (bs : List Block) (q : Option ℕ) → ((k : ℕ) → count_named k bs ≤ 1)

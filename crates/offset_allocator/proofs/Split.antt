@@ -41,13 +41,7 @@ module _ {needed n : ℕ} {padding_at : ℕ → ℕ} {v u : View} {g : Grant} (s
         room = omega (arith, room, parts, old_length, new_length, (part_sums s.remainder_name s.remainder).0);
         spare = omega (arith, room, parts, used_new, old_length, (part_sums s.remainder_name s.remainder).2, (part_sums s.padding_name s.padding).2, used_most s.before, used_most s.after);
       })
-      (omega (
-        arith,
-        s.whole,
-        tally_append (λ (b : Block). b.size) padding (used_block s.block.name n ∷ remainder),
-        (part_sums s.remainder_name s.remainder).1,
-        (part_sums s.padding_name s.padding).1,
-      ))
+      (omega (arith, s.whole, tally_append (λ (b : Block). b.size) padding (used_block s.block.name n ∷ remainder), (part_sums s.remainder_name s.remainder).1, (part_sums s.padding_name s.padding).1))
       w.fits)
     where
       lengths : length new ≡ length padding + suc (length remainder)

@@ -7,12 +7,7 @@ returns-clause-called g c used =
       _,
       (
         record { name = c.to_name.result; from = c.args.from; to = c.args.to; size = c.args.size; index = record {} },
-        record {
-          name = c.to_name.ensures ∙ c.from_u32.ensures.kept (omega arith);
-          from = refl;
-          to = refl;
-          size = refl;
-        },
+        record { name = c.to_name.ensures ∙ c.from_u32.ensures.kept (omega arith); from = refl; to = refl; size = refl },
         c.moved.ensures,
       ),
       refl,
