@@ -1,24 +1,11 @@
 -- What the reasons of refusals advise: that `compact` makes room, or that a fresh space would not.
-use Rattle.std.proofs.Common.{◌≡◌, ◌≢◌, ◌↔◌, ℕ, suc, ◌+◌, ◌*◌, ◌^◌, ◌<◌, ◌≤◌, true, false, List, [], ◌∷◌, ◌++◌, length, sum, replicate}
-use Rattle.std.proofs.Common.{if◌then◌else◌, refl, sym, ap, subst, ◌∙◌, inl, inr, arith, length-append}
-use Rattle.std.specs.List.{AllByRecursion}
-use Rattle.std.proofs.lemmas.Bool.{cases_lt, cases_eq}
-use Rattle.std.proofs.lemmas.List.{length-replicate}
-use Rattle.std.proofs.lemmas.List.Sums.{sum_by-cons}
+use Rattle.offset_allocator.proofs.Common.{◌≡◌, ◌≢◌, ◌↔◌, ℕ, ◌+◌, ◌*◌, ◌^◌, ◌<◌, ◌≤◌, List, [], ◌∷◌, ◌++◌, length, sum, replicate, refl, sym, ap, subst, ◌∙◌, inl, inr, arith, length-append}
+use Rattle.offset_allocator.proofs.Common.{AllByRecursion, cases_lt, cases_eq, length-replicate, sum_by-cons, value, up, down, Block, View, free_sizes, bin_at, push, push_all, IsWellFormed, IsFresh}
+use Rattle.offset_allocator.proofs.Common.{Compacts, live, gathered, CanGrant, HasRoomFor, IsWhy, size_needed, common_steps}
+use Rattle.offset_allocator.proofs.Classes.{down_law, down_small, value_down, value_grows, up_reached}
+use Rattle.offset_allocator.proofs.{Always.adds_up, Counting.value_within_free, Emptied.none_at, Taken.HasFit, ViewFits.good_refusal, ViewOrders.names_same, ViewOrders.names_other}
 use Rattle.offset_allocator.specs.declared.reports.Refusal.{Refusal}
 use Rattle.offset_allocator.specs.declared.reports.Refusal.TheVariants.{Nodes, TooLarge, Space, Fragmented}
-use Rattle.offset_allocator.specs.Classes.{value, up, down}
-use Rattle.offset_allocator.specs.View.{Block, View, free_sizes, bin_at, push, push_all, IsWellFormed}
-use Rattle.offset_allocator.specs.Relations.{IsFresh}
-use Rattle.offset_allocator.specs.Compacting.{Compacts, live, gathered}
-use Rattle.offset_allocator.specs.Requests.{CanGrant, HasRoomFor, IsWhy, size_needed}
-use Rattle.offset_allocator.proofs.Always.{adds_up}
-use Rattle.offset_allocator.proofs.Classes.{down_law, down_small, value_down, value_grows, up_reached}
-use Rattle.offset_allocator.proofs.Counting.{value_within_free}
-use Rattle.offset_allocator.proofs.Emptied.{none_at}
-use Rattle.offset_allocator.proofs.Taken.{HasFit}
-use Rattle.offset_allocator.proofs.ViewFits.{good_refusal}
-use Rattle.offset_allocator.proofs.ViewOrders.{names_same, names_other}
 
 -- one block of s units, alone in its bin
 abbrev alone : ℕ → ℕ → List (List ℕ)
@@ -58,11 +45,8 @@ packed_fewer x bs = omega (arith, length-append (live bs) (gathered x (free_size
     some (n ∷ ns) = omega arith
 
     parts : (bs : List Block) → length (live bs) + length (free_sizes bs) ≡ length bs
-    parts [] = refl
-    parts (b ∷ bs) =
-        let ih = parts bs in
-        elim b.used as (λ u. length (if u then b ∷ live bs else live bs) + length (if u then free_sizes bs else b.size ∷ free_sizes bs) ≡ suc (length bs))
-        [ true ↦ omega (arith, ih) | false ↦ omega (arith, ih) ]
+    parts [] = grind (arith, common_steps)
+    parts (b ∷ bs) = grind (arith, common_steps, parts bs)
 
 module _ (v : View) (w : IsWellFormed v) (blocks n : ℕ) (room : HasRoomFor blocks v) where
   -- what compaction leaves

@@ -1,25 +1,13 @@
 -- Sums and bounds of a well formed view.
-use Rattle.std.proofs.Common.{◌≡◌, ℕ, ◌+◌, ◌*◌, ◌<◌, ◌≤◌, Bool, true, false, not, ◌&&◌, ◌↔◌, List, [], ◌∷◌, ◌++◌, length, sum, if◌then◌else◌, refl, sym, ap}
-use Rattle.std.proofs.Common.{ap₂, subst, ◌∙◌, arith, le-leb, true≢false}
-use Rattle.std.specs.List.{AllByRecursion}
-use Rattle.std.proofs.lemmas.List.Sums.{sum_by-cons}
-use Rattle.offset_allocator.specs.Classes.{value, up, down}
-use Rattle.offset_allocator.specs.Reports.{largest}
-use Rattle.offset_allocator.specs.View.{Block, View, used_units, used_of, one, starts_free, total_free, largest_free, units, free_sizes, free_block, IsApart, IsWellFormed, max_size}
-use Rattle.offset_allocator.specs.Relations.{IsFresh}
-use Rattle.offset_allocator.specs.Requests.{CanGrant}
-use Rattle.offset_allocator.proofs.Taken.{fitting}
-use Rattle.offset_allocator.proofs.Classes.{down_law}
-use Rattle.offset_allocator.proofs.ViewTaken.{well_alone}
+use Rattle.offset_allocator.proofs.Common.{◌≡◌, ℕ, ◌+◌, ◌*◌, ◌<◌, ◌≤◌, Bool, false, not, ◌&&◌, ◌↔◌, List, [], ◌∷◌, ◌++◌, length, sum, sym, ap, ap₂, subst, ◌∙◌, arith, le-leb, true≢false}
+use Rattle.offset_allocator.proofs.Common.{AllByRecursion, sum_by-cons, value, up, down, Block, View, used_units, used_of, one, starts_free, total_free, largest_free, units, free_sizes, free_block}
+use Rattle.offset_allocator.proofs.Common.{IsApart, IsWellFormed, max_size, IsFresh, CanGrant, common_steps}
+use Rattle.offset_allocator.proofs.{Taken.fitting, Classes.down_law, ViewTaken.well_alone}
 
 -- used and free units
 pub parted : (bs : List Block) → used_units bs + sum (free_sizes bs) ≡ units bs
-parted [] = refl
-parted (b ∷ bs) =
-    let ih = parted bs in
-    let e : sum (b.size ∷ free_sizes bs) ≡ b.size + sum (free_sizes bs) = sum_by-cons (λ n. n) b.size (free_sizes bs) in
-    elim b.used as (λ u. ((if u then b.size else 0) + used_units bs) + sum (if u then free_sizes bs else b.size ∷ free_sizes bs) ≡ b.size + units bs)
-    [ true ↦ omega (arith, ih) | false ↦ omega (arith, e, ih) ]
+parted [] = grind (arith, common_steps)
+parted (b ∷ bs) = grind (arith, common_steps, sum_by-cons, parted bs)
 
 pub adds_up : (v : View) → IsWellFormed v → used_units v.blocks + sum (free_sizes v.blocks) ≡ v.size
 adds_up v w = parted v.blocks ∙ w.whole
@@ -39,20 +27,15 @@ no_neighbours v w before run after e f = alone_if run after (apart_after_one bef
 
 -- free blocks are few: at most one more than the used ones, and no more where the first block is used
 few : (bs : List Block) → IsApart bs → length bs + one (not (starts_free bs)) ≤ 2 * used_of bs + 1
-few [] a = omega arith
-few (b ∷ bs) a =
-    let ih = few bs a.1 in
-    elim b.used as (λ u. (not u && starts_free bs) ≡ false → length (b ∷ bs) + one (not (not u)) ≤ 2 * (one u + used_of bs) + 1)
-    [ true ↦ λ e. omega (arith, ih) | false ↦ λ e. omega (arith, ih, ap (λ (x : Bool). one (not x)) e) ] a.0
+few [] a = grind arith
+few (b ∷ bs) a = grind (arith, few bs a.1)
 
 pub few_blocks : (v : View) → IsWellFormed v → length v.blocks ≤ 2 * used_of v.blocks + 1
 few_blocks v w = let h = few v.blocks w.apart in omega (arith, h)
 
 -- a full space
 pub reports_nothing : (v : View) → v.max_allocs ≤ length v.blocks + 1 → (total_free v ≡ 0) × (largest_free v ≡ 0)
-reports_nothing v h =
-    let full = le-leb v.max_allocs (length v.blocks + 1) h in
-    (ap (λ b. if b then 0 else sum (free_sizes v.blocks)) full, ap (λ b. if b then 0 else largest (free_sizes v.blocks)) full)
+reports_nothing v h = grind (arith, le-leb)
 
 head_of : (b c : Block) (bs cs : List Block) → b ∷ bs ≡ c ∷ cs → b ≡ c
 head_of b c bs cs e = cc

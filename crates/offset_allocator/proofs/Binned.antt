@@ -1,16 +1,10 @@
 -- The bins after a change of one of them.
-use Rattle.std.proofs.Common.{◌≡◌, ◌≢◌, ◌<◌, ◌≤◌, ◌+◌, ◌⊎◌, ℕ, List, [], ◌∷◌, ◌++◌, map, refl, sym, ap, subst, ◌∙◌, inl, inr, arith, length, drop}
-use Rattle.std.proofs.Common.{slice_index, slice_set}
-use Rattle.std.proofs.lemmas.Bool.{cases_eq}
-use Rattle.std.proofs.lemmas.List.{length-set, length-map, get_or-set_same, get_or-set_other, get_or-map, ext_get_or, set-get_or, set-set, set_comm}
-use Rattle.offset_allocator.specs.Cells.{Links}
-use Rattle.offset_allocator.specs.View.{bin_at, times, without, push, remove}
-use Rattle.offset_allocator.specs.Bins.{IsLinked, Among, flag, first_of, walk, HasBins, AreMasks, IsUnlisted, IsBinned, bins_in}
-use Rattle.offset_allocator.proofs.Masks.{masked_same, flag_full}
-use Rattle.offset_allocator.proofs.Tallies.{hit_cases, one-same, times-join}
-use Rattle.offset_allocator.proofs.ViewOrders.{names_same, names_other, times_without_le, unlisted_removed}
-use Rattle.offset_allocator.proofs.Walks.{name_below, older_below, chain_fits, walk_is, IsLater, found, kept, led, not_first, first_same, newer_kept, next_among, older_kept, unlinked, without_first}
-use Rattle.offset_allocator.proofs.Walks.{without_later}
+use Rattle.offset_allocator.proofs.Common.{◌≡◌, ◌≢◌, ◌<◌, ◌≤◌, ◌+◌, ◌⊎◌, ℕ, List, [], ◌∷◌, ◌++◌, map, refl, sym, ap, subst, ◌∙◌, inl, inr, arith, length, drop, slice_index, slice_set, cases_eq}
+use Rattle.offset_allocator.proofs.Common.{length-set, length-map, get_or-set_same, get_or-set_other, get_or-map, ext_get_or, set-get_or, set-set, set_comm, Links, bin_at, times, without, push}
+use Rattle.offset_allocator.proofs.Common.{remove, IsLinked, Among, flag, first_of, walk, HasBins, AreMasks, IsUnlisted, IsBinned, bins_in, common_steps}
+use Rattle.offset_allocator.proofs.{ViewOrders.names_same, ViewOrders.names_other, ViewOrders.times_without_le, ViewOrders.unlisted_removed, Walks.name_below, Walks.older_below, Walks.chain_fits}
+use Rattle.offset_allocator.proofs.{Walks.walk_is, Walks.IsLater, Walks.found, Walks.kept, Walks.led, Walks.not_first, Walks.first_same, Walks.newer_kept, Walks.next_among, Walks.older_kept}
+use Rattle.offset_allocator.proofs.{Walks.unlinked, Walks.without_first, Walks.without_later, Masks.masked_same, Masks.flag_full, Tallies.hit_cases, Tallies.one-same, Tallies.times-join}
 
 module _ {none : ℕ} {t : Links} {ls : List (List ℕ)} (k : HasBins none t ls) where
   pub single : (c : ℕ) → c < 256 → (x : ℕ) → times x (bin_at ls c) ≤ 1
@@ -24,8 +18,6 @@ module _ {none : ℕ} {t : Links} {ls : List (List ℕ)} (k : HasBins none t ls)
   unfolding bins_in
   shown =
       let long = length-map t.heads (walk none t.older (length t.older)) in
-      let hl = k.heads_len in
-      let ll = k.lists_len in
       ext_get_or [] (map (walk none t.older (length t.older)) t.heads) ls (omega arith) (λ c h.
       let ch : c < 256 = omega arith in
       get_or-map (walk none t.older (length t.older)) t.heads c 0 [] (omega arith) ∙ ap (walk none t.older (length t.older)) (k.heads c ch)
@@ -47,19 +39,13 @@ module _ {none : ℕ} {t : Links} {ls : List (List ℕ)} (k : HasBins none t ls)
         names_small = omega (arith, k.names_small);
         heads_len = rw hd (length-set t.heads c (first_of none ys) ∙ hl);
         lists_len = length-set ls c ys ∙ ll;
-        heads = λ d h. elim (cases_eq d c) [
-          | inl e ↦ rw (hd, here d e, e) (get_or-set_same t.heads c (first_of none ys) 0 (omega arith))
-          | inr n ↦ rw (hd, other d n) (get_or-set_other t.heads c d (first_of none ys) 0 n ∙ k.heads d h)
-        ];
+        heads = grind (arith, common_steps, cases_eq, get_or-set_same, get_or-set_other);
         chains = λ d h. elim (cases_eq d c) [
           | inl e ↦ rw (here d e) chain
           | inr n ↦ rw (other d n) (kept none t t' nl none (bin_at ls d) (λ y a. same y (name_below none t k.names_small none (bin_at ls d) (k.chains d h) y a) (omega (arith, new y d h n))
               (omega (arith, k.once d c y h ch n))) (k.chains d h))
         ];
-        once = λ d e x dh eh n. elim (cases_eq d c) [
-          | inl p ↦ let m : e ≢ c = λ q. n (p ∙ sym q) in rw (here d p, other e m) (new x e eh m)
-          | inr p ↦ elim (cases_eq e c) [ inl q ↦ rw (other d p, here e q) (omega (arith, new x d dh p)) | inr q ↦ rw (other d p, other e q) (k.once d e x dh eh n) ]
-        ];
+        once = grind (arith, common_steps, cases_eq);
       }
 
   module _ (c : ℕ) (ch : c < 256) where
@@ -72,10 +58,7 @@ module _ {none : ℕ} {t : Links} {ls : List (List ℕ)} (k : HasBins none t ls)
         cons (x ∷ xs) f e = ap (λ i. i ∷ xs) (sym e)
 
     pub head_among : slice_index t.heads c ≢ none → Among (slice_index t.heads c) (bin_at ls c)
-    head_among n =
-        let e = (head (λ e. n (k.heads c ch ∙ ap (first_of none) e))).0 in
-        let q = ap (times (slice_index t.heads c)) e in
-        omega (arith, q, one-same (slice_index t.heads c))
+    head_among n = grind (arith, head, one-same)
 
     pub head_below : slice_index t.heads c ≢ none → slice_index t.heads c < length t.newer
     head_below n = (head (λ e. n (k.heads c ch ∙ ap (first_of none) e))).1.0
@@ -137,7 +120,6 @@ module _ {none : ℕ} {t : Links} {ls : List (List ℕ)} (k : HasBins none t ls)
           let h : ℕ = slice_index t.heads c in
           let long : length t'.newer ≡ length t.newer = rw newer (length-set (slice_set t.newer x none) h x ∙ length-set t.newer x none) in
           let absent : times x (bin_at ls c) ≡ 0 = omega (arith, fresh c ch) in
-          let ns = k.names_small in
           let newer_kept : (y : ℕ) → y ≢ x → y ≢ h → slice_index t'.newer y ≡ slice_index t.newer y =
           λ y n m. rw newer (get_or-set_other (slice_set t.newer x none) h y x 0 m ∙ get_or-set_other t.newer x y none 0 n) in
           let older_kept : (y : ℕ) → y ≢ x → slice_index t'.older y ≡ slice_index t.older y = λ y n. rw older (get_or-set_other t.older x y h 0 n) in
@@ -153,8 +135,7 @@ module _ {none : ℕ} {t : Links} {ls : List (List ℕ)} (k : HasBins none t ls)
           )
           (λ y b u v. let n : y ≢ x = λ e. let q = ap (λ i. times i (x ∷ [])) e in omega (arith, one-same x) in (newer_kept y n (not_head y b v), older_kept y n))
           (λ y d dh n. elim (hit_cases y x) [
-            | inl i ↦ let q = ap (λ j. times j (bin_at ls d)) i.0 in let p = ap (λ j. times j (bin_at ls c)) i.0 in
-                omega (arith, i.1, fresh d dh)
+            | inl i ↦ grind (arith, common_steps)
             | inr i ↦ omega (arith, i.1, k.once d c y dh ch n)
           ])
         where
@@ -173,7 +154,6 @@ module _ {none : ℕ} {t : Links} {ls : List (List ℕ)} (k : HasBins none t ls)
           let long : length t'.newer ≡ length t.newer = rw newer (length-set t.newer after none) in
           let newer_kept : (y : ℕ) → y ≢ first_of none xs → slice_index t'.newer y ≡ slice_index t.newer y =
           λ y n. rw newer (get_or-set_other t.newer after y none 0 (λ s. n (s ∙ first))) in
-          let ns = k.names_small in
           relisted c ch t' xs long (rw older) (rw first at heads)
           (led none t t' long (slice_index t.heads c) none xs (λ y. omega (arith, few y, single c ch y)) (linked_back xs first (slice_index t.heads c) h.1.3)
           (λ y a n. newer_kept y n) (λ y a. rw older) h.1.3)
@@ -189,15 +169,13 @@ module _ {none : ℕ} {t : Links} {ls : List (List ℕ)} (k : HasBins none t ls)
           → t'.newer ≡ slice_set t.newer after before → t'.older ≡ slice_set t.older before after → t'.heads ≡ t.heads → HasBins none t' (slice_set ls c (without x (bin_at ls c)))
       left x before after f be af newer older heads =
           let w : ℕ = slice_index t.newer x in
-          let ns = k.names_small in
           let chain : IsLinked none t none (f.front ++ w ∷ x ∷ f.rest) = rw f.is at (k.chains c ch) in
           let o : (y : ℕ) → times y (f.front ++ w ∷ x ∷ f.rest) ≤ 1 = rw f.is at (single c ch) in
           let is : without x (bin_at ls c) ≡ f.front ++ w ∷ f.rest = ap (without x) f.is ∙ without_later x w f.front f.rest (o x) in
           let first : after ≡ first_of none f.rest = af ∙ rest_first f.front none chain in
           let newer' : t'.newer ≡ slice_set t.newer (first_of none f.rest) w = rw (← first, ← be) newer in
           let older' : t'.older ≡ slice_set t.older w (first_of none f.rest) = rw (← first, ← be) older in
-          let head : slice_index t.heads c ≡ first_of none (without x (bin_at ls c)) = k.heads c ch ∙ ap (first_of none) f.is ∙ first_same none w x f.rest f.front
-          ∙ ap (first_of none) (sym is) in
+          let head : slice_index t.heads c ≡ first_of none (without x (bin_at ls c)) = grind (arith, common_steps, first_same) in
           relisted c ch t' (without x (bin_at ls c)) (rw newer (length-set t.newer after before)) (rw older (length-set t.older before after)) (heads ∙ sym (rw (← head) (set-get_or t.heads c 0)))
           (rw is (unlinked none t t' w x f.rest k.names_small k.older_len newer' older' none f.front o chain))
           (λ y l u v.
@@ -218,8 +196,6 @@ pub exchanged : {none : ℕ} {t : Links} {ls : List (List ℕ)} (k : HasBins non
     → HasBins none t' (push c x (remove c (slice_index t.heads c) ls))
 exchanged {none} {t} {ls} k c ch t' x after l fresh full next newer older heads =
     let h = head k c ch full in
-    let ns = k.names_small in
-    let hl = k.heads_len in
     let absent : times x (drop 1 (bin_at ls c)) ≡ 0 = omega (arith, fresh c ch, ap (times x) h.0) in
     let apart : after ≢ x = λ e. not_first x (drop 1 (bin_at ls c)) (omega arith) absent (sym e ∙ next ∙ h.1.2) in
     let left : Links = record t { newer = slice_set t.newer after none; heads = slice_set t.heads c after } in

@@ -1,29 +1,12 @@
 -- What it leaves of the whole allocator to slide the live ranges to the front.
-use Rattle.std.proofs.Common.{◌≡◌, ℕ, suc, ◌+◌, ◌≤◌, Bool, true, false, not, ◌&&◌, Some, None, List, [], ◌∷◌, ◌++◌, length, replicate, sum, if◌then◌else◌, nat_eq}
-use Rattle.std.proofs.Common.{refl, sym, ap, ap₂, subst, ◌∙◌, inl, inr, arith, append-nil, length-append, eq-zero-or-pos}
-use Rattle.std.specs.List.{AllByRecursion}
-use Rattle.std.proofs.lemmas.Bool.Decides.{nat_tests}
-use Rattle.std.proofs.lemmas.List.{length-replicate, ext_get_or}
-use Rattle.offset_allocator.specs.Classes.{down}
-use Rattle.offset_allocator.specs.Cells.{Cells, Room}
-use Rattle.offset_allocator.specs.View.{Block, View, Place, one, free_block, units, free_sizes, used_units, used_of, count_named, count_in_bin, bin_at, push, push_all, IsApart, IsWellFormed}
-use Rattle.offset_allocator.specs.View.{starts_free}
-use Rattle.offset_allocator.specs.Compacting.{live, moves, move_of, first_free, gathered, Compacts}
-use Rattle.offset_allocator.specs.Relations.{SameSpace}
-use Rattle.offset_allocator.specs.Chain.{HasPlace, blocks}
-use Rattle.offset_allocator.specs.Bins.{IsBinned, bins_in}
-use Rattle.offset_allocator.specs.Soundness.{AreInBins, free_units}
-use Rattle.offset_allocator.proofs.Always.{parted}
-use Rattle.offset_allocator.proofs.Emptied.{no_name, none_at}
-use Rattle.offset_allocator.proofs.Exchange.{each-le, there-below, unused}
-use Rattle.offset_allocator.proofs.Filed.{share}
-use Rattle.offset_allocator.proofs.Joints.{stepped, free_units-append, free_units-free, free_units-used}
-use Rattle.offset_allocator.proofs.Places.{placed}
+use Rattle.offset_allocator.proofs.Common.{◌≡◌, ℕ, suc, ◌+◌, ◌≤◌, Bool, true, false, not, ◌&&◌, Some, None, List, [], ◌∷◌, ◌++◌, length, replicate, sum, if◌then◌else◌, nat_eq, refl, sym, ap, ap₂}
+use Rattle.offset_allocator.proofs.Common.{subst, ◌∙◌, arith, append-nil, length-append, eq-zero-or-pos, AllByRecursion, nat_tests, length-replicate, ext_get_or, down, Cells, Room, Block, View, Place}
+use Rattle.offset_allocator.proofs.Common.{one, free_block, units, free_sizes, used_units, used_of, count_named, count_in_bin, bin_at, push, push_all, IsApart, IsWellFormed, starts_free, live, moves}
+use Rattle.offset_allocator.proofs.Common.{move_of, first_free, gathered, Compacts, SameSpace, HasPlace, blocks, IsBinned, bins_in, AreInBins, free_units, common_steps}
 use Rattle.offset_allocator.proofs.Sliding.{first_used, first_idle, live_used, live_idle, moves_used, moves_idle}
-use Rattle.offset_allocator.proofs.Sound.{Fields, AreSound, shown, well_counted}
-use Rattle.offset_allocator.proofs.Tallies.{one-same, tally_append, units-append}
-use Rattle.offset_allocator.proofs.ViewOrders.{times_put_all, length_put}
-use Rattle.offset_allocator.proofs.ViewTaken.{replicate_none}
+use Rattle.offset_allocator.proofs.{Always.parted, Emptied.no_name, Emptied.none_at, Exchange.each-le, Exchange.there-below, Exchange.unused, Filed.share, Joints.stepped, Joints.free_units-append}
+use Rattle.offset_allocator.proofs.{Joints.free_units-free, Joints.free_units-used, Places.placed, Sound.Fields, Sound.AreSound, Sound.shown, Sound.well_counted, Tallies.one-same}
+use Rattle.offset_allocator.proofs.{Tallies.tally_append, Tallies.units-append, ViewOrders.times_put_all, ViewOrders.length_put, ViewTaken.replicate_none}
 
 abbrev pub AreUsed : List Block → Type 0
 AreUsed bs = AllByRecursion (λ b. b.used ≡ true) bs
@@ -46,9 +29,8 @@ live_whole [] h = refl
 live_whole (b ∷ bs) h = live_used b bs h.0 ∙ ap (λ l. b ∷ l) (live_whole bs h.1)
 
 live_append : (bs cs : List Block) → live (bs ++ cs) ≡ live bs ++ live cs
-live_append [] cs = refl
-live_append (b ∷ bs) cs = let ih = live_append bs cs in
-    elim b.used as (λ u. (if u then b ∷ live (bs ++ cs) else live (bs ++ cs)) ≡ (if u then b ∷ live bs else live bs) ++ live cs) [ true ↦ ap (λ l. b ∷ l) ih | false ↦ ih ]
+live_append [] cs = grind arith
+live_append (b ∷ bs) cs = grind (arith, live_append bs cs)
 
 none_listed : (bs : List Block) → AreUsed bs → (c x : ℕ) → count_in_bin c x bs ≡ 0
 none_listed [] h c x = refl
@@ -60,9 +42,8 @@ no_free_units (b ∷ bs) h = free_units-used b bs h.0 ∙ no_free_units bs h.1
 
 -- of all blocks, the live ones have the units that are not free, and are fewer where one is free
 live_units : (bs : List Block) → units bs ≡ units (live bs) + free_units bs
-live_units [] = refl
-live_units (b ∷ bs) = let ih = live_units bs in
-    elim b.used as (λ u. b.size + units bs ≡ units (if u then b ∷ live bs else live bs) + ((if u then 0 else b.size) + free_units bs)) [ true ↦ omega arith | false ↦ omega arith ]
+live_units [] = grind arith
+live_units (b ∷ bs) = grind (arith, live_units bs)
 
 live_fewer : (bs : List Block) → length (live bs) ≤ length bs
 live_fewer [] = omega arith
@@ -116,7 +97,6 @@ first_is (b ∷ bs) x e = go b.used refl (λ h. first_is bs x h)
           moves = λ i. moves_used i i b bs u ∙ ap (λ l. l ++ moves (i + b.size) (i + b.size) bs) (stays i b) ∙ f.moves (i + b.size) ∙ ap₂ (λ j k. moves j k p.after) (from i) (to i);
         }
     go false u rest =
-        let n : Some b.name ≡ Some x = sym (first_idle b bs u) ∙ e in
         let from : (i : ℕ) → i + b.size ≡ i + (0 + b.size) = λ i. omega arith in
         let to : (i : ℕ) → i ≡ i + 0 = λ i. omega arith in
         record {
@@ -141,29 +121,19 @@ packed [] e = record { used = tt; sizes = refl; moves = λ i. refl }
 packed (b ∷ bs) e = go b.used refl (λ h. packed bs h)
   where
     go : (u : Bool) → b.used ≡ u → (first_free bs ≡ None → IsPacked bs) → IsPacked (b ∷ bs)
-    go true u rest =
-        let r : IsPacked bs = rest (sym (first_used b bs u) ∙ e) in
-        record {
-          used = (u, r.used);
-          sizes = ap (λ (v : Bool). if v then free_sizes bs else b.size ∷ free_sizes bs) u ∙ r.sizes;
-          moves = λ i. moves_used i i b bs u ∙ ap (λ l. l ++ moves (i + b.size) (i + b.size) bs) (stays i b) ∙ r.moves (i + b.size);
-        }
-    go false u rest = let n : Some b.name ≡ None = sym (first_idle b bs u) ∙ e in absurd (cc)
+    go true u rest = grind (arith, common_steps, first_used, moves_used, stays)
+    go false u rest = grind (arith, common_steps, first_idle)
 
 sum_sizes : (bs : List Block) → sum (free_sizes bs) ≡ free_units bs
 sum_sizes bs = omega (arith, parted bs, all bs)
   where
     all : (bs : List Block) → used_units bs + free_units bs ≡ units bs
-    all [] = refl
-    all (b ∷ bs) = let ih = all bs in elim b.used as (λ u. ((if u then b.size else 0) + used_units bs) + ((if u then 0 else b.size) + free_units bs) ≡ b.size + units bs)
-        [ true ↦ omega arith | false ↦ omega arith ]
+    all [] = grind (arith, common_steps)
+    all (b ∷ bs) = grind (arith, common_steps, all bs)
 
 -- the live blocks stay
 pub compacts_live : (v w : View) → Compacts v w → live w.blocks ≡ live v.blocks
-compacts_live v w c =
-    let none : (ns : List ℕ) → live (gathered c.name ns) ≡ [] = λ ns. elim ns as (λ l. live (gathered c.name l) ≡ []) [ [] ↦ refl | n ∷ ms ↦ refl ] in
-    ap (λ (u : View). live u.blocks) c.view ∙ live_append (live v.blocks) (gathered c.name (free_sizes v.blocks))
-    ∙ ap₂ (λ (k l : List Block). k ++ l) (live_whole (live v.blocks) (live_are_used v.blocks)) (none (free_sizes v.blocks)) ∙ append-nil (live v.blocks)
+compacts_live v w c = grind (arith, live_append, live_whole, live_are_used, append-nil)
 
 -- a space with a free block
 module _ (f : Fields) (s : AreSound f) where
@@ -203,20 +173,8 @@ module _ (f : Fields) (s : AreSound f) where
         left_well = record {
           some = omega (arith, length-append packed_blocks (free_block hole size ∷ []));
           distinct = λ y. omega (arith, each-le d.room _ last count _ there.chain y);
-          below = λ y l. elim (eq-zero-or-pos (count_named y (packed_blocks ++ free_block hole size ∷ []))) [
-            | inl z ↦ z
-            | inr some ↦ absurd (omega (arith, there-below d.room _ last count y _ there.chain some, there.chain.within, s.memory))
-          ];
-          whole = omega (
-            arith,
-            w.whole,
-            ap units o.is,
-            units-append p.before (p.block ∷ p.after),
-            units-append packed_blocks (free_block hole size ∷ []),
-            units-append p.before (live p.after),
-            live_units p.after,
-            sized,
-          );
+          below = grind (arith, common_steps, eq-zero-or-pos, there-below);
+          whole = grind (arith, common_steps, units-append, live_units);
           fits = w.fits;
           apart = apart_end packed_blocks (free_block hole size) are_used;
           classes = length_put (down size) hole (replicate 256 []) ∙ length-replicate {A = List ℕ} 256 [];
@@ -233,8 +191,7 @@ module _ (f : Fields) (s : AreSound f) where
 
         compacted : (u : View) → SameSpace left_view u → Compacts v u
         compacted u same =
-            let gathers : gathered hole (free_sizes v.blocks) ≡ free_block hole size ∷ [] = ap (gathered hole) o.sizes
-            ∙ ap (λ n. free_block hole n ∷ []) (omega (arith, sized, sum_sizes p.after)) in
+            let gathers : gathered hole (free_sizes v.blocks) ≡ free_block hole size ∷ [] = grind (arith, common_steps, sum_sizes) in
             record {
               name = hole;
               below = omega (arith, there.below, there.chain.within, s.memory);
@@ -272,11 +229,4 @@ module _ (f : Fields) (s : AreSound f) where
       let r = packed v.blocks e in
       let t = unused s.space (omega (arith, w.room, s.memory)) in
       let whole = live_whole v.blocks r.used in
-      record {
-        name = t.0;
-        below = omega (arith, t.1, s.memory);
-        absent = ap (count_named t.0) whole ∙ t.2;
-        view = ap₂ (λ (bs : List Block) (o : List (List ℕ)). record v { blocks = bs; order = o; accesses = accesses }) (sym (append-nil v.blocks)
-            ∙ ap₂ (λ (k l : List Block). k ++ l) (sym whole) (sym (ap (gathered _) r.sizes))) (none_filed ls v.blocks w.classes r.used (λ k y. w.orders k y)
-            ∙ sym (ap (λ ns. push_all (gathered t.0 ns) (replicate 256 [])) r.sizes));
-      }
+      grind (arith, common_steps, append-nil, none_filed)

@@ -1,17 +1,8 @@
 -- The names of a class are as many as its free blocks.
-use Rattle.std.proofs.Common.{◌≡◌, ◌≢◌, ℕ, zero, suc, ◌+◌, ◌*◌, ◌<◌, ◌≤◌, true, false, not, cond, ◌&&◌, List, [], ◌∷◌, length, sum, nat_eq, nat_lt}
-use Rattle.std.proofs.Common.{if◌then◌else◌, refl, sym, ap, inl, inr, arith, eq-eqb, ne_eqb}
-use Rattle.std.proofs.lemmas.Bool.{cases_eq, cases_lt}
-use Rattle.std.proofs.lemmas.Bool.Decides.{nat_tests}
-use Rattle.std.proofs.lemmas.List.{get_or_past}
-use Rattle.std.proofs.lemmas.List.Sums.{sum_by-cons}
-use Rattle.offset_allocator.specs.Classes.{value, up, down}
-use Rattle.offset_allocator.specs.Reports.{count_of, largest}
-use Rattle.offset_allocator.specs.View.{Block, View, one, times, count_in_bin, bin_at, free_sizes, IsWellFormed}
-use Rattle.offset_allocator.specs.Requests.{IsLargestClass}
-use Rattle.offset_allocator.proofs.Classes.{down_small, value_down, value_grows, up_reached}
-use Rattle.offset_allocator.proofs.Walks.{drop_one}
-use Rattle.offset_allocator.proofs.Tallies.{one-same}
+use Rattle.offset_allocator.proofs.Common.{◌≡◌, ◌≢◌, ℕ, zero, suc, ◌+◌, ◌*◌, ◌<◌, ◌≤◌, true, false, not, cond, ◌&&◌, List, [], ◌∷◌, length, sum, nat_eq, nat_lt, if◌then◌else◌, refl, sym, ap, inl, inr}
+use Rattle.offset_allocator.proofs.Common.{arith, eq-eqb, ne_eqb, cases_eq, cases_lt, nat_tests, get_or_past, sum_by-cons, value, up, down, count_of, largest, Block, View, one, times, count_in_bin}
+use Rattle.offset_allocator.proofs.Common.{bin_at, free_sizes, IsWellFormed, IsLargestClass}
+use Rattle.offset_allocator.proofs.{Classes.down_small, Classes.value_down, Classes.value_grows, Classes.up_reached, Walks.drop_one, Tallies.one-same}
 
 -- ---- sizes by their classes
 -- a class of which a size is
@@ -110,13 +101,8 @@ sizes_none [] = refl
 sizes_none (n ∷ ns) = let ih = sizes_none ns in grind (arith, nat_tests)
 
 sizes_more : (c : ℕ) (ns : List ℕ) → (sizes_below (suc c) ns ≡ sizes_below c ns + count_of c ns) × (sizes_below c ns ≤ length ns)
-sizes_more c [] = (refl, omega arith)
-sizes_more c (n ∷ ns) =
-    let (e, l) = sizes_more c ns in
-    elim (cases_eq (down n) c) [
-      | inl q ↦ rw (eq-eqb (down n) c q) (grind (arith, nat_tests, e), grind (arith, nat_tests, l))
-      | inr m ↦ rw (ne_eqb (down n) c m) (grind (arith, nat_tests, e, m), grind (arith, nat_tests, l))
-    ]
+sizes_more c [] = grind arith
+sizes_more c (n ∷ ns) = grind (arith, cases_eq, eq-eqb, nat_tests, ne_eqb, sizes_more c ns)
 
 names_counts : (v : View) → IsWellFormed v → (c : ℕ) → names_below c v.order ≡ sizes_below c (free_sizes v.blocks)
 names_counts v w zero = sym (sizes_none (free_sizes v.blocks))

@@ -1,22 +1,11 @@
 -- A space whose used blocks are freed one after the other, from its end on: each is the last block or the one before
 -- it, and where none is left the space is one free block.
-use Rattle.std.proofs.Common.{◌≡◌, ℕ, ◌+◌, ◌*◌, append_assoc, ◌<◌, ◌≤◌, Bool, true, false, not, List, [], ◌∷◌, ◌++◌, length, replicate, Option, Some, None, IfSome}
-use Rattle.std.proofs.Common.{nat_eq, refl, sym, ap, ap₂, subst, ◌∙◌, arith, inl, inr}
-use Rattle.std.proofs.lemmas.List.{length-replicate, ext_get_or}
-use Rattle.std.proofs.lemmas.Bool.{cases_lt, false≢true, not-false}
-use Rattle.offset_allocator.specs.Classes.{down}
-use Rattle.offset_allocator.specs.View.{Block, View, one, is_free, free_block, units, count_named, used_of, times, count_in_bin, bin_at, push, IsApart, IsWellFormed, place_of, is_used_at}
-use Rattle.offset_allocator.specs.Relations.{SameSpace, Frees, Resets}
-use Rattle.offset_allocator.specs.Chain.{last_or}
-use Rattle.offset_allocator.proofs.Ends.{Ended, ended, last_none}
-use Rattle.offset_allocator.proofs.Classes.{down_small}
-use Rattle.offset_allocator.specs.Ranges.{IsLive}
-use Rattle.offset_allocator.proofs.Reading.{used_live}
-use Rattle.offset_allocator.proofs.ViewApart.{apart_parts, left_false}
-use Rattle.offset_allocator.proofs.Tallies.{hit_cases, tally_append, one-same, one-eq}
+use Rattle.offset_allocator.proofs.Common.{◌≡◌, ℕ, ◌+◌, ◌*◌, append_assoc, ◌<◌, ◌≤◌, Bool, true, false, not, List, [], ◌∷◌, ◌++◌, length, replicate, Option, Some, None, IfSome, nat_eq, refl, sym, ap}
+use Rattle.offset_allocator.proofs.Common.{ap₂, subst, ◌∙◌, arith, inl, inr, length-replicate, ext_get_or, cases_lt, false≢true, not-false, down, Block, View, one, is_free, free_block, units}
+use Rattle.offset_allocator.proofs.Common.{count_named, used_of, times, count_in_bin, bin_at, push, IsApart, IsWellFormed, place_of, is_used_at, SameSpace, Frees, Resets, last_or, IsLive}
 use Rattle.offset_allocator.proofs.ViewOrders.{hit_at, hit_other, names_same, names_other, length_put}
-use Rattle.offset_allocator.proofs.ViewSteps.{place_here}
-use Rattle.offset_allocator.proofs.ViewTaken.{replicate_none}
+use Rattle.offset_allocator.proofs.{Ends.Ended, Ends.ended, Ends.last_none, Classes.down_small, Reading.used_live, ViewApart.apart_parts, ViewApart.left_false, Tallies.hit_cases, Tallies.tally_append}
+use Rattle.offset_allocator.proofs.{Tallies.one-same, Tallies.one-eq, ViewSteps.place_here, ViewTaken.replicate_none}
 
 -- lists of names
 pub no_name : (l : List ℕ) → ((y : ℕ) → times y l ≡ 0) → l ≡ []
@@ -45,15 +34,9 @@ lone (b ∷ d ∷ bs) s a u = absurd (false≢true (sym (rw (unused b.used (omeg
 
 -- of two neighbours one is used
 pub half_used : (bs : List Block) → IsApart bs → length bs ≤ 2 * used_of bs + 1
-half_used [] a = omega arith
-half_used (b ∷ []) a = omega arith
-half_used (b ∷ d ∷ bs) a =
-    let next = half_used (d ∷ bs) a.1 in
-    let rest = half_used bs a.1.1 in
-    elim b.used as (λ u. b.used ≡ u → length (b ∷ d ∷ bs) ≤ 2 * (one u + used_of (d ∷ bs)) + 1) [
-      | true ↦ λ e. omega (arith, next)
-      | false ↦ λ e. let taken : d.used ≡ true = not-false d.used (rw e at a.0) in omega (arith, rest, ap one taken)
-    ] refl
+half_used [] a = grind arith
+half_used (b ∷ []) a = grind arith
+half_used (b ∷ d ∷ bs) a = grind (arith, not-false, half_used (d ∷ bs) a.1, half_used bs a.1.1)
 
 pub emptied : (v : View) → IsWellFormed v → used_of v.blocks ≡ 0 → (x : ℕ) × (x < v.max_allocs)
     × (v ≡ record v { blocks = free_block x v.size ∷ []; order = push (down v.size) x (replicate 256 []) })
@@ -62,7 +45,6 @@ emptied v w u =
     let x : ℕ = l.0.name in
     let n : ℕ = l.0.size in
     let sized : n ≡ v.size = omega (arith, w.whole, ap units l.1) in
-    let kept : View = record v { blocks = free_block x n ∷ []; order = push (down n) x (replicate 256 []) } in
     let below : x < v.max_allocs = elim (cases_lt x v.max_allocs) [
       | inl b ↦ b
       | inr b ↦ absurd (omega (arith, w.below x b, ap (count_named x) l.1, one-same x))
@@ -127,21 +109,11 @@ module _ (bs : List Block) (last : ℕ) (ends : last_or None bs ≡ Some last) (
 
 -- a release leaves fewer used blocks
 pub freed_fewer : (x : ℕ) (v w : View) → Frees x v w → used_of w.blocks < used_of v.blocks
-freed_fewer x v w f =
-    let used : Block → ℕ = λ b. one b.used in
-    let old = ap used_of f.blocks ∙ tally_append used f.before ((f.left ++ (f.block ∷ f.right)) ++ f.after) in
-    let middle = tally_append used (f.left ++ (f.block ∷ f.right)) f.after in
-    let inner = tally_append used f.left (f.block ∷ f.right) in
-    let new = ap (λ (u : View). used_of u.blocks) f.view ∙ tally_append used f.before _ in
-    omega (arith, ap one f.used, old, middle, inner, new)
+freed_fewer x v w f = grind (arith, tally_append)
 
 -- a space without a used block is as a reset leaves one
 pub as_reset : (v w : View) → IsWellFormed v → used_of v.blocks ≡ 0 → SameSpace v w → Resets v w
 as_reset v w well none same = let e = emptied v well none in record { name = e.0; below = e.1; view = same ∙ ap (λ (u : View). record u { accesses = w.accesses }) e.2 }
 
 pub reset_alike : (u v w : View) → v.size ≡ u.size → v.max_allocs ≡ u.max_allocs → Resets v w → Resets u w
-reset_alike u v w e f r = record {
-  name = r.name;
-  below = omega (arith, r.below, f);
-  view = r.view ∙ ap₂ (λ (n m : ℕ). record { size = n; max_allocs = m; blocks = free_block r.name n ∷ []; order = push (down n) r.name (replicate 256 []); accesses = w.accesses }) e f;
-}
+reset_alike u v w e f r = grind arith

@@ -1,7 +1,6 @@
 -- The last block of a list, and whether it is free.
-use Rattle.std.proofs.Common.{◌≡◌, ◌≢◌, ℕ, Bool, true, false, not, List, [], ◌∷◌, ◌++◌, Some, None, if◌then◌else◌, refl, ap}
-use Rattle.offset_allocator.specs.View.{Block, free_end, without_end, free_start, without_start}
-use Rattle.offset_allocator.specs.Chain.{last_or}
+use Rattle.offset_allocator.proofs.Common.{◌≡◌, ◌≢◌, ℕ, Bool, true, false, not, List, [], ◌∷◌, ◌++◌, Some, None, if◌then◌else◌, refl, ap, Block, free_end, without_end, free_start, without_start}
+use Rattle.offset_allocator.proofs.Common.{last_or}
 
 -- a list with a last block
 pub record Ended (w : ℕ) (bs : List Block) : Type 0 where

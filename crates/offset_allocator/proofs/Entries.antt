@@ -1,11 +1,9 @@
 -- Entries as a list of nodes.
-use Rattle.std.proofs.Common.{◌≡◌, ◌≢◌, ℕ, zero, suc, ◌-◌, [], ◌∷◌, ◌++◌, ◌<◌, ◌≤◌, Bool, true, false, List, length, map, set, get_or, refl, sym, ◌∙◌, ap}
-use Rattle.std.proofs.Common.{arith, eqb, eq-eqb, ne_eqb}
-use Rattle.std.proofs.lemmas.List.{get_or_past, length-map, length-set, map-set, map-append, set-get_or}
-use Rattle.std.specs.Vec.{vec_len, vec_capacity, with_item}
+use Rattle.offset_allocator.proofs.Common.{◌≡◌, ◌≢◌, ℕ, zero, suc, ◌-◌, [], ◌∷◌, ◌++◌, ◌<◌, ◌≤◌, Bool, true, false, List, length, map, set, get_or, refl, sym, ◌∙◌, ap, arith, eqb, eq-eqb, ne_eqb}
+use Rattle.offset_allocator.proofs.Common.{length-map, length-set, map-set, map-append, set-get_or, vec_len, vec_capacity, Cells, Node, blank, mark_of, node, put, AreShaped, node_of, nodes_of}
+use Rattle.offset_allocator.proofs.Common.{cells_by_node, AreEven, common_steps}
+use Rattle.std.specs.Vec.{with_item}
 use Rattle.std.proofs.Math.Seq.{map-set_same}
-use Rattle.offset_allocator.specs.Cells.{Cells, Node, blank, mark_of, node, put, AreShaped}
-use Rattle.offset_allocator.specs.Layouts.{node_of, nodes_of, cells_by_node, AreEven}
 use Rattle.offset_allocator.specs.declared.by_node.Node.{Node as Entry}
 use Rattle.offset_allocator.specs.declared.by_node.ByNode.TheInside.{Inside}
 
@@ -88,11 +86,6 @@ module _ {A B : Type 0} (max : ℕ) (number : A → ℕ) (t : Inside A B) {c : C
   unfolding node
   read x n l at = rw (← e) (entry_at max number ns x n (within x l) at)
 
-  -- past the table no node is used
-  pub read_past : (x : ℕ) → length ns ≤ x → (node c.room x).used ≡ false
-  unfolding node
-  read_past x l = rw (← e) (ap (λ (v : Node). v.used) (get_or_past (nodes_of max number ns) x blank (omega (arith, l, length-nodes_of max number ns))))
-
   -- an entry written in what the chain of blocks sees: f is the change of the node
   pub wrote-room : (x : ℕ) (n m : Entry A) (f : Node → Node) → x < length c.room.nodes → n ≡ get_or ns x n → node_of max number m ≡ f (node_of max number n)
       → number m.newer ≡ number n.newer → number m.older ≡ number n.older
@@ -115,9 +108,7 @@ module _ {A B : Type 0} (max : ℕ) (number : A → ℕ) (t : Inside A B) {c : C
   wrote-used x n link used some l at q =
       let m : Entry A = record n { newer = link } in
       let was = entry_at max number ns x n (within x l) at in
-      let flag : eqb (number link) (max - 1) ≡ used = ap (λ i. eqb i (max - 1)) q ∙ marked max used some in
-      let is : node_of max number m ≡ record (get_or (nodes_of max number ns) x blank) { used = used } = ap (λ (u : Bool). record (node_of max number n) { used = u }) flag
-      ∙ ap (λ (v : Node). record v { used = used }) (sym was) in
+      let is : node_of max number m ≡ record (get_or (nodes_of max number ns) x blank) { used = used } = grind (arith, common_steps) in
       let nodes = entry_set max number ns x m ∙ ap (set (nodes_of max number ns) x) is in
       let newer = map-set (λ (k : Entry A). number k.newer) ns x m ∙ ap (set (map (λ (k : Entry A). number k.newer) ns) x) q in
       let older = map-set_same (λ (k : Entry A). number k.older) ns x m n (ap (λ (k : Entry A). number k.older) at) in
@@ -137,31 +128,15 @@ module _ {A B : Type 0} (max : ℕ) (number : A → ℕ) (t : Inside A B) {c : C
 
   pub wrote-newer : (x : ℕ) (n : Entry A) (link : A) → x < length c.links.newer → n ≡ get_or ns x n → (node c.room x).used ≡ false → number link ≢ max - 1
       → seen (set ns x (record n { newer = link })) ≡ record c { links = record c.links { newer = set c.links.newer x (number link) } }
-  wrote-newer x n link l at idle ne =
-      let short = within-links x l in
-      let m : Entry A = record n { newer = link } in
-      let nodes = kept x n m short at (ap (λ (u : Bool). record (node_of max number n) { used = u }) (idle_still x n link short at idle ne)) in
-      let newer = map-set (λ (k : Entry A). number k.newer) ns x m in
-      let older = map-set_same (λ (k : Entry A). number k.older) ns x m n (ap (λ (k : Entry A). number k.older) at) in
-      rw (← e) (rw (nodes, newer, older) refl)
+  wrote-newer x n link l at idle ne = grind (arith, common_steps, within-links, kept, idle_still, map-set, map-set_same)
 
   pub wrote-older : (x : ℕ) (n : Entry A) (link : A) → x < length c.links.older → n ≡ get_or ns x n
       → seen (set ns x (record n { older = link })) ≡ record c { links = record c.links { older = set c.links.older x (number link) } }
-  wrote-older x n link l at =
-      let short = within-older x l in
-      let m : Entry A = record n { older = link } in
-      let nodes = kept x n m short at refl in
-      let newer = map-set_same (λ (k : Entry A). number k.newer) ns x m n (ap (λ (k : Entry A). number k.newer) at) in
-      let older = map-set (λ (k : Entry A). number k.older) ns x m in
-      rw (← e) (rw (nodes, newer, older) refl)
+  wrote-older x n link l at = grind (arith, common_steps, within-older, kept, map-set_same, map-set)
 
   pub wrote-links : (x : ℕ) (n : Entry A) (newer older : A) → x < length c.links.newer → n ≡ get_or ns x n → (node c.room x).used ≡ false → number newer ≢ max - 1
       → seen (set ns x (record n { newer = newer; older = older })) ≡ record c { links = record c.links { newer = set c.links.newer x (number newer); older = set c.links.older x (number older) } }
-  wrote-links x n newer older l at idle ne =
-      let short = within-links x l in
-      let m : Entry A = record n { newer = newer; older = older } in
-      let nodes = kept x n m short at (ap (λ (u : Bool). record (node_of max number n) { used = u }) (idle_still x n newer short at idle ne)) in
-      rw (← e) (rw (nodes, map-set (λ (k : Entry A). number k.newer) ns x m, map-set (λ (k : Entry A). number k.older) ns x m) refl)
+  wrote-links x n newer older l at idle ne = grind (arith, common_steps, within-links, kept, idle_still, map-set)
 
 pub shaped : {A B : Type 0} (max : ℕ) (number : A → ℕ) (t : Inside A B) → AreEven max t → max ≤ 4294967295 → AreShaped max (cells_by_node max number t)
 unfolding node
@@ -184,23 +159,9 @@ pub ruleset cells = (length-nodes_of, within, within-links)
 
 -- an entry written keeps the lengths
 pub even_set : {A B : Type 0} (max : ℕ) (t : Inside A B) → AreEven max t → (x : ℕ) (m : Entry A) → AreEven max (record t { nodes = with_item t.nodes x m })
-even_set max t h x m = let l = length-set t.nodes.items x m in record {
-  spare = h.spare ∙ sym l;
-  heads = h.heads;
-  masks = h.masks;
-  within = rw l h.within;
-  memory = h.memory;
-  limit = h.limit;
-}
+even_set max t h x m = grind (arith, length-set)
 
 -- other tables of the same lengths and memory
 pub even_kept : {A B : Type 0} (max : ℕ) (t u : Inside A B) → AreEven max t → length u.nodes.items ≡ length t.nodes.items → length u.spare.items ≡ length t.spare.items
     → vec_capacity u.nodes ≡ vec_capacity t.nodes → vec_capacity u.spare ≡ vec_capacity t.spare → length u.heads ≡ length t.heads → length u.masks ≡ length t.masks → AreEven max u
-even_kept max t u h n s cn cs hs ms = record {
-  spare = s ∙ h.spare ∙ sym n;
-  heads = hs ∙ h.heads;
-  masks = ms ∙ h.masks;
-  within = omega (arith, n, cn, h.within);
-  memory = cs ∙ h.memory ∙ sym cn;
-  limit = omega (arith, cn, h.limit);
-}
+even_kept max t u h n s cn cs hs ms = grind arith

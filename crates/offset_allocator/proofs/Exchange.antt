@@ -1,12 +1,7 @@
 -- Blocks in the middle of a chain make room for others.
-use Rattle.std.proofs.Common.{◌≡◌, ◌≢◌, ℕ, ◌+◌, ◌-◌, ◌<◌, ◌≤◌, ◌^◌, false, Option, None, Some, MatchOption, List, [], ◌∷◌, ◌++◌, length, get_or, take}
-use Rattle.std.proofs.Common.{set, refl, sym, ◌∙◌, ap, arith, inl, inr, length-append, nat_eq}
-use Rattle.std.proofs.lemmas.List.{take_more, take_more_set}
-use Rattle.std.proofs.lemmas.Bool.{cases_eq, cases_lt}
-use Rattle.std.proofs.lemmas.Bool.Decides.{nat_tests}
-use Rattle.offset_allocator.specs.Cells.{Room, Node, node, put}
-use Rattle.offset_allocator.specs.Chain.{first_or, last_or, IsRow, IsChain, spares}
-use Rattle.offset_allocator.specs.View.{Block, units, count_named, times, one}
+use Rattle.offset_allocator.proofs.Common.{◌≡◌, ◌≢◌, ℕ, ◌+◌, ◌-◌, ◌<◌, ◌≤◌, ◌^◌, false, Option, None, Some, MatchOption, List, [], ◌∷◌, ◌++◌, length, get_or, take, set, refl, sym, ◌∙◌, ap, arith, inl}
+use Rattle.offset_allocator.proofs.Common.{inr, length-append, nat_eq, take_more, take_more_set, cases_eq, cases_lt, nat_tests, Room, Node, node, put, first_or, last_or, IsRow, IsChain, spares, Block}
+use Rattle.offset_allocator.proofs.Common.{units, count_named, times, one, common_steps}
 use Rattle.offset_allocator.proofs.Nodes.{node-put, node-put_other, length-put, spare-put, reserved-put}
 use Rattle.offset_allocator.proofs.Tallies.{one-same, times-join, times-append, units-append}
 use Rattle.offset_allocator.proofs.Rows.{times-first, times-end, first_or-append, last_or-append, IsRow-front, IsRow-back, IsRow-append, IsRow-kept, IsRow-moved, IsRow-aimed}
@@ -22,10 +17,7 @@ there-below c m last count x bs h st = let e = h.each x in grind (arith, nat_tes
 top_names : (c : Room) (count : ℕ) → 0 < count → count ≤ length c.spare → (k : ℕ)
     → times k (spares c count) ≡ times k (spares c (count - 1)) + one (nat_eq k (get_or c.spare (count - 1) 0))
 unfolding spares
-top_names c count some l k =
-    let same : count ≡ (count - 1) + 1 = omega arith in
-    ap (λ n. times k (take n c.spare)) same ∙ ap (times k) (take_more c.spare (count - 1) 0 (omega arith))
-    ∙ omega (arith, times-join k (take (count - 1) c.spare) (get_or c.spare (count - 1) 0 ∷ []))
+top_names c count some l k = grind (arith, common_steps, take_more, times-join)
 
 -- what is true of an unused name
 spare_new : (c : Room) (m last count : ℕ) (bs : List Block) → IsChain c m last count bs → (y : ℕ) → 1 ≤ times y (spares c count) → (count_named y bs ≡ 0) × (y < length c.nodes)
@@ -39,7 +31,6 @@ pub record IsTop (c : Room) (count y : ℕ) (bs : List Block) : Type 0 where
 
 pub top : {c : Room} {m last count : ℕ} {bs : List Block} (y : ℕ) → IsChain c m last count bs → 0 < count → y ≡ get_or c.spare (count - 1) 0 → IsTop c count y bs
 top {c} {m} {last} {count} {bs} y h some e =
-    let long = h.full in
     let names : (k : ℕ) → times k (spares c count) ≡ times k (spares c (count - 1)) + one (nat_eq k y) = λ k. rw e (top_names c count some (omega (arith, h.stack)) k) in
     let new = spare_new c m last count bs h y (omega (arith, names y, one-same y)) in
     record { below = new.1; absent = new.0; idle = h.idle y new.0; names = names }
@@ -60,8 +51,7 @@ kept_names c e count same k = ap (λ s. times k (take count s)) same
 pub pushed_names : (c e : Room) (count y : ℕ) → count < length c.spare → e.spare ≡ set c.spare count y → (k : ℕ)
     → times k (spares e (count + 1)) ≡ times k (spares c count) + one (nat_eq k y)
 unfolding spares
-pushed_names c e count y l same k =
-    ap (λ s. times k (take (count + 1) s)) same ∙ ap (times k) (take_more_set c.spare count y l) ∙ omega (arith, times-join k (take count c.spare) (y ∷ []))
+pushed_names c e count y l same k = grind (arith, take_more_set, times-join)
 
 -- one write
 pub record Wrote (c d : Room) (x : ℕ) (n : Node) : Type 0 where
@@ -72,13 +62,7 @@ pub record Wrote (c d : Room) (x : ℕ) (n : Node) : Type 0 where
   pub memory : d.reserved ≡ c.reserved
 
 pub wrote : {c d : Room} {x : ℕ} {n : Node} → d ≡ put c x n → x < length c.nodes → Wrote c d x n
-wrote {c} {d} {x} {n} e l = record {
-  here = rw e (node-put c x n l);
-  other = λ k ne. rw e (node-put_other c x n k ne);
-  cells = rw e (length-put c x n);
-  spare = rw e (spare-put c x n);
-  memory = rw e (reserved-put c x n);
-}
+wrote {c} {d} {x} {n} e l = grind (arith, node-put, node-put_other, length-put, spare-put, reserved-put)
 
 -- a node with another link
 abbrev pub back_to : ℕ → Node → Node
@@ -182,8 +166,7 @@ module _ {c w d e : Room} {m last count count' : ℕ} {fs old new cs : List Bloc
   -- no neighbour is linked anew
   pub link_none : d ≡ w → first_or (first_or None cs) new ≡ first_or (first_or None cs) old → last_or (last_or None fs) new ≡ last_or (last_or None fs) old
       → IsRow w (last_or (last_or None fs) new) (units fs + units new) cs None → units fs + (units new + units cs) < 2 ^ 32 → IsChain e m last count' (fs ++ (new ++ cs))
-  link_none q first final after fits =
-      finish None (λ n. n) q (λ z k. absurd (cc)) last (rw (q, first) front) (rw q after) (rw final (sym (ends_are old) ∙ h.ends)) fits
+  link_none q first final after fits = finish None (λ n. n) q (λ z k. absurd (cc)) last (rw (q, first) front) (rw q after) (rw final (sym (ends_are old) ∙ h.ends)) fits
 
   fits_still : units new ≡ units old → units fs + (units new + units cs) < 2 ^ 32
   fits_still even = omega (arith, h.fits, even, units-append fs (old ++ cs), units-append old cs)

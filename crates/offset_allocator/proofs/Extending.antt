@@ -1,28 +1,12 @@
 -- What more units at the end leave of the whole allocator.
-use Rattle.std.proofs.Common.{◌≡◌, ◌↔◌, ℕ, ◌+◌, ◌-◌, ◌<◌, ◌≤◌, ◌^◌, Bool, true, false, not, ◌⊎◌, List, [], ◌∷◌, ◌++◌, length, refl, sym, ap, subst}
-use Rattle.std.proofs.Common.{◌∙◌, inl, inr, arith, slice_set, append-nil}
-use Rattle.std.proofs.lemmas.Bool.{true≢false, false≢true}
-use Rattle.offset_allocator.specs.Classes.{down}
-use Rattle.offset_allocator.specs.Cells.{Cells, Room, Node, node}
-use Rattle.std.specs.List.{AllByRecursion}
-use Rattle.offset_allocator.specs.View.{Block, View, count_named, bin_at, count_in_bin, is_free, IsApart, IsWellFormed, IsNew, free_block, units, replace, remove_all, push, remove, without, times}
-use Rattle.offset_allocator.specs.View.{ends_used}
-use Rattle.offset_allocator.specs.Requests.{HasRoomFor}
-use Rattle.offset_allocator.specs.Ranges.{KeepsAll}
-use Rattle.offset_allocator.specs.Relations.{Adds, CanExtend, Extends}
-use Rattle.offset_allocator.specs.Chain.{IsChain, HasPlace, blocks}
-use Rattle.offset_allocator.specs.Bins.{Among, IsUnlisted, bins_in, IsBinned}
-use Rattle.offset_allocator.specs.Soundness.{free_units}
-use Rattle.offset_allocator.proofs.Sound.{Fields, AreSound, shown, well_counted, well_same}
-use Rattle.offset_allocator.proofs.Ends.{Ended, ended}
-use Rattle.offset_allocator.proofs.Places.{at_place, end_place}
-use Rattle.offset_allocator.proofs.Filed.{share, counts_once}
-use Rattle.offset_allocator.proofs.ViewApart.{ends_free, apart_parts, left_false}
+use Rattle.offset_allocator.proofs.Common.{◌≡◌, ◌↔◌, ℕ, ◌+◌, ◌-◌, ◌<◌, ◌≤◌, ◌^◌, Bool, true, false, not, ◌⊎◌, List, [], ◌∷◌, ◌++◌, length, refl, sym, ap, subst, ◌∙◌, inl, inr, arith, slice_set}
+use Rattle.offset_allocator.proofs.Common.{append-nil, true≢false, false≢true, AllByRecursion, down, Cells, Room, Node, node, Block, View, count_named, bin_at, count_in_bin, is_free, IsApart}
+use Rattle.offset_allocator.proofs.Common.{IsWellFormed, IsNew, free_block, units, replace, remove_all, push, remove, without, times, ends_used, HasRoomFor, KeepsAll, Adds, CanExtend, Extends}
+use Rattle.offset_allocator.proofs.Common.{IsChain, HasPlace, blocks, Among, IsUnlisted, bins_in, IsBinned, free_units, common_steps}
 use Rattle.offset_allocator.proofs.Tallies.{listed_named, tally_append, units-append, times-append, one-eq}
-use Rattle.offset_allocator.proofs.ViewOrders.{times_remove_all}
-use Rattle.offset_allocator.proofs.ViewTaken.{well_added}
-use Rattle.offset_allocator.proofs.Ranges.{adds_keep}
 use Rattle.offset_allocator.proofs.Joints.{stepped, free_most, unused_unlisted, remove_free, free_units-append, free_units-free}
+use Rattle.offset_allocator.proofs.{Sound.Fields, Sound.AreSound, Sound.shown, Sound.well_counted, Sound.well_same, Ends.Ended, Ends.ended, Places.at_place, Places.end_place, Filed.share}
+use Rattle.offset_allocator.proofs.{Filed.counts_once, ViewApart.ends_free, ViewApart.apart_parts, ViewApart.left_false, ViewOrders.times_remove_all, ViewTaken.well_added, Ranges.adds_keep}
 
 pub ends_last : (fs : List Block) (b : Block) → ends_used (fs ++ b ∷ []) ≡ b.used
 ends_last [] b = refl
@@ -41,8 +25,6 @@ idle_units (b ∷ bs) i = let ih = idle_units bs i.1 in free_units-free b bs i.0
 
 -- the end of the space
 module _ (it : Fields) (more : ℕ) (s : AreSound it) where
-  abbrev was : View
-  was = shown it
 
   abbrev old : List Block
   old = blocks it.cells.room it.last
@@ -55,11 +37,7 @@ module _ (it : Fields) (more : ℕ) (s : AreSound it) where
   can_widen fits e = let f = ended old it.last s.space.ends in (fits, inr (f.front, f.last, f.is, sym (ap ends_used f.is ∙ ends_last f.front f.last) ∙ e))
 
   pub cannot_append : ends_used (blocks it.cells.room it.last) ≡ true → it.limit ≤ length (shown it).blocks + 1 → CanExtend more (shown it) → ⊥
-  cannot_append e full c =
-      elim c.1 [
-        | inl room ↦ absurd (omega (arith, room, full))
-        | inr h ↦ true≢false (sym e ∙ ap ends_used h.2 ∙ ends_last h.0 h.1 ∙ h.3)
-      ]
+  cannot_append e full c = grind (arith, true≢false, ends_last)
 
 -- a request that is done: sound fields, and whether the last block is used
 pub record Growth (it : Fields) (more : ℕ) (used : Bool) : Type 0 where
@@ -130,18 +108,7 @@ module _ {it : Fields} {more : ℕ} {used : Bool} (r : Growth it more used) wher
       let left = stepped it s left_view d (it.free + more) k well refl chain refl bins lists
       (free_units-append before (free_block x (units old + more) ∷ [])
       ∙ omega (arith, r.sound.total, ap free_units e, total, idle_units old idle, free_units-free (free_block x (units old + more)) [] refl)) in
-      let added : Adds more v (shown (record it { size = it.size + more; cells = d; last = last; count = count; top = top; free = it.free + more; accesses = k })) =
-      record {
-        before = before;
-        last = old;
-        blocks = e;
-        free = idle;
-        name = x;
-        named = named;
-        new = λ n. new n;
-        view = left.1;
-        apart = subst IsApart (sym (ap (λ (u : View). u.blocks) left.1)) well.apart;
-      } in
+      let added : Adds more v (shown (record it { size = it.size + more; cells = d; last = last; count = count; top = top; free = it.free + more; accesses = k })) = grind (arith, common_steps) in
       (left.0, added, adds_keep v _ w (well_same left_view _ left.1 well) more added)
 
 -- after a used block
@@ -222,18 +189,7 @@ module _ {it : Fields} {more : ℕ} (r : Growth it more false) where
 
 -- what was counted before changes nothing of it
 pub adds_counted : (more : ℕ) (v w : View) (accesses : ℕ) → Adds more (record v { accesses = accesses }) w → Adds more v w
-adds_counted more v w accesses g = record {
-  before = g.before;
-  last = g.last;
-  blocks = g.blocks;
-  free = g.free;
-  name = g.name;
-  named = g.named;
-  new = λ n. let u = g.new n in
-      record { below = u.below; absent = u.absent };
-  view = g.view;
-  apart = g.apart;
-}
+adds_counted more v w accesses g = grind arith
 
 -- when it is done
 pub extends_done : (more : ℕ) (v w : View) (done : Bool) → Extends more v w done → (done ≡ true) ↔ (1 ≤ more → CanExtend more v)

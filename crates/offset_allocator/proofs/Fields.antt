@@ -1,10 +1,7 @@
 -- A table for each field as a list of nodes.
-use Rattle.std.proofs.Common.{◌≡◌, ◌≢◌, ℕ, zero, suc, ◌+◌, ◌-◌, [], ◌∷◌, ◌++◌, ◌<◌, ◌≤◌, List, length, map, set, get_or, refl, sym, ◌∙◌, ap, ap₂}
-use Rattle.std.proofs.Common.{arith, Bool, false, Some, None, if◌then◌else◌, eqb, eq-eqb, ne_eqb}
-use Rattle.std.proofs.lemmas.List.{get_or-set_same, get_or-set_other, length-map, length-append, map-append, map-set, set-get_or}
-use Rattle.std.specs.Prelude.{vec_len, vec_capacity}
-use Rattle.offset_allocator.specs.Cells.{Cells, Node, blank, link_of, mark_of, node, put, AreShaped}
-use Rattle.offset_allocator.specs.Layouts.{FieldTables, node_in, nodes_in, values, field_tables, cells_by_field, AreLevel}
+use Rattle.offset_allocator.proofs.Common.{◌≡◌, ◌≢◌, ℕ, zero, suc, ◌+◌, ◌-◌, [], ◌∷◌, ◌++◌, ◌<◌, ◌≤◌, List, length, map, set, get_or, refl, sym, ◌∙◌, ap, ap₂, arith, Bool, false, eqb, eq-eqb, ne_eqb}
+use Rattle.offset_allocator.proofs.Common.{get_or-set_same, get_or-set_other, length-map, length-append, map-append, map-set, set-get_or, vec_len, vec_capacity, Cells, Node, blank, mark_of, node, put}
+use Rattle.offset_allocator.proofs.Common.{AreShaped, FieldTables, node_in, nodes_in, values, field_tables, cells_by_field, AreLevel, common_steps}
 use Rattle.offset_allocator.proofs.Entries.{marked}
 use Rattle.offset_allocator.specs.declared.by_field.ByField.TheInside.{Inside}
 
@@ -66,10 +63,6 @@ module _ (max : ℕ) where
   unfolding nodes_in
   nodes_set t u x e h = ap (values (node_in max u)) e ∙ values_set (node_in max t) (node_in max u) (length t.offset) x h
 
-  pub nodes_same : (t u : FieldTables) → length u.offset ≡ length t.offset → ((i : ℕ) → node_in max u i ≡ node_in max t i) → nodes_in max u ≡ nodes_in max t
-  unfolding nodes_in
-  nodes_same t u e h = ap (values (node_in max u)) e ∙ values_same (node_in max t) (node_in max u) (length t.offset) (λ i l. h i)
-
   pub nodes_added : (t u : FieldTables) → length u.offset ≡ length t.offset + 1 → ((i : ℕ) → i < length t.offset → node_in max u i ≡ node_in max t i)
       → nodes_in max u ≡ nodes_in max t ++ node_in max u (length t.offset) ∷ []
   unfolding nodes_in
@@ -78,10 +71,6 @@ module _ (max : ℕ) where
       let one : length u.offset ≡ suc n = omega (arith, e) in
       ap (values (node_in max u)) one ∙ values_more (node_in max u) n ∙ ap (λ (xs : List Node). xs ++ node_in max u n ∷ []) (values_same (node_in max t) (node_in max u) n h)
 
-  -- a link to no node
-  no_link : link_of max max ≡ None
-  no_link = ap (λ (b : Bool). if b then None else Some max) (eq-eqb max max refl)
-
   -- a blank node more
   pub pushed : (t u : FieldTables) → 1 ≤ max → length t.size ≡ length t.offset → length t.before ≡ length t.offset → length t.after ≡ length t.offset
       → length t.newer ≡ length t.offset
@@ -89,22 +78,10 @@ module _ (max : ℕ) where
       → nodes_in max u ≡ nodes_in max t ++ blank ∷ []
   pushed t u some ls lb la ln o s b a n =
       let len : length u.offset ≡ length t.offset + 1 = ap (λ (l : List ℕ). length l) o ∙ length-append t.offset (0 ∷ []) in
-      let old : (i : ℕ) → i < length t.offset → node_in max u i ≡ node_in max t i =
-      λ i l. rw (
-        o,
-        s,
-        b,
-        a,
-        n,
-        kept t.offset 0 i l,
-        kept t.size 0 i (omega (arith, l, ls)),
-        kept t.before max i (omega (arith, l, lb)),
-        kept t.after max i (omega (arith, l, la)),
-        kept t.newer max i (omega (arith, l, ln)),
-      ) refl in
+      let old : (i : ℕ) → i < length t.offset → node_in max u i ≡ node_in max t i = grind (arith, common_steps, kept) in
       let used : eqb max (max - 1) ≡ false = ne_eqb max (max - 1) (λ e. omega (arith, e, some)) in
       let new : node_in max u (length t.offset) ≡ blank =
-      rw (o, s, b, a, n, added t.offset 0 _ refl, added t.size 0 _ ls, added t.before max _ lb, added t.after max _ la, added t.newer max _ ln, used, no_link) refl in
+      rw (o, s, b, a, n, added t.offset 0 _ refl, added t.size 0 _ ls, added t.before max _ lb, added t.after max _ la, added t.newer max _ ln, used, eq-eqb) refl in
       nodes_added t u len old ∙ ap (λ (v : Node). nodes_in max t ++ v ∷ []) new
 
   pub first_node : (u : FieldTables) → 1 ≤ max → u.offset ≡ 0 ∷ [] → u.size ≡ 0 ∷ [] → u.before ≡ max ∷ [] → u.after ≡ max ∷ [] → u.newer ≡ max ∷ []
@@ -220,24 +197,7 @@ pub level_kept : {A B : Type 0} (max : ℕ) (t u : Inside A B) → AreLevel max 
     → vec_capacity u.after ≡ vec_capacity t.after
     → vec_capacity u.newer ≡ vec_capacity t.newer → vec_capacity u.older ≡ vec_capacity t.older → vec_capacity u.spare ≡ vec_capacity t.spare
     → length u.heads ≡ length t.heads → length u.masks ≡ length t.masks → AreLevel max u
-level_kept max t u h o s b a n d p co cs cb ca cn cd cp hs ms = record {
-  size = s ∙ h.size ∙ sym o;
-  before = b ∙ h.before ∙ sym o;
-  after = a ∙ h.after ∙ sym o;
-  newer = n ∙ h.newer ∙ sym o;
-  older = d ∙ h.older ∙ sym o;
-  spare = p ∙ h.spare ∙ sym o;
-  size_memory = cs ∙ h.size_memory ∙ sym co;
-  before_memory = cb ∙ h.before_memory ∙ sym co;
-  after_memory = ca ∙ h.after_memory ∙ sym co;
-  newer_memory = cn ∙ h.newer_memory ∙ sym co;
-  older_memory = cd ∙ h.older_memory ∙ sym co;
-  spare_memory = cp ∙ h.spare_memory ∙ sym co;
-  heads = hs ∙ h.heads;
-  masks = ms ∙ h.masks;
-  within = omega (arith, o, co, h.within);
-  limit = omega (arith, co, h.limit);
-}
+level_kept max t u h o s b a n d p co cs cb ca cn cd cp hs ms = grind arith
 
 pub shaped : {A B : Type 0} (max : ℕ) (number : A → ℕ) (t : Inside A B) → AreLevel max t → max ≤ 4294967295 → AreShaped max (cells_by_field max number t)
 unfolding node

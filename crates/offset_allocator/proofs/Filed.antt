@@ -1,16 +1,9 @@
 -- A block in no bin, where the bins hold the other free blocks.
-use Rattle.std.proofs.Common.{◌≡◌, ℕ, ◌+◌, ◌≤◌, Bool, true, false, ◌&&◌, Some, None, List, [], ◌∷◌, ◌++◌, length, nat_eq, refl, sym, ap, ◌∙◌, arith, inl, inr}
-use Rattle.offset_allocator.specs.Classes.{down}
-use Rattle.offset_allocator.specs.Cells.{Room, Node, node}
-use Rattle.offset_allocator.specs.View.{Block, Place, one, is_free, count_named, count_in_bin, bin_at, free_end, without_end, free_start, without_start, remove_all}
-use Rattle.offset_allocator.specs.Chain.{HasPlace, first_or}
-use Rattle.offset_allocator.specs.Bins.{Among, IsUnlisted}
-use Rattle.offset_allocator.specs.Soundness.{AreInBins, AreUnlisted}
-use Rattle.offset_allocator.proofs.Exchange.{each-le}
-use Rattle.offset_allocator.proofs.Places.{at_place, next_place, previous_place}
+use Rattle.offset_allocator.proofs.Common.{◌≡◌, ℕ, ◌+◌, ◌≤◌, Bool, true, false, ◌&&◌, Some, None, List, [], ◌∷◌, ◌++◌, length, nat_eq, refl, sym, ap, ◌∙◌, arith, inl, inr, down, Room, Node, node}
+use Rattle.offset_allocator.proofs.Common.{Block, Place, one, is_free, count_named, count_in_bin, bin_at, free_end, without_end, free_start, without_start, remove_all, HasPlace, first_or, Among}
+use Rattle.offset_allocator.proofs.Common.{IsUnlisted, AreInBins, AreUnlisted}
 use Rattle.offset_allocator.proofs.Tallies.{listed_named, tally_append, hit_cases, one-eq, times-append}
-use Rattle.offset_allocator.proofs.ViewOrders.{times_remove_all}
-use Rattle.offset_allocator.proofs.ViewTaken.{tally_end, tally_start}
+use Rattle.offset_allocator.proofs.{Exchange.each-le, Places.at_place, Places.next_place, Places.previous_place, ViewOrders.times_remove_all, ViewTaken.tally_end, ViewTaken.tally_start}
 
 -- the sum that `count_in_bin` takes, of one block
 abbrev pub share : ℕ → ℕ → Block → ℕ
@@ -70,15 +63,7 @@ module _ {c : Room} {m last count x : ℕ} {p : Place} (h : HasPlace c m last co
 
   -- then a name that no block has is in no bin
   pub unlisted_after : (n : ℕ) → AreUnlisted (p.before ++ record p.block { size = n } ∷ without_start p.after) (remove_all (free_start p.after) ls)
-  unlisted_after n y e k b a = omega (
-    arith,
-    e,
-    a,
-    filed_after k y,
-    listed_named k y (p.before ++ without_start p.after),
-    times-append y p.before (without_start p.after),
-    times-append y p.before (record p.block { size = n } ∷ without_start p.after),
-  )
+  unlisted_after n y e k b a = grind (arith, filed_after, listed_named, times-append)
 
 -- the block after a block is the same, whatever became of those before it
 pub next_same : {c d : Room} {m last count last' count' x y : ℕ} {p q : Place} → HasPlace c m last count x p → HasPlace d m last' count' x q → p.after ≡ q.after
@@ -87,6 +72,5 @@ next_same {c} {d} {x = x} {y = y} h g same e =
     let n = next_place h e in
     let e' : Some y ≡ (node d x).after = e ∙ ap (λ (v : Node). v.after) (at_place h) ∙ ap (first_or None) same ∙ sym (ap (λ (v : Node). v.after) (at_place g)) in
     let n' = next_place g e' in
-    let both : n'.block ∷ n'.rest ≡ n.block ∷ n.rest = sym n'.is ∙ sym same ∙ n.is in
     let one : n'.block ≡ n.block = cc in
     (e', ap (λ (v : Node). v.used) (at_place n'.place) ∙ ap (λ (b : Block). b.used) one ∙ sym (ap (λ (v : Node). v.used) (at_place n.place)))

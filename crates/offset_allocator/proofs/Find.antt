@@ -1,50 +1,27 @@
 -- The first and the last class that has a name, by the masks.
-use Rattle.std.proofs.Common.{◌≡◌, ◌≢◌, ◌<◌, ◌≤◌, ℕ, suc, ◌+◌, ◌-◌, ◌*◌, ◌/◌, ◌%◌, ◌^◌, List, [], ◌∷◌, bit_and, refl, sym, ap, ◌∙◌, inl}
-use Rattle.std.proofs.Common.{inr, arith, slice_index, w32, w64, ne_eqb, pow-suc, ⊎_elim}
+use Rattle.offset_allocator.proofs.Common.{◌≡◌, ◌≢◌, ◌<◌, ◌≤◌, ℕ, suc, ◌+◌, ◌-◌, ◌*◌, ◌/◌, ◌%◌, ◌^◌, List, [], ◌∷◌, bit_and, refl, sym, ap, ◌∙◌, inl, inr, arith, slice_index, w32, w64, ne_eqb, bit_at}
+use Rattle.offset_allocator.proofs.Common.{Width, trailing_zeros, count_trailing_zeros, count_leading_zeros, pow_pos, leading_top, le-div, div_below, div-mul-add, mod-mul-add, and_le_l, bit_at_above}
+use Rattle.offset_allocator.proofs.Common.{bit_at-zero, bit_at-trailing_zeros, bit_at_and, bit_at_mask_inside, bit_at_mask_below, bit_at-lt, ones_shl, cases_lt, cases_eq, bin_at, flag, mark}
+use Rattle.offset_allocator.proofs.Common.{IsSmallestFrom, AreMasks, IsLargestClass}
 use mir.Val.{bits}
-use Rattle.std.specs.Int.{bit_at, Width, trailing_zeros}
-use Rattle.std.specs.Int.Count.{count_trailing_zeros, count_leading_zeros}
-use Rattle.std.proofs.lemmas.Nat.{pow_pos, leading_top, le-div, div_below, div-mul-add, mod-mul-add, and_le_l}
-use Rattle.std.proofs.lemmas.Nat.Bits.{bit_at_above, bit_at-zero, bit_at-trailing_zeros, bit_at_and, bit_at_mask_inside, bit_at_mask_below, bit_at-lt, ones_shl}
-use Rattle.std.proofs.lemmas.Bool.{cases_lt, cases_eq}
-use Rattle.offset_allocator.specs.View.{bin_at}
-use Rattle.offset_allocator.specs.Bins.{flag, mark, IsSmallestFrom, AreMasks}
-use Rattle.offset_allocator.specs.Requests.{IsLargestClass}
 
 -- the lowest bit of a word at or above a place, as code finds it: `(n & (MAX << k)).trailing_zeros()`
 module _ (w : Width) (n k : ℕ) (small : n < 2 ^ bits w) (within : k ≤ bits w) where
-  masked : ℕ
-  masked = bit_and n ((2 ^ bits w - 1) * 2 ^ k % 2 ^ bits w)
 
   masked_from : (i : ℕ) → k ≤ i → i < bits w → bit_at (bit_and n ((2 ^ bits w - 1) * 2 ^ k % 2 ^ bits w)) i ≡ bit_at n i
-  masked_from i l h =
-      let s : bit_at n i < 2 = bit_at-lt n i in
-      rw (ones_shl (bits w) k within, bit_at_and n (2 ^ bits w - 2 ^ k) i, bit_at_mask_inside k (bits w) i l h) (omega arith)
-
-  masked_below : (i : ℕ) → i < k → bit_at (bit_and n ((2 ^ bits w - 1) * 2 ^ k % 2 ^ bits w)) i ≡ 0
-  masked_below i l =
-      rw (ones_shl (bits w) k within, bit_at_and n (2 ^ bits w - 2 ^ k) i, bit_at_mask_below k (bits w) i l) (omega arith)
+  masked_from i l h = grind (arith, bit_at-lt, ones_shl, bits, bit_at_and, bit_at_mask_inside)
 
   pub none_from : bit_and n ((2 ^ bits w - 1) * 2 ^ k % 2 ^ bits w) ≡ 0 → (i : ℕ) → k ≤ i → i < bits w → bit_at n i ≡ 0
   none_from z i l h = sym (masked_from i l h) ∙ ap (λ x. bit_at x i) z ∙ bit_at-zero i
 
   pub least_from : bit_and n ((2 ^ bits w - 1) * 2 ^ k % 2 ^ bits w) ≢ 0 → (t : ℕ) → t ≡ trailing_zeros w (bit_and n ((2 ^ bits w - 1) * 2 ^ k % 2 ^ bits w)) → (k ≤ t) × (t < bits w)
       × (bit_at n t ≡ 1) × ((i : ℕ) → k ≤ i → i < t → bit_at n i ≡ 0)
-  least_from z t e =
-      let m : ℕ = bit_and n ((2 ^ bits w - 1) * 2 ^ k % 2 ^ bits w) in
-      let p : 0 < m = omega arith in
-      let s : m < 2 ^ bits w = omega (arith, and_le_l n ((2 ^ bits w - 1) * 2 ^ k % 2 ^ bits w)) in
-      let (h, one, zeros) = rw (← e) at (bit_at-trailing_zeros w m p s) in
-      ⊎_elim
-      (λ (l : t < k). let b = masked_below t l in absurd (omega arith))
-      (λ (l : k ≤ t). (l, h, sym (masked_from t l h) ∙ one, λ i a b. sym (masked_from i a (omega arith)) ∙ zeros i b))
-      (cases_lt t k)
+  least_from z t e = grind (arith, bits, and_le_l, bit_at-trailing_zeros, ones_shl, bit_at_and, bit_at_mask_below, masked_from, cases_lt)
 
 -- the highest bit of a word
 highest_bit : (k n : ℕ) → n ≢ 0 → n < 2 ^ k → (j : ℕ) × (count_leading_zeros k n + suc j ≡ k) × (bit_at n j ≡ 1) × ((i : ℕ) → j < i → bit_at n i ≡ 0)
 highest_bit k n p h =
     let (j, q, low, high) = leading_top k n (omega arith) h in
-    let two : 2 ^ suc j ≡ 2 ^ j * 2 = pow-suc 2 j in
     let at_least : 1 ≤ n / 2 ^ j = le-div 1 n (2 ^ j) (pow_pos j) (omega arith) in
     let at_most : n / 2 ^ j < 2 = div_below n (2 ^ j) 2 (pow_pos j) (omega arith) in
     let is : n / 2 ^ j ≡ 1 = omega arith in
@@ -60,19 +37,10 @@ module _ {ls : List (List ℕ)} {masks : List ℕ} {top : ℕ} (k : AreMasks ls 
       go (x ∷ xs) e = absurd (omega arith)
 
   clear_word : (c : ℕ) → c < 256 → bit_at top (c / 64) ≡ 0 → bin_at ls c ≡ []
-  clear_word c h z =
-      let e : slice_index masks (c / 64) ≡ 0 =
-      elim (cases_eq (slice_index masks (c / 64)) 0) [
-        | inl e ↦ e
-        | inr n ↦ absurd (let m : mark (slice_index masks (c / 64)) ≡ 1 = rw (ne_eqb _ 0 n) in
-            omega (arith, k.tops (c / 64) (omega arith)))
-      ] in
-      clear c h (rw e (bit_at-zero (c % 64)))
+  clear_word c h z = grind (arith, cases_eq, ne_eqb, clear, bit_at-zero)
 
   full : (w t : ℕ) → w < 4 → t < 64 → bit_at (slice_index masks w) t ≡ 1 → bin_at ls (w * 64 + t) ≡ [] → ⊥
-  full w t a b z e =
-      let one : bit_at (slice_index masks ((w * 64 + t) / 64)) ((w * 64 + t) % 64) ≡ 1 = rw (div-mul-add w 64 t b, mod-mul-add w 64 t b) z in
-      let f = ap flag e in omega (arith, k.bits (w * 64 + t) (omega arith))
+  full w t a b z e = grind (arith, div-mul-add, mod-mul-add)
 
   -- a word whose bit is set
   word : (w : ℕ) → bit_at top w ≡ 1 → (w < 4) × (slice_index masks w ≢ 0)
@@ -149,10 +117,7 @@ module _ {ls : List (List ℕ)} {masks : List ℕ} {top : ℕ} (k : AreMasks ls 
 
     module _ (n : ℕ) (ne : n ≡ slice_index masks (31 - count_leading_zeros 32 top)) where
       last_bit : (t : ℕ) × (count_leading_zeros 64 n + suc t ≡ 64) × (bit_at n t ≡ 1) × ((i : ℕ) → t < i → bit_at n i ≡ 0)
-      last_bit =
-          let (w, q, one, zeros) = last_word in
-          let e : 31 - count_leading_zeros 32 top ≡ w = omega arith in
-          highest_bit 64 n (rw (ne, e) (word w one).1) (rw ne (k.words_small _ last_below))
+      last_bit = grind (arith, last_word, highest_bit, word, last_below)
 
       pub bit_within : count_leading_zeros 64 n ≤ 63
       bit_within = let q = last_bit.1 in omega arith

@@ -1,24 +1,11 @@
 -- What it leaves of the whole allocator to free a block.
-use Rattle.std.proofs.Common.{◌≡◌, ℕ, ◌+◌, ◌<◌, ◌^◌, Bool, true, false, not, ◌&&◌, List, [], ◌∷◌, ◌++◌, Option, Some, None, if◌then◌else◌, refl, sym, ap, ap₂}
-use Rattle.std.proofs.Common.{subst, ◌∙◌, arith, nat_eq}
-use Rattle.std.proofs.lemmas.Bool.{false≢true}
-use Rattle.offset_allocator.specs.Classes.{down}
-use Rattle.offset_allocator.specs.Cells.{Cells}
-use Rattle.offset_allocator.specs.View.{Block, View, Place, one, count_named, count_in_bin, IsWellFormed, units, place_of, is_used_at, free_end, without_end, free_start, without_start, remove_all}
-use Rattle.offset_allocator.specs.View.{push, free_block, replace, IsApart, remove}
-use Rattle.offset_allocator.specs.Chain.{IsChain, HasPlace, blocks}
-use Rattle.offset_allocator.specs.Bins.{bins_in, IsBinned}
-use Rattle.offset_allocator.specs.Soundness.{IsSound, view_of, free_units, AreInBins}
-use Rattle.offset_allocator.proofs.Filed.{share}
-use Rattle.offset_allocator.proofs.Sound.{Fields, AreSound, shown, well_counted}
-use Rattle.offset_allocator.proofs.Places.{located}
-use Rattle.offset_allocator.proofs.ViewSteps.{place_at}
-use Rattle.offset_allocator.proofs.ViewTaken.{well_frees, tally_end, tally_start}
-use Rattle.offset_allocator.proofs.ViewApart.{apart_parts, apart_coalesced, coalesced_parts}
-use Rattle.offset_allocator.proofs.Released.{idle_append, idle_end, idle_start}
-use Rattle.offset_allocator.specs.Relations.{SameSpace, Frees}
-use Rattle.offset_allocator.proofs.Joints.{stepped, free_most, free_units-append, free_units-free, free_units-used}
-use Rattle.offset_allocator.proofs.Tallies.{tally_append}
+use Rattle.offset_allocator.proofs.Common.{◌≡◌, ℕ, ◌+◌, ◌<◌, ◌^◌, Bool, true, not, ◌&&◌, List, [], ◌∷◌, ◌++◌, Option, Some, None, if◌then◌else◌, refl, sym, ap, ap₂, subst, ◌∙◌, arith, nat_eq}
+use Rattle.offset_allocator.proofs.Common.{false≢true, down, Cells, Block, View, Place, one, count_named, count_in_bin, IsWellFormed, units, place_of, is_used_at, free_end, without_end, free_start}
+use Rattle.offset_allocator.proofs.Common.{without_start, remove_all, push, free_block, replace, IsApart, remove, IsChain, HasPlace, blocks, bins_in, IsBinned, IsSound, view_of, free_units, AreInBins}
+use Rattle.offset_allocator.proofs.Common.{SameSpace, Frees, common_steps}
+use Rattle.offset_allocator.proofs.{Filed.share, Sound.Fields, Sound.AreSound, Sound.shown, Sound.well_counted, Places.located, ViewSteps.place_at, ViewTaken.well_frees, ViewTaken.tally_end}
+use Rattle.offset_allocator.proofs.{ViewTaken.tally_start, ViewApart.apart_parts, ViewApart.apart_coalesced, ViewApart.coalesced_parts, Released.idle_append, Released.idle_end, Released.idle_start}
+use Rattle.offset_allocator.proofs.{Joints.stepped, Joints.free_most, Joints.free_units-append, Joints.free_units-free, Joints.free_units-used, Tallies.tally_append}
 
 share_used : (k y : ℕ) (b : Block) → b.used ≡ true → share k y b ≡ 0
 share_used k y b e = ap (λ (u : Bool). one (not u && (nat_eq k (down b.size) && nat_eq y b.name))) e
@@ -32,15 +19,13 @@ remove_used b zs o e = ap (λ (u : Bool). remove_all zs (if u then o else remove
 
 -- free blocks alone
 units_end : (l : List Block) → free_units (free_end l) ≡ units (free_end l)
-units_end [] = refl
-units_end (b ∷ []) = elim b.used as (λ u. b.used ≡ u → free_units (if not u then b ∷ [] else []) ≡ units (if not u then b ∷ [] else []))
-    [ true ↦ λ e. refl | false ↦ λ e. free_units-free b [] e ] refl
-units_end (b ∷ d ∷ l) = units_end (d ∷ l)
+units_end [] = grind arith
+units_end (b ∷ []) = grind (arith, free_units-free)
+units_end (b ∷ d ∷ l) = grind (arith, units_end (d ∷ l))
 
 pub units_start : (l : List Block) → free_units (free_start l) ≡ units (free_start l)
-units_start [] = refl
-units_start (b ∷ l) = elim b.used as (λ u. b.used ≡ u → free_units (if not u then b ∷ [] else []) ≡ units (if not u then b ∷ [] else []))
-    [ true ↦ λ e. refl | false ↦ λ e. free_units-free b [] e ] refl
+units_start [] = grind arith
+units_start (b ∷ l) = grind (arith, free_units-free)
 
 -- the handle names a used block, as the fields see it
 pub named_live : (u v : View) (x y : ℕ) → u ≡ v → y ≡ x → is_used_at (place_of y v.blocks) ≡ true → is_used_at (place_of x u.blocks) ≡ true
@@ -107,10 +92,7 @@ module _ {f : Fields} {x : ℕ} (r : Release f x) where
   used = sym (ap is_used_at at.is) ∙ r.live
 
   pub room_for : f.free + at.place.block.size < 2 ^ 32
-  room_for =
-      let t = ap free_units at.stood ∙ free_units-append fs (b ∷ cs) ∙ ap (λ k. free_units fs + k) (free_units-used b cs used) in
-      let u = ap units at.stood ∙ tally_append (λ (d : Block). d.size) fs (b ∷ cs) in
-      omega (arith, s.total, t, u, free_most fs, free_most cs, s.space.fits)
+  room_for = grind (arith, free_units-append, free_units-used, used, tally_append, free_most)
 
   -- the bins hold the other free blocks
   pub filed : AreInBins (at.place.before ++ at.place.after) (bins_in f.max f.cells.links)
@@ -130,8 +112,7 @@ module _ {f : Fields} {x : ℕ} (r : Release f x) where
   freed d last' count' top' acc' chain bins eo =
       let gone : List Block = free_end fs ++ (b ∷ free_start cs) in
       let sum : units gone ≡ (units (free_end fs) + b.size) + units (free_start cs) = tally_append (λ (d : Block). d.size) (free_end fs) (b ∷ free_start cs) ∙ omega arith in
-      let removes : remove_all gone ls ≡ remove_all (free_start cs) (remove_all (free_end fs) ls) = remove_all-append (free_end fs) (b ∷ free_start cs) ls
-      ∙ remove_used b (free_start cs) (remove_all (free_end fs) ls) used in
+      let removes : remove_all gone ls ≡ remove_all (free_start cs) (remove_all (free_end fs) ls) = grind (arith, common_steps, remove_all-append, remove_used, used) in
       let was = ap free_units at.stood ∙ free_units-append fs (b ∷ cs) ∙ ap (λ k. free_units fs + k) (free_units-used b cs used) in
       let freed : Block = free_block x (units gone) in
       let total = free_units-append (without_end fs) (freed ∷ without_start cs) ∙ ap (λ k. free_units (without_end fs) + k) (free_units-free freed (without_start cs) refl) in

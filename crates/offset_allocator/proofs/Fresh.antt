@@ -1,20 +1,9 @@
 -- A fresh space.
-use Rattle.std.proofs.Common.{◌≡◌, ◌≢◌, ℕ, zero, suc, ◌+◌, ◌/◌, ◌%◌, ◌<◌, ◌≤◌, ◌^◌, false, None, List, [], ◌∷◌, length, get_or, replicate, refl, sym}
-use Rattle.std.proofs.Common.{◌∙◌, ap, ap₂, subst, arith, inl, inr, slice_index}
-use Rattle.std.proofs.lemmas.List.{length-replicate, get_or-replicate}
-use Rattle.std.proofs.lemmas.Nat.Bits.{bit_at-zero}
-use Rattle.std.proofs.lemmas.Bool.{cases_eq}
-use Rattle.std.proofs.lemmas.Bool.Decides.{nat_tests}
-use Rattle.offset_allocator.specs.Classes.{down}
-use Rattle.offset_allocator.specs.Cells.{Cells, Links, Room, Node, blank, node, put, AreEmpty, IsBare, AreShaped}
-use Rattle.offset_allocator.specs.View.{Block, View, IsWellFormed, free_block, push, bin_at}
-use Rattle.offset_allocator.specs.Chain.{IsChain, IsSpace, blocks, spares}
-use Rattle.offset_allocator.specs.Bins.{HasBins, AreMasks, IsBinned, bins_in, Among, IsUnlisted}
-use Rattle.offset_allocator.specs.Soundness.{IsSound, view_of, free_units}
-use Rattle.offset_allocator.proofs.Nodes.{node-put, node-put_other, length-put, spare-put, reserved-put}
-use Rattle.offset_allocator.proofs.Binned.{binned}
-use Rattle.offset_allocator.proofs.ViewTaken.{well_alone}
-use Rattle.offset_allocator.proofs.Tallies.{one-eq, one-other}
+use Rattle.offset_allocator.proofs.Common.{◌≡◌, ℕ, zero, suc, ◌+◌, ◌/◌, ◌%◌, ◌<◌, ◌≤◌, ◌^◌, false, None, List, [], ◌∷◌, length, get_or, replicate, refl, sym, ◌∙◌, ap, ap₂, subst, arith, slice_index}
+use Rattle.offset_allocator.proofs.Common.{length-replicate, get_or-replicate, bit_at-zero, cases_eq, nat_tests, down, Cells, Links, Room, Node, blank, node, put, AreEmpty, IsBare, AreShaped, Block}
+use Rattle.offset_allocator.proofs.Common.{View, IsWellFormed, free_block, push, bin_at, IsChain, IsSpace, blocks, spares, HasBins, AreMasks, IsBinned, bins_in, Among, IsUnlisted, IsSound, view_of}
+use Rattle.offset_allocator.proofs.Common.{free_units}
+use Rattle.offset_allocator.proofs.{Nodes.node-put, Nodes.node-put_other, Nodes.length-put, Nodes.spare-put, Nodes.reserved-put, Binned.binned, ViewTaken.well_alone, Tallies.one-eq, Tallies.one-other}
 
 -- one free block of the whole size
 abbrev pub fresh : ℕ → ℕ → View
@@ -38,27 +27,7 @@ module _ {m : ℕ} {t : Room} (e : IsBare m t) where
 
   pub start-chain : (size : ℕ) → 0 < m → size < 2 ^ 32 → (d : Room) → d ≡ put t 0 (whole_node size) → IsChain d m 0 0 (free_block 0 size ∷ [])
   unfolding spares
-  start-chain size some small d q =
-      let l : 0 < length t.nodes = omega (arith, bare_length) in
-      let long : length d.nodes ≡ 1 = rw q (length-put t 0 _ ∙ bare_length) in
-      let spare : d.spare ≡ 0 ∷ [] = rw q (spare-put t 0 _ ∙ e.spare) in
-      record {
-        memory = rw q (reserved-put t 0 _ ∙ e.reserved);
-        within = omega (arith, long, some);
-        stack = rw spare (sym long);
-        row = (rw q (node-put t 0 _ l), tt);
-        ends = refl;
-        each = λ k. rw long (elim (cases_eq k 0) [
-          | inl i ↦ grind (arith, nat_tests, one-eq k 0 (sym i))
-          | inr ne ↦ grind (arith, nat_tests, one-other k 0 ne)
-        ]);
-        idle = λ k gone.
-            let ne : k ≢ 0 = λ i. omega (arith, gone, one-eq k 0 (sym i)) in
-            let at : node d k ≡ node t k = rw q (node-put_other t 0 _ k ne) in
-            ap (λ (n : Node). n.used) at ∙ bare_idle k;
-        full = omega (arith, long);
-        fits = omega arith;
-      }
+  start-chain size some small d q = grind (arith, bare_length, length-put, spare-put, reserved-put, node-put, cases_eq, nat_tests, one-eq, one-other, node-put_other, bare_idle)
 
 -- no bin has a name
 empty_at : (c : ℕ) → c < 256 → bin_at (replicate 256 []) c ≡ []

@@ -1,22 +1,10 @@
 -- What a grant leaves of the whole allocator.
-use Rattle.std.proofs.Common.{◌≡◌, ℕ, zero, suc, ◌+◌, ◌-◌, ◌<◌, ◌≤◌, ◌^◌, List, [], ◌∷◌, ◌++◌, length, refl, sym, ap, ap₂, ◌∙◌, arith, slice_set}
-use Rattle.std.proofs.Common.{append_assoc, le-leb, nat_eq}
-use Rattle.offset_allocator.specs.Classes.{up, down}
-use Rattle.offset_allocator.specs.Cells.{Cells, Room}
-use Rattle.offset_allocator.specs.View.{Block, View, Place, Grant, one, count_named, bin_at, IsWellFormed, IsNew, free_part, used_block, units, replace, remove_all, push_all, remove, without}
-use Rattle.offset_allocator.specs.Chain.{HasPlace}
-use Rattle.offset_allocator.specs.Bins.{IsSmallestFrom, bins_in, IsBinned}
-use Rattle.offset_allocator.specs.Soundness.{AreUnlisted, free_units}
-use Rattle.offset_allocator.proofs.Sound.{Fields, AreSound, shown, well_counted}
-use Rattle.offset_allocator.specs.Relations.{SameSpace, Splits}
-use Rattle.offset_allocator.proofs.Exchange.{each-le, there-below}
-use Rattle.offset_allocator.proofs.Places.{placed, end_fits}
-use Rattle.offset_allocator.proofs.Classes.{fits_size}
-use Rattle.offset_allocator.proofs.Split.{well_split, part_room}
-use Rattle.offset_allocator.proofs.Taken.{Taken, taken}
-use Rattle.offset_allocator.proofs.ViewOrders.{unlisted_removed}
+use Rattle.offset_allocator.proofs.Common.{◌≡◌, ℕ, zero, suc, ◌+◌, ◌-◌, ◌<◌, ◌≤◌, ◌^◌, List, [], ◌∷◌, ◌++◌, length, refl, sym, ap, ap₂, ◌∙◌, arith, slice_set, append_assoc, le-leb, nat_eq, up, down}
+use Rattle.offset_allocator.proofs.Common.{Cells, Room, Block, View, Place, Grant, one, count_named, bin_at, IsWellFormed, IsNew, free_part, used_block, units, replace, remove_all, push_all, remove}
+use Rattle.offset_allocator.proofs.Common.{without, HasPlace, IsSmallestFrom, bins_in, IsBinned, AreUnlisted, free_units, SameSpace, Splits, common_steps}
 use Rattle.offset_allocator.proofs.Joints.{stepped, unused_unlisted, free_part_units, remove_free, free_units-append, free_units-free, free_units-used}
-use Rattle.offset_allocator.proofs.Tallies.{one-same, one-eq, times-append}
+use Rattle.offset_allocator.proofs.{Sound.Fields, Sound.AreSound, Sound.shown, Sound.well_counted, Exchange.each-le, Exchange.there-below, Places.placed, Places.end_fits, Classes.fits_size}
+use Rattle.offset_allocator.proofs.{Split.well_split, Split.part_room, Taken.Taken, Taken.taken, ViewOrders.unlisted_removed, Tallies.one-same, Tallies.one-eq, Tallies.times-append}
 
 -- a grant: sound fields, the smallest class large enough that has a block, and the first name there
 pub record Call (f : Fields) (needed class x : ℕ) : Type 0 where
@@ -67,9 +55,6 @@ module _ {f : Fields} {needed class x : ℕ} (call : Call f needed class x) wher
   had_free : f.free ≡ free_units p.before + (p.block.size + free_units p.after)
   had_free = sym call.sound.total ∙ ap free_units got.stood ∙ free_units-append p.before (p.block ∷ p.after) ∙ ap (λ k. free_units p.before + k) (free_units-free p.block p.after got.free)
 
-  pub free_enough : needed ≤ f.free
-  free_enough = omega (arith, had_free, enough)
-
   -- a request for n units, with padding
   module _ (n : ℕ) (padding_at : ℕ → ℕ) (within : (o : ℕ) → padding_at o + n ≤ needed) where
     abbrev padding : ℕ
@@ -85,7 +70,7 @@ module _ {f : Fields} {needed class x : ℕ} (call : Call f needed class x) wher
     padding_fits = omega (arith, whole_fits, end_fits (held refl))
 
     pub units_free : n ≤ f.free
-    units_free = omega (arith, free_enough, within 0)
+    units_free = omega (arith, had_free, enough, within 0)
 
     -- with room for the blocks that it adds; the tables that are left
     module _ (k : ℕ) (room : length (shown f).blocks + k < f.limit) (some : 1 ≤ k) (two : (o : ℕ) → 1 ≤ padding_at o → 2 ≤ k) (d : Cells) (last count front rest : ℕ)
@@ -109,14 +94,7 @@ module _ {f : Fields} {needed class x : ℕ} (call : Call f needed class x) wher
 
       unused : (y : ℕ) → 1 ≤ count_named y (free_part front padding) + count_named y (free_part rest left) → IsNew y v
       unused y l =
-          let some : 1 ≤ count_named y ((p.before ++ free_part front padding) ++ used_block p.block.name n ∷ (free_part rest left ++ p.after)) =
-          omega (
-            arith,
-            l,
-            times-append y (p.before ++ free_part front padding) (used_block p.block.name n ∷ (free_part rest left ++ p.after)),
-            times-append y p.before (free_part front padding),
-            times-append y (free_part rest left) p.after,
-          ) in
+          let some : 1 ≤ count_named y ((p.before ++ free_part front padding) ++ used_block p.block.name n ∷ (free_part rest left ++ p.after)) = grind (arith, common_steps, times-append) in
           record {
             below = omega (arith, there-below d.room _ last count y _ there.chain some, there.chain.within, call.sound.memory);
             absent = ap (count_named y) got.stood ∙ omega (arith, l, names y, times-append y p.before (p.block ∷ p.after));

@@ -1,14 +1,7 @@
 -- The chain, the bins and the view together.
-use Rattle.std.proofs.Common.{◌≡◌, ℕ, zero, suc, ◌+◌, ◌≤◌, Bool, true, false, List, [], ◌∷◌, ◌++◌, if◌then◌else◌, refl, sym, ap, subst, ◌∙◌, arith}
-use Rattle.offset_allocator.specs.Classes.{down}
-use Rattle.offset_allocator.specs.View.{units, Block, View, count_named, count_in_bin, IsWellFormed, free_part, remove_all, remove}
-use Rattle.offset_allocator.specs.Cells.{Cells}
-use Rattle.offset_allocator.specs.Chain.{IsChain}
-use Rattle.offset_allocator.specs.Bins.{IsBinned, bins_in, IsUnlisted}
-use Rattle.offset_allocator.proofs.Views.{blocks-chain, space-chain}
-use Rattle.offset_allocator.specs.Soundness.{view_of, free_units}
-use Rattle.offset_allocator.proofs.Sound.{Fields, AreSound, well_counted}
-use Rattle.offset_allocator.proofs.Tallies.{listed_named, tally_append}
+use Rattle.offset_allocator.proofs.Common.{◌≡◌, ℕ, zero, suc, ◌+◌, ◌≤◌, Bool, true, false, List, [], ◌∷◌, ◌++◌, if◌then◌else◌, refl, ap, ◌∙◌, arith, down, units, Block, View, count_named}
+use Rattle.offset_allocator.proofs.Common.{count_in_bin, IsWellFormed, free_part, remove_all, remove, Cells, IsChain, IsBinned, bins_in, IsUnlisted, view_of, free_units, common_steps}
+use Rattle.offset_allocator.proofs.{Views.blocks-chain, Views.space-chain, Sound.Fields, Sound.AreSound, Sound.well_counted, Tallies.listed_named, Tallies.tally_append}
 
 -- a name that no free block has is in no list
 pub unlisted : (v : View) → IsWellFormed v → (x : ℕ) → ((c : ℕ) → count_in_bin c x v.blocks ≡ 0) → IsUnlisted x v.order
@@ -27,17 +20,7 @@ pub stepped : (f : Fields) → AreSound f → (v : View) (d : Cells) (free k : �
     → AreSound (record f { size = v.size; cells = d; last = last; count = count; top = top; free = free }) × (view_of f.max v.size f.limit d last k ≡ with_accesses k v)
 stepped f s v d free k {last} {count} {top} {bs} well limit chain eb bins eo total =
     let is = blocks-chain d.room _ last count bs chain in
-    let left : (j : ℕ) → view_of f.max v.size f.limit d last j ≡ with_accesses j v = λ j. rw (is, eb, eo, limit) refl in (
-      record {
-        memory = chain.memory ∙ s.memory;
-        admitted = s.admitted;
-        space = space-chain d.room _ last count bs chain;
-        bins = bins;
-        well = subst IsWellFormed (sym (left 0)) (well_counted v 0 well);
-        total = ap free_units is ∙ total;
-      },
-      left k,
-    )
+    grind (arith, common_steps, space-chain, well_counted)
 
 -- small parts of steps
 pub remove_free : (b : Block) (order : List (List ℕ)) → b.used ≡ false → remove_all (b ∷ []) order ≡ remove (down b.size) b.name order

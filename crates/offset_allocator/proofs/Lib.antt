@@ -1,3 +1,4 @@
+pub mod Common
 pub mod Sliding
 pub mod Split
 pub mod Advice

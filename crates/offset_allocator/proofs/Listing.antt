@@ -1,16 +1,8 @@
 -- The last of the first blocks of a space, and the list of what an iterator has left.
-use Rattle.std.proofs.Common.{◌≡◌, ℕ, suc, ◌+◌, ◌-◌, ◌<◌, ◌≤◌, Bool, None, Some, List, [], ◌∷◌, ◌++◌, length, take, drop, reverse, refl, sym, ap, ap₂, subst}
-use Rattle.std.proofs.Common.{◌∙◌, arith, if◌then◌else◌}
-use Rattle.std.proofs.lemmas.List.{length_push, length-take-le, take-take, take-append-le, take_all, take-append-drop, append_assoc, reverse-append, length-reverse}
-use Rattle.offset_allocator.specs.Cells.{Room, Node, node}
-use Rattle.offset_allocator.specs.View.{View, Block, units, count_named}
-use Rattle.offset_allocator.specs.Chain.{last_or, IsRow}
-use Rattle.offset_allocator.specs.Listing.{Placed, placed_at, placed}
-use Rattle.offset_allocator.proofs.Exchange.{there-below}
-use Rattle.offset_allocator.proofs.Ends.{Ended, ended, last_none}
-use Rattle.offset_allocator.proofs.Rows.{node_at}
-use Rattle.offset_allocator.proofs.Sound.{Fields, AreSound, shown}
-use Rattle.offset_allocator.proofs.Tallies.{times-append, one-eq}
+use Rattle.offset_allocator.proofs.Common.{◌≡◌, ℕ, suc, ◌+◌, ◌-◌, ◌<◌, ◌≤◌, Bool, None, Some, List, [], ◌∷◌, ◌++◌, length, take, drop, reverse, refl, sym, ap, subst, ◌∙◌, arith, if◌then◌else◌}
+use Rattle.offset_allocator.proofs.Common.{length_push, length-take-le, take-take, take-append-le, take_all, take-append-drop, append_assoc, reverse-append, length-reverse, Room, Node, node, View}
+use Rattle.offset_allocator.proofs.Common.{Block, units, count_named, last_or, IsRow, Placed, placed_at, placed, common_steps}
+use Rattle.offset_allocator.proofs.{Exchange.there-below, Ends.Ended, Ends.ended, Ends.last_none, Rows.node_at, Sound.Fields, Sound.AreSound, Sound.shown, Tallies.times-append, Tallies.one-eq}
 
 -- the first k blocks end in the block of a name
 pub record EndsIn (bs : List Block) (k x : ℕ) : Type 0 where
@@ -44,15 +36,8 @@ ends_in bs k x l e =
 
 -- one block more at the end
 placed-push : (o : ℕ) (fs : List Block) (b : Block) → placed o (fs ++ b ∷ []) ≡ placed o fs ++ placed_at (o + units fs) b ∷ []
-placed-push o [] b = let same : o + 0 ≡ o = omega arith in rw same
-placed-push o (a ∷ fs) b =
-    let same : o + a.size + units fs ≡ o + (a.size + units fs) = omega arith in
-    ap (λ l. placed_at o a ∷ l) (placed-push (o + a.size) fs b ∙ ap (λ (i : ℕ). placed (o + a.size) fs ++ placed_at i b ∷ []) same)
-
-listing-push : (fs : List Block) (b : Block) → reverse (placed 0 (fs ++ b ∷ [])) ≡ placed_at (units fs) b ∷ reverse (placed 0 fs)
-listing-push fs b =
-    let same : 0 + units fs ≡ units fs = omega arith in
-    ap reverse (placed-push 0 fs b ∙ ap (λ (i : ℕ). placed 0 fs ++ placed_at i b ∷ []) same) ∙ reverse-append (placed 0 fs) (placed_at (units fs) b ∷ [])
+placed-push o [] b = grind arith
+placed-push o (a ∷ fs) b = grind (arith, placed-push (o + a.size) fs b)
 
 length-placed : (o : ℕ) (bs : List Block) → length (placed o bs) ≡ length bs
 length-placed o [] = refl
@@ -91,19 +76,7 @@ module _ (it : Fields) (s : AreSound it) (k x : ℕ) where
       let d : EndsIn bs k x = ends_in bs k x l e in
       let n = node_at c d.front d.block d.after x (subst (λ l. IsRow c None 0 l None) d.is s.space.row) d.named in
       let there : 1 ≤ count_named x bs = omega (arith, ap (count_named x) d.is, times-append x d.front (d.block ∷ d.after), one-eq x d.block.name d.named) in
-      let at : placed_node x (node c x) ≡ placed_at (units d.front) d.block =
-      ap (placed_node x) n ∙ ap (λ (i : ℕ). record {
-        offset = units d.front;
-        size = d.block.size;
-        grant = if d.block.used then Some (record { name = i; offset = units d.front }) else None;
-      }) (sym d.named) in
-      record {
-        below = there-below c _ _ _ x bs s.space there;
-        some = d.some;
-        block = ap (λ (l : List Block). reverse (placed 0 l)) d.taken ∙ listing-push d.front d.block
-            ∙ ap₂ (λ (p : Placed) (l : List Block). p ∷ reverse (placed 0 l)) (sym at) (sym d.before);
-        before = ap (last_or None) d.before ∙ sym (ap (λ (n : Node). n.before) n);
-      }
+      grind (arith, common_steps, there-below, placed-push, reverse-append)
 
   pub read_is : (v : View) → shown it ≡ v → k ≤ length v.blocks → last_or None (take k v.blocks) ≡ Some x → IsRead it.cells.room v.blocks k x
   read_is v e = subst (λ (u : View). k ≤ length u.blocks → last_or None (take k u.blocks) ≡ Some x → IsRead it.cells.room u.blocks k x) e read_shown

@@ -1,12 +1,7 @@
 -- The masks after a change of one bin.
-use Rattle.std.proofs.Common.{◌≡◌, ◌≢◌, ◌<◌, ℕ, ◌*◌, ◌/◌, ◌%◌, ◌^◌, List, [], ◌∷◌, refl, sym, ap, ◌∙◌, inl, inr, arith, length, slice_index, slice_set}
-use Rattle.std.proofs.Common.{bit_and, bit_or, w32, w64, ne_eqb, length-set, get_or-set_same, get_or-set_other}
-use Rattle.std.specs.Int.{bit_at, bit_not}
-use Rattle.std.proofs.lemmas.Nat.{or_lt, one_shl, and_le_l, pow_below}
-use Rattle.std.proofs.lemmas.Nat.Bits.{bit_at_set_same, bit_at_set_other, bit_at_clear_same, bit_at_clear_other, bit_at-zero}
-use Rattle.std.proofs.lemmas.Bool.{cases_eq}
-use Rattle.offset_allocator.specs.View.{bin_at}
-use Rattle.offset_allocator.specs.Bins.{flag, mark, AreMasks}
+use Rattle.offset_allocator.proofs.Common.{◌≡◌, ◌≢◌, ◌<◌, ℕ, ◌*◌, ◌/◌, ◌%◌, ◌^◌, List, [], ◌∷◌, refl, sym, ap, ◌∙◌, arith, length, slice_index, slice_set, bit_and, bit_or, w32, w64, ne_eqb}
+use Rattle.offset_allocator.proofs.Common.{length-set, get_or-set_same, get_or-set_other, bit_at, bit_not, or_lt, one_shl, and_le_l, pow_below, bit_at_set_same, bit_at_set_other, bit_at_clear_same}
+use Rattle.offset_allocator.proofs.Common.{bit_at_clear_other, bit_at-zero, cases_eq, bin_at, flag, mark, AreMasks}
 use Rattle.offset_allocator.proofs.ViewOrders.{names_same, names_other}
 
 mark_some : (n : ℕ) → n ≢ 0 → mark n ≡ 1
@@ -24,34 +19,12 @@ module _ {ls : List (List ℕ)} {masks : List ℕ} {top : ℕ} (k : AreMasks ls 
   flag_other d n = ap flag (names_other ls c d ys n)
 
   pub masked_same : flag ys ≡ flag (bin_at ls c) → AreMasks (slice_set ls c ys) masks top
-  masked_same e = record {
-    masks_len = k.masks_len;
-    bits = λ d h. k.bits d h ∙ elim (cases_eq d c) [ inl q ↦ ap (λ i. flag (bin_at ls i)) q ∙ sym e ∙ sym (flag_at d q) | inr n ↦ sym (flag_other d n) ];
-    tops = k.tops;
-    top_small = k.top_small;
-    words_small = k.words_small;
-  }
+  masked_same e = grind (arith, cases_eq, flag_at, flag_other)
 
   -- word c / 64 becomes v, and the top mask top'
   masked_after : (v top' : ℕ) → v < 2 ^ 64 → top' < 16 → bit_at v (c % 64) ≡ flag ys → ((i : ℕ) → i < 64 → i ≢ c % 64 → bit_at v i ≡ bit_at (slice_index masks (c / 64)) i)
       → bit_at top' (c / 64) ≡ mark v → ((w : ℕ) → w < 4 → w ≢ c / 64 → bit_at top' w ≡ bit_at top w) → AreMasks (slice_set ls c ys) (slice_set masks (c / 64) v) top'
-  masked_after v top' vs ts here others mine rest =
-      let at : (w : ℕ) → w ≡ c / 64 → slice_index (slice_set masks (c / 64) v) w ≡ v = λ w e. rw e (get_or-set_same masks (c / 64) v 0 (omega (arith, k.masks_len))) in
-      let off : (w : ℕ) → w ≢ c / 64 → slice_index (slice_set masks (c / 64) v) w ≡ slice_index masks w = λ w n. get_or-set_other masks (c / 64) w v 0 n in
-      record {
-        masks_len = length-set masks (c / 64) v ∙ k.masks_len;
-        bits = λ d h. elim (cases_eq (d / 64) (c / 64)) [
-          | inl q ↦ elim (cases_eq (d % 64) (c % 64)) [
-            | inl r ↦ rw (at (d / 64) q, r) (here ∙ sym (flag_at d (omega arith)))
-            | inr n ↦ rw (at (d / 64) q) (others (d % 64) (omega arith) n ∙ ap (λ i. bit_at (slice_index masks i) (d % 64)) (sym q) ∙ k.bits d h
-                ∙ sym (flag_other d (λ s. n (ap (λ i. i % 64) s))))
-          ]
-          | inr n ↦ rw (off (d / 64) n) (k.bits d h ∙ sym (flag_other d (λ s. n (ap (λ i. i / 64) s))))
-        ];
-        tops = λ w h. elim (cases_eq w (c / 64)) [ inl q ↦ rw (at w q, q) mine | inr n ↦ rw (off w n) (rest w h n ∙ k.tops w h) ];
-        top_small = ts;
-        words_small = λ w h. elim (cases_eq w (c / 64)) [ inl q ↦ rw (at w q) vs | inr n ↦ rw (off w n) (k.words_small w h) ];
-      }
+  masked_after v top' vs ts here others mine rest = grind (arith, get_or-set_same, get_or-set_other, length-set, cases_eq, flag_at, flag_other)
 
   module _ (v : ℕ) (ve : v ≡ slice_index masks (c / 64)) where
     small : v < 2 ^ 64
@@ -78,9 +51,7 @@ module _ {ls : List (List ℕ)} {masks : List ℕ} {top : ℕ} (k : AreMasks ls 
 
       -- the word has other bits
       pub masked_clear : u ≢ 0 → AreMasks (slice_set ls c ys) (slice_set masks (c / 64) u) top
-      masked_clear n =
-          let was : v ≢ 0 = λ z. n (omega (arith, and_le_l v (bit_not w64 (1 * 2 ^ (c % 64) % 18446744073709551616)))) in
-          cleared top k.top_small (k.tops (c / 64) (omega arith) ∙ ap mark (sym ve) ∙ mark_some v was ∙ sym (mark_some u n)) (λ w l m. refl)
+      masked_clear n = grind (arith, and_le_l, cleared, mark_some)
 
       -- the word has no other bit
       pub masked_clear_word : u ≡ 0 → AreMasks (slice_set ls c ys) (slice_set masks (c / 64) u) (bit_and top (bit_not w32 (1 * 2 ^ (c / 64) % 4294967296)))

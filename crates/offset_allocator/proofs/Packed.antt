@@ -1,22 +1,9 @@
 -- What holds after the live ranges are packed, and of the moves that pack them.
-use Rattle.std.proofs.Common.{◌≡◌, ◌↔◌, ℕ, ◌+◌, ◌≤◌, Bool, true, false, Option, Some, None, List, [], ◌∷◌, ◌++◌, sum, if◌then◌else◌, nat_eq, option_map}
-use Rattle.std.proofs.Common.{option_and_then, refl, sym, ap, subst, ◌∙◌, inl, inr, arith}
-use Rattle.std.specs.List.{AllByRecursion}
-use Rattle.std.proofs.lemmas.Bool.{cases_eq}
-use Rattle.std.proofs.lemmas.Bool.Decides.{nat_tests}
-use Rattle.std.proofs.lemmas.List.Sums.{sum_by-cons}
-use Rattle.offset_allocator.specs.Classes.{value, down}
-use Rattle.offset_allocator.specs.Reports.{largest}
-use Rattle.offset_allocator.specs.View.{Block, View, Place, one, place_of, count_named, free_sizes, units, IsWellFormed}
-use Rattle.offset_allocator.specs.Requests.{CanGrant, HasRoomFor}
-use Rattle.offset_allocator.specs.Ranges.{Range}
-use Rattle.offset_allocator.specs.Compacting.{Move, live, moves, move_of, gathered, AreSafe, KeepsSizes, Compacts}
-use Rattle.offset_allocator.proofs.Classes.{down_law}
-use Rattle.offset_allocator.proofs.Compacting.{live_are_used, AreUsed}
-use Rattle.offset_allocator.proofs.Refusals.{fit_small}
-use Rattle.offset_allocator.proofs.Sliding.{live_used, live_idle}
-use Rattle.offset_allocator.proofs.Tallies.{hit_cases}
+use Rattle.offset_allocator.proofs.Common.{◌≡◌, ◌↔◌, ℕ, ◌+◌, ◌≤◌, Bool, true, false, Option, Some, None, List, [], ◌∷◌, ◌++◌, sum, if◌then◌else◌, nat_eq, option_map, option_and_then, refl, ap, ◌∙◌}
+use Rattle.offset_allocator.proofs.Common.{arith, AllByRecursion, cases_eq, nat_tests, sum_by-cons, value, down, largest, Block, View, Place, one, place_of, count_named, free_sizes, units}
+use Rattle.offset_allocator.proofs.Common.{IsWellFormed, CanGrant, HasRoomFor, Range, Move, live, moves, move_of, gathered, AreSafe, KeepsSizes, Compacts, common_steps}
 use Rattle.offset_allocator.proofs.ViewFits.{fits_exactly, largest_small}
+use Rattle.offset_allocator.proofs.{Classes.down_law, Compacting.live_are_used, Compacting.AreUsed, Refusals.fit_small, Sliding.live_used, Sliding.live_idle, Tallies.hit_cases}
 
 -- the units that a name holds, if it is live
 abbrev units_at : Option Place → Option ℕ
@@ -30,11 +17,7 @@ held_is : (x : ℕ) (bs : List Block) → units_at (place_of x bs) ≡ held x bs
 held_is x [] = refl
 held_is x (b ∷ bs) =
     let ih = held_is x bs in
-    let later : (o : Option Place) → units_at (option_map (λ (p : Place). record p { before = b ∷ p.before }) o) ≡ units_at o =
-    λ o. elim o as (λ q. units_at (option_map (λ (p : Place). record p { before = b ∷ p.before }) q) ≡ units_at q) [
-      | None ↦ refl
-      | Some p ↦ both p.block.used p
-    ] in
+    let later : (o : Option Place) → units_at (option_map (λ (p : Place). record p { before = b ∷ p.before }) o) ≡ units_at o = grind (arith, common_steps, both) in
     elim (nat_eq x b.name) as (λ t. units_at (if t then Some (record { before = []; block = b; after = bs }) else option_map (λ (p : Place). record p { before = b ∷ p.before })
     (place_of x bs)) ≡ (if t then (if b.used then Some b.size else None) else held x bs)) [
       | true ↦ here b.used
@@ -51,11 +34,7 @@ held_is x (b ∷ bs) =
     here false = refl
 
 held_other : (x : ℕ) (b : Block) (bs : List Block) → one (nat_eq x b.name) ≡ 0 → held x (b ∷ bs) ≡ held x bs
-held_other x b bs e = elim (nat_eq x b.name) as (λ t. one t ≡ 0 → (if t then (if b.used then Some b.size else None) else held x bs) ≡ held x bs)
-    [ true ↦ λ q. absurd (omega (arith, q)) | false ↦ λ q. refl ] e
-
-held_here : (x : ℕ) (b : Block) (bs : List Block) → x ≡ b.name → held x (b ∷ bs) ≡ (if b.used then Some b.size else None)
-held_here x b bs e = let t : nat_eq x b.name ≡ true = grind (arith, nat_tests) in ap (λ (t : Bool). if t then (if b.used then Some b.size else None) else held x bs) t
+held_other x b bs e = grind arith
 
 -- a free block holds nothing
 abbrev the_none : Option ℕ
@@ -78,18 +57,11 @@ held_live x y ns [] l = held_gathered x y ns
 held_live x y ns (b ∷ bs) l = go b.used refl (held_live x y ns bs (omega (arith, l)))
   where
     go : (u : Bool) → b.used ≡ u → held x (live bs ++ gathered y ns) ≡ held x bs → held x (live (b ∷ bs) ++ gathered y ns) ≡ held x (b ∷ bs)
-    go true u ih = ap (λ k. held x (k ++ gathered y ns)) (live_used b bs u) ∙ elim (hit_cases x b.name) [
-      | inl h ↦ held_here x b (live bs ++ gathered y ns) h.0 ∙ sym (held_here x b bs h.0)
-      | inr h ↦ held_other x b (live bs ++ gathered y ns) h.1 ∙ ih ∙ sym (held_other x b bs h.1)
-    ]
-    go false u ih = ap (λ k. held x (k ++ gathered y ns)) (live_idle b bs u) ∙ elim (hit_cases x b.name) [
-      | inl h ↦ held_absent x y ns bs (omega (arith, l, h.1)) ∙ sym (held_here x b bs h.0 ∙ ap (λ (v : Bool). if v then Some b.size else None) u)
-      | inr h ↦ ih ∙ sym (held_other x b bs h.1)
-    ]
+    go true u ih = grind (arith, common_steps, live_used, hit_cases, nat_tests, held_other)
+    go false u ih = grind (arith, common_steps, live_idle, hit_cases, held_absent, nat_tests, held_other)
 
 pub compacts_sizes : (v w : View) → IsWellFormed v → Compacts v w → KeepsSizes v w
-compacts_sizes v w well c x =
-    held_is x w.blocks ∙ ap (λ (u : View). held x u.blocks) c.view ∙ held_live x c.name (free_sizes v.blocks) v.blocks (well.distinct x) ∙ sym (held_is x v.blocks)
+compacts_sizes v w well c x = grind (arith, held_is, held_live)
 
 -- the free units are one region
 sizes_live : (bs : List Block) → AreUsed bs → (cs : List Block) → free_sizes (bs ++ cs) ≡ free_sizes cs
@@ -102,8 +74,7 @@ largest_gathered x (n ∷ ns) = let e : sum (n ∷ ns) ≡ n + sum ns = sum_by-c
 
 pub compacted_grants : (v w : View) (n : ℕ) → IsWellFormed w → 1 ≤ n → Compacts v w → CanGrant 1 n w ↔ (HasRoomFor 1 w × (n ≤ value (down (sum (free_sizes v.blocks)))))
 compacted_grants v w n well some c =
-    let is : largest (free_sizes w.blocks) ≡ value (down (sum (free_sizes v.blocks))) = ap (λ (u : View). largest (free_sizes u.blocks)) c.view
-    ∙ ap largest (sizes_live (live v.blocks) (live_are_used v.blocks) (gathered c.name (free_sizes v.blocks))) ∙ largest_gathered c.name (free_sizes v.blocks) in (
+    let is : largest (free_sizes w.blocks) ≡ value (down (sum (free_sizes v.blocks))) = grind (arith, common_steps, sizes_live, live_are_used, largest_gathered) in (
       λ h. (h.0, let small : n ≤ 4294967295 = omega (arith, fit_small n w well h.1, well.fits) in omega (arith, (fits_exactly w well n small well.fits some).0 h.1, is)),
       λ h. (h.0, (fits_exactly w well n (largest_small w well well.fits n some (omega (arith, h.1, is))) well.fits some).1 (omega (arith, h.1, is))),
     )
@@ -115,8 +86,7 @@ later n from to (b ∷ bs) l =
     let ih = later n (from + b.size) (to + b.size) bs (omega (arith, l)) in
     let other = later n (from + b.size) to bs (omega (arith, l)) in
     elim b.used as (λ u. AllByRecursion (λ (k : Move). n ≤ k.from) (if u then move_of from to b ++ moves (from + b.size) (to + b.size) bs else moves (from + b.size) to bs)) [
-      | true ↦ elim (nat_eq from to) as (λ t. AllByRecursion (λ (k : Move). n ≤ k.from)
-          ((if t then [] else record { name = b.name; from = from; to = to; size = b.size } ∷ []) ++ moves (from + b.size) (to + b.size) bs)) [ true ↦ ih | false ↦ (l, ih) ]
+      | true ↦ grind (arith, common_steps)
       | false ↦ other
     ]
 
@@ -127,12 +97,6 @@ safe from to (b ∷ bs) l =
     let other = safe (from + b.size) to bs (omega (arith, l)) in
     let rest = later (to + b.size) (from + b.size) (to + b.size) bs (omega (arith, l)) in
     elim b.used as (λ u. AreSafe (if u then move_of from to b ++ moves (from + b.size) (to + b.size) bs else moves (from + b.size) to bs)) [
-      | true ↦ elim (cases_eq from to) [
-        | inl e ↦ let t : nat_eq from to ≡ true = grind (arith, nat_tests) in
-            subst (λ (t : Bool). AreSafe ((if t then [] else record { name = b.name; from = from; to = to; size = b.size } ∷ []) ++ moves (from + b.size) (to + b.size) bs)) (sym t) ih
-        | inr e ↦ let t : nat_eq from to ≡ false = grind (arith, nat_tests) in
-            subst (λ (t : Bool). AreSafe ((if t then [] else record { name = b.name; from = from; to = to; size = b.size } ∷ []) ++ moves (from + b.size) (to + b.size) bs)) (sym t)
-            (omega (arith, l, e), rest, ih)
-      ]
+      | true ↦ grind (arith, common_steps, cases_eq, nat_tests)
       | false ↦ other
     ]

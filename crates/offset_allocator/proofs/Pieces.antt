@@ -1,24 +1,10 @@
 -- Blocks that are split, and the bins of their parts.
-use Rattle.std.proofs.Common.{◌≡◌, ◌≢◌, ℕ, zero, suc, ◌-◌, ◌<◌, List, [], ◌∷◌, ◌++◌, length, refl, sym, ap, ◌∙◌, subst, arith, inl, inr, append-nil}
-use Rattle.std.proofs.Common.{get_or-set_same, get_or-set_other}
-use Rattle.std.proofs.lemmas.Bool.{cases_eq}
-use Rattle.offset_allocator.specs.Cells.{Room}
-use Rattle.offset_allocator.specs.Classes.{down}
-use Rattle.offset_allocator.specs.View.{Block, Place, count_named, bin_at, free_part, free_block, used_block, push, push_all}
-use Rattle.offset_allocator.specs.Bins.{Among, IsUnlisted}
-use Rattle.offset_allocator.specs.Chain.{HasPlace}
-use Rattle.offset_allocator.specs.Soundness.{AreUnlisted}
-use Rattle.offset_allocator.proofs.Classes.{down_small}
-use Rattle.offset_allocator.proofs.Exchange.{each-le}
-use Rattle.offset_allocator.proofs.Tallies.{one-eq, one-other, times-append}
+use Rattle.offset_allocator.proofs.Common.{◌≡◌, ◌≢◌, ℕ, zero, suc, ◌-◌, ◌<◌, List, [], ◌∷◌, ◌++◌, length, refl, sym, arith, append-nil, get_or-set_same, get_or-set_other, cases_eq, Room, down, Block}
+use Rattle.offset_allocator.proofs.Common.{Place, free_part, free_block, used_block, push, push_all, IsUnlisted, HasPlace, AreUnlisted}
+use Rattle.offset_allocator.proofs.{Classes.down_small, Exchange.each-le, Tallies.one-eq, Tallies.one-other, Tallies.times-append}
 
 unlisted_put : (y x c : ℕ) (ls : List (List ℕ)) → length ls ≡ 256 → c < 256 → y ≢ x → IsUnlisted y ls → IsUnlisted y (push c x ls)
-unlisted_put y x c ls n ch ne u d dh a =
-    let l : c < length ls = omega arith in
-    elim (cases_eq d c) [
-      | inl e ↦ u c ch (omega (arith, one-other y x ne, subst (λ z. Among y z) (ap (bin_at (push c x ls)) e ∙ get_or-set_same ls c (x ∷ bin_at ls c) [] l) a))
-      | inr m ↦ u d dh (subst (λ z. Among y z) (get_or-set_other ls c d (x ∷ bin_at ls c) [] m) a)
-    ]
+unlisted_put y x c ls n ch ne u d dh a = grind (arith, cases_eq, one-other, get_or-set_same, get_or-set_other)
 
 -- padding of no units is no block, nor is a remainder of no units
 module _ {c : Room} {m last count x : ℕ} {p : Place} where
@@ -59,17 +45,5 @@ padded_unlisted {c} {m} {last} {count} {x} fs {cs} {b} y (suc n) ls long h u =
 -- the name of the padding is in its bin, and no other one is that was in none
 pub unlisted_part : (fs cs : List Block) (b d : Block) (y n : ℕ) (ls : List (List ℕ)) → d.name ≡ b.name → length ls ≡ 256 → AreUnlisted (fs ++ b ∷ cs) ls
     → AreUnlisted ((fs ++ free_part y n) ++ d ∷ cs) (push_all (free_part y n) ls)
-unlisted_part fs cs b d y zero ls same long u k z =
-    u k (omega (
-      arith,
-      z,
-      times-append k (fs ++ []) (d ∷ cs),
-      times-append k fs [],
-      times-append k fs (b ∷ cs),
-      ap (λ i. count_named k (record { name = i; size = 0; used = b.used } ∷ [])) same,
-    ))
-unlisted_part fs cs b d y (suc n) ls same long u k z =
-    let all = times-append k (fs ++ free_block y (suc n) ∷ []) (d ∷ cs) in
-    let front = times-append k fs (free_block y (suc n) ∷ []) in
-    unlisted_put k y (down (suc n)) ls long (down_small (suc n)) (λ q. omega (arith, z, all, front, one-eq k y (sym q)))
-    (u k (omega (arith, z, all, front, times-append k fs (b ∷ cs), ap (λ i. count_named k (record { name = i; size = 0; used = b.used } ∷ [])) same)))
+unlisted_part fs cs b d y zero ls same long u k z = grind (arith, times-append)
+unlisted_part fs cs b d y (suc n) ls same long u k z = grind (arith, times-append, unlisted_put, down_small, one-eq)

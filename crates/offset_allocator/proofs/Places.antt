@@ -1,15 +1,9 @@
 -- A block at its place, and the blocks beside it.
-use Rattle.std.proofs.Common.{◌≡◌, ℕ, ◌+◌, ◌<◌, ◌^◌, true, false, Option, None, Some, IfSome, List, [], ◌∷◌, ◌++◌, length, refl, sym, ◌∙◌, ap, arith, append_assoc}
-use Rattle.std.proofs.Common.{length-append}
-use Rattle.offset_allocator.specs.Classes.{down}
-use Rattle.offset_allocator.specs.Cells.{Room, Node, node}
-use Rattle.offset_allocator.specs.Chain.{first_or, last_or, IsChain, IsSpace, HasPlace, blocks, coalesced_before, coalesced_after}
-use Rattle.offset_allocator.specs.View.{Block, Place, free_block, place_of, units, free_end, free_start, remove, remove_all}
-use Rattle.offset_allocator.proofs.Tallies.{one-eq, times-append, units-append}
-use Rattle.offset_allocator.proofs.Rows.{last_or-append, node_at}
+use Rattle.offset_allocator.proofs.Common.{◌≡◌, ℕ, ◌+◌, ◌<◌, ◌^◌, true, false, Option, None, Some, IfSome, List, [], ◌∷◌, ◌++◌, length, refl, sym, ◌∙◌, ap, arith, append_assoc, length-append, down}
+use Rattle.offset_allocator.proofs.Common.{Room, Node, node, first_or, last_or, IsChain, IsSpace, HasPlace, blocks, coalesced_before, coalesced_after, Block, Place, free_block, place_of, units}
+use Rattle.offset_allocator.proofs.Common.{free_end, free_start, remove, remove_all, common_steps}
 use Rattle.offset_allocator.proofs.Ends.{ended, last_none, end_free, end_used, end_kept, start_kept}
-use Rattle.offset_allocator.proofs.Exchange.{there-below}
-use Rattle.offset_allocator.proofs.ViewSteps.{place_at}
+use Rattle.offset_allocator.proofs.{Tallies.one-eq, Tallies.times-append, Tallies.units-append, Rows.last_or-append, Rows.node_at, Exchange.there-below, ViewSteps.place_at}
 
 pub placed : {c : Room} {m last count x : ℕ} {p : Place} → IsChain c m last count (p.before ++ p.block ∷ p.after) → p.block.name ≡ x → HasPlace c m last count x p
 placed {c} {m} {last} {count} {x} {p} h e = record {
@@ -142,11 +136,7 @@ free_after h e u =
     let n = next_place h e in
     let at = at_place n.place in
     let idle : n.block.used ≡ false = sym (ap (λ (v : Node). v.used) at) ∙ u in
-    let is : free_start (n.block ∷ n.rest) ≡ n.block ∷ [] = rw idle refl in (
-      ap (λ l. units (free_start l)) n.is ∙ ap units is ∙ omega (arith, ap (λ (v : Node). v.size) at),
-      λ ls. ap (λ l. remove_all (free_start l) ls) n.is ∙ ap (λ l. remove_all l ls) is
-          ∙ rw (idle, n.place.name, ← ap (λ (v : Node). v.size) at) refl,
-    )
+    grind (arith, common_steps)
 
 pub after_fits : {c : Room} {m last count x y : ℕ} {p : Place} → HasPlace c m last count x p → Some y ≡ (node c x).after → (node c x).size + (node c y).size < 2 ^ 32
 after_fits {p = p} h e =

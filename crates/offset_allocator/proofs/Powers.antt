@@ -1,11 +1,6 @@
 -- The alignments that a request may ask for are the powers of two.
-use Rattle.std.proofs.Common.{◌≡◌, ℕ, zero, suc, ◌+◌, ◌*◌, ◌/◌, ◌%◌, ◌^◌, ◌<◌, ◌≤◌, ◌⊎◌, ap, inl, inr, refl, arith, count_ones}
-use Rattle.std.specs.Int.{IsPowerOfTwo}
-use Rattle.std.specs.Int.Count.{ones_step}
-use Rattle.std.proofs.lemmas.Nat.{zero_from_ones, ones_le_self, pow_pos}
-use Rattle.std.proofs.lemmas.Bool.Decides.{nat_tests}
-use Rattle.std.proofs.Math.Nat.{pow-suc, mul_assoc, mul-add, add-mul, mul-zero, div-add-mod}
-use Rattle.offset_allocator.specs.Relations.{IsAlignment}
+use Rattle.offset_allocator.proofs.Common.{◌≡◌, ℕ, zero, suc, ◌+◌, ◌*◌, ◌/◌, ◌%◌, ◌^◌, ◌<◌, ◌≤◌, ◌⊎◌, ap, inl, inr, refl, arith, count_ones, IsPowerOfTwo, ones_step, zero_from_ones, ones_le_self}
+use Rattle.offset_allocator.proofs.Common.{pow_pos, nat_tests, pow-suc, mul_assoc, mul-add, add-mul, mul-zero, div-add-mod, IsAlignment, common_steps}
 
 -- the last bit is 0 or 1
 odd_or_even : (n : ℕ) → (n % 2 ≡ 0) ⊎ (n % 2 ≡ 1)
@@ -47,10 +42,7 @@ divisor (suc k) d q e =
             let half : q / 2 + q / 2 ≡ q = omega arith in
             let step = ap (λ (n : ℕ). d * n) half in
             divisor k d (q / 2) (omega (arith, step, mul-add d (q / 2) (q / 2), p, e))
-        | inr s ↦
-            let odd : (d / 2 + d / 2) + 1 ≡ d = omega arith in
-            let step = ap (λ (n : ℕ). n * q) odd in
-            absurd (omega (arith, step, add-mul (d / 2 + d / 2) 1 q, add-mul (d / 2) (d / 2) q, p, e))
+        | inr s ↦ grind (arith, common_steps, add-mul)
       ]
     ]
 

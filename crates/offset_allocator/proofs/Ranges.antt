@@ -1,16 +1,9 @@
 -- What each call leaves of the ranges of live handles.
-use Rattle.std.proofs.Common.{◌≡◌, ◌≢◌, ℕ, IfSome, zero, suc, ◌+◌, ◌≤◌, Bool, true, false, ◌&&◌, List, [], ◌∷◌, ◌++◌, Option, Some, None, nat_eq}
-use Rattle.std.proofs.Common.{if◌then◌else◌, refl, sym, ap, subst, ◌∙◌, inl, inr, arith, append_assoc, add-zero, add_assoc, eq-eqb, ne_eqb}
-use Rattle.std.proofs.lemmas.Bool.{false≢true, and_right}
-use Rattle.offset_allocator.specs.View.{Block, View, Place, Grant, one, units, count_named, used_block, free_block, free_part, IsWellFormed, place_of}
-use Rattle.offset_allocator.specs.Ranges.{Range, range_of, AreDisjoint, Grants, KeepsAll, KeepsOthers, KeepsRanges}
-use Rattle.offset_allocator.specs.Resizing.{Resizes, HasUnits}
-use Rattle.offset_allocator.specs.Relations.{SameSpace, Splits, Frees, Adds}
-use Rattle.std.specs.List.{AllByRecursion}
-use Rattle.offset_allocator.proofs.ViewSteps.{place_at, no_place}
-use Rattle.offset_allocator.proofs.Released.{idle_parts}
-use Rattle.offset_allocator.proofs.Reading.{range_at}
-use Rattle.offset_allocator.proofs.Tallies.{part_sums, tally_append, hit_cases}
+use Rattle.offset_allocator.proofs.Common.{◌≡◌, ◌≢◌, ℕ, IfSome, zero, suc, ◌+◌, ◌≤◌, Bool, true, false, ◌&&◌, List, [], ◌∷◌, ◌++◌, Option, Some, None, nat_eq, if◌then◌else◌, refl, sym, ap, subst, ◌∙◌}
+use Rattle.offset_allocator.proofs.Common.{inl, inr, arith, append_assoc, add-zero, add_assoc, eq-eqb, ne_eqb, false≢true, and_right, AllByRecursion, Block, View, Place, Grant, one, units}
+use Rattle.offset_allocator.proofs.Common.{count_named, used_block, free_block, free_part, IsWellFormed, place_of, Range, range_of, AreDisjoint, Grants, KeepsAll, KeepsOthers, KeepsRanges, Resizes}
+use Rattle.offset_allocator.proofs.Common.{HasUnits, SameSpace, Splits, Frees, Adds, common_steps}
+use Rattle.offset_allocator.proofs.{ViewSteps.place_at, ViewSteps.no_place, Released.idle_parts, Reading.range_at, Tallies.part_sums, Tallies.tally_append, Tallies.hit_cases}
 
 -- the range of the used block named x, where the first of the blocks has this offset
 abbrev range_from : ℕ → ℕ → List Block → Option Range
@@ -53,10 +46,7 @@ none_append x (b ∷ bs) cs h k = (h.0, none_append x bs cs h.1 k)
 -- a name that is there once is nowhere beside its block
 pub beside : (x : ℕ) (before : List Block) (b : Block) (after : List Block) → x ≡ b.name → count_named x (before ++ b ∷ after) ≤ 1 → (count_named x before ≡ 0)
     × (count_named x after ≡ 0)
-beside x before b after e most = elim (hit_cases x b.name) [
-  | inl h ↦ let t = tally_append (λ (b : Block). one (nat_eq x b.name)) before (b ∷ after) in let k = h.1 in (omega arith, omega arith)
-  | inr h ↦ absurd (h.0 e)
-]
+beside x before b after e most = grind (arith, hit_cases, tally_append)
 
 -- a name that no used block of these has
 nothing : (x offset : ℕ) (bs : List Block) → HasNone x bs → range_from x offset bs ≡ None
@@ -105,16 +95,12 @@ beyond x offset (b ∷ bs) r e = either (b.used && nat_eq x b.name) (beyond x (o
     either : (t : Bool) → (range_from x (offset + b.size) bs ≡ Some r → (offset + b.size ≤ r.offset) × (r.offset + r.size ≤ offset + b.size + units bs))
         → (if t then Some (record { offset = offset; size = b.size }) else range_from x (offset + b.size) bs) ≡ Some r → (offset ≤ r.offset)
         × (r.offset + r.size ≤ offset + (b.size + units bs))
-    either true later e = let q : (let z : Range = record { offset = offset; size = b.size } in z) ≡ r = cc in let o = ap (λ (z : Range). z.offset) q in
-        let n = ap (λ (z : Range). z.size) q in (omega arith, omega arith)
-    either false later e = let ih = later e in let a = ih.0 in let z = ih.1 in (omega arith, omega arith)
+    either true later e = grind (arith, common_steps)
+    either false later e = grind (arith, common_steps)
 
 both : (x y : ℕ) (u : Bool) (z : ℕ) → x ≢ y → (u && nat_eq x z) ≡ true → (u && nat_eq y z) ≡ true → ⊥
-both x y true z d e f = elim (hit_cases x z) [
-  | inl h ↦ elim (hit_cases y z) [ inl k ↦ d (h.0 ∙ sym k.0) | inr k ↦ false≢true (sym (ne_eqb y z k.0) ∙ f) ]
-  | inr h ↦ false≢true (sym (ne_eqb x z h.0) ∙ e)
-]
-both x y false z d e f = false≢true e
+both x y true z d e f = grind (arith, hit_cases, false≢true, ne_eqb)
+both x y false z d e f = grind (arith, false≢true)
 
 apart : (x y offset : ℕ) (bs : List Block) (r s : Range) → x ≢ y → range_from x offset bs ≡ Some r → range_from y offset bs ≡ Some s → AreDisjoint r s
 apart x y offset [] r s d e f = absurd (cc)
@@ -123,20 +109,10 @@ apart x y offset (b ∷ bs) r s d e f = either (b.used && nat_eq x b.name) (b.us
     either : (t u : Bool) → (t ≡ true → u ≡ true → ⊥) → (range_from x (offset + b.size) bs ≡ Some r → range_from y (offset + b.size) bs ≡ Some s → AreDisjoint r s)
         → (if t then Some (record { offset = offset; size = b.size }) else range_from x (offset + b.size) bs) ≡ Some r
         → (if u then Some (record { offset = offset; size = b.size }) else range_from y (offset + b.size) bs) ≡ Some s → AreDisjoint r s
-    either true true n later e f = absurd (n refl refl)
-    either true false n later e f =
-        let q : (let z : Range = record { offset = offset; size = b.size } in z) ≡ r = cc in
-        let o = ap (λ (z : Range). z.offset) q in
-        let k = ap (λ (z : Range). z.size) q in
-        let l = (beyond y (offset + b.size) bs s f).0 in
-        inl (omega arith)
-    either false true n later e f =
-        let q : (let z : Range = record { offset = offset; size = b.size } in z) ≡ s = cc in
-        let o = ap (λ (z : Range). z.offset) q in
-        let k = ap (λ (z : Range). z.size) q in
-        let l = (beyond x (offset + b.size) bs r e).0 in
-        inr (omega arith)
-    either false false n later e f = later e f
+    either true true n later e f = grind (arith, common_steps)
+    either true false n later e f = grind (arith, common_steps, beyond)
+    either false true n later e f = grind (arith, common_steps, beyond)
+    either false false n later e f = grind (arith, common_steps)
 
 -- the ranges of two live handles share no unit
 pub live_disjoint : (v : View) → IsWellFormed v → (x y : ℕ) (r s : Range) → x ≢ y → range_of x v ≡ Some r → range_of y v ≡ Some s → AreDisjoint r s
@@ -148,10 +124,7 @@ live_inside v f x r e = let b = (beyond x 0 v.blocks r (sym (range_is x v f) ∙
 
 -- the range of a name that was not live is freed: all live ranges stay where they were
 pub given_back : (x : ℕ) (v w z : View) → range_of x v ≡ None → KeepsRanges v w → KeepsOthers x w z → KeepsRanges v z
-given_back x v w z fresh kept others y r e = elim (hit_cases y x) [
-  | inl h ↦ absurd (let same = ap (λ z. range_of z v) h.0 in let no : (let o : Option Range = None in o) ≡ Some r = sym fresh ∙ sym same ∙ e in cc)
-  | inr h ↦ others y h.0 ∙ kept y r e
-]
+given_back x v w z fresh kept others y r e = grind (arith, hit_cases)
 
 -- and a refusal too
 pub call_keeps : (n : ℕ) (v w : View) (o : Option Grant) → IfSome o (Grants n v w) → (o ≡ None → SameSpace v w) → KeepsRanges v w
@@ -257,13 +230,7 @@ shut x offset [] cs h = nothing x offset cs h
 shut x offset (b ∷ bs) cs h = ap (λ r. if b.used && nat_eq x b.name then Some (record { offset = offset; size = b.size }) else r) (shut x (offset + b.size) bs cs h)
 
 pub adds_keep : (v w : View) → IsWellFormed v → IsWellFormed w → (more : ℕ) → Adds more v w → KeepsAll v w
-adds_keep v w f after more s x =
-    let last : Block = free_block s.name (units s.last + more) in
-    range_is x w after ∙ ap (λ (u : View). range_from x 0 u.blocks) s.view
-    ∙ shut x 0 s.before (last ∷ []) (none_idle x last refl)
-    ∙ sym (shut x 0 s.before s.last (none_idle_all x s.last s.free))
-    ∙ sym (ap (range_from x 0) s.blocks)
-    ∙ sym (range_is x v f)
+adds_keep v w f after more s x = grind (arith, range_is, shut, none_idle, none_idle_all)
 
 -- fewer units, or more
 module _ (x n : ℕ) (v w : View) (k : IsWellFormed v) (after : IsWellFormed w) (s : Resizes x n v w) where
@@ -277,12 +244,7 @@ module _ (x n : ℕ) (v w : View) (k : IsWellFormed v) (after : IsWellFormed w) 
   refitted y = range_is y w after ∙ ap (λ (u : View). range_from y 0 u.blocks) s.view
 
   pub resizes_units : HasUnits x n v w
-  resizes_units r e =
-      let was = range_is x v k ∙ ap (range_from x 0) s.blocks ∙ placed x s.before s.block (s.next ++ s.after) (sym s.named) (omega (arith, k.distinct x, ap (count_named x) s.blocks))
-      ∙ ap (λ (u : Bool). if u then Some (record { offset = units s.before; size = s.block.size }) else None) s.used in
-      let now = refitted x ∙ placed x s.before (used_block x n) (free_part s.name s.left ++ s.after) refl (omega (arith, after.distinct x, ap (λ (u : View). count_named x u.blocks) s.view)) in
-      let same : (let q : Range = record { offset = units s.before; size = s.block.size } in q) ≡ r = cc in
-      now ∙ ap (λ (q : Range). Some (record { offset = q.offset; size = n })) same
+  resizes_units r e = grind (arith, range_is, placed, refitted)
 
   pub resizes_others : KeepsOthers x v w
   resizes_others y d =

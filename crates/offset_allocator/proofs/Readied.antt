@@ -1,18 +1,9 @@
 -- Nodes that are made before names are taken.
-use Rattle.std.proofs.Common.{◌≡◌, ◌<◌, ◌≤◌, ◌+◌, ℕ, zero, suc, List, [], ◌∷◌, ◌++◌, None, refl, sym, ap, ◌∙◌, inl, inr, arith, length, length-append, length-set}
-use Rattle.std.proofs.Common.{get_or, take, set}
-use Rattle.std.proofs.lemmas.Bool.{cases_eq}
-use Rattle.std.proofs.lemmas.Bool.Decides.{nat_tests}
-use Rattle.std.proofs.lemmas.List.{take_more_set}
-use Rattle.offset_allocator.specs.Cells.{Cells, Room, Node, blank, node, with_node, AreShaped}
-use Rattle.offset_allocator.specs.View.{Block, times}
-use Rattle.offset_allocator.specs.Readies.{Readies}
-use Rattle.offset_allocator.specs.Chain.{IsChain, spares, blocks}
-use Rattle.offset_allocator.proofs.Rows.{IsRow-kept}
-use Rattle.offset_allocator.proofs.Sound.{Fields, AreSound, shown}
+use Rattle.offset_allocator.proofs.Common.{◌≡◌, ◌<◌, ◌≤◌, ◌+◌, ℕ, zero, suc, List, [], ◌∷◌, ◌++◌, None, refl, ap, ◌∙◌, arith, length, length-append, length-set, get_or, take, set, cases_eq, nat_tests}
+use Rattle.offset_allocator.proofs.Common.{take_more_set, Cells, Room, Node, blank, node, with_node, AreShaped, Block, times, IsChain, spares, blocks, common_steps}
 use Rattle.offset_allocator.proofs.Tallies.{one-eq, one-other, times-join}
-use Rattle.offset_allocator.proofs.Uses.{binned_more}
-use Rattle.offset_allocator.proofs.Views.{blocks-chain, space-chain}
+use Rattle.offset_allocator.proofs.{Rows.IsRow-kept, Sound.Fields, Sound.AreSound, Sound.shown, Uses.binned_more, Views.blocks-chain, Views.space-chain}
+use Rattle.offset_allocator.specs.Readies.{Readies}
 
 -- a blank node at the end is what stands for a node that is not made
 blank_at : (ns : List Node) (x : ℕ) → get_or (ns ++ blank ∷ []) x blank ≡ get_or ns x blank
@@ -57,19 +48,13 @@ chain_more {c} {d} {m} {last} {count} {bs} h e room =
     let long : length d.nodes ≡ length c.nodes + 1 = rw e (length-with_node c count) in
     let spare : length d.spare ≡ length c.spare + 1 =
     rw (e, spare-with_node) (length-set (c.spare ++ length c.nodes ∷ []) count (length c.nodes) ∙ length-append c.spare (length c.nodes ∷ [])) in
-    let few = h.full in
     record {
       memory = rw e (reserved-with_node c count) ∙ h.memory;
       within = omega (arith, long, room);
       stack = omega (arith, spare, long, h.stack);
       row = IsRow-kept c d None 0 bs None (λ k l. at k) h.row;
       ends = h.ends;
-      each = λ k.
-          let names = ap (λ (r : Room). times k (spares r (count + 1))) e ∙ names-with_node c count k (omega (arith, few, h.stack)) in
-          rw long (elim (cases_eq k (length c.nodes)) [
-            | inl q ↦ grind (arith, nat_tests, names, h.each k, one-eq k (length c.nodes) (sym q), q)
-            | inr n ↦ grind (arith, nat_tests, names, h.each k, one-other k (length c.nodes) n, n)
-          ]);
+      each = grind (arith, common_steps, names-with_node, cases_eq, nat_tests, one-eq, one-other);
       idle = λ k gone. ap (λ (n : Node). n.used) (at k) ∙ h.idle k gone;
       full = omega (arith, long, h.full);
       fits = h.fits;

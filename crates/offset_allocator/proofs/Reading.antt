@@ -1,15 +1,8 @@
 -- What a read of cells says of the view.
-use Rattle.std.proofs.Common.{◌≡◌, ℕ, ◌<◌, inl, inr, length, arith, Bool, is_some, true, false, Option, None, Some, option_and_then, option_map, unwrap_or, if◌then◌else◌, refl, sym}
-use Rattle.std.proofs.Common.{ap, subst, ◌∙◌}
-use Rattle.std.proofs.lemmas.Bool.{cases_lt, false≢true}
-use Rattle.offset_allocator.specs.Cells.{Room, Node, node}
-use Rattle.offset_allocator.specs.View.{View, Place, units, place_of, is_used_at}
-use Rattle.offset_allocator.specs.Ranges.{Range, range_of, size_of, IsLive}
-use Rattle.offset_allocator.specs.Chain.{blocks, IsRow, IsSpace}
-use Rattle.offset_allocator.proofs.Nodes.{past_idle}
-use Rattle.offset_allocator.proofs.Sound.{Fields, AreSound, shown}
-use Rattle.offset_allocator.proofs.Rows.{node_at}
-use Rattle.offset_allocator.proofs.ViewSteps.{place_at, no_place}
+use Rattle.offset_allocator.proofs.Common.{◌≡◌, ℕ, ◌<◌, inl, inr, length, arith, is_some, true, false, Option, None, Some, option_and_then, option_map, unwrap_or, if◌then◌else◌, refl, sym, ap, subst}
+use Rattle.offset_allocator.proofs.Common.{◌∙◌, cases_lt, false≢true, Room, Node, node, View, Place, units, place_of, is_used_at, Range, range_of, size_of, IsLive, blocks, IsRow, IsSpace}
+use Rattle.offset_allocator.proofs.Common.{common_steps}
+use Rattle.offset_allocator.proofs.{Nodes.past_idle, Sound.Fields, Sound.AreSound, Sound.shown, Rows.node_at, ViewSteps.place_at, ViewSteps.no_place}
 
 -- the range of the used block at a place
 abbrev pub range_at : Option Place → Option Range
@@ -34,9 +27,8 @@ range_some None = refl
 range_some (Some p) = elim p.block.used as (λ u. is_some {T = Range} (if u then Some (record { offset = units p.before; size = p.block.size }) else None) ≡ u) [ true ↦ refl | false ↦ refl ]
 
 range_units : (o : Option Place) → units_in (range_at o) ≡ size_at o
-range_units None = refl
-range_units (Some p) = elim p.block.used as (λ u. units_in (if u then Some (record { offset = units p.before; size = p.block.size }) else None) ≡ (if u then p.block.size else 0))
-    [ true ↦ refl | false ↦ refl ]
+range_units None = grind arith
+range_units (Some p) = grind arith
 
 module _ (x : ℕ) (v : View) where
   pub live_is : is_some {T = Range} (range_of x v) ≡ is_used_at (place_of x v.blocks)
@@ -76,10 +68,8 @@ module _ (c : Room) (last count x : ℕ) (h : IsSpace c last count) where
   offset_read u = go (place_of x (blocks c last)) refl
     where
       go : (o : Option Place) → place_of x (blocks c last) ≡ o → offset_in (range_at o) ≡ Some (node c x).offset
-      go None e = let f = sym (h.idle x (no_place x (blocks c last) e)) ∙ u in absurd (cc)
-      go (Some p) e =
-          let r = place_read p e in
-          ap (λ (b : Bool). offset_in (if b then Some (record { offset = units p.before; size = p.block.size }) else None)) (sym r.0 ∙ u) ∙ ap (λ (i : ℕ). Some i) (sym r.2)
+      go None e = grind (arith, common_steps, no_place)
+      go (Some p) e = grind (arith, common_steps, place_read)
 
 module _ (it : Fields) (x : ℕ) (s : AreSound it) where
   module _ (v : View) (e : shown it ≡ v) (live : IsLive x v) where
@@ -91,9 +81,6 @@ module _ (it : Fields) (x : ℕ) (s : AreSound it) where
       | inl l ↦ l
       | inr l ↦ let f = sym (past_idle it.cells.room x l) ∙ used_read it.cells.room it.last it.count x s.space ∙ used in absurd (false≢true f)
     ]
-
-    pub live_within : x < it.limit
-    live_within = omega (arith, live_below, s.space.within, s.memory)
 
     pub live_size : (node it.cells.room x).size ≡ size_of x v
     live_size = size_read it.cells.room it.last it.count x s.space (used_read it.cells.room it.last it.count x s.space ∙ used)

@@ -1,24 +1,12 @@
 -- Why a request is refused.
-use Rattle.std.proofs.Common.{◌≡◌, ℕ, ◌+◌, ◌<◌, ◌≤◌, true, false, List, [], ◌∷◌, length, sum, if◌then◌else◌, refl, sym, ap, ◌∙◌, arith}
-use Rattle.std.proofs.lemmas.List.Sums.{sum_by-cons}
-use Rattle.offset_allocator.specs.View.{Block, View, units, free_sizes, IsWellFormed}
-use Rattle.offset_allocator.specs.Chain.{blocks}
-use Rattle.offset_allocator.specs.Soundness.{free_units}
-use Rattle.offset_allocator.proofs.Sound.{Fields, AreSound, shown}
-use Rattle.offset_allocator.specs.Requests.{HasRoomFor}
-use Rattle.offset_allocator.proofs.Counting.{class_within}
-use Rattle.offset_allocator.proofs.Taken.{HasFit}
+use Rattle.offset_allocator.proofs.Common.{◌≡◌, ℕ, ◌+◌, ◌<◌, ◌≤◌, List, [], ◌∷◌, length, sum, sym, ap, ◌∙◌, arith, sum_by-cons, Block, View, units, free_sizes, IsWellFormed, blocks, free_units}
+use Rattle.offset_allocator.proofs.Common.{HasRoomFor}
+use Rattle.offset_allocator.proofs.{Sound.Fields, Sound.AreSound, Sound.shown, Counting.class_within, Taken.HasFit}
 
 -- the units of the free blocks are the sum of their sizes, and no more than those of all
 free_units_sum : (bs : List Block) → (free_units bs ≡ sum (free_sizes bs)) × (free_units bs ≤ units bs)
-free_units_sum [] = (refl, omega arith)
-free_units_sum (b ∷ bs) =
-    let ih = free_units_sum bs in
-    elim b.used as (λ u. ((if u then 0 else b.size) + free_units bs ≡ sum (if u then free_sizes bs else b.size ∷ free_sizes bs))
-    × ((if u then 0 else b.size) + free_units bs ≤ b.size + units bs)) [
-      | true ↦ (omega (arith, ih.0), omega (arith, ih.1))
-      | false ↦ (ap (λ n. b.size + n) ih.0 ∙ sym (sum_by-cons (λ (n : ℕ). n) b.size (free_sizes bs)), omega (arith, ih.1))
-    ]
+free_units_sum [] = grind arith
+free_units_sum (b ∷ bs) = grind (arith, sum_by-cons, free_units_sum bs)
 
 -- where a class fits, a free block has the units, which are no more than those of the space
 pub fit_small : (n : ℕ) (v : View) → IsWellFormed v → HasFit n v → n ≤ v.size

@@ -1,9 +1,7 @@
 -- Free blocks at the ends of lists.
-use Rattle.std.proofs.Common.{◌≡◌, Bool, true, false, not, ◌&&◌, List, [], ◌∷◌, ◌++◌, if◌then◌else◌, refl, sym, ap, ap₂, ◌∙◌, append-nil, true≢false}
-use Rattle.std.specs.List.{AllByRecursion}
-use Rattle.offset_allocator.specs.View.{Block, IsApart, free_start, without_start, free_end, without_end, starts_free}
-use Rattle.offset_allocator.proofs.Ends.{end_free}
-use Rattle.offset_allocator.proofs.ViewApart.{ends_free, apart_parts, no_end, no_start}
+use Rattle.offset_allocator.proofs.Common.{◌≡◌, Bool, true, false, not, ◌&&◌, List, [], ◌∷◌, ◌++◌, if◌then◌else◌, refl, sym, ap, ap₂, ◌∙◌, append-nil, true≢false, AllByRecursion, Block, IsApart}
+use Rattle.offset_allocator.proofs.Common.{free_start, without_start, free_end, without_end, starts_free}
+use Rattle.offset_allocator.proofs.{Ends.end_free, ViewApart.ends_free, ViewApart.apart_parts, ViewApart.no_end, ViewApart.no_start}
 
 pub idle_append : (bs cs : List Block) → AllByRecursion (λ b. b.used ≡ false) bs → AllByRecursion (λ b. b.used ≡ false) cs → AllByRecursion (λ b. b.used ≡ false) (bs ++ cs)
 idle_append [] cs h k = k

@@ -1,30 +1,14 @@
 -- A block that is resized with the free block after it: what that leaves of a view, and of the whole allocator.
-use Rattle.std.specs.Prelude.{IsSome}
-use Rattle.std.proofs.Common.{◌≡◌, ◌≢◌, ◌↔◌, ℕ, zero, suc, ◌+◌, ◌-◌, ◌<◌, ◌≤◌, Bool, true, false, ◌⊎◌, List, [], ◌∷◌, ◌++◌, length, Option, Some}
-use Rattle.std.proofs.Common.{None, is_some, nat_eq, refl, sym, ap, ap₂, subst, ◌∙◌, inl, inr, arith, length-append, eq-zero-or-pos, if◌then◌else◌}
-use Rattle.std.proofs.lemmas.Bool.{false≢true, true≢false, and_right}
-use Rattle.offset_allocator.specs.Cells.{Cells, Node}
-use Rattle.offset_allocator.specs.View.{Block, View, Place, one, units, count_named, used_of, used_block, IsApart, IsWellFormed, IsNew, free_start, without_start, free_part, remove_all, push_all}
-use Rattle.offset_allocator.specs.View.{replace}
-use Rattle.offset_allocator.specs.Requests.{HasRoomFor}
-use Rattle.offset_allocator.specs.Ranges.{range_of, size_of, KeepsOthers}
-use Rattle.offset_allocator.specs.Relations.{SameSpace}
-use Rattle.offset_allocator.specs.Resizing.{Resizes, ResizesTo, Shrinks, Grows, CanShrink, CanGrow, HasUnits, free_after, free_beyond}
-use Rattle.offset_allocator.specs.Chain.{HasPlace, IsFreeAfter}
-use Rattle.offset_allocator.specs.Bins.{bins_in, IsBinned}
-use Rattle.offset_allocator.specs.Soundness.{free_units}
-use Rattle.offset_allocator.proofs.Exchange.{each-le, there-below}
+use Rattle.offset_allocator.proofs.Common.{IsSome, ◌≡◌, ◌≢◌, ◌↔◌, ℕ, zero, suc, ◌+◌, ◌-◌, ◌<◌, ◌≤◌, Bool, true, false, ◌⊎◌, List, [], ◌∷◌, ◌++◌, length, Option, Some, None, is_some, nat_eq, refl, sym}
+use Rattle.offset_allocator.proofs.Common.{ap, ap₂, subst, ◌∙◌, inl, inr, arith, length-append, eq-zero-or-pos, if◌then◌else◌, false≢true, true≢false, and_right, Cells, Node, Block, View, Place, one}
+use Rattle.offset_allocator.proofs.Common.{units, count_named, used_of, used_block, IsApart, IsWellFormed, IsNew, free_start, without_start, free_part, remove_all, push_all, replace, HasRoomFor}
+use Rattle.offset_allocator.proofs.Common.{range_of, size_of, KeepsOthers, SameSpace, Resizes, ResizesTo, Shrinks, Grows, CanShrink, CanGrow, HasUnits, free_after, free_beyond, HasPlace, IsFreeAfter}
+use Rattle.offset_allocator.proofs.Common.{bins_in, IsBinned, free_units, common_steps}
 use Rattle.offset_allocator.proofs.Freeing.{Release, at, used, w, remove_used, units_start}
-use Rattle.offset_allocator.proofs.Granting.{part_names}
-use Rattle.offset_allocator.proofs.Joints.{stepped, free_part_units, free_units-append, free_units-used}
-use Rattle.offset_allocator.proofs.Places.{at_place, next_place}
-use Rattle.offset_allocator.proofs.Ranges.{resizes_units, resizes_others}
-use Rattle.offset_allocator.proofs.Reading.{size_is, size_at, units_in}
-use Rattle.offset_allocator.proofs.Released.{idle_start}
-use Rattle.offset_allocator.proofs.Sound.{Fields, AreSound, shown, well_same}
-use Rattle.offset_allocator.proofs.Tallies.{tally_three, part_sums, hit_cases, one-same}
 use Rattle.offset_allocator.proofs.ViewApart.{ends_free, apart_parts, apart_append, apart_without_start, apart_free_part, start_parts}
-use Rattle.offset_allocator.proofs.ViewReplaced.{well_replaced}
+use Rattle.offset_allocator.proofs.{Exchange.each-le, Exchange.there-below, Granting.part_names, Joints.stepped, Joints.free_part_units, Joints.free_units-append, Joints.free_units-used}
+use Rattle.offset_allocator.proofs.{Places.at_place, Places.next_place, Ranges.resizes_units, Ranges.resizes_others, Reading.size_is, Reading.size_at, Reading.units_in, Released.idle_start}
+use Rattle.offset_allocator.proofs.{Sound.Fields, Sound.AreSound, Sound.shown, Sound.well_same, Tallies.tally_three, Tallies.part_sums, Tallies.hit_cases, Tallies.one-same, ViewReplaced.well_replaced}
 
 -- the name of a free part, where it has units
 part_named : (z m y : ℕ) → (count_named y (free_part z m) ≡ 0) ⊎ ((y ≡ z) × (1 ≤ m) × (count_named y (free_part z m) ≡ 1))
@@ -47,22 +31,10 @@ module _ {x n : ℕ} {v u : View} (r : Resizes x n v u) (k : IsWellFormed v) whe
       ∙ ap (λ i. count_named y r.before + ((one (nat_eq y i) + count_named y r.next) + count_named y r.after)) r.named
 
   distinct_parts : (y : ℕ) → count_named y parts ≤ 1
-  distinct_parts y = elim (part_named r.name r.left y) [
-    | inl z ↦ omega (arith, z, count_of y, k.distinct y)
-    | inr p ↦ elim (r.new p.1) [
-      | inl a ↦ omega (arith, p.2, count_of y, k.distinct y, subst (λ i. 1 ≤ count_named i r.next) (sym p.0) a)
-      | inr a ↦ omega (arith, p.2, count_of y, subst (λ i. count_named i v.blocks ≡ 0) (sym p.0) a.absent)
-    ]
-  ]
+  distinct_parts y = grind (arith, part_named, count_of)
 
   named_parts : (y : ℕ) → 1 ≤ count_named y parts → (1 ≤ count_named y old) ⊎ IsNew y v
-  named_parts y l = elim (part_named r.name r.left y) [
-    | inl z ↦ inl (omega (arith, l, z, ap (λ i. one (nat_eq y i)) r.named))
-    | inr p ↦ elim (r.new p.1) [
-      | inl a ↦ inl (omega (arith, subst (λ i. 1 ≤ count_named i r.next) (sym p.0) a))
-      | inr a ↦ inr (subst (λ i. IsNew i v) (sym p.0) a)
-    ]
-  ]
+  named_parts y l = grind (arith, part_named)
 
   pub well_resized : (1 ≤ length r.next) ⊎ HasRoomFor 1 v → IsWellFormed u
   well_resized room = well_same (replace v r.before old parts r.after) u r.view (well_replaced v r.before old parts r.after v.size k
@@ -72,10 +44,7 @@ module _ {x n : ℕ} {v u : View} (r : Resizes x n v u) (k : IsWellFormed v) whe
         distinct = distinct_parts;
         names = named_parts;
         apart = subst IsApart (ap (λ (z : View). z.blocks) r.view) r.apart;
-        room = elim room [
-          | inl l ↦ omega (arith, l, k.room, old_length, new_length, (part_sums r.name r.left).0)
-          | inr l ↦ omega (arith, l, old_length, new_length, (part_sums r.name r.left).0)
-        ];
+        room = grind (arith, common_steps, old_length, new_length, part_sums);
         spare = omega (
           arith,
           k.spare,
@@ -119,8 +88,7 @@ module _ {f : Fields} {x : ℕ} (call : Release f x) where
   split = (at call).stood ∙ ap (λ l. p.before ++ p.block ∷ l) (start_parts p.after)
 
   had_free : f.free ≡ free_units p.before + (units next + free_units after)
-  had_free = sym call.sound.total ∙ ap free_units split ∙ free_units-append p.before (p.block ∷ (next ++ after))
-      ∙ ap (λ k. free_units p.before + k) (free_units-used p.block (next ++ after) (used call) ∙ free_units-append next after ∙ ap (λ k. k + free_units after) (units_start p.after))
+  had_free = grind (arith, split, free_units-append, free_units-used, used, units_start)
 
   pub free_beside : units (free_start (at call).place.after) ≤ f.free
   free_beside = omega (arith, had_free)
@@ -169,22 +137,7 @@ module _ {f : Fields} {x : ℕ} (call : Release f x) where
         apart_append p.before (new ++ after) parts.0 (refl, apart_free_part name left after tail.0 tail.1) (and_right (ends_free p.before) false refl)
 
     resizes : (u : View) → SameSpace left_view u → Resizes x n v u
-    resizes u same = record {
-      before = p.before;
-      block = p.block;
-      next = next;
-      after = after;
-      blocks = split;
-      named = (at call).held.name;
-      used = used call;
-      free = idle_start p.after;
-      left = left;
-      whole = omega (arith, enough);
-      name = name;
-      new = named;
-      view = same;
-      apart = subst IsApart (sym (ap (λ (z : View). z.blocks) same)) apart;
-    }
+    resizes u same = grind (arith, split, named, at, used, idle_start, apart)
 
     pub resized : {top : ℕ} (accesses free : ℕ) → IsBinned f.max d.links top
         → bins_in f.max d.links ≡ push_all (free_part name (both - n)) (remove_all (free_start (at call).place.after) (bins_in f.max f.cells.links))
@@ -233,39 +186,11 @@ module _ {f : Fields} {x : ℕ} (call : Release f x) where
 
   pub resizes_done : (n : ℕ) (u : View) → n ≢ (at call).place.block.size → n ≤ both → (1 ≤ length (free_start (at call).place.after)) ⊎ HasRoomFor 1 (shown f)
       → Resizes x n (shown f) u → ResizesTo x n (shown f) u true
-  resizes_done n u ne m room r =
-      inr (
-        λ e. ne (e ∙ size_there),
-        (
-          omega (arith, m, size_there, ap units next_there),
-          λ _. elim room [ inl some ↦ inl (λ e. omega (arith, some, ap length (sym next_there ∙ e))) | inr o ↦ inr o ],
-        ),
-        r,
-      )
-
--- blocks of some units are some
-pub some_units : (bs : List Block) → 1 ≤ units bs → 1 ≤ length bs
-some_units [] l = absurd (omega arith)
-some_units (b ∷ bs) l = omega arith
+  resizes_done n u ne m room r = grind (arith, size_there, next_there)
 
 -- however many accesses were counted before
 resizes_counted : (x n : ℕ) (v w : View) (accesses : ℕ) → Resizes x n (record v { accesses = accesses }) w → Resizes x n v w
-resizes_counted x n v w accesses r = record {
-  before = r.before;
-  block = r.block;
-  next = r.next;
-  after = r.after;
-  blocks = r.blocks;
-  named = r.named;
-  used = r.used;
-  free = r.free;
-  left = r.left;
-  whole = r.whole;
-  name = r.name;
-  new = λ l. elim (r.new l) [ inl a ↦ inl a | inr u ↦ inr (record { below = u.below; absent = u.absent }) ];
-  view = r.view;
-  apart = r.apart;
-}
+resizes_counted x n v w accesses r = grind (arith, used)
 
 pub resized_counted : (x n : ℕ) (v w : View) (accesses : ℕ) (done : Bool) → ResizesTo x n (record v { accesses = accesses }) w done → ResizesTo x n v w done
 resized_counted x n v w accesses true s = elim s [ inl z ↦ inl z | inr r ↦ inr (r.0, r.1, resizes_counted x n v w accesses r.2) ]
@@ -291,9 +216,7 @@ grows_can x n v w false s = (λ h. absurd (false≢true h), λ h. absurd (s.0 h)
 
 -- a range of n units has them already
 pub has_units : (x n : ℕ) (v w : View) → n ≡ size_of x v → SameSpace v w → HasUnits x n v w
-has_units x n v w e same r is =
-    let sized : size_of x v ≡ r.size = ap units_in is in
-    ap (range_of x) same ∙ is ∙ ap (λ i. Some (record { offset = r.offset; size = i })) (sym (e ∙ sized))
+has_units x n v w e same r is = grind arith
 
 -- what the calls leave of ranges
 module _ (x n : ℕ) (v w : View) (k : IsWellFormed v) (left : IsWellFormed w) where

@@ -1,11 +1,8 @@
 -- Rows of linked nodes: split, appended, and left alone by writes elsewhere.
-use Rattle.std.proofs.Common.{◌≡◌, ◌≢◌, ℕ, zero, suc, ◌+◌, ◌≤◌, Option, None, Some, List, [], ◌∷◌, ◌++◌, length, refl, sym, ◌∙◌, ap, arith, add_assoc, zero-add}
-use Rattle.std.proofs.Common.{add-zero, inl, inr}
-use Rattle.std.proofs.lemmas.Bool.{cases_eq}
-use Rattle.offset_allocator.specs.Cells.{Room, node}
-use Rattle.offset_allocator.specs.Chain.{first_or, last_or, IsRow, walk}
-use Rattle.offset_allocator.specs.View.{Block, units, count_named}
+use Rattle.offset_allocator.proofs.Common.{◌≡◌, ◌≢◌, ℕ, zero, suc, ◌+◌, ◌≤◌, Option, None, Some, List, [], ◌∷◌, ◌++◌, length, refl, ◌∙◌, arith, add_assoc, zero-add, add-zero, cases_eq, Room, node}
+use Rattle.offset_allocator.proofs.Common.{first_or, last_or, IsRow, Block, units, count_named}
 use Rattle.offset_allocator.proofs.Tallies.{one-same, one-eq}
+use Rattle.offset_allocator.specs.Chain.{walk}
 
 -- the first of a list is in it
 pub times-first : (k : ℕ) (bs : List Block) → first_or None bs ≡ Some k → 1 ≤ count_named k bs
@@ -20,11 +17,8 @@ times-last k p (b ∷ bs) e h =
 
 -- the last of a list is in it
 pub times-end : (k : ℕ) (bs : List Block) → last_or None bs ≡ Some k → 1 ≤ count_named k bs
-times-end k [] e = cc
-times-end k (b ∷ bs) e = elim (cases_eq (count_named k bs) 0) [
-  | inl gone ↦ omega (arith, one-eq k b.name (times-last k b.name bs e gone))
-  | inr there ↦ omega arith
-]
+times-end k [] e = grind arith
+times-end k (b ∷ bs) e = grind (arith, cases_eq, one-eq, times-last)
 
 pub first_or-append : (q : Option ℕ) (fs bs : List Block) → first_or q (fs ++ bs) ≡ first_or (first_or q bs) fs
 first_or-append q [] bs = refl
@@ -45,34 +39,26 @@ IsRow-back c p o (a ∷ fs) bs q h = rw (← add_assoc o a.size (units fs)) (IsR
 
 pub IsRow-append : (c : Room) (p : Option ℕ) (o : ℕ) (fs bs : List Block) (q : Option ℕ) → IsRow c p o fs (first_or q bs)
     → IsRow c (last_or p fs) (o + units fs) bs q → IsRow c p o (fs ++ bs) q
-IsRow-append c p o [] bs q g h = rw (add-zero o) at h
-IsRow-append c p o (a ∷ fs) bs q g h =
-    (rw (first_or-append q fs bs) g.0, IsRow-append c (Some a.name) (o + a.size) fs bs q g.1 (rw (← add_assoc o a.size (units fs)) at h))
+IsRow-append c p o [] bs q g h = grind (arith, add-zero)
+IsRow-append c p o (a ∷ fs) bs q g h = grind (arith, first_or-append, add_assoc, IsRow-append c (Some a.name) (o + a.size) fs bs q g.1 (rw (← add_assoc o a.size (units fs)) at h))
 
 -- the node of a block of a row
 pub node_at : (c : Room) (fs : List Block) (b : Block) (cs : List Block) (x : ℕ) → IsRow c None 0 (fs ++ b ∷ cs) None → b.name ≡ x
     → node c x ≡ record { offset = units fs; size = b.size; used = b.used; before = last_or None fs; after = first_or None cs }
-node_at c fs b cs x row e = ap (λ (i : ℕ). node c i) (sym e) ∙ (IsRow-back c None 0 fs (b ∷ cs) None row).0
-    ∙ ap (λ (o : ℕ). record { offset = o; size = b.size; used = b.used; before = last_or None fs; after = first_or None cs }) (omega arith)
+node_at c fs b cs x row e = grind (arith, IsRow-back)
 
 -- writes at other names leave a row
 pub IsRow-kept : (c d : Room) (p : Option ℕ) (o : ℕ) (bs : List Block) (q : Option ℕ) → ((k : ℕ) → 1 ≤ count_named k bs → node d k ≡ node c k)
     → IsRow c p o bs q → IsRow d p o bs q
 IsRow-kept c d p o [] q same h = tt
-IsRow-kept c d p o (b ∷ bs) q same h = (
-  same b.name (omega (arith, one-same b.name)) ∙ h.0,
-  IsRow-kept c d (Some b.name) (o + b.size) bs q (λ k l. same k (omega arith)) h.1,
-)
+IsRow-kept c d p o (b ∷ bs) q same h = (same b.name (omega (arith, one-same b.name)) ∙ h.0, IsRow-kept c d (Some b.name) (o + b.size) bs q (λ k l. same k (omega arith)) h.1)
 
 -- a row whose first node is linked back to another
 pub IsRow-moved : (c d : Room) (p p' : Option ℕ) (o : ℕ) (bs : List Block) (q : Option ℕ) → ((k : ℕ) → count_named k bs ≤ 1)
     → ((z : ℕ) → first_or None bs ≡ Some z → node d z ≡ record (node c z) { before = p' })
     → ((k : ℕ) → 1 ≤ count_named k bs → first_or None bs ≢ Some k → node d k ≡ node c k) → IsRow c p o bs q → IsRow d p' o bs q
-IsRow-moved c d p p' o [] q once head others h = tt
-IsRow-moved c d p p' o (b ∷ bs) q once head others h = (
-  rw h.0 at (head b.name refl),
-  IsRow-kept c d (Some b.name) (o + b.size) bs q (λ k l. others k (omega arith) (λ e. let same : b.name ≡ k = cc in absurd (omega (arith, once k, one-eq k b.name same)))) h.1,
-)
+IsRow-moved c d p p' o [] q once head others h = grind arith
+IsRow-moved c d p p' o (b ∷ bs) q once head others h = grind (arith, IsRow-kept, one-eq)
 
 -- a row whose last node is linked on to another
 pub IsRow-aimed : (c d : Room) (p : Option ℕ) (o : ℕ) (bs : List Block) (q q' : Option ℕ) → ((k : ℕ) → count_named k bs ≤ 1)
@@ -88,10 +74,8 @@ IsRow-aimed c d p o (b ∷ b' ∷ bs) q q' once end others h = (
 -- the walk back from the end of a row is the row
 pub walk-row : (c : Room) (p : Option ℕ) (o : ℕ) (bs : List Block) (q : Option ℕ) (f : ℕ) (rest : List Block) → IsRow c p o bs q
     → walk c (length bs + f) (last_or p bs) rest ≡ walk c f p (bs ++ rest)
-walk-row c p o [] q f rest h = rw (zero-add f)
-walk-row c p o (b ∷ bs) q f rest h =
-    let e : length (b ∷ bs) + f ≡ length bs + suc f = omega arith in
-    rw e (walk-row c (Some b.name) (o + b.size) bs q (suc f) rest h.1 ∙ rw h.0)
+walk-row c p o [] q f rest h = grind (arith, zero-add)
+walk-row c p o (b ∷ bs) q f rest h = grind (arith, walk-row c (Some b.name) (o + b.size) bs q (suc f) rest h.1)
 
 pub walk-none : (c : Room) (f : ℕ) (rest : List Block) → walk c f None rest ≡ rest
 walk-none c zero rest = refl

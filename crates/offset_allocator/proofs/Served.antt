@@ -1,26 +1,13 @@
 -- What contracts say of a request, from the relation that says it all.
-use Rattle.std.proofs.Common.{◌≡◌, ◌↔◌, ℕ, ◌+◌, ◌%◌, ◌<◌, ◌≤◌, Bool, length, Option, Some, None, IsSome, IfSome, if◌then◌else◌, refl, sym, ap, ap₂, subst}
-use Rattle.std.proofs.Common.{◌∙◌, inl, inr, arith, le-leb}
-use Rattle.std.proofs.lemmas.Bool.{cases_lt, false≢true, lt-leb}
-use Rattle.offset_allocator.specs.Classes.{down}
-use Rattle.offset_allocator.specs.View.{View, Grant, units, count_named, place_of, IsWellFormed, free_sizes, largest_free, padding_to, max_size}
-use Rattle.offset_allocator.specs.Reports.{largest, IsGoodRefusal}
-use Rattle.offset_allocator.specs.Requests.{HasRoomFor, CanGrant, units_needed}
-use Rattle.offset_allocator.specs.Relations.{SameSpace, Splits, Serves, Allocates, Aligns, IsSplitNearBest}
-use Rattle.offset_allocator.proofs.Padding.{reaches}
-use Rattle.offset_allocator.proofs.Refusals.{fit_small}
-use Rattle.offset_allocator.proofs.Split.{well_split, part_room}
-use Rattle.offset_allocator.proofs.Ranges.{beside, split_grants}
-use Rattle.offset_allocator.specs.Ranges.{Grants}
+use Rattle.offset_allocator.proofs.Common.{◌≡◌, ◌↔◌, ℕ, ◌+◌, ◌%◌, ◌<◌, ◌≤◌, Bool, length, Option, Some, None, IsSome, IfSome, if◌then◌else◌, refl, sym, ap, ap₂, subst, ◌∙◌, arith, le-leb, cases_lt}
+use Rattle.offset_allocator.proofs.Common.{false≢true, lt-leb, down, View, Grant, units, count_named, place_of, IsWellFormed, free_sizes, largest_free, padding_to, max_size, largest, IsGoodRefusal}
+use Rattle.offset_allocator.proofs.Common.{HasRoomFor, CanGrant, units_needed, SameSpace, Splits, Serves, Allocates, Aligns, IsSplitNearBest, Grants}
 use Rattle.offset_allocator.proofs.ViewFits.{HasName, there_middle, near_best_fit, good_refusal, fits_exactly, refusal_past, largest_small}
-use Rattle.offset_allocator.proofs.ViewSteps.{place_here}
+use Rattle.offset_allocator.proofs.{Padding.reaches, Refusals.fit_small, Split.well_split, Split.part_room, Ranges.beside, Ranges.split_grants, ViewSteps.place_here}
 
 -- where a region is reported, one more block may exist
 pub reported_room : (v : View) → 1 ≤ largest_free v → HasRoomFor 1 v
-reported_room v l = elim (cases_lt (length v.blocks + 1) v.max_allocs) [
-  | inl h ↦ h
-  | inr h ↦ let none : largest_free v ≡ 0 = ap (λ (b : Bool). if b then 0 else largest (free_sizes v.blocks)) (le-leb v.max_allocs (length v.blocks + 1) h) in absurd (omega (arith, none, l))
-]
+reported_room v l = grind (arith, cases_lt, le-leb)
 
 module _ (blocks needed n : ℕ) (padding_at : ℕ → ℕ) (v w : View) (known : IsWellFormed v) where
   pub can_grant : (r : Option Grant) → Serves blocks needed n padding_at v w r → IsSome r ↔ CanGrant blocks needed v
@@ -43,11 +30,8 @@ module _ (blocks needed n : ℕ) (padding_at : ℕ → ℕ) (v w : View) (known 
       reported room = ap (λ (b : Bool). if b then 0 else largest (free_sizes v.blocks)) (lt-leb v.max_allocs (length v.blocks + 1) (omega (arith, room, some)))
 
   pub refused : (r : Option Grant) → Serves blocks needed n padding_at v w r → r ≡ None → HasRoomFor blocks v → IsGoodRefusal needed (free_sizes v.blocks)
-  refused (Some g) a e room = absurd (cc)
-  refused None a e room = elim (cases_lt 4294967295 needed) [
-    | inl far ↦ refusal_past v known known.fits needed far
-    | inr near ↦ good_refusal v known needed near known.fits (λ h. a.0 (room, h))
-  ]
+  refused (Some g) a e room = grind arith
+  refused None a e room = grind (arith, cases_lt, refusal_past, good_refusal)
 
   pub nearly : (r : Option Grant) → Serves blocks needed n padding_at v w r → IfSome r (IsSplitNearBest needed v)
   nearly None a = tt
@@ -73,28 +57,7 @@ module _ (blocks needed n : ℕ) (padding_at : ℕ → ℕ) (v w : View) (known 
 -- what was counted changes nothing of a split, nor does other padding of the same units
 pub split_as : {needed n : ℕ} {padding_at : ℕ → ℕ} {v w : View} {g : Grant} → Splits needed n padding_at v w g → (a b : ℕ) (padded_at : ℕ → ℕ)
     → ((o : ℕ) → padding_at o ≡ padded_at o) → Splits needed n padded_at (record v { accesses = a }) (record w { accesses = b }) g
-split_as {w = w} s a b padded_at alike = record {
-  before = s.before;
-  block = s.block;
-  after = s.after;
-  blocks = s.blocks;
-  free = s.free;
-  fits = s.fits;
-  smallest = s.smallest;
-  older = s.older;
-  newest = s.newest;
-  padding = s.padding;
-  padded = s.padded ∙ alike (units s.before);
-  remainder = s.remainder;
-  whole = s.whole;
-  padding_name = s.padding_name;
-  remainder_name = s.remainder_name;
-  padding_new = λ l. let u = s.padding_new l in record { below = u.below; absent = u.absent };
-  remainder_new = λ l. let u = s.remainder_new l in record { below = u.below; absent = u.absent };
-  differ = s.differ;
-  grant = s.grant;
-  view = ap (λ (x : View). record x { accesses = b }) s.view;
-}
+split_as {w = w} s a b padded_at alike = grind arith
 
 pub serves_counted : (blocks needed n : ℕ) (padding_at : ℕ → ℕ) (v w : View) (accesses : ℕ) (r : Option Grant) → Serves blocks needed n padding_at (record v { accesses = accesses }) w r
     → Serves blocks needed n padding_at v w r
@@ -118,6 +81,5 @@ past_refuses n align v known far accesses = (λ h. absurd (omega (arith, far, fi
 
 -- an aligned grant begins at a multiple of the alignment
 pub multiple : (n align : ℕ) (v w : View) (r : Option Grant) → 1 ≤ align → Aligns n align v w r → IfSome r (λ h. h.offset % align ≡ 0)
-multiple n align v w None some a = tt
-multiple n align v w (Some g) some a = let s = a.1 in
-    ap (λ (h : Grant). h.offset % align) s.grant ∙ ap (λ k. (units s.before + k) % align) s.padded ∙ reaches align (units s.before) some
+multiple n align v w None some a = grind arith
+multiple n align v w (Some g) some a = grind (arith, reaches)

@@ -1,19 +1,9 @@
 -- A free block that moves to the end of the space: used blocks pass it, and free ones are coalesced with it.
-use Rattle.std.proofs.Common.{◌≡◌, ◌≢◌, ℕ, inl, inr, ◌+◌, ◌-◌, ◌≤◌, Bool, true, false, Some, None, List, [], ◌∷◌, ◌++◌, length, if◌then◌else◌, refl, sym}
-use Rattle.std.proofs.Common.{ap, ap₂, subst, ◌*◌, ◌∙◌, arith, append_assoc, append-nil}
-use Rattle.std.specs.List.{FoldsTo}
-use Rattle.std.proofs.lemmas.Bool.{cases_eq}
-use Rattle.std.proofs.lemmas.Bool.Decides.{nat_tests}
-use Rattle.offset_allocator.specs.Cells.{Cells, Room, Node, node}
-use Rattle.offset_allocator.specs.View.{Block, Place, free_block, units}
-use Rattle.offset_allocator.specs.Chain.{HasPlace, IsSpace, blocks, first_or, last_or, coalesced_before, coalesced_after}
-use Rattle.offset_allocator.specs.Compacting.{Move, first_free, live, moves, move_of}
-use Rattle.offset_allocator.specs.Soundness.{free_units}
-use Rattle.offset_allocator.proofs.Ends.{end_free, ended}
-use Rattle.offset_allocator.proofs.Joints.{free_units-free, free_units-used}
+use Rattle.offset_allocator.proofs.Common.{◌≡◌, ◌≢◌, ℕ, inl, inr, ◌+◌, ◌-◌, ◌≤◌, Bool, true, false, Some, None, List, [], ◌∷◌, ◌++◌, length, if◌then◌else◌, refl, sym, ap, subst, ◌*◌, ◌∙◌, arith}
+use Rattle.offset_allocator.proofs.Common.{append_assoc, append-nil, FoldsTo, cases_eq, nat_tests, Cells, Room, Node, node, Block, Place, free_block, units, HasPlace, IsSpace, blocks, first_or}
+use Rattle.offset_allocator.proofs.Common.{last_or, coalesced_before, coalesced_after, Move, first_free, live, moves, move_of, free_units, common_steps}
 use Rattle.offset_allocator.proofs.Places.{placed, at_place, next_place}
-use Rattle.offset_allocator.proofs.Rows.{last_or-append}
-use Rattle.offset_allocator.proofs.Tallies.{units-append}
+use Rattle.offset_allocator.proofs.{Ends.end_free, Ends.ended, Joints.free_units-free, Joints.free_units-used, Rows.last_or-append, Tallies.units-append}
 
 -- the block after a block, where the list of those after it is known
 pub next_is : {c : Room} {m last count x y : ℕ} {p : Place} {b : Block} {bs : List Block} → HasPlace c m last count x p → p.after ≡ b ∷ bs → Some y ≡ (node c x).after
@@ -50,9 +40,7 @@ module _ {d : Room} {m last count y : ℕ} (p : Place) (b : Block) (bs : List Bl
 -- the free block directly after a block goes into it
 pub absorbed : {d : Room} {m last count x : ℕ} (p : Place) (b : Block) (bs : List Block) → b.used ≡ false → p.after ≡ b ∷ bs → HasPlace d m last count x (coalesced_after p)
     → HasPlace d m last count x (record { before = p.before; block = record p.block { size = p.block.size + b.size }; after = bs })
-absorbed p b bs idle e h =
-    let one : b.size + 0 ≡ b.size = omega arith in
-    rw (idle, one) at (rw e at h)
+absorbed p b bs idle e h = grind arith
 
 -- a walk back from the last block
 pub walked : {c : Room} {last count x : ℕ} (h : IsSpace c last count) (front rest : List Block) → blocks c last ≡ front ++ rest → (e : last_or None front ≡ Some x)
@@ -115,11 +103,7 @@ module _ {F : Type 0} {R : F → Move → F → Type 0} {m : ℕ} {p : Place} {f
     sized = s.sized;
     kept = append_assoc q.before (b ∷ []) (live bs) ∙ ap (λ l. q.before ++ l) (sym (ap live e ∙ live_used b bs live_b)) ∙ s.kept;
     free = omega (arith, s.free, ap free_units e, free_units-used b bs live_b);
-    calls = λ h k. s.calls h (subst (λ l. FoldsTo R g l h)
-        (sym (ap (moves (units q.before + q.block.size) (units q.before)) e ∙ moves_used (units q.before + q.block.size) (units q.before) b bs live_b))
-        (folds_append R (move_of (units q.before + q.block.size) (units q.before) b) (moves ((units q.before + q.block.size) + b.size) (units q.before + b.size) bs) g g' h
-        (subst (λ n. FoldsTo R g (move_of (units q.before + n) (units q.before) b) g') s.sized call)
-        (subst (λ l. FoldsTo R g' l h) (ap₂ (λ i j. moves i j bs) from to) k)));
+    calls = grind (arith, common_steps, moves_used, folds_append, from, to);
     bounded = omega (arith, s.bounded, more, ap (λ (l : List Block). length l) e);
   }
     where
@@ -141,9 +125,7 @@ module _ {F : Type 0} {R : F → Move → F → Type 0} {m : ℕ} {p : Place} {f
     sized = omega (arith, size_is, s.sized);
     kept = ap (λ l. q.before ++ l) (sym (ap live e ∙ live_idle b bs idle_b)) ∙ s.kept;
     free = omega (arith, s.free, ap free_units e, free_units-free b bs idle_b);
-    calls = λ h k. s.calls h (subst (λ l. FoldsTo R g l h)
-        (sym (ap (moves (units q.before + q.block.size) (units q.before)) e ∙ moves_idle (units q.before + q.block.size) (units q.before) b bs idle_b))
-        (subst (λ i. FoldsTo R g (moves i (units q.before) bs) h) from k));
+    calls = grind (arith, common_steps, moves_idle, from);
     bounded = omega (arith, s.bounded, more, ap (λ (l : List Block). length l) e);
   }
     where
@@ -154,15 +136,7 @@ module _ {F : Type 0} {R : F → Move → F → Type 0} {m : ℕ} {p : Place} {f
   pub slid_end : q.after ≡ [] → HasPlace t.room m last count hole (record { before = p.before ++ live p.after; block = free_block hole size; after = [] })
       × (size ≡ p.block.size + free_units p.after)
       × FoldsTo R f (moves (units p.before + p.block.size) (units p.before) p.after) g × (used ≤ accesses + 20 * length p.after)
-  slid_end e =
-      let front : q.before ≡ p.before ++ live p.after = sym (append-nil q.before) ∙ ap (λ l. q.before ++ live l) (sym e) ∙ s.kept in
-      let block : q.block ≡ free_block hole size = λ i. record { name = s.there.name i; size = (sym s.sized) i; used = s.idle i } in
-      let place : q ≡ record { before = p.before ++ live p.after; block = free_block hole size; after = [] } = λ i. record { before = front i; block = block i; after = e i } in (
-        subst (λ (z : Place). HasPlace t.room m last count hole z) place s.there,
-        omega (arith, s.free, s.sized, ap free_units e),
-        s.calls g (subst (λ (l : List Block). FoldsTo R g (moves (units q.before + q.block.size) (units q.before) l) g) (sym e) refl),
-        omega (arith, s.bounded),
-      )
+  slid_end e = grind (arith, append-nil)
 
 pub at_end : {c : Room} {m last count x : ℕ} {p : Place} → HasPlace c m last count x p → None ≡ (node c x).after → p.after ≡ []
 at_end {p = p} h e = go p.after (e ∙ ap (λ (v : Node). v.after) (at_place h))

@@ -1,10 +1,6 @@
 -- The fields of an allocator, and what their invariant says of the view.
-use Rattle.std.proofs.Common.{◌≡◌, ℕ, ◌≤◌, sym, ap, subst, arith}
-use Rattle.offset_allocator.specs.View.{View, IsWellFormed}
-use Rattle.offset_allocator.specs.Cells.{Cells}
-use Rattle.offset_allocator.specs.Soundness.{view_of, IsSound}
+use Rattle.offset_allocator.proofs.Common.{◌≡◌, ℕ, ◌≤◌, sym, subst, arith, View, IsWellFormed, Cells, view_of, IsSound, SameSpace}
 use Rattle.offset_allocator.specs.declared.AllocatorOf.TheInside.{Inside}
-use Rattle.offset_allocator.specs.Relations.{SameSpace}
 
 -- the fields, with the largest number of the index type
 pub record Fields : Type 0 where
@@ -42,24 +38,11 @@ fields_of cells max a = record {
 
 -- whatever was counted
 pub well_counted : (v : View) (k : ℕ) → IsWellFormed v → IsWellFormed (record v { accesses = k })
-well_counted v k w = record {
-  some = w.some;
-  distinct = w.distinct;
-  below = w.below;
-  whole = w.whole;
-  fits = w.fits;
-  apart = w.apart;
-  classes = w.classes;
-  orders = w.orders;
-  room = w.room;
-  spare = w.spare;
-}
+well_counted v k w = grind arith
 
 pub well_same : (v w : View) → SameSpace v w → IsWellFormed v → IsWellFormed w
 well_same v w e k = subst IsWellFormed (sym e) (well_counted v w.accesses k)
 
 -- the view of sound fields is well formed, and of a size that a word holds
 pub known_sound : (f : Fields) → AreSound f → (v : View) → shown f ≡ v → IsWellFormed v × (v.size ≤ 4294967295)
-known_sound f s v e =
-    let whole = s.well.whole in
-    (subst IsWellFormed e (well_counted (shown (record f { accesses = 0 })) f.accesses s.well), omega (arith, ap (λ (u : View). u.size) e, s.well.fits))
+known_sound f s v e = grind (arith, well_counted)

@@ -1,12 +1,7 @@
 -- What a split leaves is well formed.
-use Rattle.std.proofs.Common.{◌≡◌, ℕ, zero, suc, ◌+◌, ◌<◌, ◌≤◌, true, false, not, ◌⊎◌, List, [], ◌∷◌, ◌++◌, length, nat_eq, refl, sym, ap, subst, ◌∙◌, inl}
-use Rattle.std.proofs.Common.{inr, arith, length-append, append_assoc}
-use Rattle.offset_allocator.specs.View.{Block, View, Grant, one, used_block, count_named, used_of, IsApart, IsWellFormed, IsNew, free_part, replace}
-use Rattle.offset_allocator.specs.Relations.{Splits}
-use Rattle.offset_allocator.proofs.Sound.{well_same}
-use Rattle.offset_allocator.proofs.ViewReplaced.{well_replaced}
-use Rattle.offset_allocator.proofs.ViewApart.{apart_granted}
-use Rattle.offset_allocator.proofs.Tallies.{tally_three, part_sums, tally_append, hit_cases}
+use Rattle.offset_allocator.proofs.Common.{◌≡◌, ℕ, zero, suc, ◌+◌, ◌<◌, ◌≤◌, true, false, not, ◌⊎◌, List, [], ◌∷◌, ◌++◌, length, nat_eq, sym, ap, subst, ◌∙◌, arith, length-append, append_assoc, Block}
+use Rattle.offset_allocator.proofs.Common.{View, Grant, one, used_block, count_named, used_of, IsApart, IsWellFormed, IsNew, free_part, replace, Splits, common_steps}
+use Rattle.offset_allocator.proofs.{Sound.well_same, ViewReplaced.well_replaced, ViewApart.apart_granted, Tallies.tally_three, Tallies.part_sums, Tallies.tally_append, Tallies.hit_cases}
 
 -- the room that padding asks for, beside that for a remainder
 pub part_room : (y n k : ℕ) → 1 ≤ k → (1 ≤ n → 2 ≤ k) → length (free_part y n) + 1 ≤ k
@@ -20,11 +15,8 @@ used_most (b ∷ bs) = let ih = used_most bs in elim b.used as (λ u. one u + us
 -- its name, where it has units, is new
 part_name : (v : View) (y n : ℕ) → (1 ≤ n → IsNew y v) → (x : ℕ) → (count_named x (free_part y n) ≡ 0)
     ⊎ ((x ≡ y) × (1 ≤ n) × (count_named x (free_part y n) ≡ 1) × IsNew x v)
-part_name v y zero new x = inl refl
-part_name v y (suc n) new x = elim (hit_cases x y) [
-  | inl h ↦ inr (h.0, omega arith, omega (arith, h.1), subst (λ z. IsNew z v) (sym h.0) (new (omega arith)))
-  | inr h ↦ inl (omega (arith, h.1))
-]
+part_name v y zero new x = grind arith
+part_name v y (suc n) new x = grind (arith, hit_cases)
 
 module _ {needed n : ℕ} {padding_at : ℕ → ℕ} {v u : View} {g : Grant} (s : Splits needed n padding_at v u g) where
   abbrev padding : List Block
@@ -49,13 +41,7 @@ module _ {needed n : ℕ} {padding_at : ℕ → ℕ} {v u : View} {g : Grant} (s
         room = omega (arith, room, parts, old_length, new_length, (part_sums s.remainder_name s.remainder).0);
         spare = omega (arith, room, parts, used_new, old_length, (part_sums s.remainder_name s.remainder).2, (part_sums s.padding_name s.padding).2, used_most s.before, used_most s.after);
       })
-      (omega (
-        arith,
-        s.whole,
-        tally_append (λ (b : Block). b.size) padding (used_block s.block.name n ∷ remainder),
-        (part_sums s.remainder_name s.remainder).1,
-        (part_sums s.padding_name s.padding).1,
-      ))
+      (omega (arith, s.whole, tally_append (λ (b : Block). b.size) padding (used_block s.block.name n ∷ remainder), (part_sums s.remainder_name s.remainder).1, (part_sums s.padding_name s.padding).1))
       w.fits)
     where
       lengths : length new ≡ length padding + suc (length remainder)
@@ -68,8 +54,7 @@ module _ {needed n : ℕ} {padding_at : ℕ → ℕ} {v u : View} {g : Grant} (s
       new_length = length-append s.before (new ++ s.after) ∙ ap (λ m. length s.before + m) (length-append new s.after ∙ ap (λ m. m + length s.after) lengths)
 
       used_new : used_of (s.before ++ (new ++ s.after)) ≡ used_of s.before + ((used_of padding + suc (used_of remainder)) + used_of s.after)
-      used_new = tally_three (λ (b : Block). one b.used) s.before new s.after
-          ∙ ap (λ m. used_of s.before + (m + used_of s.after)) (tally_append (λ (b : Block). one b.used) padding (used_block s.block.name n ∷ remainder) ∙ omega arith)
+      used_new = grind (arith, common_steps, tally_three, tally_append)
 
       names_new : (x : ℕ) → count_named x new ≡ count_named x padding + (one (nat_eq x s.block.name) + count_named x remainder)
       names_new x = tally_append (λ (b : Block). one (nat_eq x b.name)) padding (used_block s.block.name n ∷ remainder)
@@ -78,19 +63,7 @@ module _ {needed n : ℕ} {padding_at : ℕ → ℕ} {v u : View} {g : Grant} (s
       there x = omega (arith, ap (count_named x) s.blocks, tally_append (λ (b : Block). one (nat_eq x b.name)) s.before (s.block ∷ s.after))
 
       distinct : (x : ℕ) → count_named x new ≤ 1
-      distinct x = elim (part_name v s.padding_name s.padding s.padding_new x) [
-        | inl a ↦ elim (part_name v s.remainder_name s.remainder s.remainder_new x) [
-          | inl b ↦ omega (arith, a, b, names_new x, there x, w.distinct x)
-          | inr b ↦ omega (arith, a, b.2, b.3.absent, names_new x, there x)
-        ]
-        | inr a ↦ elim (part_name v s.remainder_name s.remainder s.remainder_new x) [
-          | inl b ↦ omega (arith, a.2, a.3.absent, b, names_new x, there x)
-          | inr b ↦ absurd (s.differ a.1 b.1 (sym a.0 ∙ b.0))
-        ]
-      ]
+      distinct x = grind (arith, common_steps, part_name, names_new, there)
 
       names : (x : ℕ) → 1 ≤ count_named x new → (1 ≤ count_named x (s.block ∷ [])) ⊎ IsNew x v
-      names x l = elim (part_name v s.padding_name s.padding s.padding_new x) [
-        | inl a ↦ elim (part_name v s.remainder_name s.remainder s.remainder_new x) [ inl b ↦ inl (omega (arith, a, b, l, names_new x)) | inr b ↦ inr b.3 ]
-        | inr a ↦ inr a.3
-      ]
+      names x l = grind (arith, common_steps, part_name, names_new)

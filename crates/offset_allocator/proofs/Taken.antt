@@ -1,10 +1,7 @@
 -- The block that a request takes, and when there is one.
-use Rattle.std.proofs.Common.{◌≡◌, ◌≢◌, ℕ, ◌≤◌, Bool, true, false, ◌&&◌, List, [], ◌∷◌, ◌++◌, Option, Some, None, nat_eq, refl, sym, ap, inl, inr, arith}
-use Rattle.std.proofs.lemmas.Bool.{not-true}
-use Rattle.offset_allocator.specs.Classes.{up, down}
-use Rattle.offset_allocator.specs.View.{Block, View, Place, one, is_free, times, count_named, count_in_bin, bin_at, place_of, IsWellFormed}
-use Rattle.offset_allocator.proofs.ViewSteps.{place_at, no_place}
-use Rattle.offset_allocator.proofs.Tallies.{listed_named, tally_append, hit_cases, one-same}
+use Rattle.offset_allocator.proofs.Common.{◌≡◌, ◌≢◌, ℕ, ◌≤◌, Bool, true, false, ◌&&◌, List, [], ◌∷◌, ◌++◌, Option, Some, None, nat_eq, refl, sym, ap, arith, not-true, up, down, Block, View, Place}
+use Rattle.offset_allocator.proofs.Common.{one, is_free, times, count_named, count_in_bin, bin_at, place_of, IsWellFormed}
+use Rattle.offset_allocator.proofs.{ViewSteps.place_at, ViewSteps.no_place, Tallies.listed_named, Tallies.tally_append, Tallies.hit_cases, Tallies.one-same}
 
 -- the free block of class c that is named x
 pub record Taken (v : View) (c x : ℕ) : Type 0 where
@@ -15,33 +12,13 @@ pub record Taken (v : View) (c x : ℕ) : Type 0 where
   pub class : down place.block.size ≡ c
 
 hit_parts : (f : Bool) (c d : ℕ) (r : Bool) → 1 ≤ one (f && (nat_eq c d && r)) → (f ≡ true) × (c ≡ d)
-hit_parts true c d r l = (
-  refl,
-  elim (hit_cases c d) [
-    | inl e ↦ e.0
-    | inr m ↦ absurd (elim (nat_eq c d) as (λ b. one b ≡ 0 → 1 ≤ one (b && r)
-        → ⊥) [ true ↦ λ e k. absurd (omega arith) | false ↦ λ e k. absurd (omega arith) ] m.1 l)
-  ],
-)
-hit_parts false c d r l = absurd (omega arith)
+hit_parts true c d r l = grind (arith, hit_cases)
+hit_parts false c d r l = grind arith
 
 -- the block of a name that is listed is free, and of that class
 listed_block : (c x : ℕ) (before : List Block) (b : Block) (after : List Block) → x ≡ b.name → count_named x (before ++ b ∷ after) ≤ 1 → 1 ≤ count_in_bin c x (before ++ b ∷ after)
     → (is_free b ≡ true) × (c ≡ down b.size)
-listed_block c x before b after e most l = hit_parts (is_free b) c (down b.size) (nat_eq x b.name)
-    (elim (hit_cases x b.name) [
-      | inl h ↦ omega (
-        arith,
-        h.1,
-        most,
-        l,
-        listed_named c x before,
-        listed_named c x after,
-        tally_append (λ b. one (is_free b && (nat_eq c (down b.size) && nat_eq x b.name))) before (b ∷ after),
-        tally_append (λ (b : Block). one (nat_eq x b.name)) before (b ∷ after),
-      )
-      | inr h ↦ absurd (h.0 e)
-    ])
+listed_block c x before b after e most l = grind (arith, hit_parts, hit_cases, listed_named, tally_append)
 
 -- a name in a bin is that of a free block of its class
 pub taken : (v : View) → IsWellFormed v → (c x : ℕ) (xs : List ℕ) → bin_at v.order c ≡ x ∷ xs → Taken v c x

@@ -1,9 +1,6 @@
 -- Sums over lists, and a test of names as a number.
-use Rattle.std.proofs.Common.{◌≡◌, ◌≢◌, ℕ, zero, suc, ◌+◌, ◌≤◌, length, ◌⊎◌, true, false, ◌&&◌, List, [], ◌∷◌, ◌++◌, nat_eq, refl, ap, ◌∙◌, inl, inr}
-use Rattle.std.proofs.Common.{arith, eq-eqb, ne_eqb}
-use Rattle.std.proofs.lemmas.Bool.{cases_eq}
-use Rattle.offset_allocator.specs.Classes.{down}
-use Rattle.offset_allocator.specs.View.{Block, tally, one, is_free, units, times, count_named, count_in_bin, used_of, free_part}
+use Rattle.offset_allocator.proofs.Common.{◌≡◌, ◌≢◌, ℕ, zero, suc, ◌+◌, ◌≤◌, length, ◌⊎◌, List, [], ◌∷◌, ◌++◌, nat_eq, refl, ap, ◌∙◌, arith, eq-eqb, ne_eqb, cases_eq, Block, tally, one, units, times}
+use Rattle.offset_allocator.proofs.Common.{count_named, count_in_bin, used_of, free_part}
 
 pub tally_append : {A : Type 0} (f : A → ℕ) (xs ys : List A) → tally f (xs ++ ys) ≡ tally f xs + tally f ys
 tally_append f [] ys = omega arith
@@ -22,10 +19,7 @@ pub units-append : (fs bs : List Block) → units (fs ++ bs) ≡ units fs + unit
 units-append fs bs = tally_append (λ (b : Block). b.size) fs bs
 
 pub hit_cases : (x y : ℕ) → ((x ≡ y) × (one (nat_eq x y) ≡ 1)) ⊎ ((x ≢ y) × (one (nat_eq x y) ≡ 0))
-hit_cases x y = elim (cases_eq x y) [
-  | inl e ↦ inl (e, ap one (eq-eqb x y e))
-  | inr n ↦ inr (n, ap one (ne_eqb x y n))
-]
+hit_cases x y = grind (arith, cases_eq, eq-eqb, ne_eqb)
 
 pub one-same : (k : ℕ) → one (nat_eq k k) ≡ 1
 one-same k = ap one (eq-eqb k k refl)
@@ -43,9 +37,5 @@ part_sums y (suc n) = (omega arith, omega arith, omega arith)
 
 -- a free block of a name is a block of that name
 pub listed_named : (c x : ℕ) (bs : List Block) → count_in_bin c x bs ≤ count_named x bs
-listed_named c x [] = omega arith
-listed_named c x (b ∷ bs) = let ih = listed_named c x bs in
-    elim (is_free b) as (λ p. one (p && (nat_eq c (down b.size) && nat_eq x b.name)) + count_in_bin c x bs ≤ one (nat_eq x b.name) + count_named x bs) [
-      | true ↦ elim (nat_eq c (down b.size)) as (λ q. one (q && nat_eq x b.name) + count_in_bin c x bs ≤ one (nat_eq x b.name) + count_named x bs) [ true ↦ omega arith | false ↦ omega arith ]
-      | false ↦ omega arith
-    ]
+listed_named c x [] = grind arith
+listed_named c x (b ∷ bs) = grind (arith, listed_named c x bs)

@@ -1,22 +1,14 @@
 -- Bins and the nodes that are used: a name in a bin is that of a node that is not, and a name in none may be marked.
-use Rattle.std.proofs.Common.{◌≡◌, ◌≢◌, ◌<◌, ◌≤◌, ◌+◌, ◌-◌, ℕ, false, List, [], ◌∷◌, ◌++◌, sym, ap, subst, ◌∙◌, inl, inr, arith, length, length-append}
-use Rattle.std.proofs.Common.{length-set, slice_index, slice_set, get_or-set_other, ne_eqb}
-use Rattle.std.proofs.lemmas.Bool.{cases_eq}
-use Rattle.std.proofs.lemmas.List.{get_or_append_left}
-use Rattle.offset_allocator.specs.Cells.{Cells, Links, node, AreShaped}
-use Rattle.offset_allocator.specs.View.{bin_at, remove, times, without}
-use Rattle.offset_allocator.specs.Bins.{IsLinked, Among, HasBins, IsBinned, IsUnlisted, bins_in}
+use Rattle.offset_allocator.proofs.Common.{◌≡◌, ◌≢◌, ◌<◌, ◌≤◌, ◌+◌, ◌-◌, ℕ, false, List, [], ◌∷◌, ◌++◌, sym, ap, subst, ◌∙◌, arith, length, length-append, length-set, slice_index, slice_set}
+use Rattle.offset_allocator.proofs.Common.{get_or-set_other, ne_eqb, cases_eq, get_or_append_left, Cells, Links, node, AreShaped, bin_at, remove, IsLinked, Among, HasBins, IsBinned, IsUnlisted}
+use Rattle.offset_allocator.proofs.Common.{bins_in, common_steps}
 use Rattle.offset_allocator.proofs.Binned.{below, binned, head, newer_in, older_among}
-use Rattle.offset_allocator.proofs.Tallies.{one-same}
-use Rattle.offset_allocator.proofs.ViewOrders.{names_other, names_same, times_without_self}
+use Rattle.offset_allocator.proofs.{Tallies.one-same, ViewOrders.names_other, ViewOrders.names_same, ViewOrders.times_without_self}
 
 module _ {max : ℕ} {t : Cells} (s : AreShaped max t) where
   -- a link is a name or none, and so no mark
   pub no_mark : (n : ℕ) → (n ≢ max → n < length t.room.nodes) → n ≢ max - 1
-  no_mark n h e = elim (cases_eq n max) [
-    | inl q ↦ omega (arith, s.limit, e, q)
-    | inr q ↦ omega (arith, h q, s.limit, s.within, e)
-  ]
+  no_mark n h e = grind (arith, cases_eq)
 
   module _ {ls : List (List ℕ)} (k : HasBins max t.links ls) (c : ℕ) (ch : c < 256) where
     -- a node in a bin is not used
@@ -30,17 +22,11 @@ module _ {max : ℕ} {t : Cells} (s : AreShaped max t) where
     after_idle x a n = listed_idle (slice_index t.links.older x) (older_among k c ch x a n)
 
     pub second_idle : {after : ℕ} → bin_at ls c ≢ [] → after ≡ slice_index t.links.older (slice_index t.links.heads c) → after ≢ max → (node t.room after).used ≡ false
-    second_idle some e n =
-        let h = head k c ch some in
-        let q = ap (times (slice_index t.links.heads c)) h.0 in
-        rw e (after_idle (slice_index t.links.heads c) (omega (arith, q, one-same (slice_index t.links.heads c))) (λ z. n (e ∙ z)))
+    second_idle some e n = grind (arith, head, after_idle, one-same)
 
 -- a name that left its list is in none
 pub removed_unlisted : {none : ℕ} {t : Links} {ls : List (List ℕ)} → HasBins none t ls → (c : ℕ) → c < 256 → (x : ℕ) → Among x (bin_at ls c) → IsUnlisted x (remove c x ls)
-removed_unlisted {ls = ls} k c ch x there d dh a = elim (cases_eq d c) [
-  | inl e ↦ omega (arith, a, ap (times x) (ap (bin_at (remove c x ls)) e ∙ names_same ls c (without x (bin_at ls c)) k.lists_len ch), times_without_self x (bin_at ls c))
-  | inr n ↦ omega (arith, a, ap (times x) (names_other ls c d (without x (bin_at ls c)) n), there, k.once d c x dh ch n)
-]
+removed_unlisted {ls = ls} k c ch x there d dh a = grind (arith, common_steps, cases_eq, names_same, times_without_self, names_other)
 
 -- the links of names that the lists have stay
 module _ (none : ℕ) (t t' : Links) (long : length t.newer ≤ length t'.newer) where
@@ -54,15 +40,7 @@ module _ (none : ℕ) (t t' : Links) (long : length t.newer ≤ length t'.newer)
   pub linked_still : {ls : List (List ℕ)} → HasBins none t ls → length t'.older ≡ length t'.newer → length t'.newer ≤ none → t'.heads ≡ t.heads
       → ((c y : ℕ) → c < 256 → Among y (bin_at ls c) → y < length t.newer → (slice_index t'.newer y ≡ slice_index t.newer y) × (slice_index t'.older y ≡ slice_index t.older y))
       → HasBins none t' ls
-  linked_still k older small heads h = record {
-    older_len = older;
-    names_small = small;
-    heads_len = rw heads k.heads_len;
-    lists_len = k.lists_len;
-    heads = λ c ch. rw heads (k.heads c ch);
-    chains = λ c ch. stays none (bin_at _ c) (λ y a l. h c y ch a l) (k.chains c ch);
-    once = k.once;
-  }
+  linked_still k older small heads h = grind (arith, stays)
 
 -- what a node that is in no bin is linked to does not matter
 pub binned_marked : {max : ℕ} {t t' : Links} {top : ℕ} (x v : ℕ) → IsBinned max t top → IsUnlisted x (bins_in max t) → t' ≡ record t { newer = slice_set t.newer x v }

@@ -1,13 +1,7 @@
 -- When a request is granted, and how well what it takes fits.
-use Rattle.std.proofs.Common.{◌≡◌, ℕ, ◌*◌, ◌^◌, ◌<◌, ◌≤◌, true, not, ◌⊎◌, ◌↔◌, List, [], ◌∷◌, ◌++◌, refl, sym, ap, subst, ◌∙◌, inl, inr, arith}
-use Rattle.std.proofs.Common.{eq-eqb, le_trans}
-use Rattle.std.specs.List.{AllByRecursion}
-use Rattle.std.proofs.lemmas.Bool.{cases_lt, true≢false, cond_both}
-use Rattle.offset_allocator.specs.Classes.{value, up, down}
-use Rattle.offset_allocator.specs.Reports.{largest, IsGoodRefusal}
-use Rattle.offset_allocator.specs.View.{Block, View, is_free, times, count_in_bin, units, bin_at, free_sizes, IsWellFormed}
-use Rattle.offset_allocator.proofs.Taken.{HasFit, fitting}
-use Rattle.offset_allocator.proofs.Classes.{serves, near_best, up_law, down_law}
+use Rattle.offset_allocator.proofs.Common.{◌≡◌, ℕ, ◌*◌, ◌^◌, ◌<◌, ◌≤◌, true, not, ◌⊎◌, ◌↔◌, List, [], ◌∷◌, ◌++◌, refl, sym, ap, subst, inl, inr, arith, eq-eqb, le_trans, AllByRecursion, cases_lt}
+use Rattle.offset_allocator.proofs.Common.{true≢false, cond_both, value, up, down, largest, IsGoodRefusal, Block, View, is_free, times, count_in_bin, units, bin_at, free_sizes, IsWellFormed}
+use Rattle.offset_allocator.proofs.{Taken.HasFit, Taken.fitting, Classes.serves, Classes.near_best, Classes.up_law, Classes.down_law}
 
 -- b is in a list
 abbrev pub HasName : Block → List Block → Type 0
@@ -15,17 +9,14 @@ HasName b [] = ⊥
 HasName b (c ∷ bs) = (b ≡ c) ⊎ HasName b bs
 
 pub there_listed : (b : Block) (bs : List Block) → HasName b bs → is_free b ≡ true → 1 ≤ count_in_bin (down b.size) b.name bs
-there_listed b [] i f = absurd i
-there_listed b (c ∷ bs) (inl e) f = subst (λ (d : Block). 1 ≤ count_in_bin (down b.size) b.name (d ∷ bs)) e
-    (rw (f, eq-eqb (down b.size) (down b.size) refl, eq-eqb b.name b.name refl) (omega arith))
-there_listed b (c ∷ bs) (inr i) f = let ih = there_listed b bs i f in omega arith
+there_listed b [] i f = grind arith
+there_listed b (c ∷ bs) (inl e) f = grind (arith, eq-eqb)
+there_listed b (c ∷ bs) (inr i) f = grind (arith, there_listed b bs i f)
 
 -- what holds of each free block in a list holds of their sizes
 all_free : (P : ℕ → Type 0) (bs : List Block) → ((b : Block) → HasName b bs → is_free b ≡ true → P b.size) → AllByRecursion P (free_sizes bs)
-all_free P [] h = tt
-all_free P (b ∷ bs) h = cond_both b.used (free_sizes bs) (b.size ∷ free_sizes bs) (AllByRecursion P)
-    (λ e. all_free P bs (λ c i. h c (inr i)))
-    (λ e. (h b (inl refl) (ap not e), all_free P bs (λ c i. h c (inr i))))
+all_free P [] h = grind arith
+all_free P (b ∷ bs) h = grind (arith, cond_both, all_free P bs (λ c i. h c (inr i)), all_free P bs (λ c i. h c (inr i)))
 
 pub reported : (n : ℕ) (bs : List Block) → 1 ≤ n → n ≤ largest (free_sizes bs) → (b : Block) × (HasName b bs) × (is_free b ≡ true) × (n ≤ value (down b.size))
 reported n [] l = λ h. absurd (omega arith)
@@ -38,13 +29,9 @@ reported n (b ∷ bs) l = cond_both b.used (free_sizes bs) (b.size ∷ free_size
     ])
 
 pub reports_all : (b : Block) (bs : List Block) → HasName b bs → is_free b ≡ true → value (down b.size) ≤ largest (free_sizes bs)
-reports_all b [] i f = absurd i
-reports_all b (c ∷ bs) (inl e) f = cond_both c.used (free_sizes bs) (c.size ∷ free_sizes bs) (λ ns. value (down b.size) ≤ largest ns)
-    (λ g. absurd (true≢false (sym f ∙ ap is_free e ∙ ap not g)))
-    (λ g. let s = ap (λ (x : Block). value (down x.size)) e in omega arith)
-reports_all b (c ∷ bs) (inr i) f = cond_both c.used (free_sizes bs) (c.size ∷ free_sizes bs) (λ ns. value (down b.size) ≤ largest ns)
-    (λ g. reports_all b bs i f)
-    (λ g. let r = reports_all b bs i f in omega arith)
+reports_all b [] i f = grind arith
+reports_all b (c ∷ bs) (inl e) f = grind (arith, cond_both, true≢false)
+reports_all b (c ∷ bs) (inr i) f = grind (arith, cond_both, reports_all b bs i f)
 
 pub there_middle : (xs : List Block) (b : Block) (ys : List Block) → HasName b (xs ++ b ∷ ys)
 there_middle [] b ys = inl refl

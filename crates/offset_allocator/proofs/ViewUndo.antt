@@ -1,21 +1,10 @@
 -- A request that is granted, and released at once, leaves no trace.
-use Rattle.std.proofs.Common.{◌≡◌, ℕ, zero, suc, ◌<◌, ◌≤◌, Bool, true, false, not, ◌&&◌, List, [], ◌∷◌, ◌++◌, length, Some, slice_set, refl, sym, ap, ap₂, subst}
-use Rattle.std.proofs.Common.{◌∙◌, arith, append_assoc}
-use Rattle.offset_allocator.proofs.Served.{split_as, well_served}
-use Rattle.offset_allocator.proofs.Walks.{without_first}
-use Rattle.std.proofs.lemmas.List.{set-get_or}
-use Rattle.offset_allocator.specs.Classes.{down}
-use Rattle.std.specs.List.{AllByRecursion}
-use Rattle.offset_allocator.specs.View.{Block, View, Place, Grant, used_block, free_block, units, times, count_named, starts_free, IsApart, bin_at, push, without, remove, push_all, remove_all}
-use Rattle.offset_allocator.specs.View.{replace, free_start, without_start, free_end, without_end, free_part, IsWellFormed, place_of}
-use Rattle.offset_allocator.specs.Relations.{SameSpace, Splits, Frees, Allocates}
-use Rattle.offset_allocator.proofs.Ranges.{beside}
-use Rattle.offset_allocator.proofs.Released.{idle_parts, end_is, start_is}
-use Rattle.offset_allocator.proofs.Classes.{down_small}
+use Rattle.offset_allocator.proofs.Common.{◌≡◌, ℕ, zero, suc, ◌<◌, ◌≤◌, Bool, true, false, not, ◌&&◌, List, [], ◌∷◌, ◌++◌, length, Some, slice_set, refl, sym, ap, ap₂, subst, ◌∙◌, arith, append_assoc}
+use Rattle.offset_allocator.proofs.Common.{set-get_or, AllByRecursion, down, Block, View, Place, Grant, used_block, free_block, units, times, count_named, starts_free, IsApart, bin_at, push, remove}
+use Rattle.offset_allocator.proofs.Common.{push_all, remove_all, replace, free_start, without_start, free_end, without_end, free_part, IsWellFormed, place_of, SameSpace, Splits, Frees, Allocates}
 use Rattle.offset_allocator.proofs.ViewApart.{ends_free, apart_parts, left_false, right_false, no_end, no_start}
-use Rattle.offset_allocator.proofs.ViewOrders.{names_same, length_remove, times_remove}
-use Rattle.offset_allocator.proofs.ViewSteps.{place_here}
-use Rattle.offset_allocator.proofs.Tallies.{listed_named, part_sums, one-same}
+use Rattle.offset_allocator.proofs.{Served.split_as, Served.well_served, Walks.without_first, Ranges.beside, Released.idle_parts, Released.end_is, Released.start_is, Classes.down_small}
+use Rattle.offset_allocator.proofs.{ViewOrders.names_same, ViewOrders.length_remove, ViewOrders.times_remove, ViewSteps.place_here, Tallies.listed_named, Tallies.part_sums, Tallies.one-same}
 
 set_again : (order : List (List ℕ)) (c : ℕ) (l m : List ℕ) → slice_set (slice_set order c l) c m ≡ slice_set order c m
 set_again [] c l m = refl
@@ -24,18 +13,11 @@ set_again (o ∷ order) (suc c) l m = ap (λ z. o ∷ z) (set_again order c l m)
 
 -- a name that is put in and leaves
 remove_put : (c x : ℕ) (order : List (List ℕ)) → length order ≡ 256 → c < 256 → times x (bin_at order c) ≡ 0 → remove c x (push c x order) ≡ order
-remove_put c x order h b e =
-    set_again order c (x ∷ bin_at order c) _
-    ∙ ap (slice_set order c) (ap (without x) (names_same order c (x ∷ bin_at order c) h b) ∙ without_first x (bin_at order c) (omega (arith, e, one-same x)))
-    ∙ set-get_or order c []
+remove_put c x order h b e = grind (arith, set_again, names_same, without_first, one-same, set-get_or)
 
 -- a first name that leaves and is put in
 put_remove : (c x : ℕ) (xs : List ℕ) (order : List (List ℕ)) → length order ≡ 256 → c < 256 → bin_at order c ≡ x ∷ xs → times x xs ≡ 0 → push c x (remove c x order) ≡ order
-put_remove c x xs order h b e z =
-    set_again order c (without x (bin_at order c)) _
-    ∙ ap (λ l. slice_set order c (x ∷ l)) (names_same order c (without x (bin_at order c)) h b ∙ ap (without x) e ∙ without_first x xs (omega (arith, z, one-same x)))
-    ∙ ap (slice_set order c) (sym e)
-    ∙ set-get_or order c []
+put_remove c x xs order h b e z = grind (arith, set_again, names_same, without_first, one-same, set-get_or)
 
 part_start : (x n : ℕ) (bs : List Block) → starts_free bs ≡ false → (free_start (free_part x n ++ bs) ≡ free_part x n) × (without_start (free_part x n ++ bs) ≡ bs)
 part_start x zero bs e = no_start bs e
@@ -77,8 +59,7 @@ module _ (n : ℕ) (v w u : View) (g : Grant) (known : IsWellFormed v) (left : I
 
   -- what the grant leaves
   split : w ≡ record v { blocks = s.before ++ (used_block x n ∷ (remainder ++ s.after)); order = push_all remainder order; accesses = w.accesses }
-  split = s.view ∙ ap₂ (λ (l : List Block) (b : Block). record (replace v s.before (b ∷ []) (l ++ (used_block x n ∷ remainder)) s.after) { accesses = w.accesses })
-      (ap (free_part s.padding_name) s.padded) old
+  split = grind (arith, old)
 
   -- the release takes the block as the grant left it
   here : (s.before ≡ f.before ++ f.left) × (used_block x n ≡ f.block) × (remainder ++ s.after ≡ f.right ++ f.after)
@@ -120,13 +101,7 @@ module _ (n : ℕ) (v w u : View) (g : Grant) (known : IsWellFormed v) (left : I
   older_absent = omega (arith, once, ap (times x) s.newest, one-same x)
 
   rest_absent : 1 ≤ s.remainder → times s.remainder_name (bin_at order (down s.remainder)) ≡ 0
-  rest_absent l = omega (
-    arith,
-    times_remove (down size) x (down s.remainder) s.remainder_name v.order known.classes (down_small size) once,
-    known.orders (down s.remainder) s.remainder_name,
-    listed_named (down s.remainder) s.remainder_name v.blocks,
-    (s.remainder_new l).absent,
-  )
+  rest_absent l = grind (arith, times_remove, down_small, once, listed_named)
 
   sized : units (used_block x n ∷ remainder) ≡ size
   sized = omega (arith, s.whole, s.padded, (part_sums s.remainder_name s.remainder).1)

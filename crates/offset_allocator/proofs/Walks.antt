@@ -1,10 +1,6 @@
 -- Names linked back and forth: what a change of the links leaves of them.
-use Rattle.std.proofs.Common.{◌≡◌, ◌≢◌, ◌<◌, ◌≤◌, ◌+◌, ◌⊎◌, ℕ, zero, suc, List, [], ◌∷◌, ◌++◌, refl, sym, ap, ◌∙◌, inl, inr, arith, length, drop}
-use Rattle.std.proofs.Common.{nat_eq, slice_index, slice_set, eq-eqb, ne_eqb, length-set, get_or-set_same, get_or-set_other}
-use Rattle.std.proofs.lemmas.Bool.{cases_eq}
-use Rattle.offset_allocator.specs.Cells.{Links}
-use Rattle.offset_allocator.specs.View.{one, times, without}
-use Rattle.offset_allocator.specs.Bins.{IsLinked, Among, first_of, walk}
+use Rattle.offset_allocator.proofs.Common.{◌≡◌, ◌≢◌, ◌<◌, ◌≤◌, ◌+◌, ◌⊎◌, ℕ, zero, suc, List, [], ◌∷◌, ◌++◌, refl, sym, ap, ◌∙◌, inl, inr, arith, length, drop, nat_eq, slice_index, slice_set, eq-eqb}
+use Rattle.offset_allocator.proofs.Common.{ne_eqb, length-set, get_or-set_same, get_or-set_other, cases_eq, Links, one, times, without, IsLinked, Among, first_of, walk, common_steps}
 use Rattle.offset_allocator.proofs.Tallies.{hit_cases, one-same, times-join}
 
 -- ---- lists of names
@@ -27,8 +23,7 @@ length_below (suc m) xs o l = elim (cases_eq (times m xs) 0) [
       let ih = length_below m r.0 (λ x. omega (arith, r.2 x, o x))
       (λ x a. elim (hit_cases x m) [
         | inl h ↦ absurd (let q = ap (λ y. times y xs) h.0 in omega (arith, o x, r.2 x, h.1))
-        | inr h ↦ let b = l x (omega (arith, r.2 x)) in
-            let n = h.0 in omega arith
+        | inr h ↦ grind (arith, common_steps)
       ]) in
       omega (arith, r.1)
 ]
@@ -124,13 +119,8 @@ module _ (none : ℕ) (t t' : Links) (even : length t'.newer ≡ length t.newer)
   pub led : (b b' : ℕ) (xs : List ℕ) → ((x : ℕ) → times x xs ≤ 1) → slice_index t'.newer (first_of none xs) ≡ b' ⊎ (xs ≡ [])
       → ((y : ℕ) → Among y xs → y ≢ first_of none xs → slice_index t'.newer y ≡ slice_index t.newer y) → ((y : ℕ) → Among y xs → slice_index t'.older y ≡ slice_index t.older y)
       → IsLinked none t b xs → IsLinked none t' b' xs
-  led b b' [] o f n s c = tt
-  led b b' (x ∷ xs) o f n s c = (
-    omega (arith, c.0),
-    elim f [ inl e ↦ e | inr e ↦ absurd (cc) ],
-    s x (omega (arith, one-same x)) ∙ c.2,
-    kept x xs (λ y a. (n y (omega arith) (λ e. let q = ap (λ z. times z xs) e in omega (arith, o x, one-same x)), s y (omega arith))) c.3,
-  )
+  led b b' [] o f n s c = grind arith
+  led b b' (x ∷ xs) o f n s c = grind (arith, one-same, kept)
 
 -- a name that is not in a list is not its first one
 pub not_first : {none : ℕ} (y : ℕ) (xs : List ℕ) → y < none → times y xs ≡ 0 → y ≢ first_of none xs

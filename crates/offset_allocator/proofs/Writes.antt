@@ -1,15 +1,10 @@
 -- What the writes of each change of the chain leave.
-use Rattle.std.proofs.Common.{◌≡◌, ◌≢◌, ℕ, ◌+◌, ◌-◌, ◌<◌, ◌≤◌, ◌^◌, Bool, false, Option, None, Some, MatchOption, List, [], ◌∷◌, ◌++◌, length, get_or}
-use Rattle.std.proofs.Common.{refl, sym, ◌∙◌, ap, arith, append_assoc, length-append, length-set, set, nat_eq, inl, inr}
-use Rattle.std.proofs.lemmas.Bool.{cases_eq}
-use Rattle.offset_allocator.specs.Cells.{Room, Node, node, put, with_spare}
-use Rattle.offset_allocator.specs.Chain.{first_or, last_or, IsRow, IsChain, HasPlace, coalesced_before, coalesced_after}
-use Rattle.offset_allocator.specs.View.{Block, Place, free_block, units, count_named, one}
-use Rattle.offset_allocator.proofs.Nodes.{nodes-with_spare, reserved-with_spare}
-use Rattle.offset_allocator.proofs.Ends.{end_free}
+use Rattle.offset_allocator.proofs.Common.{◌≡◌, ◌≢◌, ℕ, ◌+◌, ◌-◌, ◌<◌, ◌≤◌, ◌^◌, Bool, false, Option, None, Some, MatchOption, List, [], ◌∷◌, ◌++◌, length, get_or, refl, sym, ◌∙◌, ap, arith}
+use Rattle.offset_allocator.proofs.Common.{append_assoc, length-append, length-set, set, nat_eq, cases_eq, Room, Node, node, put, with_spare, first_or, last_or, IsRow, IsChain, HasPlace}
+use Rattle.offset_allocator.proofs.Common.{coalesced_before, coalesced_after, Block, Place, free_block, units, count_named, one, common_steps}
 use Rattle.offset_allocator.proofs.Exchange.{IsTop, IsExchange, IsRelinked, back_to, on_to, wrote, top, kept_names, pushed_names, link_back, link_on, link_none, back, relinked_spare, relinked_memory}
-use Rattle.offset_allocator.proofs.Places.{placed, at_place, next_place, previous_place}
 use Rattle.offset_allocator.proofs.Tallies.{one-eq, one-other, times-append, units-append}
+use Rattle.offset_allocator.proofs.{Nodes.nodes-with_spare, Nodes.reserved-with_spare, Ends.end_free, Places.placed, Places.at_place, Places.next_place, Places.previous_place}
 
 spare-with_spare : (c : Room) (i v : ℕ) → (with_spare c i v).spare ≡ set c.spare i v
 unfolding with_spare
@@ -25,38 +20,14 @@ name_freed : (b g : Block) {t w d e : Room} {m last count y : ℕ} {fs old cs : 
     → ((k : ℕ) → count_named k old ≡ one (nat_eq k b.name) + one (nat_eq k g.name)) → length old ≡ 2
     → IsExchange t w d e count (count + 1) fs old (record b { size = n } ∷ []) cs
 name_freed b g {t} {w} {d} {e} {m} {last} {count} {y} {fs} {old} {cs} {n} h named free other cells same memory e' row two both =
-    let long = h.full in
-    let room : count < length t.spare = omega (arith, h.stack, length-append fs (old ++ cs), length-append old cs) in
-    let spare : e.spare ≡ set t.spare count y = ap (λ (r : Room). r.spare) e' ∙ spare-with_spare d count y ∙ ap (λ (l : List ℕ). set l count y) same in
-    record {
-      row = row;
-      others = λ k u v. other k (λ q. omega (arith, one-eq k b.name (sym q)));
-      gone = λ k u v. ap (λ (i : Node). i.used) (other k (λ q. omega (arith, one-eq k b.name (sym q)))
-          ∙ ap (node t) (elim (cases_eq k g.name) [ inl q ↦ q ∙ named | inr q ↦ absurd (omega (arith, two k, one-other k g.name q)) ])) ∙ free;
-      cells = cells;
-      same = ap (λ (r : Room). r.nodes) e' ∙ nodes-with_spare d count y;
-      memory = ap (λ (r : Room). r.reserved) e' ∙ reserved-with_spare d count y ∙ memory;
-      stack = ap (λ (l : List ℕ). length l) spare ∙ length-set t.spare count y;
-      names = λ k. omega (arith, two k, pushed_names t e count y room spare k, ap (λ (i : ℕ). one (nat_eq k i)) named);
-      full = omega (arith, both);
-    }
+    grind (arith, length-append, spare-with_spare, one-eq, cases_eq, one-other, nodes-with_spare, reserved-with_spare, length-set, pushed_names)
 
 -- one block becomes two, the other under an unused name
 name_taken : {t w d : Room} {count y : ℕ} {b : Block} {fs new cs : List Block} → IsTop t count y (fs ++ b ∷ cs) → 0 < count
     → ((k : ℕ) → k ≢ b.name → k ≢ y → node w k ≡ node t k) → length w.nodes ≡ length t.nodes → d.spare ≡ t.spare → d.reserved ≡ t.reserved
     → IsRow w (last_or None fs) (units fs) new (first_or None cs) → ((k : ℕ) → count_named k new ≡ one (nat_eq k b.name) + one (nat_eq k y)) → length new ≡ 2
     → IsExchange t w d d count (count - 1) fs (b ∷ []) new cs
-name_taken {t} {w} {d} {count} {y} {b} tp some other cells spare memory row two both = record {
-  row = row;
-  others = λ k u v. other k (λ q. omega (arith, one-eq k b.name (sym q))) (λ q. omega (arith, two k, one-eq k y (sym q)));
-  gone = λ k u v. absurd (omega (arith, two k));
-  cells = cells;
-  same = refl;
-  memory = memory;
-  stack = ap (λ (l : List ℕ). length l) spare;
-  names = λ k. omega (arith, two k, tp.names k, kept_names t d (count - 1) spare k);
-  full = omega (arith, both);
-}
+name_taken {t} {w} {d} {count} {y} {b} tp some other cells spare memory row two both = grind (arith, one-eq, kept_names)
 
 -- a remainder is split off
 pub split_place : {t w₁ w₂ d : Room} {m last last' count x n y o s : ℕ} {a b c : Option ℕ} {p : Place} → HasPlace t m last count x p → 0 < count
@@ -68,7 +39,6 @@ pub split_place : {t w₁ w₂ d : Room} {m last last' count x n y o s : ℕ} {a
 split_place {t} {w₁} {w₂} {d} {m} {last} {last'} {count} {x} {n} {y} {o} {s} {a} {b} {c} {p} h some popped within eo es ea eb ec e₁ e₂ linked moved =
     let at = at_place h in
     let tp = top y h.chain some popped in
-    let ao : o ≡ units p.before = eo ∙ ap (λ v. v.offset) at in
     let sized : s ≡ p.block.size = es ∙ ap (λ v. v.size) at in
     let aa : a ≡ first_or None p.after = ea ∙ ap (λ v. v.after) at in
     let ne : y ≢ x = not_top h tp in
@@ -76,8 +46,7 @@ split_place {t} {w₁} {w₂} {d} {m} {last} {last'} {count} {x} {n} {y} {o} {s}
     let s₂ = wrote e₂ (omega (arith, s₁.cells, h.below)) in
     let at_x : node w₂ x ≡ record { offset = units p.before; size = n; used = p.block.used; before = last_or None p.before; after = Some y } =
     s₂.here ∙ ap (λ (v : Node). record v { size = n; after = c }) (s₁.other x (λ q. ne (sym q)) ∙ at) ∙ rw ec refl in
-    let at_y : node w₂ y ≡ record { offset = units p.before + n; size = p.block.size - n; used = false; before = Some x; after = first_or None p.after } = s₂.other y ne ∙ s₁.here
-    ∙ rw (ao, sized, aa, eb) refl in
+    let at_y : node w₂ y ≡ record { offset = units p.before + n; size = p.block.size - n; used = false; before = Some x; after = first_or None p.after } = grind (arith, common_steps) in
     let exchange : IsExchange t w₂ d d count (count - 1) p.before (p.block ∷ []) (record p.block { size = n } ∷ free_block y (p.block.size - n) ∷ []) p.after =
     name_taken tp some (λ k u v. let nx : k ≢ x = λ q. u (q ∙ sym h.name) in s₂.other k nx ∙ s₁.other k v) (s₂.cells ∙ s₁.cells) (relinked_spare (back_to y) w₂ d a linked
     ∙ s₂.spare ∙ s₁.spare) (relinked_memory (back_to y) w₂ d a linked ∙ s₂.memory ∙ s₁.memory)

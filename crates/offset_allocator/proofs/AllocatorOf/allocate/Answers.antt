@@ -1,5 +1,4 @@
-use Rattle.std.proofs.Common.{arith}
-use Rattle.offset_allocator.proofs.Served.{one_aligns, reported_room, same, granted, can_grant, grants, nearly, refused}
+use Rattle.offset_allocator.proofs.{Common.arith, Served.one_aligns, Served.reported_room, Served.same, Served.granted, Served.can_grant, Served.grants, Served.nearly, Served.refused}
 use Rattle.offset_allocator.proofs.AllocatorOf.allocate.Goals as goal
 
 pub returns-clause-step : goal.returns-clause-step
@@ -18,9 +17,7 @@ pub returns-clause-refused : goal.returns-clause-refused
 returns-clause-refused g c = refused 1 c.args.size c.args.size (λ offset. 0) c.args.self.now c.serve.new.self c.serve.ensures.formed c.serve.result (returns-clause-step g c)
 
 pub returns-clause-granted : goal.returns-clause-granted
-returns-clause-granted g c l = let h = granted 1 c.args.size c.args.size (λ offset. 0) c.args.self.now c.serve.new.self c.serve.ensures.formed (omega arith) c.serve.result (returns-clause-step g c)
-    l in (λ e. (h.0 e).1, λ e. h.1 (reported_room c.args.self.now (omega (arith, l, e)), e))
+returns-clause-granted g c l = grind (arith, granted, returns-clause-step, reported_room)
 
 pub returns-clause-grants : goal.returns-clause-grants
-returns-clause-grants g c = grants 1 c.args.size c.args.size (λ offset. 0) c.args.self.now c.serve.new.self c.serve.ensures.formed (omega arith) (λ o l. absurd (omega arith))
-    c.serve.result (returns-clause-step g c)
+returns-clause-grants g c = grind (arith, grants, returns-clause-step)

@@ -1,15 +1,8 @@
-use Rattle.std.proofs.Common.{◌∙◌, ℕ, true, refl, ap, arith}
-use Rattle.offset_allocator.specs.Cells.{Node}
-use Rattle.offset_allocator.specs.View.{View, ends_used, units}
-use Rattle.offset_allocator.proofs.Sound.{fields_of}
-use Rattle.offset_allocator.proofs.Classes.{down_small}
-use Rattle.offset_allocator.proofs.Places.{at_place, end_place, last_place, placed}
-use Rattle.offset_allocator.proofs.Readied.{made, made_shown, with_made}
-use Rattle.offset_allocator.proofs.Views.{blocks-chain}
-use Rattle.offset_allocator.proofs.Extending.{Growth, Grown, end_held, free_fits, split_fits, append_unlisted, appended}
+use Rattle.offset_allocator.proofs.Common.{◌∙◌, ℕ, true, refl, ap, arith, Node, View, ends_used, units}
+use Rattle.offset_allocator.proofs.{Sound.fields_of, Classes.down_small, Places.at_place, Places.end_place, Places.last_place, Places.placed, Readied.made, Readied.made_shown, Readied.with_made}
+use Rattle.offset_allocator.proofs.{Views.blocks-chain, Extending.Growth, Extending.Grown, Extending.end_held, Extending.free_fits, Extending.split_fits, Extending.append_unlisted, Extending.appended}
 use Rattle.offset_allocator.proofs.AllocatorOf.append.Goals as goal
-use Rattle.offset_allocator.proofs.AllocatorOf.append.Goals.{After-ready, After-push}
-use Rattle.offset_allocator.proofs.AllocatorOf.append.Given.{Over}
+use Rattle.offset_allocator.proofs.AllocatorOf.append.{Goals.After-ready, Goals.After-push, Given.Over}
 
 -- what the call knows of the fields
 pre : (g : Over) (c : After-ready g) → Growth (with_made (fields_of g.T.Tables.cells g.T.Index.NodeIndex.MAX c.self.inside) (g.T.Tables.cells c.ready.new.tables)

@@ -1,7 +1,4 @@
-use Rattle.std.proofs.Common.{ap, subst, arith}
-use Rattle.offset_allocator.specs.View.{View}
-use Rattle.offset_allocator.specs.Soundness.{view_of}
-use Rattle.offset_allocator.specs.Relations.{Resets}
+use Rattle.offset_allocator.proofs.Common.{ap, subst, arith, View, view_of, Resets}
 use Rattle.offset_allocator.proofs.AllocatorOf.clear.Goals as goal
 
 pub returns-clause-step : goal.returns-clause-step

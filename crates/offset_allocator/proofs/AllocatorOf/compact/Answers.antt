@@ -1,18 +1,10 @@
-use Rattle.std.proofs.Common.{◌≡◌, ℕ, suc, ◌+◌, List, [], ◌∷◌, length, refl, sym, ap, ap₂, subst, ◌∙◌, arith, length-append, replicate}
-use Rattle.offset_allocator.specs.View.{Block, Place, View, units, free_sizes}
-use Rattle.offset_allocator.specs.Cells.{Links, Node}
-use Rattle.offset_allocator.specs.Bins.{bins_in}
-use Rattle.offset_allocator.specs.Chain.{blocks}
-use Rattle.offset_allocator.specs.Compacting.{live, moves, KeepsSizes, Compacts}
+use Rattle.offset_allocator.proofs.Common.{◌≡◌, ℕ, ◌+◌, [], refl, sym, ap, subst, ◌∙◌, arith, replicate, Place, View, units, free_sizes, Links, Node, bins_in, blocks, live, moves, KeepsSizes}
+use Rattle.offset_allocator.proofs.Common.{Compacts, common_steps}
 use Rattle.offset_allocator.proofs.Sound.{AreSound, Fields, shown, fields_of, known_sound}
-use Rattle.offset_allocator.proofs.Packed.{compacts_sizes}
-use Rattle.offset_allocator.proofs.Places.{at_place, kept_place}
-use Rattle.offset_allocator.proofs.Classes.{down_small}
 use Rattle.offset_allocator.proofs.Compacting.{IsFirst, first_is, packed, compacts_live, first_held, packs, stays_packed}
-use Rattle.offset_allocator.proofs.Fresh.{empty_unlisted}
+use Rattle.offset_allocator.proofs.{Packed.compacts_sizes, Places.at_place, Places.kept_place, Classes.down_small, Fresh.empty_unlisted}
 use Rattle.offset_allocator.proofs.AllocatorOf.compact.Goals as goal
-use Rattle.offset_allocator.proofs.AllocatorOf.compact.Goals.{After-slide-hole, After-push}
-use Rattle.offset_allocator.proofs.AllocatorOf.compact.Given.{Over}
+use Rattle.offset_allocator.proofs.AllocatorOf.compact.{Goals.After-slide-hole, Goals.After-push, Given.Over}
 
 pub returns-in_default-clause-moved : goal.returns-in_default-clause-moved
 returns-in_default-clause-moved g c =
@@ -97,8 +89,7 @@ returns-clause-moved g c =
     let e = c.slide-hole.ensures.place _ _ (kept_place c.empty.ensures.chain (first_held f c.self.invariant o refl)) o.idle in
     let from : 0 + (units p.before + p.block.size) ≡ units p.before + p.block.size = omega arith in
     let to : 0 + units p.before ≡ units p.before = omega arith in
-    let same : moves 0 0 c.args.self.now.blocks ≡ moves (units p.before + p.block.size) (units p.before) p.after = ap (λ (u : View). moves 0 0 u.blocks) (sym c.self.view_is) ∙ o.moves 0
-    ∙ ap₂ (λ j k. moves j k p.after) from to in
+    let same : moves 0 0 c.args.self.now.blocks ≡ moves (units p.before + p.block.size) (units p.before) p.after = grind (arith, common_steps) in
     rw same e.2
 
 pub returns-clause-accesses : goal.returns-clause-accesses
@@ -107,19 +98,7 @@ returns-clause-accesses g c =
     let o : IsFirst (blocks (g.T.Tables.cells c.self.inside.store.tables).room c.self.inside.store.last) c.in-Some.first = first_is _ _ (sym c.first_free.ensures.first ∙ c.in-Some.is) in
     let p : Place = o.place in
     let e = c.slide-hole.ensures.place _ _ (kept_place c.empty.ensures.chain (first_held f c.self.invariant o refl)) o.idle in
-    let long : length (blocks (g.T.Tables.cells c.self.inside.store.tables).room c.self.inside.store.last) ≡ length p.before + suc (length p.after) = ap (λ (l : List Block). length l) o.is
-    ∙ length-append p.before (p.block ∷ p.after) in
-    let same : length (blocks (g.T.Tables.cells c.self.inside.store.tables).room c.self.inside.store.last) ≡ length c.args.self.now.blocks = ap (λ (u : View). length u.blocks) c.self.view_is in
-    let counted : c.self.inside.store.accesses ≡ c.args.self.now.accesses = ap (λ (u : View). u.accesses) c.self.view_is in (
-      omega (arith, same, counted, c.first_free.ensures.accesses, c.size-units.ensures.accesses, c.empty.ensures.accesses, c.slide-hole.ensures.accesses_min, c.push.ensures.accesses.0),
-      omega (arith, e.3, long, same, counted, c.first_free.ensures.accesses, c.size-units.ensures.accesses, c.empty.ensures.accesses, c.push.ensures.accesses.1),
-    )
-
-pub returns-in_default-clause-accesses : goal.returns-in_default-clause-accesses
-returns-in_default-clause-accesses g c =
-    let same : length (blocks (g.T.Tables.cells c.self.inside.store.tables).room c.self.inside.store.last) ≡ length c.args.self.now.blocks = ap (λ (u : View). length u.blocks) c.self.view_is in
-    let counted : c.self.inside.store.accesses ≡ c.args.self.now.accesses = ap (λ (u : View). u.accesses) c.self.view_is in
-    (omega (arith, same, counted, c.first_free.ensures.accesses), omega (arith, same, counted, c.first_free.ensures.accesses))
+    grind (arith, common_steps)
 
 pub returns-clause-step : goal.returns-clause-step
 returns-clause-step g c =
@@ -133,12 +112,7 @@ returns-clause-step g c =
     subst P c.self.view_is (done g (goal.at.returns-clause-step g c).After-push c.push.new.store.accesses _ refl).1
 
 pub returns-in_default-clause-sizes : goal.returns-in_default-clause-sizes
-returns-in_default-clause-sizes g c =
-    let f : Fields = fields_of g.T.Tables.cells g.T.Index.NodeIndex.MAX c.self.inside in
-    let left : View = shown (record f { accesses = c.first_free.new.count }) in
-    let P : View → Type 0 = λ u. KeepsSizes u left in
-    subst P c.self.view_is (compacts_sizes (shown f) left (known_sound f c.self.invariant (shown f) refl).0
-    (stays_packed f c.self.invariant c.first_free.new.count (sym c.first_free.ensures.first ∙ c.in_default.is)))
+returns-in_default-clause-sizes g c = grind (arith, compacts_sizes, known_sound, stays_packed)
 
 pub returns-clause-sizes : goal.returns-clause-sizes
 returns-clause-sizes g c =

@@ -1,15 +1,8 @@
-use Rattle.std.proofs.Common.{◌≡◌, ◌∙◌, true, false, length, refl, inl, inr, arith, ap, subst, sym}
-use Rattle.offset_allocator.specs.View.{View}
-use Rattle.offset_allocator.proofs.Sound.{shown, Fields, fields_of}
-use Rattle.offset_allocator.specs.Relations.{Extends}
+use Rattle.offset_allocator.proofs.Common.{◌≡◌, ◌∙◌, true, false, length, refl, inr, arith, ap, subst, sym, View, Extends, ends_used, blocks}
 use Rattle.offset_allocator.proofs.Extending.{used_at_end, can_widen, cannot_append, adds_counted, extends_done}
-use Rattle.offset_allocator.proofs.Places.{end_place}
-use Rattle.offset_allocator.proofs.Reading.{used_read}
+use Rattle.offset_allocator.proofs.{Sound.shown, Sound.Fields, Sound.fields_of, Places.end_place, Reading.used_read}
 use Rattle.offset_allocator.proofs.AllocatorOf.extend.Goals as goal
-use Rattle.offset_allocator.proofs.AllocatorOf.extend.Goals.{After-is_used-used}
-use Rattle.offset_allocator.proofs.AllocatorOf.extend.Given.{Over}
-use Rattle.offset_allocator.specs.View.{ends_used}
-use Rattle.offset_allocator.specs.Chain.{blocks}
+use Rattle.offset_allocator.proofs.AllocatorOf.extend.{Goals.After-is_used-used, Given.Over}
 
 pub is_used-used-requires : goal.is_used-used-requires
 is_used-used-requires g c = (end_place c.self.invariant.space).below
@@ -53,14 +46,7 @@ returns-then-not-used-clause-step g c =
     ))
 
 pub returns-clause-step : goal.returns-clause-step
-returns-clause-step g c =
-    let f : Fields = fields_of g.T.Tables.cells g.T.Index.NodeIndex.MAX c.self.inside in
-    let P : View → Type 0 = λ u. Extends c.args.more u c.append.new.self true in
-    subst P c.self.view_is (inr (
-      omega arith,
-      (omega arith, inl (omega (arith, c.names_left-left.ensures, ap (λ (u : View). length u.blocks) c.self.view_is, ap (λ (u : View). u.max_allocs) c.self.view_is))),
-      adds_counted c.args.more (shown f) c.append.new.self c.is_used-used.new.count c.append.ensures.step,
-    ))
+returns-clause-step g c = grind (arith, adds_counted)
 
 pub returns-then-more-self-clause-done : goal.returns-then-more-self-clause-done
 returns-then-more-self-clause-done g c = extends_done c.args.more c.args.self.now c.args.self.now false (returns-then-more-self-clause-step g c)

@@ -1,6 +1,4 @@
-use Rattle.std.proofs.Common.{◌∙◌, ap, refl, arith}
-use Rattle.offset_allocator.specs.View.{View, used_of}
-use Rattle.offset_allocator.proofs.Emptied.{freed_fewer, reset_alike}
+use Rattle.offset_allocator.proofs.{Common.◌∙◌, Common.ap, Common.refl, Common.arith, Common.View, Common.used_of, Common.common_steps, Emptied.freed_fewer, Emptied.reset_alike}
 use Rattle.offset_allocator.proofs.AllocatorOf.free_all.Goals as goal
 
 pub loop-name-init : goal.loop-name-init
@@ -22,8 +20,5 @@ loop-name-preserved g c =
           omega (arith, fewer, ap (λ (u : View). used_of u.blocks) c.last_used.ensures.same, c.release.ensures.accesses.1, c.last_used.ensures.accesses.1, c.loop-name.invariant.most);
     }
 
-pub returns-clause-step : goal.returns-clause-step
-returns-clause-step g c = reset_alike _ _ _ c.loop-name.invariant.size c.loop-name.invariant.limit (c.last_used.ensures.none c.in_default.is)
-
-pub returns-clause-accesses : goal.returns-clause-accesses
-returns-clause-accesses g c = (omega (arith, c.last_used.ensures.accesses.0, c.loop-name.invariant.least), omega (arith, c.last_used.ensures.accesses.1, c.loop-name.invariant.most))
+pub returns : goal.returns
+returns g c = grind (arith, common_steps, reset_alike)

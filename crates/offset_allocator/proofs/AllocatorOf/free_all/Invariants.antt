@@ -1,5 +1,4 @@
-use Rattle.std.proofs.Common.{◌≡◌, ◌≤◌, ◌+◌, ◌*◌}
-use Rattle.offset_allocator.specs.View.{used_of}
+use Rattle.offset_allocator.proofs.Common.{◌≡◌, ◌≤◌, ◌+◌, ◌*◌, used_of}
 use Rattle.offset_allocator.proofs.AllocatorOf.free_all.Given as goal
 
 abbrev pub invariant-loop-name : goal.invariant-loop-name

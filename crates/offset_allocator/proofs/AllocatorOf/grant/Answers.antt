@@ -1,19 +1,10 @@
-use Rattle.std.proofs.Common.{◌≡◌, ◌+◌, ◌-◌, ◌≤◌, ◌<◌, ◌^◌, ◌∙◌, ℕ, ap, arith, refl, subst, sym}
-use Rattle.offset_allocator.specs.Classes.{up}
-use Rattle.offset_allocator.specs.Cells.{Node}
-use Rattle.offset_allocator.specs.View.{View, padding_to}
-use Rattle.offset_allocator.specs.Bins.{IsSmallestFrom}
-use Rattle.offset_allocator.specs.Requests.{HasRoomFor, blocks_needed, units_needed}
-use Rattle.offset_allocator.specs.Relations.{Splits}
+use Rattle.offset_allocator.proofs.Common.{◌≡◌, ◌+◌, ◌-◌, ◌≤◌, ◌<◌, ◌^◌, ◌∙◌, ℕ, ap, arith, refl, subst, sym, up, Node, View, padding_to, IsSmallestFrom, HasRoomFor, blocks_needed, units_needed}
+use Rattle.offset_allocator.proofs.Common.{Splits}
 use Rattle.offset_allocator.proofs.Sound.{shown, AreSound, Fields, fields_of}
 use Rattle.offset_allocator.proofs.Granting.{Call, held, unlisted, whole_fits, padding_fits, units_free, granted}
-use Rattle.offset_allocator.proofs.Places.{at_place, kept_place}
-use Rattle.offset_allocator.proofs.Readied.{made, made_shown, with_made}
-use Rattle.offset_allocator.proofs.Tallies.{one-same}
-use Rattle.offset_allocator.proofs.Uses.{removed_unlisted}
+use Rattle.offset_allocator.proofs.{Places.at_place, Places.kept_place, Readied.made, Readied.made_shown, Readied.with_made, Tallies.one-same, Uses.removed_unlisted}
 use Rattle.offset_allocator.proofs.AllocatorOf.grant.Goals as goal
-use Rattle.offset_allocator.proofs.AllocatorOf.grant.Goals.{After-pop-name, After-size-whole, After-divide}
-use Rattle.offset_allocator.proofs.AllocatorOf.grant.Given.{Over}
+use Rattle.offset_allocator.proofs.AllocatorOf.grant.{Goals.After-pop-name, Goals.After-size-whole, Goals.After-divide, Given.Over}
 
 pub ready_for-requires-clause-memory : goal.ready_for-requires-clause-memory
 ready_for-requires-clause-memory g c = (_, _, _, c.self.invariant.space, omega (arith, c.min.ensures, rw (← c.self.view_is) at c.requires.enough, c.self.invariant.memory))

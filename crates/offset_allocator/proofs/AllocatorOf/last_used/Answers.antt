@@ -1,11 +1,5 @@
-use Rattle.std.proofs.Common.{refl, sym, ap, subst, ◌∙◌}
-use Rattle.offset_allocator.specs.Cells.{Node}
-use Rattle.offset_allocator.specs.View.{View}
-use Rattle.offset_allocator.specs.Relations.{Resets}
-use Rattle.offset_allocator.proofs.Sound.{shown, fields_of, known_sound}
-use Rattle.offset_allocator.proofs.Places.{at_place, end_place}
-use Rattle.offset_allocator.proofs.Emptied.{as_reset, before_live, none_used}
-use Rattle.offset_allocator.proofs.Reading.{used_live}
+use Rattle.offset_allocator.proofs.Common.{refl, sym, ap, subst, ◌∙◌, Node, View, Resets}
+use Rattle.offset_allocator.proofs.{Sound.shown, Sound.fields_of, Sound.known_sound, Places.at_place, Places.end_place, Emptied.as_reset, Emptied.before_live, Emptied.none_used, Reading.used_live}
 use Rattle.offset_allocator.proofs.AllocatorOf.last_used.Goals as goal
 
 pub is_used-requires : goal.is_used-requires

@@ -1,19 +1,8 @@
-use Rattle.std.proofs.Common.{◌≡◌, false, refl, ◌+◌, ◌∙◌, ℕ, ap, arith, sym}
-use Rattle.offset_allocator.specs.Cells.{Node}
-use Rattle.offset_allocator.specs.View.{IsWellFormed}
-use Rattle.offset_allocator.specs.Bins.{IsBinned, bins_in}
-use Rattle.offset_allocator.specs.Chain.{HasPlace}
-use Rattle.offset_allocator.proofs.Filed.{unlisted}
-use Rattle.offset_allocator.proofs.Sound.{Fields, AreSound, shown, fields_of, known_sound}
-use Rattle.offset_allocator.proofs.Places.{at_place}
-use Rattle.offset_allocator.proofs.Freeing.{Release, at, room_for, filed, freed, named_live}
-use Rattle.offset_allocator.proofs.Ranges.{frees_gone, frees_others}
-use Rattle.offset_allocator.proofs.Reading.{live_used}
-use Rattle.offset_allocator.proofs.ViewTaken.{well_frees}
-use Rattle.offset_allocator.specs.Relations.{Frees}
+use Rattle.offset_allocator.proofs.Common.{◌≡◌, false, refl, ◌+◌, ◌∙◌, ℕ, ap, arith, sym, Node, IsWellFormed, IsBinned, bins_in, HasPlace, Frees}
+use Rattle.offset_allocator.proofs.{Filed.unlisted, Sound.Fields, Sound.AreSound, Sound.shown, Sound.fields_of, Sound.known_sound, Places.at_place, Freeing.Release, Freeing.at, Freeing.room_for}
+use Rattle.offset_allocator.proofs.{Freeing.filed, Freeing.freed, Freeing.named_live, Ranges.frees_gone, Ranges.frees_others, Reading.live_used, ViewTaken.well_frees}
 use Rattle.offset_allocator.proofs.AllocatorOf.release.Goals as goal
-use Rattle.offset_allocator.proofs.AllocatorOf.release.Goals.{After-self, After-mark, After-coalesce}
-use Rattle.offset_allocator.proofs.AllocatorOf.release.Given.{Over}
+use Rattle.offset_allocator.proofs.AllocatorOf.release.{Goals.After-self, Goals.After-mark, Goals.After-coalesce, Given.Over}
 
 release : (g : Over) (c : After-self g) → Release (fields_of g.T.Tables.cells g.T.Index.NodeIndex.MAX c.self.inside) c.args.name
 release g c = record { sound = c.self.invariant; live = named_live _ _ _ _ c.self.view_is refl (live_used c.args.name c.args.self.now c.requires.live) }

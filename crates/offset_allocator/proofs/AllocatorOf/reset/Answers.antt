@@ -1,11 +1,8 @@
-use Rattle.std.proofs.Common.{arith}
-use Rattle.offset_allocator.proofs.Emptied.{half_used}
-use Rattle.offset_allocator.proofs.Split.{used_most}
+use Rattle.offset_allocator.proofs.{Common.arith, Emptied.half_used, Split.used_most}
 use Rattle.offset_allocator.proofs.AllocatorOf.reset.Goals as goal
 
 pub returns-then-block_count-le5-clause-accesses : goal.returns-then-block_count-le5-clause-accesses
 returns-then-block_count-le5-clause-accesses g c = (omega (arith, c.free_all.ensures.accesses.0), omega (arith, c.free_all.ensures.accesses.1, c.block_count.ensures, used_most c.args.self.now.blocks))
 
 pub returns-else-block_count-le5-clause-accesses : goal.returns-else-block_count-le5-clause-accesses
-returns-else-block_count-le5-clause-accesses g c =
-    (omega (arith, c.clear.ensures.accesses.0), omega (arith, c.clear.ensures.accesses.1, c.block_count.ensures, half_used c.args.self.now.blocks c.formed.ensures.apart))
+returns-else-block_count-le5-clause-accesses g c = grind (arith, half_used)

@@ -1,15 +1,8 @@
-use Rattle.std.proofs.Common.{◌≡◌, ◌⊎◌, ◌+◌, ◌-◌, ◌<◌, ◌≤◌, ◌∙◌, ℕ, true, false, length, inl, inr, refl, sym, ap, subst, arith}
-use Rattle.offset_allocator.specs.Cells.{Node}
-use Rattle.offset_allocator.specs.View.{View, IsWellFormed, free_start, units}
-use Rattle.offset_allocator.specs.Requests.{HasRoomFor}
-use Rattle.offset_allocator.specs.Ranges.{range_of, size_of}
-use Rattle.offset_allocator.specs.Resizing.{Resizes, ResizesTo}
-use Rattle.offset_allocator.proofs.Freeing.{Release, at, filed, room_for, named_live}
-use Rattle.offset_allocator.proofs.Places.{at_place}
-use Rattle.offset_allocator.proofs.Reading.{live_used}
-use Rattle.offset_allocator.proofs.Readied.{made, made_shown, with_made}
+use Rattle.offset_allocator.proofs.Common.{◌≡◌, ◌⊎◌, ◌+◌, ◌-◌, ◌<◌, ◌≤◌, ◌∙◌, ℕ, true, false, length, inl, inr, refl, sym, ap, subst, arith, Node, View, IsWellFormed, free_start, units, HasRoomFor}
+use Rattle.offset_allocator.proofs.Common.{range_of, size_of, Resizes, ResizesTo, common_steps}
 use Rattle.offset_allocator.proofs.Resizing.{resized, free_beside, next_some, some_after, resizes_full, resizes_short, resizes_done, resized_units, resized_others, size_there}
-use Rattle.offset_allocator.proofs.Sound.{Fields, AreSound, shown, fields_of, known_sound}
+use Rattle.offset_allocator.proofs.{Freeing.Release, Freeing.at, Freeing.filed, Freeing.room_for, Freeing.named_live, Places.at_place, Reading.live_used, Readied.made, Readied.made_shown}
+use Rattle.offset_allocator.proofs.{Readied.with_made, Sound.Fields, Sound.AreSound, Sound.shown, Sound.fields_of, Sound.known_sound}
 use Rattle.offset_allocator.proofs.AllocatorOf.resize_to.Goals as goal
 use Rattle.offset_allocator.proofs.AllocatorOf.resize_to.Goals.{After-ready, After-units_after-more, After-resize, else-is_none-via-then-is_none+else-left-lt2, else-is_none-via-else-is_none}
 use Rattle.offset_allocator.proofs.AllocatorOf.resize_to.Given.{Over}
@@ -57,8 +50,7 @@ returns-then-size-old_size-2-clause-step g c =
     (resizes_short r c.args.size c.units_after-more.new.count (omega (arith, size g here.After-ready, more g here.After-units_after-more r, c.if-size-old_size-2.true)))
 
 pub returns-then-size-old_size-2-clause-same : goal.returns-then-size-old_size-2-clause-same
-returns-then-size-old_size-2-clause-same g c e =
-    ap (λ (u : View). record u { accesses = c.units_after-more.new.count }) (same_view g (goal.at.returns-then-size-old_size-2-clause-same g c).After-ready)
+returns-then-size-old_size-2-clause-same g c e = grind (arith, same_view)
 
 pub returns-then-size-old_size-2-clause-others : goal.returns-then-size-old_size-2-clause-others
 returns-then-size-old_size-2-clause-others g c y ne = ap (range_of y) (returns-then-size-old_size-2-clause-same g c refl)
@@ -71,16 +63,7 @@ returns-then-left-lt2-clause-step g c =
     let none = (next_some r _ c.free_after-next.ensures.free).1 c.if-is_none.ensures in
     let less : c.args.size < (at r).place.block.size =
     omega (arith, size g here.After-ready, more g here.After-units_after-more r, ap units none, c.if-size-old_size.false, c.if-size-old_size-2.false) in
-    subst (λ (u : View). ResizesTo c.args.name c.args.size u
-    (shown (record (with_made (fields_of g.T.Tables.cells g.T.Index.NodeIndex.MAX c.self.inside) (g.T.Tables.cells c.ready.new.tables) c.ready.new.spare_count)
-    { accesses = c.units_after-more.new.count })) false) (same_view g here.After-ready)
-    (resizes_full r c.args.size c.units_after-more.new.count less none (omega (
-      arith,
-      c.names_left-left.ensures,
-      c.if-left-lt2.true,
-      ap (λ (u : View). length u.blocks) (same_view g here.After-ready),
-      ap (λ (u : View). u.max_allocs) c.self.view_is,
-    )))
+    grind (arith, common_steps, same_view, resizes_full)
 
 pub returns-then-left-lt2-clause-same : goal.returns-then-left-lt2-clause-same
 returns-then-left-lt2-clause-same g c e = ap (λ (u : View). record u { accesses = c.units_after-more.new.count }) (same_view g (goal.at.returns-then-left-lt2-clause-same g c).After-ready)

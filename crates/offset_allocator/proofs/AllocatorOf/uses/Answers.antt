@@ -1,6 +1,4 @@
-use Rattle.std.proofs.Common.{ap, sym, ◌∙◌}
-use Rattle.offset_allocator.specs.View.{View, is_used_at, place_of}
-use Rattle.offset_allocator.proofs.Reading.{live_is}
+use Rattle.offset_allocator.proofs.{Common.ap, Common.sym, Common.◌∙◌, Common.View, Common.is_used_at, Common.place_of, Reading.live_is}
 use Rattle.offset_allocator.proofs.AllocatorOf.uses.Goals as goal
 
 pub returns-clause-live : goal.returns-clause-live

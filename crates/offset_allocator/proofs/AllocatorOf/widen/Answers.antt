@@ -1,12 +1,8 @@
-use Rattle.std.proofs.Common.{◌+◌, ◌∙◌, ℕ, length, false, ap, arith}
-use Rattle.offset_allocator.specs.Cells.{Node, Room}
-use Rattle.offset_allocator.proofs.Sound.{fields_of}
-use Rattle.offset_allocator.proofs.Classes.{down_small}
-use Rattle.offset_allocator.proofs.Places.{at_place, end_place}
+use Rattle.offset_allocator.proofs.Common.{◌+◌, ◌∙◌, ℕ, length, false, ap, arith, Node, Room}
 use Rattle.offset_allocator.proofs.Extending.{Growth, Grown, b_used, end_held, end_small, free_fits, widen_listed, widen_unlisted, widened}
+use Rattle.offset_allocator.proofs.{Sound.fields_of, Classes.down_small, Places.at_place, Places.end_place}
 use Rattle.offset_allocator.proofs.AllocatorOf.widen.Goals as goal
-use Rattle.offset_allocator.proofs.AllocatorOf.widen.Goals.{After-self, After-push}
-use Rattle.offset_allocator.proofs.AllocatorOf.widen.Given.{Over}
+use Rattle.offset_allocator.proofs.AllocatorOf.widen.{Goals.After-self, Goals.After-push, Given.Over}
 
 -- what the call knows of the fields
 pre : (g : Over) (c : After-self g) → Growth (fields_of g.T.Tables.cells g.T.Index.NodeIndex.MAX c.self.inside) c.args.more false
@@ -37,8 +33,7 @@ pub push-requires-clause-classed : goal.push-requires-clause-classed
 push-requires-clause-classed g c = omega (arith, down_small (c.size-size.result + c.args.more), c.uint_to_float_round_down.ensures.is)
 
 pub push-requires-clause-unlisted : goal.push-requires-clause-unlisted
-push-requires-clause-unlisted g c =
-    rw (c.grow.ensures.links, c.remove.ensures.lists, c.size-size.ensures.size) (widen_unlisted (pre g (goal.at.push-requires-clause-unlisted g c).After-self))
+push-requires-clause-unlisted g c = rw (c.grow.ensures.links, c.remove.ensures.lists, c.size-size.ensures.size) (widen_unlisted (pre g (goal.at.push-requires-clause-unlisted g c).After-self))
 
 pub overflow_add-self-2 : goal.overflow_add-self-2
 overflow_add-self-2 g c = omega (arith, free_fits (pre g (goal.at.overflow_add-self-2 g c).After-self))

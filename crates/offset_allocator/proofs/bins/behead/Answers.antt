@@ -1,18 +1,9 @@
-use Rattle.std.proofs.Common.{◌∙◌, ap, sym, arith, refl}
-use Rattle.std.proofs.lemmas.List.{set_past}
-use Rattle.offset_allocator.specs.Bins.{first_of}
-use Rattle.offset_allocator.proofs.Binned.{head, without_head, none_left, beheaded, changed}
-use Rattle.offset_allocator.proofs.Masks.{flag_full, masked_same}
-use Rattle.offset_allocator.proofs.Uses.{no_mark, second_idle}
+use Rattle.offset_allocator.proofs.Common.{◌∙◌, ap, sym, arith, refl, set_past, first_of, common_steps}
+use Rattle.offset_allocator.proofs.{Binned.head, Binned.without_head, Binned.none_left, Binned.beheaded, Binned.changed, Masks.flag_full, Masks.masked_same, Uses.no_mark, Uses.second_idle}
 use Rattle.offset_allocator.proofs.bins.behead.Goals as goal
 
-pub set_newer-requires-clause-idle : goal.set_newer-requires-clause-idle
-set_newer-requires-clause-idle g c =
-    let k = c.requires.held.linked in
-    rw (c.set_head.ensures.cells, c.number-next.ensures.number) (second_idle c.shape.ensures k c.args.class c.requires.classed c.requires.some c.requires.older (λ e. absurd (omega arith)))
-
-pub set_newer-requires-clause-link : goal.set_newer-requires-clause-link
-set_newer-requires-clause-link g c = no_mark c.shape.ensures (g.T.Index.NodeIndex.number c.no_link.result) (λ n. absurd (n c.no_link.ensures.number))
+pub set_newer-requires : goal.set_newer-requires
+set_newer-requires g c = grind (arith, common_steps, second_idle, no_mark)
 
 pub returns-then-next-MAX : goal.returns-then-next-MAX
 returns-then-next-MAX g c =

@@ -1,4 +1,4 @@
-use Rattle.std.proofs.Common.{◌≡◌, ◌+◌, length, replicate, take}
+use Rattle.offset_allocator.proofs.Common.{◌≡◌, ◌+◌, length, replicate, take}
 use Rattle.offset_allocator.proofs.bins.empty.Given as goal
 
 abbrev pub invariant-loop-class : goal.invariant-loop-class

@@ -1,10 +1,6 @@
-use Rattle.std.proofs.Common.{◌≡◌, ◌∙◌, sym, arith, refl}
-use Rattle.std.proofs.lemmas.List.{length-set}
-use Rattle.offset_allocator.specs.Classes.{down}
+use Rattle.offset_allocator.proofs.Common.{◌≡◌, ◌∙◌, sym, arith, refl, length-set, down}
 use Rattle.offset_allocator.proofs.Binned.{below, older_in, is_first, exchanged, exchange_masked, changed}
-use Rattle.offset_allocator.proofs.Classes.{down_small}
-use Rattle.offset_allocator.proofs.ViewOrders.{unlisted_removed}
-use Rattle.offset_allocator.proofs.Uses.{after_idle, no_mark}
+use Rattle.offset_allocator.proofs.{Classes.down_small, ViewOrders.unlisted_removed, Uses.after_idle, Uses.no_mark}
 use Rattle.offset_allocator.proofs.bins.exchange.Goals as goal
 
 pub newer-newer-requires : goal.newer-newer-requires
@@ -30,8 +26,7 @@ pub link_newer-requires-clause-link : goal.link_newer-requires-clause-link
 link_newer-requires-clause-link g c = no_mark c.shape.ensures (g.T.Index.NodeIndex.number c.link_to.result) (λ n. omega (arith, c.link_to.ensures.number, c.requires.named))
 
 pub push-requires-clause-unlisted : goal.push-requires-clause-unlisted
-push-requires-clause-unlisted g c =
-    rw c.leave.ensures.lists (unlisted_removed c.args.name c.args.gone _ _ c.requires.held.linked.lists_len (down_small c.args.size) c.requires.unlisted)
+push-requires-clause-unlisted g c = grind (arith, unlisted_removed, down_small)
 
 pub returns-then-class-uint_to_float_round_down : goal.returns-then-class-uint_to_float_round_down
 returns-then-class-uint_to_float_round_down g c =

@@ -1,7 +1,6 @@
-use Rattle.std.proofs.Common.{◌≡◌, ◌≢◌, ◌∙◌, arith, refl, slice_index}
+use Rattle.offset_allocator.proofs.Common.{◌≡◌, ◌≢◌, ◌∙◌, arith, refl, slice_index}
 use Rattle.offset_allocator.proofs.Binned.{below, newer_in, older_in, is_first, is_later, later_masked, left, changed}
-use Rattle.offset_allocator.proofs.Classes.{down_small}
-use Rattle.offset_allocator.proofs.Uses.{after_idle, no_mark}
+use Rattle.offset_allocator.proofs.{Classes.down_small, Uses.after_idle, Uses.no_mark}
 use Rattle.offset_allocator.proofs.bins.leave.Goals as goal
 
 pub older-older-requires : goal.older-older-requires
@@ -12,9 +11,7 @@ pub behead-requires-clause-classed : goal.behead-requires-clause-classed
 behead-requires-clause-classed g c = omega (arith, down_small c.args.size, c.uint_to_float_round_down.ensures.is)
 
 pub behead-requires-clause-some : goal.behead-requires-clause-some
-behead-requires-clause-some g c =
-    let z : slice_index (g.T.Tables.cells c.args.store.now.tables).links.newer c.args.name ≡ g.T.Index.NodeIndex.MAX = omega (arith, c.requires.newer) in
-    rw c.uint_to_float_round_down.ensures.is ((is_first c.requires.held.linked _ (down_small c.args.size) _ c.requires.listed z).0)
+behead-requires-clause-some g c = grind (arith, is_first, down_small)
 
 pub behead-requires-clause-older : goal.behead-requires-clause-older
 behead-requires-clause-older g c =

@@ -1,7 +1,4 @@
-use Rattle.std.proofs.Common.{◌≡◌, ◌+◌, ◌-◌, length}
-use Rattle.offset_allocator.specs.View.{bin_at}
-use Rattle.offset_allocator.specs.Bins.{bins_in}
-use Rattle.offset_allocator.proofs.Walks.{IsTail}
+use Rattle.offset_allocator.proofs.{Common.◌≡◌, Common.◌+◌, Common.◌-◌, Common.length, Common.bin_at, Common.bins_in, Walks.IsTail}
 use Rattle.offset_allocator.proofs.bins.length_of.Given as goal
 
 abbrev pub invariant-loop-name : goal.invariant-loop-name

@@ -1,30 +1,13 @@
-use Rattle.std.proofs.Common.{◌∙◌, ap, sym, arith, refl}
-use Rattle.std.proofs.lemmas.List.{length-set, set_past}
-use Rattle.offset_allocator.specs.Bins.{first_of}
+use Rattle.offset_allocator.proofs.Common.{◌∙◌, ap, sym, arith, refl, length-set, set_past, first_of, common_steps}
 use Rattle.offset_allocator.proofs.Binned.{head_among, head_below, head_small, pushed, changed}
-use Rattle.offset_allocator.proofs.Masks.{flag_full, masked_same, masked_set}
-use Rattle.offset_allocator.proofs.Uses.{listed_idle, no_mark}
+use Rattle.offset_allocator.proofs.{Masks.flag_full, Masks.masked_same, Masks.masked_set, Uses.listed_idle, Uses.no_mark}
 use Rattle.offset_allocator.proofs.bins.push.Goals as goal
-
-pub set_newer-requires-clause-name : goal.set_newer-requires-clause-name
-set_newer-requires-clause-name g c =
-    let h = c.head-newest.ensures.cell in
-    rw (c.set_links.ensures.cells, c.set_head.ensures.cells, length-set, h) (head_below c.requires.held.linked c.args.class c.requires.classed (λ e. absurd (omega arith)))
 
 pub set_links-requires-clause-link : goal.set_links-requires-clause-link
 set_links-requires-clause-link g c = no_mark c.shape.ensures (g.T.Index.NodeIndex.number c.no_link.result) (λ n. absurd (n c.no_link.ensures.number))
 
-pub set_newer-requires-clause-idle : goal.set_newer-requires-clause-idle
-set_newer-requires-clause-idle g c =
-    let h = c.head-newest.ensures.cell in
-    rw (
-      c.set_links.ensures.cells,
-      c.set_head.ensures.cells,
-      h,
-    ) (listed_idle c.shape.ensures c.requires.held.linked c.args.class c.requires.classed _ (head_among c.requires.held.linked c.args.class c.requires.classed (λ e. absurd (omega arith))))
-
-pub set_newer-requires-clause-link : goal.set_newer-requires-clause-link
-set_newer-requires-clause-link g c = no_mark c.shape.ensures (g.T.Index.NodeIndex.number c.link_to-link.result) (λ n. omega (arith, c.link_to-link.ensures.number, c.requires.named))
+pub set_newer-requires : goal.set_newer-requires
+set_newer-requires g c = grind (arith, common_steps, length-set, head_below, listed_idle, head_among, no_mark)
 
 pub returns-then-newest-MAX : goal.returns-then-newest-MAX
 returns-then-newest-MAX g c =

@@ -1,27 +1,19 @@
-use Rattle.std.proofs.Common.{◌∙◌, length, ap, arith, refl, List, ℕ}
-use Rattle.offset_allocator.specs.Cells.{Cells, Room}
-use Rattle.offset_allocator.proofs.Exchange.{back_to, relinked_spare}
+use Rattle.offset_allocator.proofs.Common.{ap, arith, refl, Cells, Room, common_steps}
 use Rattle.offset_allocator.proofs.Nodes.{length-put, spare-put, nodes-with_spare}
-use Rattle.offset_allocator.proofs.Places.{next_place, next_below, spare_room}
-use Rattle.offset_allocator.proofs.Writes.{coalesce_after_place}
+use Rattle.offset_allocator.proofs.{Exchange.back_to, Exchange.relinked_spare, Places.next_place, Places.next_below, Places.spare_room, Writes.coalesce_after_place}
 use Rattle.offset_allocator.proofs.chain.coalesce_after.Goals as goal
 
 pub after-next-requires : goal.after-next-requires
 after-next-requires g c = (next_place c.requires.place.2 c.requires.next).place.below
 
 pub point_back-requires-clause-link : goal.point_back-requires-clause-link
-point_back-requires-clause-link g c =
-    rw (c.after-next.ensures.cell, c.set_end.ensures.cells, length-put) (next_below (next_place c.requires.place.2 c.requires.next).place)
+point_back-requires-clause-link g c = rw (c.after-next.ensures.cell, c.set_end.ensures.cells, length-put) (next_below (next_place c.requires.place.2 c.requires.next).place)
 
 pub link_to-requires : goal.link_to-requires
 link_to-requires g c = omega (arith, c.shape.ensures.limit, (next_place c.requires.place.2 c.requires.next).place.below)
 
 pub set_spare-requires : goal.set_spare-requires
-set_spare-requires g c =
-    let room : Cells → Room = λ v. v.room in
-    let same = ap (λ (l : List ℕ). length l) (relinked_spare (back_to c.args.name) _ _ _ c.point_back.ensures.cells
-    ∙ ap (λ (r : Room). r.spare) (ap room c.set_end.ensures.cells) ∙ spare-put _ _ _) in
-    omega (arith, same, spare_room c.requires.place.2)
+set_spare-requires g c = grind (arith, common_steps, relinked_spare, spare-put, spare_room)
 
 pub returns-clause-place : goal.returns-clause-place
 returns-clause-place g c m p h =

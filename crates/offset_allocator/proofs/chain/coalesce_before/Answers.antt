@@ -1,9 +1,6 @@
-use Rattle.std.proofs.Common.{◌∙◌, length, ap, arith, refl, List, ℕ}
-use Rattle.offset_allocator.specs.Cells.{Cells, Room}
-use Rattle.offset_allocator.proofs.Exchange.{on_to, relinked_spare}
-use Rattle.offset_allocator.proofs.Nodes.{length-put, spare-put, nodes-with_spare}
+use Rattle.offset_allocator.proofs.Common.{ap, arith, refl, Cells, Room, common_steps}
 use Rattle.offset_allocator.proofs.Places.{previous_place, previous_below, spare_room}
-use Rattle.offset_allocator.proofs.Writes.{coalesce_before_place}
+use Rattle.offset_allocator.proofs.{Exchange.on_to, Exchange.relinked_spare, Nodes.length-put, Nodes.spare-put, Nodes.nodes-with_spare, Writes.coalesce_before_place}
 use Rattle.offset_allocator.proofs.chain.coalesce_before.Goals as goal
 
 pub offset-offset-requires : goal.offset-offset-requires
@@ -13,18 +10,13 @@ pub before-link-requires : goal.before-link-requires
 before-link-requires g c = (previous_place c.requires.place.2 c.requires.previous).place.below
 
 pub point_on-requires-clause-link : goal.point_on-requires-clause-link
-point_on-requires-clause-link g c =
-    rw (c.before-link.ensures.cell, c.set_start.ensures.cells, length-put) (previous_below (previous_place c.requires.place.2 c.requires.previous).place)
+point_on-requires-clause-link g c = rw (c.before-link.ensures.cell, c.set_start.ensures.cells, length-put) (previous_below (previous_place c.requires.place.2 c.requires.previous).place)
 
 pub link_to-requires : goal.link_to-requires
 link_to-requires g c = omega (arith, c.shape.ensures.limit, (previous_place c.requires.place.2 c.requires.previous).place.below)
 
 pub set_spare-requires : goal.set_spare-requires
-set_spare-requires g c =
-    let room : Cells → Room = λ v. v.room in
-    let same = ap (λ (l : List ℕ). length l) (relinked_spare (on_to c.args.name) _ _ _ c.point_on.ensures.cells
-    ∙ ap (λ (r : Room). r.spare) (ap room c.set_start.ensures.cells) ∙ spare-put _ _ _) in
-    omega (arith, same, spare_room c.requires.place.2)
+set_spare-requires g c = grind (arith, common_steps, relinked_spare, spare-put, spare_room)
 
 pub returns-clause-place : goal.returns-clause-place
 returns-clause-place g c m p h =

@@ -1,11 +1,6 @@
-use Rattle.std.proofs.Common.{ap, arith, [], ◌∷◌}
-use Rattle.offset_allocator.specs.Cells.{Cells, Node}
-use Rattle.offset_allocator.specs.View.{units}
-use Rattle.offset_allocator.proofs.Views.{blocks-chain}
-use Rattle.offset_allocator.proofs.Places.{at_place}
-use Rattle.offset_allocator.proofs.Writes.{grow_place}
+use Rattle.offset_allocator.proofs.Common.{ap, arith, [], ◌∷◌, Cells, Node, units}
+use Rattle.offset_allocator.proofs.{Views.blocks-chain, Places.at_place, Writes.grow_place, Tallies.units-append}
 use Rattle.offset_allocator.proofs.chain.grow.Goals as goal
-use Rattle.offset_allocator.proofs.Tallies.{units-append}
 
 pub overflow_add-size : goal.overflow_add-size
 overflow_add-size g c =

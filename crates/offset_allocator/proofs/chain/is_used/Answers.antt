@@ -1,5 +1,4 @@
-use Rattle.std.proofs.Common.{◌∙◌}
-use Rattle.offset_allocator.proofs.Reading.{used_read}
+use Rattle.offset_allocator.proofs.{Common.◌∙◌, Reading.used_read}
 use Rattle.offset_allocator.proofs.chain.is_used.Goals as goal
 
 pub returns-clause-used : goal.returns-clause-used

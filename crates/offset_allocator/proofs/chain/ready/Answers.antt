@@ -1,20 +1,11 @@
-use Rattle.std.proofs.Common.{arith}
-use Rattle.offset_allocator.proofs.Readied.{has_memory, not_readied, readied}
+use Rattle.offset_allocator.proofs.{Common.arith, Common.common_steps, Readied.has_memory, Readied.not_readied, Readied.readied}
 use Rattle.offset_allocator.proofs.chain.ready.Goals as goal
 
-pub add-requires-clause-memory : goal.add-requires-clause-memory
-add-requires-clause-memory g c =
-    let r = c.requires.memory in
-    omega (arith, has_memory r.3 r.4 c.if-spare_count-names.true, r.3.memory)
-
-pub add-requires-clause-place : goal.add-requires-clause-place
-add-requires-clause-place g c = omega (arith, c.requires.memory.3.full)
+pub add-requires : goal.add-requires
+add-requires g c = grind (arith, common_steps, has_memory)
 
 pub returns-then-spare_count-names-clause-readies : goal.returns-then-spare_count-names-clause-readies
-returns-then-spare_count-names-clause-readies g c =
-    let r = c.requires.memory in
-    readied c.shape.ensures (omega (arith, has_memory r.3 r.4 c.if-spare_count-names.true, r.3.memory)) c.add.ensures.room c.add.ensures.newer c.add.ensures.older
-    c.add.ensures.heads c.add.ensures.masks
+returns-then-spare_count-names-clause-readies g c = grind (arith, readied, has_memory)
 
 pub returns-else-spare_count-names-clause-readies : goal.returns-else-spare_count-names-clause-readies
 returns-else-spare_count-names-clause-readies g c = not_readied

@@ -1,5 +1,4 @@
-use Rattle.std.proofs.Common.{arith}
-use Rattle.offset_allocator.proofs.Readied.{readied_twice}
+use Rattle.offset_allocator.proofs.{Common.arith, Readied.readied_twice}
 use Rattle.offset_allocator.proofs.chain.ready_for.Goals as goal
 
 pub ready-requires-clause-memory : goal.ready-requires-clause-memory

@@ -1,9 +1,5 @@
-use Rattle.std.proofs.Common.{◌∙◌, ap, arith, refl}
-use Rattle.offset_allocator.specs.Cells.{Cells, Room, Node}
-use Rattle.offset_allocator.proofs.Exchange.{top}
-use Rattle.offset_allocator.proofs.Nodes.{length-put}
-use Rattle.offset_allocator.proofs.Places.{at_place, end_fits, next_below}
-use Rattle.offset_allocator.proofs.Writes.{split_place}
+use Rattle.offset_allocator.proofs.Common.{◌∙◌, ap, arith, refl, Cells, Room, Node}
+use Rattle.offset_allocator.proofs.{Exchange.top, Nodes.length-put, Places.at_place, Places.end_fits, Places.next_below, Writes.split_place}
 use Rattle.offset_allocator.proofs.chain.split.Goals as goal
 
 pub overflow_add-offset : goal.overflow_add-offset
@@ -22,8 +18,7 @@ pub link_to-on-requires : goal.link_to-on-requires
 link_to-on-requires g c = (top _ c.requires.place.2.chain c.requires.spare (c.number-rest.ensures.number ∙ c.spare.ensures.cell)).below
 
 pub point_back-requires-clause-link : goal.point_back-requires-clause-link
-point_back-requires-clause-link g c =
-    rw (c.after-next.ensures.cell, c.set_end.ensures.cells, length-put, c.set_block.ensures.cells, length-put) (next_below c.requires.place.2)
+point_back-requires-clause-link g c = rw (c.after-next.ensures.cell, c.set_end.ensures.cells, length-put, c.set_block.ensures.cells, length-put) (next_below c.requires.place.2)
 
 pub point_back-requires-clause-name : goal.point_back-requires-clause-name
 point_back-requires-clause-name g c =

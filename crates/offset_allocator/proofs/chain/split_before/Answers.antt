@@ -1,9 +1,5 @@
-use Rattle.std.proofs.Common.{◌∙◌, ap, arith, refl}
-use Rattle.offset_allocator.specs.Cells.{Cells, Room, Node}
-use Rattle.offset_allocator.proofs.Exchange.{top}
-use Rattle.offset_allocator.proofs.Nodes.{length-put}
-use Rattle.offset_allocator.proofs.Places.{at_place, end_fits, previous_below}
-use Rattle.offset_allocator.proofs.Writes.{split_before_place}
+use Rattle.offset_allocator.proofs.Common.{◌∙◌, ap, arith, refl, Cells, Room, Node}
+use Rattle.offset_allocator.proofs.{Exchange.top, Nodes.length-put, Places.at_place, Places.end_fits, Places.previous_below, Writes.split_before_place}
 use Rattle.offset_allocator.proofs.chain.split_before.Goals as goal
 
 pub set_block-requires-clause-name : goal.set_block-requires-clause-name
@@ -22,8 +18,7 @@ pub link_to-back-requires : goal.link_to-back-requires
 link_to-back-requires g c = (top _ c.requires.place.2.chain c.requires.spare (c.number-front.ensures.number ∙ c.spare.ensures.cell)).below
 
 pub point_on-requires-clause-link : goal.point_on-requires-clause-link
-point_on-requires-clause-link g c =
-    rw (c.before-link.ensures.cell, c.set_start.ensures.cells, length-put, c.set_block.ensures.cells, length-put) (previous_below c.requires.place.2)
+point_on-requires-clause-link g c = rw (c.before-link.ensures.cell, c.set_start.ensures.cells, length-put, c.set_block.ensures.cells, length-put) (previous_below c.requires.place.2)
 
 pub point_on-requires-clause-name : goal.point_on-requires-clause-name
 point_on-requires-clause-name g c =

@@ -1,17 +1,10 @@
-use Rattle.std.proofs.Common.{ℕ, ◌∙◌, [], ◌∷◌, Option, false, ap, ap₂, arith}
-use Rattle.offset_allocator.specs.Cells.{Cells, put}
-use Rattle.offset_allocator.specs.View.{free_block}
-use Rattle.offset_allocator.specs.Chain.{IsChain}
-use Rattle.offset_allocator.proofs.Fresh.{bare_idle, bare_length, start-chain}
-use Rattle.offset_allocator.proofs.Views.{blocks-chain, space-chain}
+use Rattle.offset_allocator.proofs.Common.{ℕ, ◌∙◌, [], ◌∷◌, Option, false, ap, ap₂, arith, Cells, put, free_block, IsChain, common_steps}
+use Rattle.offset_allocator.proofs.{Fresh.bare_idle, Fresh.bare_length, Fresh.start-chain, Views.blocks-chain, Views.space-chain}
 use Rattle.offset_allocator.proofs.chain.start.Goals as goal
 use Rattle.offset_allocator.proofs.chain.start.Given.{Over}
 
-pub set_block-requires-clause-name : goal.set_block-requires-clause-name
-set_block-requires-clause-name g c = omega (arith, bare_length c.requires.bare)
-
-pub set_block-requires-clause-idle : goal.set_block-requires-clause-idle
-set_block-requires-clause-idle g c = bare_idle c.requires.bare 0
+pub set_block-requires : goal.set_block-requires
+set_block-requires g c = grind (arith, common_steps, bare_length, bare_idle)
 
 done : (g : Over) (c : goal.After-set_block g) → IsChain (g.T.Tables.cells c.set_block.new.self).room c.args.max_allocs 0 0 (free_block 0 c.args.size ∷ [])
 done g c =

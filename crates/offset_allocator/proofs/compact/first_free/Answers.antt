@@ -1,11 +1,5 @@
-use Rattle.std.proofs.Common.{◌≡◌, ◌+◌, List, [], ◌∷◌, ◌++◌, Some, None, length, refl, sym, ap, ◌∙◌, arith, append-nil, append_assoc, length-append}
-use Rattle.offset_allocator.specs.Cells.{Node}
-use Rattle.offset_allocator.specs.View.{Block}
-use Rattle.offset_allocator.specs.Chain.{blocks, last_or}
-use Rattle.offset_allocator.specs.Compacting.{first_free}
-use Rattle.offset_allocator.proofs.Ends.{Ended, ended, last_none}
-use Rattle.offset_allocator.proofs.Places.{at_place}
-use Rattle.offset_allocator.proofs.Sliding.{walked, first_used, first_idle}
+use Rattle.offset_allocator.proofs.Common.{◌≡◌, ◌+◌, List, [], ◌∷◌, ◌++◌, Some, None, length, sym, ap, ◌∙◌, arith, append-nil, append_assoc, length-append, Node, Block, last_or, common_steps}
+use Rattle.offset_allocator.proofs.{Ends.Ended, Ends.ended, Ends.last_none, Places.at_place, Sliding.walked, Sliding.first_used, Sliding.first_idle}
 use Rattle.offset_allocator.proofs.compact.first_free.Goals as goal
 use Rattle.offset_allocator.proofs.compact.first_free.Goals.{then-not-is_used, else-not-is_used}
 
@@ -13,14 +7,7 @@ pub is_used-requires : goal.is_used-requires
 is_used-requires g c = (walked c.requires.space.1 c.loop-at.invariant.front c.loop-at.invariant.rest c.loop-at.invariant.is (c.loop-at.invariant.ends ∙ c.in-Some.is)).below
 
 pub loop-at-init : goal.loop-at-init
-loop-at-init g c = record {
-  front = blocks (g.T.Tables.cells c.args.tables.now).room c.args.last;
-  rest = [];
-  is = sym (append-nil _);
-  ends = c.requires.space.1.ends;
-  first = refl;
-  accesses = omega arith;
-}
+loop-at-init g c = grind (arith, append-nil)
 
 pub before-at-requires : goal.before-at-requires
 before-at-requires g c = (walked c.requires.space.1 c.loop-at.invariant.front c.loop-at.invariant.rest c.loop-at.invariant.is (c.loop-at.invariant.ends ∙ c.in-Some.is)).below
@@ -38,19 +25,9 @@ loop-at-preserved g c =
       rest = f.last ∷ i.rest;
       is = i.is ∙ ap (λ (l : List Block). l ++ i.rest) f.is ∙ append_assoc f.front (f.last ∷ []) i.rest;
       ends = sym (c.before-at.ensures.before ∙ ap (λ (n : Node). n.before) (at_place h));
-      first = elim c.if-not-is_used.branch [
-        | then-not-is_used w ↦ w.first-is ∙ ap (λ k. Some k) (sym f.name) ∙ sym (first_idle f.last i.rest (sym used ∙ w.if-not-is_used.true))
-        | else-not-is_used w ↦ w.first-is ∙ i.first ∙ sym (first_used f.last i.rest (sym used ∙ w.if-not-is_used.false))
-      ];
+      first = grind (arith, common_steps, then-not-is_used, first_idle, else-not-is_used, first_used);
       accesses = omega (arith, i.accesses, long);
     }
 
-pub returns-clause-first : goal.returns-clause-first
-returns-clause-first g c =
-    let i = c.loop-at.invariant in
-    i.first ∙ sym (ap first_free (i.is ∙ ap (λ (l : List Block). l ++ i.rest) (last_none i.front (i.ends ∙ c.in_default.is))))
-
-pub returns-clause-accesses : goal.returns-clause-accesses
-returns-clause-accesses g c =
-    let i = c.loop-at.invariant in
-    omega (arith, i.accesses, ap (λ (l : List Block). length l) (last_none i.front (i.ends ∙ c.in_default.is)))
+pub returns : goal.returns
+returns g c = grind (arith, common_steps, last_none)

@@ -1,7 +1,4 @@
-use Rattle.std.proofs.Common.{◌≡◌, ◌+◌, ◌-◌, ◌*◌, List, ◌++◌, None, length}
-use Rattle.offset_allocator.specs.View.{Block}
-use Rattle.offset_allocator.specs.Chain.{blocks, last_or}
-use Rattle.offset_allocator.specs.Compacting.{first_free}
+use Rattle.offset_allocator.proofs.Common.{◌≡◌, ◌+◌, ◌-◌, ◌*◌, List, ◌++◌, None, length, Block, blocks, last_or, first_free}
 use Rattle.offset_allocator.proofs.compact.first_free.Given as goal
 
 abbrev pub invariant-loop-at : goal.invariant-loop-at

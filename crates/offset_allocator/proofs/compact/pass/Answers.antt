@@ -1,7 +1,5 @@
-use Rattle.std.proofs.Common.{ap, sym, ◌∙◌, arith}
-use Rattle.offset_allocator.specs.Cells.{Node}
-use Rattle.offset_allocator.proofs.Places.{at_place, next_place, after_fits}
-use Rattle.offset_allocator.proofs.Sliding.{next_is, before_next, joined_node, passed}
+use Rattle.offset_allocator.proofs.Common.{ap, sym, ◌∙◌, arith, Node}
+use Rattle.offset_allocator.proofs.{Places.at_place, Places.next_place, Places.after_fits, Sliding.next_is, Sliding.before_next, Sliding.joined_node, Sliding.passed}
 use Rattle.offset_allocator.proofs.compact.pass.Goals as goal
 
 pub overflow_add-whole : goal.overflow_add-whole

@@ -1,5 +1,4 @@
-use Rattle.std.proofs.Common.{refl, ◌∙◌, arith}
-use Rattle.offset_allocator.proofs.Sliding.{moved_one}
+use Rattle.offset_allocator.proofs.{Common.refl, Common.◌∙◌, Common.arith, Sliding.moved_one}
 use Rattle.offset_allocator.proofs.compact.report.Goals as goal
 
 pub returns-clause-called : goal.returns-clause-called
@@ -8,12 +7,7 @@ returns-clause-called g c used =
       _,
       (
         record { name = c.to_name.result; from = c.args.from; to = c.args.to; size = c.args.size; index = record {} },
-        record {
-          name = c.to_name.ensures ∙ c.from_u32.ensures.kept (omega arith);
-          from = refl;
-          to = refl;
-          size = refl;
-        },
+        record { name = c.to_name.ensures ∙ c.from_u32.ensures.kept (omega arith); from = refl; to = refl; size = refl },
         c.moved.ensures,
       ),
       refl,

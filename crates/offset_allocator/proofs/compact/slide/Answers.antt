@@ -1,8 +1,5 @@
-use Rattle.std.proofs.Common.{◌≡◌, ◌≤◌, true, false, List, ◌∷◌, length, refl, sym, ap, subst, ◌∙◌, arith, length-append}
-use Rattle.std.specs.List.{FoldsTo}
-use Rattle.offset_allocator.specs.Cells.{Node}
-use Rattle.offset_allocator.specs.View.{Block, Place, units}
-use Rattle.offset_allocator.specs.Compacting.{Move, IsCalledWith}
+use Rattle.offset_allocator.proofs.Common.{◌≡◌, ◌≤◌, true, false, List, ◌∷◌, length, refl, sym, ap, subst, ◌∙◌, arith, length-append, FoldsTo, Node, Block, Place, units, Move, IsCalledWith}
+use Rattle.offset_allocator.proofs.Common.{common_steps}
 use Rattle.offset_allocator.proofs.Places.{at_place, next_place, end_fits, after_fits}
 use Rattle.offset_allocator.proofs.Sliding.{absorbed, slid_past, slid_into, slid_end, at_end, same_move}
 use Rattle.offset_allocator.proofs.compact.slide.Goals as goal
@@ -55,20 +52,8 @@ report-requires-clause-named g c =
 pub loop-next-smaller-then-is_used : goal.loop-next-smaller-then-is_used
 loop-next-smaller-then-is_used g c =
     let s = c.loop-next.invariant.at _ _ c.requires.place.2 c.requires.place.3 in
-    let n = next_place s.there (sym c.in-Some.is ∙ c.after.ensures.after) in
     let p : Place = c.requires.place.1 in
-    let all : length p.after ≤ length (g.T.Tables.cells c.args.store.now.tables).room.nodes = omega (arith, c.requires.place.2.chain.full, length-append p.before (p.block ∷ p.after)) in
-    omega (
-      arith,
-      s.bounded,
-      ap (λ (l : List Block). length l) n.is,
-      all,
-      c.after.ensures.accesses,
-      c.size-more.ensures.accesses,
-      c.is_used.ensures.accesses,
-      c.offset-to.ensures.accesses,
-      c.pass-hole.ensures.accesses.0,
-    )
+    grind (arith, common_steps)
 
 pub loop-next-preserved-then-is_used : goal.loop-next-preserved-then-is_used
 loop-next-preserved-then-is_used g c = record {

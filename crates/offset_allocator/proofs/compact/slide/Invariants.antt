@@ -1,9 +1,6 @@
-use Rattle.std.proofs.Common.{◌≡◌, ℕ, ◌+◌, ◌-◌, ◌*◌, ◌≤◌, false, length}
-use Rattle.offset_allocator.specs.View.{Place}
-use Rattle.offset_allocator.specs.Store.{SameBins}
-use Rattle.offset_allocator.specs.Chain.{HasPlace}
-use Rattle.offset_allocator.specs.Compacting.{IsCalledWith}
+use Rattle.offset_allocator.proofs.Common.{◌≡◌, ℕ, ◌+◌, ◌-◌, ◌*◌, ◌≤◌, false, length, Place, HasPlace, IsCalledWith}
 use Rattle.offset_allocator.proofs.Sliding.{IsSliding}
+use Rattle.offset_allocator.specs.Store.{SameBins}
 use Rattle.offset_allocator.proofs.compact.slide.Given as goal
 
 abbrev pub invariant-loop-next : goal.invariant-loop-next

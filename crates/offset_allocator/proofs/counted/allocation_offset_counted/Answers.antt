@@ -1,7 +1,5 @@
-use Rattle.std.proofs.Common.{ap, ◌∙◌, ℕ, Some, refl, option_map}
-use Rattle.offset_allocator.specs.Ranges.{Range, range_of}
-use Rattle.offset_allocator.proofs.Sound.{fields_of}
-use Rattle.offset_allocator.proofs.Reading.{live_below, live_offset}
+use Rattle.offset_allocator.proofs.Common.{ap, ◌∙◌, ℕ, Some, refl, option_map, Range, range_of}
+use Rattle.offset_allocator.proofs.{Sound.fields_of, Reading.live_below, Reading.live_offset}
 use Rattle.offset_allocator.proofs.counted.allocation_offset_counted.Goals as goal
 
 pub offset-requires : goal.offset-requires

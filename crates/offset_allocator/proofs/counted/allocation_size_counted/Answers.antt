@@ -1,7 +1,4 @@
-use Rattle.std.proofs.Common.{ap, ◌∙◌, ℕ, refl}
-use Rattle.offset_allocator.specs.Ranges.{size_of}
-use Rattle.offset_allocator.proofs.Sound.{fields_of}
-use Rattle.offset_allocator.proofs.Reading.{live_below, live_size}
+use Rattle.offset_allocator.proofs.{Common.ap, Common.◌∙◌, Common.ℕ, Common.refl, Common.size_of, Sound.fields_of, Reading.live_below, Reading.live_size}
 use Rattle.offset_allocator.proofs.counted.allocation_size_counted.Goals as goal
 
 pub size-requires : goal.size-requires

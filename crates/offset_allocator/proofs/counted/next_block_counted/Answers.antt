@@ -1,11 +1,5 @@
-use Rattle.std.proofs.Common.{◌≡◌, Bool, Option, None, Some, ◌∷◌, ◌-◌, if◌then◌else◌, sym, ap, subst, ◌∙◌, arith}
-use Rattle.std.specs.Iterator.{YieldsFirstBy}
-use Rattle.offset_allocator.specs.declared.blocks.Block.{Block}
-use Rattle.offset_allocator.specs.Cells.{node}
-use Rattle.offset_allocator.specs.View.{Grant}
-use Rattle.offset_allocator.specs.Listing.{Placed, as_placed}
-use Rattle.offset_allocator.proofs.Sound.{fields_of}
-use Rattle.offset_allocator.proofs.Listing.{left, none_left, node_placed, read_is}
+use Rattle.offset_allocator.proofs.Common.{◌≡◌, Bool, Option, None, Some, ◌∷◌, ◌-◌, if◌then◌else◌, sym, ap, ◌∙◌, arith, node, Grant, Placed, common_steps}
+use Rattle.offset_allocator.proofs.{Sound.fields_of, Listing.left, Listing.none_left, Listing.node_placed, Listing.read_is}
 use Rattle.offset_allocator.proofs.counted.next_block_counted.Goals.{then-is_used, else-is_used}
 use Rattle.offset_allocator.proofs.counted.next_block_counted.Goals as goal
 
@@ -14,9 +8,7 @@ is_used-requires g c = (read_is (fields_of g.T.Tables.cells g.T.Index.NodeIndex.
     (c.blocks-2.invariant.1 ∙ c.in_ok-name.was)).below
 
 pub returns-in_err-name-clause-yields : goal.returns-in_err-name-clause-yields
-returns-in_err-name-clause-yields g c =
-    let e = sym c.blocks-2.view_is ∙ none_left c.blocks-2.inside.left c.blocks-2.inside.allocator.now.blocks (c.blocks-2.invariant.1 ∙ c.in_err-name.was) in
-    subst (λ (r : Option (Block _ _ _)). YieldsFirstBy as_placed (λ rest. rest) c.args.blocks.now r c.args.blocks.now) (sym c.from_residual.ensures) (e, e)
+returns-in_err-name-clause-yields g c = grind (arith, none_left)
 
 pub offset-offset-requires : goal.offset-offset-requires
 offset-offset-requires g c = (read_is (fields_of g.T.Tables.cells g.T.Index.NodeIndex.MAX c.allocator.inside) c.allocator.invariant _ _ _ c.allocator.view_is c.blocks-2.invariant.0
@@ -42,10 +34,7 @@ returns-clause-yields g c =
     (c.blocks-2.invariant.1 ∙ c.in_ok-name.was) in
     let P : Option Grant → Placed = λ h. record { offset = c.offset-offset.result; size = c.size-size.result; grant = h } in
     let grant_if : Bool → Option Grant = λ b. if b then Some (record { name = c.in_ok-name.name; offset = c.offset-offset.result }) else None in
-    let grant : grant_if c.is_used.result ≡ c.if-is_used.allocation = elim c.if-is_used.branch [
-      | then-is_used w ↦ ap grant_if w.if-is_used.true ∙ ap (λ (h : Grant). Some h) (sym w.handle_of.ensures) ∙ sym w.allocation-is
-      | else-is_used w ↦ ap grant_if w.if-is_used.false ∙ sym w.allocation-is
-    ] in
+    let grant : grant_if c.is_used.result ≡ c.if-is_used.allocation = grind (arith, common_steps, then-is_used, else-is_used) in
     let block = node_placed c.in_ok-name.name (node (g.T.Tables.cells c.allocator.inside.store.tables).room c.in_ok-name.name) _ _ _ c.offset-offset.ensures.offset c.size-size.ensures.size
     c.is_used.ensures.cell ∙ ap P grant in
     sym c.blocks-2.view_is ∙ r.block ∙ ap (λ (p : Placed). p ∷ left (c.blocks-2.inside.left - 1) c.blocks-2.inside.allocator.now.blocks) block

@@ -1,14 +1,7 @@
-use Rattle.std.proofs.Common.{◌≡◌, ◌∙◌, ◌<◌, ◌≤◌, ◌+◌, ◌-◌, ◌^◌, ℕ, [], max, sum, subst, ap, arith, refl, inl, inr}
-use Rattle.std.proofs.lemmas.Bool.{cases_lt}
-use Rattle.std.proofs.lemmas.List.{get_or_past}
-use Rattle.offset_allocator.specs.View.{View, free_sizes}
-use Rattle.offset_allocator.specs.Classes.{value, up, down}
-use Rattle.offset_allocator.proofs.Sound.{Fields, fields_of, known_sound}
-use Rattle.offset_allocator.specs.Requests.{CanGrant, size_needed, blocks_needed, units_needed}
-use Rattle.offset_allocator.proofs.Advice.{free_within, too_small}
+use Rattle.offset_allocator.proofs.Common.{◌≡◌, ◌∙◌, ◌<◌, ◌≤◌, ◌+◌, ◌-◌, ◌^◌, ℕ, [], max, sum, subst, ap, arith, inl, inr, cases_lt, get_or_past, View, free_sizes, value, up, down, CanGrant}
+use Rattle.offset_allocator.proofs.Common.{size_needed, blocks_needed, units_needed, common_steps}
 use Rattle.offset_allocator.proofs.Classes.{past_words, down_law, value_small, below_value_up}
-use Rattle.offset_allocator.proofs.Powers.{not_zero}
-use Rattle.offset_allocator.proofs.Refusals.{is_open, total_is}
+use Rattle.offset_allocator.proofs.{Sound.Fields, Sound.fields_of, Sound.known_sound, Advice.free_within, Advice.too_small, Powers.not_zero, Refusals.is_open, Refusals.total_is}
 use Rattle.offset_allocator.proofs.counted.refusal_aligned_counted.Goals as goal
 
 -- the class that is searched from is that of the units needed
@@ -32,12 +25,7 @@ enough n s k d h e f l =
     omega (arith, a, b, ap value e, value_small 1 (omega arith))
 
 pub returns-then-units-clause-why : goal.returns-then-units-clause-why
-returns-then-units-clause-why g c =
-    let known = known_sound (fields_of g.T.Tables.cells g.T.Index.NodeIndex.MAX c.allocator.inside) c.allocator.invariant c.args.allocator.now c.allocator.view_is in
-    let some = not_zero c.args.align c.requires.power in (
-      omega (arith, c.names_left.ensures, c.min-blocks.ensures, c.if-names_left-blocks.false),
-      omega (arith, known.0.fits, past_words (units_needed c.args.size c.args.align) (omega (arith, some, c.if-units.true))),
-    )
+returns-then-units-clause-why g c = grind (arith, known_sound, not_zero, past_words)
 
 pub returns-then-units-clause-granted : goal.returns-then-units-clause-granted
 returns-then-units-clause-granted g c =
@@ -47,17 +35,8 @@ returns-then-units-clause-granted g c =
 pub returns-then-largest-smallest-clause-why : goal.returns-then-largest-smallest-clause-why
 returns-then-largest-smallest-clause-why g c =
     let low = low_is c.args.size c.args.align _ (not_zero c.args.align c.requires.power) c.uint_to_float_round_up-smallest.ensures.is in
-    let size = ap (λ (v : View). v.size) c.allocator.view_is in (
-      omega (arith, c.names_left.ensures, c.min-blocks.ensures, c.if-names_left-blocks.false),
-      elim (cases_lt c.args.allocator.now.size (value (up (units_needed c.args.size c.args.align)))) [
-        | inl l ↦ l
-        | inr l ↦ absurd (omega (
-          arith,
-          c.if-largest-smallest.true,
-          (c.uint_to_float_round_down-largest.ensures.largest c.uint_to_float_round_up-smallest.result).1 (omega (arith, l, size, ap value low)),
-        ))
-      ],
-    )
+    let size = ap (λ (v : View). v.size) c.allocator.view_is in
+    grind (arith, common_steps, cases_lt)
 
 pub returns-then-largest-smallest-clause-granted : goal.returns-then-largest-smallest-clause-granted
 returns-then-largest-smallest-clause-granted g c =
@@ -70,21 +49,12 @@ find_at_or_above-requires-clause-classed g c = omega (arith, (below_value_up (c.
 pub returns-in-Some-clause-granted : goal.returns-in-Some-clause-granted
 returns-in-Some-clause-granted g c =
     let low = low_is c.args.size c.args.align _ (not_zero c.args.align c.requires.power) c.uint_to_float_round_up-smallest.ensures.is in
-    let P : View → Type 0 = λ u. CanGrant (blocks_needed c.args.align) (units_needed c.args.size c.args.align) u in
-    let some = c.in-Some.ensures.smallest in (
-      λ e. subst P c.allocator.view_is (
-        is_open (fields_of g.T.Tables.cells g.T.Index.NodeIndex.MAX c.allocator.inside) c.allocator.invariant _ 0 c.allocator.view_is c.names_left.ensures
-            (omega (arith, c.min-blocks.ensures)),
-        (c.in-Some.field-0, omega (arith, some.0), some.2),
-      ),
-      λ h. refl,
-    )
+    grind (arith, common_steps, is_open)
 
 -- where no bin from the class on has a block
 refused : goal.returns-then-uint_to_float_round_down-max-clause-granted
 refused g c =
     let low = low_is c.args.size c.args.align _ (not_zero c.args.align c.requires.power) c.uint_to_float_round_up-smallest.ensures.is in
-    let classes = c.allocator.invariant.well.classes in
     let P : View → Type 0 = λ u. CanGrant (blocks_needed c.args.align) (units_needed c.args.size c.args.align) u → ⊥ in
     let none = subst P c.allocator.view_is (λ h. elim (cases_lt h.1.0 256)
     [ inl l ↦ h.1.2 (c.in-None.ensures.smallest h.1.0 (omega (arith, h.1.1)) l) | inr l ↦ h.1.2 (get_or_past _ h.1.0 [] (omega arith)) ]) in
@@ -102,17 +72,12 @@ returns-then-uint_to_float_round_down-max-clause-why g c =
     let size = ap (λ (v : View). v.size) c.allocator.view_is in
     let total = few (units_needed c.args.size c.args.align) c.allocator.inside.free_total c.uint_to_float_round_up-smallest.result c.uint_to_float_round_down.result
     (omega (arith, free, free_within c.args.allocator.now known.0, known.0.fits)) low c.uint_to_float_round_down.ensures.is
-    (omega (arith, c.max.ensures, c.if-uint_to_float_round_down-max.true)) in (
-      omega (arith, c.names_left.ensures, c.min-blocks.ensures, c.if-names_left-blocks.false),
-      omega (arith, (c.uint_to_float_round_down-largest.ensures.largest c.uint_to_float_round_up-smallest.result).0 (omega (arith, c.if-largest-smallest.false)), size, ap value low),
-      omega (arith, total, free),
-      λ h. let e = (refused g c).1 h in absurd (cc),
-    )
+    (omega (arith, c.max.ensures, c.if-uint_to_float_round_down-max.true)) in
+    grind (arith, common_steps, refused)
 
 pub returns-else-uint_to_float_round_down-max-clause-granted : goal.returns-else-uint_to_float_round_down-max-clause-granted
 returns-else-uint_to_float_round_down-max-clause-granted g c =
     let low = low_is c.args.size c.args.align _ (not_zero c.args.align c.requires.power) c.uint_to_float_round_up-smallest.ensures.is in
-    let classes = c.allocator.invariant.well.classes in
     let P : View → Type 0 = λ u. CanGrant (blocks_needed c.args.align) (units_needed c.args.size c.args.align) u → ⊥ in
     let none = subst P c.allocator.view_is (λ h. elim (cases_lt h.1.0 256)
     [ inl l ↦ h.1.2 (c.in-None.ensures.smallest h.1.0 (omega (arith, h.1.1)) l) | inr l ↦ h.1.2 (get_or_past _ h.1.0 [] (omega arith)) ]) in
@@ -126,8 +91,5 @@ returns-else-uint_to_float_round_down-max-clause-why g c =
     let free = total_is f c.allocator.invariant 0 0 ∙ ap (λ (v : View). sum (free_sizes v.blocks)) c.allocator.view_is in
     let total = enough (units_needed c.args.size c.args.align) c.allocator.inside.free_total c.uint_to_float_round_up-smallest.result c.uint_to_float_round_down.result
     (omega (arith, free, free_within c.args.allocator.now known.0, known.0.fits)) low c.uint_to_float_round_down.ensures.is
-    (omega (arith, c.max.ensures, c.if-uint_to_float_round_down-max.false)) in (
-      omega (arith, c.names_left.ensures, c.min-blocks.ensures, c.if-names_left-blocks.false),
-      omega (arith, total, free),
-      λ h. let e = (returns-else-uint_to_float_round_down-max-clause-granted g c).1 h in absurd (cc),
-    )
+    (omega (arith, c.max.ensures, c.if-uint_to_float_round_down-max.false)) in
+    grind (arith, common_steps, returns-else-uint_to_float_round_down-max-clause-granted)

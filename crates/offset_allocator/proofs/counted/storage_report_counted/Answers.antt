@@ -1,20 +1,12 @@
-use Rattle.std.proofs.lemmas.Grind.{common_steps}
-use Rattle.std.proofs.Common.{◌≡◌, ℕ, sym, subst, ◌<◌, ◌+◌, length, arith, false, ◌∙◌, refl}
-use Rattle.std.proofs.lemmas.Bool.Decides.{nat_tests}
-use Rattle.offset_allocator.specs.View.{View, total_free, largest_free, free_sizes, is_full}
-use Rattle.offset_allocator.proofs.Sound.{shown, Fields, AreSound, fields_of, known_sound}
-use Rattle.offset_allocator.specs.Reports.{largest}
-use Rattle.offset_allocator.proofs.Counting.{largest_none, largest_some}
-use Rattle.offset_allocator.proofs.Refusals.{is_open, total_is}
+use Rattle.offset_allocator.proofs.Common.{common_steps, ◌≡◌, ℕ, sym, subst, ◌<◌, ◌+◌, length, arith, ◌∙◌, refl, nat_tests, View, total_free, largest_free, free_sizes, largest}
+use Rattle.offset_allocator.proofs.{Sound.shown, Sound.Fields, Sound.AreSound, Sound.fields_of, Sound.known_sound, Counting.largest_none, Counting.largest_some, Refusals.is_open, Refusals.total_is}
 use Rattle.offset_allocator.proofs.counted.storage_report_counted.Goals.{in-None, in-Some}
 use Rattle.offset_allocator.proofs.counted.storage_report_counted.Goals as goal
 
 -- where two names are left, the report is of the free blocks
 open_report : (it : Fields) → AreSound it → length (shown it).blocks + 1 < it.limit → (r : ℕ) → r ≡ largest (free_sizes (shown it).blocks) → (it.free ≡ total_free (shown it))
     × (r ≡ largest_free (shown it))
-open_report it s room r e =
-    let short : is_full (shown it) ≡ false = grind (arith, nat_tests) in
-    (rw short (total_is it s 1 1), rw short e)
+open_report it s room r e = grind (arith, nat_tests, total_is)
 
 pub returns-clause-report : goal.returns-clause-report
 returns-clause-report g c =
@@ -31,13 +23,7 @@ returns-clause-report g c =
 pub returns-clause-accesses_min : goal.returns-clause-accesses_min
 returns-clause-accesses_min g c l =
     let r = (returns-clause-report g c).1 in
-    elim c.match-largest.branch [
-      | in-None w ↦ absurd (omega (arith, l, r, w.largest_free_region-is))
-      | in-Some w ↦ omega (arith, w.in-Some.ensures.accesses)
-    ]
+    grind (arith, common_steps, in-None, in-Some)
 
 pub returns-clause-accesses : goal.returns-clause-accesses
 returns-clause-accesses g c = (grind (arith, common_steps), grind (arith, common_steps))
-
-pub returns-then-names_left-lt2-clause-report : goal.returns-then-names_left-lt2-clause-report
-returns-then-names_left-lt2-clause-report g c = grind (arith, common_steps)

@@ -1,11 +1,6 @@
-use Rattle.std.proofs.lemmas.Grind.{common_steps}
-use Rattle.std.proofs.Common.{◌≡◌, ℕ, ◌+◌, ◌*◌, ◌%◌, ◌^◌, ◌≤◌, length, slice_index_or, subst, ap, ◌∙◌, arith}
+use Rattle.offset_allocator.proofs.Common.{◌≡◌, ℕ, ◌+◌, ◌*◌, ◌%◌, ◌^◌, ◌≤◌, length, slice_index_or, subst, ap, ◌∙◌, arith, value, count_of, View, free_sizes}
+use Rattle.offset_allocator.proofs.{Sound.shown, Sound.fields_of, Counting.length_names, Counting.accesses_most}
 use Rattle.offset_allocator.specs.declared.reports.StorageReportFullRegion.{StorageReportFullRegion}
-use Rattle.offset_allocator.specs.Classes.{value}
-use Rattle.offset_allocator.specs.Reports.{count_of}
-use Rattle.offset_allocator.specs.View.{View, free_sizes}
-use Rattle.offset_allocator.proofs.Sound.{shown, fields_of}
-use Rattle.offset_allocator.proofs.Counting.{length_names, accesses_most}
 use Rattle.offset_allocator.proofs.counted.storage_report_full_counted.Goals as goal
 
 pub returns-clause-report : goal.returns-clause-report
@@ -22,6 +17,3 @@ returns-clause-accesses g c =
     let most = subst P c.allocator.view_is (accesses_most (shown (record (fields_of g.T.Tables.cells g.T.Index.NodeIndex.MAX c.allocator.inside) { accesses = 0 })) c.allocator.invariant.well
     c.loop-class.class c.loop-class.count c.args.count.now (omega arith) c.loop-class.invariant.accesses) in
     (omega (arith, c.loop-class.invariant.grows), omega (arith, most))
-
-pub loop-class-preserved : goal.loop-class-preserved
-loop-class-preserved g c = grind (arith, common_steps)

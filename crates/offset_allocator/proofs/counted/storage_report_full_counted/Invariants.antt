@@ -1,9 +1,6 @@
-use Rattle.std.proofs.Common.{◌≡◌, ℕ, ◌+◌, ◌%◌, ◌^◌, ◌<◌, ◌≤◌, length, slice_index_or}
-use Rattle.offset_allocator.specs.declared.reports.StorageReportFullRegion.{StorageReportFullRegion}
-use Rattle.offset_allocator.specs.Classes.{value}
-use Rattle.offset_allocator.specs.View.{bin_at}
-use Rattle.offset_allocator.specs.Bins.{bins_in}
+use Rattle.offset_allocator.proofs.Common.{◌≡◌, ℕ, ◌+◌, ◌%◌, ◌^◌, ◌<◌, ◌≤◌, length, slice_index_or, value, bin_at, bins_in}
 use Rattle.offset_allocator.proofs.Counting.{names_below}
+use Rattle.offset_allocator.specs.declared.reports.StorageReportFullRegion.{StorageReportFullRegion}
 use Rattle.offset_allocator.proofs.counted.storage_report_full_counted.Given as goal
 
 abbrev pub invariant-loop-class : goal.invariant-loop-class

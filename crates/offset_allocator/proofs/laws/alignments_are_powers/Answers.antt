@@ -1,5 +1,4 @@
-use Rattle.std.proofs.Common.{inr}
-use Rattle.offset_allocator.proofs.Powers.{power_of_two}
+use Rattle.offset_allocator.proofs.{Common.inr, Powers.power_of_two}
 use Rattle.offset_allocator.proofs.laws.alignments_are_powers.Goals as goal
 
 pub returns : goal.returns

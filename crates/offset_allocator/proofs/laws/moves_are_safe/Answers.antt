@@ -1,5 +1,4 @@
-use Rattle.std.proofs.Common.{arith}
-use Rattle.offset_allocator.proofs.Packed.{safe}
+use Rattle.offset_allocator.proofs.{Common.arith, Packed.safe}
 use Rattle.offset_allocator.proofs.laws.moves_are_safe.Goals as goal
 
 pub returns : goal.returns

@@ -1,5 +1,4 @@
-use Rattle.std.proofs.Common.{refl}
-use Rattle.offset_allocator.proofs.Nodes.{length-put}
+use Rattle.offset_allocator.proofs.{Common.refl, Nodes.length-put}
 use Rattle.offset_allocator.proofs.neighbour_links.point_on.Goals as goal
 
 pub returns-in-Some-clause-nodes : goal.returns-in-Some-clause-nodes

@@ -1,9 +1,6 @@
-use Rattle.std.proofs.Common.{◌≡◌, ◌+◌, refl, sym, ap, arith, ◌∙◌}
-use Rattle.offset_allocator.specs.Cells.{Node, node}
-use Rattle.offset_allocator.specs.View.{push}
-use Rattle.offset_allocator.proofs.Classes.{down_small}
+use Rattle.offset_allocator.proofs.Common.{◌≡◌, ◌+◌, refl, sym, ap, arith, ◌∙◌, Node, node, push}
 use Rattle.offset_allocator.proofs.Places.{at_place, next_place, previous_place, kept_before, kept_after, kept_place, free_before, free_after, before_fits, after_fits}
-use Rattle.offset_allocator.proofs.Filed.{unlisted, previous_filed, next_filed, filed_before, next_same}
+use Rattle.offset_allocator.proofs.{Classes.down_small, Filed.unlisted, Filed.previous_filed, Filed.next_filed, Filed.filed_before, Filed.next_same}
 use Rattle.offset_allocator.proofs.neighbours.coalesce.Goals as goal
 use Rattle.offset_allocator.proofs.neighbours.coalesce.Goals.{in-Some, in_default+in-Some-free_before}
 
@@ -24,12 +21,10 @@ pub coalesce_after-requires-clause-place : goal.coalesce_after-requires-clause-p
 coalesce_after-requires-clause-place g c = (_, _, c.with_before-size.ensures.place _ _ c.requires.place.2)
 
 pub coalesce_after-requires-clause-next : goal.coalesce_after-requires-clause-next
-coalesce_after-requires-clause-next g c =
-    let h = c.requires.place.2 in (next_same h (c.with_before-size.ensures.place _ _ h) refl c.in-Some.ensures.free.0).0
+coalesce_after-requires-clause-next g c = let h = c.requires.place.2 in (next_same h (c.with_before-size.ensures.place _ _ h) refl c.in-Some.ensures.free.0).0
 
 pub coalesce_after-requires-clause-free : goal.coalesce_after-requires-clause-free
-coalesce_after-requires-clause-free g c =
-    let h = c.requires.place.2 in (next_same h (c.with_before-size.ensures.place _ _ h) refl c.in-Some.ensures.free.0).1 ∙ c.in-Some.ensures.free.1
+coalesce_after-requires-clause-free g c = let h = c.requires.place.2 in (next_same h (c.with_before-size.ensures.place _ _ h) refl c.in-Some.ensures.free.0).1 ∙ c.in-Some.ensures.free.1
 
 -- a free block before it alone
 pub size-more-requires-in-Some-free_before : goal.size-more-requires-in-Some-free_before
@@ -148,29 +143,8 @@ free_after-next-requires g c = record { place = (_, _, _, _, c.requires.place.2)
 pub free_before-requires : goal.free_before-requires
 free_before-requires g c = record { place = (_, _, _, _, c.requires.place.2) }
 
-pub with_before-size-requires-clause-place : goal.with_before-size-requires-clause-place
-with_before-size-requires-clause-place g c = c.requires.place
-
-pub with_before-size-requires-clause-held : goal.with_before-size-requires-clause-held
-with_before-size-requires-clause-held g c = c.requires.held
-
-pub with_before-size-requires-clause-size : goal.with_before-size-requires-clause-size
-with_before-size-requires-clause-size g c = c.requires.size
-
-pub coalesce_before-requires-clause-place : goal.coalesce_before-requires-clause-place
-coalesce_before-requires-clause-place g c = (_, _, c.requires.place.2)
-
-pub coalesce_before-requires-clause-previous : goal.coalesce_before-requires-clause-previous
-coalesce_before-requires-clause-previous g c = c.in-Some-free_before.ensures.free.0
-
-pub coalesce_before-requires-clause-free : goal.coalesce_before-requires-clause-free
-coalesce_before-requires-clause-free g c = c.in-Some-free_before.ensures.free.1
-
 pub returns-clause-held : goal.returns-clause-held
 returns-clause-held g c = c.exchange.ensures.held
 
 pub exchange-requires-clause-held : goal.exchange-requires-clause-held
-exchange-requires-clause-held g c = elim c.match-next.branch [
-  | in-Some w ↦ rw (w.store-is, w.coalesce_after.ensures.bins.0, w.coalesce_after.ensures.bins.1) w.with_before-size.ensures.held
-  | in_default+in-Some-free_before w ↦ rw (w.store-is, w.coalesce_before.ensures.bins.0, w.coalesce_before.ensures.bins.1) c.requires.held
-]
+exchange-requires-clause-held g c = grind (arith, in-Some, in_default+in-Some-free_before)

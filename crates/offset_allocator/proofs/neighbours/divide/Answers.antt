@@ -1,13 +1,7 @@
-use Rattle.std.proofs.Common.{◌≡◌, ◌∙◌, List, refl, ap, arith, inl, inr, eq-zero-or-pos, sym}
-use Rattle.offset_allocator.specs.Cells.{Node}
-use Rattle.offset_allocator.specs.View.{Block, free_part, push_all}
-use Rattle.offset_allocator.specs.Bins.{IsBinned, IsUnlisted, bins_in}
-use Rattle.offset_allocator.proofs.Pieces.{padded_unlisted, pushed_parts, unlisted_part}
-use Rattle.offset_allocator.proofs.Places.{at_place}
-use Rattle.offset_allocator.proofs.Tallies.{part_sums, units-append}
+use Rattle.offset_allocator.proofs.Common.{◌≡◌, ◌∙◌, List, refl, ap, arith, eq-zero-or-pos, sym, Node, Block, free_part, push_all, IsBinned, IsUnlisted, bins_in}
+use Rattle.offset_allocator.proofs.{Pieces.padded_unlisted, Pieces.pushed_parts, Pieces.unlisted_part, Places.at_place, Tallies.part_sums, Tallies.units-append}
 use Rattle.offset_allocator.proofs.neighbours.divide.Goals as goal
-use Rattle.offset_allocator.proofs.neighbours.divide.Goals.{After-mark}
-use Rattle.offset_allocator.proofs.neighbours.divide.Given.{Over}
+use Rattle.offset_allocator.proofs.neighbours.divide.{Goals.After-mark, Given.Over}
 
 pub split_padding-front-requires-clause-place : goal.split_padding-front-requires-clause-place
 split_padding-front-requires-clause-place g c = (_, _, c.requires.place.2, c.requires.place.3)
@@ -31,10 +25,7 @@ pub split_remainder-rest-requires-clause-held : goal.split_remainder-rest-requir
 split_remainder-rest-requires-clause-held g c = (marked g (goal.at.split_remainder-rest-requires-clause-held g c).After-mark).0
 
 pub split_remainder-rest-requires-clause-spare : goal.split_remainder-rest-requires-clause-spare
-split_remainder-rest-requires-clause-spare g c = elim (eq-zero-or-pos c.args.padding) [
-  | inl z ↦ omega (arith, c.requires.spare, c.split_padding-front.ensures.spares_kept z)
-  | inr l ↦ omega (arith, c.requires.two l, c.split_padding-front.ensures.spares)
-]
+split_remainder-rest-requires-clause-spare g c = grind (arith, eq-zero-or-pos)
 
 pub split_remainder-rest-requires-clause-place : goal.split_remainder-rest-requires-clause-place
 split_remainder-rest-requires-clause-place g c =

@@ -1,5 +1,4 @@
-use Rattle.std.proofs.Common.{sym}
-use Rattle.offset_allocator.proofs.Places.{next_place, used_after, none_after}
+use Rattle.offset_allocator.proofs.{Common.sym, Places.next_place, Places.used_after, Places.none_after}
 use Rattle.offset_allocator.proofs.neighbours.free_after.Goals as goal
 
 pub is_used-requires : goal.is_used-requires

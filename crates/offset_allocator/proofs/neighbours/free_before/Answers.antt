@@ -1,5 +1,4 @@
-use Rattle.std.proofs.Common.{sym}
-use Rattle.offset_allocator.proofs.Places.{previous_place, used_before, none_before}
+use Rattle.offset_allocator.proofs.{Common.sym, Places.previous_place, Places.used_before, Places.none_before}
 use Rattle.offset_allocator.proofs.neighbours.free_before.Goals as goal
 
 pub is_used-requires : goal.is_used-requires

@@ -1,12 +1,7 @@
-use Rattle.std.proofs.Common.{◌≡◌, ◌∙◌, ℕ, ◌+◌, ◌-◌, ◌<◌, ap, arith}
-use Rattle.offset_allocator.specs.Cells.{Node}
-use Rattle.offset_allocator.specs.View.{Place, units, free_start}
-use Rattle.offset_allocator.proofs.Filed.{unlisted_after}
-use Rattle.offset_allocator.proofs.Places.{at_place}
-use Rattle.offset_allocator.specs.Chain.{HasPlace}
+use Rattle.offset_allocator.proofs.Common.{◌≡◌, ◌∙◌, ℕ, ◌+◌, ◌-◌, ◌<◌, ap, arith, Node, Place, units, free_start, HasPlace}
+use Rattle.offset_allocator.proofs.{Filed.unlisted_after, Places.at_place}
 use Rattle.offset_allocator.proofs.neighbours.resize.Goals as goal
-use Rattle.offset_allocator.proofs.neighbours.resize.Goals.{After-with_after-whole}
-use Rattle.offset_allocator.proofs.neighbours.resize.Given.{Over}
+use Rattle.offset_allocator.proofs.neighbours.resize.{Goals.After-with_after-whole, Given.Over}
 
 -- the size of the whole block
 whole : (g : Over) (c : After-with_after-whole g) (p : Place) {m : ℕ} → HasPlace (g.T.Tables.cells c.args.store.now.tables).room m c.args.store.now.last c.args.store.now.spare_count c.args.name p
@@ -25,20 +20,13 @@ split_remainder-requires-clause-place g c =
     (_, _, c.with_after-whole.ensures.place _ _ r.2, rw (c.with_after-whole.ensures.lists _ _ r.2) (unlisted_after r.2 _ r.3 c.requires.held.linked.lists_len _))
 
 pub split_remainder-requires-clause-whole : goal.split_remainder-requires-clause-whole
-split_remainder-requires-clause-whole g c = omega (
-  arith,
-  whole g (goal.at.split_remainder-requires-clause-whole g c).After-with_after-whole _ c.requires.place.2,
-  c.requires.place.4,
-  c.with_after-whole.ensures.size,
-)
+split_remainder-requires-clause-whole g c = grind (arith, whole)
 
 pub returns-clause-place : goal.returns-clause-place
-returns-clause-place g c m p h =
-    rw (← whole g (goal.at.returns-clause-place g c).After-with_after-whole p h) (c.split_remainder.ensures.place _ _ (c.with_after-whole.ensures.place _ _ h))
+returns-clause-place g c m p h = rw (← whole g (goal.at.returns-clause-place g c).After-with_after-whole p h) (c.split_remainder.ensures.place _ _ (c.with_after-whole.ensures.place _ _ h))
 
 pub returns-clause-lists : goal.returns-clause-lists
-returns-clause-lists g c m p h =
-    rw (← whole g (goal.at.returns-clause-lists g c).After-with_after-whole p h, ← c.with_after-whole.ensures.lists _ _ h) c.split_remainder.ensures.lists
+returns-clause-lists g c m p h = grind (arith, whole)
 
 pub returns-clause-accesses_less : goal.returns-clause-accesses_less
 returns-clause-accesses_less g c l =

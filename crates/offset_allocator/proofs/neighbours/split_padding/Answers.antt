@@ -1,7 +1,4 @@
-use Rattle.std.proofs.Common.{arith}
-use Rattle.offset_allocator.proofs.Pieces.{no_padding, some_part}
-use Rattle.offset_allocator.proofs.Places.{previous_idle}
-use Rattle.offset_allocator.proofs.Classes.{down_small}
+use Rattle.offset_allocator.proofs.{Common.arith, Pieces.no_padding, Pieces.some_part, Places.previous_idle, Classes.down_small}
 use Rattle.offset_allocator.proofs.neighbours.split_padding.Goals as goal
 
 pub returns-then-units-eq0-clause-place : goal.returns-then-units-eq0-clause-place
@@ -12,10 +9,6 @@ split_before-front-requires-clause-place g c = (_, _, c.requires.place.2)
 
 pub push-requires-clause-classed : goal.push-requires-clause-classed
 push-requires-clause-classed g c = omega (arith, down_small c.args.units, c.uint_to_float_round_down.ensures.is)
-
-pub push-requires-clause-unlisted : goal.push-requires-clause-unlisted
-push-requires-clause-unlisted g c =
-    rw c.split_before-front.ensures.bins.0 (c.requires.place.3 _ (c.split_before-front.ensures.fresh _ _ c.requires.place.2))
 
 pub push-requires-clause-idle : goal.push-requires-clause-idle
 push-requires-clause-idle g c = previous_idle c.split_before-front.result c.args.units c.requires.place.1.before (c.split_before-front.ensures.place _ _ c.requires.place.2)

@@ -1,8 +1,5 @@
-use Rattle.std.proofs.Common.{◌≡◌, ◌-◌, ap, arith}
-use Rattle.offset_allocator.specs.Cells.{Node}
-use Rattle.offset_allocator.proofs.Pieces.{no_remainder, some_part}
-use Rattle.offset_allocator.proofs.Places.{at_place, end_fits, next_idle}
-use Rattle.offset_allocator.proofs.Classes.{down_small}
+use Rattle.offset_allocator.proofs.Common.{◌≡◌, ◌-◌, ap, arith, Node}
+use Rattle.offset_allocator.proofs.{Pieces.no_remainder, Pieces.some_part, Places.at_place, Places.end_fits, Places.next_idle, Classes.down_small}
 use Rattle.offset_allocator.proofs.neighbours.split_remainder.Goals as goal
 
 pub returns-then-left-eq0-clause-place : goal.returns-then-left-eq0-clause-place

@@ -1,6 +1,4 @@
-use Rattle.std.proofs.Common.{sym, ap, ◌∙◌}
-use Rattle.offset_allocator.specs.View.{units}
-use Rattle.offset_allocator.proofs.Places.{next_place, free_after}
+use Rattle.offset_allocator.proofs.{Common.sym, Common.ap, Common.◌∙◌, Common.units, Places.next_place, Places.free_after}
 use Rattle.offset_allocator.proofs.neighbours.units_after.Goals as goal
 
 pub size-requires : goal.size-requires

@@ -1,7 +1,5 @@
-use Rattle.std.proofs.Common.{refl, sym, ap, arith}
-use Rattle.offset_allocator.specs.Cells.{Node}
-use Rattle.offset_allocator.proofs.Places.{at_place, next_place, kept_after, free_after, after_fits, kept_place}
-use Rattle.offset_allocator.proofs.Filed.{next_filed}
+use Rattle.offset_allocator.proofs.Common.{refl, sym, ap, arith, Node}
+use Rattle.offset_allocator.proofs.{Places.at_place, Places.next_place, Places.kept_after, Places.free_after, Places.after_fits, Places.kept_place, Filed.next_filed}
 use Rattle.offset_allocator.proofs.neighbours.with_after.Goals as goal
 
 pub returns-in-None-clause-place : goal.returns-in-None-clause-place

@@ -1,7 +1,5 @@
-use Rattle.std.proofs.Common.{refl, sym, ap, arith}
-use Rattle.offset_allocator.specs.Cells.{Node}
-use Rattle.offset_allocator.proofs.Places.{at_place, previous_place, kept_before, free_before, before_fits, kept_place}
-use Rattle.offset_allocator.proofs.Filed.{previous_filed}
+use Rattle.offset_allocator.proofs.Common.{refl, sym, ap, arith, Node}
+use Rattle.offset_allocator.proofs.{Places.at_place, Places.previous_place, Places.kept_before, Places.free_before, Places.before_fits, Places.kept_place, Filed.previous_filed}
 use Rattle.offset_allocator.proofs.neighbours.with_before.Goals as goal
 
 pub size-more-requires : goal.size-more-requires
@@ -11,8 +9,7 @@ pub overflow_add-whole : goal.overflow_add-whole
 overflow_add-whole g c = omega (arith, c.size-more.ensures.size, c.requires.size, before_fits c.requires.place.2 c.in-Some.ensures.free.0)
 
 pub remove-requires-clause-listed : goal.remove-requires-clause-listed
-remove-requires-clause-listed g c =
-    rw c.size-more.ensures.size (previous_filed c.requires.place.2 _ c.requires.place.3 c.in-Some.ensures.free.0 c.in-Some.ensures.free.1)
+remove-requires-clause-listed g c = rw c.size-more.ensures.size (previous_filed c.requires.place.2 _ c.requires.place.3 c.in-Some.ensures.free.0 c.in-Some.ensures.free.1)
 
 pub returns-in-Some-clause-place : goal.returns-in-Some-clause-place
 returns-in-Some-clause-place g c m p h = c.coalesce_before.ensures.place _ p (kept_place c.remove.ensures.chain h)

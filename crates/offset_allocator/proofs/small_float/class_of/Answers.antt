@@ -1,5 +1,4 @@
-use Rattle.std.proofs.Common.{arith}
-use Rattle.offset_allocator.proofs.Classes.{down_small, class_code}
+use Rattle.offset_allocator.proofs.{Common.arith, Classes.down_small, Classes.class_code}
 use Rattle.offset_allocator.proofs.small_float.class_of.Goals as goal
 
 pub overflow_add-result : goal.overflow_add-result

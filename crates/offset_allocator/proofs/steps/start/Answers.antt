@@ -1,22 +1,6 @@
-use Rattle.std.proofs.Common.{◌≡◌, ap, ◌∙◌, arith, ℕ, List, [], replicate}
-use Rattle.offset_allocator.specs.View.{push}
-use Rattle.offset_allocator.specs.Bins.{bins_in}
-use Rattle.offset_allocator.proofs.Classes.{down_small}
-use Rattle.offset_allocator.proofs.Fresh.{empty_unlisted, first_idle, started}
+use Rattle.offset_allocator.proofs.Common.{◌≡◌, ap, ◌∙◌, arith, ℕ, List, [], replicate, push, bins_in, common_steps}
+use Rattle.offset_allocator.proofs.{Classes.down_small, Fresh.empty_unlisted, Fresh.first_idle, Fresh.started}
 use Rattle.offset_allocator.proofs.steps.start.Goals as goal
-
-pub push-requires-clause-named : goal.push-requires-clause-named
-push-requires-clause-named g c = omega (arith, c.start.ensures.node)
-
-pub push-requires-clause-idle : goal.push-requires-clause-idle
-push-requires-clause-idle g c = first_idle c.start.ensures.space c.start.ensures.blocks
-
-pub push-requires-clause-classed : goal.push-requires-clause-classed
-push-requires-clause-classed g c =
-    let s = down_small c.args.size in omega (arith, s, c.uint_to_float_round_down.ensures.is)
-
-pub push-requires-clause-unlisted : goal.push-requires-clause-unlisted
-push-requires-clause-unlisted g c = empty_unlisted 0 (rw c.start.ensures.links c.requires.empty)
 
 pub returns-clause-started : goal.returns-clause-started
 returns-clause-started g c =
@@ -27,5 +11,5 @@ returns-clause-started g c =
     (rw c.push.ensures.chain.0 c.start.ensures.reserved) (rw c.push.ensures.chain.0 c.start.ensures.space) (rw c.push.ensures.chain.0 c.start.ensures.blocks) c.push.ensures.held order in
     record { sound = done.0; view = done.1 }
 
-pub push-requires-clause-held : goal.push-requires-clause-held
-push-requires-clause-held g c = rw c.start.ensures.links c.requires.held
+pub push-requires : goal.push-requires
+push-requires g c = grind (arith, common_steps, first_idle, down_small, empty_unlisted)

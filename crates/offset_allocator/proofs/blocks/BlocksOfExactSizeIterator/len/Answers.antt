@@ -1,5 +1,4 @@
-use Rattle.std.proofs.Common.{sym, ap, length, ◌∙◌}
-use Rattle.offset_allocator.proofs.Listing.{length-left}
+use Rattle.offset_allocator.proofs.{Common.sym, Common.ap, Common.length, Common.◌∙◌, Listing.length-left}
 use Rattle.offset_allocator.proofs.blocks.BlocksOfExactSizeIterator.len.Goals as goal
 
 pub returns-clause-value : goal.returns-clause-value

@@ -1,9 +1,5 @@
-use Rattle.std.proofs.Common.{ap, length, arith}
-use Rattle.offset_allocator.proofs.Listing.{length-left}
+use Rattle.offset_allocator.proofs.{Common.arith, Common.common_steps, Listing.length-left}
 use Rattle.offset_allocator.proofs.blocks.BlocksOfIterator.size_hint.Goals as goal
 
-pub returns-clause-lower : goal.returns-clause-lower
-returns-clause-lower g c h = omega (arith, length-left c.self.inside.left c.self.inside.allocator.now.blocks c.self.invariant.0, ap length c.self.view_is)
-
-pub returns-clause-upper : goal.returns-clause-upper
-returns-clause-upper g c = (tt, omega (arith, length-left c.self.inside.left c.self.inside.allocator.now.blocks c.self.invariant.0, ap length c.self.view_is))
+pub returns : goal.returns
+returns g c = grind (arith, common_steps, length-left)

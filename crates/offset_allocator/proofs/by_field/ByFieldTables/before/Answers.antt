@@ -1,7 +1,4 @@
-use Rattle.std.proofs.Common.{◌∙◌, ap, sym, arith}
-use Rattle.std.proofs.lemmas.List.{get_or-map}
-use Rattle.offset_allocator.specs.Cells.{link_of}
-use Rattle.offset_allocator.proofs.Fields.{read, within, bound-before}
+use Rattle.offset_allocator.proofs.{Common.◌∙◌, Common.ap, Common.sym, Common.arith, Common.get_or-map, Common.link_of, Fields.read, Fields.within, Fields.bound-before}
 use Rattle.offset_allocator.proofs.by_field.ByFieldTables.before.Goals as goal
 
 pub returns-clause-cell : goal.returns-clause-cell

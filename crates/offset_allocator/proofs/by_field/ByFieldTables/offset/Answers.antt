@@ -1,6 +1,4 @@
-use Rattle.std.proofs.Common.{◌∙◌, ap, sym}
-use Rattle.std.proofs.lemmas.Grind.{get_or_default_zero}
-use Rattle.offset_allocator.proofs.Fields.{read, within, bound-offset}
+use Rattle.offset_allocator.proofs.{Common.◌∙◌, Common.ap, Common.sym, Common.get_or_default_zero, Fields.read, Fields.within, Fields.bound-offset}
 use Rattle.offset_allocator.proofs.by_field.ByFieldTables.offset.Goals as goal
 
 pub returns-clause-cell : goal.returns-clause-cell

@@ -1,7 +1,4 @@
-use Rattle.std.proofs.Common.{◌≡◌, ◌≢◌, ℕ, map, set, refl, arith}
-use Rattle.std.proofs.lemmas.List.{length-set}
-use Rattle.offset_allocator.specs.Cells.{Node, link_of}
-use Rattle.offset_allocator.specs.Layouts.{FieldTables, node_in, field_tables}
+use Rattle.offset_allocator.proofs.Common.{◌≡◌, ◌≢◌, ℕ, map, set, refl, arith, length-set, Node, link_of, FieldTables, node_in, field_tables}
 use Rattle.offset_allocator.proofs.Fields.{other, at, within, wrote-room, level_kept, bound-before}
 use Rattle.offset_allocator.proofs.by_field.ByFieldTables.set_before.Goals as goal
 
@@ -20,8 +17,7 @@ returns-clause-cells g c =
     wrote-room _ _ t c.self.view_is u x (λ (n : Node). record n { before = link_of max (g.NI.NodeIndex.number c.args.link) }) c.requires refl refl off is
 
 pub invariant_of-self : goal.invariant_of-self
-invariant_of-self g c = level_kept _ c.self.inside _ c.self.invariant refl refl (length-set c.self.inside.before.items c.args.name c.args.link) refl refl refl refl refl refl refl
-    refl refl refl refl refl refl
+invariant_of-self g c = grind (arith, level_kept, length-set)
 
 pub index_mut-requires : goal.index_mut-requires
 index_mut-requires g c = bound-before _ _ c.self.inside c.self.view_is c.self.invariant c.args.name c.requires

@@ -1,7 +1,4 @@
-use Rattle.std.proofs.Common.{◌<◌, ◌∙◌, ℕ, List, ap, length, map, set, arith, refl}
-use Rattle.std.proofs.lemmas.List.{length-map, length-set, map-set}
-use Rattle.offset_allocator.specs.Cells.{Cells}
-use Rattle.offset_allocator.specs.Layouts.{field_tables}
+use Rattle.offset_allocator.proofs.Common.{◌<◌, ◌∙◌, ℕ, List, ap, length, map, set, arith, length-map, length-set, map-set, Cells, common_steps}
 use Rattle.offset_allocator.proofs.Fields.{length-nodes_in, wrote-newer, level_kept, bound-newer}
 use Rattle.offset_allocator.proofs.by_field.ByFieldTables.set_newer.Goals as goal
 
@@ -9,24 +6,14 @@ pub returns-clause-cells : goal.returns-clause-cells
 returns-clause-cells g c =
     let t = c.self.inside in
     let even = length-map t.newer.items g.NI.NodeIndex.number ∙ c.self.invariant.newer in
-    let named : c.args.name < length c.args.self.now.room.nodes =
-    omega (
-      arith,
-      c.requires.name,
-      ap (λ (v : Cells). length v.links.newer) c.self.view_is,
-      ap (λ (v : Cells). length v.room.nodes) c.self.view_is,
-      length-map t.newer.items g.NI.NodeIndex.number,
-      length-nodes_in g.NI.NodeIndex.MAX (field_tables g.NI.NodeIndex.number t),
-      c.self.invariant.newer,
-    ) in
+    let named : c.args.name < length c.args.self.now.room.nodes = grind (arith, common_steps, length-map, length-nodes_in) in
     let newer = map-set g.NI.NodeIndex.number t.newer.items c.args.name c.args.link in
     rw newer (wrote-newer _ _ t c.self.view_is c.args.name (g.NI.NodeIndex.number c.args.link) (map g.NI.NodeIndex.number t.older.items) named even c.requires.idle c.requires.link)
     ∙ ap (λ (l : List ℕ). record c.args.self.now { links = record c.args.self.now.links { newer = set c.args.self.now.links.newer c.args.name (g.NI.NodeIndex.number c.args.link); older = l } })
     (ap (λ (v : Cells). v.links.older) c.self.view_is)
 
 pub invariant_of-self : goal.invariant_of-self
-invariant_of-self g c = level_kept _ c.self.inside _ c.self.invariant refl refl refl refl (length-set c.self.inside.newer.items c.args.name c.args.link) refl refl refl refl refl
-    refl refl refl refl refl refl
+invariant_of-self g c = grind (arith, level_kept, length-set)
 
 pub index_mut-requires : goal.index_mut-requires
 index_mut-requires g c = bound-newer _ _ c.self.inside c.self.view_is c.args.name c.requires.name

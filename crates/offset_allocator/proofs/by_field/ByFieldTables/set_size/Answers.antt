@@ -1,7 +1,4 @@
-use Rattle.std.proofs.Common.{◌≡◌, ◌≢◌, ℕ, set, refl, arith}
-use Rattle.std.proofs.lemmas.List.{get_or-set_same, get_or-set_other, length-set}
-use Rattle.offset_allocator.specs.Cells.{Node}
-use Rattle.offset_allocator.specs.Layouts.{FieldTables, node_in, field_tables}
+use Rattle.offset_allocator.proofs.Common.{◌≡◌, ◌≢◌, ℕ, set, refl, arith, get_or-set_same, get_or-set_other, length-set, Node, FieldTables, node_in, field_tables}
 use Rattle.offset_allocator.proofs.Fields.{within, wrote-room, level_kept, bound-size}
 use Rattle.offset_allocator.proofs.by_field.ByFieldTables.set_size.Goals as goal
 
@@ -19,8 +16,7 @@ returns-clause-cells g c =
     wrote-room _ _ t c.self.view_is u x (λ (n : Node). record n { size = c.args.size }) c.requires refl refl off is
 
 pub invariant_of-self : goal.invariant_of-self
-invariant_of-self g c = level_kept _ c.self.inside _ c.self.invariant refl (length-set c.self.inside.size.items c.args.name c.args.size) refl refl refl refl refl refl refl refl
-    refl refl refl refl refl refl
+invariant_of-self g c = grind (arith, level_kept, length-set)
 
 pub index_mut-requires : goal.index_mut-requires
 index_mut-requires g c = bound-size _ _ c.self.inside c.self.view_is c.self.invariant c.args.name c.requires

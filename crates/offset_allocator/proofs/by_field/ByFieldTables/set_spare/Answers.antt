@@ -1,6 +1,4 @@
-use Rattle.std.proofs.lemmas.List.{map-set}
-use Rattle.offset_allocator.specs.Cells.{with_spare}
-use Rattle.offset_allocator.proofs.Fields.{bound-spare}
+use Rattle.offset_allocator.proofs.{Common.map-set, Common.with_spare, Fields.bound-spare}
 use Rattle.offset_allocator.proofs.by_field.ByFieldTables.set_spare.Goals as goal
 
 pub returns-clause-cells : goal.returns-clause-cells

@@ -1,14 +1,10 @@
-use Rattle.std.proofs.Common.{◌≡◌, ◌≢◌, ℕ, map, set, refl, arith}
-use Rattle.std.proofs.lemmas.List.{get_or-set_same, get_or-set_other, length-set}
-use Rattle.offset_allocator.specs.Cells.{Node, link_of}
-use Rattle.offset_allocator.specs.Layouts.{FieldTables, node_in, field_tables}
+use Rattle.offset_allocator.proofs.Common.{◌≡◌, ◌≢◌, ℕ, map, set, refl, arith, get_or-set_same, get_or-set_other, length-set, Node, link_of, FieldTables, node_in, field_tables, common_steps}
 use Rattle.offset_allocator.proofs.Fields.{other, at, within, wrote-room, level_kept, bound-offset, bound-size, bound-before}
 use Rattle.offset_allocator.proofs.by_field.ByFieldTables.set_start.Goals as goal
 
 pub returns-clause-cells : goal.returns-clause-cells
 returns-clause-cells g c =
     let t = c.self.inside in
-    let h = c.self.invariant in
     let max : ℕ = g.NI.NodeIndex.MAX in
     let x : ℕ = c.args.name in
     let fs : FieldTables = field_tables g.NI.NodeIndex.number t in
@@ -17,17 +13,12 @@ returns-clause-cells g c =
     let off : (i : ℕ) → i ≢ x → node_in max u i ≡ node_in max fs i =
     λ i ne. rw (get_or-set_other t.offset.items x i c.args.offset 0 ne, get_or-set_other t.size.items x i c.args.size 0 ne, other g.NI.NodeIndex.number t.before.items x c.args.link i ne) refl in
     let is : node_in max u x ≡ record (node_in max fs x) { offset = c.args.offset; size = c.args.size; before = link_of max (g.NI.NodeIndex.number c.args.link) } =
-    rw (
-      get_or-set_same t.offset.items x c.args.offset 0 short,
-      get_or-set_same t.size.items x c.args.size 0 (omega (arith, short, h.size)),
-      at g.NI.NodeIndex.number t.before.items x c.args.link (omega (arith, short, h.before)),
-    ) refl in
+    grind (arith, common_steps, get_or-set_same, at) in
     wrote-room _ _ t c.self.view_is u x (λ (n : Node). record n { offset = c.args.offset; size = c.args.size; before = link_of max (g.NI.NodeIndex.number c.args.link) }) c.requires
     (length-set t.offset.items x c.args.offset) refl off is
 
 pub invariant_of-self : goal.invariant_of-self
-invariant_of-self g c = level_kept _ c.self.inside _ c.self.invariant (length-set c.self.inside.offset.items c.args.name c.args.offset) (length-set c.self.inside.size.items c.args.name c.args.size)
-    (length-set c.self.inside.before.items c.args.name c.args.link) refl refl refl refl refl refl refl refl refl refl refl refl refl
+invariant_of-self g c = grind (arith, level_kept, length-set)
 
 pub index_mut-requires : goal.index_mut-requires
 index_mut-requires g c = bound-offset _ _ c.self.inside c.self.view_is c.args.name c.requires

@@ -1,6 +1,4 @@
-use Rattle.std.proofs.Common.{◌∙◌, ap, sym, arith}
-use Rattle.std.proofs.lemmas.Grind.{get_or_default_zero}
-use Rattle.offset_allocator.proofs.Fields.{read, within, bound-size}
+use Rattle.offset_allocator.proofs.{Common.◌∙◌, Common.ap, Common.sym, Common.arith, Common.get_or_default_zero, Fields.read, Fields.within, Fields.bound-size}
 use Rattle.offset_allocator.proofs.by_field.ByFieldTables.size.Goals as goal
 
 pub returns-clause-cell : goal.returns-clause-cell

@@ -1,5 +1,4 @@
-use Rattle.std.proofs.Common.{ap, sym}
-use Rattle.offset_allocator.proofs.Entries.{read, bound}
+use Rattle.offset_allocator.proofs.{Common.ap, Common.sym, Entries.read, Entries.bound}
 use Rattle.offset_allocator.proofs.by_node.ByNodeTables.offset.Goals as goal
 
 pub returns-clause-cell : goal.returns-clause-cell

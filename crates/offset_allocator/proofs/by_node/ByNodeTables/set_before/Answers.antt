@@ -1,6 +1,4 @@
-use Rattle.std.proofs.Common.{refl}
-use Rattle.offset_allocator.specs.Cells.{Node, link_of}
-use Rattle.offset_allocator.proofs.Entries.{wrote-room, even_set, bound}
+use Rattle.offset_allocator.proofs.{Common.refl, Common.Node, Common.link_of, Entries.wrote-room, Entries.even_set, Entries.bound}
 use Rattle.offset_allocator.proofs.by_node.ByNodeTables.set_before.Goals as goal
 
 pub returns-clause-cells : goal.returns-clause-cells

@@ -1,6 +1,4 @@
-use Rattle.std.proofs.Common.{◌∙◌, Bool, ap, refl}
-use Rattle.offset_allocator.specs.Cells.{Node, put, link_of}
-use Rattle.offset_allocator.proofs.Entries.{wrote-room, even_set, bound}
+use Rattle.offset_allocator.proofs.{Common.◌∙◌, Common.Bool, Common.ap, Common.refl, Common.Node, Common.put, Common.link_of, Entries.wrote-room, Entries.even_set, Entries.bound}
 use Rattle.offset_allocator.proofs.by_node.ByNodeTables.set_block.Goals as goal
 
 pub returns-clause-cells : goal.returns-clause-cells

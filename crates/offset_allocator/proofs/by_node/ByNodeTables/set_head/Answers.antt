@@ -1,6 +1,4 @@
-use Rattle.std.proofs.Common.{refl}
-use Rattle.std.proofs.lemmas.List.{length-set}
-use Rattle.offset_allocator.proofs.Entries.{even_kept}
+use Rattle.offset_allocator.proofs.{Common.refl, Common.length-set, Entries.even_kept}
 use Rattle.offset_allocator.proofs.by_node.ByNodeTables.set_head.Goals as goal
 
 pub invariant_of-self : goal.invariant_of-self

@@ -1,7 +1,4 @@
-use Rattle.std.proofs.Common.{refl}
-use Rattle.std.proofs.lemmas.List.{length-set, map-set}
-use Rattle.offset_allocator.specs.Cells.{with_spare}
-use Rattle.offset_allocator.proofs.Entries.{bound-spare, even_kept}
+use Rattle.offset_allocator.proofs.{Common.refl, Common.length-set, Common.map-set, Common.with_spare, Entries.bound-spare, Entries.even_kept}
 use Rattle.offset_allocator.proofs.by_node.ByNodeTables.set_spare.Goals as goal
 
 pub returns-clause-cells : goal.returns-clause-cells

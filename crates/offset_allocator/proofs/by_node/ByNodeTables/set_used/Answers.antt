@@ -1,11 +1,8 @@
-use Rattle.std.proofs.Common.{arith}
-use Rattle.offset_allocator.proofs.Entries.{wrote-used, even_set, bound}
+use Rattle.offset_allocator.proofs.{Common.arith, Entries.wrote-used, Entries.even_set, Entries.bound}
 use Rattle.offset_allocator.proofs.by_node.ByNodeTables.set_used.Goals as goal
 
 pub returns-clause-cells : goal.returns-clause-cells
-returns-clause-cells g c =
-    let h = c.self.invariant in
-    wrote-used _ _ c.self.inside c.self.view_is c.args.name c.index_mut.result.now c.mark.result c.args.used (omega (arith, h.limit)) c.requires c.index_mut.ensures.value c.mark.ensures
+returns-clause-cells g c = grind (arith, wrote-used)
 
 pub invariant_of-self : goal.invariant_of-self
 invariant_of-self g c = even_set _ c.self.inside c.self.invariant c.args.name _

@@ -1,9 +1,0 @@
-use Rattle.std.proofs.Common.{arith}
-use Rattle.std.proofs.lemmas.Grind.{common_steps}
-use Rattle.offset_allocator.proofs.counted.is_live_counted.Goals as goal
-
-pub returns-clause-accesses_min : goal.returns-clause-accesses_min
-returns-clause-accesses_min g c = grind (arith, common_steps)
-
-pub returns-clause-live : goal.returns-clause-live
-returns-clause-live g c = grind (arith, common_steps)
