@@ -144,9 +144,9 @@ module _ {none : ℕ} {t : Links} {ls : List (List ℕ)} (k : HasBins none t ls)
           linked_back (y ∷ xs) d e = inl (rw (newer, ← e) (get_or-set_same (slice_set t.newer x none) (slice_index t.heads c) x 0 (omega (arith, d.0, length-set t.newer x none))))
 
       -- the first name leaves
-      pub beheaded : (after : ℕ) → bin_at ls c ≢ [] → after ≡ slice_index t.older (slice_index t.heads c) → t'.newer ≡ slice_set t.newer after none → t'.older ≡ t.older
+      pub without_newest : (after : ℕ) → bin_at ls c ≢ [] → after ≡ slice_index t.older (slice_index t.heads c) → t'.newer ≡ slice_set t.newer after none → t'.older ≡ t.older
           → t'.heads ≡ slice_set t.heads c after → HasBins none t' (slice_set ls c (drop 1 (bin_at ls c)))
-      beheaded after full next newer older heads =
+      without_newest after full next newer older heads =
           let xs : List ℕ = drop 1 (bin_at ls c) in
           let h = head full in
           let first : after ≡ first_of none xs = next ∙ h.1.2 in
@@ -199,7 +199,7 @@ exchanged {none} {t} {ls} k c ch t' x after l fresh full next newer older heads 
     let absent : times x (drop 1 (bin_at ls c)) ≡ 0 = omega (arith, fresh c ch, ap (times x) h.0) in
     let apart : after ≢ x = λ e. not_first x (drop 1 (bin_at ls c)) (omega arith) absent (sym e ∙ next ∙ h.1.2) in
     let left : Links = record t { newer = slice_set t.newer after none; heads = slice_set t.heads c after } in
-    let rest : HasBins none left (remove c (slice_index t.heads c) ls) = rw (without_head k c ch full) (beheaded k c ch left after full next refl refl refl) in
+    let rest : HasBins none left (remove c (slice_index t.heads c) ls) = rw (without_head k c ch full) (without_newest k c ch left after full next refl refl refl) in
     let first : slice_index left.heads c ≡ after = get_or-set_same t.heads c after 0 (omega arith) in
     pushed rest c ch t' x (omega (arith, length-set t.newer after none)) (unlisted_removed x (slice_index t.heads c) c ls k.lists_len ch fresh)
     (rw first (newer ∙ sym (ap (λ (i : List ℕ). slice_set i after x) (set_comm t.newer after x none none apart) ∙ set-set (slice_set t.newer x none) after none x)))

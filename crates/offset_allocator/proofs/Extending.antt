@@ -25,7 +25,6 @@ idle_units (b ∷ bs) i = let ih = idle_units bs i.1 in free_units-free b bs i.0
 
 -- the end of the space
 module _ (it : Fields) (more : ℕ) (s : AreSound it) where
-
   abbrev old : List Block
   old = blocks it.cells.room it.last
 

@@ -7,7 +7,6 @@ use mir.Val.{bits}
 
 -- the lowest bit of a word at or above a place, as code finds it: `(n & (MAX << k)).trailing_zeros()`
 module _ (w : Width) (n k : ℕ) (small : n < 2 ^ bits w) (within : k ≤ bits w) where
-
   masked_from : (i : ℕ) → k ≤ i → i < bits w → bit_at (bit_and n ((2 ^ bits w - 1) * 2 ^ k % 2 ^ bits w)) i ≡ bit_at n i
   masked_from i l h = grind (arith, bit_at-lt, ones_shl, bits, bit_at_and, bit_at_mask_inside)
 

@@ -121,7 +121,7 @@ impl<T: Tables> AllocatorOf<T> {
         ensures { IfOk result (IsFresh size max_allocs) }
     {
         let tables = T::with_len(alloc, max_allocs)?;
-        let top_mask = bins::start(&tables);
+        let top_mask = bins::empty_mask(&tables);
         let mut store = Store {
             tables,
             top_mask,

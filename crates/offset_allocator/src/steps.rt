@@ -93,12 +93,12 @@ impl<T: Tables> AllocatorOf<T> {
         self.max_allocs - self.block_count()
     }
 
-    /// Whether more than this number of names are left. Mostly the made nodes that no block has are enough.
+    /// Whether the node limit admits this number of further blocks. The first test is mostly enough, and costs less.
     #[inline(always)]
-    pub(crate) fn has_names(&self, names: u32) -> bool
-        ensures { IsTrue result ↔ HasRoomFor names self.now }
+    pub(crate) fn has_room_for(&self, blocks: u32) -> bool
+        ensures { IsTrue result ↔ HasRoomFor blocks self.now }
     {
-        self.store.spare_count > names || self.names_left() > names
+        self.store.spare_count > blocks || self.names_left() > blocks
     }
 
     /// Grants `size` units of the newest block of a class, beginning at the first multiple of `align` in that block.
@@ -146,7 +146,7 @@ impl<T: Tables> AllocatorOf<T> {
         ensures accesses { Costs 0 61 self.old.accesses self.new.accesses }
         ensures accesses_min { IsSome result → self.old.accesses + 7 ≤ self.new.accesses }
     {
-        if !self.has_names(align.min(2)) {
+        if !self.has_room_for(align.min(2)) {
             return None;
         }
         if size > u32::MAX - (align - 1) {

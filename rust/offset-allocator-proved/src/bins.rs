@@ -92,7 +92,7 @@ fn link_newer<T: Tables>(tables: &mut T, at: T::Index, to: T::Index, count: &mut
 
 // Removes the newest name of a class from its bin. `older` is the link to the next older one.
 #[inline(always)]
-fn behead<T: Tables>(store: &mut Store<T>, class: u32, older: T::Index) {
+fn remove_newest<T: Tables>(store: &mut Store<T>, class: u32, older: T::Index) {
     let tables = &mut store.tables;
     let count = &mut store.accesses;
     tables.shape();
@@ -105,16 +105,16 @@ fn behead<T: Tables>(store: &mut Store<T>, class: u32, older: T::Index) {
     }
 }
 
-// Removes a name from the bin of this size. `newer` is the link to the next newer one.
+// As `remove`, where the caller has read the link to the next newer name.
 #[inline(always)]
-fn leave<T: Tables>(store: &mut Store<T>, name: u32, newer: T::Index, size: u32) {
+fn remove_linked<T: Tables>(store: &mut Store<T>, name: u32, newer: T::Index, size: u32) {
     let tables = &mut store.tables;
     let count = &mut store.accesses;
     tables.shape();
     let older = tables.older(name, count);
     if number(newer) == T::Index::MAX {
-        // only the newest name has to find its class
-        behead(store, uint_to_float_round_down(size), older);
+        // the head changes only for the newest name, so only then is the class computed
+        remove_newest(store, uint_to_float_round_down(size), older);
     } else {
         link_newer(tables, older, newer, count);
         tables.set_older(number(newer), older, count);
@@ -125,7 +125,7 @@ fn leave<T: Tables>(store: &mut Store<T>, name: u32, newer: T::Index, size: u32)
 #[inline(always)]
 pub(crate) fn remove<T: Tables>(store: &mut Store<T>, name: u32, size: u32) {
     let newer = store.tables.newer(name, &mut store.accesses);
-    leave(store, name, newer, size);
+    remove_linked(store, name, newer, size);
 }
 
 /// Removes `gone`, the name of a block of `size` units, from its bin, and pushes `name` onto the bin of `class`. Where
@@ -143,7 +143,7 @@ pub(crate) fn exchange<T: Tables>(store: &mut Store<T>, gone: u32, size: u32, na
         tables.set_links(name, no_link(), older, count);
         link_newer(tables, older, link_to(name), count);
     } else {
-        leave(store, gone, newer, size);
+        remove_linked(store, gone, newer, size);
         push(store, name, class);
     }
 }
@@ -154,12 +154,12 @@ pub(crate) fn pop<T: Tables>(store: &mut Store<T>, class: u32) -> u32 {
     let count = &mut store.accesses;
     let name = tables.head(class, count);
     let older = tables.older(name, count);
-    behead(store, class, older);
+    remove_newest(store, class, older);
     name
 }
 
 /// The top mask of bins that are all empty, as those of new tables are.
-pub(crate) fn start<T: Tables>(tables: &T) -> u32 {
+pub(crate) fn empty_mask<T: Tables>(tables: &T) -> u32 {
     tables.shape();
     0
 }

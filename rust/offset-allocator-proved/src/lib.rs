@@ -110,7 +110,7 @@ impl<T: Tables> AllocatorOf<T> {
         assert!(2 <= max_allocs, "max_allocs must be at least 2");
         assert!(max_allocs < T::Index::MAX - 1, "max_allocs must be at most NI::MAX - 2");
         let tables = T::with_len(alloc, max_allocs)?;
-        let top_mask = bins::start(&tables);
+        let top_mask = bins::empty_mask(&tables);
         let mut store = Store {
             tables,
             top_mask,

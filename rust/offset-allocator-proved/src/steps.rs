@@ -57,10 +57,10 @@ impl<T: Tables> AllocatorOf<T> {
         self.max_allocs - self.block_count()
     }
 
-    /// Whether more than this number of names are left. Mostly the made nodes that no block has are enough.
+    /// Whether the node limit admits this number of further blocks. The first test is mostly enough, and costs less.
     #[inline(always)]
-    pub(crate) fn has_names(&self, names: u32) -> bool {
-        self.store.spare_count > names || self.names_left() > names
+    pub(crate) fn has_room_for(&self, blocks: u32) -> bool {
+        self.store.spare_count > blocks || self.names_left() > blocks
     }
 
     /// Grants `size` units of the newest block of a class, beginning at the first multiple of `align` in that block.
@@ -93,7 +93,7 @@ impl<T: Tables> AllocatorOf<T> {
     /// into `allocate`, there is no padding. It may add `align.min(2)` blocks: the remainder, and above 1 the padding.
     #[inline(always)]
     pub(crate) fn serve(&mut self, size: u32, align: u32) -> Option<Allocation<T::Index>> {
-        if !self.has_names(align.min(2)) {
+        if !self.has_room_for(align.min(2)) {
             return None;
         }
         if size > u32::MAX - (align - 1) {

@@ -25,8 +25,8 @@ invariant_of-self g c = c.self.invariant
 pub invariant_of-self-in-Some : goal.invariant_of-self-in-Some
 invariant_of-self-in-Some g c = c.self.invariant
 
-pub returns-then-not-has_names-clause-formed : goal.returns-then-not-has_names-clause-formed
-returns-then-not-has_names-clause-formed g c = (known_sound (fields_of g.T.Tables.cells g.T.Index.NodeIndex.MAX c.self.inside) c.self.invariant c.args.self.now c.self.view_is).0
+pub returns-then-not-has_room_for-clause-formed : goal.returns-then-not-has_room_for-clause-formed
+returns-then-not-has_room_for-clause-formed g c = (known_sound (fields_of g.T.Tables.cells g.T.Index.NodeIndex.MAX c.self.inside) c.self.invariant c.args.self.now c.self.view_is).0
 
 pub returns-then-size-align-clause-formed : goal.returns-then-size-align-clause-formed
 returns-then-size-align-clause-formed g c = (known_sound (fields_of g.T.Tables.cells g.T.Index.NodeIndex.MAX c.self.inside) c.self.invariant c.args.self.now c.self.view_is).0

@@ -1,8 +1,8 @@
 use Rattle.offset_allocator.proofs.Binned.{head, without_head}
 use Rattle.offset_allocator.proofs.bins.pop.Goals as goal
 
-pub behead-requires-clause-older : goal.behead-requires-clause-older
-behead-requires-clause-older g c = rw (← (c.head-name.ensures.cell)) c.older-older.ensures.cell
+pub remove_newest-requires-clause-older : goal.remove_newest-requires-clause-older
+remove_newest-requires-clause-older g c = rw (← (c.head-name.ensures.cell)) c.older-older.ensures.cell
 
 pub returns-clause-first : goal.returns-clause-first
 returns-clause-first g c =
@@ -10,4 +10,4 @@ returns-clause-first g c =
     rw (c.head-name.ensures.cell, without_head k c.args.class c.requires.classed c.requires.some) ((head k c.args.class c.requires.classed c.requires.some).0)
 
 pub returns-clause-lists : goal.returns-clause-lists
-returns-clause-lists g c = rw (c.head-name.ensures.cell) c.behead.ensures.lists
+returns-clause-lists g c = rw (c.head-name.ensures.cell) c.remove_newest.ensures.lists

@@ -1,6 +1,6 @@
 use Rattle.offset_allocator.proofs.Common.{ap, arith, refl, Cells, Room, common_steps}
 use Rattle.offset_allocator.proofs.Nodes.{length-put, spare-put, nodes-with_spare}
-use Rattle.offset_allocator.proofs.{Exchange.back_to, Exchange.relinked_spare, Places.next_place, Places.next_below, Places.spare_room, Writes.coalesce_after_place}
+use Rattle.offset_allocator.proofs.{Exchange.relinked_spare, Places.next_place, Places.next_below, Places.spare_room, Writes.coalesce_after_place}
 use Rattle.offset_allocator.proofs.chain.coalesce_after.Goals as goal
 
 pub after-next-requires : goal.after-next-requires

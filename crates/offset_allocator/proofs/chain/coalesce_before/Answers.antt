@@ -1,6 +1,6 @@
 use Rattle.offset_allocator.proofs.Common.{ap, arith, refl, Cells, Room, common_steps}
 use Rattle.offset_allocator.proofs.Places.{previous_place, previous_below, spare_room}
-use Rattle.offset_allocator.proofs.{Exchange.on_to, Exchange.relinked_spare, Nodes.length-put, Nodes.spare-put, Nodes.nodes-with_spare, Writes.coalesce_before_place}
+use Rattle.offset_allocator.proofs.{Exchange.relinked_spare, Nodes.length-put, Nodes.spare-put, Nodes.nodes-with_spare, Writes.coalesce_before_place}
 use Rattle.offset_allocator.proofs.chain.coalesce_before.Goals as goal
 
 pub offset-offset-requires : goal.offset-offset-requires

@@ -1,6 +1,5 @@
 use Rattle.offset_allocator.proofs.Common.{arith, length-set, map-append, map-set, with_node, common_steps}
 use Rattle.offset_allocator.proofs.Entries.{entry_added, length-nodes_of, room_left, spare_left}
-use Rattle.offset_allocator.specs.declared.by_node.Node.{Node as Entry}
 use Rattle.offset_allocator.proofs.by_node.ByNodeTables.add.Goals as goal
 
 pub index_mut-requires : goal.index_mut-requires

@@ -1,27 +1,27 @@
 use Rattle.offset_allocator.proofs.Common.{◌≡◌, ◌≢◌, ◌∙◌, arith, refl, slice_index}
 use Rattle.offset_allocator.proofs.Binned.{below, newer_in, older_in, is_first, is_later, later_masked, left, changed}
 use Rattle.offset_allocator.proofs.{Classes.down_small, Uses.after_idle, Uses.no_mark}
-use Rattle.offset_allocator.proofs.bins.leave.Goals as goal
+use Rattle.offset_allocator.proofs.bins.remove_linked.Goals as goal
 
 pub older-older-requires : goal.older-older-requires
 older-older-requires g c = omega (arith, below c.requires.held.linked _ (down_small c.args.size) _ c.requires.listed, c.requires.held.linked.older_len)
 
 -- the newest name
-pub behead-requires-clause-classed : goal.behead-requires-clause-classed
-behead-requires-clause-classed g c = omega (arith, down_small c.args.size, c.uint_to_float_round_down.ensures.is)
+pub remove_newest-requires-clause-classed : goal.remove_newest-requires-clause-classed
+remove_newest-requires-clause-classed g c = omega (arith, down_small c.args.size, c.uint_to_float_round_down.ensures.is)
 
-pub behead-requires-clause-some : goal.behead-requires-clause-some
-behead-requires-clause-some g c = grind (arith, is_first, down_small)
+pub remove_newest-requires-clause-some : goal.remove_newest-requires-clause-some
+remove_newest-requires-clause-some g c = grind (arith, is_first, down_small)
 
-pub behead-requires-clause-older : goal.behead-requires-clause-older
-behead-requires-clause-older g c =
+pub remove_newest-requires-clause-older : goal.remove_newest-requires-clause-older
+remove_newest-requires-clause-older g c =
     let z : slice_index (g.T.Tables.cells c.args.store.now.tables).links.newer c.args.name ≡ g.T.Index.NodeIndex.MAX = omega (arith, c.requires.newer) in
     rw (c.uint_to_float_round_down.ensures.is, (is_first c.requires.held.linked _ (down_small c.args.size) _ c.requires.listed z).1) c.older-older.ensures.cell
 
 pub returns-then-number-MAX-clause-lists : goal.returns-then-number-MAX-clause-lists
 returns-then-number-MAX-clause-lists g c =
     let z : slice_index (g.T.Tables.cells c.args.store.now.tables).links.newer c.args.name ≡ g.T.Index.NodeIndex.MAX = omega (arith, c.requires.newer) in
-    rw (c.behead.ensures.lists, c.uint_to_float_round_down.ensures.is, (is_first c.requires.held.linked _ (down_small c.args.size) _ c.requires.listed z).1) refl
+    rw (c.remove_newest.ensures.lists, c.uint_to_float_round_down.ensures.is, (is_first c.requires.held.linked _ (down_small c.args.size) _ c.requires.listed z).1) refl
 
 -- a later name
 pub link_newer-requires-clause-named : goal.link_newer-requires-clause-named

@@ -1,5 +1,5 @@
 use Rattle.offset_allocator.proofs.Fresh.{fresh_binned}
-use Rattle.offset_allocator.proofs.bins.start.Goals as goal
+use Rattle.offset_allocator.proofs.bins.empty_mask.Goals as goal
 
 pub returns-clause-held : goal.returns-clause-held
 returns-clause-held g c = (fresh_binned c.shape.ensures c.requires.empty).0

@@ -1,6 +1,6 @@
 use Rattle.offset_allocator.proofs.Common.{◌∙◌, ap, sym, arith, refl, set_past, first_of, common_steps}
-use Rattle.offset_allocator.proofs.{Binned.head, Binned.without_head, Binned.none_left, Binned.beheaded, Binned.changed, Masks.flag_full, Masks.masked_same, Uses.no_mark, Uses.second_idle}
-use Rattle.offset_allocator.proofs.bins.behead.Goals as goal
+use Rattle.offset_allocator.proofs.{Binned.head, Binned.without_head, Binned.none_left, Binned.without_newest, Binned.changed, Masks.flag_full, Masks.masked_same, Uses.no_mark, Uses.second_idle}
+use Rattle.offset_allocator.proofs.bins.remove_newest.Goals as goal
 
 pub set_newer-requires : goal.set_newer-requires
 set_newer-requires g c = grind (arith, common_steps, second_idle, no_mark)
@@ -12,7 +12,7 @@ returns-then-next-MAX g c =
     let w = without_head k c.args.class c.requires.classed c.requires.some in
     let none = none_left k c.args.class c.requires.classed _ _ h.1.3 (sym (c.requires.older ∙ h.1.2) ∙ omega arith) in
     let e = rw c.set_head.ensures.cells at c.clear_bit.ensures.rest in
-    rw w (changed (beheaded k c.args.class c.requires.classed (g.T.Tables.cells c.clear_bit.new.store.tables).links _ c.requires.some c.requires.older
+    rw w (changed (without_newest k c.args.class c.requires.classed (g.T.Tables.cells c.clear_bit.new.store.tables).links _ c.requires.some c.requires.older
     (rw e (sym (set_past _ _ _ (omega (arith, k.names_small))))) (rw e) (rw (e, c.number-next.ensures.number)))
     (rw none (c.clear_bit.ensures.masked _ k.lists_len (rw c.set_head.ensures.cells c.requires.held.masked))) (
       rw e,
@@ -26,7 +26,7 @@ returns-else-next-MAX g c =
     let h = head k c.args.class c.requires.classed c.requires.some in
     let w = without_head k c.args.class c.requires.classed c.requires.some in
     let e = rw c.set_head.ensures.cells at c.set_newer.ensures.cells in
-    rw w (changed (beheaded k c.args.class c.requires.classed (g.T.Tables.cells c.set_newer.new.self).links _ c.requires.some c.requires.older
+    rw w (changed (without_newest k c.args.class c.requires.classed (g.T.Tables.cells c.set_newer.new.self).links _ c.requires.some c.requires.older
     (rw (e, c.number-next.ensures.number, c.no_link.ensures.number)) (rw e) (rw (e, c.number-next.ensures.number)))
     (rw e (masked_same c.requires.held.masked k.lists_len c.args.class c.requires.classed _ (flag_full _ (λ z. let q = c.requires.older ∙ h.1.2 ∙ ap (first_of g.T.Index.NodeIndex.MAX) z in
     absurd (omega arith)) ∙ sym (flag_full _ c.requires.some)))) (rw e, refl, refl) (omega arith, omega arith))
