@@ -29,9 +29,10 @@ class Edit:
         self.lines = path.read_text(encoding="utf-8").split("\n")
         self.sentence = self.lines[0].removeprefix("# ")
 
-    def texts(self):
-        """The texts of the files that the edit changes, by their paths in the crate."""
-        file, old, texts, pairs = None, None, {}, 0
+    def texts(self, others=()):
+        """The texts of the files that the edit, or some others before it, change, by their paths in the crate."""
+        texts = others[-1].texts(others[:-1]) if others else {}
+        file, old, pairs = None, None, 0
         for line in self.lines:
             key, _, text = line.partition(":")
             text = text[1:] if text.startswith(" ") else text
@@ -56,6 +57,25 @@ class Edit:
             raise Wrong("it has no pair of lines 'old:' and 'new:'")
         return texts
 
+    def functions(self):
+        """The names of the functions in whose bodies the edit is, or none where a part of it is elsewhere."""
+        file, found, texts = None, set(), {}
+        for line in self.lines:
+            key, _, text = line.partition(":")
+            text = text[1:] if text.startswith(" ") else text
+            if key == "file":
+                file = text.strip()
+            elif key == "old":
+                old = text
+            elif key == "new":
+                source = texts.get(file) or (TOP / "crates" / self.crate / file).read_text(encoding="utf-8")
+                name = function_at(source, source.index(old)) if file.endswith(".rt") else None
+                if not name:
+                    return set()
+                found.add(name)
+                texts[file] = source.replace(old, text)
+        return found
+
     def problems(self):
         said = self.sentence
         if not self.lines[0].startswith("# ") or not said.endswith("."):
@@ -66,6 +86,50 @@ class Edit:
             self.texts()
         except Wrong as why:
             yield f"{self.label}: {why}"
+
+
+HEAD = re.compile(r"( *)(?:pub(?:\([a-z]+\))? )?(?:const )?(?:extern \"C\" )?fn (\w+)")
+
+
+def bodies(source):
+    """The functions of a source: the name of each, and the places where its body begins and ends."""
+    at, head, place = 0, None, None
+    for line in source.split("\n"):
+        if began := HEAD.match(line):
+            head, place, has_clauses = began, None, False
+        has_clauses = head is not None and (has_clauses or line.lstrip().startswith(("requires", "ensures")))
+        at += len(line) + 1
+        if head and place is None and (line == head[1] + "{" or line.endswith("{") and not has_clauses):
+            place = at
+        elif head and place is not None and line == head[1] + "}":
+            yield head[2], place, at
+            head = None
+
+
+def function_at(source, place):
+    """The name of the function in whose body this place is, or `None`."""
+    return next((name for name, begin, end in bodies(source) if begin <= place < end), None)
+
+
+def calls(crate):
+    """For each function of a crate, by its name, the names of those that it calls, as the sources read."""
+    found = {}
+    for file in (TOP / "crates" / crate / "src").rglob("*.rt"):
+        source = file.read_text(encoding="utf-8")
+        for name, begin, end in bodies(source):
+            found.setdefault(name, set()).update(re.findall(r"\b(\w+)(?:::<[^(]*>)?\(", source[begin:end]))
+    return found
+
+
+def reached(graph, names):
+    """The functions that these may call, directly or not, and these."""
+    found, left = set(), [*names]
+    while left:
+        name = left.pop()
+        if name not in found:
+            found.add(name)
+            left += graph.get(name, ())
+    return found
 
 
 def folders():
