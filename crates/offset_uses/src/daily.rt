@@ -1,4 +1,4 @@
-//! The daily use of an allocator, as `CALLING.md` of `offset_allocator` shows it. Only `lacks_units`, `place_packed`
+//! The daily use of an allocator, as `CALLING.md` of `offset_allocator` lists it. Only `lacks_units`, `place_packed`
 //! and `defragment` have a proof file.
 
 ghost use Rattle.std.specs.Prelude.{ℕ, ◌≡◌, ◌≢◌, ◌↔◌, ◌⊎◌, ◌+◌, ◌-◌, ◌*◌, ◌<◌, ◌≤◌, ◌%◌, Some, None, false, not, min};
