@@ -1,14 +1,15 @@
 //! An iterator over the blocks of a space, from its end to its start.
-ghost use Rattle.std.specs.Prelude.{◌≡◌, ⊤};
+ghost use Rattle.std.specs.Prelude.{◌≡◌, ◌≤◌, ◌+◌, ⊤, IsSome};
 ghost use Rattle.std.specs.Iterator.{YieldsFirstBy, item_count};
+ghost use Rattle.offset_allocator.specs.Accesses.{Costs};
 ghost use Rattle.offset_allocator.specs.Listing.{as_placed};
 
-use crate::AllocatorOf;
 use crate::accesses::Accesses;
-use crate::counted::next_block_counted;
 use crate::handle::Allocation;
 use crate::index::{NodeIndex, NodeIndexNonMax};
+use crate::steps::handle_of;
 use crate::tables::Tables;
+use crate::{AllocatorOf, chain};
 use std::alloc::AllocError;
 use std::fmt;
 use std::iter::FusedIterator;
@@ -92,4 +93,32 @@ impl<'a, T: Tables> fmt::Debug for BlocksOf<'a, T> {
             .field("remaining", &self.len())
             .finish()
     }
+}
+
+/// As `next` of `Blocks`. The count grows by at most 5.
+pub fn next_block_counted<T: Tables>(
+    blocks: &mut BlocksOf<'_, T>,
+    count: &mut Accesses,
+) -> Option<Block<T::Index>>
+    ensures yields { YieldsFirstBy as_placed (λ rest. rest) blocks.old result blocks.new }
+    ensures accesses { Costs 0 5 count.old count.new }
+    ensures accesses_min { IsSome result → count.old + 4 ≤ count.new }
+{
+    let name = blocks.next?;
+    let allocator = blocks.allocator;
+    let tables = &allocator.store.tables;
+    let offset = tables.offset(name, count);
+    let size = tables.size(name, count);
+    let allocation = if chain::is_used(tables, name, count) {
+        Some(handle_of(offset, name))
+    } else {
+        None
+    };
+    blocks.next = chain::before(tables, name, count);
+    blocks.left -= 1;
+    Some(Block {
+        offset,
+        size,
+        allocation,
+    })
 }

@@ -42,9 +42,9 @@ impl<NI: NodeIndex> Tables for ByField<NI> {
 
     ghost cells = { λ c. c };
 
-    fn with_len(alloc: Global, len: u32) -> Result<Self, AllocError> {
-        let count = len as usize;
-        probe::<NI>(alloc, len)?;
+    fn with_capacity(alloc: Global, capacity: u32) -> Result<Self, AllocError> {
+        let count = capacity as usize;
+        probe::<NI>(alloc, capacity)?;
         let mut offset = reserved(alloc, count)?;
         let mut size = reserved(alloc, count)?;
         let mut before = reserved(alloc, count)?;

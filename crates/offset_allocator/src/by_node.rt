@@ -68,9 +68,9 @@ impl<NI: NodeIndex> Tables for ByNode<NI> {
 
     ghost cells = { λ c. c };
 
-    fn with_len(alloc: Global, len: u32) -> Result<Self, AllocError> {
-        let count = len as usize;
-        probe::<NI>(alloc, len)?;
+    fn with_capacity(alloc: Global, capacity: u32) -> Result<Self, AllocError> {
+        let count = capacity as usize;
+        probe::<NI>(alloc, capacity)?;
         let mut nodes = reserved(alloc, count)?;
         let mut spare = reserved(alloc, count)?;
         push_within(&mut nodes, blank());

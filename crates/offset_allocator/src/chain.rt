@@ -1,9 +1,10 @@
 //! The blocks of the space, linked in space order, and the stack of unused names.
 
-ghost use Rattle.std.specs.Prelude.{ℕ, ◌≡◌, ◌+◌, ◌-◌, ◌<◌, ◌≤◌, ◌^◌, List, [], ◌∷◌, ◌++◌, length, false, Some};
+ghost use Rattle.std.specs.Prelude.{ℕ, ◌≡◌, ◌+◌, ◌-◌, ◌<◌, ◌≤◌, ◌^◌, List, [], ◌∷◌, ◌++◌, length, false, Some, IfSome};
+ghost use Rattle.std.specs.Prelude.{MatchOption};
 ghost use Rattle.offset_allocator.specs.View.{Block, Place, free_block, is_used_at, count_named, place_of, units};
 ghost use Rattle.offset_allocator.specs.Accesses.{Costs};
-ghost use Rattle.offset_allocator.specs.Cells.{IsBare, node};
+ghost use Rattle.offset_allocator.specs.Cells.{IsBare, node, put, link_of};
 ghost use Rattle.offset_allocator.specs.Bins.{IsUnlisted, bins_in};
 ghost use Rattle.offset_allocator.specs.Readies.{KeepsBins, Readies};
 ghost use Rattle.offset_allocator.specs.Store.{IsPlaceIn, SameBins};
@@ -11,7 +12,6 @@ ghost use Rattle.offset_allocator.specs.Chain.{IsChain, IsSpace, HasPlace, block
 
 use crate::accesses::Accesses;
 use crate::index::{link_to, linked, no_link, number};
-use crate::neighbour_links::{point_back, point_on};
 use crate::store::Store;
 use crate::tables::Tables;
 
@@ -27,24 +27,6 @@ pub(crate) fn start<T: Tables>(tables: &mut T, size: u32, max_allocs: u32, count
 {
     tables.shape();
     tables.set_block(0, 0, size, no_link(), no_link(), count);
-}
-
-/// The offset of a block.
-pub(crate) fn offset<T: Tables>(tables: &T, name: u32, count: &mut Accesses) -> u32
-    requires { name < length (T.cells tables.now).room.nodes }
-    ensures offset { result ≡ (node (T.cells tables.now).room name).offset }
-    ensures accesses { count.new ≡ count.old + 1 }
-{
-    tables.offset(name, count)
-}
-
-/// The size of a block.
-pub(crate) fn size<T: Tables>(tables: &T, name: u32, count: &mut Accesses) -> u32
-    requires { name < length (T.cells tables.now).room.nodes }
-    ensures size { result ≡ (node (T.cells tables.now).room name).size }
-    ensures accesses { count.new ≡ count.old + 1 }
-{
-    tables.size(name, count)
 }
 
 /// Whether a block is used.
@@ -90,69 +72,74 @@ pub(crate) fn after<T: Tables>(tables: &T, name: u32, count: &mut Accesses) -> O
     linked(tables.after(name, count))
 }
 
-/// Makes a node where fewer than this number of names are unused; one is lacking at most.
-#[inline(always)]
-pub(crate) fn ready<T: Tables>(
+// Sets the link back of the node that `link` names; without one, `name` is the last block.
+#[tactic(auto, using(crate::proofs::Nodes::lengths))]
+fn point_back<T: Tables>(
     tables: &mut T,
-    spare_count: &mut u32,
-    names: u32,
+    last: &mut u32,
+    link: T::Index,
+    name: u32,
     count: &mut Accesses,
 )
-    requires memory { (m last : ℕ) × (bs : List Block) × IsChain (T.cells tables.old).room m last spare_count.old bs
-        × (length bs + names ≤ m) }
-    requires next { names ≤ spare_count.old + 1 }
-    ensures readies { Readies T.Index.MAX (T.cells tables.old) (T.cells tables.new) spare_count.old spare_count.new }
-    ensures enough { names ≤ spare_count.new }
-    ensures accesses { Costs 0 8 count.old count.new }
+    requires link { IfSome (link_of T.Index.MAX (T.Index.number link))
+        (λ after. after < length (T.cells tables.old).room.nodes) }
+    requires name { name < length (T.cells tables.old).room.nodes }
+    ensures nodes { length (T.cells tables.new).room.nodes ≡ length (T.cells tables.old).room.nodes }
+    ensures cells { MatchOption (link_of T.Index.MAX (T.Index.number link)) ((T.cells tables.new).room
+        ≡ (T.cells tables.old).room) (λ after. (T.cells tables.new).room
+        ≡ put (T.cells tables.old).room after (record (node (T.cells tables.old).room after) { before = Some name })) }
+    ensures links { (T.cells tables.new).links ≡ (T.cells tables.old).links }
+    ensures accesses { Costs 0 1 count.old count.new }
+    ensures last { MatchOption (link_of T.Index.MAX (T.Index.number link))
+        (last.new ≡ name) (λ _. last.new ≡ last.old) }
 {
-    tables.shape();
-    if *spare_count < names {
-        tables.add(*spare_count, count);
-        *spare_count += 1;
+    match linked(link) {
+        Some(after) => {
+            let back = tables.link_to(name);
+            tables.set_before(after, back, count)
+        }
+        None => *last = name,
     }
 }
 
-/// Makes nodes, so that at least `names` names, 1 or 2, are unused.
-#[inline(always)]
-pub(crate) fn ready_for<T: Tables>(
-    tables: &mut T,
-    spare_count: &mut u32,
-    names: u32,
-    count: &mut Accesses,
-)
-    requires memory { (m last : ℕ) × (bs : List Block) × IsChain (T.cells tables.old).room m last spare_count.old bs
-        × (length bs + names ≤ m) }
-    requires some { 1 ≤ names }
-    requires few { names ≤ 2 }
-    ensures readies { Readies T.Index.MAX (T.cells tables.old) (T.cells tables.new) spare_count.old spare_count.new }
-    ensures enough { names ≤ spare_count.new }
-    ensures accesses { Costs 0 16 count.old count.new }
+// Makes `name` the block after the one that `link` names, if any.
+#[tactic(auto, using(crate::proofs::Nodes::lengths))]
+fn point_on<T: Tables>(tables: &mut T, link: T::Index, name: u32, count: &mut Accesses)
+    requires link { IfSome (link_of T.Index.MAX (T.Index.number link))
+        (λ before. before < length (T.cells tables.old).room.nodes) }
+    requires name { name < length (T.cells tables.old).room.nodes }
+    ensures nodes { length (T.cells tables.new).room.nodes ≡ length (T.cells tables.old).room.nodes }
+    ensures cells { MatchOption (link_of T.Index.MAX (T.Index.number link)) ((T.cells tables.new).room
+        ≡ (T.cells tables.old).room) (λ before. (T.cells tables.new).room
+        ≡ put (T.cells tables.old).room before (record (node (T.cells tables.old).room before) { after = Some name })) }
+    ensures links { (T.cells tables.new).links ≡ (T.cells tables.old).links }
+    ensures accesses { Costs 0 1 count.old count.new }
 {
-    ready(tables, spare_count, 1, count);
-    if names > 1 {
-        ready(tables, spare_count, names, count);
+    if let Some(before) = linked(link) {
+        let on = tables.link_to(name);
+        tables.set_after(before, on, count);
     }
 }
 
-/// Splits a block, of this offset and size, which the caller has read, after `kept` units. The remainder becomes a free
-/// block directly after it, under the name that is returned.
+/// Splits a block, which has this offset and `whole` units, after `size` units. The remainder becomes a free block
+/// directly after it, under the name that is returned. The caller has read the offset and the units.
 #[tactic(auto, using(crate::proofs::Nodes::lengths))]
 pub(crate) fn split<T: Tables>(
     store: &mut Store<T>,
     name: u32,
     offset: u32,
+    whole: u32,
     size: u32,
-    kept: u32,
 ) -> u32
     requires place { (m : ℕ) × (p : Place) × IsPlaceIn T.cells store.old m name p }
     requires spare { 0 < store.old.spare_count }
     requires offset { offset ≡ (node (T.cells store.old.tables).room name).offset }
-    requires size { size ≡ (node (T.cells store.old.tables).room name).size }
-    requires within { kept ≤ size }
+    requires whole { whole ≡ (node (T.cells store.old.tables).room name).size }
+    requires within { size ≤ whole }
     ensures place { (m : ℕ) (p : Place) → IsPlaceIn T.cells store.old m name p
         → IsPlaceIn T.cells store.new m name (record p {
-          block = record p.block { size = kept };
-          after = free_block result (p.block.size - kept) ∷ p.after;
+          block = record p.block { size = size };
+          after = free_block result (p.block.size - size) ∷ p.after;
         }) }
     ensures bins { SameBins T.cells store.old store.new }
     ensures nodes { length (T.cells store.new.tables).room.nodes ≡ length (T.cells store.old.tables).room.nodes }
@@ -169,20 +156,20 @@ pub(crate) fn split<T: Tables>(
     let next = tables.after(name, count);
     let back = tables.link_to(name);
     let on = tables.link_to(rest);
-    tables.set_block(rest, offset + kept, size - kept, back, next, count);
-    tables.set_end(name, kept, on, count);
+    tables.set_block(rest, offset + size, whole - size, back, next, count);
+    tables.set_end(name, size, on, count);
     point_back(tables, &mut store.last, next, rest, count);
     rest
 }
 
-/// Coalesces the free block `following` into the block directly before it; `total` is the size of both. The name
+/// Coalesces the free block `following` into the block directly before it; `whole` is the size of both. The name
 /// `following` is unused again.
 #[tactic(auto, using(crate::proofs::Nodes::lengths))]
-pub(crate) fn coalesce_after<T: Tables>(store: &mut Store<T>, name: u32, following: u32, total: u32)
+pub(crate) fn coalesce_after<T: Tables>(store: &mut Store<T>, name: u32, following: u32, whole: u32)
     requires place { (m : ℕ) × (p : Place) × IsPlaceIn T.cells store.old m name p }
     requires next { Some following ≡ (node (T.cells store.old.tables).room name).after }
     requires free { (node (T.cells store.old.tables).room following).used ≡ false }
-    requires total { total ≡ (node (T.cells store.old.tables).room name).size
+    requires whole { whole ≡ (node (T.cells store.old.tables).room name).size
         + (node (T.cells store.old.tables).room following).size }
     ensures place { (m : ℕ) (p : Place) → IsPlaceIn T.cells store.old m name p
         → IsPlaceIn T.cells store.new m name (coalesced_after p) }
@@ -195,20 +182,20 @@ pub(crate) fn coalesce_after<T: Tables>(store: &mut Store<T>, name: u32, followi
     let count = &mut store.accesses;
     tables.shape();
     let next = tables.after(following, count);
-    tables.set_end(name, total, next, count);
+    tables.set_end(name, whole, next, count);
     point_back(tables, &mut store.last, next, name, count);
     tables.set_spare(store.spare_count, link_to(following), count);
     store.spare_count += 1;
 }
 
-/// Coalesces the free block `previous` into the block directly after it; `total` is the size of both. The name
+/// Coalesces the free block `previous` into the block directly after it; `whole` is the size of both. The name
 /// `previous` is unused again.
 #[tactic(auto, using(crate::proofs::Nodes::lengths))]
-pub(crate) fn coalesce_before<T: Tables>(store: &mut Store<T>, previous: u32, name: u32, total: u32)
+pub(crate) fn coalesce_before<T: Tables>(store: &mut Store<T>, previous: u32, name: u32, whole: u32)
     requires place { (m : ℕ) × (p : Place) × IsPlaceIn T.cells store.old m name p }
     requires previous { Some previous ≡ (node (T.cells store.old.tables).room name).before }
     requires free { (node (T.cells store.old.tables).room previous).used ≡ false }
-    requires total { total ≡ (node (T.cells store.old.tables).room previous).size
+    requires whole { whole ≡ (node (T.cells store.old.tables).room previous).size
         + (node (T.cells store.old.tables).room name).size }
     ensures place { (m : ℕ) (p : Place) → IsPlaceIn T.cells store.old m name p
         → IsPlaceIn T.cells store.new m name (coalesced_before p) }
@@ -222,7 +209,7 @@ pub(crate) fn coalesce_before<T: Tables>(store: &mut Store<T>, previous: u32, na
     tables.shape();
     let offset = tables.offset(previous, count);
     let link = tables.before(previous, count);
-    tables.set_start(name, offset, total, link, count);
+    tables.set_start(name, offset, whole, link, count);
     point_on(tables, link, name, count);
     tables.set_spare(store.spare_count, link_to(previous), count);
     store.spare_count += 1;
@@ -230,7 +217,7 @@ pub(crate) fn coalesce_before<T: Tables>(store: &mut Store<T>, previous: u32, na
 
 /// Makes a block, which is in no bin, used or free.
 #[tactic(auto, using(crate::proofs::Nodes::lengths))]
-pub(crate) fn mark<T: Tables>(tables: &mut T, name: u32, used: bool, count: &mut Accesses)
+pub(crate) fn set_used<T: Tables>(tables: &mut T, name: u32, used: bool, count: &mut Accesses)
     requires { name < length (T.cells tables.old).room.nodes }
     ensures place { (m last spare : ℕ) (p : Place) → HasPlace (T.cells tables.old).room m last spare name p
         → HasPlace (T.cells tables.new).room m last spare name (record p { block = record p.block { used = used } }) }

@@ -59,22 +59,23 @@ fn first_free<T: Tables>(tables: &T, last: u32, count: &mut Accesses) -> Option<
     first
 }
 
-// Exchanges a free block with the used block directly after it. The name that the free block has then is returned.
-fn pass<T: Tables>(
-    store: &mut Store<T>,
-    hole: u32,
-    offset: u32,
+// The free block that takes up the free units, while the used blocks after it pass it.
+#[derive(Clone, Copy)]
+struct Hole {
+    name: u32,
     size: u32,
-    next: u32,
-    more: u32,
-) -> u32
-    requires place { (m : ℕ) × (p : Place) × IsPlaceIn T.cells store.old m hole p × (p.block.used ≡ false) }
-    requires offset { offset ≡ (node (T.cells store.old.tables).room hole).offset }
-    requires size { size ≡ (node (T.cells store.old.tables).room hole).size }
-    requires next { Some next ≡ (node (T.cells store.old.tables).room hole).after }
+}
+
+// Exchanges a free block, which begins at `offset`, with the used block `next` of `more` units directly after it. The
+// name that the free block has then is returned.
+fn pass<T: Tables>(store: &mut Store<T>, hole: Hole, offset: u32, next: u32, more: u32) -> u32
+    requires place { (m : ℕ) × (p : Place) × IsPlaceIn T.cells store.old m hole.name p × (p.block.used ≡ false) }
+    requires offset { offset ≡ (node (T.cells store.old.tables).room hole.name).offset }
+    requires size { hole.size ≡ (node (T.cells store.old.tables).room hole.name).size }
+    requires next { Some next ≡ (node (T.cells store.old.tables).room hole.name).after }
     requires more { more ≡ (node (T.cells store.old.tables).room next).size }
     ensures place { (m : ℕ) (p : Place) (b : Block) (bs : List Block)
-        → IsPlaceIn T.cells store.old m hole p → p.block.used
+        → IsPlaceIn T.cells store.old m hole.name p → p.block.used
         ≡ false → p.after ≡ b ∷ bs → IsPlaceIn T.cells store.new m result (record {
           before = p.before ++ b ∷ [];
           block = free_block result p.block.size;
@@ -83,8 +84,8 @@ fn pass<T: Tables>(
     ensures bins { SameBins T.cells store.old store.new }
     ensures accesses { Costs 14 16 store.old.accesses store.new.accesses }
 {
-    let whole = size + more;
-    chain::coalesce_before(store, hole, next, whole);
+    let whole = hole.size + more;
+    chain::coalesce_before(store, hole.name, next, whole);
     chain::split(store, next, offset, whole, more)
 }
 
@@ -119,23 +120,22 @@ fn report<NI: NodeIndex, F: FnMut(Move<NI>)>(
 }
 
 // Slides the used blocks after a free block to the front, and coalesces it with the free ones, until it is the last
-// block. Its name and its size are returned. The bins stay as they are.
+// block: as such it is returned. The bins stay as they are.
 fn slide<T: Tables, F: FnMut(Move<T::Index>)>(
     store: &mut Store<T>,
-    mut hole: u32,
-    mut size: u32,
+    mut hole: Hole,
     moved: &mut F,
-) -> (u32, u32)
-    requires place { (m : ℕ) × (p : Place) × IsPlaceIn T.cells store.old m hole p × (p.block.used ≡ false) }
-    requires size { size ≡ (node (T.cells store.old.tables).room hole).size }
+) -> Hole
+    requires place { (m : ℕ) × (p : Place) × IsPlaceIn T.cells store.old m hole.name p × (p.block.used ≡ false) }
+    requires size { hole.size ≡ (node (T.cells store.old.tables).room hole.name).size }
     requires callable { F.IsAlwaysCallable moved.old }
-    ensures place { (m : ℕ) (p : Place) → IsPlaceIn T.cells store.old m hole p → p.block.used ≡ false
-        → IsPlaceIn T.cells store.new m result.0 (record {
+    ensures place { (m : ℕ) (p : Place) → IsPlaceIn T.cells store.old m hole.name p → p.block.used ≡ false
+        → IsPlaceIn T.cells store.new m result.name (record {
           before = p.before ++ live p.after;
-          block = free_block result.0 result.1;
+          block = free_block result.name result.size;
           after = [];
         })
-        × (result.1 ≡ p.block.size + free_units p.after)
+        × (result.size ≡ p.block.size + free_units p.after)
         × FoldsTo (IsCalledWith T.Index.NonMax.number (λ f range g. F.step f range tt g)) moved.old
         (moves (units p.before + p.block.size) (units p.before) p.after) moved.new
         × (store.new.accesses ≤ store.old.accesses + 20 * length p.after + 1) }
@@ -143,18 +143,18 @@ fn slide<T: Tables, F: FnMut(Move<T::Index>)>(
     ensures accesses_min { store.old.accesses + 1 ≤ store.new.accesses }
 {
     store.tables.shape();
-    while let Some(next) = chain::after(&store.tables, hole, &mut store.accesses) {
-        let more = chain::size(&store.tables, next, &mut store.accesses);
+    while let Some(next) = chain::after(&store.tables, hole.name, &mut store.accesses) {
+        let more = store.tables.size(next, &mut store.accesses);
         if chain::is_used(&store.tables, next, &mut store.accesses) {
-            let to = chain::offset(&store.tables, hole, &mut store.accesses);
-            hole = pass(store, hole, to, size, next, more);
-            report(moved, next, to + size, to, more);
+            let to = store.tables.offset(hole.name, &mut store.accesses);
+            hole.name = pass(store, hole, to, next, more);
+            report(moved, next, to + hole.size, to, more);
         } else {
-            size += more;
-            chain::coalesce_after(store, hole, next, size);
+            hole.size += more;
+            chain::coalesce_after(store, hole.name, next, hole.size);
         }
     }
-    (hole, size)
+    hole
 }
 
 impl<T: Tables> AllocatorOf<T> {
@@ -189,9 +189,10 @@ impl<T: Tables> AllocatorOf<T> {
         ) else {
             return;
         };
-        let units = chain::size(&self.store.tables, first, &mut self.store.accesses);
+        let size = self.store.tables.size(first, &mut self.store.accesses);
         bins::empty(&mut self.store);
-        let (hole, size) = slide(&mut self.store, first, units, moved);
-        bins::push(&mut self.store, hole, uint_to_float_round_down(size));
+        let hole = slide(&mut self.store, Hole { name: first, size }, moved);
+        let class = uint_to_float_round_down(hole.size);
+        bins::push(&mut self.store, hole.name, class);
     }
 }

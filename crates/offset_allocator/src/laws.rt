@@ -17,9 +17,10 @@ ghost use Rattle.offset_allocator.specs.Compacting.{moves, AreSafe, Compacts};
 
 use crate::AllocatorOf;
 use crate::accesses::Accesses;
-pub use crate::counted::{
-    allocation_offset_counted, allocation_size_counted, is_live_counted, next_block_counted,
-    refusal_aligned_counted, refusal_counted, storage_report_counted, storage_report_full_counted,
+pub use crate::blocks::next_block_counted;
+pub use crate::reports::{
+    allocation_offset_counted, allocation_size_counted, is_live_counted, refusal_aligned_counted,
+    refusal_counted, storage_report_counted, storage_report_full_counted,
 };
 use crate::store::Store;
 use crate::tables::Tables;

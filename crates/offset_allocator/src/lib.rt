@@ -34,13 +34,11 @@ mod by_field;
 mod by_node;
 mod chain;
 mod compact;
-mod counted;
 pub mod ext;
 mod fills;
 mod handle;
 mod index;
 pub mod laws;
-mod neighbour_links;
 mod neighbours;
 mod nonmax;
 mod reports;
@@ -120,7 +118,7 @@ impl<T: Tables> AllocatorOf<T> {
         requires limit_max { max_allocs + 1 < T.Index.MAX }
         ensures { IfOk result (IsFresh size max_allocs) }
     {
-        let tables = T::with_len(alloc, max_allocs)?;
+        let tables = T::with_capacity(alloc, max_allocs)?;
         let top_mask = bins::empty_mask(&tables);
         let mut store = Store {
             tables,
@@ -249,7 +247,7 @@ impl<T: Tables> AllocatorOf<T> {
         // The step as a whole: the block coalesces with its free neighbours.
         ensures step { Frees allocation.name self.old self.new }
     {
-        self.release(index::number(T::Index::of_nonmax(allocation.name())));
+        self.release(allocation.name());
     }
 
     /// Whether the handle is live here: its name is the name of a used block. `free` asks for exactly this.
@@ -259,7 +257,7 @@ impl<T: Tables> AllocatorOf<T> {
     pub fn is_live(&self, allocation: Allocation<T::Index>) -> bool
         ensures { IsTrue result ↔ IsLive allocation.name self.now }
     {
-        counted::is_live_counted(self, allocation, &mut Accesses::new())
+        reports::is_live_counted(self, allocation, &mut Accesses::new())
     }
 
     /// The units of the range that a live handle has: exactly those that `allocate`, `allocate_aligned`, `shrink` or
@@ -268,7 +266,7 @@ impl<T: Tables> AllocatorOf<T> {
     pub fn allocation_size(&self, allocation: Allocation<T::Index>) -> u32
         ensures { result ≡ size_of allocation.name self.now }
     {
-        counted::allocation_size_counted(self, allocation, &mut Accesses::new())
+        reports::allocation_size_counted(self, allocation, &mut Accesses::new())
     }
 
     /// Where the range of a live handle begins, in units from the start of the space, or `None` where the handle is not
@@ -279,7 +277,7 @@ impl<T: Tables> AllocatorOf<T> {
     pub fn allocation_offset(&self, allocation: Allocation<T::Index>) -> Option<u32>
         ensures { result ≡ option_map (λ (r : Range). r.offset) (range_of allocation.name self.now) }
     {
-        counted::allocation_offset_counted(self, allocation, &mut Accesses::new())
+        reports::allocation_offset_counted(self, allocation, &mut Accesses::new())
     }
 
     /// The blocks of the space, used and free, from its end to its start. It takes no memory, and each block costs at
@@ -299,7 +297,7 @@ impl<T: Tables> AllocatorOf<T> {
     pub fn storage_report(&self) -> StorageReport
         ensures { IsReport result self.now }
     {
-        counted::storage_report_counted(self, &mut Accesses::new())
+        reports::storage_report_counted(self, &mut Accesses::new())
     }
 
     /// The free blocks, class by class, at the node limit too. It makes at most 512 accesses to the tables, and 2 for
@@ -307,7 +305,7 @@ impl<T: Tables> AllocatorOf<T> {
     pub fn storage_report_full(&self) -> StorageReportFull
         ensures { IsFullReport result self.now }
     {
-        counted::storage_report_full_counted(self, &mut Accesses::new())
+        reports::storage_report_full_counted(self, &mut Accesses::new())
     }
 
     /// Why `allocate(size)` would be refused now, or `None` exactly where it would be granted.
@@ -317,7 +315,7 @@ impl<T: Tables> AllocatorOf<T> {
         ensures granted { result ≡ None ↔ CanGrant 1 size self.now }
         ensures why { IfSome result (IsWhy 1 size self.now) }
     {
-        counted::refusal_counted(self, size, &mut Accesses::new())
+        reports::refusal_counted(self, size, &mut Accesses::new())
     }
 
     /// Why `allocate_aligned(size, align)` would be refused now, or `None` exactly where it would be granted.
@@ -329,7 +327,7 @@ impl<T: Tables> AllocatorOf<T> {
         ensures granted { result ≡ None ↔ CanGrant (blocks_needed align) (units_needed size align) self.now }
         ensures why { IfSome result (IsWhy (blocks_needed align) (units_needed size align) self.now) }
     {
-        counted::refusal_aligned_counted(self, size, align, &mut Accesses::new())
+        reports::refusal_aligned_counted(self, size, align, &mut Accesses::new())
     }
 
     /// Grants `size` units that begin at a multiple of `align`, a power of two.

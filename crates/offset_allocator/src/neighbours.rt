@@ -46,26 +46,6 @@ pub(crate) fn free_after<T: Tables>(tables: &T, name: u32, count: &mut Accesses)
     None
 }
 
-/// The units of the free block `next`, if any, directly after a block.
-#[inline(always)]
-pub(crate) fn units_after<T: Tables>(
-    tables: &T,
-    name: u32,
-    next: Option<u32>,
-    count: &mut Accesses,
-) -> u32
-    requires place { (m last spare : ℕ) × (p : Place) × HasPlace (T.cells tables.now).room m last spare name p }
-    requires next { IsFreeAfter (T.cells tables.now).room name next }
-    ensures units { (m last spare : ℕ) (p : Place) → HasPlace (T.cells tables.now).room m last spare name p → result
-        ≡ units (free_start p.after) }
-    ensures accesses { Costs 0 1 count.old count.new }
-{
-    match next {
-        None => 0,
-        Some(following) => chain::size(tables, following, count),
-    }
-}
-
 // A free block directly before a block leaves its bin and is coalesced into it. The size of the whole is returned.
 #[inline(always)]
 fn with_before<T: Tables>(store: &mut Store<T>, name: u32, size: u32) -> u32
@@ -83,7 +63,7 @@ fn with_before<T: Tables>(store: &mut Store<T>, name: u32, size: u32) -> u32
     ensures accesses { Costs 1 15 store.old.accesses store.new.accesses }
 {
     if let Some(previous) = free_before(&store.tables, name, &mut store.accesses) {
-        let more = chain::size(&store.tables, previous, &mut store.accesses);
+        let more = store.tables.size(previous, &mut store.accesses);
         let whole = more + size;
         bins::remove(store, previous, more);
         chain::coalesce_before(store, previous, name, whole);
@@ -113,7 +93,7 @@ fn with_after<T: Tables>(store: &mut Store<T>, name: u32, size: u32, next: Optio
     match next {
         None => size,
         Some(following) => {
-            let more = chain::size(&store.tables, following, &mut store.accesses);
+            let more = store.tables.size(following, &mut store.accesses);
             let whole = size + more;
             bins::remove(store, following, more);
             chain::coalesce_after(store, name, following, whole);
@@ -143,12 +123,12 @@ pub(crate) fn coalesce<T: Tables>(store: &mut Store<T>, name: u32, size: u32)
     let next = free_after(&store.tables, name, &mut store.accesses);
     let (gone, more, whole) = if let Some(following) = next {
         let size = with_before(store, name, size);
-        let more = chain::size(&store.tables, following, &mut store.accesses);
+        let more = store.tables.size(following, &mut store.accesses);
         let whole = size + more;
         chain::coalesce_after(store, name, following, whole);
         (following, more, whole)
     } else if let Some(previous) = free_before(&store.tables, name, &mut store.accesses) {
-        let more = chain::size(&store.tables, previous, &mut store.accesses);
+        let more = store.tables.size(previous, &mut store.accesses);
         let whole = more + size;
         chain::coalesce_before(store, previous, name, whole);
         (previous, more, whole)
@@ -225,41 +205,47 @@ fn split_remainder<T: Tables>(
     rest
 }
 
-/// Splits a block into `padding` free units, `size` used units under its name, from `start` on, and a free remainder of
-/// the units that are left. The names of the padding and of the remainder are returned, where these have units.
+/// The units of a block that is split: of the padding, of the grant, and those that are left.
+#[derive(Clone, Copy)]
+pub(crate) struct Parts {
+    pub(crate) padding: u32,
+    pub(crate) size: u32,
+    pub(crate) left: u32,
+}
+
+/// Splits a block into a free padding, the granted units, which keep its name, are used and begin at `start`, and a free
+/// remainder. The names of the padding and of the remainder are returned, where these have units.
 #[inline(always)]
 pub(crate) fn divide<T: Tables>(
     store: &mut Store<T>,
     name: u32,
     start: u32,
-    padding: u32,
-    size: u32,
-    left: u32,
+    parts: Parts,
 ) -> (u32, u32)
     requires place { (m : ℕ) × (p : Place) × IsPlaceIn T.cells store.old m name p
         × AreUnlisted (p.before ++ p.block ∷ p.after) (bins_of T.cells T.Index.MAX store.old) }
     requires held { AreBinned T.cells T.Index.MAX store.old }
     requires unlisted { IsUnlisted name (bins_of T.cells T.Index.MAX store.old) }
     requires spare { 0 < store.old.spare_count }
-    requires two { 0 < padding → 1 < store.old.spare_count }
-    requires start { start ≡ (node (T.cells store.old.tables).room name).offset + padding }
-    requires whole { padding + size + left ≡ (node (T.cells store.old.tables).room name).size }
+    requires two { 0 < parts.padding → 1 < store.old.spare_count }
+    requires start { start ≡ (node (T.cells store.old.tables).room name).offset + parts.padding }
+    requires whole { parts.padding + parts.size + parts.left ≡ (node (T.cells store.old.tables).room name).size }
     ensures place { (m : ℕ) (p : Place) → IsPlaceIn T.cells store.old m name p
         → IsPlaceIn T.cells store.new m name (record {
-          before = p.before ++ free_part result.0 padding;
-          block = used_block p.block.name size;
-          after = free_part result.1 left ++ p.after;
+          before = p.before ++ free_part result.0 parts.padding;
+          block = used_block p.block.name parts.size;
+          after = free_part result.1 parts.left ++ p.after;
         }) }
     ensures held { AreBinned T.cells T.Index.MAX store.new }
     ensures lists { bins_of T.cells T.Index.MAX store.new
-        ≡ push_all (free_part result.0 padding ++ used_block name size ∷ free_part result.1 left)
+        ≡ push_all (free_part result.0 parts.padding ++ used_block name parts.size ∷ free_part result.1 parts.left)
         (bins_of T.cells T.Index.MAX store.old) }
     ensures nodes { length (T.cells store.new.tables).room.nodes ≡ length (T.cells store.old.tables).room.nodes }
     ensures accesses { Costs 1 35 store.old.accesses store.new.accesses }
 {
-    let front = split_padding(store, name, padding);
-    chain::mark(&mut store.tables, name, true, &mut store.accesses);
-    let rest = split_remainder(store, name, start, size, left);
+    let front = split_padding(store, name, parts.padding);
+    chain::set_used(&mut store.tables, name, true, &mut store.accesses);
+    let rest = split_remainder(store, name, start, parts.size, parts.left);
     (front, rest)
 }
 
@@ -295,6 +281,6 @@ pub(crate) fn resize<T: Tables>(
     ensures accesses_more { IsSome next → store.old.accesses + 9 ≤ store.new.accesses }
 {
     let whole = with_after(store, name, old_size, next);
-    let offset = chain::offset(&store.tables, name, &mut store.accesses);
+    let offset = store.tables.offset(name, &mut store.accesses);
     split_remainder(store, name, offset, size, whole - size)
 }

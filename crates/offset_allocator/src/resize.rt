@@ -1,14 +1,31 @@
 //! Ranges that become smaller or larger in place.
-ghost use Rattle.std.specs.Prelude.{◌≡◌, ◌↔◌, ◌+◌, ◌<◌, ◌≤◌, false, IsTrue};
+ghost use Rattle.std.specs.Prelude.{ℕ, ◌≡◌, ◌↔◌, ◌+◌, ◌<◌, ◌≤◌, false, IsTrue};
 ghost use Rattle.offset_allocator.specs.Accesses.{Costs};
+ghost use Rattle.offset_allocator.specs.Chain.{HasPlace, IsFreeAfter};
+ghost use Rattle.offset_allocator.specs.View.{Place, free_start, units};
 ghost use Rattle.offset_allocator.specs.Ranges.{IsLive, KeepsOthers, size_of};
 ghost use Rattle.offset_allocator.specs.Relations.{SameSpace};
 ghost use Rattle.offset_allocator.specs.Resizing.{CanShrink, CanGrow, HasUnits, Shrinks, Grows, ResizesTo};
 
+use crate::accesses::Accesses;
 use crate::handle::Allocation;
-use crate::index::{self, NodeIndex};
 use crate::tables::Tables;
-use crate::{AllocatorOf, chain, neighbours};
+use crate::{AllocatorOf, neighbours, store};
+
+// The units of the free block `next`, if any, directly after a block.
+#[inline(always)]
+fn units_after<T: Tables>(tables: &T, name: u32, next: Option<u32>, count: &mut Accesses) -> u32
+    requires place { (m last spare : ℕ) × (p : Place) × HasPlace (T.cells tables.now).room m last spare name p }
+    requires next { IsFreeAfter (T.cells tables.now).room name next }
+    ensures units { (m last spare : ℕ) (p : Place) → HasPlace (T.cells tables.now).room m last spare name p → result
+        ≡ units (free_start p.after) }
+    ensures accesses { Costs 0 1 count.old count.new }
+{
+    match next {
+        None => 0,
+        Some(following) => tables.size(following, count),
+    }
+}
 
 impl<T: Tables> AllocatorOf<T> {
     /// Frees the units of a live range after its first `size`. They are free at once, in one block with the free block
@@ -35,8 +52,8 @@ impl<T: Tables> AllocatorOf<T> {
         // The step as a whole: what becomes of the range and of the free block after it.
         ensures step { Shrinks allocation.name size self.old self.new result }
     {
-        let name = index::number::<T::Index>(T::Index::of_nonmax(allocation.name()));
-        let old_size = chain::size(&self.store.tables, name, &mut self.store.accesses);
+        let name = allocation.name();
+        let old_size = self.store.tables.size(name, &mut self.store.accesses);
         if size > old_size {
             return false;
         }
@@ -67,8 +84,8 @@ impl<T: Tables> AllocatorOf<T> {
         // The step as a whole: what becomes of the range and of the free block after it.
         ensures step { Grows allocation.name size self.old self.new result }
     {
-        let name = index::number::<T::Index>(T::Index::of_nonmax(allocation.name()));
-        let old_size = chain::size(&self.store.tables, name, &mut self.store.accesses);
+        let name = allocation.name();
+        let old_size = self.store.tables.size(name, &mut self.store.accesses);
         if size < old_size {
             return false;
         }
@@ -92,19 +109,14 @@ impl<T: Tables> AllocatorOf<T> {
             return true;
         }
         let left = self.names_left();
-        chain::ready(
+        store::ensure_spare(
             &mut self.store.tables,
             &mut self.store.spare_count,
             1,
             &mut self.store.accesses,
         );
         let next = neighbours::free_after(&self.store.tables, name, &mut self.store.accesses);
-        let more = neighbours::units_after(
-            &self.store.tables,
-            name,
-            next,
-            &mut self.store.accesses,
-        );
+        let more = units_after(&self.store.tables, name, next, &mut self.store.accesses);
         if size > old_size + more {
             return false;
         }

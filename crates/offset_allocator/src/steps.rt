@@ -15,10 +15,11 @@ ghost use Rattle.offset_allocator.specs.Requests.{HasRoomFor, blocks_needed, uni
 use crate::accesses::Accesses;
 use crate::handle::Allocation;
 use crate::index::NodeIndex;
+use crate::neighbours::Parts;
 use crate::small_float::{uint_to_float_round_down, uint_to_float_round_up};
 use crate::store::Store;
 use crate::tables::Tables;
-use crate::{AllocatorOf, bins, chain, neighbours};
+use crate::{AllocatorOf, bins, chain, neighbours, store};
 
 /// The handle of a name.
 pub(crate) fn handle_of<NI: NodeIndex>(offset: u32, name: u32) -> Allocation<NI>
@@ -111,25 +112,23 @@ impl<T: Tables> AllocatorOf<T> {
         ensures step { Splits (units_needed size align) size (padding_to align) self.old self.new result }
         ensures accesses { Costs 6 59 self.old.accesses self.new.accesses }
     {
-        chain::ready_for(
+        store::ensure_spares(
             &mut self.store.tables,
             &mut self.store.spare_count,
             align.min(2),
             &mut self.store.accesses,
         );
         let name = bins::pop(&mut self.store, class);
-        let offset = chain::offset(&self.store.tables, name, &mut self.store.accesses);
-        let whole = chain::size(&self.store.tables, name, &mut self.store.accesses);
+        let offset = self.store.tables.offset(name, &mut self.store.accesses);
+        let whole = self.store.tables.size(name, &mut self.store.accesses);
         let padding = (align - offset % align) % align;
         let start = offset + padding;
-        neighbours::divide(
-            &mut self.store,
-            name,
-            start,
+        let parts = Parts {
             padding,
             size,
-            whole - (padding + size),
-        );
+            left: whole - (padding + size),
+        };
+        neighbours::divide(&mut self.store, name, start, parts);
         self.free_total -= size;
         handle_of(start, name)
     }
@@ -174,9 +173,9 @@ impl<T: Tables> AllocatorOf<T> {
         ensures others { KeepsOthers name self.old self.new }
         ensures accesses { Costs 9 36 self.old.accesses self.new.accesses }
     {
-        let size = chain::size(&self.store.tables, name, &mut self.store.accesses);
+        let size = self.store.tables.size(name, &mut self.store.accesses);
         self.free_total += size;
-        chain::mark(
+        chain::set_used(
             &mut self.store.tables,
             name,
             false,
@@ -186,7 +185,7 @@ impl<T: Tables> AllocatorOf<T> {
     }
 
     /// Whether a name is that of a used block.
-    pub(crate) fn uses(&self, name: u32, count: &mut Accesses) -> bool
+    pub(crate) fn is_used(&self, name: u32, count: &mut Accesses) -> bool
         ensures live { IsTrue result ↔ IsLive name self.now }
         ensures accesses_kept { count.old ≤ count.new }
         ensures accesses { count.new ≡ count.old + 1 }
@@ -204,7 +203,7 @@ impl<T: Tables> AllocatorOf<T> {
         ensures accesses { Costs 10 16 self.old.accesses self.new.accesses }
     {
         let end = self.store.last;
-        let size = chain::size(&self.store.tables, end, &mut self.store.accesses);
+        let size = self.store.tables.size(end, &mut self.store.accesses);
         bins::remove(&mut self.store, end, size);
         chain::grow(&mut self.store.tables, end, more, &mut self.store.accesses);
         bins::push(&mut self.store, end, uint_to_float_round_down(size + more));
@@ -222,15 +221,15 @@ impl<T: Tables> AllocatorOf<T> {
         ensures kept { KeepsAll self.old self.new }
         ensures accesses { Costs 9 27 self.old.accesses self.new.accesses }
     {
-        chain::ready(
+        store::ensure_spare(
             &mut self.store.tables,
             &mut self.store.spare_count,
             1,
             &mut self.store.accesses,
         );
         let end = self.store.last;
-        let offset = chain::offset(&self.store.tables, end, &mut self.store.accesses);
-        let whole = chain::size(&self.store.tables, end, &mut self.store.accesses);
+        let offset = self.store.tables.offset(end, &mut self.store.accesses);
+        let whole = self.store.tables.size(end, &mut self.store.accesses);
         let name = chain::split(&mut self.store, end, offset, whole, whole);
         chain::grow(
             &mut self.store.tables,

@@ -1,4 +1,9 @@
-//! The tables, with the numbers that belong to them.
+//! The tables with the numbers that belong to them, and the nodes that are made before names are taken.
+ghost use Rattle.std.specs.Prelude.{ℕ, ◌≡◌, ◌+◌, ◌≤◌, List, length};
+ghost use Rattle.offset_allocator.specs.Accesses.{Costs};
+ghost use Rattle.offset_allocator.specs.Chain.{IsChain};
+ghost use Rattle.offset_allocator.specs.View.{Block};
+ghost use Rattle.offset_allocator.specs.Readies.{Readies};
 
 use crate::accesses::Accesses;
 use crate::tables::Tables;
@@ -16,4 +21,48 @@ pub(crate) struct Store<T: Tables> {
     pub(crate) spare_count: u32,
     // takes no bytes at run time
     pub(crate) accesses: Accesses,
+}
+
+/// Makes a node where fewer than `names` made nodes have no block; only one may be missing.
+#[inline(always)]
+pub(crate) fn ensure_spare<T: Tables>(
+    tables: &mut T,
+    spare_count: &mut u32,
+    names: u32,
+    count: &mut Accesses,
+)
+    requires memory { (m last : ℕ) × (bs : List Block) × IsChain (T.cells tables.old).room m last spare_count.old bs
+        × (length bs + names ≤ m) }
+    requires next { names ≤ spare_count.old + 1 }
+    ensures readies { Readies T.Index.MAX (T.cells tables.old) (T.cells tables.new) spare_count.old spare_count.new }
+    ensures enough { names ≤ spare_count.new }
+    ensures accesses { Costs 0 8 count.old count.new }
+{
+    tables.shape();
+    if *spare_count < names {
+        tables.add(*spare_count, count);
+        *spare_count += 1;
+    }
+}
+
+/// Makes as many nodes as are missing, so that at least `names`, 1 or 2, have no block.
+#[inline(always)]
+pub(crate) fn ensure_spares<T: Tables>(
+    tables: &mut T,
+    spare_count: &mut u32,
+    names: u32,
+    count: &mut Accesses,
+)
+    requires memory { (m last : ℕ) × (bs : List Block) × IsChain (T.cells tables.old).room m last spare_count.old bs
+        × (length bs + names ≤ m) }
+    requires some { 1 ≤ names }
+    requires few { names ≤ 2 }
+    ensures readies { Readies T.Index.MAX (T.cells tables.old) (T.cells tables.new) spare_count.old spare_count.new }
+    ensures enough { names ≤ spare_count.new }
+    ensures accesses { Costs 0 16 count.old count.new }
+{
+    ensure_spare(tables, spare_count, 1, count);
+    if names > 1 {
+        ensure_spare(tables, spare_count, names, count);
+    }
 }

@@ -1,5 +1,5 @@
 //! The tables, whatever their layout in memory: no other module reads or writes their cells. A function on single cells
-//! counts each that it touches; `with_len` and `clear` make new tables, and count none.
+//! counts each that it touches; `with_capacity` and `clear` make new tables, and count none.
 
 ghost use Rattle.std.specs.Prelude.{◌≡◌, ◌≢◌, ◌+◌, ◌-◌, ◌<◌, ◌≤◌, false, Some, [], ◌∷◌, ◌++◌, length, slice_set};
 ghost use Rattle.std.specs.Prelude.{slice_index, IfOk};
@@ -22,11 +22,11 @@ pub trait Tables: Drop {
     // What the tables hold.
     ghost cells: { Self → Cells };
 
-    /// Tables with one node, which is blank, and memory for `len`.
-    fn with_len(alloc: Global, len: u32) -> Result<Self, AllocError>
-        requires some { 0 < len }
-        requires limit { len < Self.Index.MAX }
-        ensures room { IfOk result (λ t. IsBare len (cells t).room) }
+    /// Tables with one node, which is blank, and memory for `capacity` nodes.
+    fn with_capacity(alloc: Global, capacity: u32) -> Result<Self, AllocError>
+        requires some { 0 < capacity }
+        requires limit { capacity < Self.Index.MAX }
+        ensures room { IfOk result (λ t. IsBare capacity (cells t).room) }
         ensures links { IfOk result (λ t. AreEmpty Self.Index.MAX (cells t).links) };
 
     /// Leaves one node, which is blank, and the memory. The bins may still name others: `bins::empty` has to follow.

@@ -137,11 +137,11 @@ impl Tables for Flat {
 
     ghost cells = { λ c. c };
 
-    fn with_len(alloc: Global, len: u32) -> Result<Self, AllocError> {
+    fn with_capacity(alloc: Global, capacity: u32) -> Result<Self, AllocError> {
         let mut tables = Flat {
-            cells: empty(alloc, len)?,
+            cells: empty(alloc, capacity)?,
             made: 0,
-            reserved: len,
+            reserved: capacity,
         };
         tables.add(0, &mut Accesses::new());
         Ok(tables)

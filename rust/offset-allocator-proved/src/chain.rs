@@ -4,7 +4,6 @@
 
 use crate::accesses::Accesses;
 use crate::index::{link_to, linked, no_link, number};
-use crate::neighbour_links::{point_back, point_on};
 use crate::store::Store;
 use crate::tables::Tables;
 
@@ -12,16 +11,6 @@ use crate::tables::Tables;
 pub(crate) fn start<T: Tables>(tables: &mut T, size: u32, max_allocs: u32, count: &mut Accesses) {
     tables.shape();
     tables.set_block(0, 0, size, no_link(), no_link(), count);
-}
-
-/// The offset of a block.
-pub(crate) fn offset<T: Tables>(tables: &T, name: u32, count: &mut Accesses) -> u32 {
-    tables.offset(name, count)
-}
-
-/// The size of a block.
-pub(crate) fn size<T: Tables>(tables: &T, name: u32, count: &mut Accesses) -> u32 {
-    tables.size(name, count)
 }
 
 /// Whether a block is used.
@@ -49,43 +38,39 @@ pub(crate) fn after<T: Tables>(tables: &T, name: u32, count: &mut Accesses) -> O
     linked(tables.after(name, count))
 }
 
-/// Makes a node where fewer than this number of names are unused; one is lacking at most.
-#[inline(always)]
-pub(crate) fn ready<T: Tables>(
+// Sets the link back of the node that `link` names; without one, `name` is the last block.
+fn point_back<T: Tables>(
     tables: &mut T,
-    spare_count: &mut u32,
-    names: u32,
+    last: &mut u32,
+    link: T::Index,
+    name: u32,
     count: &mut Accesses,
 ) {
-    tables.shape();
-    if *spare_count < names {
-        tables.add(*spare_count, count);
-        *spare_count += 1;
+    match linked(link) {
+        Some(after) => {
+            let back = tables.link_to(name);
+            tables.set_before(after, back, count)
+        }
+        None => *last = name,
     }
 }
 
-/// Makes nodes, so that at least `names` names, 1 or 2, are unused.
-#[inline(always)]
-pub(crate) fn ready_for<T: Tables>(
-    tables: &mut T,
-    spare_count: &mut u32,
-    names: u32,
-    count: &mut Accesses,
-) {
-    ready(tables, spare_count, 1, count);
-    if names > 1 {
-        ready(tables, spare_count, names, count);
+// Makes `name` the block after the one that `link` names, if any.
+fn point_on<T: Tables>(tables: &mut T, link: T::Index, name: u32, count: &mut Accesses) {
+    if let Some(before) = linked(link) {
+        let on = tables.link_to(name);
+        tables.set_after(before, on, count);
     }
 }
 
-/// Splits a block, of this offset and size, which the caller has read, after `kept` units. The remainder becomes a free
-/// block directly after it, under the name that is returned.
+/// Splits a block, which has this offset and `whole` units, after `size` units. The remainder becomes a free block
+/// directly after it, under the name that is returned. The caller has read the offset and the units.
 pub(crate) fn split<T: Tables>(
     store: &mut Store<T>,
     name: u32,
     offset: u32,
+    whole: u32,
     size: u32,
-    kept: u32,
 ) -> u32 {
     let tables = &mut store.tables;
     let count = &mut store.accesses;
@@ -94,41 +79,41 @@ pub(crate) fn split<T: Tables>(
     let next = tables.after(name, count);
     let back = tables.link_to(name);
     let on = tables.link_to(rest);
-    tables.set_block(rest, offset + kept, size - kept, back, next, count);
-    tables.set_end(name, kept, on, count);
+    tables.set_block(rest, offset + size, whole - size, back, next, count);
+    tables.set_end(name, size, on, count);
     point_back(tables, &mut store.last, next, rest, count);
     rest
 }
 
-/// Coalesces the free block `following` into the block directly before it; `total` is the size of both. The name
+/// Coalesces the free block `following` into the block directly before it; `whole` is the size of both. The name
 /// `following` is unused again.
-pub(crate) fn coalesce_after<T: Tables>(store: &mut Store<T>, name: u32, following: u32, total: u32) {
+pub(crate) fn coalesce_after<T: Tables>(store: &mut Store<T>, name: u32, following: u32, whole: u32) {
     let tables = &mut store.tables;
     let count = &mut store.accesses;
     tables.shape();
     let next = tables.after(following, count);
-    tables.set_end(name, total, next, count);
+    tables.set_end(name, whole, next, count);
     point_back(tables, &mut store.last, next, name, count);
     tables.set_spare(store.spare_count, link_to(following), count);
     store.spare_count += 1;
 }
 
-/// Coalesces the free block `previous` into the block directly after it; `total` is the size of both. The name
+/// Coalesces the free block `previous` into the block directly after it; `whole` is the size of both. The name
 /// `previous` is unused again.
-pub(crate) fn coalesce_before<T: Tables>(store: &mut Store<T>, previous: u32, name: u32, total: u32) {
+pub(crate) fn coalesce_before<T: Tables>(store: &mut Store<T>, previous: u32, name: u32, whole: u32) {
     let tables = &mut store.tables;
     let count = &mut store.accesses;
     tables.shape();
     let offset = tables.offset(previous, count);
     let link = tables.before(previous, count);
-    tables.set_start(name, offset, total, link, count);
+    tables.set_start(name, offset, whole, link, count);
     point_on(tables, link, name, count);
     tables.set_spare(store.spare_count, link_to(previous), count);
     store.spare_count += 1;
 }
 
 /// Makes a block, which is in no bin, used or free.
-pub(crate) fn mark<T: Tables>(tables: &mut T, name: u32, used: bool, count: &mut Accesses) {
+pub(crate) fn set_used<T: Tables>(tables: &mut T, name: u32, used: bool, count: &mut Accesses) {
     tables.set_used(name, used, count);
 }
 

@@ -42,13 +42,11 @@ mod by_field;
 mod by_node;
 mod chain;
 mod compact;
-mod counted;
 pub mod ext;
 mod fills;
 mod handle;
 mod index;
 pub mod laws;
-mod neighbour_links;
 mod neighbours;
 mod nonmax;
 mod reports;
@@ -109,7 +107,7 @@ impl<T: Tables> AllocatorOf<T> {
     pub fn with_max_allocs(alloc: Global, size: u32, max_allocs: u32) -> Result<Self, AllocError> {
         assert!(2 <= max_allocs, "max_allocs must be at least 2");
         assert!(max_allocs < T::Index::MAX - 1, "max_allocs must be at most NI::MAX - 2");
-        let tables = T::with_len(alloc, max_allocs)?;
+        let tables = T::with_capacity(alloc, max_allocs)?;
         let top_mask = bins::empty_mask(&tables);
         let mut store = Store {
             tables,
@@ -190,7 +188,7 @@ impl<T: Tables> AllocatorOf<T> {
     #[track_caller]
     pub fn free(&mut self, allocation: Allocation<T::Index>) {
         assert!(self.is_live(allocation), "the handle must be live: {:?}", { allocation });
-        self.release(index::number(T::Index::of_nonmax(allocation.name())));
+        self.release(allocation.name());
     }
 
     /// Whether the handle is live here: its name is the name of a used block. `free` asks for exactly this.
@@ -198,14 +196,14 @@ impl<T: Tables> AllocatorOf<T> {
     /// A handle whose block was freed is live again where a newer grant has its name. It makes at most 8 accesses to
     /// the tables.
     pub fn is_live(&self, allocation: Allocation<T::Index>) -> bool {
-        counted::is_live_counted(self, allocation, &mut Accesses::new())
+        reports::is_live_counted(self, allocation, &mut Accesses::new())
     }
 
     /// The units of the range that a live handle has: exactly those that `allocate`, `allocate_aligned`, `shrink` or
     /// `grow_in_place` last gave it. It is 0 where the handle is not live, and for a live range of no units too. It
     /// makes at most 8 accesses to the tables.
     pub fn allocation_size(&self, allocation: Allocation<T::Index>) -> u32 {
-        counted::allocation_size_counted(self, allocation, &mut Accesses::new())
+        reports::allocation_size_counted(self, allocation, &mut Accesses::new())
     }
 
     /// Where the range of a live handle begins, in units from the start of the space, or `None` where the handle is not
@@ -214,7 +212,7 @@ impl<T: Tables> AllocatorOf<T> {
     /// The public `offset` of a handle is a copy: a caller may have changed it, `compact` leaves it as it was, and a
     /// stale handle keeps it. It makes at most 8 accesses to the tables.
     pub fn allocation_offset(&self, allocation: Allocation<T::Index>) -> Option<u32> {
-        counted::allocation_offset_counted(self, allocation, &mut Accesses::new())
+        reports::allocation_offset_counted(self, allocation, &mut Accesses::new())
     }
 
     /// The blocks of the space, used and free, from its end to its start. It takes no memory, and each block costs at
@@ -230,20 +228,20 @@ impl<T: Tables> AllocatorOf<T> {
     /// The free space in short: the units of all free blocks, and the largest request that would be granted. Both are
     /// 0 where `max_allocs - 1` blocks exist. It makes at most 8 accesses to the tables.
     pub fn storage_report(&self) -> StorageReport {
-        counted::storage_report_counted(self, &mut Accesses::new())
+        reports::storage_report_counted(self, &mut Accesses::new())
     }
 
     /// The free blocks, class by class, at the node limit too. It makes at most 512 accesses to the tables, and 2 for
     /// each free block.
     pub fn storage_report_full(&self) -> StorageReportFull {
-        counted::storage_report_full_counted(self, &mut Accesses::new())
+        reports::storage_report_full_counted(self, &mut Accesses::new())
     }
 
     /// Why `allocate(size)` would be refused now, or `None` exactly where it would be granted.
     ///
     /// It makes at most 8 accesses to the tables.
     pub fn refusal(&self, size: u32) -> Option<Refusal> {
-        counted::refusal_counted(self, size, &mut Accesses::new())
+        reports::refusal_counted(self, size, &mut Accesses::new())
     }
 
     /// Why `allocate_aligned(size, align)` would be refused now, or `None` exactly where it would be granted.
@@ -253,7 +251,7 @@ impl<T: Tables> AllocatorOf<T> {
     #[track_caller]
     pub fn refusal_aligned(&self, size: u32, align: u32) -> Option<Refusal> {
         assert!(align.is_power_of_two(), "align must be a power of two");
-        counted::refusal_aligned_counted(self, size, align, &mut Accesses::new())
+        reports::refusal_aligned_counted(self, size, align, &mut Accesses::new())
     }
 
     /// Grants `size` units that begin at a multiple of `align`, a power of two.

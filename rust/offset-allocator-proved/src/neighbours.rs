@@ -30,25 +30,11 @@ pub(crate) fn free_after<T: Tables>(tables: &T, name: u32, count: &mut Accesses)
     None
 }
 
-/// The units of the free block `next`, if any, directly after a block.
-#[inline(always)]
-pub(crate) fn units_after<T: Tables>(
-    tables: &T,
-    name: u32,
-    next: Option<u32>,
-    count: &mut Accesses,
-) -> u32 {
-    match next {
-        None => 0,
-        Some(following) => chain::size(tables, following, count),
-    }
-}
-
 // A free block directly before a block leaves its bin and is coalesced into it. The size of the whole is returned.
 #[inline(always)]
 fn with_before<T: Tables>(store: &mut Store<T>, name: u32, size: u32) -> u32 {
     if let Some(previous) = free_before(&store.tables, name, &mut store.accesses) {
-        let more = chain::size(&store.tables, previous, &mut store.accesses);
+        let more = store.tables.size(previous, &mut store.accesses);
         let whole = more + size;
         bins::remove(store, previous, more);
         chain::coalesce_before(store, previous, name, whole);
@@ -63,7 +49,7 @@ fn with_after<T: Tables>(store: &mut Store<T>, name: u32, size: u32, next: Optio
     match next {
         None => size,
         Some(following) => {
-            let more = chain::size(&store.tables, following, &mut store.accesses);
+            let more = store.tables.size(following, &mut store.accesses);
             let whole = size + more;
             bins::remove(store, following, more);
             chain::coalesce_after(store, name, following, whole);
@@ -80,12 +66,12 @@ pub(crate) fn coalesce<T: Tables>(store: &mut Store<T>, name: u32, size: u32) {
     let next = free_after(&store.tables, name, &mut store.accesses);
     let (gone, more, whole) = if let Some(following) = next {
         let size = with_before(store, name, size);
-        let more = chain::size(&store.tables, following, &mut store.accesses);
+        let more = store.tables.size(following, &mut store.accesses);
         let whole = size + more;
         chain::coalesce_after(store, name, following, whole);
         (following, more, whole)
     } else if let Some(previous) = free_before(&store.tables, name, &mut store.accesses) {
-        let more = chain::size(&store.tables, previous, &mut store.accesses);
+        let more = store.tables.size(previous, &mut store.accesses);
         let whole = more + size;
         chain::coalesce_before(store, previous, name, whole);
         (previous, more, whole)
@@ -125,20 +111,26 @@ fn split_remainder<T: Tables>(
     rest
 }
 
-/// Splits a block into `padding` free units, `size` used units under its name, from `start` on, and a free remainder of
-/// the units that are left. The names of the padding and of the remainder are returned, where these have units.
+/// The units of a block that is split: of the padding, of the grant, and those that are left.
+#[derive(Clone, Copy)]
+pub(crate) struct Parts {
+    pub(crate) padding: u32,
+    pub(crate) size: u32,
+    pub(crate) left: u32,
+}
+
+/// Splits a block into a free padding, the granted units, which keep its name, are used and begin at `start`, and a free
+/// remainder. The names of the padding and of the remainder are returned, where these have units.
 #[inline(always)]
 pub(crate) fn divide<T: Tables>(
     store: &mut Store<T>,
     name: u32,
     start: u32,
-    padding: u32,
-    size: u32,
-    left: u32,
+    parts: Parts,
 ) -> (u32, u32) {
-    let front = split_padding(store, name, padding);
-    chain::mark(&mut store.tables, name, true, &mut store.accesses);
-    let rest = split_remainder(store, name, start, size, left);
+    let front = split_padding(store, name, parts.padding);
+    chain::set_used(&mut store.tables, name, true, &mut store.accesses);
+    let rest = split_remainder(store, name, start, parts.size, parts.left);
     (front, rest)
 }
 
@@ -153,6 +145,6 @@ pub(crate) fn resize<T: Tables>(
     size: u32,
 ) -> u32 {
     let whole = with_after(store, name, old_size, next);
-    let offset = chain::offset(&store.tables, name, &mut store.accesses);
+    let offset = store.tables.offset(name, &mut store.accesses);
     split_remainder(store, name, offset, size, whole - size)
 }

@@ -5,10 +5,11 @@
 use crate::accesses::Accesses;
 use crate::handle::Allocation;
 use crate::index::NodeIndex;
+use crate::neighbours::Parts;
 use crate::small_float::{uint_to_float_round_down, uint_to_float_round_up};
 use crate::store::Store;
 use crate::tables::Tables;
-use crate::{AllocatorOf, bins, chain, neighbours};
+use crate::{AllocatorOf, bins, chain, neighbours, store};
 
 /// The handle of a name.
 pub(crate) fn handle_of<NI: NodeIndex>(offset: u32, name: u32) -> Allocation<NI> {
@@ -66,25 +67,23 @@ impl<T: Tables> AllocatorOf<T> {
     /// Grants `size` units of the newest block of a class, beginning at the first multiple of `align` in that block.
     #[inline(always)]
     pub(crate) fn grant(&mut self, class: u32, size: u32, align: u32) -> Allocation<T::Index> {
-        chain::ready_for(
+        store::ensure_spares(
             &mut self.store.tables,
             &mut self.store.spare_count,
             align.min(2),
             &mut self.store.accesses,
         );
         let name = bins::pop(&mut self.store, class);
-        let offset = chain::offset(&self.store.tables, name, &mut self.store.accesses);
-        let whole = chain::size(&self.store.tables, name, &mut self.store.accesses);
+        let offset = self.store.tables.offset(name, &mut self.store.accesses);
+        let whole = self.store.tables.size(name, &mut self.store.accesses);
         let padding = (align - offset % align) % align;
         let start = offset + padding;
-        neighbours::divide(
-            &mut self.store,
-            name,
-            start,
+        let parts = Parts {
             padding,
             size,
-            whole - (padding + size),
-        );
+            left: whole - (padding + size),
+        };
+        neighbours::divide(&mut self.store, name, start, parts);
         self.free_total -= size;
         handle_of(start, name)
     }
@@ -115,9 +114,9 @@ impl<T: Tables> AllocatorOf<T> {
     /// inlined whole.
     #[inline(always)]
     pub(crate) fn release(&mut self, name: u32) {
-        let size = chain::size(&self.store.tables, name, &mut self.store.accesses);
+        let size = self.store.tables.size(name, &mut self.store.accesses);
         self.free_total += size;
-        chain::mark(
+        chain::set_used(
             &mut self.store.tables,
             name,
             false,
@@ -127,14 +126,14 @@ impl<T: Tables> AllocatorOf<T> {
     }
 
     /// Whether a name is that of a used block.
-    pub(crate) fn uses(&self, name: u32, count: &mut Accesses) -> bool {
+    pub(crate) fn is_used(&self, name: u32, count: &mut Accesses) -> bool {
         chain::is_live(&self.store.tables, name, count)
     }
 
     /// Adds units to the last block, which is free.
     pub(crate) fn widen(&mut self, more: u32) {
         let end = self.store.last;
-        let size = chain::size(&self.store.tables, end, &mut self.store.accesses);
+        let size = self.store.tables.size(end, &mut self.store.accesses);
         bins::remove(&mut self.store, end, size);
         chain::grow(&mut self.store.tables, end, more, &mut self.store.accesses);
         bins::push(&mut self.store, end, uint_to_float_round_down(size + more));
@@ -144,15 +143,15 @@ impl<T: Tables> AllocatorOf<T> {
 
     /// Puts a free block after the last one, which is used.
     pub(crate) fn append(&mut self, more: u32) {
-        chain::ready(
+        store::ensure_spare(
             &mut self.store.tables,
             &mut self.store.spare_count,
             1,
             &mut self.store.accesses,
         );
         let end = self.store.last;
-        let offset = chain::offset(&self.store.tables, end, &mut self.store.accesses);
-        let whole = chain::size(&self.store.tables, end, &mut self.store.accesses);
+        let offset = self.store.tables.offset(end, &mut self.store.accesses);
+        let whole = self.store.tables.size(end, &mut self.store.accesses);
         let name = chain::split(&mut self.store, end, offset, whole, whole);
         chain::grow(
             &mut self.store.tables,

@@ -1,7 +1,7 @@
 // Printed by rust/erase from crates/offset_allocator/src/tables.rt: change it there.
 
 //! The tables, whatever their layout in memory: no other module reads or writes their cells. A function on single cells
-//! counts each that it touches; `with_len` and `clear` make new tables, and count none.
+//! counts each that it touches; `with_capacity` and `clear` make new tables, and count none.
 
 use crate::accesses::Accesses;
 use crate::index::NodeIndex;
@@ -16,8 +16,8 @@ pub trait Tables: Sized {
     /// The type of the links. A link is the number of a node, or the largest number, which names none.
     type Index: NodeIndex;
 
-    /// Tables with one node, which is blank, and memory for `len`.
-    fn with_len(alloc: Global, len: u32) -> Result<Self, AllocError>;
+    /// Tables with one node, which is blank, and memory for `capacity` nodes.
+    fn with_capacity(alloc: Global, capacity: u32) -> Result<Self, AllocError>;
 
     /// Leaves one node, which is blank, and the memory. The bins may still name others: `bins::empty` has to follow.
     fn clear(&mut self);

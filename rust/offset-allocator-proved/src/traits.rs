@@ -13,7 +13,7 @@ impl<NI: NodeIndex, N: NodeIndexNonMax> Eq for Allocation<NI, N> {}
 impl<NI: NodeIndex, N: NodeIndexNonMax> Hash for Allocation<NI, N> {
     fn hash<H: Hasher>(&self, state: &mut H) {
         self.offset.hash(state);
-        self.name().to_usize().hash(state);
+        self.metadata.to_usize().hash(state);
     }
 }
 

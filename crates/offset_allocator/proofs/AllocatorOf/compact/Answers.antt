@@ -18,8 +18,8 @@ returns-in_default-clause-step g c =
     let P : View → Type 0 = λ u. Compacts u (shown (record f { accesses = c.first_free.new.count })) in
     subst P c.self.view_is (stays_packed f c.self.invariant c.first_free.new.count (sym c.first_free.ensures.first ∙ c.in_default.is))
 
-pub size-units-requires : goal.size-units-requires
-size-units-requires g c =
+pub size-size-requires : goal.size-size-requires
+size-size-requires g c =
     let o = first_is _ _ (sym c.first_free.ensures.first ∙ c.in-Some.is) in
     (first_held (fields_of g.T.Tables.cells g.T.Index.NodeIndex.MAX c.self.inside) c.self.invariant o refl).below
 
@@ -47,13 +47,13 @@ push-requires-clause-idle g c =
     ap (λ (v : Node). v.used) (at_place e.0)
 
 pub push-requires-clause-classed : goal.push-requires-clause-classed
-push-requires-clause-classed g c = omega (arith, down_small c.slide-hole.result.1, c.uint_to_float_round_down.ensures.is)
+push-requires-clause-classed g c = omega (arith, down_small c.slide-hole.result.size, c.uint_to_float_round_down-class.ensures.is)
 
 pub push-requires-clause-held : goal.push-requires-clause-held
 push-requires-clause-held g c = rw (c.slide-hole.ensures.bins.0, c.slide-hole.ensures.bins.1) c.empty.ensures.held
 
 pub push-requires-clause-unlisted : goal.push-requires-clause-unlisted
-push-requires-clause-unlisted g c = empty_unlisted c.slide-hole.result.0 (ap (λ (k : Links). bins_in g.T.Index.NodeIndex.MAX k) c.slide-hole.ensures.bins.0 ∙ c.empty.ensures.lists)
+push-requires-clause-unlisted g c = empty_unlisted c.slide-hole.result.name (ap (λ (k : Links). bins_in g.T.Index.NodeIndex.MAX k) c.slide-hole.ensures.bins.0 ∙ c.empty.ensures.lists)
 
 -- the fields that are left, and what they show
 done : (g : Over) (c : After-push g) (k : ℕ) (f : Fields) → f ≡ record (fields_of g.T.Tables.cells g.T.Index.NodeIndex.MAX c.self.inside) {
@@ -70,8 +70,8 @@ done g c k f is =
     let e = c.slide-hole.ensures.place _ _ (kept_place c.empty.ensures.chain (first_held old c.self.invariant o refl)) o.idle in
     let empty : bins_in g.T.Index.NodeIndex.MAX (g.T.Tables.cells c.slide-hole.new.store.tables).links ≡ replicate 256 [] =
     ap (λ (k : Links). bins_in g.T.Index.NodeIndex.MAX k) c.slide-hole.ensures.bins.0 ∙ c.empty.ensures.lists in
-    rw is (packs old c.self.invariant o (g.T.Tables.cells c.push.new.store.tables) _ _ c.slide-hole.result.0 c.slide-hole.result.1 (kept_place c.push.ensures.chain e.0) e.1 {accesses = k}
-    c.push.ensures.held (rw (c.uint_to_float_round_down.ensures.is, empty) at c.push.ensures.lists))
+    rw is (packs old c.self.invariant o (g.T.Tables.cells c.push.new.store.tables) _ _ c.slide-hole.result.name c.slide-hole.result.size (kept_place c.push.ensures.chain e.0) e.1 {accesses = k}
+    c.push.ensures.held (rw (c.uint_to_float_round_down-class.ensures.is, empty) at c.push.ensures.lists))
 
 pub invariant_of-self-2 : goal.invariant_of-self-2
 invariant_of-self-2 g c = (done g (goal.at.invariant_of-self-2 g c).After-push 0 _ refl).0

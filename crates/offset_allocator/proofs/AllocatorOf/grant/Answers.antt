@@ -6,16 +6,16 @@ use Rattle.offset_allocator.proofs.{Places.at_place, Places.kept_place, Readied.
 use Rattle.offset_allocator.proofs.AllocatorOf.grant.Goals as goal
 use Rattle.offset_allocator.proofs.AllocatorOf.grant.{Goals.After-pop-name, Goals.After-size-whole, Goals.After-divide, Given.Over}
 
-pub ready_for-requires-clause-memory : goal.ready_for-requires-clause-memory
-ready_for-requires-clause-memory g c = (_, _, _, c.self.invariant.space, omega (arith, c.min.ensures, rw (← c.self.view_is) at c.requires.enough, c.self.invariant.memory))
+pub ensure_spares-requires-clause-memory : goal.ensure_spares-requires-clause-memory
+ensure_spares-requires-clause-memory g c = (_, _, _, c.self.invariant.space, omega (arith, c.min.ensures, rw (← c.self.view_is) at c.requires.enough, c.self.invariant.memory))
 
 -- what the contract asks of the view, said of the fields
-call : (g : Over) (c : After-pop-name g) → Call (with_made (fields_of g.T.Tables.cells g.T.Index.NodeIndex.MAX c.self.inside) (g.T.Tables.cells c.ready_for.new.tables) c.ready_for.new.spare_count)
+call : (g : Over) (c : After-pop-name g) → Call (with_made (fields_of g.T.Tables.cells g.T.Index.NodeIndex.MAX c.self.inside) (g.T.Tables.cells c.ensure_spares.new.tables) c.ensure_spares.new.spare_count)
     (units_needed c.args.size c.args.align) c.args.class c.pop-name.result
 call g c = record {
-  sound = made (fields_of g.T.Tables.cells g.T.Index.NodeIndex.MAX c.self.inside) c.self.invariant c.ready_for.ensures.readies;
+  sound = made (fields_of g.T.Tables.cells g.T.Index.NodeIndex.MAX c.self.inside) c.self.invariant c.ensure_spares.ensures.readies;
   smallest = subst (λ (u : View). IsSmallestFrom (up (units_needed c.args.size c.args.align)) u.order c.args.class)
-      (sym (made_shown (fields_of g.T.Tables.cells g.T.Index.NodeIndex.MAX c.self.inside) c.self.invariant c.ready_for.ensures.readies ∙ c.self.view_is)) c.requires.smallest;
+      (sym (made_shown (fields_of g.T.Tables.cells g.T.Index.NodeIndex.MAX c.self.inside) c.self.invariant c.ensure_spares.ensures.readies ∙ c.self.view_is)) c.requires.smallest;
   older = _;
   newest = c.pop-name.ensures.first;
 }
@@ -28,12 +28,12 @@ two : (align o : ℕ) → 1 ≤ padding_to align o → 2 ≤ blocks_needed align
 two align o l = omega arith
 
 pub pop-name-requires-clause-held : goal.pop-name-requires-clause-held
-pop-name-requires-clause-held g c = (c.ready_for.ensures.readies.bins _ c.self.invariant.bins).0
+pop-name-requires-clause-held g c = (c.ensure_spares.ensures.readies.bins _ c.self.invariant.bins).0
 
 pub pop-name-requires-clause-some : goal.pop-name-requires-clause-some
 pop-name-requires-clause-some g c =
     (subst (λ (u : View). IsSmallestFrom (up (units_needed c.args.size c.args.align)) u.order c.args.class)
-    (sym (made_shown (fields_of g.T.Tables.cells g.T.Index.NodeIndex.MAX c.self.inside) c.self.invariant c.ready_for.ensures.readies ∙ c.self.view_is)) c.requires.smallest).2
+    (sym (made_shown (fields_of g.T.Tables.cells g.T.Index.NodeIndex.MAX c.self.inside) c.self.invariant c.ensure_spares.ensures.readies ∙ c.self.view_is)) c.requires.smallest).2
 
 pub offset-offset-requires : goal.offset-offset-requires
 offset-offset-requires g c = (kept_place c.pop-name.ensures.chain (held (call g (goal.at.offset-offset-requires g c).After-pop-name) refl)).below
@@ -42,13 +42,13 @@ pub size-whole-requires : goal.size-whole-requires
 size-whole-requires g c = (kept_place c.pop-name.ensures.chain (held (call g (goal.at.size-whole-requires g c).After-pop-name) refl)).below
 
 -- the block holds the padding and the units
-fits : (g : Over) (c : After-size-whole g) → Call (with_made (fields_of g.T.Tables.cells g.T.Index.NodeIndex.MAX c.self.inside) (g.T.Tables.cells c.ready_for.new.tables) c.ready_for.new.spare_count)
+fits : (g : Over) (c : After-size-whole g) → Call (with_made (fields_of g.T.Tables.cells g.T.Index.NodeIndex.MAX c.self.inside) (g.T.Tables.cells c.ensure_spares.new.tables) c.ensure_spares.new.spare_count)
     (units_needed c.args.size c.args.align) c.args.class c.pop-name.result → padding_to c.args.align c.offset-offset.result + c.args.size ≤ c.size-whole.result
-fits g c p = rw (c.offset-offset.ensures.offset, c.size-whole.ensures.size, at_place (kept_place c.pop-name.ensures.chain (held p refl)))
+fits g c p = rw (c.offset-offset.ensures.cell, c.size-whole.ensures.cell, at_place (kept_place c.pop-name.ensures.chain (held p refl)))
     (whole_fits p c.args.size (padding_to c.args.align) (λ o. within c.args.size c.args.align o c.requires.some))
 
-pub overflow_sub-whole : goal.overflow_sub-whole
-overflow_sub-whole g c = let at = goal.at.overflow_sub-whole g c in fits g at.After-size-whole (call g at.After-pop-name)
+pub overflow_sub-parts : goal.overflow_sub-parts
+overflow_sub-parts g c = let at = goal.at.overflow_sub-parts g c in fits g at.After-size-whole (call g at.After-pop-name)
 
 pub divide-requires-clause-place : goal.divide-requires-clause-place
 divide-requires-clause-place g c =
@@ -56,7 +56,7 @@ divide-requires-clause-place g c =
     (_, _, kept_place c.pop-name.ensures.chain (held p refl), rw c.pop-name.ensures.lists (unlisted p))
 
 pub divide-requires-clause-whole : goal.divide-requires-clause-whole
-divide-requires-clause-whole g c = let at = goal.at.divide-requires-clause-whole g c in omega (arith, c.size-whole.ensures.size, fits g at.After-size-whole (call g at.After-pop-name))
+divide-requires-clause-whole g c = let at = goal.at.divide-requires-clause-whole g c in omega (arith, c.size-whole.ensures.cell, fits g at.After-size-whole (call g at.After-pop-name))
 
 pub divide-requires-clause-unlisted : goal.divide-requires-clause-unlisted
 divide-requires-clause-unlisted g c =
@@ -64,10 +64,10 @@ divide-requires-clause-unlisted g c =
     rw c.pop-name.ensures.lists (removed_unlisted p.sound.bins.linked c.args.class p.smallest.1 c.pop-name.result (rw p.newest (omega (arith, one-same c.pop-name.result))))
 
 pub divide-requires-clause-spare : goal.divide-requires-clause-spare
-divide-requires-clause-spare g c = omega (arith, c.min.ensures, c.requires.some, c.ready_for.ensures.enough)
+divide-requires-clause-spare g c = omega (arith, c.min.ensures, c.requires.some, c.ensure_spares.ensures.enough)
 
 pub divide-requires-clause-two : goal.divide-requires-clause-two
-divide-requires-clause-two g c l = omega (arith, c.min.ensures, two c.args.align c.offset-offset.result (omega (arith, l)), c.ready_for.ensures.enough)
+divide-requires-clause-two g c l = omega (arith, c.min.ensures, two c.args.align c.offset-offset.result (omega (arith, l)), c.ensure_spares.ensures.enough)
 
 pub overflow_sub-self : goal.overflow_sub-self
 overflow_sub-self g c = units_free (call g (goal.at.overflow_sub-self g c).After-pop-name) c.args.size (padding_to c.args.align) (λ o. within c.args.size c.args.align o c.requires.some)
@@ -76,12 +76,12 @@ pub overflow_add-start : goal.overflow_add-start
 overflow_add-start g c =
     let p = call g (goal.at.overflow_add-start g c).After-pop-name in
     let small : c.offset-offset.result + padding_to c.args.align c.offset-offset.result < 2 ^ 32 =
-    rw (c.offset-offset.ensures.offset, at_place (kept_place c.pop-name.ensures.chain (held p refl)))
+    rw (c.offset-offset.ensures.cell, at_place (kept_place c.pop-name.ensures.chain (held p refl)))
     (padding_fits p c.args.size (padding_to c.args.align) (λ o. within c.args.size c.args.align o c.requires.some)) in
     omega (arith, small)
 
 -- the fields that are left, and what was split
-done : (g : Over) (c : After-divide g) → Call (with_made (fields_of g.T.Tables.cells g.T.Index.NodeIndex.MAX c.self.inside) (g.T.Tables.cells c.ready_for.new.tables) c.ready_for.new.spare_count)
+done : (g : Over) (c : After-divide g) → Call (with_made (fields_of g.T.Tables.cells g.T.Index.NodeIndex.MAX c.self.inside) (g.T.Tables.cells c.ensure_spares.new.tables) c.ensure_spares.new.spare_count)
     (units_needed c.args.size c.args.align) c.args.class c.pop-name.result → (k : ℕ) (f : Fields)
     → f ≡ record (fields_of g.T.Tables.cells g.T.Index.NodeIndex.MAX c.self.inside) {
       cells = (g.T.Tables.cells c.divide.new.store.tables);
@@ -92,15 +92,15 @@ done : (g : Over) (c : After-divide g) → Call (with_made (fields_of g.T.Tables
       accesses = k;
     }
     → AreSound f × Splits (units_needed c.args.size c.args.align) c.args.size (padding_to c.args.align)
-    (shown (with_made (fields_of g.T.Tables.cells g.T.Index.NodeIndex.MAX c.self.inside) (g.T.Tables.cells c.ready_for.new.tables) c.ready_for.new.spare_count)) (shown f)
+    (shown (with_made (fields_of g.T.Tables.cells g.T.Index.NodeIndex.MAX c.self.inside) (g.T.Tables.cells c.ensure_spares.new.tables) c.ensure_spares.new.spare_count)) (shown f)
     (record { name = c.pop-name.result; offset = c.offset-offset.result + padding_to c.args.align c.offset-offset.result })
 done g c p k f e =
     let h = kept_place c.pop-name.ensures.chain (held p refl) in
     let at = at_place h in
-    let oe = c.offset-offset.ensures.offset ∙ ap (λ (v : Node). v.offset) at in
-    let we = c.size-whole.ensures.size ∙ ap (λ (v : Node). v.size) at in
+    let oe = c.offset-offset.ensures.cell ∙ ap (λ (v : Node). v.offset) at in
+    let we = c.size-whole.ensures.cell ∙ ap (λ (v : Node). v.size) at in
     let place = c.divide.ensures.place _ _ h in
-    let room = subst (HasRoomFor (blocks_needed c.args.align)) (sym (made_shown (fields_of g.T.Tables.cells g.T.Index.NodeIndex.MAX c.self.inside) c.self.invariant c.ready_for.ensures.readies
+    let room = subst (HasRoomFor (blocks_needed c.args.align)) (sym (made_shown (fields_of g.T.Tables.cells g.T.Index.NodeIndex.MAX c.self.inside) c.self.invariant c.ensure_spares.ensures.readies
     ∙ c.self.view_is)) c.requires.enough in
     rw (e, oe) (granted p c.args.size (padding_to c.args.align) (λ o. within c.args.size c.args.align o c.requires.some) (blocks_needed c.args.align) room (omega (arith, c.requires.some))
     (two c.args.align) _ _ _ _ _ (rw (oe, we) at place) c.divide.ensures.held (rw (oe, we, c.pop-name.ensures.lists) at c.divide.ensures.lists))
@@ -111,17 +111,17 @@ invariant_of-self g c = let at = goal.at.invariant_of-self g c in (done g at.Aft
 pub returns-clause-step : goal.returns-clause-step
 returns-clause-step g c =
     let at = goal.at.returns-clause-step g c in
-    rw (c.handle_of.ensures, ← (made_shown (fields_of g.T.Tables.cells g.T.Index.NodeIndex.MAX c.self.inside) c.self.invariant c.ready_for.ensures.readies ∙ c.self.view_is))
+    rw (c.handle_of.ensures, ← (made_shown (fields_of g.T.Tables.cells g.T.Index.NodeIndex.MAX c.self.inside) c.self.invariant c.ensure_spares.ensures.readies ∙ c.self.view_is))
     (done g at.After-divide (call g at.After-pop-name) c.divide.new.store.accesses _ refl).1
 
-pub overflow_add-padding : goal.overflow_add-padding
-overflow_add-padding g c = let l = within c.args.size c.args.align c.offset-offset.result c.requires.some in omega (arith, l, c.requires.fits)
+pub overflow_add-parts : goal.overflow_add-parts
+overflow_add-parts g c = let l = within c.args.size c.args.align c.offset-offset.result c.requires.some in omega (arith, l, c.requires.fits)
 
 pub divide-requires-clause-start : goal.divide-requires-clause-start
-divide-requires-clause-start g c = ap (λ o. o + padding_to c.args.align c.offset-offset.result) c.offset-offset.ensures.offset
+divide-requires-clause-start g c = ap (λ o. o + padding_to c.args.align c.offset-offset.result) c.offset-offset.ensures.cell
 
 pub handle_of-requires : goal.handle_of-requires
 handle_of-requires g c =
     let h = held (call g (goal.at.handle_of-requires g c).After-pop-name) refl in
-    let k = made (fields_of g.T.Tables.cells g.T.Index.NodeIndex.MAX c.self.inside) c.self.invariant c.ready_for.ensures.readies in
+    let k = made (fields_of g.T.Tables.cells g.T.Index.NodeIndex.MAX c.self.inside) c.self.invariant c.ensure_spares.ensures.readies in
     omega (arith, h.below, h.chain.within, k.memory, k.admitted)

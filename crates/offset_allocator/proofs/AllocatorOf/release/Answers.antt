@@ -2,21 +2,21 @@ use Rattle.offset_allocator.proofs.Common.{◌≡◌, false, refl, ◌+◌, ◌�
 use Rattle.offset_allocator.proofs.{Filed.unlisted, Sound.Fields, Sound.AreSound, Sound.shown, Sound.fields_of, Sound.known_sound, Places.at_place, Freeing.Release, Freeing.at, Freeing.room_for}
 use Rattle.offset_allocator.proofs.{Freeing.filed, Freeing.freed, Freeing.named_live, Ranges.frees_gone, Ranges.frees_others, Reading.live_used, ViewTaken.well_frees}
 use Rattle.offset_allocator.proofs.AllocatorOf.release.Goals as goal
-use Rattle.offset_allocator.proofs.AllocatorOf.release.{Goals.After-self, Goals.After-mark, Goals.After-coalesce, Given.Over}
+use Rattle.offset_allocator.proofs.AllocatorOf.release.{Goals.After-self, Goals.After-set_used, Goals.After-coalesce, Given.Over}
 
 release : (g : Over) (c : After-self g) → Release (fields_of g.T.Tables.cells g.T.Index.NodeIndex.MAX c.self.inside) c.args.name
 release g c = record { sound = c.self.invariant; live = named_live _ _ _ _ c.self.view_is refl (live_used c.args.name c.args.self.now c.requires.live) }
 
 -- the block once it is free, and the bins as they were
-marked : (g : Over) (c : After-mark g) (r : Release (fields_of g.T.Tables.cells g.T.Index.NodeIndex.MAX c.self.inside) c.args.name)
-    → HasPlace (g.T.Tables.cells c.mark.new.tables).room (g.T.Tables.cells c.self.inside.store.tables).room.reserved c.self.inside.store.last c.self.inside.store.spare_count c.args.name
+marked : (g : Over) (c : After-set_used g) (r : Release (fields_of g.T.Tables.cells g.T.Index.NodeIndex.MAX c.self.inside) c.args.name)
+    → HasPlace (g.T.Tables.cells c.set_used.new.tables).room (g.T.Tables.cells c.self.inside.store.tables).room.reserved c.self.inside.store.last c.self.inside.store.spare_count c.args.name
     (record (at r).place { block = record (at r).place.block { used = false } })
-marked g c r = c.mark.ensures.place _ _ _ _ (at r).held
+marked g c r = c.set_used.ensures.place _ _ _ _ (at r).held
 
-bins : (g : Over) (c : After-mark g) (r : Release (fields_of g.T.Tables.cells g.T.Index.NodeIndex.MAX c.self.inside) c.args.name)
-    → IsBinned g.T.Index.NodeIndex.MAX (g.T.Tables.cells c.mark.new.tables).links c.self.inside.store.top_mask
-    × (bins_in g.T.Index.NodeIndex.MAX (g.T.Tables.cells c.mark.new.tables).links ≡ bins_in g.T.Index.NodeIndex.MAX (g.T.Tables.cells c.self.inside.store.tables).links)
-bins g c r = c.mark.ensures.bins _ (unlisted (at r).held _ (filed r)) c.self.invariant.bins
+bins : (g : Over) (c : After-set_used g) (r : Release (fields_of g.T.Tables.cells g.T.Index.NodeIndex.MAX c.self.inside) c.args.name)
+    → IsBinned g.T.Index.NodeIndex.MAX (g.T.Tables.cells c.set_used.new.tables).links c.self.inside.store.top_mask
+    × (bins_in g.T.Index.NodeIndex.MAX (g.T.Tables.cells c.set_used.new.tables).links ≡ bins_in g.T.Index.NodeIndex.MAX (g.T.Tables.cells c.self.inside.store.tables).links)
+bins g c r = c.set_used.ensures.bins _ (unlisted (at r).held _ (filed r)) c.self.invariant.bins
 
 -- the fields that the release leaves, with any number of accesses counted
 abbrev after : (g : Over) → After-coalesce g → ℕ → Fields
@@ -34,11 +34,11 @@ done g c k =
     let here = goal.at.returns-clause-step g c in
     let new : Fields = after g c k in
     let r = release g here.After-self in
-    let h = marked g here.After-mark r in
+    let h = marked g here.After-set_used r in
     let m = c.coalesce.ensures.place _ _ h in
-    let order = rw (ap (λ (v : Node). v.size) (at_place m), (bins g here.After-mark r).1) at (c.coalesce.ensures.lists _ _ h) in
+    let order = rw (ap (λ (v : Node). v.size) (at_place m), (bins g here.After-set_used r).1) at (c.coalesce.ensures.lists _ _ h) in
     let left = freed r new.cells new.last new.count new.top k m.chain c.coalesce.ensures.held order in
-    (rw (c.size-size.ensures.size ∙ ap (λ (v : Node). v.size) (at_place (at r).held)) left.0, rw (← c.self.view_is) left.1)
+    (rw (c.size-size.ensures.cell ∙ ap (λ (v : Node). v.size) (at_place (at r).held)) left.0, rw (← c.self.view_is) left.1)
 
 pub size-size-requires : goal.size-size-requires
 size-size-requires g c = (at (release g (goal.at.size-size-requires g c).After-self)).held.below
@@ -46,28 +46,28 @@ size-size-requires g c = (at (release g (goal.at.size-size-requires g c).After-s
 pub overflow_add-self : goal.overflow_add-self
 overflow_add-self g c =
     let r = release g (goal.at.overflow_add-self g c).After-self in
-    omega (arith, c.size-size.ensures.size, ap (λ (v : Node). v.size) (at_place (at r).held), room_for r)
+    omega (arith, c.size-size.ensures.cell, ap (λ (v : Node). v.size) (at_place (at r).held), room_for r)
 
-pub mark-requires : goal.mark-requires
-mark-requires g c = (at (release g (goal.at.mark-requires g c).After-self)).held.below
+pub set_used-requires : goal.set_used-requires
+set_used-requires g c = (at (release g (goal.at.set_used-requires g c).After-self)).held.below
 
 pub coalesce-requires-clause-place : goal.coalesce-requires-clause-place
 coalesce-requires-clause-place g c =
     let here = goal.at.coalesce-requires-clause-place g c in
     let r = release g here.After-self in
-    (_, _, marked g here.After-mark r, rw (bins g here.After-mark r).1 (filed r))
+    (_, _, marked g here.After-set_used r, rw (bins g here.After-set_used r).1 (filed r))
 
 pub coalesce-requires-clause-held : goal.coalesce-requires-clause-held
-coalesce-requires-clause-held g c = let here = goal.at.coalesce-requires-clause-held g c in (bins g here.After-mark (release g here.After-self)).0
+coalesce-requires-clause-held g c = let here = goal.at.coalesce-requires-clause-held g c in (bins g here.After-set_used (release g here.After-self)).0
 
 pub coalesce-requires-clause-idle : goal.coalesce-requires-clause-idle
-coalesce-requires-clause-idle g c = let here = goal.at.coalesce-requires-clause-idle g c in ap (λ (v : Node). v.used) (at_place (marked g here.After-mark (release g here.After-self)))
+coalesce-requires-clause-idle g c = let here = goal.at.coalesce-requires-clause-idle g c in ap (λ (v : Node). v.used) (at_place (marked g here.After-set_used (release g here.After-self)))
 
 pub coalesce-requires-clause-size : goal.coalesce-requires-clause-size
 coalesce-requires-clause-size g c =
     let here = goal.at.coalesce-requires-clause-size g c in
     let r = release g here.After-self in
-    c.size-size.ensures.size ∙ ap (λ (v : Node). v.size) (at_place (at r).held) ∙ sym (ap (λ (v : Node). v.size) (at_place (marked g here.After-mark r)))
+    c.size-size.ensures.cell ∙ ap (λ (v : Node). v.size) (at_place (at r).held) ∙ sym (ap (λ (v : Node). v.size) (at_place (marked g here.After-set_used r)))
 
 pub invariant_of-self : goal.invariant_of-self
 invariant_of-self g c = (done g c 0).0

@@ -5,14 +5,14 @@ use Rattle.offset_allocator.proofs.AllocatorOf.shrink.Goals as goal
 use Rattle.offset_allocator.proofs.AllocatorOf.shrink.{Goals.After-self, Goals.After-size-old_size, Given.Over}
 
 -- where the block is, and its size
-block : (g : Over) (c : After-self g) → Release (fields_of g.T.Tables.cells g.T.Index.NodeIndex.MAX c.self.inside) c.number-name.result
+block : (g : Over) (c : After-self g) → Release (fields_of g.T.Tables.cells g.T.Index.NodeIndex.MAX c.self.inside) c.name-name.result
 block g c = grind (arith, named_live, live_used)
 
-size : (g : Over) (c : After-size-old_size g) (r : Release (fields_of g.T.Tables.cells g.T.Index.NodeIndex.MAX c.self.inside) c.number-name.result)
-    → size_of c.number-name.result (shown (fields_of g.T.Tables.cells g.T.Index.NodeIndex.MAX c.self.inside)) ≡ c.size-old_size.result
-size g c r = size_there r ∙ sym (c.size-old_size.ensures.size ∙ ap (λ (v : Node). v.size) (at_place (at r).held))
+size : (g : Over) (c : After-size-old_size g) (r : Release (fields_of g.T.Tables.cells g.T.Index.NodeIndex.MAX c.self.inside) c.name-name.result)
+    → size_of c.name-name.result (shown (fields_of g.T.Tables.cells g.T.Index.NodeIndex.MAX c.self.inside)) ≡ c.size-old_size.result
+size g c r = size_there r ∙ sym (c.size-old_size.ensures.cell ∙ ap (λ (v : Node). v.size) (at_place (at r).held))
 
-there : (g : Over) (c : After-size-old_size g) (r : Release (fields_of g.T.Tables.cells g.T.Index.NodeIndex.MAX c.self.inside) c.number-name.result)
+there : (g : Over) (c : After-size-old_size g) (r : Release (fields_of g.T.Tables.cells g.T.Index.NodeIndex.MAX c.self.inside) c.name-name.result)
     → size_of c.args.allocation.name c.args.self.now ≡ c.size-old_size.result
 there g c r = grind (arith, size)
 

@@ -12,10 +12,10 @@ pub size-size-requires : goal.size-size-requires
 size-size-requires g c = (end_place c.self.invariant.space).below
 
 pub remove-requires-clause-listed : goal.remove-requires-clause-listed
-remove-requires-clause-listed g c = rw c.size-size.ensures.size (widen_listed (pre g (goal.at.remove-requires-clause-listed g c).After-self))
+remove-requires-clause-listed g c = rw c.size-size.ensures.cell (widen_listed (pre g (goal.at.remove-requires-clause-listed g c).After-self))
 
 pub overflow_add-size : goal.overflow_add-size
-overflow_add-size g c = omega (arith, end_small (pre g (goal.at.overflow_add-size g c).After-self), c.size-size.ensures.size)
+overflow_add-size g c = omega (arith, end_small (pre g (goal.at.overflow_add-size g c).After-self), c.size-size.ensures.cell)
 
 pub grow-requires-clause-place : goal.grow-requires-clause-place
 grow-requires-clause-place g c = (_, _, _, _, end_held (pre g (goal.at.grow-requires-clause-place g c).After-self) c.remove.ensures.chain.0)
@@ -33,7 +33,7 @@ pub push-requires-clause-classed : goal.push-requires-clause-classed
 push-requires-clause-classed g c = omega (arith, down_small (c.size-size.result + c.args.more), c.uint_to_float_round_down.ensures.is)
 
 pub push-requires-clause-unlisted : goal.push-requires-clause-unlisted
-push-requires-clause-unlisted g c = rw (c.grow.ensures.links, c.remove.ensures.lists, c.size-size.ensures.size) (widen_unlisted (pre g (goal.at.push-requires-clause-unlisted g c).After-self))
+push-requires-clause-unlisted g c = rw (c.grow.ensures.links, c.remove.ensures.lists, c.size-size.ensures.cell) (widen_unlisted (pre g (goal.at.push-requires-clause-unlisted g c).After-self))
 
 pub overflow_add-self-2 : goal.overflow_add-self-2
 overflow_add-self-2 g c = omega (arith, free_fits (pre g (goal.at.overflow_add-self-2 g c).After-self))
@@ -44,7 +44,7 @@ done g c r k =
     let grown = c.grow.ensures.place _ _ _ _ (end_held r c.remove.ensures.chain.0) in
     rw (c.push.ensures.chain.1, c.push.ensures.chain.2, c.remove.ensures.chain.1, c.remove.ensures.chain.2)
     (widened r (g.T.Tables.cells c.push.new.store.tables) k (rw c.push.ensures.chain.0 grown.chain) c.push.ensures.held
-    (rw (c.grow.ensures.links, c.remove.ensures.lists, c.uint_to_float_round_down.ensures.is, c.size-size.ensures.size) at c.push.ensures.lists))
+    (rw (c.grow.ensures.links, c.remove.ensures.lists, c.uint_to_float_round_down.ensures.is, c.size-size.ensures.cell) at c.push.ensures.lists))
 
 pub invariant_of-self : goal.invariant_of-self
 invariant_of-self g c = let at = goal.at.invariant_of-self g c in (done g at.After-push (pre g at.After-self) 0).0

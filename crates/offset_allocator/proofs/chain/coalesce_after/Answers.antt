@@ -18,7 +18,7 @@ set_spare-requires g c = grind (arith, common_steps, relinked_spare, spare-put, 
 pub returns-clause-place : goal.returns-clause-place
 returns-clause-place g c m p h =
     let room : Cells → Room = λ v. v.room in
-    coalesce_after_place (g.T.Tables.cells c.point_back.new.tables).room h c.requires.next c.requires.free c.requires.total c.after-next.ensures.cell
+    coalesce_after_place (g.T.Tables.cells c.point_back.new.tables).room h c.requires.next c.requires.free c.requires.whole c.after-next.ensures.cell
     (ap room c.set_end.ensures.cells) c.point_back.ensures.cells c.point_back.ensures.last (rw c.link_to.ensures.number at (ap room c.set_spare.ensures.cells))
 
 pub point_back-requires-clause-name : goal.point_back-requires-clause-name

@@ -21,7 +21,7 @@ set_spare-requires g c = grind (arith, common_steps, relinked_spare, spare-put, 
 pub returns-clause-place : goal.returns-clause-place
 returns-clause-place g c m p h =
     let room : Cells → Room = λ v. v.room in
-    coalesce_before_place (g.T.Tables.cells c.point_on.new.tables).room h c.requires.previous c.requires.free c.offset-offset.ensures.cell c.requires.total c.before-link.ensures.cell
+    coalesce_before_place (g.T.Tables.cells c.point_on.new.tables).room h c.requires.previous c.requires.free c.offset-offset.ensures.cell c.requires.whole c.before-link.ensures.cell
     (ap room c.set_start.ensures.cells) c.point_on.ensures.cells (rw c.link_to.ensures.number at (ap room c.set_spare.ensures.cells))
 
 pub point_on-requires-clause-name : goal.point_on-requires-clause-name

@@ -6,7 +6,7 @@ pub overflow_add-offset : goal.overflow_add-offset
 overflow_add-offset g c =
     let h = c.requires.place.2 in
     let at = at_place h in
-    omega (arith, c.requires.offset, c.requires.size, c.requires.within, ap (λ (v : Node). v.offset) at, ap (λ (v : Node). v.size) at, end_fits h)
+    omega (arith, c.requires.offset, c.requires.whole, c.requires.within, ap (λ (v : Node). v.offset) at, ap (λ (v : Node). v.size) at, end_fits h)
 
 pub set_block-requires-clause-name : goal.set_block-requires-clause-name
 set_block-requires-clause-name g c = (top _ c.requires.place.2.chain c.requires.spare (c.number-rest.ensures.number ∙ c.spare.ensures.cell)).below
@@ -27,7 +27,7 @@ point_back-requires-clause-name g c =
 pub returns-clause-place : goal.returns-clause-place
 returns-clause-place g c m p h =
     let room : Cells → Room = λ v. v.room in
-    split_place h c.requires.spare (c.number-rest.ensures.number ∙ c.spare.ensures.cell) c.requires.within c.requires.offset c.requires.size c.after-next.ensures.cell
+    split_place h c.requires.spare (c.number-rest.ensures.number ∙ c.spare.ensures.cell) c.requires.within c.requires.offset c.requires.whole c.after-next.ensures.cell
     c.link_to-back.ensures c.link_to-on.ensures
     (ap room c.set_block.ensures.cells) (ap room c.set_end.ensures.cells) c.point_back.ensures.cells c.point_back.ensures.last
 

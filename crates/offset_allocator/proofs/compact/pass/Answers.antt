@@ -23,8 +23,8 @@ split-requires-clause-offset g c =
     let n = next_place h c.requires.next in
     c.requires.offset ∙ ap (λ (v : Node). v.offset) (at_place h) ∙ sym (joined_node c.requires.place.1 n.block n.rest c.requires.place.3 (c.coalesce_before.ensures.place _ _ n.place)).0
 
-pub split-requires-clause-size : goal.split-requires-clause-size
-split-requires-clause-size g c =
+pub split-requires-clause-whole : goal.split-requires-clause-whole
+split-requires-clause-whole g c =
     let h = c.requires.place.2 in
     let n = next_place h c.requires.next in
     omega (

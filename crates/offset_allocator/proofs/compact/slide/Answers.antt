@@ -33,15 +33,15 @@ size-more-requires g c = let s = c.loop-next.invariant.at _ _ c.requires.place.2
 pub offset-to-requires : goal.offset-to-requires
 offset-to-requires g c = let s = c.loop-next.invariant.at _ _ c.requires.place.2 c.requires.place.3 in s.there.below
 
-pub pass-hole-requires-clause-place : goal.pass-hole-requires-clause-place
-pass-hole-requires-clause-place g c = let s = c.loop-next.invariant.at _ _ c.requires.place.2 c.requires.place.3 in (_, _, s.there, s.idle)
+pub pass-requires-clause-place : goal.pass-requires-clause-place
+pass-requires-clause-place g c = let s = c.loop-next.invariant.at _ _ c.requires.place.2 c.requires.place.3 in (_, _, s.there, s.idle)
 
-pub pass-hole-requires-clause-size : goal.pass-hole-requires-clause-size
-pass-hole-requires-clause-size g c = let s = c.loop-next.invariant.at _ _ c.requires.place.2 c.requires.place.3 in s.sized ∙ sym (ap (λ (v : Node). v.size) (at_place s.there))
+pub pass-requires-clause-size : goal.pass-requires-clause-size
+pass-requires-clause-size g c = let s = c.loop-next.invariant.at _ _ c.requires.place.2 c.requires.place.3 in s.sized ∙ sym (ap (λ (v : Node). v.size) (at_place s.there))
 
 pub overflow_add-to : goal.overflow_add-to
 overflow_add-to g c = let s = c.loop-next.invariant.at _ _ c.requires.place.2 c.requires.place.3 in
-    omega (arith, c.offset-to.ensures.offset, ap (λ (v : Node). v.offset) (at_place s.there), s.sized, end_fits s.there)
+    omega (arith, c.offset-to.ensures.cell, ap (λ (v : Node). v.offset) (at_place s.there), s.sized, end_fits s.there)
 
 pub report-requires-clause-named : goal.report-requires-clause-named
 report-requires-clause-named g c =
@@ -58,32 +58,32 @@ loop-next-smaller-then-is_used g c =
 pub loop-next-preserved-then-is_used : goal.loop-next-preserved-then-is_used
 loop-next-preserved-then-is_used g c = record {
   callable = c.report.ensures.callable;
-  bins = (c.pass-hole.ensures.bins.0 ∙ c.loop-next.invariant.bins.0, c.pass-hole.ensures.bins.1 ∙ c.loop-next.invariant.bins.1);
-  grows = omega (arith, c.loop-next.invariant.grows, c.after.ensures.accesses, c.size-more.ensures.accesses, c.is_used.ensures.accesses, c.offset-to.ensures.accesses, c.pass-hole.ensures.accesses.0);
+  bins = (c.pass.ensures.bins.0 ∙ c.loop-next.invariant.bins.0, c.pass.ensures.bins.1 ∙ c.loop-next.invariant.bins.1);
+  grows = omega (arith, c.loop-next.invariant.grows, c.after.ensures.accesses, c.size-more.ensures.accesses, c.is_used.ensures.accesses, c.offset-to.ensures.accesses, c.pass.ensures.accesses.0);
   at = λ m p h idle.
       let s = c.loop-next.invariant.at m p h idle in
       let n = next_place s.there (sym c.in-Some.is ∙ c.after.ensures.after) in
       let used : n.block.used ≡ true = sym (ap (λ (v : Node). v.used) (at_place n.place)) ∙ sym c.is_used.ensures.cell ∙ c.if-is_used.true in
-      let to : c.offset-to.result ≡ units s.place.before = c.offset-to.ensures.offset ∙ ap (λ (v : Node). v.offset) (at_place s.there) in
-      let size : c.size-more.result ≡ n.block.size = c.size-more.ensures.size ∙ ap (λ (v : Node). v.size) (at_place n.place) in
-      slid_past s n.block n.rest _ _ _ _ _ _ used n.is (c.pass-hole.ensures.place _ _ _ _ s.there s.idle n.is)
+      let to : c.offset-to.result ≡ units s.place.before = c.offset-to.ensures.cell ∙ ap (λ (v : Node). v.offset) (at_place s.there) in
+      let size : c.size-more.result ≡ n.block.size = c.size-more.ensures.cell ∙ ap (λ (v : Node). v.size) (at_place n.place) in
+      slid_past s n.block n.rest _ _ _ _ _ _ used n.is (c.pass.ensures.place _ _ _ _ s.there s.idle n.is)
       (subst (λ (l : List Move). FoldsTo (IsCalledWith g.T.Index.NonMax.NodeIndexNonMax.number (λ f range h. goal.F-step g f range tt h)) c.loop-next.moved l c.report.new.moved)
-      (same_move c.offset-to.result (units s.place.before) c.loop-next.size c.in-Some.next c.size-more.result n.block to (sym n.place.name) size) (c.report.ensures.called n.block.used))
-      (omega (arith, c.after.ensures.accesses, c.size-more.ensures.accesses, c.is_used.ensures.accesses, c.offset-to.ensures.accesses, c.pass-hole.ensures.accesses.1));
+      (same_move c.offset-to.result (units s.place.before) c.loop-next.hole.size c.in-Some.next c.size-more.result n.block to (sym n.place.name) size) (c.report.ensures.called n.block.used))
+      (omega (arith, c.after.ensures.accesses, c.size-more.ensures.accesses, c.is_used.ensures.accesses, c.offset-to.ensures.accesses, c.pass.ensures.accesses.1));
 }
 
 pub coalesce_after-requires-clause-place : goal.coalesce_after-requires-clause-place
 coalesce_after-requires-clause-place g c = let s = c.loop-next.invariant.at _ _ c.requires.place.2 c.requires.place.3 in (_, _, s.there)
 
-pub coalesce_after-requires-clause-total : goal.coalesce_after-requires-clause-total
-coalesce_after-requires-clause-total g c =
+pub coalesce_after-requires-clause-whole : goal.coalesce_after-requires-clause-whole
+coalesce_after-requires-clause-whole g c =
     let s = c.loop-next.invariant.at _ _ c.requires.place.2 c.requires.place.3 in
-    omega (arith, s.sized, ap (λ (v : Node). v.size) (at_place s.there), c.size-more.ensures.size)
+    omega (arith, s.sized, ap (λ (v : Node). v.size) (at_place s.there), c.size-more.ensures.cell)
 
-pub overflow_add-size : goal.overflow_add-size
-overflow_add-size g c =
+pub overflow_add-hole : goal.overflow_add-hole
+overflow_add-hole g c =
     let s = c.loop-next.invariant.at _ _ c.requires.place.2 c.requires.place.3 in
-    omega (arith, after_fits s.there (sym c.in-Some.is ∙ c.after.ensures.after), s.sized, ap (λ (v : Node). v.size) (at_place s.there), c.size-more.ensures.size)
+    omega (arith, after_fits s.there (sym c.in-Some.is ∙ c.after.ensures.after), s.sized, ap (λ (v : Node). v.size) (at_place s.there), c.size-more.ensures.cell)
 
 pub loop-next-smaller : goal.loop-next-smaller
 loop-next-smaller g c =
@@ -102,7 +102,7 @@ loop-next-preserved g c = record {
       let s = c.loop-next.invariant.at m p h idle in
       let n = next_place s.there (sym c.in-Some.is ∙ c.after.ensures.after) in
       let free : n.block.used ≡ false = sym (ap (λ (v : Node). v.used) (at_place n.place)) ∙ sym c.is_used.ensures.cell ∙ c.if-is_used.false in
-      let size : c.size-more.result ≡ n.block.size = c.size-more.ensures.size ∙ ap (λ (v : Node). v.size) (at_place n.place) in
+      let size : c.size-more.result ≡ n.block.size = c.size-more.ensures.cell ∙ ap (λ (v : Node). v.size) (at_place n.place) in
       slid_into s n.block n.rest _ _ _ _ _ free n.is (omega (arith, size)) (absorbed s.place n.block n.rest free n.is (c.coalesce_after.ensures.place _ _ s.there))
       (omega (arith, c.after.ensures.accesses, c.size-more.ensures.accesses, c.is_used.ensures.accesses, c.coalesce_after.ensures.accesses.1));
 }

@@ -15,7 +15,7 @@ pub overflow_add-whole : goal.overflow_add-whole
 overflow_add-whole g c =
     let h = c.requires.place.2 in
     let merged = c.with_before-size.ensures.place _ _ h in
-    omega (arith, c.size-more.ensures.size, c.with_before-size.ensures.size, after_fits merged (next_same h merged refl c.in-Some.ensures.free.0).0)
+    omega (arith, c.size-more.ensures.cell, c.with_before-size.ensures.size, after_fits merged (next_same h merged refl c.in-Some.ensures.free.0).0)
 
 pub coalesce_after-requires-clause-place : goal.coalesce_after-requires-clause-place
 coalesce_after-requires-clause-place g c = (_, _, c.with_before-size.ensures.place _ _ c.requires.place.2)
@@ -31,7 +31,7 @@ pub size-more-requires-in-Some-free_before : goal.size-more-requires-in-Some-fre
 size-more-requires-in-Some-free_before g c = (previous_place c.requires.place.2 c.in-Some-free_before.ensures.free.0).place.below
 
 pub overflow_add-whole-in-Some-free_before : goal.overflow_add-whole-in-Some-free_before
-overflow_add-whole-in-Some-free_before g c = omega (arith, c.size-more-in-Some-free_before.ensures.size, c.requires.size, before_fits c.requires.place.2 c.in-Some-free_before.ensures.free.0)
+overflow_add-whole-in-Some-free_before g c = omega (arith, c.size-more-in-Some-free_before.ensures.cell, c.requires.size, before_fits c.requires.place.2 c.in-Some-free_before.ensures.free.0)
 
 -- no free block beside it
 pub push-requires-clause-classed : goal.push-requires-clause-classed
@@ -63,11 +63,11 @@ exchange-requires-clause-listed g c =
       | in-Some w ↦
           let merged = w.with_before-size.ensures.place _ _ h in
           let same = next_same h merged refl w.in-Some.ensures.free.0 in
-          rw (w.store-is, w.gone-is, w.coalesce_after.ensures.bins.0, w.with_before-size.ensures.lists _ _ h, w.size-more.ensures.size)
+          rw (w.store-is, w.gone-is, w.coalesce_after.ensures.bins.0, w.with_before-size.ensures.lists _ _ h, w.size-more.ensures.cell)
           (next_filed merged _ (filed_before h _ c.requires.place.3 c.requires.held.linked.lists_len) same.0 (same.1 ∙ w.in-Some.ensures.free.1))
       | in_default+in-Some-free_before w ↦
           let before = w.in-Some-free_before.ensures.free in
-          rw (w.store-is, w.gone-is, w.coalesce_before.ensures.bins.0, w.size-more-in-Some-free_before.ensures.size) (previous_filed h _ c.requires.place.3 before.0 before.1)
+          rw (w.store-is, w.gone-is, w.coalesce_before.ensures.bins.0, w.size-more-in-Some-free_before.ensures.cell) (previous_filed h _ c.requires.place.3 before.0 before.1)
     ]
 
 pub exchange-requires-clause-classed : goal.exchange-requires-clause-classed
@@ -106,7 +106,7 @@ returns-clause-lists g c m p h = elim c.match-next.branch [
       let gone = free_after merged same.0 (same.1 ∙ w.in-Some.ensures.free.1) in
       let left = w.coalesce_after.ensures.place _ _ merged in
       let whole : w.with_before-size.result + w.size-more.result ≡ (node (g.T.Tables.cells w.coalesce_after.new.store.tables).room c.args.name).size =
-      omega (arith, w.size-more.ensures.size, w.with_before-size.ensures.size, gone.0, ap (λ (v : Node). v.size) (at_place left), ap (λ (v : Node). v.size) (at_place merged)) in
+      omega (arith, w.size-more.ensures.cell, w.with_before-size.ensures.size, gone.0, ap (λ (v : Node). v.size) (at_place left), ap (λ (v : Node). v.size) (at_place merged)) in
       rw (
         c.exchange.ensures.chain.0,
         c.exchange.ensures.lists,
@@ -116,14 +116,14 @@ returns-clause-lists g c m p h = elim c.match-next.branch [
         whole,
         w.coalesce_after.ensures.bins.0,
         w.with_before-size.ensures.lists _ _ h,
-        w.size-more.ensures.size,
+        w.size-more.ensures.cell,
       ) (ap (push _ c.args.name) (sym (gone.1 _)))
   | in_default+in-Some-free_before w ↦
       let before = w.in-Some-free_before.ensures.free in
       let gone = free_before h before.0 before.1 in
       let left = w.coalesce_before.ensures.place _ _ h in
       let whole : w.size-more-in-Some-free_before.result + c.args.size ≡ (node (g.T.Tables.cells w.coalesce_before.new.store.tables).room c.args.name).size =
-      omega (arith, w.size-more-in-Some-free_before.ensures.size, c.requires.size, gone.0, ap (λ (v : Node). v.size) (at_place left), ap (λ (v : Node). v.size) (at_place h)) in
+      omega (arith, w.size-more-in-Some-free_before.ensures.cell, c.requires.size, gone.0, ap (λ (v : Node). v.size) (at_place left), ap (λ (v : Node). v.size) (at_place h)) in
       rw (
         c.exchange.ensures.chain.0,
         c.exchange.ensures.lists,
@@ -132,7 +132,7 @@ returns-clause-lists g c m p h = elim c.match-next.branch [
         w.gone-is,
         whole,
         w.coalesce_before.ensures.bins.0,
-        w.size-more-in-Some-free_before.ensures.size,
+        w.size-more-in-Some-free_before.ensures.cell,
         w.in_default.ensures.free _ _ _ _ h,
       ) (ap (push _ c.args.name) (sym (gone.1 _)))
 ]

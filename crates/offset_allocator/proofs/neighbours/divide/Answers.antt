@@ -1,28 +1,28 @@
 use Rattle.offset_allocator.proofs.Common.{◌≡◌, ◌∙◌, List, refl, ap, arith, eq-zero-or-pos, sym, Node, Block, free_part, push_all, IsBinned, IsUnlisted, bins_in}
 use Rattle.offset_allocator.proofs.{Pieces.padded_unlisted, Pieces.pushed_parts, Pieces.unlisted_part, Places.at_place, Tallies.part_sums, Tallies.units-append}
 use Rattle.offset_allocator.proofs.neighbours.divide.Goals as goal
-use Rattle.offset_allocator.proofs.neighbours.divide.{Goals.After-mark, Given.Over}
+use Rattle.offset_allocator.proofs.neighbours.divide.{Goals.After-set_used, Given.Over}
 
 pub split_padding-front-requires-clause-place : goal.split_padding-front-requires-clause-place
 split_padding-front-requires-clause-place g c = (_, _, c.requires.place.2, c.requires.place.3)
 
-pub mark-requires : goal.mark-requires
-mark-requires g c = (c.split_padding-front.ensures.place _ _ c.requires.place.2).below
+pub set_used-requires : goal.set_used-requires
+set_used-requires g c = (c.split_padding-front.ensures.place _ _ c.requires.place.2).below
 
 -- the bins once the block is used
-marked : (g : Over) (c : After-mark g) → IsBinned g.T.Index.NodeIndex.MAX (g.T.Tables.cells c.mark.new.tables).links c.split_padding-front.new.store.top_mask
-    × (bins_in g.T.Index.NodeIndex.MAX (g.T.Tables.cells c.mark.new.tables).links ≡ push_all (free_part c.split_padding-front.result c.args.padding)
+marked : (g : Over) (c : After-set_used g) → IsBinned g.T.Index.NodeIndex.MAX (g.T.Tables.cells c.set_used.new.tables).links c.split_padding-front.new.store.top_mask
+    × (bins_in g.T.Index.NodeIndex.MAX (g.T.Tables.cells c.set_used.new.tables).links ≡ push_all (free_part c.split_padding-front.result c.args.parts.padding)
     (bins_in g.T.Index.NodeIndex.MAX (g.T.Tables.cells c.args.store.now.tables).links))
 marked g c =
     let front = c.split_padding-front.ensures in
     let fresh : IsUnlisted c.args.name (bins_in g.T.Index.NodeIndex.MAX (g.T.Tables.cells c.split_padding-front.new.store.tables).links) =
-    rw front.lists (padded_unlisted c.requires.place.1.before c.split_padding-front.result c.args.padding _ c.requires.held.linked.lists_len
+    rw front.lists (padded_unlisted c.requires.place.1.before c.split_padding-front.result c.args.parts.padding _ c.requires.held.linked.lists_len
     (front.place _ _ c.requires.place.2) c.requires.unlisted) in
-    let b = c.mark.ensures.bins _ fresh front.held in
+    let b = c.set_used.ensures.bins _ fresh front.held in
     (b.0, b.1 ∙ front.lists)
 
 pub split_remainder-rest-requires-clause-held : goal.split_remainder-rest-requires-clause-held
-split_remainder-rest-requires-clause-held g c = (marked g (goal.at.split_remainder-rest-requires-clause-held g c).After-mark).0
+split_remainder-rest-requires-clause-held g c = (marked g (goal.at.split_remainder-rest-requires-clause-held g c).After-set_used).0
 
 pub split_remainder-rest-requires-clause-spare : goal.split_remainder-rest-requires-clause-spare
 split_remainder-rest-requires-clause-spare g c = grind (arith, eq-zero-or-pos)
@@ -32,35 +32,35 @@ split_remainder-rest-requires-clause-place g c =
     let r = c.requires.place in (
       _,
       _,
-      c.mark.ensures.place _ _ _ _ (c.split_padding-front.ensures.place _ _ r.2),
-      rw (marked g (goal.at.split_remainder-rest-requires-clause-place g c).After-mark).1
-          (unlisted_part r.1.before r.1.after r.1.block _ c.split_padding-front.result c.args.padding _ refl c.requires.held.linked.lists_len r.3),
+      c.set_used.ensures.place _ _ _ _ (c.split_padding-front.ensures.place _ _ r.2),
+      rw (marked g (goal.at.split_remainder-rest-requires-clause-place g c).After-set_used).1
+          (unlisted_part r.1.before r.1.after r.1.block _ c.split_padding-front.result c.args.parts.padding _ refl c.requires.held.linked.lists_len r.3),
     )
 
 pub split_remainder-rest-requires-clause-whole : goal.split_remainder-rest-requires-clause-whole
 split_remainder-rest-requires-clause-whole g c =
     let h = c.requires.place.2 in
-    let now = at_place (c.mark.ensures.place _ _ _ _ (c.split_padding-front.ensures.place _ _ h)) in
+    let now = at_place (c.set_used.ensures.place _ _ _ _ (c.split_padding-front.ensures.place _ _ h)) in
     omega (arith, c.requires.whole, ap (λ (v : Node). v.size) (at_place h), ap (λ (v : Node). v.size) now)
 
 pub returns-clause-place : goal.returns-clause-place
-returns-clause-place g c m p h = c.split_remainder-rest.ensures.place _ _ (c.mark.ensures.place _ _ _ _ (c.split_padding-front.ensures.place _ _ h))
+returns-clause-place g c m p h = c.split_remainder-rest.ensures.place _ _ (c.set_used.ensures.place _ _ _ _ (c.split_padding-front.ensures.place _ _ h))
 
 pub split_remainder-rest-requires-clause-offset : goal.split_remainder-rest-requires-clause-offset
 split_remainder-rest-requires-clause-offset g c =
     let h = c.requires.place.2 in
-    let now = at_place (c.mark.ensures.place _ _ _ _ (c.split_padding-front.ensures.place _ _ h)) in
+    let now = at_place (c.set_used.ensures.place _ _ _ _ (c.split_padding-front.ensures.place _ _ h)) in
     omega (
       arith,
       c.requires.start,
       ap (λ (v : Node). v.offset) (at_place h),
       ap (λ (v : Node). v.offset) now,
-      units-append c.requires.place.1.before (free_part c.split_padding-front.result c.args.padding),
-      (part_sums c.split_padding-front.result c.args.padding).1,
+      units-append c.requires.place.1.before (free_part c.split_padding-front.result c.args.parts.padding),
+      (part_sums c.split_padding-front.result c.args.parts.padding).1,
     )
 
 pub returns-clause-lists : goal.returns-clause-lists
 returns-clause-lists g c =
-    let rest : List Block = free_part c.split_remainder-rest.result c.args.left in
-    c.split_remainder-rest.ensures.lists ∙ ap (push_all rest) (marked g (goal.at.returns-clause-lists g c).After-mark).1
-    ∙ sym (pushed_parts c.split_padding-front.result c.args.padding c.args.name c.args.size rest (bins_in g.T.Index.NodeIndex.MAX (g.T.Tables.cells c.args.store.now.tables).links))
+    let rest : List Block = free_part c.split_remainder-rest.result c.args.parts.left in
+    c.split_remainder-rest.ensures.lists ∙ ap (push_all rest) (marked g (goal.at.returns-clause-lists g c).After-set_used).1
+    ∙ sym (pushed_parts c.split_padding-front.result c.args.parts.padding c.args.name c.args.parts.size rest (bins_in g.T.Index.NodeIndex.MAX (g.T.Tables.cells c.args.store.now.tables).links))

@@ -12,12 +12,12 @@ pub size-more-requires : goal.size-more-requires
 size-more-requires g c = (next_place c.requires.place.2 (rw c.in-Some.is at c.requires.next).0).place.below
 
 pub overflow_add-whole : goal.overflow_add-whole
-overflow_add-whole g c = omega (arith, c.size-more.ensures.size, c.requires.size, after_fits c.requires.place.2 (rw c.in-Some.is at c.requires.next).0)
+overflow_add-whole g c = omega (arith, c.size-more.ensures.cell, c.requires.size, after_fits c.requires.place.2 (rw c.in-Some.is at c.requires.next).0)
 
 pub remove-requires-clause-listed : goal.remove-requires-clause-listed
 remove-requires-clause-listed g c =
     let next = rw c.in-Some.is at c.requires.next in
-    rw c.size-more.ensures.size (next_filed c.requires.place.2 _ c.requires.place.3 next.0 next.1)
+    rw c.size-more.ensures.cell (next_filed c.requires.place.2 _ c.requires.place.3 next.0 next.1)
 
 pub returns-in-Some-clause-place : goal.returns-in-Some-clause-place
 returns-in-Some-clause-place g c m p h = c.coalesce_after.ensures.place _ _ (kept_place c.remove.ensures.chain h)
@@ -25,14 +25,14 @@ returns-in-Some-clause-place g c m p h = c.coalesce_after.ensures.place _ _ (kep
 pub returns-in-Some-clause-lists : goal.returns-in-Some-clause-lists
 returns-in-Some-clause-lists g c m p h =
     let next = rw c.in-Some.is at c.requires.next in
-    rw (c.coalesce_after.ensures.bins.0, c.remove.ensures.lists, c.size-more.ensures.size) (sym ((free_after h next.0 next.1).1 _))
+    rw (c.coalesce_after.ensures.bins.0, c.remove.ensures.lists, c.size-more.ensures.cell) (sym ((free_after h next.0 next.1).1 _))
 
 pub returns-in-Some-clause-size : goal.returns-in-Some-clause-size
 returns-in-Some-clause-size g c =
     let h = c.requires.place.2 in
     let next = rw c.in-Some.is at c.requires.next in
     let left = c.coalesce_after.ensures.place _ _ (kept_place c.remove.ensures.chain h) in
-    omega (arith, c.size-more.ensures.size, c.requires.size, (free_after h next.0 next.1).0, ap (λ (v : Node). v.size) (at_place left), ap (λ (v : Node). v.size) (at_place h))
+    omega (arith, c.size-more.ensures.cell, c.requires.size, (free_after h next.0 next.1).0, ap (λ (v : Node). v.size) (at_place left), ap (λ (v : Node). v.size) (at_place h))
 
 pub returns-in-Some-clause-accesses_min : goal.returns-in-Some-clause-accesses_min
 returns-in-Some-clause-accesses_min g c some = omega (arith, c.size-more.ensures.accesses, c.remove.ensures.accesses.0, c.coalesce_after.ensures.accesses.0)

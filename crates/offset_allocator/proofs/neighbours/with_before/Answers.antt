@@ -6,17 +6,17 @@ pub size-more-requires : goal.size-more-requires
 size-more-requires g c = (previous_place c.requires.place.2 c.in-Some.ensures.free.0).place.below
 
 pub overflow_add-whole : goal.overflow_add-whole
-overflow_add-whole g c = omega (arith, c.size-more.ensures.size, c.requires.size, before_fits c.requires.place.2 c.in-Some.ensures.free.0)
+overflow_add-whole g c = omega (arith, c.size-more.ensures.cell, c.requires.size, before_fits c.requires.place.2 c.in-Some.ensures.free.0)
 
 pub remove-requires-clause-listed : goal.remove-requires-clause-listed
-remove-requires-clause-listed g c = rw c.size-more.ensures.size (previous_filed c.requires.place.2 _ c.requires.place.3 c.in-Some.ensures.free.0 c.in-Some.ensures.free.1)
+remove-requires-clause-listed g c = rw c.size-more.ensures.cell (previous_filed c.requires.place.2 _ c.requires.place.3 c.in-Some.ensures.free.0 c.in-Some.ensures.free.1)
 
 pub returns-in-Some-clause-place : goal.returns-in-Some-clause-place
 returns-in-Some-clause-place g c m p h = c.coalesce_before.ensures.place _ p (kept_place c.remove.ensures.chain h)
 
 pub returns-in-Some-clause-lists : goal.returns-in-Some-clause-lists
 returns-in-Some-clause-lists g c m p h =
-    rw (c.coalesce_before.ensures.bins.0, c.remove.ensures.lists, c.size-more.ensures.size) (sym ((free_before h c.in-Some.ensures.free.0 c.in-Some.ensures.free.1).1 _))
+    rw (c.coalesce_before.ensures.bins.0, c.remove.ensures.lists, c.size-more.ensures.cell) (sym ((free_before h c.in-Some.ensures.free.0 c.in-Some.ensures.free.1).1 _))
 
 pub returns-in-Some-clause-size : goal.returns-in-Some-clause-size
 returns-in-Some-clause-size g c =
@@ -24,7 +24,7 @@ returns-in-Some-clause-size g c =
     let left = c.coalesce_before.ensures.place _ _ (kept_place c.remove.ensures.chain h) in
     omega (
       arith,
-      c.size-more.ensures.size,
+      c.size-more.ensures.cell,
       c.requires.size,
       (free_before h c.in-Some.ensures.free.0 c.in-Some.ensures.free.1).0,
       ap (λ (v : Node). v.size) (at_place left),

@@ -1,5 +1,0 @@
-use Rattle.offset_test_base.proofs.OneVector.{bare}
-use Rattle.offset_test_base.proofs.flat.FlatTables.with_len.Goals as goal
-
-pub returns-clause-room : goal.returns-clause-room
-returns-clause-room c = bare _ c.args.len _ c.add.ensures.room
