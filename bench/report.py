@@ -379,64 +379,60 @@ def main():
     found = list(aims(rows, resident, most))
     head = [
         "# Results", "",
-        f"Times are the fastest of {timed['rounds']} runs, or of {min(timed['rounds'], 3)} where a run takes a fifth of a second, in nanoseconds; "
-        "instructions are counted by callgrind. Both are per step, without the construction of the tables.",
-        "All sides returned the same offsets and refusals, and no live ranges overlap or leave the space. In bold: more than "
-        f"{REACH[0]:.2f} of the original's time ({special}), {REACH[1]:.2f} of its instructions ({special_count}), or "
-        f"{REACH[2]:.2f} of C's; for the erased side more than {REACH[3]:.2f} of the original's time, or {REACH[4]:.2f} of its "
+        "Nanoseconds and instructions are per step, without the construction of the tables ([how](README.md#what-is-measured)). "
+        f"Times are the fastest of {timed['rounds']} runs, or of {min(timed['rounds'], 3)} where a run takes a fifth of a second. "
+        "All sides returned the same offsets and refusals.", "",
+        f"In bold: more than {REACH[0]:.2f} of the original's time ({special}), {REACH[1]:.2f} of its instructions ({special_count}), or "
+        f"{REACH[2]:.2f} of C's; for the erased side {REACH[3]:.2f} of the original's time, or {REACH[4]:.2f} of its "
         "instructions.", "",
-        "Times are those of code in which no branch crosses 32 bytes, on each side; instructions are counted without that, since "
-        "it takes further ones. The erased side has two call sites of each function, the others one.", "",
     ]
     if "seconds" in timed:
-        head += [f"All times were taken in {timed['seconds'] / 60:.0f} minutes, the sides in turn ({timed['processor']}). Meanwhile other programs took "
+        head += [f"All times took {timed['seconds'] / 60:.0f} minutes ({timed['processor']}). Meanwhile other programs took "
                  f"{timed['others']:.2f} of a processor, and the host {timed['steal']:.2f}.", ""]
-    shown = [*head, "## Aims", "", "In bold: above the aim. [README.md](README.md#where-it-falls-short-and-why) has the reasons.", "",
+    shown = [*head, "## Aims", "", "In bold: above the aim ([why](README.md#where-it-falls-short-and-why)).", "",
              *aims_table(found), "", "## A step", "", *table(work), "", "## Over the size of the tables", "",
              "Random steps with a quarter of the nodes live.", "", *table(growth), "",
              "## What an allocator costs", "",
-             "Each allocator is made and dropped before the next; with 10 grants between, these are counted with it. A reset of 10 "
-             "live ranges takes too short a time. In bold: a construction or a reset of ours or of the erased side with more than "
-             f"{REACH_COST:,} instructions.", "", *costs_table(costs), "",
+             "Each allocator is made and dropped before the next, without and with 10 grants between. A reset takes too short "
+             f"a time to measure. In bold: more than {REACH_COST:,} instructions, ours or erased, without grants.", "",
+             *costs_table(costs), "",
              "## By field", "",
-             "Ours with a table for each field of a node, in parts of ours with one table of nodes.", "", *by_field_table(rows), "",
+             "In parts of ours with one table of nodes.", "", *by_field_table(rows), "",
              "## Tickets", "",
-             "The erased side with tickets, in parts of it with handles, and ours likewise. The bytes are those that the library "
-             "holds; besides, the caller keeps 24 bytes for a ticket, and 8 for a handle. In bold: more than "
-             f"{REACH_GUARDED:.2f} of the time. [README.md](README.md#tickets) has the reasons.", "", *guarded_table(rows), ""]
+             "The erased side and ours with tickets, each in parts of itself with handles. The bytes are the library's; the caller keeps 24 for a "
+             f"ticket, and 8 for a handle. In bold: more than {REACH_GUARDED:.2f} of the time ([why](README.md#tickets)).", "",
+             *guarded_table(rows), ""]
     if resident:
         shown += ["## Resident memory", "",
-                  f"The bytes that become resident in a run of *{RESIDENT}*, those of the player included. In bold: more than "
+                  f"Bytes that become resident in *{RESIDENT}*, the player's included. In bold: more than "
                   f"{REACH_NODE} for each node that was ever used, and {REACH_MORE:,}.", "", *resident_table(resident, most), ""]
     whole = " and ".join(f"{limit:.2f} of the original's in *{name}*" for name, limit in REACH_WHOLE.items())
     shown += ["## With the construction", "",
-              f"The time of a whole run, a step: with the construction of the tables, and their end. In bold: more than {whole}.", "",
+              f"The time of a whole run, a step, from the construction of the tables to their end. In bold: more than {whole}.", "",
               *whole_table([row for row in steps if row.name in LONG]), "",
               "## Huge pages", "",
-              "The times with `GLIBC_TUNABLES=glibc.malloc.hugetlb=1`: the C library asks for huge pages, for each large table.", "",
+              "With `GLIBC_TUNABLES=glibc.malloc.hugetlb=1` the C library asks for huge pages for each large table.", "",
               *huge_table([row for row in large if row.name.startswith("random")]), "",
               "## Without aligned branches", "",
-              "The times where branches may cross 32 bytes, on each side: as compilers place them.", "", *plain_table(work), "",
+              "Branches are where compilers place them.", "", *plain_table(work), "",
               "## One call site or two", "",
-              "Instructions of a step. A function with one call site is compiled into it.", "", *sites_table(work), "",
+              "Instructions of a step.", "", *sites_table(work), "",
               "## Cache misses", "",
-              "Reads and writes of a step that miss a first-level data cache of 32 KiB, as callgrind simulates it. In bold: more than "
+              "Reads and writes of a step that miss a first-level data cache of 32 KiB. In bold: more than "
               + " and ".join(f"{most} in *{name}*" for name, most in REACH_MISSES.items()) + ".", "",
               *misses_table(steps), "",
               "## The best and the worst run", "",
-              "With large tables: the time of each run in parts of the original's in the same round. A round is left out in which "
-              "a run without steps took longer than the one with them.", "", *rounds_table(large if some else [])]
+              "With large tables: times in parts of the original's in the same round. Rounds in which the run without steps "
+              "took longer are left out.", "", *rounds_table(large if some else [])]
     if timed["threads"]:
         shown += ["", "## Threads", "",
-                  "The erased side, with 1,000 live ranges a thread, and sizes as in *random*: nanoseconds of a step, divided by the "
-                  "threads. In the last row each range is handed to another thread, which sends it back through a queue when it is "
-                  "released; the owner drains its queue every 64 requests.", "", *threads_table(timed["threads"])]
+                  "The erased side, with 1,000 live ranges a thread, sizes as in *random*: a step's nanoseconds, divided by the threads. "
+                  "In the last row another thread returns each range by a queue, which the owner drains every 64 requests.", "", *threads_table(timed["threads"])]
     if "compacting" in counted:
         compacting = [(live, timed["compacting"].get(str(live), [math.nan] * len(WAYS)), [counted["compacting"][str(live)][way] for way in WAYS])
                       for live in COMPACTED]
         shown += ["", "## Compact", "",
-                  "The erased side: `compact`, and what leaves the same ranges without it: a reset of the space, or a release of "
-                  "each range, and then a request for each in space order. Per live range.", "",
+                  "The erased side, per live range ([how](README.md#compact)).", "",
                   *compacting_table(compacting)]
     if not part:
         (HERE / "RESULTS.md").write_text("\n".join(shown) + "\n")

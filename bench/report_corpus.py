@@ -75,7 +75,7 @@ def listed(names):
 
 def less(side):
     """The programs for which a peer needs less than ours."""
-    return listed(f"{t.name} ({t.over(t.least[side])}, ours {t.over(t.least['ours'])})" for t in traces if t.least[side] < t.least["ours"])
+    return listed(t.name for t in traces if t.least[side] < t.least["ours"])
 
 
 def fitting(percent):
@@ -84,40 +84,39 @@ def fitting(percent):
 
 
 PERCENT = sorted({percent for percent, _ in traces[0].refused})
-SHARES = ", ".join(f"{fits} of {count} requests in a space {percent}% above the peak" for percent in PERCENT for count, fits in [fitting(percent)])
-SAVED = listed(f"{t.name} ({t.over(t.least['ours'])} to {t.over(t.once)})" for t in traces if t.over(t.once) != t.over(t.least["ours"]))
+SHARES = ", ".join(f"{fits} of {count} at {percent}%" for percent in PERCENT for count, fits in [fitting(percent)])
+SAVED = listed(t.name for t in traces if t.over(t.once) != t.over(t.least["ours"]))
 shown = [
     "# What recorded programs need", "",
-    f"`bench/corpus` counts this over the {len(traces)} programs in [traces](traces/README.md). [README.md](README.md#corpus) says how.", "",
+    f"[bench/corpus](README.md#corpus) counts this over the {len(traces)} programs in [traces](traces/README.md).", "",
     "## The least space", "",
-    "The smallest space in which nothing is refused, in percent above the peak of live bytes. In bold: the smallest of a row. "
-    "*Best fit* is ideal: it looks at every free block.", "",
+    "The smallest space in which nothing is refused, in percent above the peak of live bytes. In bold: the smallest of a row, "
+    "*best fit* left out.", "",
     *table([NAMES[s] for s in sides], [(t, least_cells(t)) for t in traces]),
     *(f"- {NAMES[s]} needs less than ours for {less(s)}." for s in peers),
     "- Ours needs the least, or as little as any peer, for "
     f"{listed(t.name for t in traces if all(t.least['ours'] <= t.least[p] for p in peers))}.", "",
-    "Why: ours, as the original, rounds a request up to a size class, and takes no block of the class below, though one may be "
-    "large enough; VMA and the two of Mesa try every free block before they refuse. That is a part of it: where ours refuses, a "
-    f"free block was large enough for {SHARES}. The rest is due to where ranges were placed before.", "",
-    "A larger space may refuse what a smaller one grants, since every range lies elsewhere then; so a least space may be luck. "
-    "The largest of 1,000 sizes, up to half above the peak, in which something is refused, in percent above the peak; empty where "
-    "none refuses:", "",
+    "Ours, as the original, rounds a request up to a size class, and takes no block of the class below; the peers try every "
+    f"free block before they refuse. Of the requests that ours refuses, a free block was large enough for {SHARES} above the peak. "
+    "The rest is due to where ranges were placed before.", "",
+    "A larger space may refuse what a smaller one grants, since every range lies elsewhere then. The largest of 1,000 sizes, up "
+    "to half above the peak, in which something is refused, in percent above it; empty where none refuses:", "",
     *table([NAMES[s] for s in sides], [(t, refusing_cells(t)) for t in traces]),
 ]
 shown += ["## Refusals", "",
-          "In a space that is as large as the peak, or little larger. In brackets, after ours: for how many of its refusals a free block was "
-          "large enough, so that a best fit would grant them there. A program is left out where none refuses any of it.", ""]
+          "In brackets, after ours: how many a best fit would grant there, since a free block was large enough. A program that none "
+          "refuses is left out.", ""]
 for percent in PERCENT:
     some = [t for t in traces if any(count for (p, _), (count, _) in t.refused.items() if p == percent)]
     shown += [f"{percent}% above the peak:" if percent else "The peak alone:", "",
               *table(["requests", *(NAMES[s] for s in sides if s != "c")], [(t, [f"{t.requests:,}", *refused_cells(t, percent)]) for t in some])]
 shown += [
     "## With `compact`", "",
-    "The least space of ours in percent above the peak: as above; with one `compact`, before the request that makes the peak; "
-    "and with one before each request that would be refused, and how many these are in that space.", "",
+    "The least space of ours: as above; with one `compact`, before the request that makes the peak; with one before each request "
+    "that would be refused, and how many these are.", "",
     *table(["none", "one at the peak", "where needed", "how many"],
            [(t, [t.over(t.least["ours"]), t.over(t.once), t.over(t.retried), t.compacts]) for t in traces]),
-    f"One at the peak saves something for {SAVED}; for the others nothing.",
+    f"One at the peak saves something only for {SAVED}.",
 ]
 if peers:
     (HERE / "CORPUS.md").write_text("\n".join(shown).strip() + "\n")
