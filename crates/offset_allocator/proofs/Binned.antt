@@ -1,10 +1,11 @@
 -- The bins after a change of one of them.
 use Rattle.offset_allocator.proofs.Common.{◌≡◌, ◌≢◌, ◌<◌, ◌≤◌, ◌+◌, ◌⊎◌, ℕ, List, [], ◌∷◌, ◌++◌, map, refl, sym, ap, subst, ◌∙◌, inl, inr, arith, length, drop, slice_index, slice_set, cases_eq}
-use Rattle.offset_allocator.proofs.Common.{length-set, length-map, get_or-set_same, get_or-set_other, get_or-map, ext_get_or, set-get_or, set-set, set_comm, Links, bin_at, times, without, push}
-use Rattle.offset_allocator.proofs.Common.{remove, IsLinked, Among, flag, first_of, walk, HasBins, AreMasks, IsUnlisted, IsBinned, bins_in, common_steps}
+use Rattle.offset_allocator.proofs.Common.{length-set, length-map, get_or-set_same, get_or-set_other, get_or-map, ext_get_or, set-get_or, set-set, set_comm, Links, bin_at, times, push}
+use Rattle.offset_allocator.proofs.Common.{remove, IsLinked, Among, first_of, names_from, HasBins, AreMasks, IsUnlisted, IsBinned, bins_in, common_steps}
 use Rattle.offset_allocator.proofs.{ViewOrders.names_same, ViewOrders.names_other, ViewOrders.times_without_le, ViewOrders.unlisted_removed, Walks.name_below, Walks.older_below, Walks.chain_fits}
 use Rattle.offset_allocator.proofs.{Walks.walk_is, Walks.IsLater, Walks.found, Walks.kept, Walks.led, Walks.not_first, Walks.first_same, Walks.newer_kept, Walks.next_among, Walks.older_kept}
-use Rattle.offset_allocator.proofs.{Walks.unlinked, Walks.without_first, Walks.without_later, Masks.masked_same, Masks.flag_full, Tallies.hit_cases, Tallies.one-same, Tallies.times-join}
+use Rattle.offset_allocator.proofs.{Walks.unlinked, Walks.without_first, Walks.without_later, Masks.flag, Masks.masked_same, Masks.flag_cons, Masks.flag_full, Tallies.hit_cases, Tallies.one-same, Tallies.times-join}
+use Rattle.offset_allocator.proofs.Tallies.{without}
 
 module _ {none : ℕ} {t : Links} {ls : List (List ℕ)} (k : HasBins none t ls) where
   pub single : (c : ℕ) → c < 256 → (x : ℕ) → times x (bin_at ls c) ≤ 1
@@ -17,10 +18,10 @@ module _ {none : ℕ} {t : Links} {ls : List (List ℕ)} (k : HasBins none t ls)
   pub shown : bins_in none t ≡ ls
   unfolding bins_in
   shown =
-      let long = length-map t.heads (walk none t.older (length t.older)) in
-      ext_get_or [] (map (walk none t.older (length t.older)) t.heads) ls (omega arith) (λ c h.
+      let long = length-map t.heads (names_from none t.older (length t.older)) in
+      ext_get_or [] (map (names_from none t.older (length t.older)) t.heads) ls (omega arith) (λ c h.
       let ch : c < 256 = omega arith in
-      get_or-map (walk none t.older (length t.older)) t.heads c 0 [] (omega arith) ∙ ap (walk none t.older (length t.older)) (k.heads c ch)
+      get_or-map (names_from none t.older (length t.older)) t.heads c 0 [] (omega arith) ∙ ap (names_from none t.older (length t.older)) (k.heads c ch)
       ∙ walk_is none t k.names_small (length t.older) none (bin_at ls c) (omega (arith, k.older_len, fits c ch)) (k.chains c ch))
 
   -- class c has the names ys: only links of names that it has or had are written
@@ -108,8 +109,8 @@ module _ {none : ℕ} {t : Links} {ls : List (List ℕ)} (k : HasBins none t ls)
         masked_same m k.lists_len c ch (without x (bin_at ls c)) (ap flag is ∙ mid f.front _ _ ∙ sym (ap flag f.is ∙ mid f.front _ _))
       where
         mid : (fs : List ℕ) (w : ℕ) (cs : List ℕ) → flag (fs ++ w ∷ cs) ≡ 1
-        mid [] w cs = refl
-        mid (y ∷ fs) w cs = refl
+        mid [] w cs = omega arith
+        mid (y ∷ fs) w cs = omega arith
 
     -- ---- changes
     module _ (t' : Links) where
@@ -207,7 +208,7 @@ exchanged {none} {t} {ls} k c ch t' x after l fresh full next newer older heads 
 
 pub exchange_masked : {ls : List (List ℕ)} {masks : List ℕ} {top : ℕ} → AreMasks ls masks top → length ls ≡ 256 → (c x y : ℕ) → c < 256 → bin_at ls c ≢ []
     → AreMasks (push c x (remove c y ls)) masks top
-exchange_masked {ls} m n c x y ch full = rw (set-set ls c (without y (bin_at ls c)) (x ∷ bin_at (remove c y ls) c)) (masked_same m n c ch _ (sym (flag_full _ full)))
+exchange_masked {ls} m n c x y ch full = rw (set-set ls c (without y (bin_at ls c)) (x ∷ bin_at (remove c y ls) c)) (masked_same m n c ch _ (flag_cons x (bin_at (remove c y ls) c) ∙ sym (flag_full _ full)))
 
 pub binned : {none : ℕ} {t : Links} {top : ℕ} {ls : List (List ℕ)} → HasBins none t ls → AreMasks ls t.masks top → IsBinned none t top × (bins_in none t ≡ ls)
 binned {none} {t} {top} {ls} k m = let e = shown k in (record { linked = subst (HasBins none t) (sym e) k; masked = subst (λ l. AreMasks l t.masks top) (sym e) m }, e)

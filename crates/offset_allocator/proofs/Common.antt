@@ -17,10 +17,10 @@ pub use Rattle.std.proofs.lemmas.Nat.Bits.{bit_at-zero, bit_at_above, bit_at-tra
 pub use Rattle.std.proofs.lemmas.Nat.Bits.{bit_at_clear_same, bit_at_clear_other}
 pub use Rattle.std.specs.Int.{bit_at, Width, trailing_zeros, bit_not, IsPowerOfTwo}
 pub use Rattle.std.specs.Int.Count.{count_trailing_zeros, count_leading_zeros, ones_step}
-pub use Rattle.std.specs.List.{AllByRecursion, FoldsTo, prefix_len, range_with_len}
+pub use Rattle.std.specs.List.{AllByRecursion, FoldsTo, filter, prefix_len, range_with_len}
 pub use Rattle.std.specs.Prelude.{vec_len, vec_capacity}
-pub use Rattle.offset_allocator.specs.Bins.{IsBinned, IsUnlisted, Among, first_of, AreMasks, IsSmallestFrom, IsLinked, flag, HasBins, mark}
-unfoldable pub use Rattle.offset_allocator.specs.Bins.{bins_in, walk}
+pub use Rattle.offset_allocator.specs.Bins.{IsBinned, IsUnlisted, Among, first_of, AreMasks, IsSmallestFrom, IsLinked, HasBins}
+unfoldable pub use Rattle.offset_allocator.specs.Bins.{bins_in, names_from}
 pub use Rattle.offset_allocator.specs.Cells.{Node, Cells, Room, link_of, Links, blank, AreShaped, mark_of, AreEmpty, IsBare}
 unfoldable pub use Rattle.offset_allocator.specs.Cells.{node, put, with_spare, with_node}
 pub use Rattle.offset_allocator.specs.Chain.{HasPlace, last_or, IsChain, first_or, IsRow, IsSpace, coalesced_before, coalesced_after, IsFreeAfter}
@@ -32,11 +32,11 @@ pub use Rattle.offset_allocator.specs.Layouts.{field_tables, FieldTables, node_i
 unfoldable pub use Rattle.offset_allocator.specs.Layouts.{nodes_of, nodes_in}
 pub use Rattle.offset_allocator.specs.Listing.{Placed, placed_at, placed}
 pub use Rattle.offset_allocator.specs.Ranges.{size_of, range_of, Range, IsLive, KeepsAll, Grants, KeepsOthers, AreDisjoint, KeepsRanges}
-pub use Rattle.offset_allocator.specs.Relations.{SameSpace, Splits, Frees, Resets, IsFresh, Extends, Aligns, Adds, Allocates, CanExtend, IsAlignment, Serves, IsSplitNearBest}
+pub use Rattle.offset_allocator.specs.Relations.{SameSpace, Splits, Frees, Resets, IsFresh, Extends, Aligns, Adds, Allocates, CanExtend, IsAlignment, IsSplitNearBest}
 pub use Rattle.offset_allocator.specs.Reports.{largest, count_of, IsGoodRefusal}
 pub use Rattle.offset_allocator.specs.Requests.{HasRoomFor, CanGrant, units_needed, blocks_needed, size_needed, IsLargestClass, IsWhy}
-pub use Rattle.offset_allocator.specs.Resizing.{ResizesTo, Resizes, HasUnits, Shrinks, Grows, CanShrink, CanGrow, free_after, free_beyond}
+pub use Rattle.offset_allocator.specs.Resizing.{ResizesTo, Resizes, HasUnits, Shrinks, Grows, CanShrink, CanGrow, free_after}
 pub use Rattle.offset_allocator.specs.Soundness.{free_units, view_of, AreInBins, AreUnlisted, IsSound}
 pub use Rattle.offset_allocator.specs.View.{Block, View, units, IsWellFormed, count_named, bin_at, one, Place, times, free_block, push, free_sizes, IsApart, count_in_bin, free_start, place_of}
-pub use Rattle.offset_allocator.specs.View.{used_of, remove_all, free_part, remove, push_all, is_free, free_end, without_start, replace, without, without_end, used_block, IsNew, Grant, padding_to}
+pub use Rattle.offset_allocator.specs.View.{used_of, remove_all, free_part, remove, push_all, is_free, free_end, without_start, replace, without_end, used_block, IsNew, Grant, padding_to}
 pub use Rattle.offset_allocator.specs.View.{max_size, starts_free, is_used_at, ends_used, largest_free, used_units, total_free, tally}

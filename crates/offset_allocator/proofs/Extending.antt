@@ -1,12 +1,13 @@
 -- What more units at the end leave of the whole allocator.
 use Rattle.offset_allocator.proofs.Common.{◌≡◌, ◌↔◌, ℕ, ◌+◌, ◌-◌, ◌<◌, ◌≤◌, ◌^◌, Bool, true, false, not, ◌⊎◌, List, [], ◌∷◌, ◌++◌, length, refl, sym, ap, subst, ◌∙◌, inl, inr, arith, slice_set}
 use Rattle.offset_allocator.proofs.Common.{append-nil, true≢false, false≢true, AllByRecursion, down, Cells, Room, Node, node, Block, View, count_named, bin_at, count_in_bin, is_free, IsApart}
-use Rattle.offset_allocator.proofs.Common.{IsWellFormed, IsNew, free_block, units, replace, remove_all, push, remove, without, times, ends_used, HasRoomFor, KeepsAll, Adds, CanExtend, Extends}
+use Rattle.offset_allocator.proofs.Common.{IsWellFormed, IsNew, free_block, units, replace, remove_all, push, remove, times, ends_used, HasRoomFor, KeepsAll, Adds, CanExtend, Extends}
 use Rattle.offset_allocator.proofs.Common.{IsChain, HasPlace, blocks, Among, IsUnlisted, bins_in, IsBinned, free_units, common_steps}
 use Rattle.offset_allocator.proofs.Tallies.{listed_named, tally_append, units-append, times-append, one-eq}
 use Rattle.offset_allocator.proofs.Joints.{stepped, free_most, unused_unlisted, remove_free, free_units-append, free_units-free}
 use Rattle.offset_allocator.proofs.{Sound.Fields, Sound.AreSound, Sound.shown, Sound.well_counted, Sound.well_same, Ends.Ended, Ends.ended, Places.at_place, Places.end_place, Filed.share}
 use Rattle.offset_allocator.proofs.{Filed.counts_once, ViewApart.ends_free, ViewApart.apart_parts, ViewApart.left_false, ViewOrders.times_remove_all, ViewTaken.well_added, Ranges.adds_keep}
+use Rattle.offset_allocator.proofs.Tallies.{without, counted_none}
 
 pub ends_last : (fs : List Block) (b : Block) → ends_used (fs ++ b ∷ []) ≡ b.used
 ends_last [] b = refl
@@ -135,7 +136,7 @@ module _ {it : Fields} {more : ℕ} (r : Growth it more true) where
       let whole : n ≡ (end r).last.size = e ∙ size_at_end r in
       let none : (end r).last.size - (end r).last.size ≡ 0 = omega arith in
       let sum : 0 + more ≡ more = omega arith in
-      let unused : IsNew y (shown it) = record { below = omega (arith, below, r.sound.space.within, r.sound.memory); absent = ap (count_named y) (end r).is ∙ new } in
+      let unused : IsNew y (shown it) = record { below = omega (arith, below, r.sound.space.within, r.sound.memory); absent = counted_none y (shown it).blocks (ap (count_named y) (end r).is ∙ new) } in
       grown r d k y ((end r).front ++ (end r).last ∷ []) [] ((end r).is ∙ sym (append-nil _)) (ends_free_last (end r).front (end r).last ∙ ap not (b_used r)) tt tt
       (inr unused) (inr room) (λ _. unused)
       (rw (whole, none) at chain) bins (rw sum eo)

@@ -1,8 +1,9 @@
 -- The first and the last class that has a name, by the masks.
 use Rattle.offset_allocator.proofs.Common.{◌≡◌, ◌≢◌, ◌<◌, ◌≤◌, ℕ, suc, ◌+◌, ◌-◌, ◌*◌, ◌/◌, ◌%◌, ◌^◌, List, [], ◌∷◌, bit_and, refl, sym, ap, ◌∙◌, inl, inr, arith, slice_index, w32, w64, ne_eqb, bit_at}
 use Rattle.offset_allocator.proofs.Common.{Width, trailing_zeros, count_trailing_zeros, count_leading_zeros, pow_pos, leading_top, le-div, div_below, div-mul-add, mod-mul-add, and_le_l, bit_at_above}
-use Rattle.offset_allocator.proofs.Common.{bit_at-zero, bit_at-trailing_zeros, bit_at_and, bit_at_mask_inside, bit_at_mask_below, bit_at-lt, ones_shl, cases_lt, cases_eq, bin_at, flag, mark}
+use Rattle.offset_allocator.proofs.Common.{bit_at-zero, bit_at-trailing_zeros, bit_at_and, bit_at_mask_inside, bit_at_mask_below, bit_at-lt, ones_shl, cases_lt, cases_eq, bin_at}
 use Rattle.offset_allocator.proofs.Common.{IsSmallestFrom, AreMasks, IsLargestClass}
+use Rattle.offset_allocator.proofs.Masks.{flag, mark}
 use mir.Val.{bits}
 
 -- the lowest bit of a word at or above a place, as code finds it: `(n & (MAX << k)).trailing_zeros()`

@@ -5,7 +5,7 @@ use Rattle.offset_allocator.proofs.Common.{without_start, remove_all, push, free
 use Rattle.offset_allocator.proofs.Common.{SameSpace, Frees, common_steps}
 use Rattle.offset_allocator.proofs.{Filed.share, Sound.Fields, Sound.AreSound, Sound.shown, Sound.well_counted, Places.located, ViewSteps.place_at, ViewTaken.well_frees, ViewTaken.tally_end}
 use Rattle.offset_allocator.proofs.{ViewTaken.tally_start, ViewApart.apart_parts, ViewApart.apart_coalesced, ViewApart.coalesced_parts, Released.idle_append, Released.idle_end, Released.idle_start}
-use Rattle.offset_allocator.proofs.{Joints.stepped, Joints.free_most, Joints.free_units-append, Joints.free_units-free, Joints.free_units-used, Tallies.tally_append}
+use Rattle.offset_allocator.proofs.{Joints.stepped, Joints.free_most, Joints.free_units-append, Joints.free_units-free, Joints.free_units-used, Tallies.tally_append, Tallies.units-append}
 
 share_used : (k y : ℕ) (b : Block) → b.used ≡ true → share k y b ≡ 0
 share_used k y b e = ap (λ (u : Bool). one (not u && (nat_eq k (down b.size) && nat_eq y b.name))) e
@@ -92,7 +92,7 @@ module _ {f : Fields} {x : ℕ} (r : Release f x) where
   used = sym (ap is_used_at at.is) ∙ r.live
 
   pub room_for : f.free + at.place.block.size < 2 ^ 32
-  room_for = grind (arith, free_units-append, free_units-used, used, tally_append, free_most)
+  room_for = grind (arith, free_units-append, free_units-used, used, units-append, free_most)
 
   -- the bins hold the other free blocks
   pub filed : AreInBins (at.place.before ++ at.place.after) (bins_in f.max f.cells.links)
@@ -111,7 +111,7 @@ module _ {f : Fields} {x : ℕ} (r : Release f x) where
       → IsSound f.max f.size f.limit d last' count' top' (f.free + at.place.block.size) × Frees x (shown f) (view_of f.max f.size f.limit d last' acc')
   freed d last' count' top' acc' chain bins eo =
       let gone : List Block = free_end fs ++ (b ∷ free_start cs) in
-      let sum : units gone ≡ (units (free_end fs) + b.size) + units (free_start cs) = tally_append (λ (d : Block). d.size) (free_end fs) (b ∷ free_start cs) ∙ omega arith in
+      let sum : units gone ≡ (units (free_end fs) + b.size) + units (free_start cs) = units-append (free_end fs) (b ∷ free_start cs) ∙ omega arith in
       let removes : remove_all gone ls ≡ remove_all (free_start cs) (remove_all (free_end fs) ls) = grind (arith, common_steps, remove_all-append, remove_used, used) in
       let was = ap free_units at.stood ∙ free_units-append fs (b ∷ cs) ∙ ap (λ k. free_units fs + k) (free_units-used b cs used) in
       let freed : Block = free_block x (units gone) in

@@ -1,10 +1,11 @@
 -- What a grant leaves of the whole allocator.
 use Rattle.offset_allocator.proofs.Common.{◌≡◌, ℕ, zero, suc, ◌+◌, ◌-◌, ◌<◌, ◌≤◌, ◌^◌, List, [], ◌∷◌, ◌++◌, length, refl, sym, ap, ap₂, ◌∙◌, arith, slice_set, append_assoc, le-leb, nat_eq, up, down}
 use Rattle.offset_allocator.proofs.Common.{Cells, Room, Block, View, Place, Grant, one, count_named, bin_at, IsWellFormed, IsNew, free_part, used_block, units, replace, remove_all, push_all, remove}
-use Rattle.offset_allocator.proofs.Common.{without, HasPlace, IsSmallestFrom, bins_in, IsBinned, AreUnlisted, free_units, SameSpace, Splits, common_steps}
+use Rattle.offset_allocator.proofs.Common.{HasPlace, IsSmallestFrom, bins_in, IsBinned, AreUnlisted, free_units, SameSpace, Splits, common_steps}
 use Rattle.offset_allocator.proofs.Joints.{stepped, unused_unlisted, free_part_units, remove_free, free_units-append, free_units-free, free_units-used}
 use Rattle.offset_allocator.proofs.{Sound.Fields, Sound.AreSound, Sound.shown, Sound.well_counted, Exchange.each-le, Exchange.there-below, Places.placed, Places.end_fits, Classes.fits_size}
 use Rattle.offset_allocator.proofs.{Split.well_split, Split.part_room, Taken.Taken, Taken.taken, ViewOrders.unlisted_removed, Tallies.one-same, Tallies.one-eq, Tallies.times-append}
+use Rattle.offset_allocator.proofs.Tallies.{without, counted_none}
 
 -- a grant: sound fields, the smallest class large enough that has a block, and the first name there
 pub record Call (f : Fields) (needed class x : ℕ) : Type 0 where
@@ -97,7 +98,7 @@ module _ {f : Fields} {needed class x : ℕ} (call : Call f needed class x) wher
           let some : 1 ≤ count_named y ((p.before ++ free_part front padding) ++ used_block p.block.name n ∷ (free_part rest left ++ p.after)) = grind (arith, common_steps, times-append) in
           record {
             below = omega (arith, there-below d.room _ last count y _ there.chain some, there.chain.within, call.sound.memory);
-            absent = ap (count_named y) got.stood ∙ omega (arith, l, names y, times-append y p.before (p.block ∷ p.after));
+            absent = counted_none y v.blocks (ap (count_named y) got.stood ∙ omega (arith, l, names y, times-append y p.before (p.block ∷ p.after)));
           }
 
       abbrev left_view : View
@@ -127,7 +128,9 @@ module _ {f : Fields} {needed class x : ℕ} (call : Call f needed class x) wher
         remainder_new = λ l. unused rest (omega (arith, part_names rest rest left l, one-same rest));
         differ = λ l m q. absurd (omega (arith, names front, part_names front front padding l, one-same front, part_names front rest left m, one-eq front rest (sym q)));
         grant = ap (λ i. record { name = i; offset = units p.before + padding }) (sym got.name);
-        view = same;
+        parts = parts;
+        made = refl;
+        view = same ∙ ap (λ o. record v { blocks = p.before ++ (parts ++ p.after); order = push_all parts o; accesses = u.accesses }) (remove_free p.block ls got.free);
       }
 
       pub granted : {top accesses : ℕ} → IsBinned f.max d.links top

@@ -1,15 +1,26 @@
 -- The masks after a change of one bin.
-use Rattle.offset_allocator.proofs.Common.{◌≡◌, ◌≢◌, ◌<◌, ℕ, ◌*◌, ◌/◌, ◌%◌, ◌^◌, List, [], ◌∷◌, refl, sym, ap, ◌∙◌, arith, length, slice_index, slice_set, bit_and, bit_or, w32, w64, ne_eqb}
+use Rattle.offset_allocator.proofs.Common.{◌≡◌, ◌≢◌, ◌<◌, ℕ, ◌*◌, ◌/◌, ◌%◌, ◌^◌, List, [], ◌∷◌, refl, sym, ap, ◌∙◌, arith, length, slice_index, slice_set, bit_and, bit_or, w32, w64}
 use Rattle.offset_allocator.proofs.Common.{length-set, get_or-set_same, get_or-set_other, bit_at, bit_not, or_lt, one_shl, and_le_l, pow_below, bit_at_set_same, bit_at_set_other, bit_at_clear_same}
-use Rattle.offset_allocator.proofs.Common.{bit_at_clear_other, bit_at-zero, cases_eq, bin_at, flag, mark, AreMasks}
+use Rattle.offset_allocator.proofs.Common.{bit_at_clear_other, bit_at-zero, cases_eq, bin_at, AreMasks}
+use Rattle.std.specs.Prelude.{min}
 use Rattle.offset_allocator.proofs.ViewOrders.{names_same, names_other}
 
+-- 0 for an empty list or a mask with no bit, else 1
+abbrev pub flag : List ℕ → ℕ
+flag xs = min 1 (length xs)
+
+abbrev pub mark : ℕ → ℕ
+mark w = min 1 w
+
 mark_some : (n : ℕ) → n ≢ 0 → mark n ≡ 1
-mark_some n h = rw (ne_eqb n 0 h)
+mark_some n h = omega arith
 
 pub flag_full : (xs : List ℕ) → xs ≢ [] → flag xs ≡ 1
 flag_full [] n = absurd (n refl)
-flag_full (x ∷ xs) n = refl
+flag_full (x ∷ xs) n = omega arith
+
+pub flag_cons : (x : ℕ) (xs : List ℕ) → flag (x ∷ xs) ≡ 1
+flag_cons x xs = omega arith
 
 module _ {ls : List (List ℕ)} {masks : List ℕ} {top : ℕ} (k : AreMasks ls masks top) (ll : length ls ≡ 256) (c : ℕ) (ch : c < 256) (ys : List ℕ) where
   flag_at : (d : ℕ) → d ≡ c → flag (bin_at (slice_set ls c ys) d) ≡ flag ys

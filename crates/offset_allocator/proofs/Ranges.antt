@@ -3,7 +3,7 @@ use Rattle.offset_allocator.proofs.Common.{◌≡◌, ◌≢◌, ℕ, IfSome, ze
 use Rattle.offset_allocator.proofs.Common.{inl, inr, arith, append_assoc, add-zero, add_assoc, eq-eqb, ne_eqb, false≢true, and_right, AllByRecursion, Block, View, Place, Grant, one, units}
 use Rattle.offset_allocator.proofs.Common.{count_named, used_block, free_block, free_part, IsWellFormed, place_of, Range, range_of, AreDisjoint, Grants, KeepsAll, KeepsOthers, KeepsRanges, Resizes}
 use Rattle.offset_allocator.proofs.Common.{HasUnits, SameSpace, Splits, Frees, Adds, common_steps}
-use Rattle.offset_allocator.proofs.{ViewSteps.place_at, ViewSteps.no_place, Released.idle_parts, Reading.range_at, Tallies.part_sums, Tallies.tally_append, Tallies.hit_cases}
+use Rattle.offset_allocator.proofs.{ViewSteps.place_at, ViewSteps.no_place, Released.idle_parts, Reading.range_at, Tallies.part_sums, Tallies.tally_append, Tallies.hit_cases, Tallies.units-append, Split.split_view}
 
 -- the range of the used block named x, where the first of the blocks has this offset
 abbrev range_from : ℕ → ℕ → List Block → Option Range
@@ -149,11 +149,11 @@ module _ {needed n : ℕ} {padding_at : ℕ → ℕ} {v w : View} {g : Grant} (s
   alone = beside x s.before s.block s.after refl (omega (arith, ap (count_named x) s.blocks, f.distinct x))
 
   same_units : units new ≡ units (s.block ∷ [])
-  same_units = omega (arith, s.whole, tally_append (λ (b : Block). b.size) padding (used_block x n ∷ remainder), (part_sums s.padding_name s.padding).1, (part_sums s.remainder_name s.remainder).1)
+  same_units = omega (arith, s.whole, units-append padding (used_block x n ∷ remainder), (part_sums s.padding_name s.padding).1, (part_sums s.remainder_name s.remainder).1)
 
   -- the ranges are those of the new blocks
   ranged : (y : ℕ) → range_of y w ≡ range_from y 0 (s.before ++ (new ++ s.after))
-  ranged y = range_is y w after ∙ ap (λ (u : View). range_from y 0 u.blocks) s.view
+  ranged y = range_is y w after ∙ ap (λ (u : View). range_from y 0 u.blocks) (split_view s)
 
   not_live : range_of x v ≡ None
   not_live =

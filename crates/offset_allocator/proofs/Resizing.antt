@@ -2,13 +2,13 @@
 use Rattle.offset_allocator.proofs.Common.{IsSome, ◌≡◌, ◌≢◌, ◌↔◌, ℕ, zero, suc, ◌+◌, ◌-◌, ◌<◌, ◌≤◌, Bool, true, false, ◌⊎◌, List, [], ◌∷◌, ◌++◌, length, Option, Some, None, is_some, nat_eq, refl, sym}
 use Rattle.offset_allocator.proofs.Common.{ap, ap₂, subst, ◌∙◌, inl, inr, arith, length-append, eq-zero-or-pos, if◌then◌else◌, false≢true, true≢false, and_right, Cells, Node, Block, View, Place, one}
 use Rattle.offset_allocator.proofs.Common.{units, count_named, used_of, used_block, IsApart, IsWellFormed, IsNew, free_start, without_start, free_part, remove_all, push_all, replace, HasRoomFor}
-use Rattle.offset_allocator.proofs.Common.{range_of, size_of, KeepsOthers, SameSpace, Resizes, ResizesTo, Shrinks, Grows, CanShrink, CanGrow, HasUnits, free_after, free_beyond, HasPlace, IsFreeAfter}
-use Rattle.offset_allocator.proofs.Common.{bins_in, IsBinned, free_units, common_steps}
+use Rattle.offset_allocator.proofs.Common.{range_of, size_of, KeepsOthers, SameSpace, Resizes, ResizesTo, Shrinks, Grows, CanShrink, CanGrow, HasUnits, free_after, HasPlace, IsFreeAfter}
+use Rattle.offset_allocator.proofs.Common.{bins_in, IsBinned, free_units, option_map, unwrap_or, common_steps}
 use Rattle.offset_allocator.proofs.Freeing.{Release, at, used, w, remove_used, units_start}
 use Rattle.offset_allocator.proofs.ViewApart.{ends_free, apart_parts, apart_append, apart_without_start, apart_free_part, start_parts}
 use Rattle.offset_allocator.proofs.{Exchange.each-le, Exchange.there-below, Granting.part_names, Joints.stepped, Joints.free_part_units, Joints.free_units-append, Joints.free_units-used}
 use Rattle.offset_allocator.proofs.{Places.at_place, Places.next_place, Ranges.resizes_units, Ranges.resizes_others, Reading.size_is, Reading.size_at, Released.idle_start}
-use Rattle.offset_allocator.proofs.{Sound.Fields, Sound.AreSound, Sound.shown, Sound.well_same, Tallies.tally_three, Tallies.part_sums, Tallies.hit_cases, Tallies.one-same, ViewReplaced.well_replaced}
+use Rattle.offset_allocator.proofs.{Sound.Fields, Sound.AreSound, Sound.shown, Sound.well_same, Tallies.tally_three, Tallies.part_sums, Tallies.counted_none, Tallies.new_absent, Tallies.hit_cases, Tallies.one-same, ViewReplaced.well_replaced}
 
 -- the name of a free part, where it has units
 part_named : (z m y : ℕ) → (count_named y (free_part z m) ≡ 0) ⊎ ((y ≡ z) × (1 ≤ m) × (count_named y (free_part z m) ≡ 1))
@@ -30,8 +30,11 @@ module _ {x n : ℕ} {v u : View} (r : Resizes x n v u) (k : IsWellFormed v) whe
   count_of y = ap (count_named y) r.blocks ∙ tally_three (λ (b : Block). one (nat_eq y b.name)) r.before old r.after
       ∙ ap (λ i. count_named y r.before + ((one (nat_eq y i) + count_named y r.next) + count_named y r.after)) r.named
 
+  fresh : 1 ≤ r.left → (1 ≤ count_named r.name r.next) ⊎ (count_named r.name v.blocks ≡ 0)
+  fresh l = elim (r.new l) [ inl a ↦ inl a | inr n ↦ inr (new_absent r.name v n) ]
+
   distinct_parts : (y : ℕ) → count_named y parts ≤ 1
-  distinct_parts y = grind (arith, part_named, count_of)
+  distinct_parts y = grind (arith, part_named, count_of, fresh)
 
   named_parts : (y : ℕ) → 1 ≤ count_named y parts → (1 ≤ count_named y old) ⊎ IsNew y v
   named_parts y l = grind (arith, part_named)
@@ -125,7 +128,7 @@ module _ {f : Fields} {x : ℕ} (call : Release f x) where
         elim (eq-zero-or-pos (count_named name next)) [
           | inl z ↦ inr (record {
             below = omega (arith, there-below d.room _ last count name _ there.chain (omega (arith, now name, here)), there.chain.within, call.sound.memory);
-            absent = omega (arith, z, counted name, now name, here, each-le d.room _ last count _ there.chain name);
+            absent = counted_none name v.blocks (omega (arith, z, counted name, now name, here, each-le d.room _ last count _ there.chain name));
           })
           | inr s ↦ inl s
         ]
@@ -173,7 +176,7 @@ module _ {f : Fields} {x : ℕ} (call : Release f x) where
   size_there = size_is x v ∙ ap size_at (at call).is ∙ ap (λ (u : Bool). if u then p.block.size else 0) (used call)
 
   next_there : free_after x v ≡ next
-  next_there = ap free_beyond (at call).is
+  next_there = ap (λ (o : Option Place). unwrap_or (option_map (λ (p : Place). free_start p.after) o) []) (at call).is
 
   -- no block may take the units that are given back
   pub resizes_full : (n accesses : ℕ) → n < (at call).place.block.size → free_start (at call).place.after ≡ [] → f.limit ≤ length (shown f).blocks + 1

@@ -2,7 +2,7 @@
 use Rattle.offset_allocator.proofs.Common.{◌≡◌, ◌≢◌, ℕ, zero, suc, ◌+◌, ◌≤◌, Option, None, Some, List, [], ◌∷◌, ◌++◌, length, refl, ◌∙◌, arith, add_assoc, zero-add, add-zero, cases_eq, Room, node}
 use Rattle.offset_allocator.proofs.Common.{first_or, last_or, IsRow, Block, units, count_named}
 use Rattle.offset_allocator.proofs.Tallies.{one-same, one-eq}
-use Rattle.offset_allocator.specs.Chain.{walk}
+use Rattle.offset_allocator.specs.Chain.{blocks_back}
 
 -- the first of a list is in it
 pub times-first : (k : ℕ) (bs : List Block) → first_or None bs ≡ Some k → 1 ≤ count_named k bs
@@ -73,10 +73,10 @@ IsRow-aimed c d p o (b ∷ b' ∷ bs) q q' once end others h = (
 
 -- the walk back from the end of a row is the row
 pub walk-row : (c : Room) (p : Option ℕ) (o : ℕ) (bs : List Block) (q : Option ℕ) (f : ℕ) (rest : List Block) → IsRow c p o bs q
-    → walk c (length bs + f) (last_or p bs) rest ≡ walk c f p (bs ++ rest)
+    → blocks_back c (length bs + f) (last_or p bs) rest ≡ blocks_back c f p (bs ++ rest)
 walk-row c p o [] q f rest h = grind (arith, zero-add)
 walk-row c p o (b ∷ bs) q f rest h = grind (arith, walk-row c (Some b.name) (o + b.size) bs q (suc f) rest h.1)
 
-pub walk-none : (c : Room) (f : ℕ) (rest : List Block) → walk c f None rest ≡ rest
+pub walk-none : (c : Room) (f : ℕ) (rest : List Block) → blocks_back c f None rest ≡ rest
 walk-none c zero rest = refl
 walk-none c (suc f) rest = refl

@@ -1,9 +1,27 @@
 -- What contracts say of a request, from the relation that says it all.
 use Rattle.offset_allocator.proofs.Common.{◌≡◌, ◌↔◌, ℕ, ◌+◌, ◌%◌, ◌<◌, ◌≤◌, Bool, length, Option, Some, None, IsSome, IfSome, if◌then◌else◌, refl, sym, ap, ap₂, subst, ◌∙◌, arith, le-leb, cases_lt}
 use Rattle.offset_allocator.proofs.Common.{false≢true, lt-leb, down, View, Grant, units, count_named, place_of, IsWellFormed, free_sizes, largest_free, padding_to, max_size, largest, IsGoodRefusal}
-use Rattle.offset_allocator.proofs.Common.{HasRoomFor, CanGrant, units_needed, SameSpace, Splits, Serves, Allocates, Aligns, IsSplitNearBest, Grants}
+use Rattle.offset_allocator.proofs.Common.{HasRoomFor, CanGrant, blocks_needed, units_needed, SameSpace, Splits, Allocates, Aligns, IsSplitNearBest, Grants}
 use Rattle.offset_allocator.proofs.ViewFits.{HasName, there_middle, near_best_fit, good_refusal, fits_exactly, refusal_past, largest_small}
 use Rattle.offset_allocator.proofs.{Padding.reaches, Refusals.fit_small, Split.well_split, Split.part_room, Ranges.beside, Ranges.split_grants, ViewSteps.place_here}
+
+-- a request that may add this many blocks, takes a block of a class large enough for the units needed, and is granted n
+-- of them, after padding
+abbrev pub Serves : ℕ → ℕ → ℕ → (ℕ → ℕ) → View → View → Option Grant → Type 0
+Serves blocks needed n padding_at v w None = (CanGrant blocks needed v → ⊥) × SameSpace v w
+Serves blocks needed n padding_at v w (Some g) = HasRoomFor blocks v × Splits needed n padding_at v w g
+
+pub plain_serves : (n : ℕ) (v w : View) (r : Option Grant) → Allocates n v w r → Serves 1 n n (λ offset. 0) v w r
+plain_serves n v w None a = a
+plain_serves n v w (Some g) a = a
+
+pub serves_plain : (n : ℕ) (v w : View) (r : Option Grant) → Serves 1 n n (λ offset. 0) v w r → Allocates n v w r
+serves_plain n v w None a = a
+serves_plain n v w (Some g) a = a
+
+pub aligned_serves : (n align : ℕ) (v w : View) (r : Option Grant) → Aligns n align v w r → Serves (blocks_needed align) (units_needed n align) n (padding_to align) v w r
+aligned_serves n align v w None a = a
+aligned_serves n align v w (Some g) a = a
 
 -- where a region is reported, one more block may exist
 pub reported_room : (v : View) → 1 ≤ largest_free v → HasRoomFor 1 v
@@ -59,14 +77,13 @@ pub split_as : {needed n : ℕ} {padding_at : ℕ → ℕ} {v w : View} {g : Gra
     → ((o : ℕ) → padding_at o ≡ padded_at o) → Splits needed n padded_at (record v { accesses = a }) (record w { accesses = b }) g
 split_as {w = w} s a b padded_at alike = grind arith
 
-pub serves_counted : (blocks needed n : ℕ) (padding_at : ℕ → ℕ) (v w : View) (accesses : ℕ) (r : Option Grant) → Serves blocks needed n padding_at (record v { accesses = accesses }) w r
-    → Serves blocks needed n padding_at v w r
-serves_counted blocks needed n padding_at v w accesses None a = a
-serves_counted blocks needed n padding_at v w accesses (Some g) a = (a.0, split_as a.1 v.accesses w.accesses padding_at (λ o. refl))
+pub aligns_counted : (n align : ℕ) (v w : View) (accesses : ℕ) (r : Option Grant) → Aligns n align (record v { accesses = accesses }) w r → Aligns n align v w r
+aligns_counted n align v w accesses None a = a
+aligns_counted n align v w accesses (Some g) a = (a.0, split_as a.1 v.accesses w.accesses (padding_to align) (λ o. refl))
 
 -- with an alignment of 1 an aligned request is a plain one
 pub one_aligns : (n : ℕ) (v w : View) (r : Option Grant) → Aligns n 1 v w r → Allocates n v w r
-one_aligns n v w r a = subst (λ k. Serves 1 k n (λ offset. 0) v w r) same (unpadded r a)
+one_aligns n v w r a = serves_plain n v w r (subst (λ k. Serves 1 k n (λ offset. 0) v w r) same (unpadded r (aligned_serves n 1 v w r a)))
   where
     same : units_needed n 1 ≡ n
     same = omega arith

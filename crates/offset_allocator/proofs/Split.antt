@@ -1,7 +1,7 @@
 -- What a split leaves is well formed.
-use Rattle.offset_allocator.proofs.Common.{◌≡◌, ℕ, zero, suc, ◌+◌, ◌<◌, ◌≤◌, true, false, not, ◌⊎◌, List, [], ◌∷◌, ◌++◌, length, nat_eq, sym, ap, subst, ◌∙◌, arith, length-append, append_assoc, Block}
-use Rattle.offset_allocator.proofs.Common.{View, Grant, one, used_block, count_named, used_of, IsApart, IsWellFormed, IsNew, free_part, replace, Splits, common_steps}
-use Rattle.offset_allocator.proofs.{Sound.well_same, ViewReplaced.well_replaced, ViewApart.apart_granted, Tallies.tally_three, Tallies.part_sums, Tallies.tally_append, Tallies.hit_cases}
+use Rattle.offset_allocator.proofs.Common.{◌≡◌, ℕ, zero, suc, ◌+◌, ◌<◌, ◌≤◌, Bool, true, false, not, if◌then◌else◌, ◌⊎◌, List, [], ◌∷◌, ◌++◌, length, nat_eq, sym, ap, ap₂, subst, ◌∙◌, arith, length-append, append_assoc, Block}
+use Rattle.offset_allocator.proofs.Common.{View, Grant, one, used_block, count_named, used_of, IsApart, IsWellFormed, IsNew, free_part, replace, push_all, remove, down, SameSpace, Splits, common_steps}
+use Rattle.offset_allocator.proofs.{Sound.well_same, ViewReplaced.well_replaced, ViewApart.apart_granted, Tallies.tally_three, Tallies.part_sums, Tallies.tally_append, Tallies.hit_cases, Tallies.units-append, Tallies.new_absent}
 
 -- the room that padding asks for, beside that for a remainder
 pub part_room : (y n k : ℕ) → 1 ≤ k → (1 ≤ n → 2 ≤ k) → length (free_part y n) + 1 ≤ k
@@ -28,9 +28,14 @@ module _ {needed n : ℕ} {padding_at : ℕ → ℕ} {v u : View} {g : Grant} (s
   abbrev new : List Block
   new = padding ++ (used_block s.block.name n ∷ remainder)
 
+  -- it is one step of `replace`
+  pub split_view : SameSpace (replace v s.before (s.block ∷ []) (free_part s.padding_name s.padding ++ (used_block s.block.name n ∷ free_part s.remainder_name s.remainder)) s.after) u
+  split_view = s.view ∙ ap₂ (λ parts order. record v { blocks = s.before ++ (parts ++ s.after); order = push_all parts order; accesses = u.accesses }) s.made
+      (sym (ap (λ (b : Bool). if b then v.order else remove (down s.block.size) s.block.name v.order) s.free))
+
   -- in a space with room for the blocks that it adds
   pub well_split : (k : ℕ) → IsWellFormed v → length v.blocks + k < v.max_allocs → length (free_part s.padding_name s.padding) + 1 ≤ k → IsWellFormed u
-  well_split k w room parts = well_same (replace v s.before (s.block ∷ []) new s.after) u s.view (well_replaced v s.before (s.block ∷ []) new s.after v.size w
+  well_split k w room parts = well_same (replace v s.before (s.block ∷ []) new s.after) u split_view (well_replaced v s.before (s.block ∷ []) new s.after v.size w
       (record {
         stood = s.blocks;
         some = omega (arith, lengths);
@@ -41,7 +46,7 @@ module _ {needed n : ℕ} {padding_at : ℕ → ℕ} {v u : View} {g : Grant} (s
         room = omega (arith, room, parts, old_length, new_length, (part_sums s.remainder_name s.remainder).0);
         spare = omega (arith, room, parts, used_new, old_length, (part_sums s.remainder_name s.remainder).2, (part_sums s.padding_name s.padding).2, used_most s.before, used_most s.after);
       })
-      (omega (arith, s.whole, tally_append (λ (b : Block). b.size) padding (used_block s.block.name n ∷ remainder), (part_sums s.remainder_name s.remainder).1, (part_sums s.padding_name s.padding).1))
+      (omega (arith, s.whole, units-append padding (used_block s.block.name n ∷ remainder), (part_sums s.remainder_name s.remainder).1, (part_sums s.padding_name s.padding).1))
       w.fits)
     where
       lengths : length new ≡ length padding + suc (length remainder)
@@ -63,7 +68,7 @@ module _ {needed n : ℕ} {padding_at : ℕ → ℕ} {v u : View} {g : Grant} (s
       there x = omega (arith, ap (count_named x) s.blocks, tally_append (λ (b : Block). one (nat_eq x b.name)) s.before (s.block ∷ s.after))
 
       distinct : (x : ℕ) → count_named x new ≤ 1
-      distinct x = grind (arith, common_steps, part_name, names_new, there)
+      distinct x = grind (arith, common_steps, part_name, names_new, there, new_absent)
 
       names : (x : ℕ) → 1 ≤ count_named x new → (1 ≤ count_named x (s.block ∷ [])) ⊎ IsNew x v
       names x l = grind (arith, common_steps, part_name, names_new)

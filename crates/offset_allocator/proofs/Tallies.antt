@@ -1,6 +1,10 @@
 -- Sums over lists, and a test of names as a number.
-use Rattle.offset_allocator.proofs.Common.{◌≡◌, ◌≢◌, ℕ, zero, suc, ◌+◌, ◌≤◌, length, ◌⊎◌, List, [], ◌∷◌, ◌++◌, nat_eq, refl, ap, ◌∙◌, arith, eq-eqb, ne_eqb, cases_eq, Block, tally, one, units, times}
-use Rattle.offset_allocator.proofs.Common.{count_named, count_in_bin, used_of, free_part}
+use Rattle.offset_allocator.proofs.Common.{◌≡◌, ◌≢◌, ℕ, zero, suc, ◌+◌, ◌≤◌, length, ◌⊎◌, List, [], ◌∷◌, ◌++◌, nat_eq, not, refl, sym, ap, ◌∙◌, arith, eq-eqb, ne_eqb, cases_eq, Block, tally, one, units, times}
+use Rattle.offset_allocator.proofs.Common.{count_named, count_in_bin, used_of, free_part, View, IsNew, AllByRecursion, filter}
+
+-- a list of names without x
+abbrev pub without : ℕ → List ℕ → List ℕ
+without x xs = filter (λ y. not (nat_eq y x)) xs
 
 pub tally_append : {A : Type 0} (f : A → ℕ) (xs ys : List A) → tally f (xs ++ ys) ≡ tally f xs + tally f ys
 tally_append f [] ys = omega arith
@@ -16,7 +20,11 @@ pub times-append : (k : ℕ) (fs bs : List Block) → count_named k (fs ++ bs) �
 times-append k fs bs = tally_append (λ (b : Block). one (nat_eq k b.name)) fs bs
 
 pub units-append : (fs bs : List Block) → units (fs ++ bs) ≡ units fs + units bs
-units-append fs bs = tally_append (λ (b : Block). b.size) fs bs
+units-append [] bs = omega arith
+units-append (b ∷ fs) bs = let ih = units-append fs bs in omega arith
+
+pub units_three : (xs ys zs : List Block) → units (xs ++ (ys ++ zs)) ≡ units xs + (units ys + units zs)
+units_three xs ys zs = units-append xs (ys ++ zs) ∙ ap (λ n. units xs + n) (units-append ys zs)
 
 pub hit_cases : (x y : ℕ) → ((x ≡ y) × (one (nat_eq x y) ≡ 1)) ⊎ ((x ≢ y) × (one (nat_eq x y) ≡ 0))
 hit_cases x y = grind (arith, cases_eq, eq-eqb, ne_eqb)
@@ -29,6 +37,18 @@ one-eq k x e = rw e (one-same k)
 
 pub one-other : (k x : ℕ) → k ≢ x → one (nat_eq k x) ≡ 0
 one-other k x n = ap one (ne_eqb k x n)
+
+-- no block has a name, and their count is 0
+pub none_counted : (x : ℕ) (bs : List Block) → AllByRecursion (λ b. b.name ≢ x) bs → count_named x bs ≡ 0
+none_counted x [] n = refl
+none_counted x (b ∷ bs) n = omega (arith, one-other x b.name (λ e. n.0 (sym e)), none_counted x bs n.1)
+
+pub counted_none : (x : ℕ) (bs : List Block) → count_named x bs ≡ 0 → AllByRecursion (λ b. b.name ≢ x) bs
+counted_none x [] e = tt
+counted_none x (b ∷ bs) e = (λ f. absurd (omega (arith, e, one-eq x b.name f)), counted_none x bs (omega (arith, e)))
+
+pub new_absent : (x : ℕ) (v : View) → IsNew x v → count_named x v.blocks ≡ 0
+new_absent x v n = none_counted x v.blocks n.absent
 
 -- padding or a remainder is at most one block
 pub part_sums : (y n : ℕ) → (length (free_part y n) ≤ 1) × (units (free_part y n) ≡ n) × (used_of (free_part y n) ≡ 0)

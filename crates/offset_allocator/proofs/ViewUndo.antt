@@ -4,7 +4,7 @@ use Rattle.offset_allocator.proofs.Common.{set-get_or, AllByRecursion, down, Blo
 use Rattle.offset_allocator.proofs.Common.{push_all, remove_all, replace, free_start, without_start, free_end, without_end, free_part, IsWellFormed, place_of, SameSpace, Splits, Frees, Allocates}
 use Rattle.offset_allocator.proofs.ViewApart.{ends_free, apart_parts, left_false, right_false, no_end, no_start}
 use Rattle.offset_allocator.proofs.{Served.split_as, Served.well_served, Walks.without_first, Ranges.beside, Released.idle_parts, Released.end_is, Released.start_is, Classes.down_small}
-use Rattle.offset_allocator.proofs.{ViewOrders.names_same, ViewOrders.length_remove, ViewOrders.times_remove, ViewSteps.place_here, Tallies.listed_named, Tallies.part_sums, Tallies.one-same}
+use Rattle.offset_allocator.proofs.{ViewOrders.names_same, ViewOrders.length_remove, ViewOrders.times_remove, ViewSteps.place_here, Tallies.listed_named, Tallies.part_sums, Tallies.new_absent, Tallies.one-same}
 
 set_again : (order : List (List ℕ)) (c : ℕ) (l m : List ℕ) → slice_set (slice_set order c l) c m ≡ slice_set order c m
 set_again [] c l m = refl
@@ -59,7 +59,7 @@ module _ (n : ℕ) (v w u : View) (g : Grant) (known : IsWellFormed v) (left : I
 
   -- what the grant leaves
   split : w ≡ record v { blocks = s.before ++ (used_block x n ∷ (remainder ++ s.after)); order = push_all remainder order; accesses = w.accesses }
-  split = grind (arith, old)
+  split = grind (arith, old, s.made)
 
   -- the release takes the block as the grant left it
   here : (s.before ≡ f.before ++ f.left) × (used_block x n ≡ f.block) × (remainder ++ s.after ≡ f.right ++ f.after)
@@ -101,7 +101,7 @@ module _ (n : ℕ) (v w u : View) (g : Grant) (known : IsWellFormed v) (left : I
   older_absent = omega (arith, once, ap (times x) s.newest, one-same x)
 
   rest_absent : 1 ≤ s.remainder → times s.remainder_name (bin_at order (down s.remainder)) ≡ 0
-  rest_absent l = grind (arith, times_remove, down_small, once, listed_named)
+  rest_absent l = grind (arith, times_remove, down_small, once, listed_named, new_absent)
 
   sized : units (used_block x n ∷ remainder) ≡ size
   sized = omega (arith, s.whole, s.padded, (part_sums s.remainder_name s.remainder).1)

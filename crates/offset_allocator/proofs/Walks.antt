@@ -1,7 +1,8 @@
 -- Names linked back and forth: what a change of the links leaves of them.
 use Rattle.offset_allocator.proofs.Common.{◌≡◌, ◌≢◌, ◌<◌, ◌≤◌, ◌+◌, ◌⊎◌, ℕ, zero, suc, List, [], ◌∷◌, ◌++◌, refl, sym, ap, ◌∙◌, inl, inr, arith, length, drop, nat_eq, slice_index, slice_set, eq-eqb}
-use Rattle.offset_allocator.proofs.Common.{ne_eqb, length-set, get_or-set_same, get_or-set_other, cases_eq, Links, one, times, without, IsLinked, Among, first_of, walk, common_steps}
+use Rattle.offset_allocator.proofs.Common.{ne_eqb, length-set, get_or-set_same, get_or-set_other, cases_eq, Links, one, times, IsLinked, Among, first_of, names_from, common_steps}
 use Rattle.offset_allocator.proofs.Tallies.{hit_cases, one-same, times-join}
+use Rattle.offset_allocator.proofs.Tallies.{without}
 
 -- ---- lists of names
 -- a list with one name fewer
@@ -85,8 +86,8 @@ module _ (none : ℕ) (t : Links) (small : length t.newer ≤ none) where
   chain_fits b xs c o = length_below (length t.newer) xs o (name_below b xs c)
 
   -- the walk along the links is the chain
-  pub walk_is : (k b : ℕ) (xs : List ℕ) → length xs ≤ k → IsLinked none t b xs → walk none t.older k (first_of none xs) ≡ xs
-  unfolding walk
+  pub walk_is : (k b : ℕ) (xs : List ℕ) → length xs ≤ k → IsLinked none t b xs → names_from none t.older k (first_of none xs) ≡ xs
+  unfolding names_from
   walk_is zero b [] l c = refl
   walk_is zero b (x ∷ xs) l c = absurd (omega arith)
   walk_is (suc k) b [] l c = rw (eq-eqb none none refl)

@@ -1,17 +1,17 @@
 -- The 256 bins, as links in tables, and the masks that say which are not empty.
-use Rattle.std.specs.Prelude.{ℕ, ◌+◌, ◌≡◌, ◌≢◌, ◌<◌, ◌≤◌, ◌/◌, ◌%◌, ◌^◌, if◌then◌else◌, nat_eq, zero, suc, List, [], ◌∷◌, map, length, slice_index}
+use Rattle.std.specs.Prelude.{ℕ, ◌+◌, ◌≡◌, ◌≢◌, ◌<◌, ◌≤◌, ◌/◌, ◌%◌, ◌^◌, if◌then◌else◌, min, nat_eq, zero, suc, List, [], ◌∷◌, map, length, slice_index}
 use Rattle.std.specs.Int.{bit_at}
 use Rattle.offset_allocator.specs.Cells.{Links}
 use Rattle.offset_allocator.specs.View.{bin_at, times}
 
 -- the names from h on, along the links to older names
-unfoldable pub walk : ℕ → List ℕ → ℕ → ℕ → List ℕ
-walk none older zero h = []
-walk none older (suc k) h = if nat_eq h none then [] else h ∷ (walk none) older k (slice_index older h)
+unfoldable pub names_from : ℕ → List ℕ → ℕ → ℕ → List ℕ
+names_from none older zero h = []
+names_from none older (suc k) h = if nat_eq h none then [] else h ∷ (names_from none) older k (slice_index older h)
 
 -- the bins in the tables: of each class, newest first
 unfoldable pub bins_in : ℕ → Links → List (List ℕ)
-bins_in none t = map ((walk none) t.older (length t.older)) t.heads
+bins_in none t = map ((names_from none) t.older (length t.older)) t.heads
 
 -- a name is in a list
 abbrev pub Among : ℕ → List ℕ → Type 0
@@ -27,20 +27,11 @@ abbrev pub IsLinked : ℕ → Links → ℕ → List ℕ → Type 0
 IsLinked none t b [] = Unit {0}
 IsLinked none t b (x ∷ xs) = (x < length t.newer) × (slice_index t.newer x ≡ b) × (slice_index t.older x ≡ first_of none xs) × (IsLinked none) t x xs
 
--- 0 for an empty list, else 1
-abbrev pub flag : List ℕ → ℕ
-flag [] = 0
-flag (x ∷ xs) = 1
-
--- 0 for a mask with no bit, else 1
-abbrev pub mark : ℕ → ℕ
-mark w = if nat_eq w 0 then 0 else 1
-
 -- bit c of the masks says whether the bin of class c has a name, and bit w of the top mask whether mask w has a bit
 pub record AreMasks (ls : List (List ℕ)) (masks : List ℕ) (top : ℕ) : Type 0 where
   pub masks_len : length masks ≡ 4
-  pub bits : (c : ℕ) → c < 256 → bit_at (slice_index masks (c / 64)) (c % 64) ≡ flag (bin_at ls c)
-  pub tops : (w : ℕ) → w < 4 → bit_at top w ≡ mark (slice_index masks w)
+  pub bits : (c : ℕ) → c < 256 → bit_at (slice_index masks (c / 64)) (c % 64) ≡ min 1 (length (bin_at ls c))
+  pub tops : (w : ℕ) → w < 4 → bit_at top w ≡ min 1 (slice_index masks w)
   pub top_small : top < 16
   pub words_small : (w : ℕ) → w < 4 → slice_index masks w < 2 ^ 64
 

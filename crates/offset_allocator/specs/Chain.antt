@@ -22,14 +22,14 @@ IsRow c p o (b ∷ bs) q =
     × IsRow c (Some b.name) (o + b.size) bs q
 
 -- the blocks from a link back, before those that were met already
-abbrev pub walk : Room → ℕ → Option ℕ → List Block → List Block
-walk c zero q rest = rest
-walk c (suc f) None rest = rest
-walk c (suc f) (Some k) rest = walk c f (node c k).before (record { name = k; size = (node c k).size; used = (node c k).used } ∷ rest)
+abbrev pub blocks_back : Room → ℕ → Option ℕ → List Block → List Block
+blocks_back c zero q rest = rest
+blocks_back c (suc f) None rest = rest
+blocks_back c (suc f) (Some k) rest = blocks_back c f (node c k).before (record { name = k; size = (node c k).size; used = (node c k).used } ∷ rest)
 
--- the blocks of the space, in order: a walk back from the last one
+-- the blocks of the space, in order: back from the last one
 unfoldable pub blocks : Room → ℕ → List Block
-blocks c last = walk c (length c.nodes) (Some last) []
+blocks c last = blocks_back c (length c.nodes) (Some last) []
 
 -- the unused names
 unfoldable pub spares : Room → ℕ → List ℕ

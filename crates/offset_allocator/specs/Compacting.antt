@@ -46,16 +46,9 @@ abbrev pub gathered : ℕ → List ℕ → List Block
 gathered x [] = []
 gathered x (n ∷ ns) = free_block x (n + sum ns) ∷ []
 
--- a value that a closure is called with is this move
-pub record IsMove {A N M : Type 0} (number : N → ℕ) (m : Moved A N M) (x : Move) : Type 0 where
-  pub name : number m.name ≡ x.name
-  pub from : m.from ≡ x.from
-  pub to : m.to ≡ x.to
-  pub size : m.size ≡ x.size
-
 -- a step of a closure is a call with this move
 abbrev pub IsCalledWith : {A N M F : Type 0} → (N → ℕ) → (F → Moved A N M → F → Type 0) → F → Move → F → Type 0
-IsCalledWith {A} {N} {M} number step f x g = (m : Moved A N M) × IsMove number m x × step f m g
+IsCalledWith {A} {N} {M} number step f x g = (m : Moved A N M) × (x ≡ record { name = number m.name; from = m.from; to = m.to; size = m.size }) × step f m g
 
 -- the used blocks are packed at the front, and the free units are one block at the end, alone in its bin
 pub record Compacts (v w : View) : Type 0 where

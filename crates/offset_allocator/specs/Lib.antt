@@ -13,6 +13,5 @@ pub mod Reports
 pub mod Requests
 pub mod Resizing
 pub mod Soundness
-pub mod Start
 pub mod Store
 pub mod View

@@ -4,7 +4,7 @@ use Rattle.std.specs.Int.{is_power_of_two, IsPowerOfTwo}
 use Rattle.std.specs.List.{AllByRecursion}
 use Rattle.offset_allocator.specs.Classes.{up, down}
 use Rattle.offset_allocator.specs.Requests.{HasRoomFor, CanGrant, blocks_needed, units_needed}
-use Rattle.offset_allocator.specs.View.{View, Block, Grant, Place, units, bin_at, free_sizes, IsApart, IsNew, max_size, padding_to, replace, push_all, free_block, free_part, place_of}
+use Rattle.offset_allocator.specs.View.{View, Block, Grant, Place, units, bin_at, free_sizes, IsApart, IsNew, max_size, padding_to, replace, remove, push_all, free_block, free_part, place_of}
 
 -- the same space, however many accesses are counted
 abbrev pub SameSpace : View → View → Type 0
@@ -42,21 +42,21 @@ pub record Splits (needed n : ℕ) (padding_at : ℕ → ℕ) (v w : View) (g : 
   pub remainder_new : 1 ≤ remainder → IsNew remainder_name v
   pub differ : 1 ≤ padding → 1 ≤ remainder → padding_name ≢ remainder_name
   pub grant : g ≡ record { name = block.name; offset = units before + padding }
-  pub view : SameSpace (replace v before (block ∷ []) (free_part padding_name padding ++ record block { size = n; used = true } ∷ free_part remainder_name remainder) after) w
+  -- the block leaves its bin, the parts take its place, and the free ones become the newest of their bins
+  pub parts : List Block
+  pub made : parts ≡ free_part padding_name padding ++ record block { size = n; used = true } ∷ free_part remainder_name remainder
+  pub view : SameSpace (record v { blocks = before ++ (parts ++ after); order = push_all parts (remove (down block.size) block.name v.order) }) w
 
--- a request that may add this many blocks, takes a block of a class large enough for the units needed, and is granted n
--- of them, after padding: it is refused exactly when it cannot be granted, and then nothing changes
-abbrev pub Serves : ℕ → ℕ → ℕ → (ℕ → ℕ) → View → View → Option Grant → Type 0
-Serves blocks needed n padding_at v w None = (CanGrant blocks needed v → ⊥) × SameSpace v w
-Serves blocks needed n padding_at v w (Some g) = HasRoomFor blocks v × Splits needed n padding_at v w g
-
--- a request for n units
+-- a request for n units: it is refused exactly when it cannot be granted, and then nothing changes
 abbrev pub Allocates : ℕ → View → View → Option Grant → Type 0
-Allocates n v w result = Serves 1 n n (λ offset. 0) v w result
+Allocates n v w None = (CanGrant 1 n v → ⊥) × SameSpace v w
+Allocates n v w (Some g) = HasRoomFor 1 v × Splits n n (λ offset. 0) v w g
 
--- a request for n units from a multiple of align on
+-- a request for n units from a multiple of align on, likewise: it may add more blocks, and takes a block of a class large
+-- enough for the units needed
 abbrev pub Aligns : ℕ → ℕ → View → View → Option Grant → Type 0
-Aligns n align v w result = Serves (blocks_needed align) (units_needed n align) n (padding_to align) v w result
+Aligns n align v w None = (CanGrant (blocks_needed align) (units_needed n align) v → ⊥) × SameSpace v w
+Aligns n align v w (Some g) = HasRoomFor (blocks_needed align) v × Splits (units_needed n align) n (padding_to align) v w g
 
 -- the used block named x becomes free and coalesces with its free neighbours, left and right: the block keeps the name
 -- x and is the newest of its bin

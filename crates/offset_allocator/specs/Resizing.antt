@@ -1,19 +1,14 @@
 -- Ranges that become smaller or larger in place.
-use Rattle.std.specs.Prelude.{◌≡◌, ◌≢◌, ℕ, ◌+◌, ◌<◌, ◌≤◌, ◌⊎◌, Bool, true, false, List, [], ◌∷◌, ◌++◌, Option, None, Some}
+use Rattle.std.specs.Prelude.{◌≡◌, ◌≢◌, ℕ, ◌+◌, ◌<◌, ◌≤◌, ◌⊎◌, Bool, true, false, List, [], ◌∷◌, ◌++◌, Some, option_map, unwrap_or}
 use Rattle.std.specs.List.{AllByRecursion}
 use Rattle.offset_allocator.specs.View.{View, Block, Place, units, count_named, place_of, free_start, free_part, used_block, replace, IsApart, IsNew}
 use Rattle.offset_allocator.specs.Requests.{HasRoomFor}
 use Rattle.offset_allocator.specs.Ranges.{Range, range_of, size_of}
 use Rattle.offset_allocator.specs.Relations.{SameSpace}
 
--- the free block directly after a place, if there is one
-abbrev pub free_beyond : Option Place → List Block
-free_beyond None = []
-free_beyond (Some p) = free_start p.after
-
 -- the free block directly after the block of a name, if there is one
 abbrev pub free_after : ℕ → View → List Block
-free_after x v = free_beyond (place_of x v.blocks)
+free_after x v = unwrap_or (option_map (λ (p : Place). free_start p.after) (place_of x v.blocks)) []
 
 -- a range can shrink to n units: it has at least as many, and if it has more, there is a free block directly after it
 -- or room for one more block

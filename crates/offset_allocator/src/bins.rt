@@ -5,7 +5,7 @@ ghost use Rattle.std.specs.Prelude.{length, replicate, MatchOption};
 ghost use Rattle.offset_allocator.specs.Accesses.{Costs};
 ghost use Rattle.offset_allocator.specs.Cells.{AreEmpty, node};
 ghost use Rattle.offset_allocator.specs.Classes.{down};
-ghost use Rattle.offset_allocator.specs.View.{bin_at, without, push, remove};
+ghost use Rattle.offset_allocator.specs.View.{bin_at, push, remove};
 ghost use Rattle.offset_allocator.specs.Requests.{IsLargestClass};
 ghost use Rattle.offset_allocator.specs.Store.{AreBinned, SameChain, bins_of};
 ghost use Rattle.offset_allocator.specs.Bins.{IsUnlisted, IsSmallestFrom, Among, HasBins, AreMasks, bins_in, IsBinned};
@@ -251,7 +251,7 @@ pub(crate) fn pop<T: Tables>(store: &mut Store<T>, class: u32) -> u32
     requires classed { class < 256 }
     requires some { bin_at (bins_of T.cells T.Index.MAX store.old) class ≢ [] }
     ensures first { bin_at (bins_of T.cells T.Index.MAX store.old) class
-        ≡ result ∷ without result (bin_at (bins_of T.cells T.Index.MAX store.old) class) }
+        ≡ result ∷ bin_at (bins_of T.cells T.Index.MAX store.new) class }
     ensures held { AreBinned T.cells T.Index.MAX store.new }
     ensures lists { bins_of T.cells T.Index.MAX store.new ≡ remove class result
         (bins_of T.cells T.Index.MAX store.old) }

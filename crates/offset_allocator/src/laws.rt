@@ -1,13 +1,13 @@
 //! Laws: that a grant can be undone, and what holds of every allocator. Except `undo`, their functions do nothing. With
 //! them are the calls that leave an allocator as it is, with a count of their accesses.
 ghost use Rattle.std.specs.Prelude.{◌≡◌, ◌≢◌, ◌<◌, ◌≤◌, ◌+◌, ◌*◌, ◌%◌, ◌↔◌, ℕ, List, ◌++◌, false, IsTrue, Some, length};
-ghost use Rattle.std.specs.Prelude.{sum, if◌then◌else◌};
+ghost use Rattle.std.specs.Prelude.{sum};
 ghost use Rattle.std.specs.Int.{IsPowerOfTwo};
 ghost use Rattle.std.specs.List.{AllByRecursion};
 ghost use Rattle.offset_allocator.specs.Accesses.{Costs};
 ghost use Rattle.offset_allocator.specs.Classes.{value, up, down};
-ghost use Rattle.offset_allocator.specs.View.{View, Block, Grant, IsWellFormed, free_sizes, tally, one, total_free};
-ghost use Rattle.offset_allocator.specs.View.{largest_free, padding_to, used_of};
+ghost use Rattle.offset_allocator.specs.View.{View, Block, Grant, IsWellFormed, free_sizes, total_free};
+ghost use Rattle.offset_allocator.specs.View.{largest_free, padding_to, used_of, used_units};
 ghost use Rattle.offset_allocator.specs.Ranges.{Range, range_of, AreDisjoint};
 ghost use Rattle.offset_allocator.specs.Relations.{IsAlignment, SameSpace, Allocates, Frees, IsFresh};
 ghost use Rattle.offset_allocator.specs.Requests.{CanGrant, HasRoomFor, IsWhy};
@@ -90,8 +90,7 @@ pub fn unused_names<T: Tables>(allocator: &AllocatorOf<T>) -> u32
 
 /// The units of the used and of the free blocks add up to the size of the space.
 pub fn sizes_add_up<T: Tables>(allocator: &AllocatorOf<T>)
-    ensures { tally (λ b. if b.used then b.size else 0) allocator.now.blocks
-        + sum (free_sizes allocator.now.blocks) ≡ allocator.now.size }
+    ensures { used_units allocator.now.blocks + sum (free_sizes allocator.now.blocks) ≡ allocator.now.size }
 {
     allocator.formed();
 }
@@ -115,7 +114,7 @@ pub fn no_free_neighbours<T: Tables>(allocator: &AllocatorOf<T>)
 
 /// At most `max_allocs - 2` ranges are live.
 pub fn few_are_live<T: Tables>(allocator: &AllocatorOf<T>)
-    ensures { tally (λ b. one b.used) allocator.now.blocks + 2 ≤ allocator.now.max_allocs }
+    ensures { used_of allocator.now.blocks + 2 ≤ allocator.now.max_allocs }
 {
     allocator.formed();
 }

@@ -2,14 +2,14 @@
 ghost use Rattle.std.specs.Prelude.{◌≡◌, ◌↔◌, ◌+◌, ◌-◌, ◌*◌, ◌<◌, ◌≤◌, [], ◌∷◌, length, replicate, None, false, true};
 ghost use Rattle.std.specs.Prelude.{IsTrue, IsSome, IfSome};
 ghost use Rattle.offset_allocator.specs.Accesses.{Costs};
-ghost use Rattle.offset_allocator.specs.Classes.{up};
+ghost use Rattle.offset_allocator.specs.Classes.{up, down};
 ghost use Rattle.offset_allocator.specs.Cells.{IsBare};
 ghost use Rattle.offset_allocator.specs.Bins.{IsSmallestFrom};
 ghost use Rattle.offset_allocator.specs.Store.{AreBinned, bins_of};
 ghost use Rattle.offset_allocator.specs.Ranges.{range_of, IsLive, KeepsAll, KeepsOthers};
-ghost use Rattle.offset_allocator.specs.View.{IsWellFormed, ends_used, padding_to, free_block, used_of};
+ghost use Rattle.offset_allocator.specs.View.{IsWellFormed, ends_used, padding_to, free_block, push, used_of};
 ghost use Rattle.offset_allocator.specs.Relations.{Splits, Aligns, Frees, Adds, SameSpace, Resets};
-ghost use Rattle.offset_allocator.specs.Start.{IsStarted};
+ghost use Rattle.offset_allocator.specs.Soundness.{IsSound, view_of};
 ghost use Rattle.offset_allocator.specs.Requests.{HasRoomFor, blocks_needed, units_needed};
 
 use crate::accesses::Accesses;
@@ -36,7 +36,15 @@ pub(crate) fn start<T: Tables>(store: &mut Store<T>, size: u32, max_allocs: u32)
     requires empty { bins_of T.cells T.Index.MAX store.old ≡ replicate 256 [] }
     requires limit_min { 2 ≤ max_allocs }
     requires limit_max { max_allocs + 1 < T.Index.MAX }
-    ensures started { IsStarted T.Index.MAX size max_allocs (T.cells store.new.tables) store.new.top_mask }
+    ensures sound { IsSound T.Index.MAX size max_allocs (T.cells store.new.tables) 0 0 store.new.top_mask size }
+    // under the first name, and no other name was used
+    ensures view { view_of T.Index.MAX size max_allocs (T.cells store.new.tables) 0 0 ≡ record {
+      size = size;
+      max_allocs = max_allocs;
+      blocks = free_block 0 size ∷ [];
+      order = push (down size) 0 (replicate 256 []);
+      accesses = 0;
+    } }
     ensures last { store.new.last ≡ store.old.last }
     ensures spares { store.new.spare_count ≡ store.old.spare_count }
     ensures accesses { Costs 9 10 store.old.accesses store.new.accesses }

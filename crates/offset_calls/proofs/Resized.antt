@@ -1,11 +1,12 @@
 -- A range that shrinks or grows: what is left agrees with the plain machine.
 use Rattle.offset_calls.proofs.Common.{◌≡◌, ◌≢◌, ℕ, zero, suc, ◌+◌, ◌-◌, ◌<◌, ◌≤◌, Bool, true, false, not, ◌&&◌, ◌||◌, ◌⊎◌, List, [], ◌∷◌, ◌++◌, length, Option, Some, None, nat_eq, nat_le}
 use Rattle.offset_calls.proofs.Common.{if◌then◌else◌, refl, sym, ap, ap₂, subst, ◌∙◌, inl, inr, arith, le-leb, leb-true, leb-false, append-nil, length-append, false≢true, and_parts, and_right}
+use Rattle.std.specs.Prelude.{option_map, unwrap_or}
 use Rattle.offset_calls.proofs.Common.{map-append, AllByRecursion, Block, View, Place, units, IsWellFormed, IsApart, replace, HasRoomFor, size_of, SameSpace, Tag, Live, Free, State, is_free}
 use Rattle.offset_calls.proofs.Common.{has_number, total, is_short_of, stamp_of_call, stamp_of_padding, without_start, free_start, starts_free, can_shrink, can_grow, resized}
 use Rattle.std.proofs.Math.Bool.{or-true}
 use Rattle.offset_allocator.proofs.{ViewApart.right_false, Reading.size_at, Reading.size_is}
-use Rattle.offset_allocator.specs.{View.place_of, Resizing.CanShrink, Resizing.CanGrow, Resizing.Resizes, Resizing.free_after, Resizing.free_beyond}
+use Rattle.offset_allocator.specs.{View.place_of, Resizing.CanShrink, Resizing.CanGrow, Resizing.Resizes, Resizing.free_after}
 use Rattle.offset_script.proofs.Agreed.{live_at, LiveAt, room_for, has_room, agrees_replaced, new_labels, names_new, tags_new, name_new, rises_new, name_replaced}
 use Rattle.offset_script.proofs.Lists.{AreApart, apart_parts, apart_append, count, count-append, count_free_block, ends_free, few_free, number_of, start_is, start_of}
 use Rattle.offset_script.proofs.{Agreement.Label, Agreement.by_name, Agreement.by_tag, Agreement.name_of, Agreement.HasBlocksOf, Chosen.Spot, Chosen.place_at, Chosen.named_spot, Chosen.named_place}
@@ -83,7 +84,7 @@ module _ (v : View) (kept_name : ℕ → Option ℕ) (s : State) (w : IsWellForm
   size_found = size_is x v ∙ ap size_at found.named ∙ ap (λ t. if not (is_free t) then spot.label.size else 0) found.tag
 
   after_found : free_after x v ≡ named.free_start (names spot.after)
-  after_found = ap free_beyond found.named
+  after_found = ap (λ (o : Option named.Place). unwrap_or (option_map (λ (p : named.Place). named.free_start p.after) o) []) found.named
 
   -- when it can shrink or grow
   pub can_shrink_is : (n : ℕ) → n < size_of x v → CanShrink x n v → can_shrink n s (plain_place spot) ≡ true

@@ -3,7 +3,7 @@ use Rattle.offset_script.proofs.Common.{◌≡◌, ℕ, zero, suc, ◌+◌, ◌-
 use Rattle.offset_script.proofs.Common.{nat_le, if◌then◌else◌, refl, sym, ap, ap₂, subst, ◌∙◌, inl, inr, arith, eq-eqb, ne_eqb, le-leb, le-ltb, leb-false, append_assoc, append-nil, option_or}
 use Rattle.offset_script.proofs.Common.{cases_eq, cases_lt, true≢false, false≢true, lt-leb, ltb-true, ltb-false, and_parts, and_right, or_parts, not-false, up, down, rows_below, Live, Free, is_free}
 use Rattle.offset_script.proofs.Common.{has_number, stamp, total, chosen_place, State, Answer, step, returns_only, leaves, stamp_of_padding, stamp_of_call, View, Grant, units, used_block, free_part}
-use Rattle.offset_script.proofs.Common.{bin_at, push_all, IsWellFormed, replace, max_size, padding_to, SameSpace, Serves, Frees, Adds, CanExtend, Extends, AllByRecursion, map-append, length-map}
+use Rattle.offset_script.proofs.Common.{bin_at, push_all, IsWellFormed, replace, max_size, padding_to, SameSpace, Frees, Adds, CanExtend, Extends, AllByRecursion, map-append, length-map}
 use Rattle.offset_script.proofs.Common.{length-replicate, nil_from_length, cond_both}
 use Rattle.offset_script.proofs.Agreement.{Label, by_name, by_tag, stamp_of, IsFalling, name_of, HasBlocksOf}
 use Rattle.offset_script.proofs.Lists.{number_of, count, count-append, hit, hit_self, apart_parts, end_of, start_of, coalesce_parts}
@@ -11,7 +11,7 @@ use Rattle.offset_script.proofs.Labels.{names, tags, map_three, stamps_below, Ar
 use Rattle.offset_script.proofs.Chosen.{Spot, whole, place_at, named_spot, plain_spot, named_place, plain_place, IsLabelled, none_chosen, chosen, place_of_spot}
 use Rattle.offset_script.proofs.Ends.{AreFree, free_named, free_tagged, apart_tagged, ends_live_last, last_free, total_units, free_sizes_labels, or_none, name_append, name_skip, name_free, name_none}
 use Rattle.offset_script.proofs.{Tests.if_same, Tests.same_some, Found.found_at, Found.not_found, Found.chosen_at, Well.IsWell, Well.not_there, Members.map_parts, Members.map_first}
-use Rattle.offset_allocator.proofs.{Emptied.none_at, ViewApart.and_true, Reading.size_at, Tallies.tally_append, ViewOrders.names_same, ViewOrders.names_other, Classes.down_small, Classes.fits_size}
+use Rattle.offset_allocator.proofs.{Emptied.none_at, ViewApart.and_true, Reading.size_at, Served.Serves, Split.split_view, Tallies.units-append, ViewOrders.names_same, ViewOrders.names_other, Classes.down_small, Classes.fits_size}
 use Rattle.offset_allocator.specs.{View.Block, View.Place, View.place_of, View.free_block, Requests.HasRoomFor, Requests.CanGrant, Requests.blocks_needed, Requests.units_needed}
 use Rattle.offset_script.specs.declared.scripts.Command.TheVariants as command
 use Rattle.offset_script.specs.Machine as machine
@@ -200,7 +200,7 @@ module _ (v : View) (kept_name : ℕ → Option ℕ) (s : State) (w : IsWellForm
     serve_agrees (Some a) e =
         let t = e.1 in
         let c = chosen v w g.labels labelled needed n padding_at u a t in
-        let at = subst (IsGrantAt a t.padding t.remainder t.padding_name t.remainder_name) (sym c.place) (t.grant, t.padded, t.whole, t.view) in
+        let at = subst (IsGrantAt a t.padding t.remainder t.padding_name t.remainder_name) (sym c.place) (t.grant, t.padded, t.whole, split_view t) in
         let answer = ap (machine.Grant (s.grants + 1)) (ap (λ m. m + t.padding) (total_units c.spot.before) ∙ sym (ap (λ (a : Grant). a.offset) at.0)) in
         let agrees = subst (λ x. HasBlocksOf u (with_name (s.grants + 1) x kept_name) (machine.grant s n t.padding (plain_place c.spot)).state) (sym (ap (λ (a : Grant). a.name) at.0))
         (grant_agrees u w' n t.padding t.remainder t.padding_name t.remainder_name c.spot c.split c.free at.2 at.3) in
@@ -280,7 +280,7 @@ module _ (v : View) (kept_name : ℕ → Option ℕ) (s : State) (w : IsWellForm
       let back = map_parts by_name sp.after f.right f.after (ap (λ (p : Place). p.after) place) in
       let free = free_named front.1 back.0 (subst (AllByRecursion (λ b. b.used ≡ false)) (sym (ap₂ (λ y z. y ++ z) front.4 back.3)) f.free) in
       let sizes : units (names front.1 ++ (by_name sp.label ∷ names back.0)) ≡ total (tags front.1) + sp.label.size + total (tags back.0) =
-      omega (arith, tally_append (λ (b : Block). b.size) (names front.1) (by_name sp.label ∷ names back.0), total_units front.1, total_units back.0) in
+      omega (arith, units-append (names front.1) (by_name sp.label ∷ names back.0), total_units front.1, total_units back.0) in
       let same : SameSpace (replace v (names front.0) (names (front.1 ++ (sp.label ∷ back.0))) (free_block x (total (tags front.1) + sp.label.size + total (tags back.0)) ∷ []) (names back.1)) u =
       search (arith, names, front, tags, back, map-append, by_name, sizes, place) in
       let later : name_of k sp.after ≡ None = search (arith, name_none, count, tags, l, map-append, by_tag, count-append, hit, hit_self) in

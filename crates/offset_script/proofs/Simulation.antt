@@ -11,7 +11,7 @@ use Rattle.offset_script.proofs.Agreed.{with_name, without_name, IsMatch, serve_
 use Rattle.offset_script.proofs.Agreed.{report_agrees, full_agrees, agrees_quiet, agrees_kept, alone_agrees, same_units}
 use Rattle.offset_script.proofs.{Agreement.IsAtState, Well.IsWell}
 use Rattle.offset_script.specs.declared.answers.FullRow.{FullRow}
-use Rattle.offset_allocator.proofs.{Reading.used_live, Reading.size_is, Powers.not_zero}
+use Rattle.offset_allocator.proofs.{Reading.used_live, Reading.size_is, Powers.not_zero, Served.plain_serves, Served.aligned_serves}
 use Rattle.offset_script.specs.declared.scripts.Command.TheVariants as command
 use Rattle.offset_script.specs.Machine as machine
 
@@ -117,7 +117,7 @@ module _ (v w : View) (hs left : List (Option Grant)) (a : Answer) (s : State) (
 
   -- the plain machine follows each command
   pub follows : (c : Command) → IsTrue (has_valid_alignment c) → Takes c v hs w left a → Follows c s w left a
-  follows (command.Alloc n) power t = requested (command.Alloc n) t.0 (serve_agrees v (kept_name hs) s p.formed ws p.agrees 1 n n (λ offset. 0) w formed t.0 t.1) t.2
+  follows (command.Alloc n) power t = requested (command.Alloc n) t.0 (serve_agrees v (kept_name hs) s p.formed ws p.agrees 1 n n (λ offset. 0) w formed t.0 (plain_serves n v w t.0 t.1)) t.2
   follows (command.Free k) power t = release_step k (kept_name hs k) refl t
   follows (command.Size k) power t = asked (command.Size k) refl t.0 (size_found k (kept_name hs k) refl t.1)
   follows command.Report power t = asked command.Report refl t.0 (t.1 ∙ sym (report_agrees v (kept_name hs) s p.formed ws p.agrees))
@@ -127,7 +127,7 @@ module _ (v w : View) (hs left : List (Option Grant)) (a : Answer) (s : State) (
       let agrees = alone_agrees w t.0.name v.size (machine.stamp_of_call s) (kept_name left) (step command.Reset s).state (ap (λ (u : View). u.blocks) t.0.view) (ap (λ (u : View). u.order) t.0.view)
       (p.agrees.limit ∙ sym (ap (λ (u : View). u.max_allocs) t.0.view)) blocks t.2 in
       (t.3, record { formed = formed; agrees = agrees; grants = t.1 ∙ p.grants })
-  follows (command.Align n align) power t = requested (command.Align n align) t.0 (aligned_agrees v (kept_name hs) s p.formed ws p.agrees n align (not_zero align (inr (inl power))) w formed t.0 t.1)
+  follows (command.Align n align) power t = requested (command.Align n align) t.0 (aligned_agrees v (kept_name hs) s p.formed ws p.agrees n align (not_zero align (inr (inl power))) w formed t.0 (aligned_serves n align v w t.0 t.1))
       t.2
   follows (command.Extend more) power t = extended more t.0 t.1 t.2 t.3
 

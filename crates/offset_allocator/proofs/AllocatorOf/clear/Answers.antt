@@ -7,5 +7,5 @@ returns-clause-step g c =
     subst (λ (v : View). Resets v left) c.self.view_is (record {
       name = 0;
       below = omega (arith, c.self.invariant.well.room);
-      view = ap (λ (v : View). record v { accesses = c.start.new.store.accesses }) c.start.ensures.started.view;
+      view = ap (λ (v : View). record v { accesses = c.start.new.store.accesses }) c.start.ensures.view;
     })

@@ -1,5 +1,5 @@
 use Rattle.offset_allocator.proofs.Common.{◌<◌, None, arith, refl, subst, View, max_size, units_needed, Aligns}
-use Rattle.offset_allocator.proofs.{Sound.Fields, Sound.shown, Sound.fields_of, Sound.known_sound, Classes.below_value_up, Served.serves_counted, Served.past_refuses}
+use Rattle.offset_allocator.proofs.{Sound.Fields, Sound.shown, Sound.fields_of, Sound.known_sound, Classes.below_value_up, Served.aligns_counted, Served.past_refuses}
 use Rattle.offset_allocator.proofs.AllocatorOf.serve.Goals as goal
 
 pub returns-then-size-align-clause-step : goal.returns-then-size-align-clause-step
@@ -17,7 +17,7 @@ returns-in-Some-clause-formed g c = (known_sound (fields_of g.T.Tables.cells g.T
 
 -- the search for a class counts, and changes nothing else of the view
 pub returns-in-Some-clause-step : goal.returns-in-Some-clause-step
-returns-in-Some-clause-step g c = grind (arith, serves_counted)
+returns-in-Some-clause-step g c = grind (arith, aligns_counted)
 
 pub invariant_of-self : goal.invariant_of-self
 invariant_of-self g c = c.self.invariant

@@ -1,4 +1,5 @@
-use Rattle.offset_allocator.proofs.Binned.{head, without_head}
+use Rattle.offset_allocator.proofs.Common.{◌∷◌, ◌∙◌, sym, ap, ap₂, bin_at}
+use Rattle.offset_allocator.proofs.{Binned.head, Binned.without_head, ViewOrders.names_same}
 use Rattle.offset_allocator.proofs.bins.pop.Goals as goal
 
 pub remove_newest-requires-clause-older : goal.remove_newest-requires-clause-older
@@ -7,7 +8,8 @@ remove_newest-requires-clause-older g c = rw (← (c.head-name.ensures.cell)) c.
 pub returns-clause-first : goal.returns-clause-first
 returns-clause-first g c =
     let k = c.requires.held.linked in
-    rw (c.head-name.ensures.cell, without_head k c.args.class c.requires.classed c.requires.some) ((head k c.args.class c.requires.classed c.requires.some).0)
+    let rest = ap (λ o. bin_at o c.args.class) c.remove_newest.ensures.lists ∙ names_same _ c.args.class _ k.lists_len c.requires.classed ∙ without_head k c.args.class c.requires.classed c.requires.some in
+    (head k c.args.class c.requires.classed c.requires.some).0 ∙ ap₂ (λ x xs. x ∷ xs) (sym c.head-name.ensures.cell) (sym rest)
 
 pub returns-clause-lists : goal.returns-clause-lists
 returns-clause-lists g c = rw (c.head-name.ensures.cell) c.remove_newest.ensures.lists

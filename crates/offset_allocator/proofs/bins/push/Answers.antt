@@ -1,6 +1,6 @@
-use Rattle.offset_allocator.proofs.Common.{◌∙◌, ap, sym, arith, refl, length-set, set_past, first_of, common_steps}
+use Rattle.offset_allocator.proofs.Common.{◌∙◌, ap, sym, arith, refl, length-set, set_past, first_of, bin_at, bins_in, common_steps}
 use Rattle.offset_allocator.proofs.Binned.{head_among, head_below, head_small, pushed, changed}
-use Rattle.offset_allocator.proofs.{Masks.flag_full, Masks.masked_same, Masks.masked_set, Uses.listed_idle, Uses.no_mark}
+use Rattle.offset_allocator.proofs.{Masks.flag_cons, Masks.flag_full, Masks.masked_same, Masks.masked_set, Uses.listed_idle, Uses.no_mark}
 use Rattle.offset_allocator.proofs.bins.push.Goals as goal
 
 pub set_links-requires-clause-link : goal.set_links-requires-clause-link
@@ -19,7 +19,8 @@ returns-then-newest-MAX g c =
     (rw (e, c.no_link.ensures.number) (sym (set_past _ _ _ (omega (arith, k.names_small, length-set (g.T.Tables.cells c.args.store.now.tables).links.newer c.args.name g.T.Index.NodeIndex.MAX)))))
     (rw (e, kept, h))
     (rw e))
-    (rw e (masked_set c.requires.held.masked k.lists_len c.args.class c.requires.classed _ _ (c.mask-mask.ensures.cell ∙ rw (c.set_links.ensures.cells, c.set_head.ensures.cells)) refl)) (
+    (rw e (masked_set c.requires.held.masked k.lists_len c.args.class c.requires.classed _ _ (c.mask-mask.ensures.cell ∙ rw (c.set_links.ensures.cells, c.set_head.ensures.cells))
+    (flag_cons c.args.name (bin_at (bins_in g.T.Index.NodeIndex.MAX (g.T.Tables.cells c.args.store.now.tables).links) c.args.class)))) (
       rw e,
       refl,
       refl,
@@ -36,7 +37,7 @@ returns-else-newest-MAX g c =
     (rw (e, kept, h))
     (rw e))
     (rw e (masked_same c.requires.held.masked k.lists_len c.args.class c.requires.classed _
-    (sym (flag_full _ (λ z. let q = h ∙ k.heads c.args.class c.requires.classed ∙ ap (first_of g.T.Index.NodeIndex.MAX) z in absurd (omega arith)))))) (
+    (flag_cons c.args.name (bin_at (bins_in g.T.Index.NodeIndex.MAX (g.T.Tables.cells c.args.store.now.tables).links) c.args.class) ∙ sym (flag_full _ (λ z. let q = h ∙ k.heads c.args.class c.requires.classed ∙ ap (first_of g.T.Index.NodeIndex.MAX) z in absurd (omega arith)))))) (
       rw e,
       refl,
       refl,

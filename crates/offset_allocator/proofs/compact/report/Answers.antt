@@ -1,4 +1,5 @@
-use Rattle.offset_allocator.proofs.{Common.refl, Common.◌∙◌, Common.arith, Sliding.moved_one}
+use Rattle.offset_allocator.proofs.Common.{ℕ, refl, sym, ap, ◌∙◌, arith, Move}
+use Rattle.offset_allocator.proofs.Sliding.{moved_one}
 use Rattle.offset_allocator.proofs.compact.report.Goals as goal
 
 pub returns-clause-called : goal.returns-clause-called
@@ -7,7 +8,7 @@ returns-clause-called g c used =
       _,
       (
         record { name = c.to_name.result; from = c.args.from; to = c.args.to; size = c.args.size; index = record {} },
-        record { name = c.to_name.ensures ∙ c.from_u32.ensures.kept (omega arith); from = refl; to = refl; size = refl },
+        sym (ap (λ (n : ℕ). let x : Move = record { name = n; from = c.args.from; to = c.args.to; size = c.args.size } in x) (c.to_name.ensures ∙ c.from_u32.ensures.kept (omega arith))),
         c.moved.ensures,
       ),
       refl,

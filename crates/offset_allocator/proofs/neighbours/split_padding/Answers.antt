@@ -17,3 +17,6 @@ pub returns-clause-place : goal.returns-clause-place
 returns-clause-place g c m p h =
     let some = some_part c.split_before-front.result c.args.units (omega arith) in
     rw (c.push.ensures.chain.0, c.push.ensures.chain.1, c.push.ensures.chain.2, ← some) (c.split_before-front.ensures.place _ _ h)
+
+pub push-requires-clause-unlisted : goal.push-requires-clause-unlisted
+push-requires-clause-unlisted g c = rw c.split_before-front.ensures.bins.0 (c.requires.place.3 _ (c.split_before-front.ensures.fresh _ _ c.requires.place.2))
