@@ -379,7 +379,7 @@ def main():
     found = list(aims(rows, resident, most))
     head = [
         "# Results", "",
-        "Nanoseconds and instructions are per step, without the construction of the tables ([how](README.md#what-is-measured)). "
+        "Nanoseconds and instructions are per step, without the construction ([how](README.md#what-is-measured)). "
         f"Times are the fastest of {timed['rounds']} runs, or of {min(timed['rounds'], 3)} where a run takes a fifth of a second. "
         "All sides returned the same offsets and refusals.", "",
         f"In bold: more than {REACH[0]:.2f} of the original's time ({special}), {REACH[1]:.2f} of its instructions ({special_count}), or "
@@ -391,34 +391,34 @@ def main():
                  f"{timed['others']:.2f} of a processor, and the host {timed['steal']:.2f}.", ""]
     shown = [*head, "## Aims", "", "In bold: above the aim ([why](README.md#where-it-falls-short-and-why)).", "",
              *aims_table(found), "", "## A step", "", *table(work), "", "## Over the size of the tables", "",
-             "Random steps with a quarter of the nodes live.", "", *table(growth), "",
+             "Random steps, a quarter of the nodes live.", "", *table(growth), "",
              "## What an allocator costs", "",
-             "Each allocator is made and dropped before the next, without and with 10 grants between. A reset takes too short "
+             "An allocator is made and dropped, without and with 10 grants between. A reset takes too short "
              f"a time to measure. In bold: more than {REACH_COST:,} instructions, ours or erased, without grants.", "",
              *costs_table(costs), "",
              "## By field", "",
-             "In parts of ours with one table of nodes.", "", *by_field_table(rows), "",
+             "In parts of ours by node.", "", *by_field_table(rows), "",
              "## Tickets", "",
-             "The erased side and ours with tickets, each in parts of itself with handles. The bytes are the library's; the caller keeps 24 for a "
+             "In parts of the same side with handles. The bytes are the library's; the caller keeps 24 for a "
              f"ticket, and 8 for a handle. In bold: more than {REACH_GUARDED:.2f} of the time ([why](README.md#tickets)).", "",
              *guarded_table(rows), ""]
     if resident:
         shown += ["## Resident memory", "",
-                  f"Bytes that become resident in *{RESIDENT}*, the player's included. In bold: more than "
+                  f"Resident bytes of *{RESIDENT}*, the player's included. In bold: more than "
                   f"{REACH_NODE} for each node that was ever used, and {REACH_MORE:,}.", "", *resident_table(resident, most), ""]
     whole = " and ".join(f"{limit:.2f} of the original's in *{name}*" for name, limit in REACH_WHOLE.items())
     shown += ["## With the construction", "",
-              f"The time of a whole run, a step, from the construction of the tables to their end. In bold: more than {whole}.", "",
+              f"The time of a whole run, a step. In bold: more than {whole}.", "",
               *whole_table([row for row in steps if row.name in LONG]), "",
               "## Huge pages", "",
-              "With `GLIBC_TUNABLES=glibc.malloc.hugetlb=1` the C library asks for huge pages for each large table.", "",
+              "With `GLIBC_TUNABLES=glibc.malloc.hugetlb=1` the C library asks for huge pages.", "",
               *huge_table([row for row in large if row.name.startswith("random")]), "",
               "## Without aligned branches", "",
-              "Branches are where compilers place them.", "", *plain_table(work), "",
+              *plain_table(work), "",
               "## One call site or two", "",
               "Instructions of a step.", "", *sites_table(work), "",
               "## Cache misses", "",
-              "Reads and writes of a step that miss a first-level data cache of 32 KiB. In bold: more than "
+              "Misses of a step in a first-level data cache of 32 KiB. In bold: more than "
               + " and ".join(f"{most} in *{name}*" for name, most in REACH_MISSES.items()) + ".", "",
               *misses_table(steps), "",
               "## The best and the worst run", "",
@@ -426,7 +426,7 @@ def main():
               "took longer are left out.", "", *rounds_table(large if some else [])]
     if timed["threads"]:
         shown += ["", "## Threads", "",
-                  "The erased side, with 1,000 live ranges a thread, sizes as in *random*: a step's nanoseconds, divided by the threads. "
+                  "The erased side, with 1,000 live ranges a thread: a step's nanoseconds, divided by the threads. "
                   "In the last row another thread returns each range by a queue, which the owner drains every 64 requests.", "", *threads_table(timed["threads"])]
     if "compacting" in counted:
         compacting = [(live, timed["compacting"].get(str(live), [math.nan] * len(WAYS)), [counted["compacting"][str(live)][way] for way in WAYS])

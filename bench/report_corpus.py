@@ -88,7 +88,7 @@ SHARES = ", ".join(f"{fits} of {count} at {percent}%" for percent in PERCENT for
 SAVED = listed(t.name for t in traces if t.over(t.once) != t.over(t.least["ours"]))
 shown = [
     "# What recorded programs need", "",
-    f"[bench/corpus](README.md#corpus) counts this over the {len(traces)} programs in [traces](traces/README.md).", "",
+    f"Counted over the {len(traces)} programs in [traces](traces/README.md) ([how](README.md#corpus)).", "",
     "## The least space", "",
     "The smallest space in which nothing is refused, in percent above the peak of live bytes. In bold: the smallest of a row, "
     "*best fit* left out.", "",
@@ -99,21 +99,20 @@ shown = [
     "Ours, as the original, rounds a request up to a size class, and takes no block of the class below; the peers try every "
     f"free block before they refuse. Of the requests that ours refuses, a free block was large enough for {SHARES} above the peak. "
     "The rest is due to where ranges were placed before.", "",
-    "A larger space may refuse what a smaller one grants, since every range lies elsewhere then. The largest of 1,000 sizes, up "
-    "to half above the peak, in which something is refused, in percent above it; empty where none refuses:", "",
+    "A larger space may refuse what a smaller one grants. The largest of 1,000 sizes, up to half above the peak, in which "
+    "something is refused, in percent above it; empty where none refuses:", "",
     *table([NAMES[s] for s in sides], [(t, refusing_cells(t)) for t in traces]),
 ]
 shown += ["## Refusals", "",
-          "In brackets, after ours: how many a best fit would grant there, since a free block was large enough. A program that none "
-          "refuses is left out.", ""]
+          "In brackets, after ours: for how many a free block was large enough. A program that none refuses is left out.", ""]
 for percent in PERCENT:
     some = [t for t in traces if any(count for (p, _), (count, _) in t.refused.items() if p == percent)]
     shown += [f"{percent}% above the peak:" if percent else "The peak alone:", "",
               *table(["requests", *(NAMES[s] for s in sides if s != "c")], [(t, [f"{t.requests:,}", *refused_cells(t, percent)]) for t in some])]
 shown += [
     "## With `compact`", "",
-    "The least space of ours: as above; with one `compact`, before the request that makes the peak; with one before each request "
-    "that would be refused, and how many these are.", "",
+    "The least space of ours; with one `compact`, before the request that makes the peak; with one before each request that "
+    "would be refused, and how many these are.", "",
     *table(["none", "one at the peak", "where needed", "how many"],
            [(t, [t.over(t.least["ours"]), t.over(t.once), t.over(t.retried), t.compacts]) for t in traces]),
     f"One at the peak saves something only for {SAVED}.",
