@@ -11,7 +11,7 @@ returns-clause-data c fits =
     (λ p x q k.
     let s : IsCopied k.0.from k.0.to k.0.size (closure.captures p).buffer.now (closure.captures q).buffer.now = search rules in
     let g : (closure.captures q).buffer.ghost_name ≡ (closure.captures p).buffer.ghost_name = search rules in
-    (rw (← k.1.from, ← k.1.to, ← k.1.size) s, g))
+    (rw k.1 s, g))
     _ _ _ c.compact.ensures.moved in
     let held = compacted_holds c.args.space.now c.compact.new.self c.args.buffer.now _ c.is_well_formed.ensures c.compact.ensures.step fits ran.0 in
     λ x. search (rules, ran.1, held.1 x)

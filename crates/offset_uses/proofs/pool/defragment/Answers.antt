@@ -11,7 +11,7 @@ returns-clause-same c =
     (λ p x q k.
     let s : IsCopied k.0.from k.0.to k.0.size (closure.captures p).bytes.now (closure.captures q).bytes.now = search rules in
     let g : (closure.captures q).bytes.ghost_name ≡ (closure.captures p).bytes.ghost_name = search rules in
-    (rw (← k.1.from, ← k.1.to, ← k.1.size) s, g))
+    (rw k.1 s, g))
     _ _ _ c.compact.ensures.moved in
     let held = compacted_holds c.args.heap.now c.compact.new.self c.args.bytes.now _ c.is_well_formed.ensures c.compact.ensures.step c.requires.whole ran.0 in
     λ x. search (rules, ran.1, held.1 x)
