@@ -1,12 +1,13 @@
 -- What it leaves of the whole allocator to slide the live ranges to the front.
 use Rattle.offset_allocator.proofs.Common.{◌≡◌, ℕ, suc, ◌+◌, ◌≤◌, Bool, true, false, not, ◌&&◌, Some, None, List, [], ◌∷◌, ◌++◌, length, replicate, sum, if◌then◌else◌, nat_eq, refl, sym, ap, ap₂}
 use Rattle.offset_allocator.proofs.Common.{subst, ◌∙◌, arith, append-nil, length-append, eq-zero-or-pos, AllByRecursion, nat_tests, length-replicate, ext_get_or, down, Cells, Room, Block, View, Place}
-use Rattle.offset_allocator.proofs.Common.{one, free_block, units, free_sizes, used_units, used_of, count_named, count_in_bin, bin_at, push, push_all, IsApart, IsWellFormed, starts_free, live, moves}
-use Rattle.offset_allocator.proofs.Common.{move_of, first_free, gathered, Compacts, SameSpace, HasPlace, blocks, IsBinned, bins_in, AreInBins, free_units, common_steps}
+use Rattle.offset_allocator.proofs.Common.{one, free_block, units, free_sizes, used_of, count_named, count_in_bin, bin_at, push, push_all, IsApart, IsWellFormed, starts_free, live, moves}
+use Rattle.offset_allocator.proofs.Common.{move_of, first_free, gathered, Compacts, SameSpace, HasPlace, blocks, IsBinned, bins_in, AreInBins, common_steps}
 use Rattle.offset_allocator.proofs.Sliding.{first_used, first_idle, live_used, live_idle, moves_used, moves_idle}
-use Rattle.offset_allocator.proofs.{Always.parted, Emptied.no_name, Emptied.none_at, Exchange.each-le, Exchange.there-below, Exchange.unused, Filed.share, Joints.stepped, Joints.free_units-append}
+use Rattle.offset_allocator.proofs.{Emptied.no_name, Emptied.none_at, Exchange.each-le, Exchange.there-below, Exchange.unused, Filed.share, Joints.stepped, Joints.free_units-append}
 use Rattle.offset_allocator.proofs.{Joints.free_units-free, Joints.free_units-used, Places.placed, Sound.Fields, Sound.AreSound, Sound.shown, Sound.well_counted, Tallies.one-same}
 use Rattle.offset_allocator.proofs.{Tallies.tally_append, Tallies.units-append, ViewOrders.times_put_all, ViewOrders.length_put, ViewTaken.replicate_none}
+use Rattle.offset_allocator.proofs.Tallies.{free_units, free_sum}
 
 abbrev pub AreUsed : List Block → Type 0
 AreUsed bs = AllByRecursion (λ b. b.used ≡ true) bs
@@ -124,13 +125,6 @@ packed (b ∷ bs) e = go b.used refl (λ h. packed bs h)
     go true u rest = grind (arith, common_steps, first_used, moves_used, stays)
     go false u rest = grind (arith, common_steps, first_idle)
 
-sum_sizes : (bs : List Block) → sum (free_sizes bs) ≡ free_units bs
-sum_sizes bs = omega (arith, parted bs, all bs)
-  where
-    all : (bs : List Block) → used_units bs + free_units bs ≡ units bs
-    all [] = grind (arith, common_steps)
-    all (b ∷ bs) = grind (arith, common_steps, all bs)
-
 -- the live blocks stay
 pub compacts_live : (v w : View) → Compacts v w → live w.blocks ≡ live v.blocks
 compacts_live v w c = grind (arith, live_append, live_whole, live_are_used, append-nil)
@@ -162,7 +156,7 @@ module _ (f : Fields) (s : AreSound f) where
     -- what is left
     module _ (d : Cells) (last count hole size : ℕ)
         (there : HasPlace d.room f.cells.room.reserved last count hole (record { before = o.place.before ++ live o.place.after; block = free_block hole size; after = [] })) where
-      module _ (sized : size ≡ o.place.block.size + free_units o.place.after) where
+      module _ (sized : size ≡ o.place.block.size + sum (free_sizes o.place.after)) where
         abbrev left_view : View
         left_view = record v { blocks = packed_blocks ++ free_block hole size ∷ []; order = push (down size) hole (replicate 256 []) }
 
@@ -174,7 +168,7 @@ module _ (f : Fields) (s : AreSound f) where
           some = omega (arith, length-append packed_blocks (free_block hole size ∷ []));
           distinct = λ y. omega (arith, each-le d.room _ last count _ there.chain y);
           below = grind (arith, common_steps, eq-zero-or-pos, there-below);
-          whole = grind (arith, common_steps, units-append, live_units);
+          whole = let hole_size : size ≡ o.place.block.size + free_units o.place.after = omega (arith, sized, free_sum o.place.after) in grind (arith, common_steps, units-append, live_units);
           fits = w.fits;
           apart = apart_end packed_blocks (free_block hole size) are_used;
           classes = length_put (down size) hole (replicate 256 []) ∙ length-replicate {A = List ℕ} 256 [];
@@ -191,7 +185,7 @@ module _ (f : Fields) (s : AreSound f) where
 
         compacted : (u : View) → SameSpace left_view u → Compacts v u
         compacted u same =
-            let gathers : gathered hole (free_sizes v.blocks) ≡ free_block hole size ∷ [] = grind (arith, common_steps, sum_sizes) in
+            let gathers : gathered hole (free_sizes v.blocks) ≡ free_block hole size ∷ [] = grind (arith, common_steps, free_sum) in
             record {
               name = hole;
               below = omega (arith, there.below, there.chain.within, s.memory);
@@ -212,6 +206,8 @@ module _ (f : Fields) (s : AreSound f) where
             (omega (
               arith,
               s.total,
+              free_sum (blocks f.cells.room f.last),
+              free_sum p.after,
               ap free_units o.is,
               free_units-append p.before (p.block ∷ p.after),
               no_free_units p.before o.used,

@@ -2,12 +2,13 @@
 use Rattle.offset_allocator.proofs.Common.{◌≡◌, ◌↔◌, ℕ, ◌+◌, ◌-◌, ◌<◌, ◌≤◌, ◌^◌, Bool, true, false, not, ◌⊎◌, List, [], ◌∷◌, ◌++◌, length, refl, sym, ap, subst, ◌∙◌, inl, inr, arith, slice_set}
 use Rattle.offset_allocator.proofs.Common.{append-nil, true≢false, false≢true, AllByRecursion, down, Cells, Room, Node, node, Block, View, count_named, bin_at, count_in_bin, is_free, IsApart}
 use Rattle.offset_allocator.proofs.Common.{IsWellFormed, IsNew, free_block, units, replace, remove_all, push, remove, times, ends_used, HasRoomFor, KeepsAll, Adds, CanExtend, Extends}
-use Rattle.offset_allocator.proofs.Common.{IsChain, HasPlace, blocks, Among, IsUnlisted, bins_in, IsBinned, free_units, common_steps}
+use Rattle.offset_allocator.proofs.Common.{IsChain, HasPlace, blocks, Among, IsUnlisted, bins_in, IsBinned, common_steps}
 use Rattle.offset_allocator.proofs.Tallies.{listed_named, tally_append, units-append, times-append, one-eq}
 use Rattle.offset_allocator.proofs.Joints.{stepped, free_most, unused_unlisted, remove_free, free_units-append, free_units-free}
 use Rattle.offset_allocator.proofs.{Sound.Fields, Sound.AreSound, Sound.shown, Sound.well_counted, Sound.well_same, Ends.Ended, Ends.ended, Places.at_place, Places.end_place, Filed.share}
 use Rattle.offset_allocator.proofs.{Filed.counts_once, ViewApart.ends_free, ViewApart.apart_parts, ViewApart.left_false, ViewOrders.times_remove_all, ViewTaken.well_added, Ranges.adds_keep}
 use Rattle.offset_allocator.proofs.Tallies.{without, counted_none}
+use Rattle.offset_allocator.proofs.Tallies.{free_units, free_sum}
 
 pub ends_last : (fs : List Block) (b : Block) → ends_used (fs ++ b ∷ []) ≡ b.used
 ends_last [] b = refl
@@ -88,7 +89,7 @@ module _ {it : Fields} {more : ℕ} {used : Bool} (r : Growth it more used) wher
   end_small = omega (arith, units_fit, ap units end.is, units-append fs (b ∷ []), size_at_end)
 
   pub free_fits : it.free + more < 2 ^ 32
-  free_fits = omega (arith, s.total, free_most bs, units_fit)
+  free_fits = omega (arith, s.total, free_sum bs, free_most bs, units_fit)
 
   -- what it leaves, with any number of accesses counted
   abbrev pub Grown : Cells → ℕ → ℕ → ℕ → ℕ → Type 0
@@ -107,7 +108,7 @@ module _ {it : Fields} {more : ℕ} {used : Bool} (r : Growth it more used) wher
       let total = free_units-append before old in
       let left = stepped it s left_view d (it.free + more) k well refl chain refl bins lists
       (free_units-append before (free_block x (units old + more) ∷ [])
-      ∙ omega (arith, r.sound.total, ap free_units e, total, idle_units old idle, free_units-free (free_block x (units old + more)) [] refl)) in
+      ∙ omega (arith, r.sound.total, free_sum bs, ap free_units e, total, idle_units old idle, free_units-free (free_block x (units old + more)) [] refl)) in
       let added : Adds more v (shown (record it { size = it.size + more; cells = d; last = last; count = count; top = top; free = it.free + more; accesses = k })) = grind (arith, common_steps) in
       (left.0, added, adds_keep v _ w (well_same left_view _ left.1 well) more added)
 

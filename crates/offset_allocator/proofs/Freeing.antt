@@ -1,11 +1,12 @@
 -- What it leaves of the whole allocator to free a block.
 use Rattle.offset_allocator.proofs.Common.{◌≡◌, ℕ, ◌+◌, ◌<◌, ◌^◌, Bool, true, not, ◌&&◌, List, [], ◌∷◌, ◌++◌, Option, Some, None, if◌then◌else◌, refl, sym, ap, ap₂, subst, ◌∙◌, arith, nat_eq}
 use Rattle.offset_allocator.proofs.Common.{false≢true, down, Cells, Block, View, Place, one, count_named, count_in_bin, IsWellFormed, units, place_of, is_used_at, free_end, without_end, free_start}
-use Rattle.offset_allocator.proofs.Common.{without_start, remove_all, push, free_block, replace, IsApart, remove, IsChain, HasPlace, blocks, bins_in, IsBinned, IsSound, view_of, free_units, AreInBins}
+use Rattle.offset_allocator.proofs.Common.{without_start, remove_all, push, free_block, replace, IsApart, remove, IsChain, HasPlace, blocks, bins_in, IsBinned, IsSound, view_of, AreInBins}
 use Rattle.offset_allocator.proofs.Common.{SameSpace, Frees, common_steps}
 use Rattle.offset_allocator.proofs.{Filed.share, Sound.Fields, Sound.AreSound, Sound.shown, Sound.well_counted, Places.located, ViewSteps.place_at, ViewTaken.well_frees, ViewTaken.tally_end}
 use Rattle.offset_allocator.proofs.{ViewTaken.tally_start, ViewApart.apart_parts, ViewApart.apart_coalesced, ViewApart.coalesced_parts, Released.idle_append, Released.idle_end, Released.idle_start}
 use Rattle.offset_allocator.proofs.{Joints.stepped, Joints.free_most, Joints.free_units-append, Joints.free_units-free, Joints.free_units-used, Tallies.tally_append, Tallies.units-append}
+use Rattle.offset_allocator.proofs.Tallies.{free_units, free_sum}
 
 share_used : (k y : ℕ) (b : Block) → b.used ≡ true → share k y b ≡ 0
 share_used k y b e = ap (λ (u : Bool). one (not u && (nat_eq k (down b.size) && nat_eq y b.name))) e
@@ -92,7 +93,7 @@ module _ {f : Fields} {x : ℕ} (r : Release f x) where
   used = sym (ap is_used_at at.is) ∙ r.live
 
   pub room_for : f.free + at.place.block.size < 2 ^ 32
-  room_for = grind (arith, free_units-append, free_units-used, used, units-append, free_most)
+  room_for = grind (arith, free_units-append, free_units-used, used, units-append, free_most, free_sum)
 
   -- the bins hold the other free blocks
   pub filed : AreInBins (at.place.before ++ at.place.after) (bins_in f.max f.cells.links)
@@ -137,6 +138,7 @@ module _ {f : Fields} {x : ℕ} (r : Release f x) where
       (omega (
         arith,
         s.total,
+        free_sum bs,
         was,
         total,
         sum,

@@ -2,8 +2,8 @@
 use Rattle.offset_allocator.proofs.Common.{◌≡◌, ℕ, zero, suc, ◌+◌, ◌/◌, ◌%◌, ◌<◌, ◌≤◌, ◌^◌, false, None, List, [], ◌∷◌, length, get_or, replicate, refl, sym, ◌∙◌, ap, ap₂, subst, arith, slice_index}
 use Rattle.offset_allocator.proofs.Common.{length-replicate, get_or-replicate, bit_at-zero, cases_eq, nat_tests, down, Cells, Links, Room, Node, blank, node, put, AreEmpty, IsBare, AreShaped, Block}
 use Rattle.offset_allocator.proofs.Common.{View, IsWellFormed, free_block, push, bin_at, IsChain, IsSpace, blocks, spares, HasBins, AreMasks, IsBinned, bins_in, Among, IsUnlisted, IsSound, view_of}
-use Rattle.offset_allocator.proofs.Common.{free_units}
 use Rattle.offset_allocator.proofs.{Nodes.node-put, Nodes.node-put_other, Nodes.length-put, Nodes.spare-put, Nodes.reserved-put, Binned.binned, ViewTaken.well_alone, Tallies.one-eq, Tallies.one-other}
+use Rattle.offset_allocator.proofs.Tallies.{free_units, free_sum}
 
 -- one free block of the whole size
 abbrev pub fresh : ℕ → ℕ → View
@@ -83,7 +83,7 @@ started max m size d top two least sized memory space eb bins lists =
         space = space;
         bins = bins;
         well = subst IsWellFormed (sym ev) (well_alone (fresh size m) 0 size 0 two (omega arith) sized);
-        total = ap free_units eb ∙ omega arith;
+        total = free_sum (blocks d.room 0) ∙ ap free_units eb ∙ omega arith;
       },
       ev,
     )

@@ -1,11 +1,12 @@
 -- What a grant leaves of the whole allocator.
 use Rattle.offset_allocator.proofs.Common.{◌≡◌, ℕ, zero, suc, ◌+◌, ◌-◌, ◌<◌, ◌≤◌, ◌^◌, List, [], ◌∷◌, ◌++◌, length, refl, sym, ap, ap₂, ◌∙◌, arith, slice_set, append_assoc, le-leb, nat_eq, up, down}
 use Rattle.offset_allocator.proofs.Common.{Cells, Room, Block, View, Place, Grant, one, count_named, bin_at, IsWellFormed, IsNew, free_part, used_block, units, replace, remove_all, push_all, remove}
-use Rattle.offset_allocator.proofs.Common.{HasPlace, IsSmallestFrom, bins_in, IsBinned, AreUnlisted, free_units, SameSpace, Splits, common_steps}
+use Rattle.offset_allocator.proofs.Common.{HasPlace, IsSmallestFrom, bins_in, IsBinned, AreUnlisted, SameSpace, Splits, common_steps}
 use Rattle.offset_allocator.proofs.Joints.{stepped, unused_unlisted, free_part_units, remove_free, free_units-append, free_units-free, free_units-used}
 use Rattle.offset_allocator.proofs.{Sound.Fields, Sound.AreSound, Sound.shown, Sound.well_counted, Exchange.each-le, Exchange.there-below, Places.placed, Places.end_fits, Classes.fits_size}
 use Rattle.offset_allocator.proofs.{Split.well_split, Split.part_room, Taken.Taken, Taken.taken, ViewOrders.unlisted_removed, Tallies.one-same, Tallies.one-eq, Tallies.times-append}
 use Rattle.offset_allocator.proofs.Tallies.{without, counted_none}
+use Rattle.offset_allocator.proofs.Tallies.{free_units, free_sum}
 
 -- a grant: sound fields, the smallest class large enough that has a block, and the first name there
 pub record Call (f : Fields) (needed class x : ℕ) : Type 0 where
@@ -54,7 +55,7 @@ module _ {f : Fields} {needed class x : ℕ} (call : Call f needed class x) wher
   removed = remove_free p.block ls got.free ∙ ap₂ (λ i y. remove i y ls) got.class got.name
 
   had_free : f.free ≡ free_units p.before + (p.block.size + free_units p.after)
-  had_free = sym call.sound.total ∙ ap free_units got.stood ∙ free_units-append p.before (p.block ∷ p.after) ∙ ap (λ k. free_units p.before + k) (free_units-free p.block p.after got.free)
+  had_free = sym call.sound.total ∙ free_sum (shown f).blocks ∙ ap free_units got.stood ∙ free_units-append p.before (p.block ∷ p.after) ∙ ap (λ k. free_units p.before + k) (free_units-free p.block p.after got.free)
 
   -- a request for n units, with padding
   module _ (n : ℕ) (padding_at : ℕ → ℕ) (within : (o : ℕ) → padding_at o + n ≤ needed) where

@@ -1,7 +1,8 @@
 -- The chain, the bins and the view together.
 use Rattle.offset_allocator.proofs.Common.{◌≡◌, ℕ, zero, suc, ◌+◌, ◌≤◌, Bool, true, false, List, [], ◌∷◌, ◌++◌, if◌then◌else◌, refl, ap, ◌∙◌, arith, down, units, Block, View, count_named}
-use Rattle.offset_allocator.proofs.Common.{count_in_bin, IsWellFormed, free_part, remove_all, remove, Cells, IsChain, IsBinned, bins_in, IsUnlisted, view_of, free_units, common_steps}
+use Rattle.offset_allocator.proofs.Common.{count_in_bin, IsWellFormed, free_part, remove_all, remove, Cells, IsChain, IsBinned, bins_in, IsUnlisted, view_of, common_steps}
 use Rattle.offset_allocator.proofs.{Views.blocks-chain, Views.space-chain, Sound.Fields, Sound.AreSound, Sound.well_counted, Tallies.listed_named, Tallies.tally_append}
+use Rattle.offset_allocator.proofs.Tallies.{free_units, free_sum}
 
 -- a name that no free block has is in no list
 pub unlisted : (v : View) → IsWellFormed v → (x : ℕ) → ((c : ℕ) → count_in_bin c x v.blocks ≡ 0) → IsUnlisted x v.order
@@ -20,6 +21,7 @@ pub stepped : (f : Fields) → AreSound f → (v : View) (d : Cells) (free k : �
     → AreSound (record f { size = v.size; cells = d; last = last; count = count; top = top; free = free }) × (view_of f.max v.size f.limit d last k ≡ with_accesses k v)
 stepped f s v d free k {last} {count} {top} {bs} well limit chain eb bins eo total =
     let is = blocks-chain d.room _ last count bs chain in
+    let sized = free_sum bs ∙ total in
     grind (arith, common_steps, space-chain, well_counted)
 
 -- small parts of steps

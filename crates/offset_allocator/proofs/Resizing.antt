@@ -3,12 +3,13 @@ use Rattle.offset_allocator.proofs.Common.{IsSome, ◌≡◌, ◌≢◌, ◌↔�
 use Rattle.offset_allocator.proofs.Common.{ap, ap₂, subst, ◌∙◌, inl, inr, arith, length-append, eq-zero-or-pos, if◌then◌else◌, false≢true, true≢false, and_right, Cells, Node, Block, View, Place, one}
 use Rattle.offset_allocator.proofs.Common.{units, count_named, used_of, used_block, IsApart, IsWellFormed, IsNew, free_start, without_start, free_part, remove_all, push_all, replace, HasRoomFor}
 use Rattle.offset_allocator.proofs.Common.{range_of, size_of, KeepsOthers, SameSpace, Resizes, ResizesTo, Shrinks, Grows, CanShrink, CanGrow, HasUnits, free_after, HasPlace, IsFreeAfter}
-use Rattle.offset_allocator.proofs.Common.{bins_in, IsBinned, free_units, option_map, unwrap_or, common_steps}
+use Rattle.offset_allocator.proofs.Common.{bins_in, IsBinned, option_map, unwrap_or, common_steps}
 use Rattle.offset_allocator.proofs.Freeing.{Release, at, used, w, remove_used, units_start}
 use Rattle.offset_allocator.proofs.ViewApart.{ends_free, apart_parts, apart_append, apart_without_start, apart_free_part, start_parts}
 use Rattle.offset_allocator.proofs.{Exchange.each-le, Exchange.there-below, Granting.part_names, Joints.stepped, Joints.free_part_units, Joints.free_units-append, Joints.free_units-used}
 use Rattle.offset_allocator.proofs.{Places.at_place, Places.next_place, Ranges.resizes_units, Ranges.resizes_others, Reading.size_is, Reading.size_at, Released.idle_start}
 use Rattle.offset_allocator.proofs.{Sound.Fields, Sound.AreSound, Sound.shown, Sound.well_same, Tallies.tally_three, Tallies.part_sums, Tallies.counted_none, Tallies.new_absent, Tallies.hit_cases, Tallies.one-same, ViewReplaced.well_replaced}
+use Rattle.offset_allocator.proofs.Tallies.{free_units, free_sum}
 
 -- the name of a free part, where it has units
 part_named : (z m y : ℕ) → (count_named y (free_part z m) ≡ 0) ⊎ ((y ≡ z) × (1 ≤ m) × (count_named y (free_part z m) ≡ 1))
@@ -91,7 +92,7 @@ module _ {f : Fields} {x : ℕ} (call : Release f x) where
   split = (at call).stood ∙ ap (λ l. p.before ++ p.block ∷ l) (start_parts p.after)
 
   had_free : f.free ≡ free_units p.before + (units next + free_units after)
-  had_free = grind (arith, split, free_units-append, free_units-used, used, units_start)
+  had_free = grind (arith, split, free_units-append, free_units-used, used, units_start, free_sum)
 
   pub free_beside : units (free_start (at call).place.after) ≤ f.free
   free_beside = omega (arith, had_free)

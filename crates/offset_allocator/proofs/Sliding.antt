@@ -1,9 +1,11 @@
 -- A free block that moves to the end of the space: used blocks pass it, and free ones are coalesced with it.
 use Rattle.offset_allocator.proofs.Common.{◌≡◌, ◌≢◌, ℕ, inl, inr, ◌+◌, ◌-◌, ◌≤◌, Bool, true, false, Some, None, List, [], ◌∷◌, ◌++◌, length, if◌then◌else◌, refl, sym, ap, subst, ◌*◌, ◌∙◌, arith}
 use Rattle.offset_allocator.proofs.Common.{append_assoc, append-nil, FoldsTo, cases_eq, nat_tests, Cells, Room, Node, node, Block, Place, free_block, units, HasPlace, IsSpace, blocks, first_or}
-use Rattle.offset_allocator.proofs.Common.{last_or, coalesced_before, coalesced_after, Move, first_free, live, moves, move_of, free_units, common_steps}
+use Rattle.offset_allocator.proofs.Common.{last_or, coalesced_before, coalesced_after, Move, first_free, live, moves, move_of, common_steps}
 use Rattle.offset_allocator.proofs.Places.{placed, at_place, next_place}
 use Rattle.offset_allocator.proofs.{Ends.end_free, Ends.ended, Joints.free_units-free, Joints.free_units-used, Rows.last_or-append, Tallies.units-append}
+use Rattle.offset_allocator.proofs.Tallies.{free_units, free_sum}
+use Rattle.offset_allocator.proofs.Common.{sum, free_sizes}
 
 -- the block after a block, where the list of those after it is known
 pub next_is : {c : Room} {m last count x y : ℕ} {p : Place} {b : Block} {bs : List Block} → HasPlace c m last count x p → p.after ≡ b ∷ bs → Some y ≡ (node c x).after
@@ -134,9 +136,9 @@ module _ {F : Type 0} {R : F → Move → F → Type 0} {m : ℕ} {p : Place} {f
 
   -- it is the last block
   pub slid_end : q.after ≡ [] → HasPlace t.room m last count hole (record { before = p.before ++ live p.after; block = free_block hole size; after = [] })
-      × (size ≡ p.block.size + free_units p.after)
+      × (size ≡ p.block.size + sum (free_sizes p.after))
       × FoldsTo R f (moves (units p.before + p.block.size) (units p.before) p.after) g × (used ≤ accesses + 20 * length p.after)
-  slid_end e = grind (arith, append-nil)
+  slid_end e = grind (arith, append-nil, free_sum)
 
 pub at_end : {c : Room} {m last count x : ℕ} {p : Place} → HasPlace c m last count x p → None ≡ (node c x).after → p.after ≡ []
 at_end {p = p} h e = go p.after (e ∙ ap (λ (v : Node). v.after) (at_place h))

@@ -1,6 +1,6 @@
 -- Sums over lists, and a test of names as a number.
 use Rattle.offset_allocator.proofs.Common.{◌≡◌, ◌≢◌, ℕ, zero, suc, ◌+◌, ◌≤◌, length, ◌⊎◌, List, [], ◌∷◌, ◌++◌, nat_eq, not, refl, sym, ap, ◌∙◌, arith, eq-eqb, ne_eqb, cases_eq, Block, tally, one, units, times}
-use Rattle.offset_allocator.proofs.Common.{count_named, count_in_bin, used_of, free_part, View, IsNew, AllByRecursion, filter}
+use Rattle.offset_allocator.proofs.Common.{count_named, count_in_bin, used_of, free_part, View, IsNew, free_sizes, sum, sum_by-cons, if◌then◌else◌, AllByRecursion, filter}
 
 -- a list of names without x
 abbrev pub without : ℕ → List ℕ → List ℕ
@@ -49,6 +49,14 @@ counted_none x (b ∷ bs) e = (λ f. absurd (omega (arith, e, one-eq x b.name f)
 
 pub new_absent : (x : ℕ) (v : View) → IsNew x v → count_named x v.blocks ≡ 0
 new_absent x v n = none_counted x v.blocks n.absent
+
+-- the units of the free blocks
+abbrev pub free_units : List Block → ℕ
+free_units bs = tally (λ b. if b.used then 0 else b.size) bs
+
+pub free_sum : (bs : List Block) → sum (free_sizes bs) ≡ free_units bs
+free_sum [] = grind arith
+free_sum (b ∷ bs) = grind (arith, sum_by-cons, free_sum bs)
 
 -- padding or a remainder is at most one block
 pub part_sums : (y n : ℕ) → (length (free_part y n) ≤ 1) × (units (free_part y n) ≡ n) × (used_of (free_part y n) ≡ 0)

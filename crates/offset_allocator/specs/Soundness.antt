@@ -1,13 +1,9 @@
 -- What is true of an allocator's fields.
-use Rattle.std.specs.Prelude.{◌≡◌, ℕ, ◌+◌, ◌<◌, List, if◌then◌else◌}
+use Rattle.std.specs.Prelude.{◌≡◌, ℕ, ◌+◌, ◌<◌, List, sum}
 use Rattle.offset_allocator.specs.Cells.{Cells}
 use Rattle.offset_allocator.specs.Bins.{IsBinned, bins_in, IsUnlisted}
 use Rattle.offset_allocator.specs.Chain.{IsSpace, blocks}
-use Rattle.offset_allocator.specs.View.{View, Block, IsWellFormed, tally, times, bin_at, count_named, count_in_bin}
-
--- the units of the free blocks
-abbrev pub free_units : List Block → ℕ
-free_units bs = tally (λ b. if b.used then 0 else b.size) bs
+use Rattle.offset_allocator.specs.View.{View, Block, IsWellFormed, free_sizes, times, bin_at, count_named, count_in_bin}
 
 -- what contracts see, of the fields
 abbrev pub view_of : ℕ → ℕ → ℕ → Cells → ℕ → ℕ → View
@@ -26,7 +22,7 @@ pub record IsSound (max size limit : ℕ) (c : Cells) (last count top free : ℕ
   pub space : IsSpace c.room last count
   pub bins : IsBinned max c.links top
   pub well : IsWellFormed (view_of max size limit c last 0)
-  pub total : free_units (blocks c.room last) ≡ free
+  pub total : sum (free_sizes (blocks c.room last)) ≡ free
 
 -- a name that no block has is in no bin
 abbrev pub AreUnlisted : List Block → List (List ℕ) → Type 0

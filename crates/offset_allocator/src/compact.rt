@@ -1,11 +1,10 @@
 //! Slides every live range to the front of the space, so that all free units are one block at its end.
-ghost use Rattle.std.specs.Prelude.{ℕ, ◌≡◌, ◌≢◌, ◌+◌, ◌*◌, ◌<◌, ◌≤◌, [], ◌∷◌, ◌++◌, Some, false, Bool, List, length};
+ghost use Rattle.std.specs.Prelude.{ℕ, ◌≡◌, ◌≢◌, ◌+◌, ◌*◌, ◌<◌, ◌≤◌, [], ◌∷◌, ◌++◌, Some, false, Bool, List, length, sum};
 ghost use Rattle.std.specs.List.{FoldsTo};
 ghost use Rattle.offset_allocator.specs.Accesses.{Costs};
 ghost use Rattle.offset_allocator.specs.Cells.{node};
 ghost use Rattle.offset_allocator.specs.View.{Place, Block, free_block, free_sizes, units};
 ghost use Rattle.offset_allocator.specs.Chain.{IsSpace, HasPlace, blocks};
-ghost use Rattle.offset_allocator.specs.Soundness.{free_units};
 ghost use Rattle.offset_allocator.specs.Compacting.{live, moves, move_of, Compacts, KeepsSizes, IsCalledWith};
 ghost use Rattle.offset_allocator.specs.Compacting.{first_free};
 ghost use Rattle.offset_allocator.specs.Store.{IsPlaceIn, SameBins};
@@ -135,7 +134,7 @@ fn slide<T: Tables, F: FnMut(Move<T::Index>)>(
           block = free_block result.name result.size;
           after = [];
         })
-        × (result.size ≡ p.block.size + free_units p.after)
+        × (result.size ≡ p.block.size + sum (free_sizes p.after))
         × FoldsTo (IsCalledWith T.Index.NonMax.number (λ f range g. F.step f range tt g)) moved.old
         (moves (units p.before + p.block.size) (units p.before) p.after) moved.new
         × (store.new.accesses ≤ store.old.accesses + 20 * length p.after + 1) }
