@@ -38,5 +38,5 @@ pub use Rattle.offset_allocator.specs.Requests.{HasRoomFor, CanGrant, units_need
 pub use Rattle.offset_allocator.specs.Resizing.{ResizesTo, Resizes, HasUnits, Shrinks, Grows, CanShrink, CanGrow, free_after}
 pub use Rattle.offset_allocator.specs.Soundness.{view_of, AreInBins, AreUnlisted, IsSound}
 pub use Rattle.offset_allocator.specs.View.{Block, View, units, IsWellFormed, count_named, bin_at, one, Place, times, free_block, push, free_sizes, IsApart, count_in_bin, free_start, place_of}
-pub use Rattle.offset_allocator.specs.View.{used_of, remove_all, free_part, remove, push_all, is_free, free_end, without_start, replace, without_end, used_block, IsNew, Grant, padding_to}
+pub use Rattle.offset_allocator.specs.View.{used_of, remove_all, free_part, remove, push_all, free_end, without_start, replace, without_end, used_block, IsNew, Grant, padding_to}
 pub use Rattle.offset_allocator.specs.View.{max_size, starts_free, is_used_at, ends_used, largest_free, used_units, total_free, tally}

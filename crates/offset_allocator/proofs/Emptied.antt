@@ -1,7 +1,7 @@
 -- A space whose used blocks are freed one after the other, from its end on: each is the last block or the one before
 -- it, and where none is left the space is one free block.
 use Rattle.offset_allocator.proofs.Common.{◌≡◌, ℕ, ◌+◌, ◌*◌, append_assoc, ◌<◌, ◌≤◌, Bool, true, false, not, List, [], ◌∷◌, ◌++◌, length, replicate, Option, Some, None, IfSome, nat_eq, refl, sym, ap}
-use Rattle.offset_allocator.proofs.Common.{ap₂, subst, ◌∙◌, arith, inl, inr, length-replicate, ext_get_or, cases_lt, false≢true, not-false, down, Block, View, one, is_free, free_block, units}
+use Rattle.offset_allocator.proofs.Common.{ap₂, subst, ◌∙◌, arith, inl, inr, length-replicate, ext_get_or, cases_lt, false≢true, not-false, down, Block, View, one, free_block, units}
 use Rattle.offset_allocator.proofs.Common.{count_named, used_of, times, count_in_bin, bin_at, push, IsApart, IsWellFormed, place_of, is_used_at, SameSpace, Frees, Resets, last_or, IsLive}
 use Rattle.offset_allocator.proofs.ViewOrders.{hit_at, hit_other, names_same, names_other, length_put}
 use Rattle.offset_allocator.proofs.{Ends.Ended, Ends.ended, Ends.last_none, Classes.down_small, Reading.used_live, ViewApart.apart_parts, ViewApart.left_false, Tallies.hit_cases, Tallies.tally_append}
@@ -95,7 +95,7 @@ module _ (bs : List Block) (last : ℕ) (ends : last_or None bs ≡ Some last) (
       let d : Block = e2.last in
       let is : bs ≡ e2.front ++ (d ∷ b ∷ []) = end.is ∙ ap (λ (l : List Block). l ++ b ∷ []) e2.is ∙ append_assoc e2.front (d ∷ []) (b ∷ []) in
       let parts = apart_parts e2.front (d ∷ b ∷ []) (subst IsApart is apart) in
-      let used : d.used ≡ true = not-false d.used (left_false (is_free d) (is_free b) parts.1.0 (ap not is_idle)) in
+      let used : d.used ≡ true = not-false d.used (left_false (not d.used) (not b.used) parts.1.0 (ap not is_idle)) in
       let absent : count_named x e2.front ≡ 0 =
       omega (arith, one-eq x d.name e2.name, each x, ap (count_named x) is, tally_append (λ (d : Block). one (nat_eq x d.name)) e2.front (d ∷ b ∷ [])) in
       ap is_used_at (ap (place_of x) is ∙ place_here x e2.front d (b ∷ []) absent (sym e2.name)) ∙ used

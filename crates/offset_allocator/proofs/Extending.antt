@@ -1,6 +1,6 @@
 -- What more units at the end leave of the whole allocator.
 use Rattle.offset_allocator.proofs.Common.{◌≡◌, ◌↔◌, ℕ, ◌+◌, ◌-◌, ◌<◌, ◌≤◌, ◌^◌, Bool, true, false, not, ◌⊎◌, List, [], ◌∷◌, ◌++◌, length, refl, sym, ap, subst, ◌∙◌, inl, inr, arith, slice_set}
-use Rattle.offset_allocator.proofs.Common.{append-nil, true≢false, false≢true, AllByRecursion, down, Cells, Room, Node, node, Block, View, count_named, bin_at, count_in_bin, is_free, IsApart}
+use Rattle.offset_allocator.proofs.Common.{append-nil, true≢false, false≢true, AllByRecursion, down, Cells, Room, Node, node, Block, View, count_named, bin_at, count_in_bin, IsApart}
 use Rattle.offset_allocator.proofs.Common.{IsWellFormed, IsNew, free_block, units, replace, remove_all, push, remove, times, ends_used, HasRoomFor, KeepsAll, Adds, CanExtend, Extends}
 use Rattle.offset_allocator.proofs.Common.{IsChain, HasPlace, blocks, Among, IsUnlisted, bins_in, IsBinned, common_steps}
 use Rattle.offset_allocator.proofs.Tallies.{listed_named, tally_append, units-append, times-append, one-eq}
@@ -15,7 +15,7 @@ ends_last [] b = refl
 ends_last (f ∷ []) b = refl
 ends_last (f ∷ g ∷ fs) b = ends_last (g ∷ fs) b
 
-ends_free_last : (fs : List Block) (b : Block) → ends_free (fs ++ b ∷ []) ≡ is_free b
+ends_free_last : (fs : List Block) (b : Block) → ends_free (fs ++ b ∷ []) ≡ not b.used
 ends_free_last [] b = refl
 ends_free_last (f ∷ []) b = refl
 ends_free_last (f ∷ g ∷ fs) b = ends_free_last (g ∷ fs) b

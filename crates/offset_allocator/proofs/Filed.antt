@@ -1,13 +1,13 @@
 -- A block in no bin, where the bins hold the other free blocks.
-use Rattle.offset_allocator.proofs.Common.{◌≡◌, ℕ, ◌+◌, ◌≤◌, Bool, true, false, ◌&&◌, Some, None, List, [], ◌∷◌, ◌++◌, length, nat_eq, refl, sym, ap, ◌∙◌, arith, inl, inr, down, Room, Node, node}
-use Rattle.offset_allocator.proofs.Common.{Block, Place, one, is_free, count_named, count_in_bin, bin_at, free_end, without_end, free_start, without_start, remove_all, HasPlace, first_or, Among}
+use Rattle.offset_allocator.proofs.Common.{not, ◌≡◌, ℕ, ◌+◌, ◌≤◌, Bool, true, false, ◌&&◌, Some, None, List, [], ◌∷◌, ◌++◌, length, nat_eq, refl, sym, ap, ◌∙◌, arith, inl, inr, down, Room, Node, node}
+use Rattle.offset_allocator.proofs.Common.{Block, Place, one, count_named, count_in_bin, bin_at, free_end, without_end, free_start, without_start, remove_all, HasPlace, first_or, Among}
 use Rattle.offset_allocator.proofs.Common.{IsUnlisted, AreInBins, AreUnlisted}
 use Rattle.offset_allocator.proofs.Tallies.{listed_named, tally_append, hit_cases, one-eq, times-append}
 use Rattle.offset_allocator.proofs.{Exchange.each-le, Places.at_place, Places.next_place, Places.previous_place, ViewOrders.times_remove_all, ViewTaken.tally_end, ViewTaken.tally_start}
 
 -- the sum that `count_in_bin` takes, of one block
 abbrev pub share : ℕ → ℕ → Block → ℕ
-share k y b = one (is_free b && (nat_eq k (down b.size) && nat_eq y b.name))
+share k y b = one (not b.used && (nat_eq k (down b.size) && nat_eq y b.name))
 
 -- a free block counts once
 pub counts_once : {c : Room} {m last count y : ℕ} {p : Place} → HasPlace c m last count y p → (node c y).used ≡ false → share (down (node c y).size) y p.block ≡ 1

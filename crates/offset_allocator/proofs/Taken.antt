@@ -1,6 +1,6 @@
 -- The block that a request takes, and when there is one.
-use Rattle.offset_allocator.proofs.Common.{◌≡◌, ◌≢◌, ℕ, ◌≤◌, Bool, true, false, ◌&&◌, List, [], ◌∷◌, ◌++◌, Option, Some, None, nat_eq, refl, sym, ap, arith, not-true, up, down, Block, View, Place}
-use Rattle.offset_allocator.proofs.Common.{one, is_free, times, count_named, count_in_bin, bin_at, place_of, IsWellFormed}
+use Rattle.offset_allocator.proofs.Common.{not, ◌≡◌, ◌≢◌, ℕ, ◌≤◌, Bool, true, false, ◌&&◌, List, [], ◌∷◌, ◌++◌, Option, Some, None, nat_eq, refl, sym, ap, arith, not-true, up, down, Block, View, Place}
+use Rattle.offset_allocator.proofs.Common.{one, times, count_named, count_in_bin, bin_at, place_of, IsWellFormed}
 use Rattle.offset_allocator.proofs.{ViewSteps.place_at, ViewSteps.no_place, Tallies.listed_named, Tallies.tally_append, Tallies.hit_cases, Tallies.one-same}
 
 -- the free block of class c that is named x
@@ -17,7 +17,7 @@ hit_parts false c d r l = grind arith
 
 -- the block of a name that is listed is free, and of that class
 listed_block : (c x : ℕ) (before : List Block) (b : Block) (after : List Block) → x ≡ b.name → count_named x (before ++ b ∷ after) ≤ 1 → 1 ≤ count_in_bin c x (before ++ b ∷ after)
-    → (is_free b ≡ true) × (c ≡ down b.size)
+    → (not b.used ≡ true) × (c ≡ down b.size)
 listed_block c x before b after e most l = grind (arith, hit_parts, hit_cases, listed_named, tally_append)
 
 -- a name in a bin is that of a free block of its class

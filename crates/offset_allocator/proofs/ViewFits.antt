@@ -1,6 +1,6 @@
 -- When a request is granted, and how well what it takes fits.
 use Rattle.offset_allocator.proofs.Common.{◌≡◌, ℕ, ◌*◌, ◌^◌, ◌<◌, ◌≤◌, true, not, ◌⊎◌, ◌↔◌, List, [], ◌∷◌, ◌++◌, refl, sym, ap, subst, inl, inr, arith, eq-eqb, le_trans, AllByRecursion, cases_lt}
-use Rattle.offset_allocator.proofs.Common.{true≢false, cond_both, value, up, down, largest, IsGoodRefusal, Block, View, is_free, times, count_in_bin, units, bin_at, free_sizes, IsWellFormed}
+use Rattle.offset_allocator.proofs.Common.{true≢false, cond_both, value, up, down, largest, IsGoodRefusal, Block, View, times, count_in_bin, units, bin_at, free_sizes, IsWellFormed}
 use Rattle.offset_allocator.proofs.{Taken.HasFit, Taken.fitting, Classes.serves, Classes.near_best, Classes.up_law, Classes.down_law}
 
 -- b is in a list
@@ -8,19 +8,19 @@ abbrev pub HasName : Block → List Block → Type 0
 HasName b [] = ⊥
 HasName b (c ∷ bs) = (b ≡ c) ⊎ HasName b bs
 
-pub there_listed : (b : Block) (bs : List Block) → HasName b bs → is_free b ≡ true → 1 ≤ count_in_bin (down b.size) b.name bs
+pub there_listed : (b : Block) (bs : List Block) → HasName b bs → not b.used ≡ true → 1 ≤ count_in_bin (down b.size) b.name bs
 there_listed b [] i f = grind arith
 there_listed b (c ∷ bs) (inl e) f = grind (arith, eq-eqb)
 there_listed b (c ∷ bs) (inr i) f = grind (arith, there_listed b bs i f)
 
 -- what holds of each free block in a list holds of their sizes
-all_free : (P : ℕ → Type 0) (bs : List Block) → ((b : Block) → HasName b bs → is_free b ≡ true → P b.size) → AllByRecursion P (free_sizes bs)
+all_free : (P : ℕ → Type 0) (bs : List Block) → ((b : Block) → HasName b bs → not b.used ≡ true → P b.size) → AllByRecursion P (free_sizes bs)
 all_free P [] h = grind arith
 all_free P (b ∷ bs) h = grind (arith, cond_both, all_free P bs (λ c i. h c (inr i)), all_free P bs (λ c i. h c (inr i)))
 
-pub reported : (n : ℕ) (bs : List Block) → 1 ≤ n → n ≤ largest (free_sizes bs) → (b : Block) × (HasName b bs) × (is_free b ≡ true) × (n ≤ value (down b.size))
+pub reported : (n : ℕ) (bs : List Block) → 1 ≤ n → n ≤ largest (free_sizes bs) → (b : Block) × (HasName b bs) × (not b.used ≡ true) × (n ≤ value (down b.size))
 reported n [] l = λ h. absurd (omega arith)
-reported n (b ∷ bs) l = cond_both b.used (free_sizes bs) (b.size ∷ free_sizes bs) (λ ns. n ≤ largest ns → (c : Block) × (HasName c (b ∷ bs)) × (is_free c ≡ true)
+reported n (b ∷ bs) l = cond_both b.used (free_sizes bs) (b.size ∷ free_sizes bs) (λ ns. n ≤ largest ns → (c : Block) × (HasName c (b ∷ bs)) × (not c.used ≡ true)
     × (n ≤ value (down c.size)))
     (λ e h. let r = reported n bs l h in (r.0, inr r.1, r.2, r.3))
     (λ e h. elim (cases_lt (value (down b.size)) n) [
@@ -28,7 +28,7 @@ reported n (b ∷ bs) l = cond_both b.used (free_sizes bs) (b.size ∷ free_size
       | inr m ↦ (b, inl refl, ap not e, m)
     ])
 
-pub reports_all : (b : Block) (bs : List Block) → HasName b bs → is_free b ≡ true → value (down b.size) ≤ largest (free_sizes bs)
+pub reports_all : (b : Block) (bs : List Block) → HasName b bs → not b.used ≡ true → value (down b.size) ≤ largest (free_sizes bs)
 reports_all b [] i f = grind arith
 reports_all b (c ∷ bs) (inl e) f = grind (arith, cond_both, true≢false)
 reports_all b (c ∷ bs) (inr i) f = grind (arith, cond_both, reports_all b bs i f)
@@ -50,7 +50,7 @@ module _ (v : View) (w : IsWellFormed v) (n : ℕ) (small : n ≤ 4294967295) (s
   word : n < 2 ^ 32
   word = omega (arith, small)
 
-  there : (b : Block) → HasName b v.blocks → is_free b ≡ true → bin_at v.order (down b.size) ≡ [] → ⊥
+  there : (b : Block) → HasName b v.blocks → not b.used ≡ true → bin_at v.order (down b.size) ≡ [] → ⊥
   there b i f e = let l = there_listed b v.blocks i f in let o = w.orders (down b.size) b.name in let z = ap (times b.name) e in omega arith
 
   -- the block that is taken is of the smallest class from up n on that has one
