@@ -24,7 +24,7 @@ unfoldable pub use Rattle.offset_allocator.specs.Bins.{bins_in, names_from}
 pub use Rattle.offset_allocator.specs.Cells.{Node, Cells, Room, link_of, Links, blank, AreShaped, mark_of, AreEmpty, IsBare}
 unfoldable pub use Rattle.offset_allocator.specs.Cells.{node, put, with_spare, with_node}
 pub use Rattle.offset_allocator.specs.Chain.{HasPlace, last_or, IsChain, first_or, IsRow, IsSpace, coalesced_before, coalesced_after, IsFreeAfter}
-unfoldable pub use Rattle.offset_allocator.specs.Chain.{blocks, spares}
+unfoldable pub use Rattle.offset_allocator.specs.Chain.{blocks}
 pub use Rattle.offset_allocator.specs.Classes.{IsExponent}
 unfoldable pub use Rattle.offset_allocator.specs.Classes.{down, value, up}
 pub use Rattle.offset_allocator.specs.Compacting.{live, Compacts, moves, first_free, gathered, move_of, Move, KeepsSizes, IsCalledWith, AreSafe}

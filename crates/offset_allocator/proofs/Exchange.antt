@@ -1,13 +1,13 @@
 -- Blocks in the middle of a chain make room for others.
 use Rattle.offset_allocator.proofs.Common.{◌≡◌, ◌≢◌, ℕ, ◌+◌, ◌-◌, ◌<◌, ◌≤◌, ◌^◌, false, Option, None, Some, MatchOption, List, [], ◌∷◌, ◌++◌, length, get_or, take, set, refl, sym, ◌∙◌, ap, arith, inl}
-use Rattle.offset_allocator.proofs.Common.{inr, length-append, nat_eq, take_more, take_more_set, cases_eq, cases_lt, nat_tests, Room, Node, node, put, first_or, last_or, IsRow, IsChain, spares, Block}
+use Rattle.offset_allocator.proofs.Common.{inr, length-append, nat_eq, take_more, take_more_set, cases_eq, cases_lt, nat_tests, Room, Node, node, put, first_or, last_or, IsRow, IsChain, Block}
 use Rattle.offset_allocator.proofs.Common.{units, count_named, times, one, common_steps}
 use Rattle.offset_allocator.proofs.Nodes.{node-put, node-put_other, length-put, spare-put, reserved-put}
 use Rattle.offset_allocator.proofs.Tallies.{one-same, times-join, times-append, units-append}
 use Rattle.offset_allocator.proofs.Rows.{times-first, times-end, first_or-append, last_or-append, IsRow-front, IsRow-back, IsRow-append, IsRow-kept, IsRow-moved, IsRow-aimed}
 
 -- names
-pub each-le : (c : Room) (m last count : ℕ) (bs : List Block) → IsChain c m last count bs → (k : ℕ) → count_named k bs + times k (spares c count) ≤ 1
+pub each-le : (c : Room) (m last count : ℕ) (bs : List Block) → IsChain c m last count bs → (k : ℕ) → count_named k bs + times k (take count c.spare) ≤ 1
 each-le c m last count bs h k = grind (arith, h.each k)
 
 pub there-below : (c : Room) (m last count x : ℕ) (bs : List Block) → IsChain c m last count bs → 1 ≤ count_named x bs → x < length c.nodes
@@ -15,23 +15,22 @@ there-below c m last count x bs h st = let e = h.each x in grind (arith, nat_tes
 
 -- the name on top of the stack
 top_names : (c : Room) (count : ℕ) → 0 < count → count ≤ length c.spare → (k : ℕ)
-    → times k (spares c count) ≡ times k (spares c (count - 1)) + one (nat_eq k (get_or c.spare (count - 1) 0))
-unfolding spares
+    → times k (take count c.spare) ≡ times k (take (count - 1) c.spare) + one (nat_eq k (get_or c.spare (count - 1) 0))
 top_names c count some l k = grind (arith, common_steps, take_more, times-join)
 
 -- what is true of an unused name
-spare_new : (c : Room) (m last count : ℕ) (bs : List Block) → IsChain c m last count bs → (y : ℕ) → 1 ≤ times y (spares c count) → (count_named y bs ≡ 0) × (y < length c.nodes)
+spare_new : (c : Room) (m last count : ℕ) (bs : List Block) → IsChain c m last count bs → (y : ℕ) → 1 ≤ times y (take count c.spare) → (count_named y bs ≡ 0) × (y < length c.nodes)
 spare_new c m last count bs h y l = let e = h.each y in (omega (arith, each-le c m last count bs h y), grind (arith, nat_tests))
 
 pub record IsTop (c : Room) (count y : ℕ) (bs : List Block) : Type 0 where
   pub below : y < length c.nodes
   pub absent : count_named y bs ≡ 0
   pub idle : (node c y).used ≡ false
-  pub names : (k : ℕ) → times k (spares c count) ≡ times k (spares c (count - 1)) + one (nat_eq k y)
+  pub names : (k : ℕ) → times k (take count c.spare) ≡ times k (take (count - 1) c.spare) + one (nat_eq k y)
 
 pub top : {c : Room} {m last count : ℕ} {bs : List Block} (y : ℕ) → IsChain c m last count bs → 0 < count → y ≡ get_or c.spare (count - 1) 0 → IsTop c count y bs
 top {c} {m} {last} {count} {bs} y h some e =
-    let names : (k : ℕ) → times k (spares c count) ≡ times k (spares c (count - 1)) + one (nat_eq k y) = λ k. rw e (top_names c count some (omega (arith, h.stack)) k) in
+    let names : (k : ℕ) → times k (take count c.spare) ≡ times k (take (count - 1) c.spare) + one (nat_eq k y) = λ k. rw e (top_names c count some (omega (arith, h.stack)) k) in
     let new = spare_new c m last count bs h y (omega (arith, names y, one-same y)) in
     record { below = new.1; absent = new.0; idle = h.idle y new.0; names = names }
 
@@ -44,13 +43,11 @@ unused {c} {m} {last} {count} {bs} h room = elim (cases_lt (length c.nodes) m) [
       (get_or c.spare (count - 1) 0, omega (arith, t.below, h.within), t.absent)
 ]
 
-pub kept_names : (c e : Room) (count : ℕ) → e.spare ≡ c.spare → (k : ℕ) → times k (spares e count) ≡ times k (spares c count)
-unfolding spares
+pub kept_names : (c e : Room) (count : ℕ) → e.spare ≡ c.spare → (k : ℕ) → times k (take count e.spare) ≡ times k (take count c.spare)
 kept_names c e count same k = ap (λ s. times k (take count s)) same
 
 pub pushed_names : (c e : Room) (count y : ℕ) → count < length c.spare → e.spare ≡ set c.spare count y → (k : ℕ)
-    → times k (spares e (count + 1)) ≡ times k (spares c count) + one (nat_eq k y)
-unfolding spares
+    → times k (take (count + 1) e.spare) ≡ times k (take count c.spare) + one (nat_eq k y)
 pushed_names c e count y l same k = grind (arith, take_more_set, times-join)
 
 -- one write
@@ -110,11 +107,11 @@ pub record IsExchange (c w d e : Room) (count count' : ℕ) (fs old new cs : Lis
   pub same : e.nodes ≡ d.nodes
   pub memory : e.reserved ≡ c.reserved
   pub stack : length e.spare ≡ length c.spare
-  pub names : (k : ℕ) → count_named k new + times k (spares e count') ≡ count_named k old + times k (spares c count)
+  pub names : (k : ℕ) → count_named k new + times k (take count' e.spare) ≡ count_named k old + times k (take count c.spare)
   pub full : length new + count' ≡ length old + count
 
 module _ {c w d e : Room} {m last count count' : ℕ} {fs old new cs : List Block} (h : IsChain c m last count (fs ++ (old ++ cs))) (x : IsExchange c w d e count count' fs old new cs) where
-  seen : (k : ℕ) → (count_named k fs + (count_named k old + count_named k cs)) + times k (spares c count) ≤ 1
+  seen : (k : ℕ) → (count_named k fs + (count_named k old + count_named k cs)) + times k (take count c.spare) ≤ 1
   seen k = omega (arith, each-le c m last count _ h k, times-append k fs (old ++ cs), times-append k old cs)
 
   apart : (k : ℕ) → 1 ≤ count_named k fs + count_named k cs → (count_named k old ≡ 0) × (count_named k new ≡ 0) × (k < length w.nodes)

@@ -1,7 +1,7 @@
 -- A fresh space.
 use Rattle.offset_allocator.proofs.Common.{◌≡◌, ℕ, zero, suc, ◌+◌, ◌/◌, ◌%◌, ◌<◌, ◌≤◌, ◌^◌, false, None, List, [], ◌∷◌, length, get_or, replicate, refl, sym, ◌∙◌, ap, ap₂, subst, arith, slice_index}
 use Rattle.offset_allocator.proofs.Common.{length-replicate, get_or-replicate, bit_at-zero, cases_eq, nat_tests, down, Cells, Links, Room, Node, blank, node, put, AreEmpty, IsBare, AreShaped, Block}
-use Rattle.offset_allocator.proofs.Common.{View, IsWellFormed, free_block, push, bin_at, IsChain, IsSpace, blocks, spares, HasBins, AreMasks, IsBinned, bins_in, Among, IsUnlisted, IsSound, view_of}
+use Rattle.offset_allocator.proofs.Common.{View, IsWellFormed, free_block, push, bin_at, IsChain, IsSpace, blocks, HasBins, AreMasks, IsBinned, bins_in, Among, IsUnlisted, IsSound, view_of}
 use Rattle.offset_allocator.proofs.{Nodes.node-put, Nodes.node-put_other, Nodes.length-put, Nodes.spare-put, Nodes.reserved-put, Binned.binned, ViewTaken.well_alone, Tallies.one-eq, Tallies.one-other}
 use Rattle.offset_allocator.proofs.Tallies.{free_units, free_sum}
 
@@ -26,7 +26,6 @@ module _ {m : ℕ} {t : Room} (e : IsBare m t) where
       go (suc x) = refl
 
   pub start-chain : (size : ℕ) → 0 < m → size < 2 ^ 32 → (d : Room) → d ≡ put t 0 (whole_node size) → IsChain d m 0 0 (free_block 0 size ∷ [])
-  unfolding spares
   start-chain size some small d q = grind (arith, bare_length, length-put, spare-put, reserved-put, node-put, cases_eq, nat_tests, one-eq, one-other, node-put_other, bare_idle)
 
 -- no bin has a name

@@ -1,6 +1,6 @@
 -- Nodes that are made before names are taken.
 use Rattle.offset_allocator.proofs.Common.{◌≡◌, ◌<◌, ◌≤◌, ◌+◌, ℕ, zero, suc, List, [], ◌∷◌, ◌++◌, None, refl, ap, ◌∙◌, arith, length, length-append, length-set, get_or, take, set, cases_eq, nat_tests}
-use Rattle.offset_allocator.proofs.Common.{take_more_set, Cells, Room, Node, blank, node, with_node, AreShaped, Block, times, IsChain, spares, blocks, common_steps}
+use Rattle.offset_allocator.proofs.Common.{take_more_set, Cells, Room, Node, blank, node, with_node, AreShaped, Block, times, IsChain, blocks, common_steps}
 use Rattle.offset_allocator.proofs.Tallies.{one-eq, one-other, times-join}
 use Rattle.offset_allocator.proofs.{Rows.IsRow-kept, Sound.Fields, Sound.AreSound, Sound.shown, Uses.binned_more, Views.blocks-chain, Views.space-chain}
 use Rattle.offset_allocator.specs.Readies.{Readies}
@@ -35,8 +35,7 @@ take_left [] v (suc i) h = absurd (omega (arith, h))
 take_left (x ∷ l) v (suc i) h = ap (λ (k : List ℕ). x ∷ k) (take_left l v i (omega (arith, h)))
 
 -- the names on the stack then
-names-with_node : (c : Room) (i k : ℕ) → i ≤ length c.spare → times k (spares (with_node c i) (i + 1)) ≡ times k (spares c i) + times k (length c.nodes ∷ [])
-unfolding spares
+names-with_node : (c : Room) (i k : ℕ) → i ≤ length c.spare → times k (take (i + 1) (with_node c i).spare) ≡ times k (take i c.spare) + times k (length c.nodes ∷ [])
 names-with_node c i k h =
     let l : List ℕ = c.spare ++ length c.nodes ∷ [] in
     ap (λ s. times k (take (i + 1) s)) (spare-with_node c i) ∙ ap (times k) (take_more_set l i (length c.nodes) (omega (arith, h, length-append c.spare (length c.nodes ∷ []))))

@@ -31,10 +31,6 @@ blocks_back c (suc f) (Some k) rest = blocks_back c f (node c k).before (record 
 unfoldable pub blocks : Room → ℕ → List Block
 blocks c last = blocks_back c (length c.nodes) (Some last) []
 
--- the unused names
-unfoldable pub spares : Room → ℕ → List ℕ
-spares c count = take count c.spare
-
 -- the tables, with memory for m nodes, hold the blocks bs, which end in last, and have `count` unused names
 pub record IsChain (c : Room) (m last count : ℕ) (bs : List Block) : Type 0 where
   pub memory : c.reserved ≡ m
@@ -42,7 +38,8 @@ pub record IsChain (c : Room) (m last count : ℕ) (bs : List Block) : Type 0 wh
   pub stack : length c.spare ≡ length c.nodes
   pub row : IsRow c None 0 bs None
   pub ends : last_or None bs ≡ Some last
-  pub each : (k : ℕ) → count_named k bs + times k (spares c count) ≡ (if nat_lt k (length c.nodes) then 1 else 0)
+  -- each node is that of one block, or its name is once among the first `count` of the stack: those are unused
+  pub each : (k : ℕ) → count_named k bs + times k (take count c.spare) ≡ (if nat_lt k (length c.nodes) then 1 else 0)
   pub idle : (k : ℕ) → count_named k bs ≡ 0 → (node c k).used ≡ false
   pub full : length bs + count ≡ length c.nodes
   pub fits : units bs < 2 ^ 32
