@@ -4,7 +4,8 @@ use Rattle.offset_allocator.proofs.Common.{length-set, length-map, get_or-set_sa
 use Rattle.offset_allocator.proofs.Common.{remove, IsLinked, Among, first_of, names_from, HasBins, AreMasks, IsUnlisted, IsBinned, bins_in, common_steps}
 use Rattle.offset_allocator.proofs.{ViewOrders.names_same, ViewOrders.names_other, ViewOrders.times_without_le, ViewOrders.unlisted_removed, Walks.name_below, Walks.older_below, Walks.chain_fits}
 use Rattle.offset_allocator.proofs.{Walks.walk_is, Walks.IsLater, Walks.found, Walks.kept, Walks.led, Walks.not_first, Walks.first_same, Walks.newer_kept, Walks.next_among, Walks.older_kept}
-use Rattle.offset_allocator.proofs.{Walks.unlinked, Walks.without_first, Walks.without_later, Masks.flag, Masks.masked_same, Masks.flag_cons, Masks.flag_full, Tallies.hit_cases, Tallies.one-same, Tallies.times-join}
+use Rattle.offset_allocator.proofs.{Walks.unlinked, Walks.without_first, Walks.without_later, Masks.flag, Masks.masked_same, Masks.flag_cons, Masks.flag_full, Tallies.hit_cases, Tallies.one-same}
+use Rattle.offset_allocator.proofs.{Tallies.times-join}
 use Rattle.offset_allocator.proofs.Tallies.{without}
 
 module _ {none : ℕ} {t : Links} {ls : List (List ℕ)} (k : HasBins none t ls) where
@@ -208,7 +209,8 @@ exchanged {none} {t} {ls} k c ch t' x after l fresh full next newer older heads 
 
 pub exchange_masked : {ls : List (List ℕ)} {masks : List ℕ} {top : ℕ} → AreMasks ls masks top → length ls ≡ 256 → (c x y : ℕ) → c < 256 → bin_at ls c ≢ []
     → AreMasks (push c x (remove c y ls)) masks top
-exchange_masked {ls} m n c x y ch full = rw (set-set ls c (without y (bin_at ls c)) (x ∷ bin_at (remove c y ls) c)) (masked_same m n c ch _ (flag_cons x (bin_at (remove c y ls) c) ∙ sym (flag_full _ full)))
+exchange_masked {ls} m n c x y ch full =
+    rw (set-set ls c (without y (bin_at ls c)) (x ∷ bin_at (remove c y ls) c)) (masked_same m n c ch _ (flag_cons x (bin_at (remove c y ls) c) ∙ sym (flag_full _ full)))
 
 pub binned : {none : ℕ} {t : Links} {top : ℕ} {ls : List (List ℕ)} → HasBins none t ls → AreMasks ls t.masks top → IsBinned none t top × (bins_in none t ≡ ls)
 binned {none} {t} {top} {ls} k m = let e = shown k in (record { linked = subst (HasBins none t) (sym e) k; masked = subst (λ l. AreMasks l t.masks top) (sym e) m }, e)

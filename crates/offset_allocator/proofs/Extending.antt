@@ -137,7 +137,10 @@ module _ {it : Fields} {more : ℕ} (r : Growth it more true) where
       let whole : n ≡ (end r).last.size = e ∙ size_at_end r in
       let none : (end r).last.size - (end r).last.size ≡ 0 = omega arith in
       let sum : 0 + more ≡ more = omega arith in
-      let unused : IsNew y (shown it) = record { below = omega (arith, below, r.sound.space.within, r.sound.memory); absent = counted_none y (shown it).blocks (ap (count_named y) (end r).is ∙ new) } in
+      let unused : IsNew y (shown it) = record {
+        below = omega (arith, below, r.sound.space.within, r.sound.memory);
+        absent = counted_none y (shown it).blocks (ap (count_named y) (end r).is ∙ new);
+      } in
       grown r d k y ((end r).front ++ (end r).last ∷ []) [] ((end r).is ∙ sym (append-nil _)) (ends_free_last (end r).front (end r).last ∙ ap not (b_used r)) tt tt
       (inr unused) (inr room) (λ _. unused)
       (rw (whole, none) at chain) bins (rw sum eo)

@@ -55,7 +55,8 @@ module _ {f : Fields} {needed class x : ℕ} (call : Call f needed class x) wher
   removed = remove_free p.block ls got.free ∙ ap₂ (λ i y. remove i y ls) got.class got.name
 
   had_free : f.free ≡ free_units p.before + (p.block.size + free_units p.after)
-  had_free = sym call.sound.total ∙ free_sum (shown f).blocks ∙ ap free_units got.stood ∙ free_units-append p.before (p.block ∷ p.after) ∙ ap (λ k. free_units p.before + k) (free_units-free p.block p.after got.free)
+  had_free = sym call.sound.total ∙ free_sum (shown f).blocks ∙ ap free_units got.stood
+      ∙ free_units-append p.before (p.block ∷ p.after) ∙ ap (λ k. free_units p.before + k) (free_units-free p.block p.after got.free)
 
   -- a request for n units, with padding
   module _ (n : ℕ) (padding_at : ℕ → ℕ) (within : (o : ℕ) → padding_at o + n ≤ needed) where

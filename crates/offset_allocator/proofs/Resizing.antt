@@ -8,7 +8,8 @@ use Rattle.offset_allocator.proofs.Freeing.{Release, at, used, w, remove_used, u
 use Rattle.offset_allocator.proofs.ViewApart.{ends_free, apart_parts, apart_append, apart_without_start, apart_free_part, start_parts}
 use Rattle.offset_allocator.proofs.{Exchange.each-le, Exchange.there-below, Granting.part_names, Joints.stepped, Joints.free_part_units, Joints.free_units-append, Joints.free_units-used}
 use Rattle.offset_allocator.proofs.{Places.at_place, Places.next_place, Ranges.resizes_units, Ranges.resizes_others, Reading.size_is, Reading.size_at, Released.idle_start}
-use Rattle.offset_allocator.proofs.{Sound.Fields, Sound.AreSound, Sound.shown, Sound.well_same, Tallies.tally_three, Tallies.part_sums, Tallies.counted_none, Tallies.new_absent, Tallies.hit_cases, Tallies.one-same, ViewReplaced.well_replaced}
+use Rattle.offset_allocator.proofs.{Sound.Fields, Sound.AreSound, Sound.shown, Sound.well_same, Tallies.tally_three, Tallies.part_sums, Tallies.counted_none, Tallies.new_absent, Tallies.hit_cases}
+use Rattle.offset_allocator.proofs.{Tallies.one-same, ViewReplaced.well_replaced}
 use Rattle.offset_allocator.proofs.Tallies.{free_units, free_sum}
 
 -- the name of a free part, where it has units

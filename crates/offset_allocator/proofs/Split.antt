@@ -1,7 +1,10 @@
 -- What a split leaves is well formed.
-use Rattle.offset_allocator.proofs.Common.{◌≡◌, ℕ, zero, suc, ◌+◌, ◌<◌, ◌≤◌, Bool, true, false, not, if◌then◌else◌, ◌⊎◌, List, [], ◌∷◌, ◌++◌, length, nat_eq, sym, ap, ap₂, subst, ◌∙◌, arith, length-append, append_assoc, Block}
-use Rattle.offset_allocator.proofs.Common.{View, Grant, one, used_block, count_named, used_of, IsApart, IsWellFormed, IsNew, free_part, replace, push_all, remove, down, SameSpace, Splits, common_steps}
-use Rattle.offset_allocator.proofs.{Sound.well_same, ViewReplaced.well_replaced, ViewApart.apart_granted, Tallies.tally_three, Tallies.part_sums, Tallies.tally_append, Tallies.hit_cases, Tallies.units-append, Tallies.new_absent}
+use Rattle.offset_allocator.proofs.Common.{◌≡◌, ℕ, zero, suc, ◌+◌, ◌<◌, ◌≤◌, Bool, true, false, not, if◌then◌else◌, ◌⊎◌, List, [], ◌∷◌, ◌++◌, length, nat_eq, sym, ap, ap₂, subst, ◌∙◌, arith}
+use Rattle.offset_allocator.proofs.Common.{length-append, append_assoc, Block}
+use Rattle.offset_allocator.proofs.Common.{View, Grant, one, used_block, count_named, used_of, IsApart, IsWellFormed, IsNew, free_part, replace, push_all, remove, down, SameSpace, Splits}
+use Rattle.offset_allocator.proofs.Common.{common_steps}
+use Rattle.offset_allocator.proofs.{Sound.well_same, ViewReplaced.well_replaced, ViewApart.apart_granted, Tallies.tally_three, Tallies.part_sums, Tallies.tally_append, Tallies.hit_cases}
+use Rattle.offset_allocator.proofs.{Tallies.units-append, Tallies.new_absent}
 
 -- the room that padding asks for, beside that for a remainder
 pub part_room : (y n k : ℕ) → 1 ≤ k → (1 ≤ n → 2 ≤ k) → length (free_part y n) + 1 ≤ k

@@ -1,5 +1,6 @@
 -- The block that a request takes, and when there is one.
-use Rattle.offset_allocator.proofs.Common.{not, ◌≡◌, ◌≢◌, ℕ, ◌≤◌, Bool, true, false, ◌&&◌, List, [], ◌∷◌, ◌++◌, Option, Some, None, nat_eq, refl, sym, ap, arith, not-true, up, down, Block, View, Place}
+use Rattle.offset_allocator.proofs.Common.{not, ◌≡◌, ◌≢◌, ℕ, ◌≤◌, Bool, true, false, ◌&&◌, List, [], ◌∷◌, ◌++◌, Option, Some, None, nat_eq, refl, sym, ap, arith, not-true, up, down, Block, View}
+use Rattle.offset_allocator.proofs.Common.{Place}
 use Rattle.offset_allocator.proofs.Common.{one, times, count_named, count_in_bin, bin_at, place_of, IsWellFormed}
 use Rattle.offset_allocator.proofs.{ViewSteps.place_at, ViewSteps.no_place, Tallies.listed_named, Tallies.tally_append, Tallies.hit_cases, Tallies.one-same}
 

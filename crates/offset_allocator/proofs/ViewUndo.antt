@@ -4,7 +4,8 @@ use Rattle.offset_allocator.proofs.Common.{set-get_or, AllByRecursion, down, Blo
 use Rattle.offset_allocator.proofs.Common.{push_all, remove_all, replace, free_start, without_start, free_end, without_end, free_part, IsWellFormed, place_of, SameSpace, Splits, Frees, Allocates}
 use Rattle.offset_allocator.proofs.ViewApart.{ends_free, apart_parts, left_false, right_false, no_end, no_start}
 use Rattle.offset_allocator.proofs.{Served.split_as, Served.well_served, Walks.without_first, Ranges.beside, Released.idle_parts, Released.end_is, Released.start_is, Classes.down_small}
-use Rattle.offset_allocator.proofs.{ViewOrders.names_same, ViewOrders.length_remove, ViewOrders.times_remove, ViewSteps.place_here, Tallies.listed_named, Tallies.part_sums, Tallies.new_absent, Tallies.one-same}
+use Rattle.offset_allocator.proofs.{ViewOrders.names_same, ViewOrders.length_remove, ViewOrders.times_remove, ViewSteps.place_here, Tallies.listed_named, Tallies.part_sums, Tallies.new_absent}
+use Rattle.offset_allocator.proofs.{Tallies.one-same}
 
 set_again : (order : List (List ℕ)) (c : ℕ) (l m : List ℕ) → slice_set (slice_set order c l) c m ≡ slice_set order c m
 set_again [] c l m = refl

@@ -25,7 +25,8 @@ IsRow c p o (b ∷ bs) q =
 abbrev pub blocks_back : Room → ℕ → Option ℕ → List Block → List Block
 blocks_back c zero q rest = rest
 blocks_back c (suc f) None rest = rest
-blocks_back c (suc f) (Some k) rest = blocks_back c f (node c k).before (record { name = k; size = (node c k).size; used = (node c k).used } ∷ rest)
+blocks_back c (suc f) (Some k) rest =
+    blocks_back c f (node c k).before (record { name = k; size = (node c k).size; used = (node c k).used } ∷ rest)
 
 -- the blocks of the space, in order: back from the last one
 unfoldable pub blocks : Room → ℕ → List Block

@@ -48,7 +48,8 @@ gathered x (n ∷ ns) = free_block x (n + sum ns) ∷ []
 
 -- a step of a closure is a call with this move
 abbrev pub IsCalledWith : {A N M F : Type 0} → (N → ℕ) → (F → Moved A N M → F → Type 0) → F → Move → F → Type 0
-IsCalledWith {A} {N} {M} number step f x g = (m : Moved A N M) × (x ≡ record { name = number m.name; from = m.from; to = m.to; size = m.size }) × step f m g
+IsCalledWith {A} {N} {M} number step f x g = (m : Moved A N M)
+    × (x ≡ record { name = number m.name; from = m.from; to = m.to; size = m.size }) × step f m g
 
 -- the used blocks are packed at the front, and the free units are one block at the end, alone in its bin
 pub record Compacts (v w : View) : Type 0 where

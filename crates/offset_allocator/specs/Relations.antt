@@ -44,19 +44,24 @@ pub record Splits (needed n : ℕ) (padding_at : ℕ → ℕ) (v w : View) (g : 
   pub grant : g ≡ record { name = block.name; offset = units before + padding }
   -- the block leaves its bin, the parts take its place, and the free ones become the newest of their bins
   pub parts : List Block
-  pub made : parts ≡ free_part padding_name padding ++ record block { size = n; used = true } ∷ free_part remainder_name remainder
-  pub view : SameSpace (record v { blocks = before ++ (parts ++ after); order = push_all parts (remove (down block.size) block.name v.order) }) w
+  pub made : parts ≡ free_part padding_name padding
+      ++ record block { size = n; used = true } ∷ free_part remainder_name remainder
+  pub view : SameSpace (record v {
+    blocks = before ++ (parts ++ after);
+    order = push_all parts (remove (down block.size) block.name v.order);
+  }) w
 
 -- a request for n units: it is refused exactly when it cannot be granted, and then nothing changes
 abbrev pub Allocates : ℕ → View → View → Option Grant → Type 0
 Allocates n v w None = (CanGrant 1 n v → ⊥) × SameSpace v w
 Allocates n v w (Some g) = HasRoomFor 1 v × Splits n n (λ offset. 0) v w g
 
--- a request for n units from a multiple of align on, likewise: it may add more blocks, and takes a block of a class large
--- enough for the units needed
+-- a request for n units from a multiple of align on, likewise: it may add more blocks, and takes a block of a class
+-- large enough for the units needed
 abbrev pub Aligns : ℕ → ℕ → View → View → Option Grant → Type 0
 Aligns n align v w None = (CanGrant (blocks_needed align) (units_needed n align) v → ⊥) × SameSpace v w
-Aligns n align v w (Some g) = HasRoomFor (blocks_needed align) v × Splits (units_needed n align) n (padding_to align) v w g
+Aligns n align v w (Some g) = HasRoomFor (blocks_needed align) v
+    × Splits (units_needed n align) n (padding_to align) v w g
 
 -- the used block named x becomes free and coalesces with its free neighbours, left and right: the block keeps the name
 -- x and is the newest of its bin

@@ -1,5 +1,6 @@
 //! Slides every live range to the front of the space, so that all free units are one block at its end.
-ghost use Rattle.std.specs.Prelude.{ℕ, ◌≡◌, ◌≢◌, ◌+◌, ◌*◌, ◌<◌, ◌≤◌, [], ◌∷◌, ◌++◌, Some, false, Bool, List, length, sum};
+ghost use Rattle.std.specs.Prelude.{ℕ, ◌≡◌, ◌≢◌, ◌+◌, ◌*◌, ◌<◌, ◌≤◌, [], ◌∷◌, ◌++◌, Some, false, Bool, List, length};
+ghost use Rattle.std.specs.Prelude.{sum};
 ghost use Rattle.std.specs.List.{FoldsTo};
 ghost use Rattle.offset_allocator.specs.Accesses.{Costs};
 ghost use Rattle.offset_allocator.specs.Cells.{node};

@@ -1,4 +1,5 @@
-use Rattle.offset_allocator.proofs.{Common.arith, Served.one_aligns, Served.plain_serves, Served.reported_room, Served.same, Served.granted, Served.can_grant, Served.grants, Served.nearly, Served.refused}
+use Rattle.offset_allocator.proofs.{Common.arith, Served.one_aligns, Served.plain_serves, Served.reported_room, Served.same, Served.granted, Served.can_grant, Served.grants, Served.nearly}
+use Rattle.offset_allocator.proofs.{Served.refused}
 use Rattle.offset_allocator.proofs.AllocatorOf.allocate.Goals as goal
 
 pub returns-clause-step : goal.returns-clause-step

@@ -37,7 +37,8 @@ returns-else-newest-MAX g c =
     (rw (e, kept, h))
     (rw e))
     (rw e (masked_same c.requires.held.masked k.lists_len c.args.class c.requires.classed _
-    (flag_cons c.args.name (bin_at (bins_in g.T.Index.NodeIndex.MAX (g.T.Tables.cells c.args.store.now.tables).links) c.args.class) ∙ sym (flag_full _ (λ z. let q = h ∙ k.heads c.args.class c.requires.classed ∙ ap (first_of g.T.Index.NodeIndex.MAX) z in absurd (omega arith)))))) (
+    (flag_cons c.args.name (bin_at (bins_in g.T.Index.NodeIndex.MAX (g.T.Tables.cells c.args.store.now.tables).links) c.args.class)
+    ∙ sym (flag_full _ (λ z. let q = h ∙ k.heads c.args.class c.requires.classed ∙ ap (first_of g.T.Index.NodeIndex.MAX) z in absurd (omega arith)))))) (
       rw e,
       refl,
       refl,
