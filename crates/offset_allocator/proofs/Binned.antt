@@ -1,14 +1,14 @@
 -- The bins after a change of one of them.
 use Rattle.offset_allocator.proofs.Common.{◌≡◌, ◌≢◌, ◌<◌, ◌≤◌, ◌+◌, ◌⊎◌, ℕ, List, [], ◌∷◌, ◌++◌, map, refl, sym, ap, subst, ◌∙◌, inl, inr, arith, length, drop, slice_index, slice_set, cases_eq}
-use Rattle.offset_allocator.proofs.Common.{length-set, length-map, get_or-set_same, get_or-set_other, get_or-map, ext_get_or, set-get_or, set-set, set_comm, Links, bin_at, times, push}
-use Rattle.offset_allocator.proofs.Common.{remove, IsLinked, Among, first_of, names_from, HasBins, AreMasks, IsUnlisted, IsBinned, bins_in, common_steps}
+use Rattle.offset_allocator.proofs.Common.{length-set, length-map, get_or-set_same, get_or-set_other, get_or-map, ext_get_or, set-get_or, set-set, set_comm, BinCells, bin_at, times, push}
+use Rattle.offset_allocator.proofs.Common.{remove, IsLinked, IsAmong, first_of, names_from, HasBins, AreMasks, IsUnlisted, IsBinned, bins_in, common_steps}
 use Rattle.offset_allocator.proofs.{ViewOrders.names_same, ViewOrders.names_other, ViewOrders.times_without_le, ViewOrders.unlisted_removed, Walks.name_below, Walks.older_below, Walks.chain_fits}
 use Rattle.offset_allocator.proofs.{Walks.walk_is, Walks.IsLater, Walks.found, Walks.kept, Walks.led, Walks.not_first, Walks.first_same, Walks.newer_kept, Walks.next_among, Walks.older_kept}
 use Rattle.offset_allocator.proofs.{Walks.unlinked, Walks.without_first, Walks.without_later, Masks.flag, Masks.masked_same, Masks.flag_cons, Masks.flag_full, Tallies.hit_cases, Tallies.one-same}
 use Rattle.offset_allocator.proofs.{Tallies.times-join}
 use Rattle.offset_allocator.proofs.Tallies.{without}
 
-module _ {none : ℕ} {t : Links} {ls : List (List ℕ)} (k : HasBins none t ls) where
+module _ {none : ℕ} {t : BinCells} {ls : List (List ℕ)} (k : HasBins none t ls) where
   pub single : (c : ℕ) → c < 256 → (x : ℕ) → times x (bin_at ls c) ≤ 1
   single c h x = elim (cases_eq c 0) [ inl e ↦ omega (arith, k.once c 1 x h (omega arith) (omega arith)) | inr n ↦ omega (arith, k.once c 0 x h (omega arith) n) ]
 
@@ -26,7 +26,7 @@ module _ {none : ℕ} {t : Links} {ls : List (List ℕ)} (k : HasBins none t ls)
       ∙ walk_is none t k.names_small (length t.older) none (bin_at ls c) (omega (arith, k.older_len, fits c ch)) (k.chains c ch))
 
   -- class c has the names ys: only links of names that it has or had are written
-  relisted : (c : ℕ) → c < 256 → (t' : Links) (ys : List ℕ) → length t'.newer ≡ length t.newer → length t'.older ≡ length t.older
+  relisted : (c : ℕ) → c < 256 → (t' : BinCells) (ys : List ℕ) → length t'.newer ≡ length t.newer → length t'.older ≡ length t.older
       → t'.heads ≡ slice_set t.heads c (first_of none ys) → IsLinked none t' none ys
       → ((y : ℕ) → y < length t.newer → times y ys ≡ 0 → times y (bin_at ls c) ≡ 0 → (slice_index t'.newer y ≡ slice_index t.newer y)
       × (slice_index t'.older y ≡ slice_index t.older y))
@@ -59,7 +59,7 @@ module _ {none : ℕ} {t : Links} {ls : List (List ℕ)} (k : HasBins none t ls)
         cons [] f e = absurd (f refl)
         cons (x ∷ xs) f e = ap (λ i. i ∷ xs) (sym e)
 
-    pub head_among : slice_index t.heads c ≢ none → Among (slice_index t.heads c) (bin_at ls c)
+    pub head_among : slice_index t.heads c ≢ none → IsAmong (slice_index t.heads c) (bin_at ls c)
     head_among n = grind (arith, head, one-same)
 
     pub head_below : slice_index t.heads c ≢ none → slice_index t.heads c < length t.newer
@@ -77,32 +77,32 @@ module _ {none : ℕ} {t : Links} {ls : List (List ℕ)} (k : HasBins none t ls)
     none_left [] b d e = refl
     none_left (x ∷ xs) b d e = absurd (omega (arith, d.0, k.names_small))
 
-    pub is_first : (x : ℕ) → Among x (bin_at ls c) → slice_index t.newer x ≡ none → (bin_at ls c ≢ []) × (slice_index t.heads c ≡ x)
+    pub is_first : (x : ℕ) → IsAmong x (bin_at ls c) → slice_index t.newer x ≡ none → (bin_at ls c ≢ []) × (slice_index t.heads c ≡ x)
     is_first x a e = elim (found none t k.names_small none x (bin_at ls c) (k.chains c ch) a) [
       | inl f ↦ (λ n. let q = ap (times x) n in omega arith, k.heads c ch ∙ ap (first_of none) f.1)
       | inr f ↦ absurd (let l = name_below none t k.names_small none (bin_at ls c) (k.chains c ch) none
           (rw (f.is, e) (omega (arith, times-join none f.front (none ∷ x ∷ f.rest), one-same none))) in omega (arith, k.names_small))
     ]
 
-    pub below : (x : ℕ) → Among x (bin_at ls c) → x < length t.newer
+    pub below : (x : ℕ) → IsAmong x (bin_at ls c) → x < length t.newer
     below x a = name_below none t k.names_small none (bin_at ls c) (k.chains c ch) x a
 
-    pub older_in : (x : ℕ) → Among x (bin_at ls c) → slice_index t.older x ≢ none → slice_index t.older x < length t.newer
+    pub older_in : (x : ℕ) → IsAmong x (bin_at ls c) → slice_index t.older x ≢ none → slice_index t.older x < length t.newer
     older_in x a n = older_below none t k.names_small none (bin_at ls c) (k.chains c ch) x a n
 
-    pub older_among : (x : ℕ) → Among x (bin_at ls c) → slice_index t.older x ≢ none → Among (slice_index t.older x) (bin_at ls c)
+    pub older_among : (x : ℕ) → IsAmong x (bin_at ls c) → slice_index t.older x ≢ none → IsAmong (slice_index t.older x) (bin_at ls c)
     older_among x a n = next_among none t k.names_small none (bin_at ls c) (k.chains c ch) x a n
 
-    pub is_later : (x : ℕ) → Among x (bin_at ls c) → slice_index t.newer x ≢ none → IsLater none t k.names_small x (bin_at ls c)
+    pub is_later : (x : ℕ) → IsAmong x (bin_at ls c) → slice_index t.newer x ≢ none → IsLater none t k.names_small x (bin_at ls c)
     is_later x a n = elim (found none t k.names_small none x (bin_at ls c) (k.chains c ch) a) [ inl f ↦ absurd (n f.0) | inr f ↦ f ]
 
-    pub newer_in : (x : ℕ) → Among x (bin_at ls c) → slice_index t.newer x ≢ none → slice_index t.newer x < length t.newer
+    pub newer_in : (x : ℕ) → IsAmong x (bin_at ls c) → slice_index t.newer x ≢ none → slice_index t.newer x < length t.newer
     newer_in x a n =
         let f = is_later x a n in
         let w : ℕ = slice_index t.newer x in
         below w (omega (arith, ap (times w) f.is, times-join w f.front (w ∷ x ∷ f.rest), one-same w))
 
-    pub later_masked : (x : ℕ) {masks : List ℕ} {top : ℕ} → Among x (bin_at ls c) → slice_index t.newer x ≢ none → AreMasks ls masks top
+    pub later_masked : (x : ℕ) {masks : List ℕ} {top : ℕ} → IsAmong x (bin_at ls c) → slice_index t.newer x ≢ none → AreMasks ls masks top
         → AreMasks (slice_set ls c (without x (bin_at ls c))) masks top
     later_masked x a n m =
         let f = is_later x a n in
@@ -114,7 +114,7 @@ module _ {none : ℕ} {t : Links} {ls : List (List ℕ)} (k : HasBins none t ls)
         mid (y ∷ fs) w cs = omega arith
 
     -- ---- changes
-    module _ (t' : Links) where
+    module _ (t' : BinCells) where
       -- x becomes the first name of the class
       pub pushed : (x : ℕ) → x < length t.newer → IsUnlisted x ls → t'.newer ≡ slice_set (slice_set t.newer x none) (slice_index t.heads c) x
           → t'.older ≡ slice_set t.older x (slice_index t.heads c) → t'.heads ≡ slice_set t.heads c x → HasBins none t' (slice_set ls c (x ∷ bin_at ls c))
@@ -126,7 +126,7 @@ module _ {none : ℕ} {t : Links} {ls : List (List ℕ)} (k : HasBins none t ls)
           λ y n m. rw newer (get_or-set_other (slice_set t.newer x none) h y x 0 m ∙ get_or-set_other t.newer x y none 0 n) in
           let older_kept : (y : ℕ) → y ≢ x → slice_index t'.older y ≡ slice_index t.older y = λ y n. rw older (get_or-set_other t.older x y h 0 n) in
           let head = k.heads c ch in
-          let apart : (y : ℕ) → Among y (bin_at ls c) → y ≢ x = λ y a e. let q = ap (λ i. times i (bin_at ls c)) e in omega arith in
+          let apart : (y : ℕ) → IsAmong y (bin_at ls c) → y ≢ x = λ y a e. let q = ap (λ i. times i (bin_at ls c)) e in omega arith in
           let not_head : (y : ℕ) → y < length t.newer → times y (bin_at ls c) ≡ 0 → y ≢ h = λ y b z e. not_first y (bin_at ls c) (omega arith) z (e ∙ head) in
           relisted c ch t' (x ∷ bin_at ls c) long (rw older (length-set t.older x h)) heads (
             omega arith,
@@ -192,7 +192,7 @@ module _ {none : ℕ} {t : Links} {ls : List (List ℕ)} (k : HasBins none t ls)
           rest_first (y ∷ l) b d = rest_first l y d.3
 
 -- x takes the place of the first name: the links are those of a removal and a push
-pub exchanged : {none : ℕ} {t : Links} {ls : List (List ℕ)} (k : HasBins none t ls) (c : ℕ) → c < 256 → (t' : Links) (x after : ℕ) → x < length t.newer → IsUnlisted x ls
+pub exchanged : {none : ℕ} {t : BinCells} {ls : List (List ℕ)} (k : HasBins none t ls) (c : ℕ) → c < 256 → (t' : BinCells) (x after : ℕ) → x < length t.newer → IsUnlisted x ls
     → bin_at ls c ≢ [] → after ≡ slice_index t.older (slice_index t.heads c)
     → t'.newer ≡ slice_set (slice_set t.newer x none) after x → t'.older ≡ slice_set t.older x after → t'.heads ≡ slice_set t.heads c x
     → HasBins none t' (push c x (remove c (slice_index t.heads c) ls))
@@ -200,7 +200,7 @@ exchanged {none} {t} {ls} k c ch t' x after l fresh full next newer older heads 
     let h = head k c ch full in
     let absent : times x (drop 1 (bin_at ls c)) ≡ 0 = omega (arith, fresh c ch, ap (times x) h.0) in
     let apart : after ≢ x = λ e. not_first x (drop 1 (bin_at ls c)) (omega arith) absent (sym e ∙ next ∙ h.1.2) in
-    let left : Links = record t { newer = slice_set t.newer after none; heads = slice_set t.heads c after } in
+    let left : BinCells = record t { newer = slice_set t.newer after none; heads = slice_set t.heads c after } in
     let rest : HasBins none left (remove c (slice_index t.heads c) ls) = rw (without_head k c ch full) (without_newest k c ch left after full next refl refl refl) in
     let first : slice_index left.heads c ≡ after = get_or-set_same t.heads c after 0 (omega arith) in
     pushed rest c ch t' x (omega (arith, length-set t.newer after none)) (unlisted_removed x (slice_index t.heads c) c ls k.lists_len ch fresh)
@@ -212,10 +212,10 @@ pub exchange_masked : {ls : List (List ℕ)} {masks : List ℕ} {top : ℕ} → 
 exchange_masked {ls} m n c x y ch full =
     rw (set-set ls c (without y (bin_at ls c)) (x ∷ bin_at (remove c y ls) c)) (masked_same m n c ch _ (flag_cons x (bin_at (remove c y ls) c) ∙ sym (flag_full _ full)))
 
-pub binned : {none : ℕ} {t : Links} {top : ℕ} {ls : List (List ℕ)} → HasBins none t ls → AreMasks ls t.masks top → IsBinned none t top × (bins_in none t ≡ ls)
+pub binned : {none : ℕ} {t : BinCells} {top : ℕ} {ls : List (List ℕ)} → HasBins none t ls → AreMasks ls t.masks top → IsBinned none t top × (bins_in none t ≡ ls)
 binned {none} {t} {top} {ls} k m = let e = shown k in (record { linked = subst (HasBins none t) (sym e) k; masked = subst (λ l. AreMasks l t.masks top) (sym e) m }, e)
 
 -- the clauses of a change of the bins
-pub changed : {none : ℕ} {t : Links} {top : ℕ} {ls : List (List ℕ)} {R C : Type 0} → HasBins none t ls → AreMasks ls t.masks top → R → C
-    → record { held : IsBinned none t top; lists : bins_in none t ≡ ls; chain : R; accesses : C }
-changed k m chain accesses = let b = binned k m in record { held = b.0; lists = b.1; chain = chain; accesses = accesses }
+pub changed : {none : ℕ} {t : BinCells} {top : ℕ} {ls : List (List ℕ)} {R C : Type 0} → HasBins none t ls → AreMasks ls t.masks top → R → C
+    → record { binned : IsBinned none t top; lists : bins_in none t ≡ ls; chain : R; accesses : C }
+changed k m chain accesses = let b = binned k m in record { binned = b.0; lists = b.1; chain = chain; accesses = accesses }

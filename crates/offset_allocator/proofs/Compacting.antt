@@ -1,6 +1,7 @@
 -- What it leaves of the whole allocator to slide the live ranges to the front.
 use Rattle.offset_allocator.proofs.Common.{◌≡◌, ℕ, suc, ◌+◌, ◌≤◌, Bool, true, false, not, ◌&&◌, Some, None, List, [], ◌∷◌, ◌++◌, length, replicate, sum, if◌then◌else◌, nat_eq, refl, sym, ap, ap₂}
-use Rattle.offset_allocator.proofs.Common.{subst, ◌∙◌, arith, append-nil, length-append, eq-zero-or-pos, AllByRecursion, nat_tests, length-replicate, ext_get_or, down, Cells, Room, Block, View, Place}
+use Rattle.offset_allocator.proofs.Common.{subst, ◌∙◌, arith, append-nil, length-append, eq-zero-or-pos, AllByRecursion, nat_tests, length-replicate, ext_get_or, down, Cells, ChainCells, Block}
+use Rattle.offset_allocator.proofs.Common.{View, Place}
 use Rattle.offset_allocator.proofs.Common.{one, free_block, units, free_sizes, used_of, count_named, count_in_bin, bin_at, push, push_all, IsApart, IsWellFormed, starts_free, live, moves}
 use Rattle.offset_allocator.proofs.Common.{move_of, first_free, gathered, Compacts, SameSpace, HasPlace, blocks, IsBinned, bins_in, AreInBins, common_steps}
 use Rattle.offset_allocator.proofs.Sliding.{first_used, first_idle, live_used, live_idle, moves_used, moves_idle}
@@ -135,16 +136,16 @@ module _ (f : Fields) (s : AreSound f) where
   v = shown f
 
   abbrev ls : List (List ℕ)
-  ls = bins_in f.max f.cells.links
+  ls = bins_in f.max f.cells.bins
 
   w : IsWellFormed v
   w = well_counted (shown (record f { accesses = 0 })) f.accesses s.well
 
-  module _ {x : ℕ} (o : IsFirst (blocks f.cells.room f.last) x) where
+  module _ {x : ℕ} (o : IsFirst (blocks f.cells.chain f.last) x) where
     abbrev p : Place
     p = o.place
 
-    pub first_held : {d : Room} → d ≡ f.cells.room → HasPlace d f.cells.room.reserved f.last f.count x o.place
+    pub first_held : {d : ChainCells} → d ≡ f.cells.chain → HasPlace d f.cells.chain.reserved f.last f.count x o.place
     first_held e = rw e (placed (rw o.is at s.space) o.name)
 
     abbrev packed_blocks : List Block
@@ -155,7 +156,7 @@ module _ (f : Fields) (s : AreSound f) where
 
     -- what is left
     module _ (d : Cells) (last count hole size : ℕ)
-        (there : HasPlace d.room f.cells.room.reserved last count hole (record { before = o.place.before ++ live o.place.after; block = free_block hole size; after = [] })) where
+        (there : HasPlace d.chain f.cells.chain.reserved last count hole (record { before = o.place.before ++ live o.place.after; block = free_block hole size; after = [] })) where
       module _ (sized : size ≡ o.place.block.size + sum (free_sizes o.place.after)) where
         abbrev left_view : View
         left_view = record v { blocks = packed_blocks ++ free_block hole size ∷ []; order = push (down size) hole (replicate 256 []) }
@@ -166,7 +167,7 @@ module _ (f : Fields) (s : AreSound f) where
         left_well : IsWellFormed left_view
         left_well = record {
           some = omega (arith, length-append packed_blocks (free_block hole size ∷ []));
-          distinct = λ y. omega (arith, each-le d.room _ last count _ there.chain y);
+          distinct = λ y. omega (arith, each-le d.chain _ last count _ there.chain y);
           below = grind (arith, common_steps, eq-zero-or-pos, there-below);
           whole = let hole_size : size ≡ o.place.block.size + free_units o.place.after = omega (arith, sized, free_sum o.place.after) in grind (arith, common_steps, units-append, live_units);
           fits = w.fits;
@@ -191,14 +192,14 @@ module _ (f : Fields) (s : AreSound f) where
               below = omega (arith, there.below, there.chain.within, s.memory);
               absent = ap (count_named hole) o.live ∙ omega (
                 arith,
-                each-le d.room _ last count _ there.chain hole,
+                each-le d.chain _ last count _ there.chain hole,
                 tally_append (λ (b : Block). one (nat_eq hole b.name)) packed_blocks (free_block hole size ∷ []),
                 one-same hole,
               );
               view = same ∙ ap₂ (λ (bs g : List Block). record v { blocks = bs ++ g; order = push_all g (replicate 256 []); accesses = u.accesses }) (sym o.live) (sym gathers);
             }
 
-        pub packs : {top accesses : ℕ} → IsBinned f.max d.links top → bins_in f.max d.links ≡ push (down size) hole (replicate 256 [])
+        pub packs : {top accesses : ℕ} → IsBinned f.max d.bins top → bins_in f.max d.bins ≡ push (down size) hole (replicate 256 [])
             → AreSound (record f { cells = d; last = last; count = count; top = top; accesses = accesses })
             × Compacts (shown f) (shown (record f { cells = d; last = last; count = count; top = top; accesses = accesses }))
         packs {top} {accesses} bins lists =
@@ -206,7 +207,7 @@ module _ (f : Fields) (s : AreSound f) where
             (omega (
               arith,
               s.total,
-              free_sum (blocks f.cells.room f.last),
+              free_sum (blocks f.cells.chain f.last),
               free_sum p.after,
               ap free_units o.is,
               free_units-append p.before (p.block ∷ p.after),
@@ -220,7 +221,7 @@ module _ (f : Fields) (s : AreSound f) where
             (done.0, compacted _ done.1)
 
   -- a space with none
-  pub stays_packed : (accesses : ℕ) → first_free (blocks f.cells.room f.last) ≡ None → Compacts (shown f) (shown (record f { accesses = accesses }))
+  pub stays_packed : (accesses : ℕ) → first_free (blocks f.cells.chain f.last) ≡ None → Compacts (shown f) (shown (record f { accesses = accesses }))
   stays_packed accesses e =
       let r = packed v.blocks e in
       let t = unused s.space (omega (arith, w.room, s.memory)) in

@@ -48,50 +48,50 @@ module _ {A B : Type 0} (max : ℕ) (number : A → ℕ) (t : Inside A B) {c : C
   -- the cells with other entries
   abbrev seen : List (Entry A) → Cells
   seen ns = record (cells_by_node max number t) {
-    room = record (cells_by_node max number t).room { nodes = nodes_of max number ns };
-    links = record (cells_by_node max number t).links { newer = map (λ n. number n.newer) ns; older = map (λ n. number n.older) ns };
+    chain = record (cells_by_node max number t).chain { nodes = nodes_of max number ns };
+    bins = record (cells_by_node max number t).bins { newer = map (λ n. number n.newer) ns; older = map (λ n. number n.older) ns };
   }
 
   -- a name below the number of nodes is below the table's length
-  pub within : (x : ℕ) → x < length c.room.nodes → x < length ns
-  within x l = omega (arith, l, ap (λ (v : Cells). length v.room.nodes) e, length-nodes_of max number ns)
+  pub within : (x : ℕ) → x < length c.chain.nodes → x < length ns
+  within x l = omega (arith, l, ap (λ (v : Cells). length v.chain.nodes) e, length-nodes_of max number ns)
 
-  pub within-links : (x : ℕ) → x < length c.links.newer → x < length ns
-  within-links x l = omega (arith, l, ap (λ (v : Cells). length v.links.newer) e, length-map ns (λ (k : Entry A). number k.newer))
+  pub within-links : (x : ℕ) → x < length c.bins.newer → x < length ns
+  within-links x l = omega (arith, l, ap (λ (v : Cells). length v.bins.newer) e, length-map ns (λ (k : Entry A). number k.newer))
 
-  pub within-older : (x : ℕ) → x < length c.links.older → x < length ns
-  within-older x l = omega (arith, l, ap (λ (v : Cells). length v.links.older) e, length-map ns (λ (k : Entry A). number k.older))
+  pub within-older : (x : ℕ) → x < length c.bins.older → x < length ns
+  within-older x l = omega (arith, l, ap (λ (v : Cells). length v.bins.older) e, length-map ns (λ (k : Entry A). number k.older))
 
   -- the same as bounds of a read or a write
-  pub bound : (x : ℕ) → x < length c.room.nodes → x < vec_len t.nodes
+  pub bound : (x : ℕ) → x < length c.chain.nodes → x < vec_len t.nodes
   bound x l = omega (arith, within x l, t.nodes.ok.0)
 
-  pub bound-links : (x : ℕ) → x < length c.links.newer → x < vec_len t.nodes
+  pub bound-links : (x : ℕ) → x < length c.bins.newer → x < vec_len t.nodes
   bound-links x l = omega (arith, within-links x l, t.nodes.ok.0)
 
-  pub bound-older : (x : ℕ) → x < length c.links.older → x < vec_len t.nodes
+  pub bound-older : (x : ℕ) → x < length c.bins.older → x < vec_len t.nodes
   bound-older x l = omega (arith, within-older x l, t.nodes.ok.0)
 
-  pub bound-spare : (x : ℕ) → x < length c.room.spare → x < vec_len t.spare
-  bound-spare x l = omega (arith, l, ap (λ (v : Cells). length v.room.spare) e, length-map t.spare.items number, t.spare.ok.0)
+  pub bound-spare : (x : ℕ) → x < length c.chain.spare → x < vec_len t.spare
+  bound-spare x l = omega (arith, l, ap (λ (v : Cells). length v.chain.spare) e, length-map t.spare.items number, t.spare.ok.0)
 
   -- one more node has room
-  pub room_left : length c.room.nodes < c.room.reserved → vec_len t.nodes < vec_capacity t.nodes
-  room_left l = omega (arith, l, ap (λ (v : Cells). length v.room.nodes) e, ap (λ (v : Cells). v.room.reserved) e, length-nodes_of max number ns, t.nodes.ok.0)
+  pub room_left : length c.chain.nodes < c.chain.reserved → vec_len t.nodes < vec_capacity t.nodes
+  room_left l = omega (arith, l, ap (λ (v : Cells). length v.chain.nodes) e, ap (λ (v : Cells). v.chain.reserved) e, length-nodes_of max number ns, t.nodes.ok.0)
 
-  pub spare_left : AreEven max t → length c.room.nodes < c.room.reserved → vec_len t.spare < vec_capacity t.spare
+  pub spare_left : AreEven max t → length c.chain.nodes < c.chain.reserved → vec_len t.spare < vec_capacity t.spare
   spare_left h l = omega (arith, room_left l, h.spare, h.memory, t.nodes.ok.0, t.spare.ok.0)
 
-  pub read : (x : ℕ) (n : Entry A) → x < length c.room.nodes → n ≡ get_or ns x n → node c.room x ≡ node_of max number n
+  pub read : (x : ℕ) (n : Entry A) → x < length c.chain.nodes → n ≡ get_or ns x n → node c.chain x ≡ node_of max number n
   unfolding node
   read x n l at = rw (← e) (entry_at max number ns x n (within x l) at)
 
   -- an entry written in what the chain of blocks sees: f is the change of the node
-  pub wrote-room : (x : ℕ) (n m : Entry A) (f : Node → Node) → x < length c.room.nodes → n ≡ get_or ns x n → node_of max number m ≡ f (node_of max number n)
+  pub wrote-chain : (x : ℕ) (n m : Entry A) (f : Node → Node) → x < length c.chain.nodes → n ≡ get_or ns x n → node_of max number m ≡ f (node_of max number n)
       → number m.newer ≡ number n.newer → number m.older ≡ number n.older
-      → seen (set ns x m) ≡ record c { room = put c.room x (f (node c.room x)) }
+      → seen (set ns x m) ≡ record c { chain = put c.chain x (f (node c.chain x)) }
   unfolding node put
-  wrote-room x n m f l at q newer older =
+  wrote-chain x n m f l at q newer older =
       let was = entry_at max number ns x n (within x l) at in
       let nodes = entry_set max number ns x m ∙ ap (set (nodes_of max number ns) x) (q ∙ ap f (sym was)) in
       let same_newer = map-set_same (λ (k : Entry A). number k.newer) ns x m n (newer ∙ ap (λ (k : Entry A). number k.newer) at) in
@@ -99,10 +99,10 @@ module _ {A B : Type 0} (max : ℕ) (number : A → ℕ) (t : Inside A B) {c : C
       rw (← e) (rw (nodes, same_newer, same_older) refl)
 
   -- the use of a node written
-  pub wrote-used : (x : ℕ) (n : Entry A) (link : A) (used : Bool) → 1 ≤ max → x < length c.room.nodes → n ≡ get_or ns x n → number link ≡ mark_of max used
+  pub wrote-used : (x : ℕ) (n : Entry A) (link : A) (used : Bool) → 1 ≤ max → x < length c.chain.nodes → n ≡ get_or ns x n → number link ≡ mark_of max used
       → seen (set ns x (record n { newer = link })) ≡ record c {
-        room = put c.room x (record (node c.room x) { used = used });
-        links = record c.links { newer = set c.links.newer x (mark_of max used) };
+        chain = put c.chain x (record (node c.chain x) { used = used });
+        bins = record c.bins { newer = set c.bins.newer x (mark_of max used) };
       }
   unfolding node put
   wrote-used x n link used some l at q =
@@ -121,21 +121,21 @@ module _ {A B : Type 0} (max : ℕ) (number : A → ℕ) (t : Inside A B) {c : C
       entry_set max number ns x m ∙ ap (set (nodes_of max number ns) x) (q ∙ sym was) ∙ set-get_or (nodes_of max number ns) x blank
 
   -- a link that is no mark, of a node that is not used
-  idle_still : (x : ℕ) (n : Entry A) (link : A) → x < length ns → n ≡ get_or ns x n → (node c.room x).used ≡ false → number link ≢ max - 1
+  idle_still : (x : ℕ) (n : Entry A) (link : A) → x < length ns → n ≡ get_or ns x n → (node c.chain x).used ≡ false → number link ≢ max - 1
       → eqb (number link) (max - 1) ≡ eqb (number n.newer) (max - 1)
   unfolding node
-  idle_still x n link l at idle ne = ne_eqb _ _ ne ∙ sym (ap (λ (v : Node). v.used) (sym (entry_at max number ns x n l at) ∙ ap (λ (v : Cells). get_or v.room.nodes x blank) e) ∙ idle)
+  idle_still x n link l at idle ne = ne_eqb _ _ ne ∙ sym (ap (λ (v : Node). v.used) (sym (entry_at max number ns x n l at) ∙ ap (λ (v : Cells). get_or v.chain.nodes x blank) e) ∙ idle)
 
-  pub wrote-newer : (x : ℕ) (n : Entry A) (link : A) → x < length c.links.newer → n ≡ get_or ns x n → (node c.room x).used ≡ false → number link ≢ max - 1
-      → seen (set ns x (record n { newer = link })) ≡ record c { links = record c.links { newer = set c.links.newer x (number link) } }
+  pub wrote-newer : (x : ℕ) (n : Entry A) (link : A) → x < length c.bins.newer → n ≡ get_or ns x n → (node c.chain x).used ≡ false → number link ≢ max - 1
+      → seen (set ns x (record n { newer = link })) ≡ record c { bins = record c.bins { newer = set c.bins.newer x (number link) } }
   wrote-newer x n link l at idle ne = grind (arith, common_steps, within-links, kept, idle_still, map-set, map-set_same)
 
-  pub wrote-older : (x : ℕ) (n : Entry A) (link : A) → x < length c.links.older → n ≡ get_or ns x n
-      → seen (set ns x (record n { older = link })) ≡ record c { links = record c.links { older = set c.links.older x (number link) } }
+  pub wrote-older : (x : ℕ) (n : Entry A) (link : A) → x < length c.bins.older → n ≡ get_or ns x n
+      → seen (set ns x (record n { older = link })) ≡ record c { bins = record c.bins { older = set c.bins.older x (number link) } }
   wrote-older x n link l at = grind (arith, common_steps, within-older, kept, map-set_same, map-set)
 
-  pub wrote-links : (x : ℕ) (n : Entry A) (newer older : A) → x < length c.links.newer → n ≡ get_or ns x n → (node c.room x).used ≡ false → number newer ≢ max - 1
-      → seen (set ns x (record n { newer = newer; older = older })) ≡ record c { links = record c.links { newer = set c.links.newer x (number newer); older = set c.links.older x (number older) } }
+  pub wrote-links : (x : ℕ) (n : Entry A) (newer older : A) → x < length c.bins.newer → n ≡ get_or ns x n → (node c.chain x).used ≡ false → number newer ≢ max - 1
+      → seen (set ns x (record n { newer = newer; older = older })) ≡ record c { bins = record c.bins { newer = set c.bins.newer x (number newer); older = set c.bins.older x (number older) } }
   wrote-links x n newer older l at idle ne = grind (arith, common_steps, within-links, kept, idle_still, map-set)
 
 pub shaped : {A B : Type 0} (max : ℕ) (number : A → ℕ) (t : Inside A B) → AreEven max t → max ≤ 4294967295 → AreShaped max (cells_by_node max number t)

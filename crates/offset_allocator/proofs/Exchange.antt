@@ -1,41 +1,41 @@
 -- Blocks in the middle of a chain make room for others.
 use Rattle.offset_allocator.proofs.Common.{◌≡◌, ◌≢◌, ℕ, ◌+◌, ◌-◌, ◌<◌, ◌≤◌, ◌^◌, false, Option, None, Some, MatchOption, List, [], ◌∷◌, ◌++◌, length, get_or, take, set, refl, sym, ◌∙◌, ap, arith, inl}
-use Rattle.offset_allocator.proofs.Common.{inr, length-append, nat_eq, take_more, take_more_set, cases_eq, cases_lt, nat_tests, Room, Node, node, put, first_or, last_or, IsRow, IsChain, Block}
+use Rattle.offset_allocator.proofs.Common.{inr, length-append, nat_eq, take_more, take_more_set, cases_eq, cases_lt, nat_tests, ChainCells, Node, node, put, first_or, last_or, IsRow, IsChain, Block}
 use Rattle.offset_allocator.proofs.Common.{units, count_named, times, one, common_steps}
 use Rattle.offset_allocator.proofs.Nodes.{node-put, node-put_other, length-put, spare-put, reserved-put}
 use Rattle.offset_allocator.proofs.Tallies.{one-same, times-join, times-append, units-append}
 use Rattle.offset_allocator.proofs.Rows.{times-first, times-end, first_or-append, last_or-append, IsRow-front, IsRow-back, IsRow-append, IsRow-kept, IsRow-moved, IsRow-aimed}
 
 -- names
-pub each-le : (c : Room) (m last count : ℕ) (bs : List Block) → IsChain c m last count bs → (k : ℕ) → count_named k bs + times k (take count c.spare) ≤ 1
+pub each-le : (c : ChainCells) (m last count : ℕ) (bs : List Block) → IsChain c m last count bs → (k : ℕ) → count_named k bs + times k (take count c.spare) ≤ 1
 each-le c m last count bs h k = grind (arith, h.each k)
 
-pub there-below : (c : Room) (m last count x : ℕ) (bs : List Block) → IsChain c m last count bs → 1 ≤ count_named x bs → x < length c.nodes
+pub there-below : (c : ChainCells) (m last count x : ℕ) (bs : List Block) → IsChain c m last count bs → 1 ≤ count_named x bs → x < length c.nodes
 there-below c m last count x bs h st = let e = h.each x in grind (arith, nat_tests)
 
 -- the name on top of the stack
-top_names : (c : Room) (count : ℕ) → 0 < count → count ≤ length c.spare → (k : ℕ)
+top_names : (c : ChainCells) (count : ℕ) → 0 < count → count ≤ length c.spare → (k : ℕ)
     → times k (take count c.spare) ≡ times k (take (count - 1) c.spare) + one (nat_eq k (get_or c.spare (count - 1) 0))
 top_names c count some l k = grind (arith, common_steps, take_more, times-join)
 
 -- what is true of an unused name
-spare_new : (c : Room) (m last count : ℕ) (bs : List Block) → IsChain c m last count bs → (y : ℕ) → 1 ≤ times y (take count c.spare) → (count_named y bs ≡ 0) × (y < length c.nodes)
+spare_new : (c : ChainCells) (m last count : ℕ) (bs : List Block) → IsChain c m last count bs → (y : ℕ) → 1 ≤ times y (take count c.spare) → (count_named y bs ≡ 0) × (y < length c.nodes)
 spare_new c m last count bs h y l = let e = h.each y in (omega (arith, each-le c m last count bs h y), grind (arith, nat_tests))
 
-pub record IsTop (c : Room) (count y : ℕ) (bs : List Block) : Type 0 where
+pub record IsTop (c : ChainCells) (count y : ℕ) (bs : List Block) : Type 0 where
   pub below : y < length c.nodes
   pub absent : count_named y bs ≡ 0
   pub idle : (node c y).used ≡ false
   pub names : (k : ℕ) → times k (take count c.spare) ≡ times k (take (count - 1) c.spare) + one (nat_eq k y)
 
-pub top : {c : Room} {m last count : ℕ} {bs : List Block} (y : ℕ) → IsChain c m last count bs → 0 < count → y ≡ get_or c.spare (count - 1) 0 → IsTop c count y bs
+pub top : {c : ChainCells} {m last count : ℕ} {bs : List Block} (y : ℕ) → IsChain c m last count bs → 0 < count → y ≡ get_or c.spare (count - 1) 0 → IsTop c count y bs
 top {c} {m} {last} {count} {bs} y h some e =
     let names : (k : ℕ) → times k (take count c.spare) ≡ times k (take (count - 1) c.spare) + one (nat_eq k y) = λ k. rw e (top_names c count some (omega (arith, h.stack)) k) in
     let new = spare_new c m last count bs h y (omega (arith, names y, one-same y)) in
     record { below = new.1; absent = new.0; idle = h.idle y new.0; names = names }
 
 -- a name that no block has
-pub unused : {c : Room} {m last count : ℕ} {bs : List Block} → IsChain c m last count bs → length bs < m → (y : ℕ) × (y < m) × (count_named y bs ≡ 0)
+pub unused : {c : ChainCells} {m last count : ℕ} {bs : List Block} → IsChain c m last count bs → length bs < m → (y : ℕ) × (y < m) × (count_named y bs ≡ 0)
 unused {c} {m} {last} {count} {bs} h room = elim (cases_lt (length c.nodes) m) [
   | inl l ↦ (length c.nodes, l, grind (arith, nat_tests, h.each (length c.nodes)))
   | inr g ↦
@@ -43,22 +43,22 @@ unused {c} {m} {last} {count} {bs} h room = elim (cases_lt (length c.nodes) m) [
       (get_or c.spare (count - 1) 0, omega (arith, t.below, h.within), t.absent)
 ]
 
-pub kept_names : (c e : Room) (count : ℕ) → e.spare ≡ c.spare → (k : ℕ) → times k (take count e.spare) ≡ times k (take count c.spare)
+pub kept_names : (c e : ChainCells) (count : ℕ) → e.spare ≡ c.spare → (k : ℕ) → times k (take count e.spare) ≡ times k (take count c.spare)
 kept_names c e count same k = ap (λ s. times k (take count s)) same
 
-pub pushed_names : (c e : Room) (count y : ℕ) → count < length c.spare → e.spare ≡ set c.spare count y → (k : ℕ)
+pub pushed_names : (c e : ChainCells) (count y : ℕ) → count < length c.spare → e.spare ≡ set c.spare count y → (k : ℕ)
     → times k (take (count + 1) e.spare) ≡ times k (take count c.spare) + one (nat_eq k y)
 pushed_names c e count y l same k = grind (arith, take_more_set, times-join)
 
 -- one write
-pub record Wrote (c d : Room) (x : ℕ) (n : Node) : Type 0 where
+pub record Wrote (c d : ChainCells) (x : ℕ) (n : Node) : Type 0 where
   pub here : node d x ≡ n
   pub other : (k : ℕ) → k ≢ x → node d k ≡ node c k
   pub cells : length d.nodes ≡ length c.nodes
   pub spare : d.spare ≡ c.spare
   pub memory : d.reserved ≡ c.reserved
 
-pub wrote : {c d : Room} {x : ℕ} {n : Node} → d ≡ put c x n → x < length c.nodes → Wrote c d x n
+pub wrote : {c d : ChainCells} {x : ℕ} {n : Node} → d ≡ put c x n → x < length c.nodes → Wrote c d x n
 wrote {c} {d} {x} {n} e l = grind (arith, node-put, node-put_other, length-put, spare-put, reserved-put)
 
 -- a node with another link
@@ -69,10 +69,10 @@ abbrev pub on_to : ℕ → Node → Node
 on_to y n = record n { after = Some y }
 
 -- a write to the node that a link names, if it names one
-abbrev pub IsRelinked : Option ℕ → (Node → Node) → Room → Room → Type 0
+abbrev pub IsRelinked : Option ℕ → (Node → Node) → ChainCells → ChainCells → Type 0
 IsRelinked link f w d = MatchOption link (d ≡ w) (λ z. d ≡ put w z (f (node w z)))
 
-module _ (f : Node → Node) (w d : Room) where
+module _ (f : Node → Node) (w d : ChainCells) where
   relinked_at : (link : Option ℕ) (z : ℕ) → IsRelinked link f w d → link ≡ Some z → z < length w.nodes → node d z ≡ f (node w z)
   relinked_at None z e q l = cc
   relinked_at (Some z') z e q l = let same : z' ≡ z = cc in rw (← same, e) (node-put w z' _ (rw same l))
@@ -93,13 +93,13 @@ module _ (f : Node → Node) (w d : Room) where
   relinked_memory None e = rw e
   relinked_memory (Some z) e = rw e (reserved-put w z _)
 
-node_same : (c d : Room) (k : ℕ) → d.nodes ≡ c.nodes → node d k ≡ node c k
+node_same : (c d : ChainCells) (k : ℕ) → d.nodes ≡ c.nodes → node d k ≡ node c k
 unfolding node
 node_same c d k e = rw e
 
 -- Between fs and cs, new takes the place of old. In w the new nodes are written; in d a neighbour may be linked to them
 -- too; in e the stack is written.
-pub record IsExchange (c w d e : Room) (count count' : ℕ) (fs old new cs : List Block) : Type 0 where
+pub record IsExchange (c w d e : ChainCells) (count count' : ℕ) (fs old new cs : List Block) : Type 0 where
   pub row : IsRow w (last_or None fs) (units fs) new (first_or None cs)
   pub others : (k : ℕ) → count_named k old ≡ 0 → count_named k new ≡ 0 → node w k ≡ node c k
   pub gone : (k : ℕ) → 1 ≤ count_named k old → count_named k new ≡ 0 → (node w k).used ≡ false
@@ -110,7 +110,7 @@ pub record IsExchange (c w d e : Room) (count count' : ℕ) (fs old new cs : Lis
   pub names : (k : ℕ) → count_named k new + times k (take count' e.spare) ≡ count_named k old + times k (take count c.spare)
   pub full : length new + count' ≡ length old + count
 
-module _ {c w d e : Room} {m last count count' : ℕ} {fs old new cs : List Block} (h : IsChain c m last count (fs ++ (old ++ cs))) (x : IsExchange c w d e count count' fs old new cs) where
+module _ {c w d e : ChainCells} {m last count count' : ℕ} {fs old new cs : List Block} (h : IsChain c m last count (fs ++ (old ++ cs))) (x : IsExchange c w d e count count' fs old new cs) where
   seen : (k : ℕ) → (count_named k fs + (count_named k old + count_named k cs)) + times k (take count c.spare) ≤ 1
   seen k = omega (arith, each-le c m last count _ h k, times-append k fs (old ++ cs), times-append k old cs)
 

@@ -1,8 +1,8 @@
 -- What more units at the end leave of the whole allocator.
 use Rattle.offset_allocator.proofs.Common.{◌≡◌, ◌↔◌, ℕ, ◌+◌, ◌-◌, ◌<◌, ◌≤◌, ◌^◌, Bool, true, false, not, ◌⊎◌, List, [], ◌∷◌, ◌++◌, length, refl, sym, ap, subst, ◌∙◌, inl, inr, arith, slice_set}
-use Rattle.offset_allocator.proofs.Common.{append-nil, true≢false, false≢true, AllByRecursion, down, Cells, Room, Node, node, Block, View, count_named, bin_at, count_in_bin, IsApart}
+use Rattle.offset_allocator.proofs.Common.{append-nil, true≢false, false≢true, AllByRecursion, down, Cells, ChainCells, Node, node, Block, View, count_named, bin_at, count_in_bin, IsApart}
 use Rattle.offset_allocator.proofs.Common.{IsWellFormed, IsNew, free_block, units, replace, remove_all, push, remove, times, ends_used, HasRoomFor, KeepsAll, Adds, CanExtend, Extends}
-use Rattle.offset_allocator.proofs.Common.{IsChain, HasPlace, blocks, Among, IsUnlisted, bins_in, IsBinned, common_steps}
+use Rattle.offset_allocator.proofs.Common.{IsChain, HasPlace, blocks, IsAmong, IsUnlisted, bins_in, IsBinned, common_steps}
 use Rattle.offset_allocator.proofs.Tallies.{listed_named, tally_append, units-append, times-append, one-eq}
 use Rattle.offset_allocator.proofs.Joints.{stepped, free_most, unused_unlisted, remove_free, free_units-append, free_units-free}
 use Rattle.offset_allocator.proofs.{Sound.Fields, Sound.AreSound, Sound.shown, Sound.well_counted, Sound.well_same, Ends.Ended, Ends.ended, Places.at_place, Places.end_place, Filed.share}
@@ -28,16 +28,16 @@ idle_units (b ∷ bs) i = let ih = idle_units bs i.1 in free_units-free b bs i.0
 -- the end of the space
 module _ (it : Fields) (more : ℕ) (s : AreSound it) where
   abbrev old : List Block
-  old = blocks it.cells.room it.last
+  old = blocks it.cells.chain it.last
 
-  pub used_at_end : (node it.cells.room it.last).used ≡ ends_used (blocks it.cells.room it.last)
+  pub used_at_end : (node it.cells.chain it.last).used ≡ ends_used (blocks it.cells.chain it.last)
   used_at_end = let f = ended old it.last s.space.ends in ap (λ (n : Node). n.used) (at_place (end_place s.space)) ∙ sym (ap ends_used f.is ∙ ends_last f.front f.last)
 
   -- it can have more where its last block is free
-  pub can_widen : it.size + more ≤ 4294967295 → ends_used (blocks it.cells.room it.last) ≡ false → CanExtend more (shown it)
+  pub can_widen : it.size + more ≤ 4294967295 → ends_used (blocks it.cells.chain it.last) ≡ false → CanExtend more (shown it)
   can_widen fits e = let f = ended old it.last s.space.ends in (fits, inr (f.front, f.last, f.is, sym (ap ends_used f.is ∙ ends_last f.front f.last) ∙ e))
 
-  pub cannot_append : ends_used (blocks it.cells.room it.last) ≡ true → it.limit ≤ length (shown it).blocks + 1 → CanExtend more (shown it) → ⊥
+  pub cannot_append : ends_used (blocks it.cells.chain it.last) ≡ true → it.limit ≤ length (shown it).blocks + 1 → CanExtend more (shown it) → ⊥
   cannot_append e full c = grind (arith, true≢false, ends_last)
 
 -- a request that is done: sound fields, and whether the last block is used
@@ -45,7 +45,7 @@ pub record Growth (it : Fields) (more : ℕ) (used : Bool) : Type 0 where
   pub sound : AreSound it
   pub some : 0 < more
   pub fits : it.size + more ≤ 4294967295
-  pub ends : ends_used (blocks it.cells.room it.last) ≡ used
+  pub ends : ends_used (blocks it.cells.chain it.last) ≡ used
 
 module _ {it : Fields} {more : ℕ} {used : Bool} (r : Growth it more used) where
   s : AreSound it
@@ -55,17 +55,17 @@ module _ {it : Fields} {more : ℕ} {used : Bool} (r : Growth it more used) wher
   v = shown it
 
   abbrev bs : List Block
-  bs = blocks it.cells.room it.last
+  bs = blocks it.cells.chain it.last
 
   abbrev ls : List (List ℕ)
-  ls = bins_in it.max it.cells.links
+  ls = bins_in it.max it.cells.bins
 
   w : IsWellFormed v
   w = well_counted (shown (record it { accesses = 0 })) it.accesses s.well
 
   -- the last block
-  abbrev pub end : Ended it.last (blocks it.cells.room it.last)
-  end = ended (blocks it.cells.room it.last) it.last r.sound.space.ends
+  abbrev pub end : Ended it.last (blocks it.cells.chain it.last)
+  end = ended (blocks it.cells.chain it.last) it.last r.sound.space.ends
 
   abbrev fs : List Block
   fs = end.front
@@ -73,19 +73,19 @@ module _ {it : Fields} {more : ℕ} {used : Bool} (r : Growth it more used) wher
   abbrev b : Block
   b = end.last
 
-  pub end_held : {d : Room} → d ≡ it.cells.room → HasPlace d it.cells.room.reserved it.last it.count it.last (record { before = end.front; block = end.last; after = [] })
+  pub end_held : {d : ChainCells} → d ≡ it.cells.chain → HasPlace d it.cells.chain.reserved it.last it.count it.last (record { before = end.front; block = end.last; after = [] })
   end_held e = rw e (end_place r.sound.space)
 
-  size_at_end : (node it.cells.room it.last).size ≡ b.size
+  size_at_end : (node it.cells.chain it.last).size ≡ b.size
   size_at_end = ap (λ (n : Node). n.size) (at_place (end_held refl))
 
   pub b_used : end.last.used ≡ used
   b_used = sym (ends_last fs b) ∙ ap ends_used (sym end.is) ∙ r.ends
 
-  pub units_fit : units (blocks it.cells.room it.last) + more < 2 ^ 32
+  pub units_fit : units (blocks it.cells.chain it.last) + more < 2 ^ 32
   units_fit = omega (arith, s.well.whole, r.fits)
 
-  pub end_small : (node it.cells.room it.last).size + more < 2 ^ 32
+  pub end_small : (node it.cells.chain it.last).size + more < 2 ^ 32
   end_small = omega (arith, units_fit, ap units end.is, units-append fs (b ∷ []), size_at_end)
 
   pub free_fits : it.free + more < 2 ^ 32
@@ -100,8 +100,8 @@ module _ {it : Fields} {more : ℕ} {used : Bool} (r : Growth it more used) wher
   grown : (d : Cells) {last count top : ℕ} (k x : ℕ) (before old : List Block) → bs ≡ before ++ old → ends_free before ≡ false → AllByRecursion (λ b. b.used ≡ false) old
       → AllByRecursion (λ b. b.name ≡ x) old
       → (1 ≤ count_named x old) ⊎ IsNew x v → (1 ≤ length old) ⊎ (length bs + 1 < it.limit) → (old ≡ [] → IsNew x v)
-      → IsChain d.room it.cells.room.reserved last count (before ++ free_block x (units old + more) ∷ []) → IsBinned it.max d.links top
-      → bins_in it.max d.links ≡ push (down (units old + more)) x (remove_all old ls) → Grown d last count top k
+      → IsChain d.chain it.cells.chain.reserved last count (before ++ free_block x (units old + more) ∷ []) → IsBinned it.max d.bins top
+      → bins_in it.max d.bins ≡ push (down (units old + more)) x (remove_all old ls) → Grown d last count top k
   grown d {last} {count} {top} k x before old e closed idle named name spare new chain bins lists =
       let left_view : View = record (replace v before old (free_block x (units old + more) ∷ []) []) { size = v.size + more } in
       let well = well_added v w more x before old e closed name spare r.fits in
@@ -114,7 +114,7 @@ module _ {it : Fields} {more : ℕ} {used : Bool} (r : Growth it more used) wher
 
 -- after a used block
 module _ {it : Fields} {more : ℕ} (r : Growth it more true) where
-  pub split_fits : (y n : ℕ) → n ≡ (node it.cells.room it.last).size → units ((end r).front ++ record (end r).last { size = n } ∷ free_block y ((end r).last.size - n) ∷ []) + more < 2 ^ 32
+  pub split_fits : (y n : ℕ) → n ≡ (node it.cells.chain it.last).size → units ((end r).front ++ record (end r).last { size = n } ∷ free_block y ((end r).last.size - n) ∷ []) + more < 2 ^ 32
   split_fits y n e = omega (
     arith,
     e,
@@ -125,13 +125,13 @@ module _ {it : Fields} {more : ℕ} (r : Growth it more true) where
     units-append (end r).front (record (end r).last { size = n } ∷ free_block y ((end r).last.size - n) ∷ []),
   )
 
-  pub append_unlisted : (y : ℕ) → count_named y ((end r).front ++ (end r).last ∷ []) ≡ 0 → IsUnlisted y (bins_in it.max it.cells.links)
+  pub append_unlisted : (y : ℕ) → count_named y ((end r).front ++ (end r).last ∷ []) ≡ 0 → IsUnlisted y (bins_in it.max it.cells.bins)
   append_unlisted y e = unused_unlisted (shown it) (w r) y (ap (count_named y) (end r).is ∙ e)
 
-  pub appended : (d : Cells) (k : ℕ) {last count top y n : ℕ} → HasRoomFor 1 (shown it) → n ≡ (node it.cells.room it.last).size
-      → IsChain d.room it.cells.room.reserved last count (((end r).front ++ record (end r).last { size = n } ∷ []) ++ free_block y (((end r).last.size - n) + more) ∷ [])
-      → IsBinned it.max d.links top
-      → bins_in it.max d.links ≡ push (down more) y (bins_in it.max it.cells.links) → count_named y ((end r).front ++ (end r).last ∷ []) ≡ 0 → y < length it.cells.room.nodes
+  pub appended : (d : Cells) (k : ℕ) {last count top y n : ℕ} → HasRoomFor 1 (shown it) → n ≡ (node it.cells.chain it.last).size
+      → IsChain d.chain it.cells.chain.reserved last count (((end r).front ++ record (end r).last { size = n } ∷ []) ++ free_block y (((end r).last.size - n) + more) ∷ [])
+      → IsBinned it.max d.bins top
+      → bins_in it.max d.bins ≡ push (down more) y (bins_in it.max it.cells.bins) → count_named y ((end r).front ++ (end r).last ∷ []) ≡ 0 → y < length it.cells.chain.nodes
       → Grown r d last count top k
   appended d k {y = y} {n = n} room e chain bins eo new below =
       let whole : n ≡ (end r).last.size = e ∙ size_at_end r in
@@ -149,21 +149,21 @@ module _ {it : Fields} {more : ℕ} (r : Growth it more true) where
 module _ {it : Fields} {more : ℕ} (r : Growth it more false) where
   -- its name leaves its bin
   abbrev pub widen_left : List (List ℕ)
-  widen_left = slice_set (bins_in it.max it.cells.links) (down (node it.cells.room it.last).size) (without it.last (bin_at (bins_in it.max it.cells.links) (down (node it.cells.room it.last).size)))
+  widen_left = slice_set (bins_in it.max it.cells.bins) (down (node it.cells.chain it.last).size) (without it.last (bin_at (bins_in it.max it.cells.bins) (down (node it.cells.chain it.last).size)))
 
-  is_left : widen_left ≡ remove_all ((end r).last ∷ []) (bins_in it.max it.cells.links)
-  is_left = rw (size_at_end r) (sym (remove_free (end r).last (bins_in it.max it.cells.links) (b_used r) ∙ ap (λ i. remove (down (end r).last.size) i (bins_in it.max it.cells.links)) (end r).name))
+  is_left : widen_left ≡ remove_all ((end r).last ∷ []) (bins_in it.max it.cells.bins)
+  is_left = rw (size_at_end r) (sym (remove_free (end r).last (bins_in it.max it.cells.bins) (b_used r) ∙ ap (λ i. remove (down (end r).last.size) i (bins_in it.max it.cells.bins)) (end r).name))
 
-  pub widen_listed : Among it.last (bin_at (bins_in it.max it.cells.links) (down (node it.cells.room it.last).size))
+  pub widen_listed : IsAmong it.last (bin_at (bins_in it.max it.cells.bins) (down (node it.cells.chain it.last).size))
   widen_listed =
-      let k : ℕ = down (node it.cells.room it.last).size in
+      let k : ℕ = down (node it.cells.chain it.last).size in
       let there = counts_once (end_held r refl) (ap (λ (n : Node). n.used) (at_place (end_held r refl)) ∙ b_used r) in
       omega (arith, there, (w r).orders k it.last, ap (count_in_bin k it.last) (end r).is, tally_append (share k it.last) (end r).front ((end r).last ∷ []))
 
   pub widen_unlisted : IsUnlisted it.last widen_left
   widen_unlisted d dh a =
-      let l : List (List ℕ) = bins_in it.max it.cells.links in
-      let bs : List Block = blocks it.cells.room it.last in
+      let l : List (List ℕ) = bins_in it.max it.cells.bins in
+      let bs : List Block = blocks it.cells.chain it.last in
       let known = w r in
       let split : (k y : ℕ) → count_in_bin k y bs ≡ count_in_bin k y (end r).front + count_in_bin k y ((end r).last ∷ []) = λ k y. ap (count_in_bin k y) (end r).is
       ∙ tally_append (share k y) (end r).front ((end r).last ∷ []) in
@@ -179,11 +179,11 @@ module _ {it : Fields} {more : ℕ} (r : Growth it more false) where
       let there : 1 ≤ times it.last (bin_at (remove_all ((end r).last ∷ []) l) d) = rw is_left at a in
       omega (arith, there, left, known.orders d it.last, split d it.last, listed_named d it.last (end r).front, alone)
 
-  pub widened : (d : Cells) (k : ℕ) {count top : ℕ} → IsChain d.room it.cells.room.reserved it.last count ((end r).front ++ record (end r).last { size = (end r).last.size + more } ∷ [])
-      → IsBinned it.max d.links top
-      → bins_in it.max d.links ≡ push (down ((node it.cells.room it.last).size + more)) it.last widen_left → Grown r d it.last count top k
+  pub widened : (d : Cells) (k : ℕ) {count top : ℕ} → IsChain d.chain it.cells.chain.reserved it.last count ((end r).front ++ record (end r).last { size = (end r).last.size + more } ∷ [])
+      → IsBinned it.max d.bins top
+      → bins_in it.max d.bins ≡ push (down ((node it.cells.chain it.last).size + more)) it.last widen_left → Grown r d it.last count top k
   widened d k chain bins eo =
-      let size_is : (node it.cells.room it.last).size ≡ units ((end r).last ∷ []) = omega (arith, size_at_end r) in
+      let size_is : (node it.cells.chain it.last).size ≡ units ((end r).last ∷ []) = omega (arith, size_at_end r) in
       let sum : (end r).last.size + more ≡ units ((end r).last ∷ []) + more = omega arith in
       let named = (end r).name in
       let parts = apart_parts (end r).front ((end r).last ∷ []) (subst IsApart (end r).is (w r).apart) in

@@ -108,53 +108,53 @@ module _ {A B : Type 0} (max : ℕ) (number : A → ℕ) (t : Inside A B) {c : C
   -- the cells with other tables
   abbrev seen : FieldTables → List ℕ → Cells
   seen u older = record (cells_by_field max number t) {
-    room = record (cells_by_field max number t).room { nodes = nodes_in max u };
-    links = record (cells_by_field max number t).links { newer = u.newer; older = older };
+    chain = record (cells_by_field max number t).chain { nodes = nodes_in max u };
+    bins = record (cells_by_field max number t).bins { newer = u.newer; older = older };
   }
 
   -- a name below the number of nodes is below the tables' length
-  pub within : (x : ℕ) → x < length c.room.nodes → x < length t.offset.items
-  within x l = omega (arith, l, ap (λ (v : Cells). length v.room.nodes) e, length-nodes_in max fs)
+  pub within : (x : ℕ) → x < length c.chain.nodes → x < length t.offset.items
+  within x l = omega (arith, l, ap (λ (v : Cells). length v.chain.nodes) e, length-nodes_in max fs)
 
   -- the same as bounds of a read or a write of each table
-  pub bound-offset : (x : ℕ) → x < length c.room.nodes → x < vec_len t.offset
+  pub bound-offset : (x : ℕ) → x < length c.chain.nodes → x < vec_len t.offset
   bound-offset x l = omega (arith, within x l, t.offset.ok.0)
 
-  pub bound-size : AreLevel max t → (x : ℕ) → x < length c.room.nodes → x < vec_len t.size
+  pub bound-size : AreLevel max t → (x : ℕ) → x < length c.chain.nodes → x < vec_len t.size
   bound-size h x l = omega (arith, within x l, h.size, t.size.ok.0)
 
-  pub bound-before : AreLevel max t → (x : ℕ) → x < length c.room.nodes → x < vec_len t.before
+  pub bound-before : AreLevel max t → (x : ℕ) → x < length c.chain.nodes → x < vec_len t.before
   bound-before h x l = omega (arith, within x l, h.before, t.before.ok.0)
 
-  pub bound-after : AreLevel max t → (x : ℕ) → x < length c.room.nodes → x < vec_len t.after
+  pub bound-after : AreLevel max t → (x : ℕ) → x < length c.chain.nodes → x < vec_len t.after
   bound-after h x l = omega (arith, within x l, h.after, t.after.ok.0)
 
-  pub bound-used : AreLevel max t → (x : ℕ) → x < length c.room.nodes → x < vec_len t.newer
+  pub bound-used : AreLevel max t → (x : ℕ) → x < length c.chain.nodes → x < vec_len t.newer
   bound-used h x l = omega (arith, within x l, h.newer, t.newer.ok.0)
 
-  pub bound-newer : (x : ℕ) → x < length c.links.newer → x < vec_len t.newer
-  bound-newer x l = omega (arith, l, ap (λ (v : Cells). length v.links.newer) e, length-map t.newer.items number, t.newer.ok.0)
+  pub bound-newer : (x : ℕ) → x < length c.bins.newer → x < vec_len t.newer
+  bound-newer x l = omega (arith, l, ap (λ (v : Cells). length v.bins.newer) e, length-map t.newer.items number, t.newer.ok.0)
 
-  pub bound-older : (x : ℕ) → x < length c.links.older → x < vec_len t.older
-  bound-older x l = omega (arith, l, ap (λ (v : Cells). length v.links.older) e, length-map t.older.items number, t.older.ok.0)
+  pub bound-older : (x : ℕ) → x < length c.bins.older → x < vec_len t.older
+  bound-older x l = omega (arith, l, ap (λ (v : Cells). length v.bins.older) e, length-map t.older.items number, t.older.ok.0)
 
-  pub bound-spare : (x : ℕ) → x < length c.room.spare → x < vec_len t.spare
-  bound-spare x l = omega (arith, l, ap (λ (v : Cells). length v.room.spare) e, length-map t.spare.items number, t.spare.ok.0)
+  pub bound-spare : (x : ℕ) → x < length c.chain.spare → x < vec_len t.spare
+  bound-spare x l = omega (arith, l, ap (λ (v : Cells). length v.chain.spare) e, length-map t.spare.items number, t.spare.ok.0)
 
   -- one more node has room
-  pub room_left : length c.room.nodes < c.room.reserved → vec_len t.offset < vec_capacity t.offset
-  room_left l = omega (arith, l, ap (λ (v : Cells). length v.room.nodes) e, ap (λ (v : Cells). v.room.reserved) e, length-nodes_in max fs, t.offset.ok.0)
+  pub room_left : length c.chain.nodes < c.chain.reserved → vec_len t.offset < vec_capacity t.offset
+  room_left l = omega (arith, l, ap (λ (v : Cells). length v.chain.nodes) e, ap (λ (v : Cells). v.chain.reserved) e, length-nodes_in max fs, t.offset.ok.0)
 
-  pub read : (x : ℕ) → x < length c.room.nodes → node c.room x ≡ node_in max fs x
+  pub read : (x : ℕ) → x < length c.chain.nodes → node c.chain x ≡ node_in max fs x
   unfolding node
   read x l = rw (← e) (node_at max fs x (within x l))
 
   -- a node written in what the chain of blocks sees: f is its change
-  pub wrote-room : (u : FieldTables) (x : ℕ) (f : Node → Node) → x < length c.room.nodes → length u.offset ≡ length t.offset.items → u.newer ≡ map number t.newer.items
+  pub wrote-chain : (u : FieldTables) (x : ℕ) (f : Node → Node) → x < length c.chain.nodes → length u.offset ≡ length t.offset.items → u.newer ≡ map number t.newer.items
       → ((i : ℕ) → i ≢ x → node_in max u i ≡ node_in max fs i) → node_in max u x ≡ f (node_in max fs x)
-      → seen u (map number t.older.items) ≡ record c { room = put c.room x (f (node c.room x)) }
+      → seen u (map number t.older.items) ≡ record c { chain = put c.chain x (f (node c.chain x)) }
   unfolding node put
-  wrote-room u x f l len newer off is =
+  wrote-chain u x f l len newer off is =
       let nodes = nodes_set max fs u x len off ∙ ap (set (nodes_in max fs) x) (is ∙ ap f (sym (node_at max fs x (within x l)))) in
       rw (← e) (rw (nodes, newer) refl)
 
@@ -166,9 +166,9 @@ module _ {A B : Type 0} (max : ℕ) (number : A → ℕ) (t : Inside A B) {c : C
   at-newer x link short = ap (λ k. record (node_in max fs x) { used = eqb k (max - 1) }) (get_or-set_same fs.newer x link 0 short)
 
   -- the use of a node written
-  pub wrote-used : (x : ℕ) (used : Bool) → 1 ≤ max → x < length c.room.nodes → length fs.newer ≡ length fs.offset
+  pub wrote-used : (x : ℕ) (used : Bool) → 1 ≤ max → x < length c.chain.nodes → length fs.newer ≡ length fs.offset
       → seen (record fs { newer = set fs.newer x (mark_of max used) }) (map number t.older.items)
-      ≡ record c { room = put c.room x (record (node c.room x) { used = used }); links = record c.links { newer = set c.links.newer x (mark_of max used) } }
+      ≡ record c { chain = put c.chain x (record (node c.chain x) { used = used }); bins = record c.bins { newer = set c.bins.newer x (mark_of max used) } }
   unfolding node put
   wrote-used x used some l even =
       let short = within x l in
@@ -178,8 +178,8 @@ module _ {A B : Type 0} (max : ℕ) (number : A → ℕ) (t : Inside A B) {c : C
       rw (← e) (rw nodes refl)
 
   -- a link that is no mark, of a node that is not used: the chain of blocks does not see it
-  pub wrote-newer : (x link : ℕ) (older : List ℕ) → x < length c.room.nodes → length fs.newer ≡ length fs.offset → (node c.room x).used ≡ false → link ≢ max - 1
-      → seen (record fs { newer = set fs.newer x link }) older ≡ record c { links = record c.links { newer = set c.links.newer x link; older = older } }
+  pub wrote-newer : (x link : ℕ) (older : List ℕ) → x < length c.chain.nodes → length fs.newer ≡ length fs.offset → (node c.chain x).used ≡ false → link ≢ max - 1
+      → seen (record fs { newer = set fs.newer x link }) older ≡ record c { bins = record c.bins { newer = set c.bins.newer x link; older = older } }
   wrote-newer x link older l even idle ne =
       let short : x < length fs.newer = omega (arith, within x l, even) in
       let was : eqb (get_or fs.newer x 0) (max - 1) ≡ false = ap (λ (n : Node). n.used) (sym (read x l)) ∙ idle in

@@ -1,6 +1,7 @@
 -- A block in no bin, where the bins hold the other free blocks.
-use Rattle.offset_allocator.proofs.Common.{not, ◌≡◌, ℕ, ◌+◌, ◌≤◌, Bool, true, false, ◌&&◌, Some, None, List, [], ◌∷◌, ◌++◌, length, nat_eq, refl, sym, ap, ◌∙◌, arith, inl, inr, down, Room, Node, node}
-use Rattle.offset_allocator.proofs.Common.{Block, Place, one, count_named, count_in_bin, bin_at, free_end, without_end, free_start, without_start, remove_all, HasPlace, first_or, Among}
+use Rattle.offset_allocator.proofs.Common.{not, ◌≡◌, ℕ, ◌+◌, ◌≤◌, Bool, true, false, ◌&&◌, Some, None, List, [], ◌∷◌, ◌++◌, length, nat_eq, refl, sym, ap, ◌∙◌, arith, inl, inr, down, ChainCells}
+use Rattle.offset_allocator.proofs.Common.{Node, node}
+use Rattle.offset_allocator.proofs.Common.{Block, Place, one, count_named, count_in_bin, bin_at, free_end, without_end, free_start, without_start, remove_all, HasPlace, first_or, IsAmong}
 use Rattle.offset_allocator.proofs.Common.{IsUnlisted, AreInBins, AreUnlisted}
 use Rattle.offset_allocator.proofs.Tallies.{listed_named, tally_append, hit_cases, one-eq, times-append}
 use Rattle.offset_allocator.proofs.{Exchange.each-le, Places.at_place, Places.next_place, Places.previous_place, ViewOrders.times_remove_all, ViewTaken.tally_end, ViewTaken.tally_start}
@@ -10,7 +11,7 @@ abbrev pub share : ℕ → ℕ → Block → ℕ
 share k y b = one (not b.used && (nat_eq k (down b.size) && nat_eq y b.name))
 
 -- a free block counts once
-pub counts_once : {c : Room} {m last count y : ℕ} {p : Place} → HasPlace c m last count y p → (node c y).used ≡ false → share (down (node c y).size) y p.block ≡ 1
+pub counts_once : {c : ChainCells} {m last count y : ℕ} {p : Place} → HasPlace c m last count y p → (node c y).used ≡ false → share (down (node c y).size) y p.block ≡ 1
 counts_once {c} {y = y} {p = p} h u =
     let at = at_place h in
     rw (
@@ -24,21 +25,21 @@ counts_once {c} {y = y} {p = p} h u =
     both true b e f = f
     both false b e f = absurd (omega arith)
 
-pub few : {c : Room} {m last count x : ℕ} {p : Place} → HasPlace c m last count x p → (y : ℕ) → count_named y (p.before ++ p.after) + one (nat_eq y p.block.name) ≤ 1
+pub few : {c : ChainCells} {m last count x : ℕ} {p : Place} → HasPlace c m last count x p → (y : ℕ) → count_named y (p.before ++ p.after) + one (nat_eq y p.block.name) ≤ 1
 few {c} {m} {last} {count} {p = p} h y = omega (arith, each-le c m last count _ h.chain y, times-append y p.before p.after, times-append y p.before (p.block ∷ p.after))
 
-module _ {c : Room} {m last count x : ℕ} {p : Place} (h : HasPlace c m last count x p) (ls : List (List ℕ)) (f : AreInBins (p.before ++ p.after) ls) where
+module _ {c : ChainCells} {m last count x : ℕ} {p : Place} (h : HasPlace c m last count x p) (ls : List (List ℕ)) (f : AreInBins (p.before ++ p.after) ls) where
   pub unlisted : IsUnlisted x ls
   unlisted k b a = omega (arith, f k x, listed_named k x (p.before ++ p.after), few h x, one-eq x p.block.name h.name)
 
   -- the free blocks beside it are in their bins
-  pub previous_filed : {y : ℕ} → Some y ≡ (node c x).before → (node c y).used ≡ false → Among y (bin_at ls (down (node c y).size))
+  pub previous_filed : {y : ℕ} → Some y ≡ (node c x).before → (node c y).used ≡ false → IsAmong y (bin_at ls (down (node c y).size))
   previous_filed {y} e u =
       let n = previous_place h e in
       let k : ℕ = down (node c y).size in
       omega (arith, f k y, tally_append (share k y) p.before p.after, ap (count_in_bin k y) n.is, tally_append (share k y) n.front (n.block ∷ []), counts_once n.place u)
 
-  pub next_filed : {y : ℕ} → Some y ≡ (node c x).after → (node c y).used ≡ false → Among y (bin_at ls (down (node c y).size))
+  pub next_filed : {y : ℕ} → Some y ≡ (node c x).after → (node c y).used ≡ false → IsAmong y (bin_at ls (down (node c y).size))
   next_filed {y} e u =
       let n = next_place h e in
       let k : ℕ = down (node c y).size in
@@ -53,7 +54,7 @@ module _ {c : Room} {m last count x : ℕ} {p : Place} (h : HasPlace c m last co
       omega (arith, f k y, parts k y, left k y, tally_append (share k y) (without_end p.before) p.after)
 
 -- and so does one after it
-module _ {c : Room} {m last count x : ℕ} {p : Place} (h : HasPlace c m last count x p) (ls : List (List ℕ)) (f : AreInBins (p.before ++ p.after) ls) (long : length ls ≡ 256) where
+module _ {c : ChainCells} {m last count x : ℕ} {p : Place} (h : HasPlace c m last count x p) (ls : List (List ℕ)) (f : AreInBins (p.before ++ p.after) ls) (long : length ls ≡ 256) where
   pub filed_after : AreInBins (p.before ++ without_start p.after) (remove_all (free_start p.after) ls)
   filed_after k y =
       let parts : (k y : ℕ) → count_in_bin k y (p.before ++ p.after) ≡ count_in_bin k y p.before + (count_in_bin k y (free_start p.after) + count_in_bin k y (without_start p.after)) =
@@ -66,7 +67,7 @@ module _ {c : Room} {m last count x : ℕ} {p : Place} (h : HasPlace c m last co
   unlisted_after n y e k b a = grind (arith, filed_after, listed_named, times-append)
 
 -- the block after a block is the same, whatever became of those before it
-pub next_same : {c d : Room} {m last count last' count' x y : ℕ} {p q : Place} → HasPlace c m last count x p → HasPlace d m last' count' x q → p.after ≡ q.after
+pub next_same : {c d : ChainCells} {m last count last' count' x y : ℕ} {p q : Place} → HasPlace c m last count x p → HasPlace d m last' count' x q → p.after ≡ q.after
     → Some y ≡ (node c x).after → (Some y ≡ (node d x).after) × ((node d y).used ≡ (node c y).used)
 next_same {c} {d} {x = x} {y = y} h g same e =
     let n = next_place h e in

@@ -35,15 +35,15 @@ named_live u v x y e q h = ap₂ (λ (i : ℕ) (z : View). is_used_at (place_of 
 -- where it is
 pub record IsAt (f : Fields) (x : ℕ) : Type 0 where
   pub place : Place
-  pub is : place_of x (blocks f.cells.room f.last) ≡ Some place
-  pub stood : blocks f.cells.room f.last ≡ place.before ++ place.block ∷ place.after
+  pub is : place_of x (blocks f.cells.chain f.last) ≡ Some place
+  pub stood : blocks f.cells.chain f.last ≡ place.before ++ place.block ∷ place.after
   pub alone : count_named x place.before ≡ 0
-  pub held : HasPlace f.cells.room f.cells.room.reserved f.last f.count x place
+  pub held : HasPlace f.cells.chain f.cells.chain.reserved f.last f.count x place
 
 -- a release: sound fields, and the name of a used block
 pub record Release (f : Fields) (x : ℕ) : Type 0 where
   pub sound : AreSound f
-  pub live : is_used_at (place_of x (blocks f.cells.room f.last)) ≡ true
+  pub live : is_used_at (place_of x (blocks f.cells.chain f.last)) ≡ true
 
 module _ {f : Fields} {x : ℕ} (r : Release f x) where
   s : AreSound f
@@ -65,10 +65,10 @@ module _ {f : Fields} {x : ℕ} (r : Release f x) where
   v = shown f
 
   abbrev bs : List Block
-  bs = blocks c.room last
+  bs = blocks c.chain last
 
   abbrev ls : List (List ℕ)
-  ls = bins_in max c.links
+  ls = bins_in max c.bins
 
   pub w : IsWellFormed (shown f)
   w = well_counted (shown (record f { accesses = 0 })) f.accesses s.well
@@ -96,7 +96,7 @@ module _ {f : Fields} {x : ℕ} (r : Release f x) where
   room_for = grind (arith, free_units-append, free_units-used, used, units-append, free_most, free_sum)
 
   -- the bins hold the other free blocks
-  pub filed : AreInBins (at.place.before ++ at.place.after) (bins_in f.max f.cells.links)
+  pub filed : AreInBins (at.place.before ++ at.place.after) (bins_in f.max f.cells.bins)
   filed k y = omega (arith, w.orders k y, ap (count_in_bin k y) at.stood, tally_append (share k y) fs (b ∷ cs), share_used k y b used, tally_append (share k y) fs cs)
 
   -- the size of the whole block, and the bins without the blocks that are coalesced into it
@@ -104,11 +104,11 @@ module _ {f : Fields} {x : ℕ} (r : Release f x) where
   whole = (units (free_end at.place.before) + at.place.block.size) + units (free_start at.place.after)
 
   abbrev pub left : List (List ℕ)
-  left = remove_all (free_start at.place.after) (remove_all (free_end at.place.before) (bins_in f.max f.cells.links))
+  left = remove_all (free_start at.place.after) (remove_all (free_end at.place.before) (bins_in f.max f.cells.bins))
 
   pub freed : (d : Cells) (last' count' top' acc' : ℕ)
-      → IsChain d.room f.cells.room.reserved last' count' (without_end at.place.before ++ free_block at.place.block.name whole ∷ without_start at.place.after) → IsBinned max d.links top'
-      → bins_in f.max d.links ≡ push (down whole) x left
+      → IsChain d.chain f.cells.chain.reserved last' count' (without_end at.place.before ++ free_block at.place.block.name whole ∷ without_start at.place.after) → IsBinned max d.bins top'
+      → bins_in f.max d.bins ≡ push (down whole) x left
       → IsSound f.max f.size f.limit d last' count' top' (f.free + at.place.block.size) × Frees x (shown f) (view_of f.max f.size f.limit d last' acc')
   freed d last' count' top' acc' chain bins eo =
       let gone : List Block = free_end fs ++ (b ∷ free_start cs) in
@@ -132,8 +132,8 @@ module _ {f : Fields} {x : ℕ} (r : Release f x) where
         view = same;
         apart = subst IsApart (sym (ap (λ (u : View). u.blocks) same)) (apart_coalesced fs freed cs apart.0 apart.1.1);
       } in
-      let named : IsChain d.room f.cells.room.reserved last' count' (without_end fs ++ free_block x whole ∷ without_start cs) =
-      subst (λ y. IsChain d.room f.cells.room.reserved last' count' (without_end fs ++ free_block y whole ∷ without_start cs)) at.held.name chain in
+      let named : IsChain d.chain f.cells.chain.reserved last' count' (without_end fs ++ free_block x whole ∷ without_start cs) =
+      subst (λ y. IsChain d.chain f.cells.chain.reserved last' count' (without_end fs ++ free_block y whole ∷ without_start cs)) at.held.name chain in
       let left = stepped f s left_view d (f.free + b.size) acc' (well_frees x v left_view w (frees left_view refl)) refl (rw sum named) refl bins (rw (removes, sum) eo)
       (omega (
         arith,

@@ -1,7 +1,8 @@
 -- A fresh space.
 use Rattle.offset_allocator.proofs.Common.{◌≡◌, ℕ, zero, suc, ◌+◌, ◌/◌, ◌%◌, ◌<◌, ◌≤◌, ◌^◌, false, None, List, [], ◌∷◌, length, get_or, replicate, refl, sym, ◌∙◌, ap, ap₂, subst, arith, slice_index}
-use Rattle.offset_allocator.proofs.Common.{length-replicate, get_or-replicate, bit_at-zero, cases_eq, nat_tests, down, Cells, Links, Room, Node, blank, node, put, AreEmpty, IsBare, AreShaped, Block}
-use Rattle.offset_allocator.proofs.Common.{View, IsWellFormed, free_block, push, bin_at, IsChain, IsSpace, blocks, HasBins, AreMasks, IsBinned, bins_in, Among, IsUnlisted, IsSound, view_of}
+use Rattle.offset_allocator.proofs.Common.{length-replicate, get_or-replicate, bit_at-zero, cases_eq, nat_tests, down, Cells, BinCells, ChainCells, Node, blank, node, put, AreEmpty, IsBare}
+use Rattle.offset_allocator.proofs.Common.{AreShaped, Block}
+use Rattle.offset_allocator.proofs.Common.{View, IsWellFormed, free_block, push, bin_at, IsChain, IsSpace, blocks, HasBins, AreMasks, IsBinned, bins_in, IsAmong, IsUnlisted, IsSound, view_of}
 use Rattle.offset_allocator.proofs.{Nodes.node-put, Nodes.node-put_other, Nodes.length-put, Nodes.spare-put, Nodes.reserved-put, Binned.binned, ViewTaken.well_alone, Tallies.one-eq, Tallies.one-other}
 use Rattle.offset_allocator.proofs.Tallies.{free_units, free_sum}
 
@@ -13,7 +14,7 @@ fresh size limit = record { size = size; max_allocs = limit; blocks = free_block
 abbrev pub whole_node : ℕ → Node
 whole_node size = record { offset = 0; size = size; used = false; before = None; after = None }
 
-module _ {m : ℕ} {t : Room} (e : IsBare m t) where
+module _ {m : ℕ} {t : ChainCells} (e : IsBare m t) where
   pub bare_length : length t.nodes ≡ 1
   bare_length = rw e.nodes refl
 
@@ -25,7 +26,7 @@ module _ {m : ℕ} {t : Room} (e : IsBare m t) where
       go zero = refl
       go (suc x) = refl
 
-  pub start-chain : (size : ℕ) → 0 < m → size < 2 ^ 32 → (d : Room) → d ≡ put t 0 (whole_node size) → IsChain d m 0 0 (free_block 0 size ∷ [])
+  pub start-chain : (size : ℕ) → 0 < m → size < 2 ^ 32 → (d : ChainCells) → d ≡ put t 0 (whole_node size) → IsChain d m 0 0 (free_block 0 size ∷ [])
   start-chain size some small d q = grind (arith, bare_length, length-put, spare-put, reserved-put, node-put, cases_eq, nat_tests, one-eq, one-other, node-put_other, bare_idle)
 
 -- no bin has a name
@@ -33,9 +34,9 @@ empty_at : (c : ℕ) → c < 256 → bin_at (replicate 256 []) c ≡ []
 empty_at c h = get_or-replicate 256 c [] [] h
 
 pub empty_unlisted : (x : ℕ) {ls : List (List ℕ)} → ls ≡ replicate 256 [] → IsUnlisted x ls
-empty_unlisted x e c h a = absurd (omega (arith, subst (λ l. Among x l) (ap (λ o. bin_at o c) e ∙ empty_at c h) a))
+empty_unlisted x e c h a = absurd (omega (arith, subst (λ l. IsAmong x l) (ap (λ o. bin_at o c) e ∙ empty_at c h) a))
 
-module _ {max : ℕ} (k : Links) (older : length k.older ≡ length k.newer) (small : length k.newer ≤ max) (heads : k.heads ≡ replicate 256 max) (masks : k.masks ≡ replicate 4 0) where
+module _ {max : ℕ} (k : BinCells) (older : length k.older ≡ length k.newer) (small : length k.newer ≤ max) (heads : k.heads ≡ replicate 256 max) (masks : k.masks ≡ replicate 4 0) where
   mask_at : (w : ℕ) → w < 4 → slice_index k.masks w ≡ 0
   mask_at w h = rw masks (get_or-replicate 4 w 0 0 h)
 
@@ -62,17 +63,17 @@ module _ {max : ℕ} (k : Links) (older : length k.older ≡ length k.newer) (sm
   pub empty_binned : IsBinned max k 0 × (bins_in max k ≡ replicate 256 [])
   empty_binned = binned empty_linked empty_masked
 
-pub fresh_binned : {max : ℕ} {t : Cells} → AreShaped max t → AreEmpty max t.links → IsBinned max t.links 0 × (bins_in max t.links ≡ replicate 256 [])
-fresh_binned {t = t} s e = empty_binned t.links (s.older ∙ sym s.newer) (omega (arith, s.newer, s.within, s.limit)) e.heads e.masks
+pub fresh_binned : {max : ℕ} {t : Cells} → AreShaped max t → AreEmpty max t.bins → IsBinned max t.bins 0 × (bins_in max t.bins ≡ replicate 256 [])
+fresh_binned {t = t} s e = empty_binned t.bins (s.older ∙ sym s.newer) (omega (arith, s.newer, s.within, s.limit)) e.heads e.masks
 
 -- the only block is free
-pub first_idle : {c : Room} {size : ℕ} → IsSpace c 0 0 → blocks c 0 ≡ free_block 0 size ∷ [] → (node c 0).used ≡ false
+pub first_idle : {c : ChainCells} {size : ℕ} → IsSpace c 0 0 → blocks c 0 ≡ free_block 0 size ∷ [] → (node c 0).used ≡ false
 first_idle {c} s e = ap (λ (n : Node). n.used) (rw e at s.row).0
 
 -- the fields of a fresh allocator
-pub started : (max m size : ℕ) (d : Cells) (top : ℕ) → 2 ≤ m → m + 1 < max → size ≤ 4294967295 → d.room.reserved ≡ m → IsSpace d.room 0 0
-    → blocks d.room 0 ≡ free_block 0 size ∷ [] → IsBinned max d.links top
-    → bins_in max d.links ≡ push (down size) 0 (replicate 256 []) → IsSound max size m d 0 0 top size × (view_of max size m d 0 0 ≡ fresh size m)
+pub started : (max m size : ℕ) (d : Cells) (top : ℕ) → 2 ≤ m → m + 1 < max → size ≤ 4294967295 → d.chain.reserved ≡ m → IsSpace d.chain 0 0
+    → blocks d.chain 0 ≡ free_block 0 size ∷ [] → IsBinned max d.bins top
+    → bins_in max d.bins ≡ push (down size) 0 (replicate 256 []) → IsSound max size m d 0 0 top size × (view_of max size m d 0 0 ≡ fresh size m)
 started max m size d top two least sized memory space eb bins lists =
     let ev : view_of max size m d 0 0 ≡ fresh size m =
     ap₂ (λ (b : List Block) (o : List (List ℕ)). let u : View = record { size = size; max_allocs = m; blocks = b; order = o; accesses = 0 } in u) eb lists in (
@@ -82,7 +83,7 @@ started max m size d top two least sized memory space eb bins lists =
         space = space;
         bins = bins;
         well = subst IsWellFormed (sym ev) (well_alone (fresh size m) 0 size 0 two (omega arith) sized);
-        total = free_sum (blocks d.room 0) ∙ ap free_units eb ∙ omega arith;
+        total = free_sum (blocks d.chain 0) ∙ ap free_units eb ∙ omega arith;
       },
       ev,
     )

@@ -1,6 +1,7 @@
 -- What a grant leaves of the whole allocator.
 use Rattle.offset_allocator.proofs.Common.{◌≡◌, ℕ, zero, suc, ◌+◌, ◌-◌, ◌<◌, ◌≤◌, ◌^◌, List, [], ◌∷◌, ◌++◌, length, refl, sym, ap, ap₂, ◌∙◌, arith, slice_set, append_assoc, le-leb, nat_eq, up, down}
-use Rattle.offset_allocator.proofs.Common.{Cells, Room, Block, View, Place, Grant, one, count_named, bin_at, IsWellFormed, IsNew, free_part, used_block, units, replace, remove_all, push_all, remove}
+use Rattle.offset_allocator.proofs.Common.{Cells, ChainCells, Block, View, Place, Grant, one, count_named, bin_at, IsWellFormed, IsNew, free_part, used_block, units, replace, remove_all, push_all}
+use Rattle.offset_allocator.proofs.Common.{remove}
 use Rattle.offset_allocator.proofs.Common.{HasPlace, IsSmallestFrom, bins_in, IsBinned, AreUnlisted, SameSpace, Splits, common_steps}
 use Rattle.offset_allocator.proofs.Joints.{stepped, unused_unlisted, free_part_units, remove_free, free_units-append, free_units-free, free_units-used}
 use Rattle.offset_allocator.proofs.{Sound.Fields, Sound.AreSound, Sound.shown, Sound.well_counted, Exchange.each-le, Exchange.there-below, Places.placed, Places.end_fits, Classes.fits_size}
@@ -11,13 +12,13 @@ use Rattle.offset_allocator.proofs.Tallies.{free_units, free_sum}
 -- a grant: sound fields, the smallest class large enough that has a block, and the first name there
 pub record Call (f : Fields) (needed class x : ℕ) : Type 0 where
   pub sound : AreSound f
-  pub smallest : IsSmallestFrom (up needed) (bins_in f.max f.cells.links) class
+  pub smallest : IsSmallestFrom (up needed) (bins_in f.max f.cells.bins) class
   pub older : List ℕ
-  pub newest : bin_at (bins_in f.max f.cells.links) class ≡ x ∷ older
+  pub newest : bin_at (bins_in f.max f.cells.bins) class ≡ x ∷ older
 
 -- the bins without that name
 abbrev pub popped : Fields → ℕ → ℕ → List (List ℕ)
-popped f class x = slice_set (bins_in f.max f.cells.links) class (without x (bin_at (bins_in f.max f.cells.links) class))
+popped f class x = slice_set (bins_in f.max f.cells.bins) class (without x (bin_at (bins_in f.max f.cells.bins) class))
 
 -- padding or a remainder has a name where it has units
 pub part_names : (y k n : ℕ) → 1 ≤ n → count_named y (free_part k n) ≡ one (nat_eq y k)
@@ -29,7 +30,7 @@ module _ {f : Fields} {needed class x : ℕ} (call : Call f needed class x) wher
   v = shown f
 
   abbrev ls : List (List ℕ)
-  ls = bins_in f.max f.cells.links
+  ls = bins_in f.max f.cells.bins
 
   w : IsWellFormed (shown f)
   w = well_counted (shown (record f { accesses = 0 })) f.accesses call.sound.well
@@ -41,7 +42,7 @@ module _ {f : Fields} {needed class x : ℕ} (call : Call f needed class x) wher
   abbrev p : Place
   p = got.place
 
-  pub held : {d : Room} → d ≡ f.cells.room → HasPlace d f.cells.room.reserved f.last f.count x got.place
+  pub held : {d : ChainCells} → d ≡ f.cells.chain → HasPlace d f.cells.chain.reserved f.last f.count x got.place
   held e = rw e (placed (rw got.stood at call.sound.space) got.name)
 
   pub enough : needed ≤ got.place.block.size
@@ -77,7 +78,7 @@ module _ {f : Fields} {needed class x : ℕ} (call : Call f needed class x) wher
 
     -- with room for the blocks that it adds; the tables that are left
     module _ (k : ℕ) (room : length (shown f).blocks + k < f.limit) (some : 1 ≤ k) (two : (o : ℕ) → 1 ≤ padding_at o → 2 ≤ k) (d : Cells) (last count front rest : ℕ)
-        (there : HasPlace d.room f.cells.room.reserved last count x (record {
+        (there : HasPlace d.chain f.cells.chain.reserved last count x (record {
           before = got.place.before ++ free_part front (padding_at (units got.place.before));
           block = used_block got.place.block.name n;
           after = free_part rest (got.place.block.size - (padding_at (units got.place.before) + n)) ++ got.place.after;
@@ -89,7 +90,7 @@ module _ {f : Fields} {needed class x : ℕ} (call : Call f needed class x) wher
           (used_block p.block.name n ∷ []) + (count_named y (free_part rest left) + count_named y p.after)) ≤ 1
       names y = omega (
         arith,
-        each-le d.room _ last count _ there.chain y,
+        each-le d.chain _ last count _ there.chain y,
         times-append y (p.before ++ free_part front padding) (used_block p.block.name n ∷ (free_part rest left ++ p.after)),
         times-append y p.before (free_part front padding),
         times-append y (free_part rest left) p.after,
@@ -99,7 +100,7 @@ module _ {f : Fields} {needed class x : ℕ} (call : Call f needed class x) wher
       unused y l =
           let some : 1 ≤ count_named y ((p.before ++ free_part front padding) ++ used_block p.block.name n ∷ (free_part rest left ++ p.after)) = grind (arith, common_steps, times-append) in
           record {
-            below = omega (arith, there-below d.room _ last count y _ there.chain some, there.chain.within, call.sound.memory);
+            below = omega (arith, there-below d.chain _ last count y _ there.chain some, there.chain.within, call.sound.memory);
             absent = counted_none y v.blocks (ap (count_named y) got.stood ∙ omega (arith, l, names y, times-append y p.before (p.block ∷ p.after)));
           }
 
@@ -135,8 +136,8 @@ module _ {f : Fields} {needed class x : ℕ} (call : Call f needed class x) wher
         view = same ∙ ap (λ o. record v { blocks = p.before ++ (parts ++ p.after); order = push_all parts o; accesses = u.accesses }) (remove_free p.block ls got.free);
       }
 
-      pub granted : {top accesses : ℕ} → IsBinned f.max d.links top
-          → bins_in f.max d.links ≡ push_all (free_part front
+      pub granted : {top accesses : ℕ} → IsBinned f.max d.bins top
+          → bins_in f.max d.bins ≡ push_all (free_part front
           (padding_at (units got.place.before)) ++ (used_block x n ∷ free_part rest (got.place.block.size - (padding_at (units got.place.before) + n)))) (popped f class x)
           → AreSound (record f { cells = d; last = last; count = count; top = top; free = f.free - n; accesses = accesses })
           × Splits needed n padding_at (shown f) (shown (record f { cells = d; last = last; count = count; top = top; free = f.free - n; accesses = accesses }))

@@ -17,10 +17,10 @@ with_accesses k v = record v { accesses = k }
 
 -- the fields after a call: the tables hold the blocks and the bins of a well-formed view
 pub stepped : (f : Fields) → AreSound f → (v : View) (d : Cells) (free k : ℕ) {last count top : ℕ} {bs : List Block} → IsWellFormed v → v.max_allocs ≡ f.limit
-    → IsChain d.room f.cells.room.reserved last count bs → bs ≡ v.blocks → IsBinned f.max d.links top → bins_in f.max d.links ≡ v.order → free_units bs ≡ free
+    → IsChain d.chain f.cells.chain.reserved last count bs → bs ≡ v.blocks → IsBinned f.max d.bins top → bins_in f.max d.bins ≡ v.order → free_units bs ≡ free
     → AreSound (record f { size = v.size; cells = d; last = last; count = count; top = top; free = free }) × (view_of f.max v.size f.limit d last k ≡ with_accesses k v)
 stepped f s v d free k {last} {count} {top} {bs} well limit chain eb bins eo total =
-    let is = blocks-chain d.room _ last count bs chain in
+    let is = blocks-chain d.chain _ last count bs chain in
     let sized = free_sum bs ∙ total in
     grind (arith, common_steps, space-chain, well_counted)
 

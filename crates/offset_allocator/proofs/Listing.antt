@@ -1,6 +1,7 @@
 -- The last of the first blocks of a space, and the list of what an iterator has left.
 use Rattle.offset_allocator.proofs.Common.{◌≡◌, ℕ, suc, ◌+◌, ◌-◌, ◌<◌, ◌≤◌, Bool, None, Some, List, [], ◌∷◌, ◌++◌, length, take, drop, reverse, refl, sym, ap, subst, ◌∙◌, arith, if◌then◌else◌}
-use Rattle.offset_allocator.proofs.Common.{length_push, length-take-le, take-take, take-append-le, take_all, take-append-drop, append_assoc, reverse-append, length-reverse, Room, Node, node, View}
+use Rattle.offset_allocator.proofs.Common.{length_push, length-take-le, take-take, take-append-le, take_all, take-append-drop, append_assoc, reverse-append, length-reverse, ChainCells, Node, node}
+use Rattle.offset_allocator.proofs.Common.{View}
 use Rattle.offset_allocator.proofs.Common.{Block, units, count_named, last_or, IsRow, Placed, placed_at, placed, common_steps}
 use Rattle.offset_allocator.proofs.{Exchange.there-below, Ends.Ended, Ends.ended, Ends.last_none, Rows.node_at, Sound.Fields, Sound.AreSound, Sound.shown, Tallies.times-append, Tallies.one-eq}
 
@@ -62,21 +63,21 @@ pub node_placed : (x : ℕ) (n : Node) (offset size : ℕ) (used : Bool) → off
 node_placed x n offset size used e f g = rw (e, f, g)
 
 -- the last of the first k blocks is read from the node of x
-pub record IsRead (c : Room) (bs : List Block) (k x : ℕ) : Type 0 where
+pub record IsRead (c : ChainCells) (bs : List Block) (k x : ℕ) : Type 0 where
   pub below : x < length c.nodes
   pub some : 1 ≤ k
   pub block : left k bs ≡ placed_node x (node c x) ∷ left (k - 1) bs
   pub before : last_or None (take (k - 1) bs) ≡ (node c x).before
 
 module _ (it : Fields) (s : AreSound it) (k x : ℕ) where
-  read_shown : k ≤ length (shown it).blocks → last_or None (take k (shown it).blocks) ≡ Some x → IsRead it.cells.room (shown it).blocks k x
+  read_shown : k ≤ length (shown it).blocks → last_or None (take k (shown it).blocks) ≡ Some x → IsRead it.cells.chain (shown it).blocks k x
   read_shown l e =
       let bs : List Block = (shown it).blocks in
-      let c : Room = it.cells.room in
+      let c : ChainCells = it.cells.chain in
       let d : EndsIn bs k x = ends_in bs k x l e in
       let n = node_at c d.front d.block d.after x (subst (λ l. IsRow c None 0 l None) d.is s.space.row) d.named in
       let there : 1 ≤ count_named x bs = omega (arith, ap (count_named x) d.is, times-append x d.front (d.block ∷ d.after), one-eq x d.block.name d.named) in
       grind (arith, common_steps, there-below, placed-push, reverse-append)
 
-  pub read_is : (v : View) → shown it ≡ v → k ≤ length v.blocks → last_or None (take k v.blocks) ≡ Some x → IsRead it.cells.room v.blocks k x
-  read_is v e = subst (λ (u : View). k ≤ length u.blocks → last_or None (take k u.blocks) ≡ Some x → IsRead it.cells.room u.blocks k x) e read_shown
+  pub read_is : (v : View) → shown it ≡ v → k ≤ length v.blocks → last_or None (take k v.blocks) ≡ Some x → IsRead it.cells.chain v.blocks k x
+  read_is v e = subst (λ (u : View). k ≤ length u.blocks → last_or None (take k u.blocks) ≡ Some x → IsRead it.cells.chain u.blocks k x) e read_shown

@@ -1,5 +1,6 @@
 -- Blocks that are split, and the bins of their parts.
-use Rattle.offset_allocator.proofs.Common.{◌≡◌, ◌≢◌, ℕ, zero, suc, ◌-◌, ◌<◌, List, [], ◌∷◌, ◌++◌, length, refl, sym, arith, append-nil, get_or-set_same, get_or-set_other, cases_eq, Room, down, Block}
+use Rattle.offset_allocator.proofs.Common.{◌≡◌, ◌≢◌, ℕ, zero, suc, ◌-◌, ◌<◌, List, [], ◌∷◌, ◌++◌, length, refl, sym, arith, append-nil, get_or-set_same, get_or-set_other, cases_eq, ChainCells, down}
+use Rattle.offset_allocator.proofs.Common.{Block}
 use Rattle.offset_allocator.proofs.Common.{Place, free_part, free_block, used_block, push, push_all, IsUnlisted, HasPlace, AreUnlisted}
 use Rattle.offset_allocator.proofs.{Classes.down_small, Exchange.each-le, Tallies.one-eq, Tallies.one-other, Tallies.times-append}
 
@@ -7,7 +8,7 @@ unlisted_put : (y x c : ℕ) (ls : List (List ℕ)) → length ls ≡ 256 → c 
 unlisted_put y x c ls n ch ne u d dh a = grind (arith, cases_eq, one-other, get_or-set_same, get_or-set_other)
 
 -- padding of no units is no block, nor is a remainder of no units
-module _ {c : Room} {m last count x : ℕ} {p : Place} where
+module _ {c : ChainCells} {m last count x : ℕ} {p : Place} where
   pub no_padding : (y n : ℕ) → HasPlace c m last count x p → n ≡ 0
       → HasPlace c m last count x (record { before = p.before ++ free_part y n; block = record p.block { size = p.block.size - n }; after = p.after })
   no_padding y zero h e = let same : p.block.size - 0 ≡ p.block.size = omega arith in rw (append-nil, same) h
@@ -28,7 +29,7 @@ pushed_parts y zero x k zs ls = refl
 pushed_parts y (suc n) x k zs ls = refl
 
 -- the block that padding is split off is in no bin still
-pub padded_unlisted : {c : Room} {m last count x : ℕ} (fs : List Block) {cs : List Block} {b : Block} (y n : ℕ) (ls : List (List ℕ)) → length ls ≡ 256
+pub padded_unlisted : {c : ChainCells} {m last count x : ℕ} (fs : List Block) {cs : List Block} {b : Block} (y n : ℕ) (ls : List (List ℕ)) → length ls ≡ 256
     → HasPlace c m last count x (record { before = fs ++ free_part y n; block = b; after = cs }) → IsUnlisted x ls → IsUnlisted x (push_all (free_part y n) ls)
 padded_unlisted fs y zero ls long h u = u
 padded_unlisted {c} {m} {last} {count} {x} fs {cs} {b} y (suc n) ls long h u =

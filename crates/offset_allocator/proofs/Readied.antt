@@ -1,6 +1,6 @@
 -- Nodes that are made before names are taken.
 use Rattle.offset_allocator.proofs.Common.{◌≡◌, ◌<◌, ◌≤◌, ◌+◌, ℕ, zero, suc, List, [], ◌∷◌, ◌++◌, None, refl, ap, ◌∙◌, arith, length, length-append, length-set, get_or, take, set, cases_eq, nat_tests}
-use Rattle.offset_allocator.proofs.Common.{take_more_set, Cells, Room, Node, blank, node, with_node, AreShaped, Block, times, IsChain, blocks, common_steps}
+use Rattle.offset_allocator.proofs.Common.{take_more_set, Cells, ChainCells, Node, blank, node, with_node, AreShaped, Block, times, IsChain, blocks, common_steps}
 use Rattle.offset_allocator.proofs.Tallies.{one-eq, one-other, times-join}
 use Rattle.offset_allocator.proofs.{Rows.IsRow-kept, Sound.Fields, Sound.AreSound, Sound.shown, Uses.binned_more, Views.blocks-chain, Views.space-chain}
 use Rattle.offset_allocator.specs.Readies.{Readies}
@@ -12,7 +12,7 @@ blank_at [] (suc x) = refl
 blank_at (n ∷ ns) zero = refl
 blank_at (n ∷ ns) (suc x) = blank_at ns x
 
-module _ (c : Room) (i : ℕ) where
+module _ (c : ChainCells) (i : ℕ) where
   node-with_node : (x : ℕ) → node (with_node c i) x ≡ node c x
   unfolding node with_node
   node-with_node x = blank_at c.nodes x
@@ -35,13 +35,13 @@ take_left [] v (suc i) h = absurd (omega (arith, h))
 take_left (x ∷ l) v (suc i) h = ap (λ (k : List ℕ). x ∷ k) (take_left l v i (omega (arith, h)))
 
 -- the names on the stack then
-names-with_node : (c : Room) (i k : ℕ) → i ≤ length c.spare → times k (take (i + 1) (with_node c i).spare) ≡ times k (take i c.spare) + times k (length c.nodes ∷ [])
+names-with_node : (c : ChainCells) (i k : ℕ) → i ≤ length c.spare → times k (take (i + 1) (with_node c i).spare) ≡ times k (take i c.spare) + times k (length c.nodes ∷ [])
 names-with_node c i k h =
     let l : List ℕ = c.spare ++ length c.nodes ∷ [] in
     ap (λ s. times k (take (i + 1) s)) (spare-with_node c i) ∙ ap (times k) (take_more_set l i (length c.nodes) (omega (arith, h, length-append c.spare (length c.nodes ∷ []))))
     ∙ times-join k (take i l) (length c.nodes ∷ []) ∙ ap (λ s. times k s + times k (length c.nodes ∷ [])) (take_left c.spare (length c.nodes) i h)
 
-pub chain_more : {c d : Room} {m last count : ℕ} {bs : List Block} → IsChain c m last count bs → d ≡ with_node c count → length c.nodes < m → IsChain d m last (count + 1) bs
+pub chain_more : {c d : ChainCells} {m last count : ℕ} {bs : List Block} → IsChain c m last count bs → d ≡ with_node c count → length c.nodes < m → IsChain d m last (count + 1) bs
 chain_more {c} {d} {m} {last} {count} {bs} h e room =
     let at : (k : ℕ) → node d k ≡ node c k = λ k. rw e (node-with_node c count k) in
     let long : length d.nodes ≡ length c.nodes + 1 = rw e (length-with_node c count) in
@@ -60,16 +60,16 @@ chain_more {c} {d} {m} {last} {count} {bs} h e room =
     }
 
 -- there is memory for one more node where fewer names are unused than there are left
-pub has_memory : {c : Room} {m last count names : ℕ} {bs : List Block} → IsChain c m last count bs → length bs + names ≤ m → count < names → length c.nodes < m
+pub has_memory : {c : ChainCells} {m last count names : ℕ} {bs : List Block} → IsChain c m last count bs → length bs + names ≤ m → count < names → length c.nodes < m
 has_memory h l few = omega (arith, h.full, l, few)
 
 -- one node was made
-pub readied : {max count : ℕ} {c d : Cells} → AreShaped max c → length c.room.nodes < c.room.reserved → d.room ≡ with_node c.room count → d.links.newer ≡ c.links.newer ++ max ∷ []
-    → d.links.older ≡ c.links.older ++ max ∷ [] → d.links.heads ≡ c.links.heads → d.links.masks ≡ c.links.masks
+pub readied : {max count : ℕ} {c d : Cells} → AreShaped max c → length c.chain.nodes < c.chain.reserved → d.chain ≡ with_node c.chain count → d.bins.newer ≡ c.bins.newer ++ max ∷ []
+    → d.bins.older ≡ c.bins.older ++ max ∷ [] → d.bins.heads ≡ c.bins.heads → d.bins.masks ≡ c.bins.masks
     → Readies max c d count (count + 1)
 readied {max} {count} {c} {d} s room e newer older heads masks = record {
   chain = λ m last bs h. chain_more h e (omega (arith, room, h.memory));
-  node = λ x. rw e (node-with_node c.room count x);
+  node = λ x. rw e (node-with_node c.chain count x);
   bins = λ top b. binned_more max max b (omega (arith, s.newer, s.within, s.limit)) newer older heads masks;
 }
 
@@ -90,8 +90,8 @@ with_made f d count = record f { cells = d; count = count }
 
 -- they are sound still, and contracts see the same
 module _ (f : Fields) (s : AreSound f) {d : Cells} {count : ℕ} (r : Readies f.max f.cells d f.count count) where
-  same_blocks : blocks d.room f.last ≡ blocks f.cells.room f.last
-  same_blocks = blocks-chain d.room _ f.last count _ (r.chain _ _ _ s.space)
+  same_blocks : blocks d.chain f.last ≡ blocks f.cells.chain f.last
+  same_blocks = blocks-chain d.chain _ f.last count _ (r.chain _ _ _ s.space)
 
   pub made_shown : shown (with_made f d count) ≡ shown f
   made_shown = rw (same_blocks, (r.bins _ s.bins).1) refl
@@ -100,7 +100,7 @@ module _ (f : Fields) (s : AreSound f) {d : Cells} {count : ℕ} (r : Readies f.
   made = record {
     memory = (r.chain _ _ _ s.space).memory ∙ s.memory;
     admitted = s.admitted;
-    space = space-chain d.room _ f.last count _ (r.chain _ _ _ s.space);
+    space = space-chain d.chain _ f.last count _ (r.chain _ _ _ s.space);
     bins = (r.bins _ s.bins).0;
     well = rw (same_blocks, (r.bins _ s.bins).1) s.well;
     total = rw same_blocks s.total;

@@ -1,6 +1,6 @@
 -- What a read of cells says of the view.
 use Rattle.offset_allocator.proofs.Common.{◌≡◌, ℕ, ◌<◌, inl, inr, length, arith, is_some, true, false, Option, None, Some, option_and_then, option_map, unwrap_or, if◌then◌else◌, refl, sym, ap, subst}
-use Rattle.offset_allocator.proofs.Common.{◌∙◌, cases_lt, false≢true, Room, Node, node, View, Place, units, place_of, is_used_at, Range, range_of, size_of, IsLive, blocks, IsRow, IsSpace}
+use Rattle.offset_allocator.proofs.Common.{◌∙◌, cases_lt, false≢true, ChainCells, Node, node, View, Place, units, place_of, is_used_at, Range, range_of, size_of, IsLive, blocks, IsRow, IsSpace}
 use Rattle.offset_allocator.proofs.Common.{common_steps}
 use Rattle.offset_allocator.proofs.{Nodes.past_idle, Sound.Fields, Sound.AreSound, Sound.shown, Rows.node_at, ViewSteps.place_at, ViewSteps.no_place}
 
@@ -43,7 +43,7 @@ module _ (x : ℕ) (v : View) where
   pub used_live : is_used_at (place_of x v.blocks) ≡ true → IsLive x v
   used_live h = live_is ∙ h
 
-module _ (c : Room) (last count x : ℕ) (h : IsSpace c last count) where
+module _ (c : ChainCells) (last count x : ℕ) (h : IsSpace c last count) where
   place_read : (p : Place) → place_of x (blocks c last) ≡ Some p → ((node c x).used ≡ p.block.used) × ((node c x).size ≡ p.block.size) × ((node c x).offset ≡ units p.before)
   place_read p e =
       let a = place_at x (blocks c last) p e in
@@ -73,19 +73,19 @@ module _ (c : Room) (last count x : ℕ) (h : IsSpace c last count) where
 
 module _ (it : Fields) (x : ℕ) (s : AreSound it) where
   module _ (v : View) (e : shown it ≡ v) (live : IsLive x v) where
-    used : is_used_at (place_of x (blocks it.cells.room it.last)) ≡ true
+    used : is_used_at (place_of x (blocks it.cells.chain it.last)) ≡ true
     used = ap (λ (u : View). is_used_at (place_of x u.blocks)) e ∙ live_used x v live
 
-    pub live_below : x < length it.cells.room.nodes
-    live_below = elim (cases_lt x (length it.cells.room.nodes)) [
+    pub live_below : x < length it.cells.chain.nodes
+    live_below = elim (cases_lt x (length it.cells.chain.nodes)) [
       | inl l ↦ l
-      | inr l ↦ let f = sym (past_idle it.cells.room x l) ∙ used_read it.cells.room it.last it.count x s.space ∙ used in absurd (false≢true f)
+      | inr l ↦ let f = sym (past_idle it.cells.chain x l) ∙ used_read it.cells.chain it.last it.count x s.space ∙ used in absurd (false≢true f)
     ]
 
-    pub live_size : (node it.cells.room x).size ≡ size_of x v
-    live_size = size_read it.cells.room it.last it.count x s.space (used_read it.cells.room it.last it.count x s.space ∙ used)
+    pub live_size : (node it.cells.chain x).size ≡ size_of x v
+    live_size = size_read it.cells.chain it.last it.count x s.space (used_read it.cells.chain it.last it.count x s.space ∙ used)
         ∙ ap (λ (u : View). size_at (place_of x u.blocks)) e ∙ sym (size_is x v)
 
-    pub live_offset : Some (node it.cells.room x).offset ≡ option_map (λ (r : Range). r.offset) (range_of x v)
-    live_offset = sym (offset_read it.cells.room it.last it.count x s.space (used_read it.cells.room it.last it.count x s.space ∙ used))
+    pub live_offset : Some (node it.cells.chain x).offset ≡ option_map (λ (r : Range). r.offset) (range_of x v)
+    live_offset = sym (offset_read it.cells.chain it.last it.count x s.space (used_read it.cells.chain it.last it.count x s.space ∙ used))
         ∙ ap (λ (u : View). option_map (λ (r : Range). r.offset) (range_of x u)) e

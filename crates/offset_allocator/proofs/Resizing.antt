@@ -77,7 +77,7 @@ module _ {f : Fields} {x : ℕ} (call : Release f x) where
   p = (at call).place
 
   abbrev ls : List (List ℕ)
-  ls = bins_in f.max f.cells.links
+  ls = bins_in f.max f.cells.bins
 
   abbrev next : List Block
   next = free_start p.after
@@ -99,7 +99,7 @@ module _ {f : Fields} {x : ℕ} (call : Release f x) where
   free_beside = omega (arith, had_free)
 
   module _ (n : ℕ) (enough : n ≤ both) (room : (1 ≤ length (free_start (at call).place.after)) ⊎ HasRoomFor 1 (shown f))
-      (d : Cells) (last count name : ℕ) (there : HasPlace d.room f.cells.room.reserved last count x (record {
+      (d : Cells) (last count name : ℕ) (there : HasPlace d.chain f.cells.chain.reserved last count x (record {
         before = (at call).place.before;
         block = record (at call).place.block { size = n };
         after = free_part name (both - n) ++ without_start (at call).place.after;
@@ -129,8 +129,8 @@ module _ {f : Fields} {x : ℕ} (call : Release f x) where
         let here : count_named name (free_part name left) ≡ 1 = part_names name name left l ∙ one-same name in
         elim (eq-zero-or-pos (count_named name next)) [
           | inl z ↦ inr (record {
-            below = omega (arith, there-below d.room _ last count name _ there.chain (omega (arith, now name, here)), there.chain.within, call.sound.memory);
-            absent = counted_none name v.blocks (omega (arith, z, counted name, now name, here, each-le d.room _ last count _ there.chain name));
+            below = omega (arith, there-below d.chain _ last count name _ there.chain (omega (arith, now name, here)), there.chain.within, call.sound.memory);
+            absent = counted_none name v.blocks (omega (arith, z, counted name, now name, here, each-le d.chain _ last count _ there.chain name));
           })
           | inr s ↦ inl s
         ]
@@ -144,8 +144,8 @@ module _ {f : Fields} {x : ℕ} (call : Release f x) where
     resizes : (u : View) → SameSpace left_view u → Resizes x n v u
     resizes u same = grind (arith, split, named, at, used, idle_start, apart)
 
-    pub resized : {top : ℕ} (accesses free : ℕ) → IsBinned f.max d.links top
-        → bins_in f.max d.links ≡ push_all (free_part name (both - n)) (remove_all (free_start (at call).place.after) (bins_in f.max f.cells.links))
+    pub resized : {top : ℕ} (accesses free : ℕ) → IsBinned f.max d.bins top
+        → bins_in f.max d.bins ≡ push_all (free_part name (both - n)) (remove_all (free_start (at call).place.after) (bins_in f.max f.cells.bins))
         → free + n ≡ f.free + (at call).place.block.size
         → AreSound (record f { cells = d; last = last; count = count; top = top; free = free; accesses = accesses })
         × Resizes x n (shown f) (shown (record f { cells = d; last = last; count = count; top = top; free = free; accesses = accesses }))
@@ -153,14 +153,14 @@ module _ {f : Fields} {x : ℕ} (call : Release f x) where
     resized {top} accesses free bins lists total =
         let well = well_resized (resizes left_view refl) (w call) room in
         let flat : p.before ++ record p.block { size = n } ∷ (free_part name left ++ after) ≡ p.before ++ (new ++ after) = ap (λ b. p.before ++ b ∷ (free_part name left ++ after)) same_block in
-        let order : bins_in f.max d.links ≡ push_all new (remove_all (p.block ∷ next) ls) = lists ∙ ap (push_all (free_part name left)) (sym (remove_used p.block next ls (used call))) in
+        let order : bins_in f.max d.bins ≡ push_all new (remove_all (p.block ∷ next) ls) = lists ∙ ap (push_all (free_part name left)) (sym (remove_used p.block next ls (used call))) in
         let units_are = free_units-append p.before (new ++ after) in
         let done = stepped f call.sound left_view d free accesses well refl there.chain flat bins order
         (ap free_units flat ∙ units_are ∙ omega (arith, free_units-used (used_block x n) (free_part name left ++ after) refl, free_part_units name left after, had_free, total, enough)) in
         (done.0, resizes _ done.1)
 
   -- whether a free block is after it
-  pub next_some : (o : Option ℕ) → IsFreeAfter f.cells.room x o → (is_some o ≡ true → 1 ≤ length (free_start (at call).place.after))
+  pub next_some : (o : Option ℕ) → IsFreeAfter f.cells.chain x o → (is_some o ≡ true → 1 ≤ length (free_start (at call).place.after))
       × (is_some o ≡ false → free_start (at call).place.after ≡ [])
   next_some None h = (λ e. absurd (false≢true e), λ _. h _ _ _ _ (at call).held)
   next_some (Some y) h =
@@ -169,7 +169,7 @@ module _ {f : Fields} {x : ℕ} (call : Release f x) where
       let is : free_start (n.block ∷ n.rest) ≡ n.block ∷ [] = rw idle refl in
       (λ _. omega (arith, ap (λ l. length (free_start l)) n.is, ap length is), λ e. absurd (true≢false e))
 
-  pub some_after : (o : Option ℕ) → IsFreeAfter f.cells.room x o → 1 ≤ units (free_start (at call).place.after) → IsSome o
+  pub some_after : (o : Option ℕ) → IsFreeAfter f.cells.chain x o → 1 ≤ units (free_start (at call).place.after) → IsSome o
   some_after None h l = absurd (omega (arith, l, ap units (h _ _ _ _ (at call).held)))
   some_after (Some y) h l = refl
 

@@ -1,6 +1,6 @@
 -- A free block that moves to the end of the space: used blocks pass it, and free ones are coalesced with it.
 use Rattle.offset_allocator.proofs.Common.{◌≡◌, ◌≢◌, ℕ, inl, inr, ◌+◌, ◌-◌, ◌≤◌, Bool, true, false, Some, None, List, [], ◌∷◌, ◌++◌, length, if◌then◌else◌, refl, sym, ap, subst, ◌*◌, ◌∙◌, arith}
-use Rattle.offset_allocator.proofs.Common.{append_assoc, append-nil, FoldsTo, cases_eq, nat_tests, Cells, Room, Node, node, Block, Place, free_block, units, HasPlace, IsSpace, blocks, first_or}
+use Rattle.offset_allocator.proofs.Common.{append_assoc, append-nil, FoldsTo, cases_eq, nat_tests, Cells, ChainCells, Node, node, Block, Place, free_block, units, HasPlace, IsSpace, blocks, first_or}
 use Rattle.offset_allocator.proofs.Common.{last_or, coalesced_before, coalesced_after, Move, first_free, live, moves, move_of, common_steps}
 use Rattle.offset_allocator.proofs.Places.{placed, at_place, next_place}
 use Rattle.offset_allocator.proofs.{Ends.end_free, Ends.ended, Joints.free_units-free, Joints.free_units-used, Rows.last_or-append, Tallies.units-append}
@@ -8,13 +8,13 @@ use Rattle.offset_allocator.proofs.Tallies.{free_units, free_sum}
 use Rattle.offset_allocator.proofs.Common.{sum, free_sizes}
 
 -- the block after a block, where the list of those after it is known
-pub next_is : {c : Room} {m last count x y : ℕ} {p : Place} {b : Block} {bs : List Block} → HasPlace c m last count x p → p.after ≡ b ∷ bs → Some y ≡ (node c x).after
+pub next_is : {c : ChainCells} {m last count x y : ℕ} {p : Place} {b : Block} {bs : List Block} → HasPlace c m last count x p → p.after ≡ b ∷ bs → Some y ≡ (node c x).after
     → HasPlace c m last count y (record { before = p.before ++ p.block ∷ []; block = b; after = bs })
 next_is {y = y} {p = p} {b = b} {bs = bs} h e q =
     let n : Some y ≡ first_or None (b ∷ bs) = q ∙ ap (λ (v : Node). v.after) (at_place h) ∙ ap (first_or None) e in
     placed (rw append_assoc (rw e at h.chain)) (cc)
 
-pub before_next : {c : Room} {m last count x y : ℕ} {p : Place} → HasPlace c m last count x p → Some y ≡ (node c x).after → Some x ≡ (node c y).before
+pub before_next : {c : ChainCells} {m last count x y : ℕ} {p : Place} → HasPlace c m last count x p → Some y ≡ (node c x).after → Some x ≡ (node c y).before
 before_next {p = p} h e =
     let n = next_place h e in
     sym (ap (λ (v : Node). v.before) (at_place n.place) ∙ last_or-append None p.before (p.block ∷ []) ∙ ap (λ k. Some k) h.name)
@@ -23,7 +23,7 @@ before_next {p = p} h e =
 abbrev joined : Place → Block → List Block → Place
 joined p b bs = coalesced_before (record { before = p.before ++ p.block ∷ []; block = b; after = bs })
 
-module _ {d : Room} {m last count y : ℕ} (p : Place) (b : Block) (bs : List Block) (idle : p.block.used ≡ false) where
+module _ {d : ChainCells} {m last count y : ℕ} (p : Place) (b : Block) (bs : List Block) (idle : p.block.used ≡ false) where
   pub joined_node : HasPlace d m last count y (joined p b bs) → ((node d y).offset ≡ units p.before) × ((node d y).size ≡ p.block.size + b.size)
   joined_node h =
       let e = end_free p.before p.block idle in
@@ -40,12 +40,12 @@ module _ {d : Room} {m last count y : ℕ} (p : Place) (b : Block) (bs : List Bl
       placed (rw append_assoc (rw (e.0, e.1, same, left) at h.chain)) refl
 
 -- the free block directly after a block goes into it
-pub absorbed : {d : Room} {m last count x : ℕ} (p : Place) (b : Block) (bs : List Block) → b.used ≡ false → p.after ≡ b ∷ bs → HasPlace d m last count x (coalesced_after p)
+pub absorbed : {d : ChainCells} {m last count x : ℕ} (p : Place) (b : Block) (bs : List Block) → b.used ≡ false → p.after ≡ b ∷ bs → HasPlace d m last count x (coalesced_after p)
     → HasPlace d m last count x (record { before = p.before; block = record p.block { size = p.block.size + b.size }; after = bs })
 absorbed p b bs idle e h = grind arith
 
 -- a walk back from the last block
-pub walked : {c : Room} {last count x : ℕ} (h : IsSpace c last count) (front rest : List Block) → blocks c last ≡ front ++ rest → (e : last_or None front ≡ Some x)
+pub walked : {c : ChainCells} {last count x : ℕ} (h : IsSpace c last count) (front rest : List Block) → blocks c last ≡ front ++ rest → (e : last_or None front ≡ Some x)
     → HasPlace c c.reserved last count x (record { before = (ended front x e).front; block = (ended front x e).last; after = rest })
 walked {x = x} h front rest is e = let f = ended front x e in placed (rw append_assoc at (rw f.is at (rw is at h))) f.name
 
@@ -62,7 +62,7 @@ moved_one from to b ne = elim (cases_eq from to) [ inl e ↦ absurd (ne e) | inr
 -- how far the free block of p has come: it is at a place where the same live ranges and free units are around it
 pub record IsSliding {F : Type 0} (R : F → Move → F → Type 0) (m : ℕ) (p : Place) (f : F) (accesses : ℕ) (t : Cells) (last count hole size : ℕ) (g : F) (used : ℕ) : Type 0 where
   pub place : Place
-  pub there : HasPlace t.room m last count hole place
+  pub there : HasPlace t.chain m last count hole place
   pub idle : place.block.used ≡ false
   pub sized : size ≡ place.block.size
   pub kept : place.before ++ live place.after ≡ p.before ++ live p.after
@@ -95,7 +95,7 @@ module _ {F : Type 0} {R : F → Move → F → Type 0} {m : ℕ} {p : Place} {f
 
   -- a used block passes it
   pub slid_past : (b : Block) (bs : List Block) (t' : Cells) (last' count' hole' : ℕ) (g' : F) (used' : ℕ) → b.used ≡ true → q.after ≡ b ∷ bs
-      → HasPlace t'.room m last' count' hole' (record { before = q.before ++ b ∷ []; block = free_block hole' q.block.size; after = bs })
+      → HasPlace t'.chain m last' count' hole' (record { before = q.before ++ b ∷ []; block = free_block hole' q.block.size; after = bs })
       → FoldsTo R g (move_of (units q.before + size) (units q.before) b) g' → used' ≤ used + 20
       → IsSliding R m p f accesses t' last' count' hole' size g' used'
   slid_past b bs t' last' count' hole' g' used' live_b e there call more = record {
@@ -117,7 +117,7 @@ module _ {F : Type 0} {R : F → Move → F → Type 0} {m : ℕ} {p : Place} {f
 
   -- a free block goes into it
   pub slid_into : (b : Block) (bs : List Block) (t' : Cells) (last' count' size' used' : ℕ) → b.used ≡ false → q.after ≡ b ∷ bs → size' ≡ size + b.size
-      → HasPlace t'.room m last' count' hole (record { before = q.before; block = record q.block { size = q.block.size + b.size }; after = bs })
+      → HasPlace t'.chain m last' count' hole (record { before = q.before; block = record q.block { size = q.block.size + b.size }; after = bs })
       → used' ≤ used + 20
       → IsSliding R m p f accesses t' last' count' hole size' g used'
   slid_into b bs t' last' count' size' used' idle_b e size_is there more = record {
@@ -135,12 +135,12 @@ module _ {F : Type 0} {R : F → Move → F → Type 0} {m : ℕ} {p : Place} {f
       from = omega arith
 
   -- it is the last block
-  pub slid_end : q.after ≡ [] → HasPlace t.room m last count hole (record { before = p.before ++ live p.after; block = free_block hole size; after = [] })
+  pub slid_end : q.after ≡ [] → HasPlace t.chain m last count hole (record { before = p.before ++ live p.after; block = free_block hole size; after = [] })
       × (size ≡ p.block.size + sum (free_sizes p.after))
       × FoldsTo R f (moves (units p.before + p.block.size) (units p.before) p.after) g × (used ≤ accesses + 20 * length p.after)
   slid_end e = grind (arith, append-nil, free_sum)
 
-pub at_end : {c : Room} {m last count x : ℕ} {p : Place} → HasPlace c m last count x p → None ≡ (node c x).after → p.after ≡ []
+pub at_end : {c : ChainCells} {m last count x : ℕ} {p : Place} → HasPlace c m last count x p → None ≡ (node c x).after → p.after ≡ []
 at_end {p = p} h e = go p.after (e ∙ ap (λ (v : Node). v.after) (at_place h))
   where
     go : (l : List Block) → None ≡ first_or None l → l ≡ []

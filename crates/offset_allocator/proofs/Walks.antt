@@ -1,12 +1,12 @@
 -- Names linked back and forth: what a change of the links leaves of them.
 use Rattle.offset_allocator.proofs.Common.{◌≡◌, ◌≢◌, ◌<◌, ◌≤◌, ◌+◌, ◌⊎◌, ℕ, zero, suc, List, [], ◌∷◌, ◌++◌, refl, sym, ap, ◌∙◌, inl, inr, arith, length, drop, nat_eq, slice_index, slice_set, eq-eqb}
-use Rattle.offset_allocator.proofs.Common.{ne_eqb, length-set, get_or-set_same, get_or-set_other, cases_eq, Links, one, times, IsLinked, Among, first_of, names_from, common_steps}
+use Rattle.offset_allocator.proofs.Common.{ne_eqb, length-set, get_or-set_same, get_or-set_other, cases_eq, BinCells, one, times, IsLinked, IsAmong, first_of, names_from, common_steps}
 use Rattle.offset_allocator.proofs.Tallies.{hit_cases, one-same, times-join}
 use Rattle.offset_allocator.proofs.Tallies.{without}
 
 -- ---- lists of names
 -- a list with one name fewer
-pub drop_one : (x : ℕ) (ys : List ℕ) → Among x ys → (zs : List ℕ) × (length ys ≡ length zs + 1) × ((y : ℕ) → times y ys ≡ one (nat_eq y x) + times y zs)
+pub drop_one : (x : ℕ) (ys : List ℕ) → IsAmong x ys → (zs : List ℕ) × (length ys ≡ length zs + 1) × ((y : ℕ) → times y ys ≡ one (nat_eq y x) + times y zs)
 drop_one x [] l = absurd (omega arith)
 drop_one x (y ∷ ys) l = elim (hit_cases x y) [
   | inl h ↦ (ys, omega arith, λ z. ap (λ w. one (nat_eq z w) + times z ys) (sym h.0))
@@ -14,7 +14,7 @@ drop_one x (y ∷ ys) l = elim (hit_cases x y) [
 ]
 
 -- m names are below m
-length_below : (m : ℕ) (xs : List ℕ) → ((x : ℕ) → times x xs ≤ 1) → ((x : ℕ) → Among x xs → x < m) → length xs ≤ m
+length_below : (m : ℕ) (xs : List ℕ) → ((x : ℕ) → times x xs ≤ 1) → ((x : ℕ) → IsAmong x xs → x < m) → length xs ≤ m
 length_below zero [] o l = omega arith
 length_below zero (x ∷ xs) o l = absurd (omega (arith, l x (omega (arith, one-same x))))
 length_below (suc m) xs o l = elim (cases_eq (times m xs) 0) [
@@ -49,17 +49,17 @@ without_later x w (f ∷ fs) cs o = elim (hit_cases x f) [
   | inr i ↦ rw (ne_eqb f x (λ q. i.0 (sym q))) (ap (λ l. f ∷ l) (without_later x w fs cs (omega (arith, i.1))))
 ]
   where
-    times-later : (x w : ℕ) (fs cs : List ℕ) → Among x (fs ++ w ∷ x ∷ cs)
+    times-later : (x w : ℕ) (fs cs : List ℕ) → IsAmong x (fs ++ w ∷ x ∷ cs)
     times-later x w [] cs = omega (arith, one-same x)
     times-later x w (f ∷ fs) cs = omega (arith, times-later x w fs cs)
 
 -- ---- one chain
-module _ (none : ℕ) (t : Links) (small : length t.newer ≤ none) where
-  pub name_below : (b : ℕ) (xs : List ℕ) → IsLinked none t b xs → (y : ℕ) → Among y xs → y < length t.newer
+module _ (none : ℕ) (t : BinCells) (small : length t.newer ≤ none) where
+  pub name_below : (b : ℕ) (xs : List ℕ) → IsLinked none t b xs → (y : ℕ) → IsAmong y xs → y < length t.newer
   name_below b [] c y a = absurd (omega arith)
   name_below b (x ∷ xs) c y a = elim (hit_cases y x) [ inl h ↦ omega (arith, h.0, c.0) | inr h ↦ name_below x xs c.3 y (omega (arith, h.1)) ]
 
-  pub older_below : (b : ℕ) (xs : List ℕ) → IsLinked none t b xs → (x : ℕ) → Among x xs → slice_index t.older x ≢ none → slice_index t.older x < length t.newer
+  pub older_below : (b : ℕ) (xs : List ℕ) → IsLinked none t b xs → (x : ℕ) → IsAmong x xs → slice_index t.older x ≢ none → slice_index t.older x < length t.newer
   older_below b [] c x a n = absurd (omega arith)
   older_below b (y ∷ ys) c x a n = elim (hit_cases x y) [
     | inl h ↦ at ys c.3 (ap (slice_index t.older) h.0 ∙ c.2)
@@ -71,14 +71,14 @@ module _ (none : ℕ) (t : Links) (small : length t.newer ≤ none) where
       at (z ∷ l) d e = omega (arith, d.0)
 
   -- the name after one of a chain is in it too
-  pub next_among : (b : ℕ) (xs : List ℕ) → IsLinked none t b xs → (x : ℕ) → Among x xs → slice_index t.older x ≢ none → Among (slice_index t.older x) xs
+  pub next_among : (b : ℕ) (xs : List ℕ) → IsLinked none t b xs → (x : ℕ) → IsAmong x xs → slice_index t.older x ≢ none → IsAmong (slice_index t.older x) xs
   next_among b [] c x a n = absurd (omega arith)
   next_among b (y ∷ ys) c x a n = elim (hit_cases x y) [
     | inl h ↦ at ys (ap (slice_index t.older) h.0 ∙ c.2)
     | inr h ↦ omega (arith, next_among y ys c.3 x (omega (arith, h.1)) n)
   ]
     where
-      at : (l : List ℕ) → slice_index t.older x ≡ first_of none l → Among (slice_index t.older x) (y ∷ l)
+      at : (l : List ℕ) → slice_index t.older x ≡ first_of none l → IsAmong (slice_index t.older x) (y ∷ l)
       at [] e = absurd (n e)
       at (z ∷ l) e = omega (arith, ap (λ i. times i (z ∷ l)) e, one-same z)
 
@@ -99,7 +99,7 @@ module _ (none : ℕ) (t : Links) (small : length t.newer ≤ none) where
     pub rest : List ℕ
     pub is : xs ≡ front ++ slice_index t.newer x ∷ x ∷ rest
 
-  pub found : (b x : ℕ) (xs : List ℕ) → IsLinked none t b xs → Among x xs → ((slice_index t.newer x ≡ b) × (xs ≡ x ∷ drop 1 xs)) ⊎ IsLater x xs
+  pub found : (b x : ℕ) (xs : List ℕ) → IsLinked none t b xs → IsAmong x xs → ((slice_index t.newer x ≡ b) × (xs ≡ x ∷ drop 1 xs)) ⊎ IsLater x xs
   found b x [] c a = absurd (omega arith)
   found b x (y ∷ ys) c a = elim (hit_cases x y) [
     | inl h ↦ inl (ap (slice_index t.newer) h.0 ∙ c.1, ap (λ i. i ∷ ys) (sym h.0))
@@ -110,15 +110,15 @@ module _ (none : ℕ) (t : Links) (small : length t.newer ≤ none) where
   ]
 
 -- ---- a chain under other links
-module _ (none : ℕ) (t t' : Links) (even : length t'.newer ≡ length t.newer) where
-  pub kept : (b : ℕ) (xs : List ℕ) → ((y : ℕ) → Among y xs → (slice_index t'.newer y ≡ slice_index t.newer y) × (slice_index t'.older y ≡ slice_index t.older y))
+module _ (none : ℕ) (t t' : BinCells) (even : length t'.newer ≡ length t.newer) where
+  pub kept : (b : ℕ) (xs : List ℕ) → ((y : ℕ) → IsAmong y xs → (slice_index t'.newer y ≡ slice_index t.newer y) × (slice_index t'.older y ≡ slice_index t.older y))
       → IsLinked none t b xs → IsLinked none t' b xs
   kept b [] s c = tt
   kept b (x ∷ xs) s c = let e = s x (omega (arith, one-same x)) in (omega (arith, c.0), e.0 ∙ c.1, e.1 ∙ c.2, kept x xs (λ y a. s y (omega arith)) c.3)
 
   -- another name, or none, before the first
   pub led : (b b' : ℕ) (xs : List ℕ) → ((x : ℕ) → times x xs ≤ 1) → slice_index t'.newer (first_of none xs) ≡ b' ⊎ (xs ≡ [])
-      → ((y : ℕ) → Among y xs → y ≢ first_of none xs → slice_index t'.newer y ≡ slice_index t.newer y) → ((y : ℕ) → Among y xs → slice_index t'.older y ≡ slice_index t.older y)
+      → ((y : ℕ) → IsAmong y xs → y ≢ first_of none xs → slice_index t'.newer y ≡ slice_index t.newer y) → ((y : ℕ) → IsAmong y xs → slice_index t'.older y ≡ slice_index t.older y)
       → IsLinked none t b xs → IsLinked none t' b' xs
   led b b' [] o f n s c = grind arith
   led b b' (x ∷ xs) o f n s c = grind (arith, one-same, kept)
@@ -133,7 +133,7 @@ first_same none w x cs [] = refl
 first_same none w x cs (y ∷ l) = refl
 
 -- x leaves: the names beside it, w and the first of cs, are linked to each other
-module _ (none : ℕ) (t t' : Links) (w x : ℕ) (cs : List ℕ) (small : length t.newer ≤ none) (even : length t.older ≡ length t.newer)
+module _ (none : ℕ) (t t' : BinCells) (w x : ℕ) (cs : List ℕ) (small : length t.newer ≤ none) (even : length t.older ≡ length t.newer)
     (newer : t'.newer ≡ slice_set t.newer (first_of none cs) w) (older : t'.older ≡ slice_set t.older w (first_of none cs)) where
   pub newer_kept : (y : ℕ) → y ≢ first_of none cs → slice_index t'.newer y ≡ slice_index t.newer y
   newer_kept y n = rw newer (get_or-set_other t.newer (first_of none cs) y w 0 n)
@@ -164,14 +164,14 @@ module _ (none : ℕ) (t t' : Links) (w x : ℕ) (cs : List ℕ) (small : length
       )
 
 -- names from one on: n names of the list are before it, and `total` are all
-pub record IsTail (none : ℕ) (t : Links) (name n total : ℕ) : Type 0 where
+pub record IsTail (none : ℕ) (t : BinCells) (name n total : ℕ) : Type 0 where
   pub before : ℕ
   pub names : List ℕ
   pub chain : IsLinked none t before names
   pub is : name ≡ first_of none names
   pub counted : n + length names ≡ total
 
-pub tail_next : {none : ℕ} {t : Links} {name n total : ℕ} → IsTail none t name n total → name ≢ none → (name < length t.newer) × (n < total)
+pub tail_next : {none : ℕ} {t : BinCells} {name n total : ℕ} → IsTail none t name n total → name ≢ none → (name < length t.newer) × (n < total)
     × IsTail none t (slice_index t.older name) (n + 1) total
 tail_next {none} {t} {name} {n} {total} s ne = go s.names s.before s.chain s.is s.counted
   where
@@ -180,7 +180,7 @@ tail_next {none} {t} {name} {n} {total} s ne = go s.names s.before s.chain s.is 
     go [] b c e l = absurd (ne e)
     go (x ∷ xs) b c e l = (omega (arith, c.0), omega arith, record { before = x; names = xs; chain = c.3; is = ap (slice_index t.older) e ∙ c.2; counted = omega arith })
 
-pub tail_end : {none : ℕ} {t : Links} {name n total : ℕ} → length t.newer ≤ none → IsTail none t name n total → name ≡ none → n ≡ total
+pub tail_end : {none : ℕ} {t : BinCells} {name n total : ℕ} → length t.newer ≤ none → IsTail none t name n total → name ≡ none → n ≡ total
 tail_end {none} {t} {name} {n} {total} small s e = go s.names s.before s.chain s.is s.counted
   where
     go : (xs : List ℕ) (b : ℕ) → IsLinked none t b xs → name ≡ first_of none xs → n + length xs ≡ total → n ≡ total

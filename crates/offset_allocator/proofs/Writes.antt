@@ -1,20 +1,20 @@
 -- What the writes of each change of the chain leave.
 use Rattle.offset_allocator.proofs.Common.{◌≡◌, ◌≢◌, ℕ, ◌+◌, ◌-◌, ◌<◌, ◌≤◌, ◌^◌, Bool, false, Option, None, Some, MatchOption, List, [], ◌∷◌, ◌++◌, length, get_or, refl, sym, ◌∙◌, ap, arith}
-use Rattle.offset_allocator.proofs.Common.{append_assoc, length-append, length-set, set, nat_eq, cases_eq, Room, Node, node, put, with_spare, first_or, last_or, IsRow, IsChain, HasPlace}
+use Rattle.offset_allocator.proofs.Common.{append_assoc, length-append, length-set, set, nat_eq, cases_eq, ChainCells, Node, node, put, with_spare, first_or, last_or, IsRow, IsChain, HasPlace}
 use Rattle.offset_allocator.proofs.Common.{coalesced_before, coalesced_after, Block, Place, free_block, units, count_named, one, common_steps}
 use Rattle.offset_allocator.proofs.Exchange.{IsTop, IsExchange, IsRelinked, back_to, on_to, wrote, top, kept_names, pushed_names, link_back, link_on, link_none, back, relinked_spare, relinked_memory}
 use Rattle.offset_allocator.proofs.Tallies.{one-eq, one-other, times-append, units-append}
 use Rattle.offset_allocator.proofs.{Nodes.nodes-with_spare, Nodes.reserved-with_spare, Ends.end_free, Places.placed, Places.at_place, Places.next_place, Places.previous_place}
 
-spare-with_spare : (c : Room) (i v : ℕ) → (with_spare c i v).spare ≡ set c.spare i v
+spare-with_spare : (c : ChainCells) (i v : ℕ) → (with_spare c i v).spare ≡ set c.spare i v
 unfolding with_spare
 spare-with_spare c i v = refl
 
-not_top : {t : Room} {m last count x y : ℕ} {p : Place} → HasPlace t m last count x p → IsTop t count y (p.before ++ p.block ∷ p.after) → y ≢ x
+not_top : {t : ChainCells} {m last count x y : ℕ} {p : Place} → HasPlace t m last count x p → IsTop t count y (p.before ++ p.block ∷ p.after) → y ≢ x
 not_top {y = y} {p = p} h tp q = omega (arith, tp.absent, times-append y p.before (p.block ∷ p.after), one-eq y p.block.name (h.name ∙ sym q))
 
 -- two blocks become one, under the name of b; the name of g is unused again
-name_freed : (b g : Block) {t w d e : Room} {m last count y : ℕ} {fs old cs : List Block} {n : ℕ} → IsChain t m last count (fs ++ (old ++ cs)) → g.name ≡ y → (node t y).used ≡ false
+name_freed : (b g : Block) {t w d e : ChainCells} {m last count y : ℕ} {fs old cs : List Block} {n : ℕ} → IsChain t m last count (fs ++ (old ++ cs)) → g.name ≡ y → (node t y).used ≡ false
     → ((k : ℕ) → k ≢ b.name → node w k ≡ node t k) → length w.nodes ≡ length t.nodes → d.spare ≡ t.spare → d.reserved ≡ t.reserved → e ≡ with_spare d count y
     → IsRow w (last_or None fs) (units fs) (record b { size = n } ∷ []) (first_or None cs)
     → ((k : ℕ) → count_named k old ≡ one (nat_eq k b.name) + one (nat_eq k g.name)) → length old ≡ 2
@@ -23,14 +23,14 @@ name_freed b g {t} {w} {d} {e} {m} {last} {count} {y} {fs} {old} {cs} {n} h name
     grind (arith, length-append, spare-with_spare, one-eq, cases_eq, one-other, nodes-with_spare, reserved-with_spare, length-set, pushed_names)
 
 -- one block becomes two, the other under an unused name
-name_taken : {t w d : Room} {count y : ℕ} {b : Block} {fs new cs : List Block} → IsTop t count y (fs ++ b ∷ cs) → 0 < count
+name_taken : {t w d : ChainCells} {count y : ℕ} {b : Block} {fs new cs : List Block} → IsTop t count y (fs ++ b ∷ cs) → 0 < count
     → ((k : ℕ) → k ≢ b.name → k ≢ y → node w k ≡ node t k) → length w.nodes ≡ length t.nodes → d.spare ≡ t.spare → d.reserved ≡ t.reserved
     → IsRow w (last_or None fs) (units fs) new (first_or None cs) → ((k : ℕ) → count_named k new ≡ one (nat_eq k b.name) + one (nat_eq k y)) → length new ≡ 2
     → IsExchange t w d d count (count - 1) fs (b ∷ []) new cs
 name_taken {t} {w} {d} {count} {y} {b} tp some other cells spare memory row two both = grind (arith, one-eq, kept_names)
 
 -- a remainder is split off
-pub split_place : {t w₁ w₂ d : Room} {m last last' count x n y o s : ℕ} {a b c : Option ℕ} {p : Place} → HasPlace t m last count x p → 0 < count
+pub split_place : {t w₁ w₂ d : ChainCells} {m last last' count x n y o s : ℕ} {a b c : Option ℕ} {p : Place} → HasPlace t m last count x p → 0 < count
     → y ≡ get_or t.spare (count - 1) 0 → n ≤ s
     → o ≡ (node t x).offset → s ≡ (node t x).size → a ≡ (node t x).after → b ≡ Some x → c ≡ Some y
     → w₁ ≡ put t y (record { offset = o + n; size = s - n; used = false; before = b; after = a }) → w₂ ≡ put w₁ x (record (node w₁ x) { size = n; after = c })
@@ -54,7 +54,7 @@ split_place {t} {w₁} {w₂} {d} {m} {last} {last'} {count} {x} {n} {y} {o} {s}
     placed (link_back h.chain exchange last' y (rw aa at linked) refl refl (omega arith) (rw aa at moved)) h.name
 
 -- padding is split off
-pub split_before_place : {t w₁ w₂ d : Room} {m last count x n y o s : ℕ} {a b c : Option ℕ} {p : Place} → HasPlace t m last count x p → 0 < count
+pub split_before_place : {t w₁ w₂ d : ChainCells} {m last count x n y o s : ℕ} {a b c : Option ℕ} {p : Place} → HasPlace t m last count x p → 0 < count
     → y ≡ get_or t.spare (count - 1) 0 → n ≤ s
     → o ≡ (node t x).offset → s ≡ (node t x).size → a ≡ (node t x).before → b ≡ Some x → c ≡ Some y
     → w₁ ≡ put t y (record { offset = o; size = n; used = false; before = a; after = b }) → w₂ ≡ put w₁ x (record (node w₁ x) { offset = o + n; size = s - n; before = c })
@@ -79,7 +79,7 @@ split_before_place {t} {w₁} {w₂} {d} {m} {last} {count} {x} {n} {y} {o} {s} 
     placed (rw append_assoc (link_on h.chain exchange y (rw aa at linked) refl refl (omega arith))) h.name
 
 -- a block is coalesced with the free one after it
-pub coalesce_after_place : (d : Room) {t w e : Room} {m last last' count x y s : ℕ} {a : Option ℕ} {p : Place} → HasPlace t m last count x p → Some y ≡ (node t x).after
+pub coalesce_after_place : (d : ChainCells) {t w e : ChainCells} {m last last' count x y s : ℕ} {a : Option ℕ} {p : Place} → HasPlace t m last count x p → Some y ≡ (node t x).after
     → (node t y).used ≡ false
     → s ≡ (node t x).size + (node t y).size → a ≡ (node t y).after → w ≡ put t x (record (node t x) { size = s; after = a })
     → IsRelinked a (back_to x) w d → MatchOption a (last' ≡ x) (λ _. last' ≡ last) → e ≡ with_spare d count y
@@ -100,7 +100,7 @@ coalesce_after_place d {t} {w} {e} {m} {last} {last'} {count} {x} {y} {s} {a} {p
     rw (n.is, idle) (placed (link_back (rw n.is at h.chain) exchange last' x (rw aa at linked) (ap (λ i. Some i) h.name) refl (omega arith) (rw aa at moved)) h.name)
 
 -- a free block is coalesced into the one after it
-pub coalesce_before_place : (d : Room) {t w e : Room} {m last count x y o s : ℕ} {a : Option ℕ} {p : Place} → HasPlace t m last count x p → Some y ≡ (node t x).before
+pub coalesce_before_place : (d : ChainCells) {t w e : ChainCells} {m last count x y o s : ℕ} {a : Option ℕ} {p : Place} → HasPlace t m last count x p → Some y ≡ (node t x).before
     → (node t y).used ≡ false
     → o ≡ (node t y).offset → s ≡ (node t y).size + (node t x).size → a ≡ (node t y).before → w ≡ put t x (record (node t x) { offset = o; size = s; before = a })
     → IsRelinked a (on_to x) w d → e ≡ with_spare d count y
@@ -122,7 +122,7 @@ coalesce_before_place d {t} {w} {e} {m} {last} {count} {x} {y} {o} {s} {a} {p} h
     rw (n.is, is.0, is.1) (placed (link_on n.place.chain exchange x (rw aa at linked) (ap (λ i. Some i) h.name) refl (omega arith)) h.name)
 
 -- a block is made used or free
-pub mark_place : {t d : Room} {m last count x : ℕ} {u : Bool} {p : Place} → HasPlace t m last count x p → d ≡ put t x (record (node t x) { used = u })
+pub mark_place : {t d : ChainCells} {m last count x : ℕ} {u : Bool} {p : Place} → HasPlace t m last count x p → d ≡ put t x (record (node t x) { used = u })
     → HasPlace d m last count x (record p { block = record p.block { used = u } })
 mark_place {t} {d} {m} {last} {count} {x} {u} {p} h e =
     let s = wrote e h.below in
@@ -140,7 +140,7 @@ mark_place {t} {d} {m} {last} {count} {x} {u} {p} h e =
     placed (link_none h.chain exchange refl refl refl (back h.chain exchange) (omega (arith, h.chain.fits, units-append p.before (p.block ∷ p.after)))) h.name
 
 -- the last block has more units
-pub grow_place : (more : ℕ) {t d : Room} {m last count x s : ℕ} {fs : List Block} {b : Block} → HasPlace t m last count x (record { before = fs; block = b; after = [] })
+pub grow_place : (more : ℕ) {t d : ChainCells} {m last count x s : ℕ} {fs : List Block} {b : Block} → HasPlace t m last count x (record { before = fs; block = b; after = [] })
     → units (fs ++ b ∷ []) + more < 2 ^ 32
     → s ≡ (node t x).size → d ≡ put t x (record (node t x) { size = s + more }) → HasPlace d m last count x (record { before = fs; block = record b { size = b.size + more }; after = [] })
 grow_place more {t} {d} {m} {last} {count} {x} {s} {fs} {b} h small es e =

@@ -1,7 +1,7 @@
 -- The 256 bins, as links in tables, and the masks that say which are not empty.
 use Rattle.std.specs.Prelude.{ℕ, ◌+◌, ◌≡◌, ◌≢◌, ◌<◌, ◌≤◌, ◌/◌, ◌%◌, ◌^◌, if◌then◌else◌, min, nat_eq, zero, suc, List, [], ◌∷◌, map, length, slice_index}
 use Rattle.std.specs.Int.{bit_at}
-use Rattle.offset_allocator.specs.Cells.{Links}
+use Rattle.offset_allocator.specs.Cells.{BinCells}
 use Rattle.offset_allocator.specs.View.{bin_at, times}
 
 -- the names from h on, along the links to older names
@@ -10,12 +10,12 @@ names_from none older zero h = []
 names_from none older (suc k) h = if nat_eq h none then [] else h ∷ (names_from none) older k (slice_index older h)
 
 -- the bins in the tables: of each class, newest first
-unfoldable pub bins_in : ℕ → Links → List (List ℕ)
+unfoldable pub bins_in : ℕ → BinCells → List (List ℕ)
 bins_in none t = map ((names_from none) t.older (length t.older)) t.heads
 
 -- a name is in a list
-abbrev pub Among : ℕ → List ℕ → Type 0
-Among x xs = 1 ≤ times x xs
+abbrev pub IsAmong : ℕ → List ℕ → Type 0
+IsAmong x xs = 1 ≤ times x xs
 
 -- the first of the names, or none
 abbrev pub first_of : ℕ → List ℕ → ℕ
@@ -23,7 +23,7 @@ first_of none [] = none
 first_of none (x ∷ xs) = x
 
 -- the names are linked back and forth; b is before the first, and none after the last
-abbrev pub IsLinked : ℕ → Links → ℕ → List ℕ → Type 0
+abbrev pub IsLinked : ℕ → BinCells → ℕ → List ℕ → Type 0
 IsLinked none t b [] = Unit {0}
 IsLinked none t b (x ∷ xs) = (x < length t.newer) × (slice_index t.newer x ≡ b) × (slice_index t.older x ≡ first_of none xs) × (IsLinked none) t x xs
 
@@ -36,7 +36,7 @@ pub record AreMasks (ls : List (List ℕ)) (masks : List ℕ) (top : ℕ) : Type
   pub words_small : (w : ℕ) → w < 4 → slice_index masks w < 2 ^ 64
 
 -- the tables hold the lists ls, which have each name at most once
-pub record HasBins (none : ℕ) (t : Links) (ls : List (List ℕ)) : Type 0 where
+pub record HasBins (none : ℕ) (t : BinCells) (ls : List (List ℕ)) : Type 0 where
   pub older_len : length t.older ≡ length t.newer
   pub names_small : length t.newer ≤ none
   pub heads_len : length t.heads ≡ 256
@@ -47,13 +47,13 @@ pub record HasBins (none : ℕ) (t : Links) (ls : List (List ℕ)) : Type 0 wher
 
 -- no list has the name
 abbrev pub IsUnlisted : ℕ → List (List ℕ) → Type 0
-IsUnlisted x ls = (c : ℕ) → c < 256 → Among x (bin_at ls c) → ⊥
+IsUnlisted x ls = (c : ℕ) → c < 256 → IsAmong x (bin_at ls c) → ⊥
 
 -- c is the smallest class from low on whose bin has a name
 abbrev pub IsSmallestFrom : ℕ → List (List ℕ) → ℕ → Type 0
 IsSmallestFrom low ls c = (low ≤ c) × (c < 256) × (bin_at ls c ≡ [] → ⊥) × ((d : ℕ) → low ≤ d → d < c → bin_at ls d ≡ [])
 
 -- links and masks agree with the bins
-pub record IsBinned (none : ℕ) (t : Links) (top : ℕ) : Type 0 where
+pub record IsBinned (none : ℕ) (t : BinCells) (top : ℕ) : Type 0 where
   pub linked : HasBins none t ((bins_in none) t)
   pub masked : AreMasks ((bins_in none) t) t.masks top

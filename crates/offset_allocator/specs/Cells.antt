@@ -11,13 +11,13 @@ pub record Node : Type 0 where
 
 -- what the chain of blocks works on: the nodes that were made, the stack of unused names, and how many nodes there is
 -- memory for
-pub record Room : Type 0 where
+pub record ChainCells : Type 0 where
   pub nodes : List Node
   pub spare : List ℕ
   pub reserved : ℕ
 
 -- what the bins work on; the largest number is no link
-pub record Links : Type 0 where
+pub record BinCells : Type 0 where
   pub newer : List ℕ
   pub older : List ℕ
   pub heads : List ℕ
@@ -25,8 +25,8 @@ pub record Links : Type 0 where
 
 -- what all tables hold
 pub record Cells : Type 0 where
-  pub room : Room
-  pub links : Links
+  pub chain : ChainCells
+  pub bins : BinCells
 
 -- the bytes of a link whose numbers are at most this: 1, 2 or 4
 abbrev pub link_bytes : ℕ → ℕ
@@ -37,19 +37,19 @@ abbrev pub blank : Node
 blank = record { offset = 0; size = 0; used = false; before = None; after = None }
 
 -- the node of a name
-unfoldable pub node : Room → ℕ → Node
+unfoldable pub node : ChainCells → ℕ → Node
 node c x = slice_index_or c.nodes x blank
 
 -- the nodes, with another node under a name
-unfoldable pub put : Room → ℕ → Node → Room
+unfoldable pub put : ChainCells → ℕ → Node → ChainCells
 put c x n = record c { nodes = slice_set c.nodes x n }
 
 -- the stack of unused names, with another name at a place
-unfoldable pub with_spare : Room → ℕ → ℕ → Room
+unfoldable pub with_spare : ChainCells → ℕ → ℕ → ChainCells
 with_spare c i v = record c { spare = slice_set c.spare i v }
 
 -- the nodes with one more, which is blank, and the stack with its name at a place
-unfoldable pub with_node : Room → ℕ → Room
+unfoldable pub with_node : ChainCells → ℕ → ChainCells
 with_node c i = record c { nodes = c.nodes ++ blank ∷ []; spare = slice_set (c.spare ++ length c.nodes ∷ []) i (length c.nodes) }
 
 -- a link of this number, where the largest number is no link
@@ -64,23 +64,23 @@ mark_of max used = if used then max - 1 else max
 -- the tables have one length, at most the memory, which is below the largest number; there are a head for each class
 -- and 4 masks; the links to newer nodes say which nodes are used
 pub record AreShaped (max : ℕ) (c : Cells) : Type 0 where
-  pub spare : length c.room.spare ≡ length c.room.nodes
-  pub newer : length c.links.newer ≡ length c.room.nodes
-  pub older : length c.links.older ≡ length c.room.nodes
-  pub heads : length c.links.heads ≡ 256
-  pub masks : length c.links.masks ≡ 4
-  pub within : length c.room.nodes ≤ c.room.reserved
-  pub limit : c.room.reserved < max
+  pub spare : length c.chain.spare ≡ length c.chain.nodes
+  pub newer : length c.bins.newer ≡ length c.chain.nodes
+  pub older : length c.bins.older ≡ length c.chain.nodes
+  pub heads : length c.bins.heads ≡ 256
+  pub masks : length c.bins.masks ≡ 4
+  pub within : length c.chain.nodes ≤ c.chain.reserved
+  pub limit : c.chain.reserved < max
   pub word : max ≤ 4294967295
-  pub flags : (x : ℕ) → x < length c.room.nodes → (node c.room x).used ≡ eqb (slice_index c.links.newer x) (max - 1)
+  pub flags : (x : ℕ) → x < length c.chain.nodes → (node c.chain x).used ≡ eqb (slice_index c.bins.newer x) (max - 1)
 
 -- memory for m nodes, and one of them made, which is blank
-pub record IsBare (m : ℕ) (c : Room) : Type 0 where
+pub record IsBare (m : ℕ) (c : ChainCells) : Type 0 where
   pub nodes : c.nodes ≡ blank ∷ []
   pub spare : c.spare ≡ 0 ∷ []
   pub reserved : c.reserved ≡ m
 
 -- no bin has a name
-pub record AreEmpty (max : ℕ) (k : Links) : Type 0 where
+pub record AreEmpty (max : ℕ) (k : BinCells) : Type 0 where
   pub heads : k.heads ≡ replicate 256 max
   pub masks : k.masks ≡ replicate 4 0

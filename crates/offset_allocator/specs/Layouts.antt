@@ -23,12 +23,12 @@ nodes_of max number ns = map (node_of max number) ns
 -- the cells of one table of nodes
 abbrev pub cells_by_node : {A B : Type 0} → ℕ → (A → ℕ) → NodesInside A B → Cells
 cells_by_node max number t = record {
-  room = record {
+  chain = record {
     nodes = nodes_of max number t.nodes.items;
     spare = map number t.spare.items;
     reserved = vec_capacity t.nodes;
   };
-  links = record {
+  bins = record {
     newer = map (λ n. number n.newer) t.nodes.items;
     older = map (λ n. number n.older) t.nodes.items;
     heads = t.heads;
@@ -85,12 +85,12 @@ field_tables number t = record {
 -- the cells of a table for each field
 abbrev pub cells_by_field : {A B : Type 0} → ℕ → (A → ℕ) → FieldsInside A B → Cells
 cells_by_field max number t = record {
-  room = record {
+  chain = record {
     nodes = nodes_in max (field_tables number t);
     spare = map number t.spare.items;
     reserved = vec_capacity t.offset;
   };
-  links = record {
+  bins = record {
     newer = map number t.newer.items;
     older = map number t.older.items;
     heads = t.heads;

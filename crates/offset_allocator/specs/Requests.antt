@@ -1,4 +1,4 @@
--- What is reported of an allocator: when a request is granted, why it is refused, and how much is free.
+-- When a request is granted, why it is refused, and the reports of an allocator.
 use Rattle.std.specs.Prelude.{◌≡◌, ◌≢◌, ℕ, ◌+◌, ◌-◌, min, max, ◌%◌, ◌^◌, ◌<◌, ◌≤◌, length, List, [], sum, codes, slice_index_or}
 use Rattle.offset_allocator.specs.declared.reports.Refusal.{Refusal}
 use Rattle.offset_allocator.specs.declared.reports.Refusal.TheVariants.{Nodes, TooLarge, Space, Fragmented}

@@ -10,19 +10,19 @@ abbrev pub view_of : ℕ → ℕ → ℕ → Cells → ℕ → ℕ → View
 view_of max size limit c last accesses = record {
   size = size;
   max_allocs = limit;
-  blocks = blocks c.room last;
-  order = bins_in max c.links;
+  blocks = blocks c.chain last;
+  order = bins_in max c.bins;
   accesses = accesses;
 }
 
 -- what is true of the fields between two calls
 pub record IsSound (max size limit : ℕ) (c : Cells) (last count top free : ℕ) : Type 0 where
-  pub memory : c.room.reserved ≡ limit
+  pub memory : c.chain.reserved ≡ limit
   pub admitted : limit + 1 < max
-  pub space : IsSpace c.room last count
-  pub bins : IsBinned max c.links top
+  pub space : IsSpace c.chain last count
+  pub bins : IsBinned max c.bins top
   pub well : IsWellFormed (view_of max size limit c last 0)
-  pub total : sum (free_sizes (blocks c.room last)) ≡ free
+  pub total : sum (free_sizes (blocks c.chain last)) ≡ free
 
 -- a name that no block has is in no bin
 abbrev pub AreUnlisted : List Block → List (List ℕ) → Type 0

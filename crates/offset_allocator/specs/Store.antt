@@ -8,20 +8,20 @@ use Rattle.offset_allocator.specs.Bins.{IsBinned, bins_in}
 
 -- the store, with memory for m nodes, holds a chain with the block x at a place
 abbrev pub IsPlaceIn : {A B C : Type 0} → (A → Cells) → Store A B C → ℕ → ℕ → Place → Type 0
-IsPlaceIn cells s m x p = HasPlace (cells s.tables).room m s.last s.spare_count x p
+IsPlaceIn cells s m x p = HasPlace (cells s.tables).chain m s.last s.spare_count x p
 
 -- its links and masks agree with its bins
 abbrev pub AreBinned : {A B C : Type 0} → (A → Cells) → ℕ → Store A B C → Type 0
-AreBinned cells none s = IsBinned none (cells s.tables).links s.top_mask
+AreBinned cells none s = IsBinned none (cells s.tables).bins s.top_mask
 
 -- its bins
 abbrev pub bins_of : {A B C : Type 0} → (A → Cells) → ℕ → Store A B C → List (List ℕ)
-bins_of cells none s = bins_in none (cells s.tables).links
+bins_of cells none s = bins_in none (cells s.tables).bins
 
 -- a change of the bins leaves the chain as it was
 abbrev pub SameChain : {A B C : Type 0} → (A → Cells) → Store A B C → Store A B C → Type 0
-SameChain cells s t = ((cells t.tables).room ≡ (cells s.tables).room) × (t.last ≡ s.last) × (t.spare_count ≡ s.spare_count)
+SameChain cells s t = ((cells t.tables).chain ≡ (cells s.tables).chain) × (t.last ≡ s.last) × (t.spare_count ≡ s.spare_count)
 
 -- a change of the chain leaves the bins as they were
 abbrev pub SameBins : {A B C : Type 0} → (A → Cells) → Store A B C → Store A B C → Type 0
-SameBins cells s t = ((cells t.tables).links ≡ (cells s.tables).links) × (t.top_mask ≡ s.top_mask)
+SameBins cells s t = ((cells t.tables).bins ≡ (cells s.tables).bins) × (t.top_mask ≡ s.top_mask)

@@ -8,7 +8,8 @@ ghost use Rattle.offset_allocator.specs.Classes.{down};
 ghost use Rattle.offset_allocator.specs.View.{bin_at, push, remove};
 ghost use Rattle.offset_allocator.specs.Requests.{IsLargestClass};
 ghost use Rattle.offset_allocator.specs.Store.{AreBinned, SameChain, bins_of};
-ghost use Rattle.offset_allocator.specs.Bins.{IsUnlisted, IsSmallestFrom, Among, HasBins, AreMasks, bins_in, IsBinned};
+ghost use Rattle.offset_allocator.specs.Bins.{IsUnlisted, IsSmallestFrom, IsAmong, HasBins, AreMasks, bins_in};
+ghost use Rattle.offset_allocator.specs.Bins.{IsBinned};
 
 use crate::accesses::Accesses;
 use crate::index::{NodeIndex, link_to, no_link, number};
@@ -23,11 +24,11 @@ pub(crate) fn find_at_or_above<T: Tables>(
     class: u32,
     count: &mut Accesses,
 ) -> Option<u32>
-    requires held { IsBinned T.Index.MAX (T.cells tables.now).links top_mask }
+    requires binned { IsBinned T.Index.MAX (T.cells tables.now).bins top_mask }
     requires classed { class < 256 }
     ensures smallest { MatchOption result ((c : ℕ) → class ≤ c → c < 256
-        → bin_at (bins_in T.Index.MAX (T.cells tables.now).links) c
-        ≡ []) (IsSmallestFrom class (bins_in T.Index.MAX (T.cells tables.now).links)) }
+        → bin_at (bins_in T.Index.MAX (T.cells tables.now).bins) c
+        ≡ []) (IsSmallestFrom class (bins_in T.Index.MAX (T.cells tables.now).bins)) }
     ensures accesses { Costs 1 2 count.old count.new }
 {
     let word = class / 64;
@@ -45,9 +46,9 @@ pub(crate) fn find_at_or_above<T: Tables>(
 
 /// The largest class whose bin is not empty.
 pub(crate) fn largest<T: Tables>(tables: &T, top_mask: u32, count: &mut Accesses) -> Option<u32>
-    requires { IsBinned T.Index.MAX (T.cells tables.now).links top_mask }
-    ensures largest { MatchOption result ((c : ℕ) → c < 256 → bin_at (bins_in T.Index.MAX (T.cells tables.now).links) c
-        ≡ []) (IsLargestClass (bins_in T.Index.MAX (T.cells tables.now).links)) }
+    requires { IsBinned T.Index.MAX (T.cells tables.now).bins top_mask }
+    ensures largest { MatchOption result ((c : ℕ) → c < 256 → bin_at (bins_in T.Index.MAX (T.cells tables.now).bins) c
+        ≡ []) (IsLargestClass (bins_in T.Index.MAX (T.cells tables.now).bins)) }
     ensures accesses { MatchOption result (count.new ≡ count.old) (λ _. count.new ≡ count.old + 1) }
 {
     if top_mask == 0 {
@@ -59,9 +60,9 @@ pub(crate) fn largest<T: Tables>(tables: &T, top_mask: u32, count: &mut Accesses
 
 /// How many names are in the bin of a class.
 pub(crate) fn length_of<T: Tables>(tables: &T, class: u32, count: &mut Accesses) -> u32
-    requires linked { HasBins T.Index.MAX (T.cells tables.now).links (bins_in T.Index.MAX (T.cells tables.now).links) }
+    requires linked { HasBins T.Index.MAX (T.cells tables.now).bins (bins_in T.Index.MAX (T.cells tables.now).bins) }
     requires classed { class < 256 }
-    ensures names { result ≡ length (bin_at (bins_in T.Index.MAX (T.cells tables.now).links) class) }
+    ensures names { result ≡ length (bin_at (bins_in T.Index.MAX (T.cells tables.now).bins) class) }
     ensures accesses { count.new ≡ count.old + 1 + result }
 {
     let mut names = 0;
@@ -76,12 +77,12 @@ pub(crate) fn length_of<T: Tables>(tables: &T, class: u32, count: &mut Accesses)
 /// Pushes a name onto a bin.
 #[inline(always)]
 pub(crate) fn push<T: Tables>(store: &mut Store<T>, name: u32, class: u32)
-    requires held { AreBinned T.cells T.Index.MAX store.old }
-    requires named { name < length (T.cells store.old.tables).room.nodes }
-    requires idle { (node (T.cells store.old.tables).room name).used ≡ false }
+    requires binned { AreBinned T.cells T.Index.MAX store.old }
+    requires named { name < length (T.cells store.old.tables).chain.nodes }
+    requires idle { (node (T.cells store.old.tables).chain name).used ≡ false }
     requires classed { class < 256 }
     requires unlisted { IsUnlisted name (bins_of T.cells T.Index.MAX store.old) }
-    ensures held { AreBinned T.cells T.Index.MAX store.new }
+    ensures binned { AreBinned T.cells T.Index.MAX store.new }
     ensures lists { bins_of T.cells T.Index.MAX store.new ≡ push class name (bins_of T.cells T.Index.MAX store.old) }
     ensures chain { SameChain T.cells store.old store.new }
     ensures accesses { Costs 5 6 store.old.accesses store.new.accesses }
@@ -108,12 +109,12 @@ pub(crate) fn push<T: Tables>(store: &mut Store<T>, name: u32, class: u32)
 fn clear_bit<T: Tables>(store: &mut Store<T>, class: u32)
     requires classed { class < 256 }
     ensures masked { (ls : List (List ℕ)) → length ls ≡ 256
-        → AreMasks ls (T.cells store.old.tables).links.masks store.old.top_mask
-        → AreMasks (slice_set ls class []) (T.cells store.new.tables).links.masks store.new.top_mask }
+        → AreMasks ls (T.cells store.old.tables).bins.masks store.old.top_mask
+        → AreMasks (slice_set ls class []) (T.cells store.new.tables).bins.masks store.new.top_mask }
     ensures chain { SameChain T.cells store.old store.new }
     ensures rest { T.cells store.new.tables ≡ record (T.cells store.old.tables) {
-      links = record (T.cells store.old.tables).links
-          { masks = (T.cells store.new.tables).links.masks };
+      bins = record (T.cells store.old.tables).bins
+          { masks = (T.cells store.new.tables).bins.masks };
     } }
     ensures accesses { Costs 0 2 store.old.accesses store.new.accesses }
 {
@@ -130,14 +131,14 @@ fn clear_bit<T: Tables>(store: &mut Store<T>, class: u32)
 
 // Makes `to` the link to a newer node of the node that `at` names, if any.
 fn link_newer<T: Tables>(tables: &mut T, at: T::Index, to: T::Index, count: &mut Accesses)
-    requires limit { length (T.cells tables.old).links.newer ≤ T.Index.MAX }
-    requires named { T.Index.number at ≢ T.Index.MAX → T.Index.number at < length (T.cells tables.old).links.newer }
+    requires limit { length (T.cells tables.old).bins.newer ≤ T.Index.MAX }
+    requires named { T.Index.number at ≢ T.Index.MAX → T.Index.number at < length (T.cells tables.old).bins.newer }
     requires idle { T.Index.number at ≢ T.Index.MAX
-        → (node (T.cells tables.old).room (T.Index.number at)).used ≡ false }
+        → (node (T.cells tables.old).chain (T.Index.number at)).used ≡ false }
     requires link { T.Index.number to ≢ T.Index.MAX - 1 }
     ensures cells { T.cells tables.new ≡ record (T.cells tables.old) {
-      links = record (T.cells tables.old).links
-          { newer = slice_set (T.cells tables.old).links.newer (T.Index.number at) (T.Index.number to) };
+      bins = record (T.cells tables.old).bins
+          { newer = slice_set (T.cells tables.old).bins.newer (T.Index.number at) (T.Index.number to) };
     } }
     ensures accesses { Costs 0 1 count.old count.new }
 {
@@ -149,14 +150,14 @@ fn link_newer<T: Tables>(tables: &mut T, at: T::Index, to: T::Index, count: &mut
 // Removes the newest name of a class from its bin. `older` is the link to the next older one.
 #[inline(always)]
 fn remove_newest<T: Tables>(store: &mut Store<T>, class: u32, older: T::Index)
-    requires held { AreBinned T.cells T.Index.MAX store.old }
+    requires binned { AreBinned T.cells T.Index.MAX store.old }
     requires classed { class < 256 }
     requires some { bin_at (bins_of T.cells T.Index.MAX store.old) class ≢ [] }
-    requires older { T.Index.number older ≡ slice_index (T.cells store.old.tables).links.older
-        (slice_index (T.cells store.old.tables).links.heads class) }
-    ensures held { AreBinned T.cells T.Index.MAX store.new }
+    requires older { T.Index.number older ≡ slice_index (T.cells store.old.tables).bins.older
+        (slice_index (T.cells store.old.tables).bins.heads class) }
+    ensures binned { AreBinned T.cells T.Index.MAX store.new }
     ensures lists { bins_of T.cells T.Index.MAX store.new
-        ≡ remove class (slice_index (T.cells store.old.tables).links.heads class)
+        ≡ remove class (slice_index (T.cells store.old.tables).bins.heads class)
         (bins_of T.cells T.Index.MAX store.old) }
     ensures chain { SameChain T.cells store.old store.new }
     ensures accesses { Costs 1 3 store.old.accesses store.new.accesses }
@@ -176,10 +177,10 @@ fn remove_newest<T: Tables>(store: &mut Store<T>, class: u32, older: T::Index)
 // As `remove`, where the caller has read the link to the next newer name.
 #[inline(always)]
 fn remove_linked<T: Tables>(store: &mut Store<T>, name: u32, newer: T::Index, size: u32)
-    requires held { AreBinned T.cells T.Index.MAX store.old }
-    requires listed { Among name (bin_at (bins_of T.cells T.Index.MAX store.old) (down size)) }
-    requires newer { T.Index.number newer ≡ slice_index (T.cells store.old.tables).links.newer name }
-    ensures held { AreBinned T.cells T.Index.MAX store.new }
+    requires binned { AreBinned T.cells T.Index.MAX store.old }
+    requires listed { IsAmong name (bin_at (bins_of T.cells T.Index.MAX store.old) (down size)) }
+    requires newer { T.Index.number newer ≡ slice_index (T.cells store.old.tables).bins.newer name }
+    ensures binned { AreBinned T.cells T.Index.MAX store.new }
     ensures lists { bins_of T.cells T.Index.MAX store.new ≡ remove (down size) name
         (bins_of T.cells T.Index.MAX store.old) }
     ensures chain { SameChain T.cells store.old store.new }
@@ -201,9 +202,9 @@ fn remove_linked<T: Tables>(store: &mut Store<T>, name: u32, newer: T::Index, si
 /// Removes a name from the bin of this size.
 #[inline(always)]
 pub(crate) fn remove<T: Tables>(store: &mut Store<T>, name: u32, size: u32)
-    requires held { AreBinned T.cells T.Index.MAX store.old }
-    requires listed { Among name (bin_at (bins_of T.cells T.Index.MAX store.old) (down size)) }
-    ensures held { AreBinned T.cells T.Index.MAX store.new }
+    requires binned { AreBinned T.cells T.Index.MAX store.old }
+    requires listed { IsAmong name (bin_at (bins_of T.cells T.Index.MAX store.old) (down size)) }
+    ensures binned { AreBinned T.cells T.Index.MAX store.new }
     ensures lists { bins_of T.cells T.Index.MAX store.new ≡ remove (down size) name
         (bins_of T.cells T.Index.MAX store.old) }
     ensures chain { SameChain T.cells store.old store.new }
@@ -217,13 +218,13 @@ pub(crate) fn remove<T: Tables>(store: &mut Store<T>, name: u32, size: u32)
 /// both are one bin and `gone` is its newest, `name` takes its place.
 #[inline(always)]
 pub(crate) fn exchange<T: Tables>(store: &mut Store<T>, gone: u32, size: u32, name: u32, class: u32)
-    requires held { AreBinned T.cells T.Index.MAX store.old }
-    requires listed { Among gone (bin_at (bins_of T.cells T.Index.MAX store.old) (down size)) }
-    requires named { name < length (T.cells store.old.tables).room.nodes }
-    requires idle { (node (T.cells store.old.tables).room name).used ≡ false }
+    requires binned { AreBinned T.cells T.Index.MAX store.old }
+    requires listed { IsAmong gone (bin_at (bins_of T.cells T.Index.MAX store.old) (down size)) }
+    requires named { name < length (T.cells store.old.tables).chain.nodes }
+    requires idle { (node (T.cells store.old.tables).chain name).used ≡ false }
     requires classed { class < 256 }
     requires unlisted { IsUnlisted name (bins_of T.cells T.Index.MAX store.old) }
-    ensures held { AreBinned T.cells T.Index.MAX store.new }
+    ensures binned { AreBinned T.cells T.Index.MAX store.new }
     ensures lists { bins_of T.cells T.Index.MAX store.new
         ≡ push class name (remove (down size) gone (bins_of T.cells T.Index.MAX store.old)) }
     ensures chain { SameChain T.cells store.old store.new }
@@ -247,12 +248,12 @@ pub(crate) fn exchange<T: Tables>(store: &mut Store<T>, gone: u32, size: u32, na
 
 /// Pops the newest name of a bin.
 pub(crate) fn pop<T: Tables>(store: &mut Store<T>, class: u32) -> u32
-    requires held { AreBinned T.cells T.Index.MAX store.old }
+    requires binned { AreBinned T.cells T.Index.MAX store.old }
     requires classed { class < 256 }
     requires some { bin_at (bins_of T.cells T.Index.MAX store.old) class ≢ [] }
     ensures first { bin_at (bins_of T.cells T.Index.MAX store.old) class
         ≡ result ∷ bin_at (bins_of T.cells T.Index.MAX store.new) class }
-    ensures held { AreBinned T.cells T.Index.MAX store.new }
+    ensures binned { AreBinned T.cells T.Index.MAX store.new }
     ensures lists { bins_of T.cells T.Index.MAX store.new ≡ remove class result
         (bins_of T.cells T.Index.MAX store.old) }
     ensures chain { SameChain T.cells store.old store.new }
@@ -268,9 +269,9 @@ pub(crate) fn pop<T: Tables>(store: &mut Store<T>, class: u32) -> u32
 
 /// The top mask of bins that are all empty, as those of new tables are.
 pub(crate) fn empty_mask<T: Tables>(tables: &T) -> u32
-    requires empty { AreEmpty T.Index.MAX (T.cells tables.now).links }
-    ensures held { IsBinned T.Index.MAX (T.cells tables.now).links result }
-    ensures lists { bins_in T.Index.MAX (T.cells tables.now).links ≡ replicate 256 [] }
+    requires empty { AreEmpty T.Index.MAX (T.cells tables.now).bins }
+    ensures binned { IsBinned T.Index.MAX (T.cells tables.now).bins result }
+    ensures lists { bins_in T.Index.MAX (T.cells tables.now).bins ≡ replicate 256 [] }
 {
     tables.shape();
     0
@@ -278,7 +279,7 @@ pub(crate) fn empty_mask<T: Tables>(tables: &T) -> u32
 
 /// Removes all names from all bins, whatever these hold, by one write for each.
 pub(crate) fn empty<T: Tables>(store: &mut Store<T>)
-    ensures held { AreBinned T.cells T.Index.MAX store.new }
+    ensures binned { AreBinned T.cells T.Index.MAX store.new }
     ensures lists { bins_of T.cells T.Index.MAX store.new ≡ replicate 256 [] }
     ensures chain { SameChain T.cells store.old store.new }
     ensures accesses { store.new.accesses ≡ store.old.accesses + 260 }

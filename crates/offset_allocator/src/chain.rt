@@ -17,12 +17,12 @@ use crate::tables::Tables;
 
 /// Makes the whole space one free block, under the name of the only node.
 pub(crate) fn start<T: Tables>(tables: &mut T, size: u32, max_allocs: u32, count: &mut Accesses)
-    requires bare { IsBare max_allocs (T.cells tables.old).room }
-    ensures space { IsSpace (T.cells tables.new).room 0 0 }
-    ensures blocks { blocks (T.cells tables.new).room 0 ≡ free_block 0 size ∷ [] }
-    ensures node { length (T.cells tables.new).room.nodes ≡ 1 }
-    ensures reserved { (T.cells tables.new).room.reserved ≡ max_allocs }
-    ensures links { (T.cells tables.new).links ≡ (T.cells tables.old).links }
+    requires bare { IsBare max_allocs (T.cells tables.old).chain }
+    ensures space { IsSpace (T.cells tables.new).chain 0 0 }
+    ensures blocks { blocks (T.cells tables.new).chain 0 ≡ free_block 0 size ∷ [] }
+    ensures node { length (T.cells tables.new).chain.nodes ≡ 1 }
+    ensures reserved { (T.cells tables.new).chain.reserved ≡ max_allocs }
+    ensures bins { (T.cells tables.new).bins ≡ (T.cells tables.old).bins }
     ensures accesses { count.new ≡ count.old + 4 }
 {
     tables.shape();
@@ -31,10 +31,10 @@ pub(crate) fn start<T: Tables>(tables: &mut T, size: u32, max_allocs: u32, count
 
 /// Whether a block is used.
 pub(crate) fn is_used<T: Tables>(tables: &T, name: u32, count: &mut Accesses) -> bool
-    requires { name < length (T.cells tables.now).room.nodes }
-    ensures cell { result ≡ (node (T.cells tables.now).room name).used }
-    ensures used { (last spare : ℕ) → IsSpace (T.cells tables.now).room last spare → result
-        ≡ is_used_at (place_of name (blocks (T.cells tables.now).room last)) }
+    requires { name < length (T.cells tables.now).chain.nodes }
+    ensures cell { result ≡ (node (T.cells tables.now).chain name).used }
+    ensures used { (last spare : ℕ) → IsSpace (T.cells tables.now).chain last spare → result
+        ≡ is_used_at (place_of name (blocks (T.cells tables.now).chain last)) }
     ensures accesses { count.new ≡ count.old + 1 }
 {
     tables.used(name, count)
@@ -42,8 +42,8 @@ pub(crate) fn is_used<T: Tables>(tables: &T, name: u32, count: &mut Accesses) ->
 
 /// Whether a name, whichever it is, is that of a used block. It counts one access for a name that no node has, too.
 pub(crate) fn is_live<T: Tables>(tables: &T, name: u32, count: &mut Accesses) -> bool
-    ensures live { (last spare : ℕ) → IsSpace (T.cells tables.now).room last spare → result
-        ≡ is_used_at (place_of name (blocks (T.cells tables.now).room last)) }
+    ensures live { (last spare : ℕ) → IsSpace (T.cells tables.now).chain last spare → result
+        ≡ is_used_at (place_of name (blocks (T.cells tables.now).chain last)) }
     ensures accesses { count.new ≡ count.old + 1 }
 {
     if name < tables.len() {
@@ -56,8 +56,8 @@ pub(crate) fn is_live<T: Tables>(tables: &T, name: u32, count: &mut Accesses) ->
 
 /// The name of the block directly before a block, if there is one.
 pub(crate) fn before<T: Tables>(tables: &T, name: u32, count: &mut Accesses) -> Option<u32>
-    requires { name < length (T.cells tables.now).room.nodes }
-    ensures before { result ≡ (node (T.cells tables.now).room name).before }
+    requires { name < length (T.cells tables.now).chain.nodes }
+    ensures before { result ≡ (node (T.cells tables.now).chain name).before }
     ensures accesses { count.new ≡ count.old + 1 }
 {
     linked(tables.before(name, count))
@@ -65,8 +65,8 @@ pub(crate) fn before<T: Tables>(tables: &T, name: u32, count: &mut Accesses) -> 
 
 /// The name of the block directly after a block, if there is one.
 pub(crate) fn after<T: Tables>(tables: &T, name: u32, count: &mut Accesses) -> Option<u32>
-    requires { name < length (T.cells tables.now).room.nodes }
-    ensures after { result ≡ (node (T.cells tables.now).room name).after }
+    requires { name < length (T.cells tables.now).chain.nodes }
+    ensures after { result ≡ (node (T.cells tables.now).chain name).after }
     ensures accesses { count.new ≡ count.old + 1 }
 {
     linked(tables.after(name, count))
@@ -82,13 +82,13 @@ fn point_back<T: Tables>(
     count: &mut Accesses,
 )
     requires link { IfSome (link_of T.Index.MAX (T.Index.number link))
-        (λ after. after < length (T.cells tables.old).room.nodes) }
-    requires name { name < length (T.cells tables.old).room.nodes }
-    ensures nodes { length (T.cells tables.new).room.nodes ≡ length (T.cells tables.old).room.nodes }
-    ensures cells { MatchOption (link_of T.Index.MAX (T.Index.number link)) ((T.cells tables.new).room
-        ≡ (T.cells tables.old).room) (λ after. (T.cells tables.new).room
-        ≡ put (T.cells tables.old).room after (record (node (T.cells tables.old).room after) { before = Some name })) }
-    ensures links { (T.cells tables.new).links ≡ (T.cells tables.old).links }
+        (λ after. after < length (T.cells tables.old).chain.nodes) }
+    requires name { name < length (T.cells tables.old).chain.nodes }
+    ensures nodes { length (T.cells tables.new).chain.nodes ≡ length (T.cells tables.old).chain.nodes }
+    ensures cells { MatchOption (link_of T.Index.MAX (T.Index.number link)) ((T.cells tables.new).chain
+        ≡ (T.cells tables.old).chain) (λ x. (T.cells tables.new).chain
+        ≡ put (T.cells tables.old).chain x (record (node (T.cells tables.old).chain x) { before = Some name })) }
+    ensures bins { (T.cells tables.new).bins ≡ (T.cells tables.old).bins }
     ensures accesses { Costs 0 1 count.old count.new }
     ensures last { MatchOption (link_of T.Index.MAX (T.Index.number link))
         (last.new ≡ name) (λ _. last.new ≡ last.old) }
@@ -106,13 +106,13 @@ fn point_back<T: Tables>(
 #[tactic(auto, using(crate::proofs::Nodes::lengths))]
 fn point_on<T: Tables>(tables: &mut T, link: T::Index, name: u32, count: &mut Accesses)
     requires link { IfSome (link_of T.Index.MAX (T.Index.number link))
-        (λ before. before < length (T.cells tables.old).room.nodes) }
-    requires name { name < length (T.cells tables.old).room.nodes }
-    ensures nodes { length (T.cells tables.new).room.nodes ≡ length (T.cells tables.old).room.nodes }
-    ensures cells { MatchOption (link_of T.Index.MAX (T.Index.number link)) ((T.cells tables.new).room
-        ≡ (T.cells tables.old).room) (λ before. (T.cells tables.new).room
-        ≡ put (T.cells tables.old).room before (record (node (T.cells tables.old).room before) { after = Some name })) }
-    ensures links { (T.cells tables.new).links ≡ (T.cells tables.old).links }
+        (λ before. before < length (T.cells tables.old).chain.nodes) }
+    requires name { name < length (T.cells tables.old).chain.nodes }
+    ensures nodes { length (T.cells tables.new).chain.nodes ≡ length (T.cells tables.old).chain.nodes }
+    ensures cells { MatchOption (link_of T.Index.MAX (T.Index.number link)) ((T.cells tables.new).chain
+        ≡ (T.cells tables.old).chain) (λ x. (T.cells tables.new).chain
+        ≡ put (T.cells tables.old).chain x (record (node (T.cells tables.old).chain x) { after = Some name })) }
+    ensures bins { (T.cells tables.new).bins ≡ (T.cells tables.old).bins }
     ensures accesses { Costs 0 1 count.old count.new }
 {
     if let Some(before) = linked(link) {
@@ -133,8 +133,8 @@ pub(crate) fn split<T: Tables>(
 ) -> u32
     requires place { (m : ℕ) × (p : Place) × IsPlaceIn T.cells store.old m name p }
     requires spare { 0 < store.old.spare_count }
-    requires offset { offset ≡ (node (T.cells store.old.tables).room name).offset }
-    requires whole { whole ≡ (node (T.cells store.old.tables).room name).size }
+    requires offset { offset ≡ (node (T.cells store.old.tables).chain name).offset }
+    requires whole { whole ≡ (node (T.cells store.old.tables).chain name).size }
     requires within { size ≤ whole }
     ensures place { (m : ℕ) (p : Place) → IsPlaceIn T.cells store.old m name p
         → IsPlaceIn T.cells store.new m name (record p {
@@ -142,11 +142,11 @@ pub(crate) fn split<T: Tables>(
           after = free_block result (p.block.size - size) ∷ p.after;
         }) }
     ensures bins { SameBins T.cells store.old store.new }
-    ensures nodes { length (T.cells store.new.tables).room.nodes ≡ length (T.cells store.old.tables).room.nodes }
+    ensures nodes { length (T.cells store.new.tables).chain.nodes ≡ length (T.cells store.old.tables).chain.nodes }
     ensures spares { store.new.spare_count + 1 ≡ store.old.spare_count }
     ensures fresh { (m : ℕ) (p : Place) → IsPlaceIn T.cells store.old m name p
         → count_named result (p.before ++ p.block ∷ p.after) ≡ 0 }
-    ensures below { result < length (T.cells store.old.tables).room.nodes }
+    ensures below { result < length (T.cells store.old.tables).chain.nodes }
     ensures accesses { Costs 8 9 store.old.accesses store.new.accesses }
 {
     let tables = &mut store.tables;
@@ -167,14 +167,14 @@ pub(crate) fn split<T: Tables>(
 #[tactic(auto, using(crate::proofs::Nodes::lengths))]
 pub(crate) fn coalesce_after<T: Tables>(store: &mut Store<T>, name: u32, following: u32, whole: u32)
     requires place { (m : ℕ) × (p : Place) × IsPlaceIn T.cells store.old m name p }
-    requires next { Some following ≡ (node (T.cells store.old.tables).room name).after }
-    requires free { (node (T.cells store.old.tables).room following).used ≡ false }
-    requires whole { whole ≡ (node (T.cells store.old.tables).room name).size
-        + (node (T.cells store.old.tables).room following).size }
+    requires next { Some following ≡ (node (T.cells store.old.tables).chain name).after }
+    requires free { (node (T.cells store.old.tables).chain following).used ≡ false }
+    requires whole { whole ≡ (node (T.cells store.old.tables).chain name).size
+        + (node (T.cells store.old.tables).chain following).size }
     ensures place { (m : ℕ) (p : Place) → IsPlaceIn T.cells store.old m name p
         → IsPlaceIn T.cells store.new m name (coalesced_after p) }
     ensures bins { SameBins T.cells store.old store.new }
-    ensures nodes { length (T.cells store.new.tables).room.nodes ≡ length (T.cells store.old.tables).room.nodes }
+    ensures nodes { length (T.cells store.new.tables).chain.nodes ≡ length (T.cells store.old.tables).chain.nodes }
     ensures spares { store.new.spare_count ≡ store.old.spare_count + 1 }
     ensures accesses { Costs 4 5 store.old.accesses store.new.accesses }
 {
@@ -193,14 +193,14 @@ pub(crate) fn coalesce_after<T: Tables>(store: &mut Store<T>, name: u32, followi
 #[tactic(auto, using(crate::proofs::Nodes::lengths))]
 pub(crate) fn coalesce_before<T: Tables>(store: &mut Store<T>, previous: u32, name: u32, whole: u32)
     requires place { (m : ℕ) × (p : Place) × IsPlaceIn T.cells store.old m name p }
-    requires previous { Some previous ≡ (node (T.cells store.old.tables).room name).before }
-    requires free { (node (T.cells store.old.tables).room previous).used ≡ false }
-    requires whole { whole ≡ (node (T.cells store.old.tables).room previous).size
-        + (node (T.cells store.old.tables).room name).size }
+    requires previous { Some previous ≡ (node (T.cells store.old.tables).chain name).before }
+    requires free { (node (T.cells store.old.tables).chain previous).used ≡ false }
+    requires whole { whole ≡ (node (T.cells store.old.tables).chain previous).size
+        + (node (T.cells store.old.tables).chain name).size }
     ensures place { (m : ℕ) (p : Place) → IsPlaceIn T.cells store.old m name p
         → IsPlaceIn T.cells store.new m name (coalesced_before p) }
     ensures bins { SameBins T.cells store.old store.new }
-    ensures nodes { length (T.cells store.new.tables).room.nodes ≡ length (T.cells store.old.tables).room.nodes }
+    ensures nodes { length (T.cells store.new.tables).chain.nodes ≡ length (T.cells store.old.tables).chain.nodes }
     ensures spares { store.new.spare_count ≡ store.old.spare_count + 1 }
     ensures accesses { Costs 6 7 store.old.accesses store.new.accesses }
 {
@@ -218,12 +218,12 @@ pub(crate) fn coalesce_before<T: Tables>(store: &mut Store<T>, previous: u32, na
 /// Makes a block, which is in no bin, used or free.
 #[tactic(auto, using(crate::proofs::Nodes::lengths))]
 pub(crate) fn set_used<T: Tables>(tables: &mut T, name: u32, used: bool, count: &mut Accesses)
-    requires { name < length (T.cells tables.old).room.nodes }
-    ensures place { (m last spare : ℕ) (p : Place) → HasPlace (T.cells tables.old).room m last spare name p
-        → HasPlace (T.cells tables.new).room m last spare name (record p { block = record p.block { used = used } }) }
-    ensures bins { (top : ℕ) → IsUnlisted name (bins_in T.Index.MAX (T.cells tables.old).links)
+    requires { name < length (T.cells tables.old).chain.nodes }
+    ensures place { (m last spare : ℕ) (p : Place) → HasPlace (T.cells tables.old).chain m last spare name p
+        → HasPlace (T.cells tables.new).chain m last spare name (record p { block = record p.block { used = used } }) }
+    ensures bins { (top : ℕ) → IsUnlisted name (bins_in T.Index.MAX (T.cells tables.old).bins)
         → KeepsBins T.Index.MAX (T.cells tables.old) (T.cells tables.new) top }
-    ensures nodes { length (T.cells tables.new).room.nodes ≡ length (T.cells tables.old).room.nodes }
+    ensures nodes { length (T.cells tables.new).chain.nodes ≡ length (T.cells tables.old).chain.nodes }
     ensures accesses { count.new ≡ count.old + 1 }
 {
     tables.set_used(name, used, count);
@@ -235,7 +235,7 @@ pub(crate) fn set_used<T: Tables>(tables: &mut T, name: u32, used: bool, count: 
 pub(crate) fn split_before<T: Tables>(store: &mut Store<T>, name: u32, cut: u32) -> u32
     requires place { (m : ℕ) × (p : Place) × IsPlaceIn T.cells store.old m name p }
     requires spare { 0 < store.old.spare_count }
-    requires within { cut ≤ (node (T.cells store.old.tables).room name).size }
+    requires within { cut ≤ (node (T.cells store.old.tables).chain name).size }
     ensures place { (m : ℕ) (p : Place) → IsPlaceIn T.cells store.old m name p
         → IsPlaceIn T.cells store.new m name (record {
           before = p.before ++ free_block result cut ∷ [];
@@ -243,11 +243,11 @@ pub(crate) fn split_before<T: Tables>(store: &mut Store<T>, name: u32, cut: u32)
           after = p.after;
         }) }
     ensures bins { SameBins T.cells store.old store.new }
-    ensures nodes { length (T.cells store.new.tables).room.nodes ≡ length (T.cells store.old.tables).room.nodes }
+    ensures nodes { length (T.cells store.new.tables).chain.nodes ≡ length (T.cells store.old.tables).chain.nodes }
     ensures spares { store.new.spare_count + 1 ≡ store.old.spare_count }
     ensures fresh { (m : ℕ) (p : Place) → IsPlaceIn T.cells store.old m name p
         → count_named result (p.before ++ p.block ∷ p.after) ≡ 0 }
-    ensures below { result < length (T.cells store.old.tables).room.nodes }
+    ensures below { result < length (T.cells store.old.tables).chain.nodes }
     ensures accesses { Costs 11 12 store.old.accesses store.new.accesses }
 {
     let tables = &mut store.tables;
@@ -269,17 +269,17 @@ pub(crate) fn split_before<T: Tables>(store: &mut Store<T>, name: u32, cut: u32)
 #[tactic(auto, using(crate::proofs::Nodes::lengths))]
 pub(crate) fn grow<T: Tables>(tables: &mut T, last: u32, more: u32, count: &mut Accesses)
     requires place { (m spare : ℕ) × (before : List Block) × (b : Block)
-        × HasPlace (T.cells tables.old).room m last spare last (record { before = before; block = b; after = [] }) }
-    requires fits { units (blocks (T.cells tables.old).room last) + more < 2 ^ 32 }
+        × HasPlace (T.cells tables.old).chain m last spare last (record { before = before; block = b; after = [] }) }
+    requires fits { units (blocks (T.cells tables.old).chain last) + more < 2 ^ 32 }
     ensures place { (m spare : ℕ) (before : List Block) (b : Block)
-        → HasPlace (T.cells tables.old).room m last spare last (record { before = before; block = b; after = [] })
-        → HasPlace (T.cells tables.new).room m last spare last (record {
+        → HasPlace (T.cells tables.old).chain m last spare last (record { before = before; block = b; after = [] })
+        → HasPlace (T.cells tables.new).chain m last spare last (record {
           before = before;
           block = record b { size = b.size + more };
           after = [];
         }) }
-    ensures links { (T.cells tables.new).links ≡ (T.cells tables.old).links }
-    ensures nodes { length (T.cells tables.new).room.nodes ≡ length (T.cells tables.old).room.nodes }
+    ensures bins { (T.cells tables.new).bins ≡ (T.cells tables.old).bins }
+    ensures nodes { length (T.cells tables.new).chain.nodes ≡ length (T.cells tables.old).chain.nodes }
     ensures accesses { count.new ≡ count.old + 2 }
 {
     let size = tables.size(last, count);

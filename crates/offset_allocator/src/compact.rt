@@ -44,9 +44,9 @@ impl<NI: NodeIndex, N: NodeIndexNonMax> Move<NI, N> {
 
 // The name of the first free block, if there is one. It is found from the end on, since only the last block is known.
 fn first_free<T: Tables>(tables: &T, last: u32, count: &mut Accesses) -> Option<u32>
-    requires space { (spare : ℕ) × IsSpace (T.cells tables.now).room last spare }
-    ensures first { result ≡ first_free (blocks (T.cells tables.now).room last) }
-    ensures accesses { count.new ≡ count.old + 2 * length (blocks (T.cells tables.now).room last) }
+    requires space { (spare : ℕ) × IsSpace (T.cells tables.now).chain last spare }
+    ensures first { result ≡ first_free (blocks (T.cells tables.now).chain last) }
+    ensures accesses { count.new ≡ count.old + 2 * length (blocks (T.cells tables.now).chain last) }
 {
     let mut first = None;
     let mut at = Some(last);
@@ -70,10 +70,10 @@ struct Hole {
 // name that the free block has then is returned.
 fn pass<T: Tables>(store: &mut Store<T>, hole: Hole, offset: u32, next: u32, more: u32) -> u32
     requires place { (m : ℕ) × (p : Place) × IsPlaceIn T.cells store.old m hole.name p × (p.block.used ≡ false) }
-    requires offset { offset ≡ (node (T.cells store.old.tables).room hole.name).offset }
-    requires size { hole.size ≡ (node (T.cells store.old.tables).room hole.name).size }
-    requires next { Some next ≡ (node (T.cells store.old.tables).room hole.name).after }
-    requires more { more ≡ (node (T.cells store.old.tables).room next).size }
+    requires offset { offset ≡ (node (T.cells store.old.tables).chain hole.name).offset }
+    requires size { hole.size ≡ (node (T.cells store.old.tables).chain hole.name).size }
+    requires next { Some next ≡ (node (T.cells store.old.tables).chain hole.name).after }
+    requires more { more ≡ (node (T.cells store.old.tables).chain next).size }
     ensures place { (m : ℕ) (p : Place) (b : Block) (bs : List Block)
         → IsPlaceIn T.cells store.old m hole.name p → p.block.used
         ≡ false → p.after ≡ b ∷ bs → IsPlaceIn T.cells store.new m result (record {
@@ -127,7 +127,7 @@ fn slide<T: Tables, F: FnMut(Move<T::Index>)>(
     moved: &mut F,
 ) -> Hole
     requires place { (m : ℕ) × (p : Place) × IsPlaceIn T.cells store.old m hole.name p × (p.block.used ≡ false) }
-    requires size { hole.size ≡ (node (T.cells store.old.tables).room hole.name).size }
+    requires size { hole.size ≡ (node (T.cells store.old.tables).chain hole.name).size }
     requires callable { F.IsAlwaysCallable moved.old }
     ensures place { (m : ℕ) (p : Place) → IsPlaceIn T.cells store.old m hole.name p → p.block.used ≡ false
         → IsPlaceIn T.cells store.new m result.name (record {

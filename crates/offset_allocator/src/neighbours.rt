@@ -19,8 +19,8 @@ use crate::{bins, chain};
 // The name of a free block directly before a block, if there is one.
 #[inline(always)]
 fn free_before<T: Tables>(tables: &T, name: u32, count: &mut Accesses) -> Option<u32>
-    requires place { (m last spare : ℕ) × (p : Place) × HasPlace (T.cells tables.now).room m last spare name p }
-    ensures free { IsFreeBefore (T.cells tables.now).room name result }
+    requires place { (m last spare : ℕ) × (p : Place) × HasPlace (T.cells tables.now).chain m last spare name p }
+    ensures free { IsFreeBefore (T.cells tables.now).chain name result }
     ensures accesses { Costs 1 2 count.old count.new }
 {
     if let Some(previous) = chain::before(tables, name, count) {
@@ -34,8 +34,8 @@ fn free_before<T: Tables>(tables: &T, name: u32, count: &mut Accesses) -> Option
 /// The name of a free block directly after a block, if there is one.
 #[inline(always)]
 pub(crate) fn free_after<T: Tables>(tables: &T, name: u32, count: &mut Accesses) -> Option<u32>
-    requires place { (m last spare : ℕ) × (p : Place) × HasPlace (T.cells tables.now).room m last spare name p }
-    ensures free { IsFreeAfter (T.cells tables.now).room name result }
+    requires place { (m last spare : ℕ) × (p : Place) × HasPlace (T.cells tables.now).chain m last spare name p }
+    ensures free { IsFreeAfter (T.cells tables.now).chain name result }
     ensures accesses { Costs 1 2 count.old count.new }
 {
     if let Some(following) = chain::after(tables, name, count) {
@@ -51,15 +51,15 @@ pub(crate) fn free_after<T: Tables>(tables: &T, name: u32, count: &mut Accesses)
 fn with_before<T: Tables>(store: &mut Store<T>, name: u32, size: u32) -> u32
     requires place { (m : ℕ) × (p : Place) × IsPlaceIn T.cells store.old m name p
         × AreInBins (p.before ++ p.after) (bins_of T.cells T.Index.MAX store.old) }
-    requires held { AreBinned T.cells T.Index.MAX store.old }
-    requires size { size ≡ (node (T.cells store.old.tables).room name).size }
+    requires binned { AreBinned T.cells T.Index.MAX store.old }
+    requires size { size ≡ (node (T.cells store.old.tables).chain name).size }
     ensures place { (m : ℕ) (p : Place) → IsPlaceIn T.cells store.old m name p
         → IsPlaceIn T.cells store.new m name (coalesced_before p) }
-    ensures held { AreBinned T.cells T.Index.MAX store.new }
+    ensures binned { AreBinned T.cells T.Index.MAX store.new }
     ensures lists { (m : ℕ) (p : Place) → IsPlaceIn T.cells store.old m name p → bins_of T.cells T.Index.MAX store.new
         ≡ remove_all (free_end p.before) (bins_of T.cells T.Index.MAX store.old) }
-    ensures nodes { length (T.cells store.new.tables).room.nodes ≡ length (T.cells store.old.tables).room.nodes }
-    ensures size { result ≡ (node (T.cells store.new.tables).room name).size }
+    ensures nodes { length (T.cells store.new.tables).chain.nodes ≡ length (T.cells store.old.tables).chain.nodes }
+    ensures size { result ≡ (node (T.cells store.new.tables).chain name).size }
     ensures accesses { Costs 1 15 store.old.accesses store.new.accesses }
 {
     if let Some(previous) = free_before(&store.tables, name, &mut store.accesses) {
@@ -77,16 +77,16 @@ fn with_before<T: Tables>(store: &mut Store<T>, name: u32, size: u32) -> u32
 fn with_after<T: Tables>(store: &mut Store<T>, name: u32, size: u32, next: Option<u32>) -> u32
     requires place { (m : ℕ) × (p : Place) × IsPlaceIn T.cells store.old m name p
         × AreInBins (p.before ++ p.after) (bins_of T.cells T.Index.MAX store.old) }
-    requires held { AreBinned T.cells T.Index.MAX store.old }
-    requires size { size ≡ (node (T.cells store.old.tables).room name).size }
-    requires next { IsFreeAfter (T.cells store.old.tables).room name next }
+    requires binned { AreBinned T.cells T.Index.MAX store.old }
+    requires size { size ≡ (node (T.cells store.old.tables).chain name).size }
+    requires next { IsFreeAfter (T.cells store.old.tables).chain name next }
     ensures place { (m : ℕ) (p : Place) → IsPlaceIn T.cells store.old m name p
         → IsPlaceIn T.cells store.new m name (coalesced_after p) }
-    ensures held { AreBinned T.cells T.Index.MAX store.new }
+    ensures binned { AreBinned T.cells T.Index.MAX store.new }
     ensures lists { (m : ℕ) (p : Place) → IsPlaceIn T.cells store.old m name p → bins_of T.cells T.Index.MAX store.new
         ≡ remove_all (free_start p.after) (bins_of T.cells T.Index.MAX store.old) }
     ensures spares { store.old.spare_count ≤ store.new.spare_count }
-    ensures size { result ≡ (node (T.cells store.new.tables).room name).size }
+    ensures size { result ≡ (node (T.cells store.new.tables).chain name).size }
     ensures accesses { Costs 0 11 store.old.accesses store.new.accesses }
     ensures accesses_min { IsSome next → store.old.accesses + 8 ≤ store.new.accesses }
 {
@@ -108,14 +108,14 @@ fn with_after<T: Tables>(store: &mut Store<T>, name: u32, size: u32, next: Optio
 pub(crate) fn coalesce<T: Tables>(store: &mut Store<T>, name: u32, size: u32)
     requires place { (m : ℕ) × (p : Place) × IsPlaceIn T.cells store.old m name p
         × AreInBins (p.before ++ p.after) (bins_of T.cells T.Index.MAX store.old) }
-    requires held { AreBinned T.cells T.Index.MAX store.old }
-    requires idle { (node (T.cells store.old.tables).room name).used ≡ false }
-    requires size { size ≡ (node (T.cells store.old.tables).room name).size }
+    requires binned { AreBinned T.cells T.Index.MAX store.old }
+    requires idle { (node (T.cells store.old.tables).chain name).used ≡ false }
+    requires size { size ≡ (node (T.cells store.old.tables).chain name).size }
     ensures place { (m : ℕ) (p : Place) → IsPlaceIn T.cells store.old m name p
         → IsPlaceIn T.cells store.new m name (coalesced_after (coalesced_before p)) }
-    ensures held { AreBinned T.cells T.Index.MAX store.new }
+    ensures binned { AreBinned T.cells T.Index.MAX store.new }
     ensures lists { (m : ℕ) (p : Place) → IsPlaceIn T.cells store.old m name p → bins_of T.cells T.Index.MAX store.new
-        ≡ push (down (node (T.cells store.new.tables).room name).size) name
+        ≡ push (down (node (T.cells store.new.tables).chain name).size) name
         (remove_all (free_start p.after) (remove_all (free_end p.before) (bins_of T.cells T.Index.MAX store.old))) }
     ensures accesses { Costs 7 34 store.old.accesses store.new.accesses }
 {
@@ -145,19 +145,19 @@ pub(crate) fn coalesce<T: Tables>(store: &mut Store<T>, name: u32, size: u32)
 fn split_padding<T: Tables>(store: &mut Store<T>, name: u32, units: u32) -> u32
     requires place { (m : ℕ) × (p : Place) × IsPlaceIn T.cells store.old m name p
         × AreUnlisted (p.before ++ p.block ∷ p.after) (bins_of T.cells T.Index.MAX store.old) }
-    requires held { AreBinned T.cells T.Index.MAX store.old }
+    requires binned { AreBinned T.cells T.Index.MAX store.old }
     requires spare { 0 < store.old.spare_count }
-    requires within { units ≤ (node (T.cells store.old.tables).room name).size }
+    requires within { units ≤ (node (T.cells store.old.tables).chain name).size }
     ensures place { (m : ℕ) (p : Place) → IsPlaceIn T.cells store.old m name p
         → IsPlaceIn T.cells store.new m name (record {
           before = p.before ++ free_part result units;
           block = record p.block { size = p.block.size - units };
           after = p.after;
         }) }
-    ensures held { AreBinned T.cells T.Index.MAX store.new }
+    ensures binned { AreBinned T.cells T.Index.MAX store.new }
     ensures lists { bins_of T.cells T.Index.MAX store.new
         ≡ push_all (free_part result units) (bins_of T.cells T.Index.MAX store.old) }
-    ensures nodes { length (T.cells store.new.tables).room.nodes ≡ length (T.cells store.old.tables).room.nodes }
+    ensures nodes { length (T.cells store.new.tables).chain.nodes ≡ length (T.cells store.old.tables).chain.nodes }
     ensures spares { store.old.spare_count ≤ store.new.spare_count + 1 }
     ensures spares_kept { units ≡ 0 → store.old.spare_count ≤ store.new.spare_count }
     ensures accesses { Costs 0 18 store.old.accesses store.new.accesses }
@@ -181,19 +181,19 @@ fn split_remainder<T: Tables>(
 ) -> u32
     requires place { (m : ℕ) × (p : Place) × IsPlaceIn T.cells store.old m name p
         × AreUnlisted (p.before ++ p.block ∷ p.after) (bins_of T.cells T.Index.MAX store.old) }
-    requires held { AreBinned T.cells T.Index.MAX store.old }
+    requires binned { AreBinned T.cells T.Index.MAX store.old }
     requires spare { 0 < store.old.spare_count }
-    requires offset { offset ≡ (node (T.cells store.old.tables).room name).offset }
-    requires whole { size + left ≡ (node (T.cells store.old.tables).room name).size }
+    requires offset { offset ≡ (node (T.cells store.old.tables).chain name).offset }
+    requires whole { size + left ≡ (node (T.cells store.old.tables).chain name).size }
     ensures place { (m : ℕ) (p : Place) → IsPlaceIn T.cells store.old m name p
         → IsPlaceIn T.cells store.new m name (record p {
           block = record p.block { size = size };
           after = free_part result left ++ p.after;
         }) }
-    ensures held { AreBinned T.cells T.Index.MAX store.new }
+    ensures binned { AreBinned T.cells T.Index.MAX store.new }
     ensures lists { bins_of T.cells T.Index.MAX store.new
         ≡ push_all (free_part result left) (bins_of T.cells T.Index.MAX store.old) }
-    ensures nodes { length (T.cells store.new.tables).room.nodes ≡ length (T.cells store.old.tables).room.nodes }
+    ensures nodes { length (T.cells store.new.tables).chain.nodes ≡ length (T.cells store.old.tables).chain.nodes }
     ensures accesses { Costs 0 16 store.old.accesses store.new.accesses }
     ensures accesses_min { 0 < left → store.old.accesses + 13 ≤ store.new.accesses }
 {
@@ -213,7 +213,7 @@ pub(crate) struct Parts {
     pub(crate) left: u32,
 }
 
-/// Splits a block into a free padding, the granted units, which keep its name, are used and begin at `start`, and a free
+/// Splits a block into a free padding, the granted units from `start` on, which are used and keep its name, and a free
 /// remainder. The names of the padding and of the remainder are returned, where these have units.
 #[inline(always)]
 pub(crate) fn divide<T: Tables>(
@@ -224,23 +224,23 @@ pub(crate) fn divide<T: Tables>(
 ) -> (u32, u32)
     requires place { (m : ℕ) × (p : Place) × IsPlaceIn T.cells store.old m name p
         × AreUnlisted (p.before ++ p.block ∷ p.after) (bins_of T.cells T.Index.MAX store.old) }
-    requires held { AreBinned T.cells T.Index.MAX store.old }
+    requires binned { AreBinned T.cells T.Index.MAX store.old }
     requires unlisted { IsUnlisted name (bins_of T.cells T.Index.MAX store.old) }
     requires spare { 0 < store.old.spare_count }
     requires two { 0 < parts.padding → 1 < store.old.spare_count }
-    requires start { start ≡ (node (T.cells store.old.tables).room name).offset + parts.padding }
-    requires whole { parts.padding + parts.size + parts.left ≡ (node (T.cells store.old.tables).room name).size }
+    requires start { start ≡ (node (T.cells store.old.tables).chain name).offset + parts.padding }
+    requires whole { parts.padding + parts.size + parts.left ≡ (node (T.cells store.old.tables).chain name).size }
     ensures place { (m : ℕ) (p : Place) → IsPlaceIn T.cells store.old m name p
         → IsPlaceIn T.cells store.new m name (record {
           before = p.before ++ free_part result.0 parts.padding;
           block = used_block p.block.name parts.size;
           after = free_part result.1 parts.left ++ p.after;
         }) }
-    ensures held { AreBinned T.cells T.Index.MAX store.new }
+    ensures binned { AreBinned T.cells T.Index.MAX store.new }
     ensures lists { bins_of T.cells T.Index.MAX store.new
         ≡ push_all (free_part result.0 parts.padding ++ used_block name parts.size ∷ free_part result.1 parts.left)
         (bins_of T.cells T.Index.MAX store.old) }
-    ensures nodes { length (T.cells store.new.tables).room.nodes ≡ length (T.cells store.old.tables).room.nodes }
+    ensures nodes { length (T.cells store.new.tables).chain.nodes ≡ length (T.cells store.old.tables).chain.nodes }
     ensures accesses { Costs 1 35 store.old.accesses store.new.accesses }
 {
     let front = split_padding(store, name, parts.padding);
@@ -262,17 +262,17 @@ pub(crate) fn resize<T: Tables>(
     requires place { (m : ℕ) × (p : Place) × IsPlaceIn T.cells store.old m name p
         × AreInBins (p.before ++ p.after) (bins_of T.cells T.Index.MAX store.old)
         × (size ≤ p.block.size + units (free_start p.after)) }
-    requires held { AreBinned T.cells T.Index.MAX store.old }
+    requires binned { AreBinned T.cells T.Index.MAX store.old }
     requires spare { 0 < store.old.spare_count }
-    requires old_size { old_size ≡ (node (T.cells store.old.tables).room name).size }
-    requires next { IsFreeAfter (T.cells store.old.tables).room name next }
+    requires old_size { old_size ≡ (node (T.cells store.old.tables).chain name).size }
+    requires next { IsFreeAfter (T.cells store.old.tables).chain name next }
     ensures place { (m : ℕ) (p : Place) → IsPlaceIn T.cells store.old m name p
         → IsPlaceIn T.cells store.new m name (record {
           before = p.before;
           block = record p.block { size = size };
           after = free_part result (p.block.size + units (free_start p.after) - size) ++ without_start p.after;
         }) }
-    ensures held { AreBinned T.cells T.Index.MAX store.new }
+    ensures binned { AreBinned T.cells T.Index.MAX store.new }
     ensures lists { (m : ℕ) (p : Place) → IsPlaceIn T.cells store.old m name p → bins_of T.cells T.Index.MAX store.new
         ≡ push_all (free_part result (p.block.size + units (free_start p.after) - size))
         (remove_all (free_start p.after) (bins_of T.cells T.Index.MAX store.old)) }

@@ -31,8 +31,8 @@ pub(crate) fn handle_of<NI: NodeIndex>(offset: u32, name: u32) -> Allocation<NI>
 
 /// Makes the whole space one free block, alone in its bin, where all bins are empty and only node 0 is made.
 pub(crate) fn start<T: Tables>(store: &mut Store<T>, size: u32, max_allocs: u32)
-    requires bare { IsBare max_allocs (T.cells store.old.tables).room }
-    requires held { AreBinned T.cells T.Index.MAX store.old }
+    requires bare { IsBare max_allocs (T.cells store.old.tables).chain }
+    requires binned { AreBinned T.cells T.Index.MAX store.old }
     requires empty { bins_of T.cells T.Index.MAX store.old ≡ replicate 256 [] }
     requires limit_min { 2 ≤ max_allocs }
     requires limit_max { max_allocs + 1 < T.Index.MAX }

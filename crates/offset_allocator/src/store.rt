@@ -31,7 +31,7 @@ pub(crate) fn ensure_spare<T: Tables>(
     names: u32,
     count: &mut Accesses,
 )
-    requires memory { (m last : ℕ) × (bs : List Block) × IsChain (T.cells tables.old).room m last spare_count.old bs
+    requires memory { (m last : ℕ) × (bs : List Block) × IsChain (T.cells tables.old).chain m last spare_count.old bs
         × (length bs + names ≤ m) }
     requires next { names ≤ spare_count.old + 1 }
     ensures readies { Readies T.Index.MAX (T.cells tables.old) (T.cells tables.new) spare_count.old spare_count.new }
@@ -53,7 +53,7 @@ pub(crate) fn ensure_spares<T: Tables>(
     names: u32,
     count: &mut Accesses,
 )
-    requires memory { (m last : ℕ) × (bs : List Block) × IsChain (T.cells tables.old).room m last spare_count.old bs
+    requires memory { (m last : ℕ) × (bs : List Block) × IsChain (T.cells tables.old).chain m last spare_count.old bs
         × (length bs + names ≤ m) }
     requires some { 1 ≤ names }
     requires few { names ≤ 2 }

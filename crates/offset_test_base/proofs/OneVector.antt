@@ -4,7 +4,7 @@ use Rattle.std.proofs.Common.{set, get_or, replicate, take, refl, sym, ◌∙◌
 use Rattle.std.proofs.lemmas.Bool.{cases_eq, cases_lt}
 use Rattle.std.proofs.lemmas.List.{get_or-set_same, get_or-set_other, length-set, set-get_or, set_at, set-set, length-append}
 use Rattle.std.proofs.lemmas.List.{length-replicate, get_or_append_left, get_or-append_right, get_or-replicate, get_or_past, take_all}
-use Rattle.offset_allocator.specs.Cells.{Cells, Room, Node, blank, link_of, mark_of, node, put, with_node, with_spare, AreEmpty, AreShaped, IsBare}
+use Rattle.offset_allocator.specs.Cells.{Cells, ChainCells, Node, blank, link_of, mark_of, node, put, with_node, with_spare, AreEmpty, AreShaped, IsBare}
 use Rattle.offset_allocator.proofs.Fields.{length-values, values_at, values_same, values_set, values_more}
 use Rattle.offset_allocator.proofs.Entries.{marked}
 use Rattle.offset_test_base.specs.OneVector.{place, cell, first, node_in, cells_in, AreSmall, IsFlat}
@@ -104,31 +104,31 @@ module _ (l : List ℕ) (p v : ℕ) (front : p < 260) where
 
 module _ (l : List ℕ) (made reserved : ℕ) {c : Cells} (e : cells_in l made reserved ≡ c) where
   -- a name below the number of nodes is below the number of those that were made
-  pub named : (x : ℕ) → x < length c.room.nodes → x < made
-  named x h = omega (arith, h, ap (λ (v : Cells). length v.room.nodes) e, length-first made (node_in l))
+  pub named : (x : ℕ) → x < length c.chain.nodes → x < made
+  named x h = omega (arith, h, ap (λ (v : Cells). length v.chain.nodes) e, length-first made (node_in l))
 
-  pub named-spare : (x : ℕ) → x < length c.room.spare → x < made
-  named-spare x h = omega (arith, h, ap (λ (v : Cells). length v.room.spare) e, length-first made (cell l 6))
+  pub named-spare : (x : ℕ) → x < length c.chain.spare → x < made
+  named-spare x h = omega (arith, h, ap (λ (v : Cells). length v.chain.spare) e, length-first made (cell l 6))
 
-  pub named-newer : (x : ℕ) → x < length c.links.newer → x < made
-  named-newer x h = omega (arith, h, ap (λ (v : Cells). length v.links.newer) e, length-first made (cell l 4))
+  pub named-newer : (x : ℕ) → x < length c.bins.newer → x < made
+  named-newer x h = omega (arith, h, ap (λ (v : Cells). length v.bins.newer) e, length-first made (cell l 4))
 
-  pub named-older : (x : ℕ) → x < length c.links.older → x < made
-  named-older x h = omega (arith, h, ap (λ (v : Cells). length v.links.older) e, length-first made (cell l 5))
+  pub named-older : (x : ℕ) → x < length c.bins.older → x < made
+  named-older x h = omega (arith, h, ap (λ (v : Cells). length v.bins.older) e, length-first made (cell l 5))
 
-  pub class : (x : ℕ) → x < length c.links.heads → x < 256
-  class x h = omega (arith, h, ap (λ (v : Cells). length v.links.heads) e, length-first 256 (λ i. slice_index l (4 + i)))
+  pub class : (x : ℕ) → x < length c.bins.heads → x < 256
+  class x h = omega (arith, h, ap (λ (v : Cells). length v.bins.heads) e, length-first 256 (λ i. slice_index l (4 + i)))
 
   -- the node of a name
-  pub seen : (x : ℕ) → x < length c.room.nodes → node c.room x ≡ node_in l x
+  pub seen : (x : ℕ) → x < length c.chain.nodes → node c.chain x ≡ node_in l x
   unfolding node
   seen x h = rw (← e) (first_at made (node_in l) x blank (named x h))
 
   -- a field written that only the chain of blocks sees: f is the change of the node
-  pub wrote-room : (k x v : ℕ) (f : Node → Node) → k ≤ 3 → x < length c.room.nodes → node_in (set l (place k x) v) x ≡ f (node_in l x)
-      → cells_in (set l (place k x) v) made reserved ≡ record c { room = put c.room x (f (node c.room x)) }
+  pub wrote-chain : (k x v : ℕ) (f : Node → Node) → k ≤ 3 → x < length c.chain.nodes → node_in (set l (place k x) v) x ≡ f (node_in l x)
+      → cells_in (set l (place k x) v) made reserved ≡ record c { chain = put c.chain x (f (node c.chain x)) }
   unfolding put
-  wrote-room k x v f kl h is =
+  wrote-chain k x v f kl h is =
       let six : k ≤ 6 = omega (arith, kl) in
       let nodes = nodes_set l k x v six made ∙ ap (set (first made (node_in l)) x) (is ∙ ap f (sym (seen x h))) in
       let newer = upper_column l k x v six made 4 (omega (arith, kl)) (omega arith) in
@@ -138,7 +138,7 @@ module _ (l : List ℕ) (made reserved : ℕ) {c : Cells} (e : cells_in l made r
 
   -- the link to a newer node written, where the nodes then are these, and the links
   newer_by : (x v : ℕ) (nodes : List Node) (links : List ℕ) → first made (node_in (set l (place 4 x) v)) ≡ nodes → first made (cell (set l (place 4 x) v) 4) ≡ links
-      → cells_in (set l (place 4 x) v) made reserved ≡ record c { room = record c.room { nodes = nodes }; links = record c.links { newer = links } }
+      → cells_in (set l (place 4 x) v) made reserved ≡ record c { chain = record c.chain { nodes = nodes }; bins = record c.bins { newer = links } }
   newer_by x v nodes links p q =
       let six : 4 ≤ 6 = omega arith in
       let older = upper_column l 4 x v six made 5 (omega arith) (omega arith) in
@@ -152,30 +152,30 @@ module _ (l : List ℕ) (made reserved : ℕ) {c : Cells} (e : cells_in l made r
       rw (cell_same l 4 x v six short, o 0 x (omega arith), o 1 x (omega arith), o 2 x (omega arith), o 3 x (omega arith)) refl
 
   -- the use of a node written
-  pub wrote-used : (x : ℕ) (used : Bool) (v : ℕ) → v ≡ mark_of 4294967295 used → x < length c.room.nodes → place 4 x < length l
+  pub wrote-used : (x : ℕ) (used : Bool) (v : ℕ) → v ≡ mark_of 4294967295 used → x < length c.chain.nodes → place 4 x < length l
       → cells_in (set l (place 4 x) v) made reserved
-      ≡ record c { room = put c.room x (record (node c.room x) { used = used }); links = record c.links { newer = set c.links.newer x (mark_of 4294967295 used) } }
+      ≡ record c { chain = put c.chain x (record (node c.chain x) { used = used }); bins = record c.bins { newer = set c.bins.newer x (mark_of 4294967295 used) } }
   unfolding put
   wrote-used x used v is h short =
       let six : 4 ≤ 6 = omega arith in
       let flag : eqb v 4294967294 ≡ used = ap (λ i. eqb i 4294967294) is ∙ marked 4294967295 used (omega arith) in
-      let one : node_in (set l (place 4 x) v) x ≡ record (node c.room x) { used = used } = newer_at x v short ∙ ap (λ (u : Bool). record (node_in l x) { used = u }) flag
+      let one : node_in (set l (place 4 x) v) x ≡ record (node c.chain x) { used = used } = newer_at x v short ∙ ap (λ (u : Bool). record (node_in l x) { used = u }) flag
       ∙ ap (λ (n : Node). record n { used = used }) (sym (seen x h)) in
-      let nodes = nodes_set l 4 x v six made ∙ ap (set (first made (node_in l)) x) one ∙ ap (λ (v : Cells). set v.room.nodes x (record (node c.room x) { used = used })) e in
-      let newer = column_set l 4 x v six made short ∙ ap (set (first made (cell l 4)) x) is ∙ ap (λ (v : Cells). set v.links.newer x (mark_of 4294967295 used)) e in
+      let nodes = nodes_set l 4 x v six made ∙ ap (set (first made (node_in l)) x) one ∙ ap (λ (v : Cells). set v.chain.nodes x (record (node c.chain x) { used = used })) e in
+      let newer = column_set l 4 x v six made short ∙ ap (set (first made (cell l 4)) x) is ∙ ap (λ (v : Cells). set v.bins.newer x (mark_of 4294967295 used)) e in
       newer_by x v _ _ nodes newer
 
   -- a link that is no mark, of a node that is not used: the chain of blocks does not see it
-  pub wrote-newer : (x v : ℕ) → x < length c.links.newer → place 4 x < length l → (node c.room x).used ≡ false → v ≢ 4294967294
-      → cells_in (set l (place 4 x) v) made reserved ≡ record c { links = record c.links { newer = set c.links.newer x v } }
+  pub wrote-newer : (x v : ℕ) → x < length c.bins.newer → place 4 x < length l → (node c.chain x).used ≡ false → v ≢ 4294967294
+      → cells_in (set l (place 4 x) v) made reserved ≡ record c { bins = record c.bins { newer = set c.bins.newer x v } }
   wrote-newer x v h short idle ne =
       let six : 4 ≤ 6 = omega arith in
-      let there : x < length c.room.nodes = omega (arith, named-newer x h, ap (λ (v : Cells). length v.room.nodes) e, length-first made (node_in l)) in
+      let there : x < length c.chain.nodes = omega (arith, named-newer x h, ap (λ (v : Cells). length v.chain.nodes) e, length-first made (node_in l)) in
       let was : eqb (cell l 4 x) 4294967294 ≡ false = ap (λ (n : Node). n.used) (sym (seen x there)) ∙ idle in
       let still : node_in (set l (place 4 x) v) x ≡ node_in l x = newer_at x v short ∙ ap (λ (u : Bool). record (node_in l x) { used = u }) (ne_eqb v 4294967294 ne ∙ sym was) in
       let nodes = nodes_set l 4 x v six made ∙ ap (set (first made (node_in l)) x) (still ∙ sym (first_at made (node_in l) x blank (named x there)))
-      ∙ set-get_or (first made (node_in l)) x blank ∙ ap (λ (v : Cells). v.room.nodes) e in
-      newer_by x v _ _ nodes (column_set l 4 x v six made short ∙ ap (λ (w : Cells). set w.links.newer x v) e)
+      ∙ set-get_or (first made (node_in l)) x blank ∙ ap (λ (v : Cells). v.chain.nodes) e in
+      newer_by x v _ _ nodes (column_set l 4 x v six made short ∙ ap (λ (w : Cells). set w.bins.newer x v) e)
 
   -- a field that nodes do not have written
   apart_nodes : (k x v : ℕ) → 5 ≤ k → k ≤ 6 → first made (node_in (set l (place k x) v)) ≡ first made (node_in l)
@@ -184,21 +184,21 @@ module _ (l : List ℕ) (made reserved : ℕ) {c : Cells} (e : cells_in l made r
       first_same made (node_in l) (node_in (set l (place k x) v))
       (λ i h. rw (o 0 i (omega (arith, kg)), o 1 i (omega (arith, kg)), o 2 i (omega (arith, kg)), o 3 i (omega (arith, kg)), o 4 i (omega (arith, kg))) refl)
 
-  pub wrote-older : (x v : ℕ) → place 5 x < length l → cells_in (set l (place 5 x) v) made reserved ≡ record c { links = record c.links { older = set c.links.older x v } }
+  pub wrote-older : (x v : ℕ) → place 5 x < length l → cells_in (set l (place 5 x) v) made reserved ≡ record c { bins = record c.bins { older = set c.bins.older x v } }
   wrote-older x v short =
       let six : 5 ≤ 6 = omega arith in
       let newer = lower_column l 5 x v six made 4 (omega arith) in
       let spare = upper_column l 5 x v six made 6 (omega arith) (omega arith) in
       rw (apart_nodes 5 x v (omega arith) six, column_set l 5 x v six made short, spare, newer, heads_same l 5 x v six 256 (omega arith), masks_same l 5 x v six 4 (omega arith)) (rw (← e) refl)
 
-  pub wrote-spare : (x v : ℕ) → place 6 x < length l → cells_in (set l (place 6 x) v) made reserved ≡ record c { room = record c.room { spare = set c.room.spare x v } }
+  pub wrote-spare : (x v : ℕ) → place 6 x < length l → cells_in (set l (place 6 x) v) made reserved ≡ record c { chain = record c.chain { spare = set c.chain.spare x v } }
   wrote-spare x v short =
       let six : 6 ≤ 6 = omega arith in
       let newer = lower_column l 6 x v six made 4 (omega arith) in
       let older = lower_column l 6 x v six made 5 (omega arith) in
       rw (apart_nodes 6 x v (omega arith) six, column_set l 6 x v six made short, newer, older, heads_same l 6 x v six 256 (omega arith), masks_same l 6 x v six 4 (omega arith)) (rw (← e) refl)
 
-  pub wrote-head : (x v : ℕ) → x < 256 → 4 + x < length l → cells_in (set l (4 + x) v) made reserved ≡ record c { links = record c.links { heads = set c.links.heads x v } }
+  pub wrote-head : (x v : ℕ) → x < 256 → 4 + x < length l → cells_in (set l (4 + x) v) made reserved ≡ record c { bins = record c.bins { heads = set c.bins.heads x v } }
   wrote-head x v h short =
       let p = 4 + x in
       let front : p < 260 = omega (arith, h) in
@@ -208,7 +208,7 @@ module _ (l : List ℕ) (made reserved : ℕ) {c : Cells} (e : cells_in l made r
       let masks = first_same 4 (slice_index l) (slice_index (set l p v)) (λ i il. get_or-set_other l p i v 0 (λ q. absurd (omega (arith, q, il)))) in
       rw (nodes_front l p v front made, column_front l p v front made 6, column_front l p v front made 4, column_front l p v front made 5, heads, masks) (rw (← e) refl)
 
-  pub wrote-mask : (x v : ℕ) → x < 4 → x < length l → cells_in (set l x v) made reserved ≡ record c { links = record c.links { masks = set c.links.masks x v } }
+  pub wrote-mask : (x v : ℕ) → x < 4 → x < length l → cells_in (set l x v) made reserved ≡ record c { bins = record c.bins { masks = set c.bins.masks x v } }
   wrote-mask x v h short =
       let front : x < 260 = omega (arith, h) in
       let old : ℕ → ℕ = λ i. slice_index l (4 + i) in
@@ -219,19 +219,19 @@ module _ (l : List ℕ) (made reserved : ℕ) {c : Cells} (e : cells_in l made r
 -- ---- the other reads
 
 module _ (l : List ℕ) (made reserved : ℕ) {c : Cells} (e : cells_in l made reserved ≡ c) (x : ℕ) where
-  pub newer_at_name : x < length c.links.newer → cell l 4 x ≡ slice_index c.links.newer x
+  pub newer_at_name : x < length c.bins.newer → cell l 4 x ≡ slice_index c.bins.newer x
   newer_at_name h = rw (← e) (sym (first_at made (cell l 4) x 0 (named-newer l made reserved e x h)))
 
-  pub older_at_name : x < length c.links.older → cell l 5 x ≡ slice_index c.links.older x
+  pub older_at_name : x < length c.bins.older → cell l 5 x ≡ slice_index c.bins.older x
   older_at_name h = rw (← e) (sym (first_at made (cell l 5) x 0 (named-older l made reserved e x h)))
 
-  pub spare_at : x < length c.room.spare → cell l 6 x ≡ slice_index c.room.spare x
+  pub spare_at : x < length c.chain.spare → cell l 6 x ≡ slice_index c.chain.spare x
   spare_at h = rw (← e) (sym (first_at made (cell l 6) x 0 (named-spare l made reserved e x h)))
 
-  pub head_at : x < length c.links.heads → slice_index l (4 + x) ≡ slice_index c.links.heads x
+  pub head_at : x < length c.bins.heads → slice_index l (4 + x) ≡ slice_index c.bins.heads x
   head_at h = rw (← e) (sym (first_at 256 (λ i. slice_index l (4 + i)) x 0 (class l made reserved e x h)))
 
-  pub mask_at : x < 4 → slice_index l x ≡ slice_index c.links.masks x
+  pub mask_at : x < 4 → slice_index l x ≡ slice_index c.bins.masks x
   mask_at h = rw (← e) (sym (first_at 4 (slice_index l) x 0 h))
 
 -- ---- each write of the tables
@@ -247,67 +247,67 @@ module _ (t : Inside) (h : IsFlat t) {c : Cells} (e : cells_in t.cells.items t.m
   there : (k : ℕ) → k ≤ 6 → x < t.made → place k x < length old
   there k kl xl = omega (arith, h.memory, h.within, kl, xl)
 
-  here : (k : ℕ) → k ≤ 6 → x < length c.room.nodes → place k x < length old
+  here : (k : ℕ) → k ≤ 6 → x < length c.chain.nodes → place k x < length old
   here k kl q = there k kl (named old t.made t.reserved e x q)
 
-  pub offset_set : l ≡ set old (place 0 x) v → x < length c.room.nodes → after l ≡ record c { room = put c.room x (record (node c.room x) { offset = v }) }
+  pub offset_set : l ≡ set old (place 0 x) v → x < length c.chain.nodes → after l ≡ record c { chain = put c.chain x (record (node c.chain x) { offset = v }) }
   offset_set w q =
       let six : 0 ≤ 6 = omega arith in
       let o = upper old 0 x v six in
       let is : node_in (set old (place 0 x) v) x ≡ record (node_in old x) { offset = v } =
       rw (cell_same old 0 x v six (here 0 six q), o 1 x (omega arith) (omega arith), o 2 x (omega arith) (omega arith), o 3 x (omega arith) (omega arith), o 4 x (omega arith) (omega arith)) refl in
-      ap after w ∙ wrote-room old t.made t.reserved e 0 x v (λ (n : Node). record n { offset = v }) (omega arith) q is
+      ap after w ∙ wrote-chain old t.made t.reserved e 0 x v (λ (n : Node). record n { offset = v }) (omega arith) q is
 
-  pub size_set : l ≡ set old (place 1 x) v → x < length c.room.nodes → after l ≡ record c { room = put c.room x (record (node c.room x) { size = v }) }
+  pub size_set : l ≡ set old (place 1 x) v → x < length c.chain.nodes → after l ≡ record c { chain = put c.chain x (record (node c.chain x) { size = v }) }
   size_set w q =
       let six : 1 ≤ 6 = omega arith in
       let u = lower old 1 x v six in
       let o = upper old 1 x v six in
       let is : node_in (set old (place 1 x) v) x ≡ record (node_in old x) { size = v } =
       rw (cell_same old 1 x v six (here 1 six q), u 0 x (omega arith), o 2 x (omega arith) (omega arith), o 3 x (omega arith) (omega arith), o 4 x (omega arith) (omega arith)) refl in
-      ap after w ∙ wrote-room old t.made t.reserved e 1 x v (λ (n : Node). record n { size = v }) (omega arith) q is
+      ap after w ∙ wrote-chain old t.made t.reserved e 1 x v (λ (n : Node). record n { size = v }) (omega arith) q is
 
-  pub before_set : l ≡ set old (place 2 x) v → x < length c.room.nodes → after l ≡ record c { room = put c.room x (record (node c.room x) { before = link_of 4294967295 v }) }
+  pub before_set : l ≡ set old (place 2 x) v → x < length c.chain.nodes → after l ≡ record c { chain = put c.chain x (record (node c.chain x) { before = link_of 4294967295 v }) }
   before_set w q =
       let six : 2 ≤ 6 = omega arith in
       let u = lower old 2 x v six in
       let o = upper old 2 x v six in
       let is : node_in (set old (place 2 x) v) x ≡ record (node_in old x) { before = link_of 4294967295 v } =
       rw (cell_same old 2 x v six (here 2 six q), u 0 x (omega arith), u 1 x (omega arith), o 3 x (omega arith) (omega arith), o 4 x (omega arith) (omega arith)) refl in
-      ap after w ∙ wrote-room old t.made t.reserved e 2 x v (λ (n : Node). record n { before = link_of 4294967295 v }) (omega arith) q is
+      ap after w ∙ wrote-chain old t.made t.reserved e 2 x v (λ (n : Node). record n { before = link_of 4294967295 v }) (omega arith) q is
 
-  pub after_set : l ≡ set old (place 3 x) v → x < length c.room.nodes → after l ≡ record c { room = put c.room x (record (node c.room x) { after = link_of 4294967295 v }) }
+  pub after_set : l ≡ set old (place 3 x) v → x < length c.chain.nodes → after l ≡ record c { chain = put c.chain x (record (node c.chain x) { after = link_of 4294967295 v }) }
   after_set w q =
       let six : 3 ≤ 6 = omega arith in
       let u = lower old 3 x v six in
       let is : node_in (set old (place 3 x) v) x ≡ record (node_in old x) { after = link_of 4294967295 v } =
       rw (cell_same old 3 x v six (here 3 six q), u 0 x (omega arith), u 1 x (omega arith), u 2 x (omega arith), upper old 3 x v six 4 x (omega arith) (omega arith)) refl in
-      ap after w ∙ wrote-room old t.made t.reserved e 3 x v (λ (n : Node). record n { after = link_of 4294967295 v }) (omega arith) q is
+      ap after w ∙ wrote-chain old t.made t.reserved e 3 x v (λ (n : Node). record n { after = link_of 4294967295 v }) (omega arith) q is
 
-  pub used_set : (used : Bool) → v ≡ mark_of 4294967295 used → l ≡ set old (place 4 x) v → x < length c.room.nodes
-      → after l ≡ record c { room = put c.room x (record (node c.room x) { used = used }); links = record c.links { newer = set c.links.newer x (mark_of 4294967295 used) } }
+  pub used_set : (used : Bool) → v ≡ mark_of 4294967295 used → l ≡ set old (place 4 x) v → x < length c.chain.nodes
+      → after l ≡ record c { chain = put c.chain x (record (node c.chain x) { used = used }); bins = record c.bins { newer = set c.bins.newer x (mark_of 4294967295 used) } }
   used_set used is w q = ap after w ∙ wrote-used old t.made t.reserved e x used v is q (here 4 (omega arith) q)
 
-  pub newer_set : l ≡ set old (place 4 x) v → x < length c.links.newer → (node c.room x).used ≡ false → v ≢ 4294967294 → after l ≡ record c { links = record c.links { newer = set c.links.newer x v } }
+  pub newer_set : l ≡ set old (place 4 x) v → x < length c.bins.newer → (node c.chain x).used ≡ false → v ≢ 4294967294 → after l ≡ record c { bins = record c.bins { newer = set c.bins.newer x v } }
   newer_set w q idle ne = ap after w ∙ wrote-newer old t.made t.reserved e x v q (there 4 (omega arith) (named-newer old t.made t.reserved e x q)) idle ne
 
-  pub older_set : l ≡ set old (place 5 x) v → x < length c.links.older → after l ≡ record c { links = record c.links { older = set c.links.older x v } }
+  pub older_set : l ≡ set old (place 5 x) v → x < length c.bins.older → after l ≡ record c { bins = record c.bins { older = set c.bins.older x v } }
   older_set w q = ap after w ∙ wrote-older old t.made t.reserved e x v (there 5 (omega arith) (named-older old t.made t.reserved e x q))
 
-  pub spare_set : l ≡ set old (place 6 x) v → x < length c.room.spare → after l ≡ record c { room = with_spare c.room x v }
+  pub spare_set : l ≡ set old (place 6 x) v → x < length c.chain.spare → after l ≡ record c { chain = with_spare c.chain x v }
   unfolding with_spare
   spare_set w q = ap after w ∙ wrote-spare old t.made t.reserved e x v (there 6 (omega arith) (named-spare old t.made t.reserved e x q))
 
-  pub head_set : l ≡ set old (4 + x) v → x < length c.links.heads → after l ≡ record c { links = record c.links { heads = set c.links.heads x v } }
+  pub head_set : l ≡ set old (4 + x) v → x < length c.bins.heads → after l ≡ record c { bins = record c.bins { heads = set c.bins.heads x v } }
   head_set w q =
       let short = class old t.made t.reserved e x q in
       ap after w ∙ wrote-head old t.made t.reserved e x v short (omega (arith, short, h.memory))
 
-  pub mask_set : l ≡ set old x v → x < 4 → after l ≡ record c { links = record c.links { masks = set c.links.masks x v } }
+  pub mask_set : l ≡ set old x v → x < 4 → after l ≡ record c { bins = record c.bins { masks = set c.bins.masks x v } }
   mask_set w q = ap after w ∙ wrote-mask old t.made t.reserved e x v q (omega (arith, q, h.memory))
 
 -- a node put into its place
-module _ (r : Room) (x : ℕ) (n : Node) where
+module _ (r : ChainCells) (x : ℕ) (n : Node) where
   pub length-put : length (put r x n).nodes ≡ length r.nodes
   unfolding put
   length-put = length-set r.nodes x n
@@ -329,22 +329,22 @@ module _ (l : List ℕ) (n reserved : ℕ) where
 
   -- whatever the cells of the node were, all are written
   pub added : (i : ℕ) (a b d f g : Cells)
-      → a ≡ (let c = cells_in l (n + 1) reserved in record c { room = put c.room n (record (node c.room n) { used = false }); links = record c.links { newer = set c.links.newer n 4294967295 } })
-      → b ≡ record a { room = put a.room n blank }
-      → d ≡ record b { links = record b.links { older = set b.links.older n 4294967295 } }
-      → f ≡ record d { room = with_spare d.room n n }
-      → g ≡ record f { room = with_spare f.room i n }
-      → g ≡ (let c = cells_in l n reserved in record c { room = with_node c.room i; links = record c.links { newer = c.links.newer ++ 4294967295 ∷ []; older = c.links.older ++ 4294967295 ∷ [] } })
+      → a ≡ (let c = cells_in l (n + 1) reserved in record c { chain = put c.chain n (record (node c.chain n) { used = false }); bins = record c.bins { newer = set c.bins.newer n 4294967295 } })
+      → b ≡ record a { chain = put a.chain n blank }
+      → d ≡ record b { bins = record b.bins { older = set b.bins.older n 4294967295 } }
+      → f ≡ record d { chain = with_spare d.chain n n }
+      → g ≡ record f { chain = with_spare f.chain i n }
+      → g ≡ (let c = cells_in l n reserved in record c { chain = with_node c.chain i; bins = record c.bins { newer = c.bins.newer ++ 4294967295 ∷ []; older = c.bins.older ++ 4294967295 ∷ [] } })
   unfolding put with_spare with_node
   added i a b d f g p q r s t =
       let c = cells_in l (n + 1) reserved in
-      let nodes = set-set (first (n + 1) (node_in l)) n (record (node c.room n) { used = false }) blank ∙ last_set (node_in l) blank in
+      let nodes = set-set (first (n + 1) (node_in l)) n (record (node c.chain n) { used = false }) blank ∙ last_set (node_in l) blank in
       rw (t, s, r, q, p) (rw (nodes, last_set (cell l 6) n, last_set (cell l 4) 4294967295, last_set (cell l 5) 4294967295, length-first n (node_in l)) refl)
 
 -- the first node
-pub bare : (l : List ℕ) (m : ℕ) (r : Room) → r ≡ with_node (cells_in l 0 m).room 0 → IsBare m r
+pub bare : (l : List ℕ) (m : ℕ) (r : ChainCells) → r ≡ with_node (cells_in l 0 m).chain 0 → IsBare m r
 unfolding first with_node
-bare l m r e = record { nodes = ap (λ (v : Room). v.nodes) e; spare = ap (λ (v : Room). v.spare) e; reserved = ap (λ (v : Room). v.reserved) e }
+bare l m r e = record { nodes = ap (λ (v : ChainCells). v.nodes) e; spare = ap (λ (v : ChainCells). v.spare) e; reserved = ap (λ (v : ChainCells). v.reserved) e }
 
 pub shaped : (t : Inside) → IsFlat t → AreShaped 4294967295 (cells_in t.cells.items t.made t.reserved)
 unfolding node
@@ -373,7 +373,7 @@ small_set l i v short s h j past = elim (cases_eq j i) [
 ]
 
 -- a node changed twice
-pub again : (c : Room) (x : ℕ) (n : Node) (f : Node → Node) → x < length c.nodes → put (put c x n) x (f (node (put c x n) x)) ≡ put c x (f n)
+pub again : (c : ChainCells) (x : ℕ) (n : Node) (f : Node → Node) → x < length c.nodes → put (put c x n) x (f (node (put c x n) x)) ≡ put c x (f n)
 unfolding node put
 again c x n f h = rw (get_or-set_same c.nodes x n blank h, set-set c.nodes x n) refl
 
@@ -440,7 +440,7 @@ filled n a b c d x y z v ae xe be ye ve ce ze de =
     let rest : 260 + n - z ≡ n = omega (arith, ze) in
     de ∙ ap₂ (λ (l : List ℕ) (k : ℕ). l ++ replicate k 0) tc rest
 
-pub fresh_links : (n made reserved : ℕ) → AreEmpty 4294967295 (cells_in (fresh 4 256 n 4294967295) made reserved).links
+pub fresh_links : (n made reserved : ℕ) → AreEmpty 4294967295 (cells_in (fresh 4 256 n 4294967295) made reserved).bins
 fresh_links n made reserved = record {
   heads = alike 256 _ 4294967295 (λ i l. fresh_head 4 256 n 4294967295 i l);
   masks = alike 4 _ 0 (λ i l. fresh_mask 4 256 n 4294967295 i l);
@@ -448,13 +448,13 @@ fresh_links n made reserved = record {
 
 -- the cells with a node changed
 abbrev pub changed : Cells → ℕ → (Node → Node) → Cells
-changed c x f = record c { room = put c.room x (f (node c.room x)) }
+changed c x f = record c { chain = put c.chain x (f (node c.chain x)) }
 
-pub length-changed : (c : Cells) (x : ℕ) (f : Node → Node) → length (changed c x f).room.nodes ≡ length c.room.nodes
+pub length-changed : (c : Cells) (x : ℕ) (f : Node → Node) → length (changed c x f).chain.nodes ≡ length c.chain.nodes
 unfolding put
-length-changed c x f = length-set c.room.nodes x (f (node c.room x))
+length-changed c x f = length-set c.chain.nodes x (f (node c.chain x))
 
-pub twice : (b c d : Cells) (x : ℕ) (f g : Node → Node) → x < length b.room.nodes → c ≡ changed b x f → d ≡ changed c x g → d ≡ changed b x (λ n. g (f n))
-twice b c d x f g h p q = q ∙ ap (λ (v : Cells). changed v x g) p ∙ ap (λ (r : Room). record b { room = r }) (again b.room x (f (node b.room x)) g h)
+pub twice : (b c d : Cells) (x : ℕ) (f g : Node → Node) → x < length b.chain.nodes → c ≡ changed b x f → d ≡ changed c x g → d ≡ changed b x (λ n. g (f n))
+twice b c d x f g h p q = q ∙ ap (λ (v : Cells). changed v x g) p ∙ ap (λ (r : ChainCells). record b { chain = r }) (again b.chain x (f (node b.chain x)) g h)
 
 pub ruleset cells = (named, named-spare, named-newer, named-older, class, length-first)

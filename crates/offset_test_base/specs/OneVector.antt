@@ -29,12 +29,12 @@ node_in l x = record {
 -- what a vector of cells holds of the nodes that were made
 abbrev pub cells_in : List ℕ → ℕ → ℕ → Cells
 cells_in l made reserved = record {
-  room = record {
+  chain = record {
     nodes = first made (node_in l);
     spare = first made (cell l 6);
     reserved = reserved;
   };
-  links = record {
+  bins = record {
     newer = first made (cell l 4);
     older = first made (cell l 5);
     heads = first 256 (λ class. slice_index l (4 + class));

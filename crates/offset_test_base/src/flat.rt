@@ -105,7 +105,7 @@ fn set_field(cells: &mut Vec<u64>, field: usize, name: u32, value: u32)
 // Masks and heads that name no node, and cells for this many nodes.
 fn empty(alloc: Global, nodes: u32) -> Result<Vec<u64>, AllocError>
     ensures memory { IfOk result (λ v. length v.items ≡ 260 + 7 * nodes) }
-    ensures links { IfOk result (λ v. AreEmpty 4294967295 (cells_in v.items 0 nodes).links) }
+    ensures bins { IfOk result (λ v. AreEmpty 4294967295 (cells_in v.items 0 nodes).bins) }
     ensures small { IfOk result (λ v. AreSmall v.items) }
 {
     let end = NODES + WIDTH * nodes as usize;
@@ -120,9 +120,9 @@ fn empty(alloc: Global, nodes: u32) -> Result<Vec<u64>, AllocError>
 impl Flat {
     // Writes the offset of a node.
     fn set_offset(&mut self, name: u32, offset: u32, count: &mut Accesses)
-        requires { name < length self.old.room.nodes }
+        requires { name < length self.old.chain.nodes }
         ensures cells { self.new ≡ record self.old {
-          room = put self.old.room name (record (node self.old.room name) { offset = offset });
+          chain = put self.old.chain name (record (node self.old.chain name) { offset = offset });
         } }
         ensures accesses { count.new ≡ count.old + 1 }
     {

@@ -119,7 +119,7 @@ pub(crate) struct Parts {
     pub(crate) left: u32,
 }
 
-/// Splits a block into a free padding, the granted units, which keep its name, are used and begin at `start`, and a free
+/// Splits a block into a free padding, the granted units from `start` on, which are used and keep its name, and a free
 /// remainder. The names of the padding and of the remainder are returned, where these have units.
 #[inline(always)]
 pub(crate) fn divide<T: Tables>(

@@ -46,7 +46,7 @@ pub trait Tables: Sized {
     /// Whether a node is used.
     fn used(&self, name: u32, count: &mut Accesses) -> bool;
 
-    /// Writes whether a node is used. It is in no bin.
+    /// Writes whether a node, which is in no bin, is used: its link to a newer node says so.
     fn set_used(&mut self, name: u32, used: bool, count: &mut Accesses);
 
     /// The link to the node before a node in space.

@@ -45,8 +45,8 @@ grow-requires-clause-fits g c =
 pub push-requires-clause-classed : goal.push-requires-clause-classed
 push-requires-clause-classed g c = omega (arith, down_small c.args.more, c.uint_to_float_round_down.ensures.is)
 
-pub push-requires-clause-held : goal.push-requires-clause-held
-push-requires-clause-held g c = rw (c.grow.ensures.links, c.split-name.ensures.bins.0, c.split-name.ensures.bins.1) (c.ensure_spare.ensures.readies.bins _ c.self.invariant.bins).0
+pub push-requires-clause-binned : goal.push-requires-clause-binned
+push-requires-clause-binned g c = rw (c.grow.ensures.bins, c.split-name.ensures.bins.0, c.split-name.ensures.bins.1) (c.ensure_spare.ensures.readies.bins _ c.self.invariant.bins).0
 
 pub push-requires-clause-idle : goal.push-requires-clause-idle
 push-requires-clause-idle g c =
@@ -58,12 +58,13 @@ push-requires-clause-idle g c =
 pub push-requires-clause-unlisted : goal.push-requires-clause-unlisted
 push-requires-clause-unlisted g c =
     let r = pre g (goal.at.push-requires-clause-unlisted g c).After-ensure_spare in
-    rw (c.grow.ensures.links, c.split-name.ensures.bins.0) (append_unlisted r c.split-name.result (c.split-name.ensures.fresh _ _ (end_held r refl)))
+    rw (c.grow.ensures.bins, c.split-name.ensures.bins.0) (append_unlisted r c.split-name.result (c.split-name.ensures.fresh _ _ (end_held r refl)))
 
 pub overflow_add-self-2 : goal.overflow_add-self-2
 overflow_add-self-2 g c = omega (arith, free_fits (pre g (goal.at.overflow_add-self-2 g c).After-ensure_spare))
 
-done : (g : Over) (c : After-push g) (r : Growth (with_made (fields_of g.T.Tables.cells g.T.Index.NodeIndex.MAX c.self.inside) (g.T.Tables.cells c.ensure_spare.new.tables) c.ensure_spare.new.spare_count)
+done : (g : Over) (c : After-push g)
+    (r : Growth (with_made (fields_of g.T.Tables.cells g.T.Index.NodeIndex.MAX c.self.inside) (g.T.Tables.cells c.ensure_spare.new.tables) c.ensure_spare.new.spare_count)
     c.args.more true) (k : ℕ) → Grown r (g.T.Tables.cells c.push.new.store.tables) c.push.new.store.last c.push.new.store.spare_count c.push.new.store.top_mask k
 done g c r k =
     let held = end_held r refl in
@@ -71,8 +72,8 @@ done g c r k =
     rw (c.push.ensures.chain.1, c.push.ensures.chain.2)
     (appended r (g.T.Tables.cells c.push.new.store.tables) k
     (rw (← (made_shown (fields_of g.T.Tables.cells g.T.Index.NodeIndex.MAX c.self.inside) c.self.invariant c.ensure_spare.ensures.readies ∙ c.self.view_is)) at c.requires.enough)
-    c.size-whole.ensures.cell (rw c.push.ensures.chain.0 grown.chain) c.push.ensures.held
-    (rw (c.grow.ensures.links, c.split-name.ensures.bins.0, c.uint_to_float_round_down.ensures.is) at c.push.ensures.lists) (c.split-name.ensures.fresh _ _ held) c.split-name.ensures.below)
+    c.size-whole.ensures.cell (rw c.push.ensures.chain.0 grown.chain) c.push.ensures.binned
+    (rw (c.grow.ensures.bins, c.split-name.ensures.bins.0, c.uint_to_float_round_down.ensures.is) at c.push.ensures.lists) (c.split-name.ensures.fresh _ _ held) c.split-name.ensures.below)
 
 pub invariant_of-self : goal.invariant_of-self
 invariant_of-self g c = let at = goal.at.invariant_of-self g c in (done g at.After-push (pre g at.After-ensure_spare) 0).0

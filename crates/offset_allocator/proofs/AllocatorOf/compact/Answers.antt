@@ -1,4 +1,4 @@
-use Rattle.offset_allocator.proofs.Common.{◌≡◌, ℕ, ◌+◌, [], refl, sym, ap, subst, ◌∙◌, arith, replicate, Place, View, units, free_sizes, Links, Node, bins_in, blocks, live, moves, KeepsSizes}
+use Rattle.offset_allocator.proofs.Common.{◌≡◌, ℕ, ◌+◌, [], refl, sym, ap, subst, ◌∙◌, arith, replicate, Place, View, units, free_sizes, BinCells, Node, bins_in, blocks, live, moves, KeepsSizes}
 use Rattle.offset_allocator.proofs.Common.{Compacts, common_steps}
 use Rattle.offset_allocator.proofs.Sound.{AreSound, Fields, shown, fields_of, known_sound}
 use Rattle.offset_allocator.proofs.Compacting.{IsFirst, first_is, packed, compacts_live, first_held, packs, stays_packed}
@@ -8,7 +8,7 @@ use Rattle.offset_allocator.proofs.AllocatorOf.compact.{Goals.After-slide-hole, 
 
 pub returns-in_default-clause-moved : goal.returns-in_default-clause-moved
 returns-in_default-clause-moved g c =
-    let r = packed (blocks (g.T.Tables.cells c.self.inside.store.tables).room c.self.inside.store.last) (sym c.first_free.ensures.first ∙ c.in_default.is) in
+    let r = packed (blocks (g.T.Tables.cells c.self.inside.store.tables).chain c.self.inside.store.last) (sym c.first_free.ensures.first ∙ c.in_default.is) in
     let none : moves 0 0 c.args.self.now.blocks ≡ [] = ap (λ (u : View). moves 0 0 u.blocks) (sym c.self.view_is) ∙ r.moves 0 in
     rw none refl
 
@@ -29,7 +29,7 @@ slide-hole-requires-clause-place g c =
     let o = first_is _ _ (sym c.first_free.ensures.first ∙ c.in-Some.is) in
     (_, _, kept_place c.empty.ensures.chain (first_held f c.self.invariant o refl), o.idle)
 
-first : (g : Over) (c : After-slide-hole g) → IsFirst (blocks (g.T.Tables.cells c.self.inside.store.tables).room c.self.inside.store.last) c.in-Some.first
+first : (g : Over) (c : After-slide-hole g) → IsFirst (blocks (g.T.Tables.cells c.self.inside.store.tables).chain c.self.inside.store.last) c.in-Some.first
 first g c = first_is _ _ (sym c.first_free.ensures.first ∙ c.in-Some.is)
 
 pub push-requires-clause-named : goal.push-requires-clause-named
@@ -49,11 +49,11 @@ push-requires-clause-idle g c =
 pub push-requires-clause-classed : goal.push-requires-clause-classed
 push-requires-clause-classed g c = omega (arith, down_small c.slide-hole.result.size, c.uint_to_float_round_down-class.ensures.is)
 
-pub push-requires-clause-held : goal.push-requires-clause-held
-push-requires-clause-held g c = rw (c.slide-hole.ensures.bins.0, c.slide-hole.ensures.bins.1) c.empty.ensures.held
+pub push-requires-clause-binned : goal.push-requires-clause-binned
+push-requires-clause-binned g c = rw (c.slide-hole.ensures.bins.0, c.slide-hole.ensures.bins.1) c.empty.ensures.binned
 
 pub push-requires-clause-unlisted : goal.push-requires-clause-unlisted
-push-requires-clause-unlisted g c = empty_unlisted c.slide-hole.result.name (ap (λ (k : Links). bins_in g.T.Index.NodeIndex.MAX k) c.slide-hole.ensures.bins.0 ∙ c.empty.ensures.lists)
+push-requires-clause-unlisted g c = empty_unlisted c.slide-hole.result.name (ap (λ (k : BinCells). bins_in g.T.Index.NodeIndex.MAX k) c.slide-hole.ensures.bins.0 ∙ c.empty.ensures.lists)
 
 -- the fields that are left, and what they show
 done : (g : Over) (c : After-push g) (k : ℕ) (f : Fields) → f ≡ record (fields_of g.T.Tables.cells g.T.Index.NodeIndex.MAX c.self.inside) {
@@ -66,25 +66,25 @@ done : (g : Over) (c : After-push g) (k : ℕ) (f : Fields) → f ≡ record (fi
     → AreSound f × Compacts (shown (fields_of g.T.Tables.cells g.T.Index.NodeIndex.MAX c.self.inside)) (shown f)
 done g c k f is =
     let old : Fields = fields_of g.T.Tables.cells g.T.Index.NodeIndex.MAX c.self.inside in
-    let o : IsFirst (blocks (g.T.Tables.cells c.self.inside.store.tables).room c.self.inside.store.last) c.in-Some.first = first_is _ _ (sym c.first_free.ensures.first ∙ c.in-Some.is) in
+    let o : IsFirst (blocks (g.T.Tables.cells c.self.inside.store.tables).chain c.self.inside.store.last) c.in-Some.first = first_is _ _ (sym c.first_free.ensures.first ∙ c.in-Some.is) in
     let e = c.slide-hole.ensures.place _ _ (kept_place c.empty.ensures.chain (first_held old c.self.invariant o refl)) o.idle in
-    let empty : bins_in g.T.Index.NodeIndex.MAX (g.T.Tables.cells c.slide-hole.new.store.tables).links ≡ replicate 256 [] =
-    ap (λ (k : Links). bins_in g.T.Index.NodeIndex.MAX k) c.slide-hole.ensures.bins.0 ∙ c.empty.ensures.lists in
+    let empty : bins_in g.T.Index.NodeIndex.MAX (g.T.Tables.cells c.slide-hole.new.store.tables).bins ≡ replicate 256 [] =
+    ap (λ (k : BinCells). bins_in g.T.Index.NodeIndex.MAX k) c.slide-hole.ensures.bins.0 ∙ c.empty.ensures.lists in
     rw is (packs old c.self.invariant o (g.T.Tables.cells c.push.new.store.tables) _ _ c.slide-hole.result.name c.slide-hole.result.size (kept_place c.push.ensures.chain e.0) e.1 {accesses = k}
-    c.push.ensures.held (rw (c.uint_to_float_round_down-class.ensures.is, empty) at c.push.ensures.lists))
+    c.push.ensures.binned (rw (c.uint_to_float_round_down-class.ensures.is, empty) at c.push.ensures.lists))
 
 pub invariant_of-self-2 : goal.invariant_of-self-2
 invariant_of-self-2 g c = (done g (goal.at.invariant_of-self-2 g c).After-push 0 _ refl).0
 
 pub returns-clause-live : goal.returns-clause-live
 returns-clause-live g c =
-    let P : View → Type 0 = λ u. live (blocks (g.T.Tables.cells c.push.new.store.tables).room c.push.new.store.last) ≡ live u.blocks in
+    let P : View → Type 0 = λ u. live (blocks (g.T.Tables.cells c.push.new.store.tables).chain c.push.new.store.last) ≡ live u.blocks in
     subst P c.self.view_is (compacts_live _ _ (done g (goal.at.returns-clause-live g c).After-push 0 _ refl).1)
 
 pub returns-clause-moved : goal.returns-clause-moved
 returns-clause-moved g c =
     let f : Fields = fields_of g.T.Tables.cells g.T.Index.NodeIndex.MAX c.self.inside in
-    let o : IsFirst (blocks (g.T.Tables.cells c.self.inside.store.tables).room c.self.inside.store.last) c.in-Some.first = first_is _ _ (sym c.first_free.ensures.first ∙ c.in-Some.is) in
+    let o : IsFirst (blocks (g.T.Tables.cells c.self.inside.store.tables).chain c.self.inside.store.last) c.in-Some.first = first_is _ _ (sym c.first_free.ensures.first ∙ c.in-Some.is) in
     let p : Place = o.place in
     let e = c.slide-hole.ensures.place _ _ (kept_place c.empty.ensures.chain (first_held f c.self.invariant o refl)) o.idle in
     let from : 0 + (units p.before + p.block.size) ≡ units p.before + p.block.size = omega arith in
@@ -95,7 +95,7 @@ returns-clause-moved g c =
 pub returns-clause-accesses : goal.returns-clause-accesses
 returns-clause-accesses g c =
     let f : Fields = fields_of g.T.Tables.cells g.T.Index.NodeIndex.MAX c.self.inside in
-    let o : IsFirst (blocks (g.T.Tables.cells c.self.inside.store.tables).room c.self.inside.store.last) c.in-Some.first = first_is _ _ (sym c.first_free.ensures.first ∙ c.in-Some.is) in
+    let o : IsFirst (blocks (g.T.Tables.cells c.self.inside.store.tables).chain c.self.inside.store.last) c.in-Some.first = first_is _ _ (sym c.first_free.ensures.first ∙ c.in-Some.is) in
     let p : Place = o.place in
     let e = c.slide-hole.ensures.place _ _ (kept_place c.empty.ensures.chain (first_held f c.self.invariant o refl)) o.idle in
     grind (arith, common_steps)
@@ -129,5 +129,5 @@ returns-clause-sizes g c =
 
 pub returns-in_default-clause-accesses_some : goal.returns-in_default-clause-accesses_some
 returns-in_default-clause-accesses_some g c some =
-    let r = packed (blocks (g.T.Tables.cells c.self.inside.store.tables).room c.self.inside.store.last) (sym c.first_free.ensures.first ∙ c.in_default.is) in
+    let r = packed (blocks (g.T.Tables.cells c.self.inside.store.tables).chain c.self.inside.store.last) (sym c.first_free.ensures.first ∙ c.in_default.is) in
     absurd (some (ap (λ (u : View). free_sizes u.blocks) (sym c.self.view_is) ∙ r.sizes))

@@ -11,7 +11,7 @@ pub returns-then-more-self-clause-step : goal.returns-then-more-self-clause-step
 returns-then-more-self-clause-step g c = (omega arith, λ h. absurd (let l = h.0 in let s = ap (λ (u : View). u.size) c.self.view_is in omega arith), refl)
 
 -- what is read is whether the last block is used
-read : (g : Over) (c : After-is_used-used g) → ends_used (blocks (g.T.Tables.cells c.self.inside.store.tables).room c.self.inside.store.last) ≡ c.is_used-used.result
+read : (g : Over) (c : After-is_used-used g) → ends_used (blocks (g.T.Tables.cells c.self.inside.store.tables).chain c.self.inside.store.last) ≡ c.is_used-used.result
 read g c = sym (used_at_end (fields_of g.T.Tables.cells g.T.Index.NodeIndex.MAX c.self.inside) c.args.more c.self.invariant) ∙ used_read _ _ _ _ c.self.invariant.space
     ∙ sym (c.is_used-used.ensures.used _ _ c.self.invariant.space)
 

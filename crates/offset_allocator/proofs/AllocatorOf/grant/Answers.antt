@@ -10,7 +10,8 @@ pub ensure_spares-requires-clause-memory : goal.ensure_spares-requires-clause-me
 ensure_spares-requires-clause-memory g c = (_, _, _, c.self.invariant.space, omega (arith, c.min.ensures, rw (← c.self.view_is) at c.requires.enough, c.self.invariant.memory))
 
 -- what the contract asks of the view, said of the fields
-call : (g : Over) (c : After-pop-name g) → Call (with_made (fields_of g.T.Tables.cells g.T.Index.NodeIndex.MAX c.self.inside) (g.T.Tables.cells c.ensure_spares.new.tables) c.ensure_spares.new.spare_count)
+call : (g : Over) (c : After-pop-name g)
+    → Call (with_made (fields_of g.T.Tables.cells g.T.Index.NodeIndex.MAX c.self.inside) (g.T.Tables.cells c.ensure_spares.new.tables) c.ensure_spares.new.spare_count)
     (units_needed c.args.size c.args.align) c.args.class c.pop-name.result
 call g c = record {
   sound = made (fields_of g.T.Tables.cells g.T.Index.NodeIndex.MAX c.self.inside) c.self.invariant c.ensure_spares.ensures.readies;
@@ -27,8 +28,8 @@ within n align o l = omega arith
 two : (align o : ℕ) → 1 ≤ padding_to align o → 2 ≤ blocks_needed align
 two align o l = omega arith
 
-pub pop-name-requires-clause-held : goal.pop-name-requires-clause-held
-pop-name-requires-clause-held g c = (c.ensure_spares.ensures.readies.bins _ c.self.invariant.bins).0
+pub pop-name-requires-clause-binned : goal.pop-name-requires-clause-binned
+pop-name-requires-clause-binned g c = (c.ensure_spares.ensures.readies.bins _ c.self.invariant.bins).0
 
 pub pop-name-requires-clause-some : goal.pop-name-requires-clause-some
 pop-name-requires-clause-some g c =
@@ -42,7 +43,8 @@ pub size-whole-requires : goal.size-whole-requires
 size-whole-requires g c = (kept_place c.pop-name.ensures.chain (held (call g (goal.at.size-whole-requires g c).After-pop-name) refl)).below
 
 -- the block holds the padding and the units
-fits : (g : Over) (c : After-size-whole g) → Call (with_made (fields_of g.T.Tables.cells g.T.Index.NodeIndex.MAX c.self.inside) (g.T.Tables.cells c.ensure_spares.new.tables) c.ensure_spares.new.spare_count)
+fits : (g : Over) (c : After-size-whole g)
+    → Call (with_made (fields_of g.T.Tables.cells g.T.Index.NodeIndex.MAX c.self.inside) (g.T.Tables.cells c.ensure_spares.new.tables) c.ensure_spares.new.spare_count)
     (units_needed c.args.size c.args.align) c.args.class c.pop-name.result → padding_to c.args.align c.offset-offset.result + c.args.size ≤ c.size-whole.result
 fits g c p = rw (c.offset-offset.ensures.cell, c.size-whole.ensures.cell, at_place (kept_place c.pop-name.ensures.chain (held p refl)))
     (whole_fits p c.args.size (padding_to c.args.align) (λ o. within c.args.size c.args.align o c.requires.some))
@@ -81,7 +83,8 @@ overflow_add-start g c =
     omega (arith, small)
 
 -- the fields that are left, and what was split
-done : (g : Over) (c : After-divide g) → Call (with_made (fields_of g.T.Tables.cells g.T.Index.NodeIndex.MAX c.self.inside) (g.T.Tables.cells c.ensure_spares.new.tables) c.ensure_spares.new.spare_count)
+done : (g : Over) (c : After-divide g)
+    → Call (with_made (fields_of g.T.Tables.cells g.T.Index.NodeIndex.MAX c.self.inside) (g.T.Tables.cells c.ensure_spares.new.tables) c.ensure_spares.new.spare_count)
     (units_needed c.args.size c.args.align) c.args.class c.pop-name.result → (k : ℕ) (f : Fields)
     → f ≡ record (fields_of g.T.Tables.cells g.T.Index.NodeIndex.MAX c.self.inside) {
       cells = (g.T.Tables.cells c.divide.new.store.tables);
@@ -103,7 +106,7 @@ done g c p k f e =
     let room = subst (HasRoomFor (blocks_needed c.args.align)) (sym (made_shown (fields_of g.T.Tables.cells g.T.Index.NodeIndex.MAX c.self.inside) c.self.invariant c.ensure_spares.ensures.readies
     ∙ c.self.view_is)) c.requires.enough in
     rw (e, oe) (granted p c.args.size (padding_to c.args.align) (λ o. within c.args.size c.args.align o c.requires.some) (blocks_needed c.args.align) room (omega (arith, c.requires.some))
-    (two c.args.align) _ _ _ _ _ (rw (oe, we) at place) c.divide.ensures.held (rw (oe, we, c.pop-name.ensures.lists) at c.divide.ensures.lists))
+    (two c.args.align) _ _ _ _ _ (rw (oe, we) at place) c.divide.ensures.binned (rw (oe, we, c.pop-name.ensures.lists) at c.divide.ensures.lists))
 
 pub invariant_of-self : goal.invariant_of-self
 invariant_of-self g c = let at = goal.at.invariant_of-self g c in (done g at.After-divide (call g at.After-pop-name) 0 _ refl).0

@@ -9,13 +9,13 @@ release g c = record { sound = c.self.invariant; live = named_live _ _ _ _ c.sel
 
 -- the block once it is free, and the bins as they were
 marked : (g : Over) (c : After-set_used g) (r : Release (fields_of g.T.Tables.cells g.T.Index.NodeIndex.MAX c.self.inside) c.args.name)
-    → HasPlace (g.T.Tables.cells c.set_used.new.tables).room (g.T.Tables.cells c.self.inside.store.tables).room.reserved c.self.inside.store.last c.self.inside.store.spare_count c.args.name
+    → HasPlace (g.T.Tables.cells c.set_used.new.tables).chain (g.T.Tables.cells c.self.inside.store.tables).chain.reserved c.self.inside.store.last c.self.inside.store.spare_count c.args.name
     (record (at r).place { block = record (at r).place.block { used = false } })
 marked g c r = c.set_used.ensures.place _ _ _ _ (at r).held
 
 bins : (g : Over) (c : After-set_used g) (r : Release (fields_of g.T.Tables.cells g.T.Index.NodeIndex.MAX c.self.inside) c.args.name)
-    → IsBinned g.T.Index.NodeIndex.MAX (g.T.Tables.cells c.set_used.new.tables).links c.self.inside.store.top_mask
-    × (bins_in g.T.Index.NodeIndex.MAX (g.T.Tables.cells c.set_used.new.tables).links ≡ bins_in g.T.Index.NodeIndex.MAX (g.T.Tables.cells c.self.inside.store.tables).links)
+    → IsBinned g.T.Index.NodeIndex.MAX (g.T.Tables.cells c.set_used.new.tables).bins c.self.inside.store.top_mask
+    × (bins_in g.T.Index.NodeIndex.MAX (g.T.Tables.cells c.set_used.new.tables).bins ≡ bins_in g.T.Index.NodeIndex.MAX (g.T.Tables.cells c.self.inside.store.tables).bins)
 bins g c r = c.set_used.ensures.bins _ (unlisted (at r).held _ (filed r)) c.self.invariant.bins
 
 -- the fields that the release leaves, with any number of accesses counted
@@ -37,7 +37,7 @@ done g c k =
     let h = marked g here.After-set_used r in
     let m = c.coalesce.ensures.place _ _ h in
     let order = rw (ap (λ (v : Node). v.size) (at_place m), (bins g here.After-set_used r).1) at (c.coalesce.ensures.lists _ _ h) in
-    let left = freed r new.cells new.last new.count new.top k m.chain c.coalesce.ensures.held order in
+    let left = freed r new.cells new.last new.count new.top k m.chain c.coalesce.ensures.binned order in
     (rw (c.size-size.ensures.cell ∙ ap (λ (v : Node). v.size) (at_place (at r).held)) left.0, rw (← c.self.view_is) left.1)
 
 pub size-size-requires : goal.size-size-requires
@@ -57,8 +57,8 @@ coalesce-requires-clause-place g c =
     let r = release g here.After-self in
     (_, _, marked g here.After-set_used r, rw (bins g here.After-set_used r).1 (filed r))
 
-pub coalesce-requires-clause-held : goal.coalesce-requires-clause-held
-coalesce-requires-clause-held g c = let here = goal.at.coalesce-requires-clause-held g c in (bins g here.After-set_used (release g here.After-self)).0
+pub coalesce-requires-clause-binned : goal.coalesce-requires-clause-binned
+coalesce-requires-clause-binned g c = let here = goal.at.coalesce-requires-clause-binned g c in (bins g here.After-set_used (release g here.After-self)).0
 
 pub coalesce-requires-clause-idle : goal.coalesce-requires-clause-idle
 coalesce-requires-clause-idle g c = let here = goal.at.coalesce-requires-clause-idle g c in ap (λ (v : Node). v.used) (at_place (marked g here.After-set_used (release g here.After-self)))

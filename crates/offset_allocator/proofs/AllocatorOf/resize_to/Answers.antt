@@ -78,8 +78,8 @@ resize-requires-clause-place g c =
     let r = block g here.After-ensure_spare in
     (_, _, (at r).held, filed r, omega (arith, size g here.After-ensure_spare, more g here.After-units_after-more r, c.if-size-old_size-2.false))
 
-pub resize-requires-clause-held : goal.resize-requires-clause-held
-resize-requires-clause-held g c = (c.ensure_spare.ensures.readies.bins _ c.self.invariant.bins).0
+pub resize-requires-clause-binned : goal.resize-requires-clause-binned
+resize-requires-clause-binned g c = (c.ensure_spare.ensures.readies.bins _ c.self.invariant.bins).0
 
 pub resize-requires-clause-old_size : goal.resize-requires-clause-old_size
 resize-requires-clause-old_size g c =
@@ -108,7 +108,8 @@ after g c k = record (with_made (fields_of g.T.Tables.cells g.T.Index.NodeIndex.
   accesses = k;
 }
 
-room : (g : Over) (c : After-resize g) (r : Release (with_made (fields_of g.T.Tables.cells g.T.Index.NodeIndex.MAX c.self.inside) (g.T.Tables.cells c.ensure_spare.new.tables) c.ensure_spare.new.spare_count)
+room : (g : Over) (c : After-resize g)
+    (r : Release (with_made (fields_of g.T.Tables.cells g.T.Index.NodeIndex.MAX c.self.inside) (g.T.Tables.cells c.ensure_spare.new.tables) c.ensure_spare.new.spare_count)
     c.args.name) → (1 ≤ length (free_start (at r).place.after))
     ⊎ HasRoomFor 1 (shown (with_made (fields_of g.T.Tables.cells g.T.Index.NodeIndex.MAX c.self.inside) (g.T.Tables.cells c.ensure_spare.new.tables) c.ensure_spare.new.spare_count))
 room g c r = elim c.else-is_none.branch [
@@ -123,12 +124,13 @@ room g c r = elim c.else-is_none.branch [
   | else-is_none-via-else-is_none w ↦ inl ((next_some r _ c.free_after-next.ensures.free).0 w.if-is_none.ensures)
 ]
 
-done : (g : Over) (c : After-resize g) (r : Release (with_made (fields_of g.T.Tables.cells g.T.Index.NodeIndex.MAX c.self.inside) (g.T.Tables.cells c.ensure_spare.new.tables) c.ensure_spare.new.spare_count)
+done : (g : Over) (c : After-resize g)
+    (r : Release (with_made (fields_of g.T.Tables.cells g.T.Index.NodeIndex.MAX c.self.inside) (g.T.Tables.cells c.ensure_spare.new.tables) c.ensure_spare.new.spare_count)
     c.args.name) → c.args.old_size ≡ (at r).place.block.size → c.units_after-more.result ≡ units (free_start (at r).place.after) → (k : ℕ)
     → AreSound (after g c k) × Resizes c.args.name c.args.size
     (shown (with_made (fields_of g.T.Tables.cells g.T.Index.NodeIndex.MAX c.self.inside) (g.T.Tables.cells c.ensure_spare.new.tables) c.ensure_spare.new.spare_count)) (shown (after g c k))
 done g c r size more k =
-    resized r c.args.size (omega (arith, size, more, c.if-size-old_size-2.false)) (room g c r) _ _ _ c.resize.result (c.resize.ensures.place _ _ (at r).held) k _ c.resize.ensures.held
+    resized r c.args.size (omega (arith, size, more, c.if-size-old_size-2.false)) (room g c r) _ _ _ c.resize.result (c.resize.ensures.place _ _ (at r).held) k _ c.resize.ensures.binned
     (c.resize.ensures.lists _ _ (at r).held) (omega (arith, size, more, free_beside r, c.if-size-old_size-2.false))
 
 pub invariant_of-self-2 : goal.invariant_of-self-2
@@ -149,7 +151,8 @@ returns-clause-step g c =
     (done g here.After-resize r e m c.resize.new.store.accesses).1)
 
 -- the views before and after it are well formed
-well : (g : Over) (c : After-resize g) (r : Release (with_made (fields_of g.T.Tables.cells g.T.Index.NodeIndex.MAX c.self.inside) (g.T.Tables.cells c.ensure_spare.new.tables) c.ensure_spare.new.spare_count)
+well : (g : Over) (c : After-resize g)
+    (r : Release (with_made (fields_of g.T.Tables.cells g.T.Index.NodeIndex.MAX c.self.inside) (g.T.Tables.cells c.ensure_spare.new.tables) c.ensure_spare.new.spare_count)
     c.args.name) → c.args.old_size ≡ (at r).place.block.size → c.units_after-more.result ≡ units (free_start (at r).place.after) → IsWellFormed c.args.self.now
     × IsWellFormed (shown (after g c c.resize.new.store.accesses))
 well g c r size more = (

@@ -1,4 +1,4 @@
-use Rattle.offset_allocator.proofs.Common.{◌+◌, ◌∙◌, ℕ, length, false, ap, arith, Node, Room}
+use Rattle.offset_allocator.proofs.Common.{◌+◌, ◌∙◌, ℕ, length, false, ap, arith, Node, ChainCells}
 use Rattle.offset_allocator.proofs.Extending.{Growth, Grown, b_used, end_held, end_small, free_fits, widen_listed, widen_unlisted, widened}
 use Rattle.offset_allocator.proofs.{Sound.fields_of, Classes.down_small, Places.at_place, Places.end_place}
 use Rattle.offset_allocator.proofs.AllocatorOf.widen.Goals as goal
@@ -21,7 +21,7 @@ pub grow-requires-clause-place : goal.grow-requires-clause-place
 grow-requires-clause-place g c = (_, _, _, _, end_held (pre g (goal.at.grow-requires-clause-place g c).After-self) c.remove.ensures.chain.0)
 
 pub push-requires-clause-named : goal.push-requires-clause-named
-push-requires-clause-named g c = omega (arith, (end_place c.self.invariant.space).below, c.grow.ensures.nodes, ap (λ (r : Room). length r.nodes) c.remove.ensures.chain.0)
+push-requires-clause-named g c = omega (arith, (end_place c.self.invariant.space).below, c.grow.ensures.nodes, ap (λ (r : ChainCells). length r.nodes) c.remove.ensures.chain.0)
 
 pub push-requires-clause-idle : goal.push-requires-clause-idle
 push-requires-clause-idle g c =
@@ -33,7 +33,7 @@ pub push-requires-clause-classed : goal.push-requires-clause-classed
 push-requires-clause-classed g c = omega (arith, down_small (c.size-size.result + c.args.more), c.uint_to_float_round_down.ensures.is)
 
 pub push-requires-clause-unlisted : goal.push-requires-clause-unlisted
-push-requires-clause-unlisted g c = rw (c.grow.ensures.links, c.remove.ensures.lists, c.size-size.ensures.cell) (widen_unlisted (pre g (goal.at.push-requires-clause-unlisted g c).After-self))
+push-requires-clause-unlisted g c = rw (c.grow.ensures.bins, c.remove.ensures.lists, c.size-size.ensures.cell) (widen_unlisted (pre g (goal.at.push-requires-clause-unlisted g c).After-self))
 
 pub overflow_add-self-2 : goal.overflow_add-self-2
 overflow_add-self-2 g c = omega (arith, free_fits (pre g (goal.at.overflow_add-self-2 g c).After-self))
@@ -43,8 +43,8 @@ done : (g : Over) (c : After-push g) (r : Growth (fields_of g.T.Tables.cells g.T
 done g c r k =
     let grown = c.grow.ensures.place _ _ _ _ (end_held r c.remove.ensures.chain.0) in
     rw (c.push.ensures.chain.1, c.push.ensures.chain.2, c.remove.ensures.chain.1, c.remove.ensures.chain.2)
-    (widened r (g.T.Tables.cells c.push.new.store.tables) k (rw c.push.ensures.chain.0 grown.chain) c.push.ensures.held
-    (rw (c.grow.ensures.links, c.remove.ensures.lists, c.uint_to_float_round_down.ensures.is, c.size-size.ensures.cell) at c.push.ensures.lists))
+    (widened r (g.T.Tables.cells c.push.new.store.tables) k (rw c.push.ensures.chain.0 grown.chain) c.push.ensures.binned
+    (rw (c.grow.ensures.bins, c.remove.ensures.lists, c.uint_to_float_round_down.ensures.is, c.size-size.ensures.cell) at c.push.ensures.lists))
 
 pub invariant_of-self : goal.invariant_of-self
 invariant_of-self g c = let at = goal.at.invariant_of-self g c in (done g at.After-push (pre g at.After-self) 0).0

@@ -7,7 +7,7 @@ remove_newest-requires-clause-older g c = rw (← (c.head-name.ensures.cell)) c.
 
 pub returns-clause-first : goal.returns-clause-first
 returns-clause-first g c =
-    let k = c.requires.held.linked in
+    let k = c.requires.binned.linked in
     let rest = ap (λ o. bin_at o c.args.class) c.remove_newest.ensures.lists ∙ names_same _ c.args.class _ k.lists_len c.requires.classed
     ∙ without_head k c.args.class c.requires.classed c.requires.some in
     (head k c.args.class c.requires.classed c.requires.some).0 ∙ ap₂ (λ x xs. x ∷ xs) (sym c.head-name.ensures.cell) (sym rest)

@@ -11,16 +11,16 @@ set_newer-requires g c = grind (arith, common_steps, length-set, head_below, lis
 
 pub returns-then-newest-MAX : goal.returns-then-newest-MAX
 returns-then-newest-MAX g c =
-    let k = c.requires.held.linked in
+    let k = c.requires.binned.linked in
     let h = c.head-newest.ensures.cell in
     let kept = c.from_u32.ensures.kept (rw h (head_small k c.args.class c.requires.classed)) in
     let e = rw (c.set_links.ensures.cells, c.set_head.ensures.cells) at c.set_mask.ensures.cells in
-    changed (pushed k c.args.class c.requires.classed (g.T.Tables.cells c.set_mask.new.self).links c.args.name (omega (arith, c.requires.named, c.shape.ensures.newer)) c.requires.unlisted
-    (rw (e, c.no_link.ensures.number) (sym (set_past _ _ _ (omega (arith, k.names_small, length-set (g.T.Tables.cells c.args.store.now.tables).links.newer c.args.name g.T.Index.NodeIndex.MAX)))))
+    changed (pushed k c.args.class c.requires.classed (g.T.Tables.cells c.set_mask.new.self).bins c.args.name (omega (arith, c.requires.named, c.shape.ensures.newer)) c.requires.unlisted
+    (rw (e, c.no_link.ensures.number) (sym (set_past _ _ _ (omega (arith, k.names_small, length-set (g.T.Tables.cells c.args.store.now.tables).bins.newer c.args.name g.T.Index.NodeIndex.MAX)))))
     (rw (e, kept, h))
     (rw e))
-    (rw e (masked_set c.requires.held.masked k.lists_len c.args.class c.requires.classed _ _ (c.mask-mask.ensures.cell ∙ rw (c.set_links.ensures.cells, c.set_head.ensures.cells))
-    (flag_cons c.args.name (bin_at (bins_in g.T.Index.NodeIndex.MAX (g.T.Tables.cells c.args.store.now.tables).links) c.args.class)))) (
+    (rw e (masked_set c.requires.binned.masked k.lists_len c.args.class c.requires.classed _ _ (c.mask-mask.ensures.cell ∙ rw (c.set_links.ensures.cells, c.set_head.ensures.cells))
+    (flag_cons c.args.name (bin_at (bins_in g.T.Index.NodeIndex.MAX (g.T.Tables.cells c.args.store.now.tables).bins) c.args.class)))) (
       rw e,
       refl,
       refl,
@@ -28,16 +28,16 @@ returns-then-newest-MAX g c =
 
 pub returns-else-newest-MAX : goal.returns-else-newest-MAX
 returns-else-newest-MAX g c =
-    let k = c.requires.held.linked in
+    let k = c.requires.binned.linked in
     let h = c.head-newest.ensures.cell in
     let kept = c.from_u32.ensures.kept (rw h (head_small k c.args.class c.requires.classed)) in
     let e = rw (c.set_links.ensures.cells, c.set_head.ensures.cells) at c.set_newer.ensures.cells in
-    changed (pushed k c.args.class c.requires.classed (g.T.Tables.cells c.set_newer.new.self).links c.args.name (omega (arith, c.requires.named, c.shape.ensures.newer)) c.requires.unlisted
+    changed (pushed k c.args.class c.requires.classed (g.T.Tables.cells c.set_newer.new.self).bins c.args.name (omega (arith, c.requires.named, c.shape.ensures.newer)) c.requires.unlisted
     (rw (e, c.no_link.ensures.number, h, c.link_to-link.ensures.number))
     (rw (e, kept, h))
     (rw e))
-    (rw e (masked_same c.requires.held.masked k.lists_len c.args.class c.requires.classed _
-    (flag_cons c.args.name (bin_at (bins_in g.T.Index.NodeIndex.MAX (g.T.Tables.cells c.args.store.now.tables).links) c.args.class)
+    (rw e (masked_same c.requires.binned.masked k.lists_len c.args.class c.requires.classed _
+    (flag_cons c.args.name (bin_at (bins_in g.T.Index.NodeIndex.MAX (g.T.Tables.cells c.args.store.now.tables).bins) c.args.class)
     ∙ sym (flag_full _ (λ z. let q = h ∙ k.heads c.args.class c.requires.classed ∙ ap (first_of g.T.Index.NodeIndex.MAX) z in absurd (omega arith)))))) (
       rw e,
       refl,

@@ -4,7 +4,7 @@ use Rattle.offset_allocator.proofs.{Classes.down_small, Uses.after_idle, Uses.no
 use Rattle.offset_allocator.proofs.bins.remove_linked.Goals as goal
 
 pub older-older-requires : goal.older-older-requires
-older-older-requires g c = omega (arith, below c.requires.held.linked _ (down_small c.args.size) _ c.requires.listed, c.requires.held.linked.older_len)
+older-older-requires g c = omega (arith, below c.requires.binned.linked _ (down_small c.args.size) _ c.requires.listed, c.requires.binned.linked.older_len)
 
 -- the newest name
 pub remove_newest-requires-clause-classed : goal.remove_newest-requires-clause-classed
@@ -15,38 +15,38 @@ remove_newest-requires-clause-some g c = grind (arith, is_first, down_small)
 
 pub remove_newest-requires-clause-older : goal.remove_newest-requires-clause-older
 remove_newest-requires-clause-older g c =
-    let z : slice_index (g.T.Tables.cells c.args.store.now.tables).links.newer c.args.name ≡ g.T.Index.NodeIndex.MAX = omega (arith, c.requires.newer) in
-    rw (c.uint_to_float_round_down.ensures.is, (is_first c.requires.held.linked _ (down_small c.args.size) _ c.requires.listed z).1) c.older-older.ensures.cell
+    let z : slice_index (g.T.Tables.cells c.args.store.now.tables).bins.newer c.args.name ≡ g.T.Index.NodeIndex.MAX = omega (arith, c.requires.newer) in
+    rw (c.uint_to_float_round_down.ensures.is, (is_first c.requires.binned.linked _ (down_small c.args.size) _ c.requires.listed z).1) c.older-older.ensures.cell
 
 pub returns-then-number-MAX-clause-lists : goal.returns-then-number-MAX-clause-lists
 returns-then-number-MAX-clause-lists g c =
-    let z : slice_index (g.T.Tables.cells c.args.store.now.tables).links.newer c.args.name ≡ g.T.Index.NodeIndex.MAX = omega (arith, c.requires.newer) in
-    rw (c.remove_newest.ensures.lists, c.uint_to_float_round_down.ensures.is, (is_first c.requires.held.linked _ (down_small c.args.size) _ c.requires.listed z).1) refl
+    let z : slice_index (g.T.Tables.cells c.args.store.now.tables).bins.newer c.args.name ≡ g.T.Index.NodeIndex.MAX = omega (arith, c.requires.newer) in
+    rw (c.remove_newest.ensures.lists, c.uint_to_float_round_down.ensures.is, (is_first c.requires.binned.linked _ (down_small c.args.size) _ c.requires.listed z).1) refl
 
 -- a later name
 pub link_newer-requires-clause-named : goal.link_newer-requires-clause-named
-link_newer-requires-clause-named g c n = rw c.older-older.ensures.cell (older_in c.requires.held.linked _ (down_small c.args.size) _ c.requires.listed (λ e. n (c.older-older.ensures.cell ∙ e)))
+link_newer-requires-clause-named g c n = rw c.older-older.ensures.cell (older_in c.requires.binned.linked _ (down_small c.args.size) _ c.requires.listed (λ e. n (c.older-older.ensures.cell ∙ e)))
 
 pub link_newer-requires-clause-idle : goal.link_newer-requires-clause-idle
 link_newer-requires-clause-idle g c n = rw c.older-older.ensures.cell
-    (after_idle c.shape.ensures c.requires.held.linked _ (down_small c.args.size) _ c.requires.listed (λ e. n (c.older-older.ensures.cell ∙ e)))
+    (after_idle c.shape.ensures c.requires.binned.linked _ (down_small c.args.size) _ c.requires.listed (λ e. n (c.older-older.ensures.cell ∙ e)))
 
 pub link_newer-requires-clause-link : goal.link_newer-requires-clause-link
 link_newer-requires-clause-link g c =
     no_mark c.shape.ensures (g.T.Index.NodeIndex.number c.args.newer)
-    (λ n. omega (arith, c.requires.newer, c.shape.ensures.newer, newer_in c.requires.held.linked _ (down_small c.args.size) _ c.requires.listed (λ e. n (c.requires.newer ∙ e))))
+    (λ n. omega (arith, c.requires.newer, c.shape.ensures.newer, newer_in c.requires.binned.linked _ (down_small c.args.size) _ c.requires.listed (λ e. n (c.requires.newer ∙ e))))
 
 pub set_older-requires : goal.set_older-requires
 set_older-requires g c =
-    let l = newer_in c.requires.held.linked _ (down_small c.args.size) _ c.requires.listed (λ e. absurd (omega (arith, c.requires.newer))) in
-    rw c.link_newer.ensures.cells (omega (arith, l, c.requires.newer, c.requires.held.linked.older_len))
+    let l = newer_in c.requires.binned.linked _ (down_small c.args.size) _ c.requires.listed (λ e. absurd (omega (arith, c.requires.newer))) in
+    rw c.link_newer.ensures.cells (omega (arith, l, c.requires.newer, c.requires.binned.linked.older_len))
 
 pub returns-else-number-MAX : goal.returns-else-number-MAX
 returns-else-number-MAX g c =
-    let k = c.requires.held.linked in
-    let n : slice_index (g.T.Tables.cells c.args.store.now.tables).links.newer c.args.name ≢ g.T.Index.NodeIndex.MAX = λ e. absurd (omega (arith, c.requires.newer)) in
+    let k = c.requires.binned.linked in
+    let n : slice_index (g.T.Tables.cells c.args.store.now.tables).bins.newer c.args.name ≢ g.T.Index.NodeIndex.MAX = λ e. absurd (omega (arith, c.requires.newer)) in
     let e = rw c.link_newer.ensures.cells at c.set_older.ensures.cells in
-    changed (left k _ (down_small c.args.size) (g.T.Tables.cells c.set_older.new.self).links _ _ _ (is_later k _ (down_small c.args.size) _ c.requires.listed n)
+    changed (left k _ (down_small c.args.size) (g.T.Tables.cells c.set_older.new.self).bins _ _ _ (is_later k _ (down_small c.args.size) _ c.requires.listed n)
     c.requires.newer c.older-older.ensures.cell
     (rw e) (rw (e, c.number-else-number-MAX.ensures.number)) (rw e))
-    (rw e (later_masked k _ (down_small c.args.size) _ c.requires.listed n c.requires.held.masked)) (rw e, refl, refl) (omega arith, omega arith)
+    (rw e (later_masked k _ (down_small c.args.size) _ c.requires.listed n c.requires.binned.masked)) (rw e, refl, refl) (omega arith, omega arith)

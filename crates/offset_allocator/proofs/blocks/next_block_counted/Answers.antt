@@ -35,6 +35,6 @@ returns-clause-yields g c =
     let P : Option Grant → Placed = λ h. record { offset = c.offset-offset.result; size = c.size-size.result; grant = h } in
     let grant_if : Bool → Option Grant = λ b. if b then Some (record { name = c.in_ok-name.name; offset = c.offset-offset.result }) else None in
     let grant : grant_if c.is_used.result ≡ c.if-is_used.allocation = grind (arith, common_steps, then-is_used, else-is_used) in
-    let block = node_placed c.in_ok-name.name (node (g.T.Tables.cells c.allocator.inside.store.tables).room c.in_ok-name.name) _ _ _ c.offset-offset.ensures.cell c.size-size.ensures.cell
+    let block = node_placed c.in_ok-name.name (node (g.T.Tables.cells c.allocator.inside.store.tables).chain c.in_ok-name.name) _ _ _ c.offset-offset.ensures.cell c.size-size.ensures.cell
     c.is_used.ensures.cell ∙ ap P grant in
     sym c.blocks-2.view_is ∙ r.block ∙ ap (λ (p : Placed). p ∷ left (c.blocks-2.inside.left - 1) c.blocks-2.inside.allocator.now.blocks) block

@@ -1,4 +1,4 @@
-use Rattle.offset_allocator.proofs.Common.{ap, arith, refl, Cells, Room, common_steps}
+use Rattle.offset_allocator.proofs.Common.{ap, arith, refl, Cells, ChainCells, common_steps}
 use Rattle.offset_allocator.proofs.Nodes.{length-put, spare-put, nodes-with_spare}
 use Rattle.offset_allocator.proofs.{Exchange.relinked_spare, Places.next_place, Places.next_below, Places.spare_room, Writes.coalesce_after_place}
 use Rattle.offset_allocator.proofs.chain.coalesce_after.Goals as goal
@@ -17,15 +17,15 @@ set_spare-requires g c = grind (arith, common_steps, relinked_spare, spare-put, 
 
 pub returns-clause-place : goal.returns-clause-place
 returns-clause-place g c m p h =
-    let room : Cells → Room = λ v. v.room in
-    coalesce_after_place (g.T.Tables.cells c.point_back.new.tables).room h c.requires.next c.requires.free c.requires.whole c.after-next.ensures.cell
+    let room : Cells → ChainCells = λ v. v.chain in
+    coalesce_after_place (g.T.Tables.cells c.point_back.new.tables).chain h c.requires.next c.requires.free c.requires.whole c.after-next.ensures.cell
     (ap room c.set_end.ensures.cells) c.point_back.ensures.cells c.point_back.ensures.last (rw c.link_to.ensures.number at (ap room c.set_spare.ensures.cells))
 
 pub point_back-requires-clause-name : goal.point_back-requires-clause-name
 point_back-requires-clause-name g c = rw (c.set_end.ensures.cells, length-put) c.requires.place.2.below
 
 pub returns-clause-bins : goal.returns-clause-bins
-returns-clause-bins g c = (rw (c.set_spare.ensures.cells, c.point_back.ensures.links, c.set_end.ensures.cells) refl, refl)
+returns-clause-bins g c = (rw (c.set_spare.ensures.cells, c.point_back.ensures.bins, c.set_end.ensures.cells) refl, refl)
 
 pub returns-clause-nodes : goal.returns-clause-nodes
 returns-clause-nodes g c = rw (c.set_spare.ensures.cells, nodes-with_spare, c.point_back.ensures.nodes, c.set_end.ensures.cells, length-put) refl

@@ -1,4 +1,4 @@
-use Rattle.offset_allocator.proofs.Common.{ap, arith, refl, Cells, Room, common_steps}
+use Rattle.offset_allocator.proofs.Common.{ap, arith, refl, Cells, ChainCells, common_steps}
 use Rattle.offset_allocator.proofs.Places.{previous_place, previous_below, spare_room}
 use Rattle.offset_allocator.proofs.{Exchange.relinked_spare, Nodes.length-put, Nodes.spare-put, Nodes.nodes-with_spare, Writes.coalesce_before_place}
 use Rattle.offset_allocator.proofs.chain.coalesce_before.Goals as goal
@@ -20,15 +20,15 @@ set_spare-requires g c = grind (arith, common_steps, relinked_spare, spare-put, 
 
 pub returns-clause-place : goal.returns-clause-place
 returns-clause-place g c m p h =
-    let room : Cells → Room = λ v. v.room in
-    coalesce_before_place (g.T.Tables.cells c.point_on.new.tables).room h c.requires.previous c.requires.free c.offset-offset.ensures.cell c.requires.whole c.before-link.ensures.cell
+    let room : Cells → ChainCells = λ v. v.chain in
+    coalesce_before_place (g.T.Tables.cells c.point_on.new.tables).chain h c.requires.previous c.requires.free c.offset-offset.ensures.cell c.requires.whole c.before-link.ensures.cell
     (ap room c.set_start.ensures.cells) c.point_on.ensures.cells (rw c.link_to.ensures.number at (ap room c.set_spare.ensures.cells))
 
 pub point_on-requires-clause-name : goal.point_on-requires-clause-name
 point_on-requires-clause-name g c = rw (c.set_start.ensures.cells, length-put) c.requires.place.2.below
 
 pub returns-clause-bins : goal.returns-clause-bins
-returns-clause-bins g c = (rw (c.set_spare.ensures.cells, c.point_on.ensures.links, c.set_start.ensures.cells) refl, refl)
+returns-clause-bins g c = (rw (c.set_spare.ensures.cells, c.point_on.ensures.bins, c.set_start.ensures.cells) refl, refl)
 
 pub returns-clause-nodes : goal.returns-clause-nodes
 returns-clause-nodes g c = rw (c.set_spare.ensures.cells, nodes-with_spare, c.point_on.ensures.nodes, c.set_start.ensures.cells, length-put) refl

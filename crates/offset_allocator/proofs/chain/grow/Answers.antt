@@ -9,4 +9,4 @@ overflow_add-size g c =
 
 pub returns-clause-place : goal.returns-clause-place
 returns-clause-place g c m spare before b h =
-    grow_place c.args.more h (omega (arith, ap units (blocks-chain _ _ _ _ _ h.chain), c.requires.fits)) c.size-size.ensures.cell (ap (λ (v : Cells). v.room) c.set_size.ensures.cells)
+    grow_place c.args.more h (omega (arith, ap units (blocks-chain _ _ _ _ _ h.chain), c.requires.fits)) c.size-size.ensures.cell (ap (λ (v : Cells). v.chain) c.set_size.ensures.cells)

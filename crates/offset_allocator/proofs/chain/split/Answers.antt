@@ -1,4 +1,4 @@
-use Rattle.offset_allocator.proofs.Common.{◌∙◌, ap, arith, refl, Cells, Room, Node}
+use Rattle.offset_allocator.proofs.Common.{◌∙◌, ap, arith, refl, Cells, ChainCells, Node}
 use Rattle.offset_allocator.proofs.{Exchange.top, Nodes.length-put, Places.at_place, Places.end_fits, Places.next_below, Writes.split_place}
 use Rattle.offset_allocator.proofs.chain.split.Goals as goal
 
@@ -26,7 +26,7 @@ point_back-requires-clause-name g c =
 
 pub returns-clause-place : goal.returns-clause-place
 returns-clause-place g c m p h =
-    let room : Cells → Room = λ v. v.room in
+    let room : Cells → ChainCells = λ v. v.chain in
     split_place h c.requires.spare (c.number-rest.ensures.number ∙ c.spare.ensures.cell) c.requires.within c.requires.offset c.requires.whole c.after-next.ensures.cell
     c.link_to-back.ensures c.link_to-on.ensures
     (ap room c.set_block.ensures.cells) (ap room c.set_end.ensures.cells) c.point_back.ensures.cells c.point_back.ensures.last
@@ -41,7 +41,7 @@ pub set_end-requires : goal.set_end-requires
 set_end-requires g c = rw (c.set_block.ensures.cells, length-put) c.requires.place.2.below
 
 pub returns-clause-bins : goal.returns-clause-bins
-returns-clause-bins g c = (rw (c.point_back.ensures.links, c.set_end.ensures.cells, c.set_block.ensures.cells) refl, refl)
+returns-clause-bins g c = (rw (c.point_back.ensures.bins, c.set_end.ensures.cells, c.set_block.ensures.cells) refl, refl)
 
 pub returns-clause-nodes : goal.returns-clause-nodes
 returns-clause-nodes g c = rw (c.point_back.ensures.nodes, c.set_end.ensures.cells, length-put, c.set_block.ensures.cells, length-put) refl

@@ -1,4 +1,4 @@
-use Rattle.offset_allocator.proofs.Common.{◌∙◌, ap, arith, refl, Cells, Room, Node}
+use Rattle.offset_allocator.proofs.Common.{◌∙◌, ap, arith, refl, Cells, ChainCells, Node}
 use Rattle.offset_allocator.proofs.{Exchange.top, Nodes.length-put, Places.at_place, Places.end_fits, Places.previous_below, Writes.split_before_place}
 use Rattle.offset_allocator.proofs.chain.split_before.Goals as goal
 
@@ -26,7 +26,7 @@ point_on-requires-clause-name g c =
 
 pub returns-clause-place : goal.returns-clause-place
 returns-clause-place g c m p h =
-    let room : Cells → Room = λ v. v.room in
+    let room : Cells → ChainCells = λ v. v.chain in
     split_before_place h c.requires.spare (c.number-front.ensures.number ∙ c.spare.ensures.cell) (omega (arith, c.requires.within, c.size-size.ensures.cell)) c.offset-offset.ensures.cell
     c.size-size.ensures.cell c.before-link.ensures.cell c.link_to-on.ensures c.link_to-back.ensures
     (ap room c.set_block.ensures.cells) (ap room c.set_start.ensures.cells) c.point_on.ensures.cells
@@ -41,7 +41,7 @@ pub set_start-requires : goal.set_start-requires
 set_start-requires g c = rw (c.set_block.ensures.cells, length-put) c.requires.place.2.below
 
 pub returns-clause-bins : goal.returns-clause-bins
-returns-clause-bins g c = (rw (c.point_on.ensures.links, c.set_start.ensures.cells, c.set_block.ensures.cells) refl, refl)
+returns-clause-bins g c = (rw (c.point_on.ensures.bins, c.set_start.ensures.cells, c.set_block.ensures.cells) refl, refl)
 
 pub returns-clause-nodes : goal.returns-clause-nodes
 returns-clause-nodes g c = rw (c.point_on.ensures.nodes, c.set_start.ensures.cells, length-put, c.set_block.ensures.cells, length-put) refl

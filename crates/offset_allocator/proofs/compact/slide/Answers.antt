@@ -90,7 +90,7 @@ loop-next-smaller g c =
     let s = c.loop-next.invariant.at _ _ c.requires.place.2 c.requires.place.3 in
     let n = next_place s.there (sym c.in-Some.is ∙ c.after.ensures.after) in
     let p : Place = c.requires.place.1 in
-    let all : length p.after ≤ length (g.T.Tables.cells c.args.store.now.tables).room.nodes = omega (arith, c.requires.place.2.chain.full, length-append p.before (p.block ∷ p.after)) in
+    let all : length p.after ≤ length (g.T.Tables.cells c.args.store.now.tables).chain.nodes = omega (arith, c.requires.place.2.chain.full, length-append p.before (p.block ∷ p.after)) in
     omega (arith, s.bounded, ap (λ (l : List Block). length l) n.is, all, c.after.ensures.accesses, c.size-more.ensures.accesses, c.is_used.ensures.accesses, c.coalesce_after.ensures.accesses.0)
 
 pub loop-next-preserved : goal.loop-next-preserved

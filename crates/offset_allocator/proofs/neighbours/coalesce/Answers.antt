@@ -64,7 +64,7 @@ exchange-requires-clause-listed g c =
           let merged = w.with_before-size.ensures.place _ _ h in
           let same = next_same h merged refl w.in-Some.ensures.free.0 in
           rw (w.store-is, w.gone-is, w.coalesce_after.ensures.bins.0, w.with_before-size.ensures.lists _ _ h, w.size-more.ensures.cell)
-          (next_filed merged _ (filed_before h _ c.requires.place.3 c.requires.held.linked.lists_len) same.0 (same.1 ∙ w.in-Some.ensures.free.1))
+          (next_filed merged _ (filed_before h _ c.requires.place.3 c.requires.binned.linked.lists_len) same.0 (same.1 ∙ w.in-Some.ensures.free.1))
       | in_default+in-Some-free_before w ↦
           let before = w.in-Some-free_before.ensures.free in
           rw (w.store-is, w.gone-is, w.coalesce_before.ensures.bins.0, w.size-more-in-Some-free_before.ensures.cell) (previous_filed h _ c.requires.place.3 before.0 before.1)
@@ -88,7 +88,7 @@ exchange-requires-clause-unlisted g c =
     let h = c.requires.place.2 in
     elim c.match-next.branch [
       | in-Some w ↦ rw (w.store-is, w.coalesce_after.ensures.bins.0, w.with_before-size.ensures.lists _ _ h)
-          (unlisted (w.with_before-size.ensures.place _ _ h) _ (filed_before h _ c.requires.place.3 c.requires.held.linked.lists_len))
+          (unlisted (w.with_before-size.ensures.place _ _ h) _ (filed_before h _ c.requires.place.3 c.requires.binned.linked.lists_len))
       | in_default+in-Some-free_before w ↦ rw (w.store-is, w.coalesce_before.ensures.bins.0) (unlisted h _ c.requires.place.3)
     ]
 
@@ -105,7 +105,7 @@ returns-clause-lists g c m p h = elim c.match-next.branch [
       let same = next_same h merged refl w.in-Some.ensures.free.0 in
       let gone = free_after merged same.0 (same.1 ∙ w.in-Some.ensures.free.1) in
       let left = w.coalesce_after.ensures.place _ _ merged in
-      let whole : w.with_before-size.result + w.size-more.result ≡ (node (g.T.Tables.cells w.coalesce_after.new.store.tables).room c.args.name).size =
+      let whole : w.with_before-size.result + w.size-more.result ≡ (node (g.T.Tables.cells w.coalesce_after.new.store.tables).chain c.args.name).size =
       omega (arith, w.size-more.ensures.cell, w.with_before-size.ensures.size, gone.0, ap (λ (v : Node). v.size) (at_place left), ap (λ (v : Node). v.size) (at_place merged)) in
       rw (
         c.exchange.ensures.chain.0,
@@ -122,7 +122,7 @@ returns-clause-lists g c m p h = elim c.match-next.branch [
       let before = w.in-Some-free_before.ensures.free in
       let gone = free_before h before.0 before.1 in
       let left = w.coalesce_before.ensures.place _ _ h in
-      let whole : w.size-more-in-Some-free_before.result + c.args.size ≡ (node (g.T.Tables.cells w.coalesce_before.new.store.tables).room c.args.name).size =
+      let whole : w.size-more-in-Some-free_before.result + c.args.size ≡ (node (g.T.Tables.cells w.coalesce_before.new.store.tables).chain c.args.name).size =
       omega (arith, w.size-more-in-Some-free_before.ensures.cell, c.requires.size, gone.0, ap (λ (v : Node). v.size) (at_place left), ap (λ (v : Node). v.size) (at_place h)) in
       rw (
         c.exchange.ensures.chain.0,
@@ -143,8 +143,8 @@ free_after-next-requires g c = record { place = (_, _, _, _, c.requires.place.2)
 pub free_before-requires : goal.free_before-requires
 free_before-requires g c = record { place = (_, _, _, _, c.requires.place.2) }
 
-pub returns-clause-held : goal.returns-clause-held
-returns-clause-held g c = c.exchange.ensures.held
+pub returns-clause-binned : goal.returns-clause-binned
+returns-clause-binned g c = c.exchange.ensures.binned
 
-pub exchange-requires-clause-held : goal.exchange-requires-clause-held
-exchange-requires-clause-held g c = grind (arith, in-Some, in_default+in-Some-free_before)
+pub exchange-requires-clause-binned : goal.exchange-requires-clause-binned
+exchange-requires-clause-binned g c = grind (arith, in-Some, in_default+in-Some-free_before)

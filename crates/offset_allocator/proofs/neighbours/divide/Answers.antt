@@ -10,19 +10,19 @@ pub set_used-requires : goal.set_used-requires
 set_used-requires g c = (c.split_padding-front.ensures.place _ _ c.requires.place.2).below
 
 -- the bins once the block is used
-marked : (g : Over) (c : After-set_used g) → IsBinned g.T.Index.NodeIndex.MAX (g.T.Tables.cells c.set_used.new.tables).links c.split_padding-front.new.store.top_mask
-    × (bins_in g.T.Index.NodeIndex.MAX (g.T.Tables.cells c.set_used.new.tables).links ≡ push_all (free_part c.split_padding-front.result c.args.parts.padding)
-    (bins_in g.T.Index.NodeIndex.MAX (g.T.Tables.cells c.args.store.now.tables).links))
+marked : (g : Over) (c : After-set_used g) → IsBinned g.T.Index.NodeIndex.MAX (g.T.Tables.cells c.set_used.new.tables).bins c.split_padding-front.new.store.top_mask
+    × (bins_in g.T.Index.NodeIndex.MAX (g.T.Tables.cells c.set_used.new.tables).bins ≡ push_all (free_part c.split_padding-front.result c.args.parts.padding)
+    (bins_in g.T.Index.NodeIndex.MAX (g.T.Tables.cells c.args.store.now.tables).bins))
 marked g c =
     let front = c.split_padding-front.ensures in
-    let fresh : IsUnlisted c.args.name (bins_in g.T.Index.NodeIndex.MAX (g.T.Tables.cells c.split_padding-front.new.store.tables).links) =
-    rw front.lists (padded_unlisted c.requires.place.1.before c.split_padding-front.result c.args.parts.padding _ c.requires.held.linked.lists_len
+    let fresh : IsUnlisted c.args.name (bins_in g.T.Index.NodeIndex.MAX (g.T.Tables.cells c.split_padding-front.new.store.tables).bins) =
+    rw front.lists (padded_unlisted c.requires.place.1.before c.split_padding-front.result c.args.parts.padding _ c.requires.binned.linked.lists_len
     (front.place _ _ c.requires.place.2) c.requires.unlisted) in
-    let b = c.set_used.ensures.bins _ fresh front.held in
+    let b = c.set_used.ensures.bins _ fresh front.binned in
     (b.0, b.1 ∙ front.lists)
 
-pub split_remainder-rest-requires-clause-held : goal.split_remainder-rest-requires-clause-held
-split_remainder-rest-requires-clause-held g c = (marked g (goal.at.split_remainder-rest-requires-clause-held g c).After-set_used).0
+pub split_remainder-rest-requires-clause-binned : goal.split_remainder-rest-requires-clause-binned
+split_remainder-rest-requires-clause-binned g c = (marked g (goal.at.split_remainder-rest-requires-clause-binned g c).After-set_used).0
 
 pub split_remainder-rest-requires-clause-spare : goal.split_remainder-rest-requires-clause-spare
 split_remainder-rest-requires-clause-spare g c = grind (arith, eq-zero-or-pos)
@@ -34,7 +34,7 @@ split_remainder-rest-requires-clause-place g c =
       _,
       c.set_used.ensures.place _ _ _ _ (c.split_padding-front.ensures.place _ _ r.2),
       rw (marked g (goal.at.split_remainder-rest-requires-clause-place g c).After-set_used).1
-          (unlisted_part r.1.before r.1.after r.1.block _ c.split_padding-front.result c.args.parts.padding _ refl c.requires.held.linked.lists_len r.3),
+          (unlisted_part r.1.before r.1.after r.1.block _ c.split_padding-front.result c.args.parts.padding _ refl c.requires.binned.linked.lists_len r.3),
     )
 
 pub split_remainder-rest-requires-clause-whole : goal.split_remainder-rest-requires-clause-whole
@@ -63,4 +63,4 @@ pub returns-clause-lists : goal.returns-clause-lists
 returns-clause-lists g c =
     let rest : List Block = free_part c.split_remainder-rest.result c.args.parts.left in
     c.split_remainder-rest.ensures.lists ∙ ap (push_all rest) (marked g (goal.at.returns-clause-lists g c).After-set_used).1
-    ∙ sym (pushed_parts c.split_padding-front.result c.args.parts.padding c.args.name c.args.parts.size rest (bins_in g.T.Index.NodeIndex.MAX (g.T.Tables.cells c.args.store.now.tables).links))
+    ∙ sym (pushed_parts c.split_padding-front.result c.args.parts.padding c.args.name c.args.parts.size rest (bins_in g.T.Index.NodeIndex.MAX (g.T.Tables.cells c.args.store.now.tables).bins))

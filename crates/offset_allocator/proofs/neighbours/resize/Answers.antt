@@ -4,7 +4,7 @@ use Rattle.offset_allocator.proofs.neighbours.resize.Goals as goal
 use Rattle.offset_allocator.proofs.neighbours.resize.{Goals.After-with_after-whole, Given.Over}
 
 -- the size of the whole block
-whole : (g : Over) (c : After-with_after-whole g) (p : Place) {m : ℕ} → HasPlace (g.T.Tables.cells c.args.store.now.tables).room m c.args.store.now.last c.args.store.now.spare_count c.args.name p
+whole : (g : Over) (c : After-with_after-whole g) (p : Place) {m : ℕ} → HasPlace (g.T.Tables.cells c.args.store.now.tables).chain m c.args.store.now.last c.args.store.now.spare_count c.args.name p
     → c.with_after-whole.result ≡ p.block.size + units (free_start p.after)
 whole g c p h = c.with_after-whole.ensures.size ∙ ap (λ (v : Node). v.size) (at_place (c.with_after-whole.ensures.place _ _ h))
 
@@ -17,7 +17,7 @@ overflow_sub-whole g c = omega (arith, whole g (goal.at.overflow_sub-whole g c).
 pub split_remainder-requires-clause-place : goal.split_remainder-requires-clause-place
 split_remainder-requires-clause-place g c =
     let r = c.requires.place in
-    (_, _, c.with_after-whole.ensures.place _ _ r.2, rw (c.with_after-whole.ensures.lists _ _ r.2) (unlisted_after r.2 _ r.3 c.requires.held.linked.lists_len _))
+    (_, _, c.with_after-whole.ensures.place _ _ r.2, rw (c.with_after-whole.ensures.lists _ _ r.2) (unlisted_after r.2 _ r.3 c.requires.binned.linked.lists_len _))
 
 pub split_remainder-requires-clause-whole : goal.split_remainder-requires-clause-whole
 split_remainder-requires-clause-whole g c = grind (arith, whole)

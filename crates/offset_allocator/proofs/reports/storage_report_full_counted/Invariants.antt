@@ -9,8 +9,8 @@ invariant-loop-class g l = record {
   filled : (k : ℕ) (d : StorageReportFullRegion) → k < l.class
       → slice_index_or l.report.free_regions k d ≡ record {
         size = value k % 2 ^ 32;
-        count = length (bin_at (bins_in g.T.Index.NodeIndex.MAX (g.T.Tables.cells l.allocator-inside.store.tables).links) k);
+        count = length (bin_at (bins_in g.T.Index.NodeIndex.MAX (g.T.Tables.cells l.allocator-inside.store.tables).bins) k);
       };
   grows : l.fn.count + l.class ≤ l.count;
-  accesses : l.count ≤ l.fn.count + l.class + names_below l.class (bins_in g.T.Index.NodeIndex.MAX (g.T.Tables.cells l.allocator-inside.store.tables).links);
+  accesses : l.count ≤ l.fn.count + l.class + names_below l.class (bins_in g.T.Index.NodeIndex.MAX (g.T.Tables.cells l.allocator-inside.store.tables).bins);
 }

@@ -1,5 +1,5 @@
 use Rattle.offset_allocator.proofs.Common.{◌≡◌, ◌≢◌, ℕ, map, set, refl, arith, length-set, Node, link_of, FieldTables, node_in, field_tables}
-use Rattle.offset_allocator.proofs.Fields.{other, at, within, wrote-room, level_kept, bound-before}
+use Rattle.offset_allocator.proofs.Fields.{other, at, within, wrote-chain, level_kept, bound-before}
 use Rattle.offset_allocator.proofs.by_field.ByFieldTables.set_before.Goals as goal
 
 pub returns-clause-cells : goal.returns-clause-cells
@@ -14,7 +14,7 @@ returns-clause-cells g c =
     let off : (i : ℕ) → i ≢ x → node_in max u i ≡ node_in max fs i = λ i ne. rw (other g.NI.NodeIndex.number t.before.items x c.args.link i ne) refl in
     let is : node_in max u x ≡ record (node_in max fs x) { before = link_of max (g.NI.NodeIndex.number c.args.link) } =
     rw (at g.NI.NodeIndex.number t.before.items x c.args.link (omega (arith, short, h.before))) refl in
-    wrote-room _ _ t c.self.view_is u x (λ (n : Node). record n { before = link_of max (g.NI.NodeIndex.number c.args.link) }) c.requires refl refl off is
+    wrote-chain _ _ t c.self.view_is u x (λ (n : Node). record n { before = link_of max (g.NI.NodeIndex.number c.args.link) }) c.requires refl refl off is
 
 pub invariant_of-self : goal.invariant_of-self
 invariant_of-self g c = grind (arith, level_kept, length-set)

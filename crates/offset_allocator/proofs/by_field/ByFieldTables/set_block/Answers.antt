@@ -1,6 +1,6 @@
 use Rattle.offset_allocator.proofs.Common.{◌≡◌, ◌≢◌, ◌∙◌, ℕ, Bool, map, set, refl, ap, arith, get_or-set_same, get_or-set_other, length-set, Node, node, put, link_of, FieldTables, node_in}
 use Rattle.offset_allocator.proofs.Common.{field_tables, common_steps}
-use Rattle.offset_allocator.proofs.Fields.{other, at, within, wrote-room, level_kept, bound-offset, bound-size, bound-before, bound-after}
+use Rattle.offset_allocator.proofs.Fields.{other, at, within, wrote-chain, level_kept, bound-offset, bound-size, bound-before, bound-after}
 use Rattle.offset_allocator.proofs.by_field.ByFieldTables.set_block.Goals as goal
 
 pub returns-clause-cells : goal.returns-clause-cells
@@ -23,14 +23,14 @@ returns-clause-cells g c =
       before = link_of max (g.NI.NodeIndex.number c.args.before);
       after = link_of max (g.NI.NodeIndex.number c.args.after);
     } = grind (arith, common_steps, get_or-set_same, at) in
-    wrote-room _ _ t c.self.view_is u x (λ (n : Node). record n {
+    wrote-chain _ _ t c.self.view_is u x (λ (n : Node). record n {
       offset = c.args.offset;
       size = c.args.size;
       before = link_of max (g.NI.NodeIndex.number c.args.before);
       after = link_of max (g.NI.NodeIndex.number c.args.after);
     }) c.requires.name (length-set t.offset.items x c.args.offset) refl off is
     ∙ ap (λ (k : Bool). record c.args.self.now {
-      room = put c.args.self.now.room x (record (node c.args.self.now.room x) {
+      chain = put c.args.self.now.chain x (record (node c.args.self.now.chain x) {
         used = k;
         offset = c.args.offset;
         size = c.args.size;

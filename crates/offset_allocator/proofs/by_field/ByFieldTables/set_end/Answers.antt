@@ -1,5 +1,5 @@
 use Rattle.offset_allocator.proofs.Common.{◌≡◌, ◌≢◌, ℕ, map, set, refl, arith, get_or-set_same, get_or-set_other, length-set, Node, link_of, FieldTables, node_in, field_tables}
-use Rattle.offset_allocator.proofs.Fields.{other, at, within, wrote-room, level_kept, bound-size, bound-after}
+use Rattle.offset_allocator.proofs.Fields.{other, at, within, wrote-chain, level_kept, bound-size, bound-after}
 use Rattle.offset_allocator.proofs.by_field.ByFieldTables.set_end.Goals as goal
 
 pub returns-clause-cells : goal.returns-clause-cells
@@ -15,7 +15,7 @@ returns-clause-cells g c =
     λ i ne. rw (get_or-set_other t.size.items x i c.args.size 0 ne, other g.NI.NodeIndex.number t.after.items x c.args.link i ne) refl in
     let is : node_in max u x ≡ record (node_in max fs x) { size = c.args.size; after = link_of max (g.NI.NodeIndex.number c.args.link) } =
     rw (get_or-set_same t.size.items x c.args.size 0 (omega (arith, short, h.size)), at g.NI.NodeIndex.number t.after.items x c.args.link (omega (arith, short, h.after))) refl in
-    wrote-room _ _ t c.self.view_is u x (λ (n : Node). record n { size = c.args.size; after = link_of max (g.NI.NodeIndex.number c.args.link) }) c.requires refl refl off is
+    wrote-chain _ _ t c.self.view_is u x (λ (n : Node). record n { size = c.args.size; after = link_of max (g.NI.NodeIndex.number c.args.link) }) c.requires refl refl off is
 
 pub invariant_of-self : goal.invariant_of-self
 invariant_of-self g c = grind (arith, level_kept, length-set)

@@ -6,17 +6,17 @@ pub returns-clause-cells : goal.returns-clause-cells
 returns-clause-cells g c =
     let t = c.self.inside in
     let even = length-map t.newer.items g.NI.NodeIndex.number ∙ c.self.invariant.newer in
-    let named : c.args.name < length c.args.self.now.room.nodes = grind (arith, common_steps, length-map, length-nodes_in) in
+    let named : c.args.name < length c.args.self.now.chain.nodes = grind (arith, common_steps, length-map, length-nodes_in) in
     let newer = map-set g.NI.NodeIndex.number t.newer.items c.args.name c.args.newer in
     let older = map-set g.NI.NodeIndex.number t.older.items c.args.name c.args.older in
     rw (newer, older) (wrote-newer _ _ t c.self.view_is c.args.name (g.NI.NodeIndex.number c.args.newer)
     (set (map g.NI.NodeIndex.number t.older.items) c.args.name (g.NI.NodeIndex.number c.args.older)) named even c.requires.idle c.requires.link)
     ∙ ap (λ (l : List ℕ). record c.args.self.now {
-      links = record c.args.self.now.links {
-        newer = set c.args.self.now.links.newer c.args.name (g.NI.NodeIndex.number c.args.newer);
+      bins = record c.args.self.now.bins {
+        newer = set c.args.self.now.bins.newer c.args.name (g.NI.NodeIndex.number c.args.newer);
         older = set l c.args.name (g.NI.NodeIndex.number c.args.older);
       };
-    }) (ap (λ (v : Cells). v.links.older) c.self.view_is)
+    }) (ap (λ (v : Cells). v.bins.older) c.self.view_is)
 
 pub invariant_of-self : goal.invariant_of-self
 invariant_of-self g c = grind (arith, level_kept, length-set)

@@ -1,5 +1,5 @@
 use Rattle.offset_allocator.proofs.Common.{◌≡◌, ◌≢◌, ℕ, set, refl, arith, get_or-set_same, get_or-set_other, length-set, Node, FieldTables, node_in, field_tables}
-use Rattle.offset_allocator.proofs.Fields.{within, wrote-room, level_kept, bound-size}
+use Rattle.offset_allocator.proofs.Fields.{within, wrote-chain, level_kept, bound-size}
 use Rattle.offset_allocator.proofs.by_field.ByFieldTables.set_size.Goals as goal
 
 pub returns-clause-cells : goal.returns-clause-cells
@@ -13,7 +13,7 @@ returns-clause-cells g c =
     let u : FieldTables = record fs { size = set t.size.items x c.args.size } in
     let off : (i : ℕ) → i ≢ x → node_in max u i ≡ node_in max fs i = λ i ne. rw (get_or-set_other t.size.items x i c.args.size 0 ne) refl in
     let is : node_in max u x ≡ record (node_in max fs x) { size = c.args.size } = rw (get_or-set_same t.size.items x c.args.size 0 (omega (arith, short, h.size))) refl in
-    wrote-room _ _ t c.self.view_is u x (λ (n : Node). record n { size = c.args.size }) c.requires refl refl off is
+    wrote-chain _ _ t c.self.view_is u x (λ (n : Node). record n { size = c.args.size }) c.requires refl refl off is
 
 pub invariant_of-self : goal.invariant_of-self
 invariant_of-self g c = grind (arith, level_kept, length-set)

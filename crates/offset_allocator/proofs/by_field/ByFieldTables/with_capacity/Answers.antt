@@ -1,8 +1,8 @@
 use Rattle.offset_allocator.proofs.{Common.ap, Common.arith, Common.length, Fields.first_node, Fields.alone, Fields.longer}
 use Rattle.offset_allocator.proofs.by_field.ByFieldTables.with_capacity.Goals as goal
 
-pub returns-clause-room : goal.returns-clause-room
-returns-clause-room g c = grind (arith, first_node, alone)
+pub returns-clause-chain : goal.returns-clause-chain
+returns-clause-chain g c = grind (arith, first_node, alone)
 
 pub invariant_of-result : goal.invariant_of-result
 invariant_of-result g c = grind (arith, longer)

@@ -1,8 +1,8 @@
-use Rattle.offset_allocator.proofs.{Common.refl, Common.Node, Common.link_of, Entries.wrote-room, Entries.even_set, Entries.bound}
+use Rattle.offset_allocator.proofs.{Common.refl, Common.Node, Common.link_of, Entries.wrote-chain, Entries.even_set, Entries.bound}
 use Rattle.offset_allocator.proofs.by_node.ByNodeTables.set_before.Goals as goal
 
 pub returns-clause-cells : goal.returns-clause-cells
-returns-clause-cells g c = wrote-room _ _ c.self.inside c.self.view_is c.args.name c.index_mut.result.now _
+returns-clause-cells g c = wrote-chain _ _ c.self.inside c.self.view_is c.args.name c.index_mut.result.now _
     (λ (n : Node). record n { before = link_of g.NI.NodeIndex.MAX (g.NI.NodeIndex.number c.args.link) }) c.requires c.index_mut.ensures.value refl refl refl
 
 pub invariant_of-self : goal.invariant_of-self

@@ -1,4 +1,4 @@
-use Rattle.offset_allocator.proofs.{Common.◌∙◌, Common.Bool, Common.ap, Common.refl, Common.Node, Common.put, Common.link_of, Entries.wrote-room, Entries.even_set, Entries.bound}
+use Rattle.offset_allocator.proofs.{Common.◌∙◌, Common.Bool, Common.ap, Common.refl, Common.Node, Common.put, Common.link_of, Entries.wrote-chain, Entries.even_set, Entries.bound}
 use Rattle.offset_allocator.proofs.by_node.ByNodeTables.set_block.Goals as goal
 
 pub returns-clause-cells : goal.returns-clause-cells
@@ -10,8 +10,8 @@ returns-clause-cells g c =
       before = link_of g.NI.NodeIndex.MAX (g.NI.NodeIndex.number c.args.before);
       after = link_of g.NI.NodeIndex.MAX (g.NI.NodeIndex.number c.args.after);
     } in
-    wrote-room _ _ c.self.inside c.self.view_is c.args.name c.index_mut-node.result.now _ (λ (n : Node). written n.used) c.requires.name c.index_mut-node.ensures.value refl refl refl
-    ∙ ap (λ (u : Bool). record c.args.self.now { room = put c.args.self.now.room c.args.name (written u) }) c.requires.idle
+    wrote-chain _ _ c.self.inside c.self.view_is c.args.name c.index_mut-node.result.now _ (λ (n : Node). written n.used) c.requires.name c.index_mut-node.ensures.value refl refl refl
+    ∙ ap (λ (u : Bool). record c.args.self.now { chain = put c.args.self.now.chain c.args.name (written u) }) c.requires.idle
 
 pub invariant_of-self : goal.invariant_of-self
 invariant_of-self g c = even_set _ c.self.inside c.self.invariant c.args.name _

@@ -1,8 +1,8 @@
 use Rattle.offset_allocator.proofs.{Common.ap, Common.arith, Common.length, Entries.first_node}
 use Rattle.offset_allocator.proofs.by_node.ByNodeTables.with_capacity.Goals as goal
 
-pub returns-clause-room : goal.returns-clause-room
-returns-clause-room g c = grind (arith, first_node)
+pub returns-clause-chain : goal.returns-clause-chain
+returns-clause-chain g c = grind (arith, first_node)
 
 pub push_within-requires : goal.push_within-requires
 push_within-requires g c = omega (arith, ap length c.in_ok-nodes.ensures.empty, c.in_ok-nodes.ensures.exact, c.in_ok-nodes.nodes.ok.0, c.requires.some)

@@ -6,13 +6,13 @@ use Rattle.offset_test_base.proofs.flat.FlatTables.set_block.Goals as goal
 pub set_size-requires : goal.set_size-requires
 set_size-requires c =
     let one = length-changed c.args.self.now c.args.name (λ n. record n { offset = c.args.offset }) in
-    omega (arith, c.requires.name, ap (λ (v : Cells). length v.room.nodes) c.set_offset.ensures.cells, one)
+    omega (arith, c.requires.name, ap (λ (v : Cells). length v.chain.nodes) c.set_offset.ensures.cells, one)
 
 pub set_before-requires : goal.set_before-requires
 set_before-requires c =
     let one = length-changed c.args.self.now c.args.name (λ n. record n { offset = c.args.offset }) in
     let two = length-changed c.set_offset.new.self c.args.name (λ n. record n { size = c.args.size }) in
-    omega (arith, c.requires.name, ap (λ (v : Cells). length v.room.nodes) c.set_offset.ensures.cells, one, ap (λ (v : Cells). length v.room.nodes) c.set_size.ensures.cells, two)
+    omega (arith, c.requires.name, ap (λ (v : Cells). length v.chain.nodes) c.set_offset.ensures.cells, one, ap (λ (v : Cells). length v.chain.nodes) c.set_size.ensures.cells, two)
 
 pub set_after-requires : goal.set_after-requires
 set_after-requires c =
@@ -22,11 +22,11 @@ set_after-requires c =
     omega (
       arith,
       c.requires.name,
-      ap (λ (v : Cells). length v.room.nodes) c.set_offset.ensures.cells,
+      ap (λ (v : Cells). length v.chain.nodes) c.set_offset.ensures.cells,
       one,
-      ap (λ (v : Cells). length v.room.nodes) c.set_size.ensures.cells,
+      ap (λ (v : Cells). length v.chain.nodes) c.set_size.ensures.cells,
       two,
-      ap (λ (v : Cells). length v.room.nodes) c.set_before.ensures.cells,
+      ap (λ (v : Cells). length v.chain.nodes) c.set_before.ensures.cells,
       three,
     )
 
@@ -42,7 +42,7 @@ returns-clause-cells c =
     (λ n. record n { offset = c.args.offset; size = c.args.size; before = link_of 4294967295 c.args.before })
     (λ n. record n { after = link_of 4294967295 c.args.after }) c.requires.name three c.set_after.ensures.cells
     ∙ ap (λ (k : Bool). record old {
-      room = put old.room x (record (node old.room x) {
+      chain = put old.chain x (record (node old.chain x) {
         used = k;
         offset = c.args.offset;
         size = c.args.size;

@@ -6,7 +6,7 @@ use Rattle.offset_test_base.proofs.flat.FlatTables.set_end.Goals as goal
 pub set_after-requires : goal.set_after-requires
 set_after-requires c =
     let one = length-changed c.args.self.now c.args.name (λ n. record n { size = c.args.size }) in
-    omega (arith, c.requires, ap (λ (v : Cells). length v.room.nodes) c.set_size.ensures.cells, one)
+    omega (arith, c.requires, ap (λ (v : Cells). length v.chain.nodes) c.set_size.ensures.cells, one)
 
 pub returns-clause-cells : goal.returns-clause-cells
 returns-clause-cells c =

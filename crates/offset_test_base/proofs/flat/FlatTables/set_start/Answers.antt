@@ -6,13 +6,13 @@ use Rattle.offset_test_base.proofs.flat.FlatTables.set_start.Goals as goal
 pub set_size-requires : goal.set_size-requires
 set_size-requires c =
     let one = length-changed c.args.self.now c.args.name (λ n. record n { offset = c.args.offset }) in
-    omega (arith, c.requires, ap (λ (v : Cells). length v.room.nodes) c.set_offset.ensures.cells, one)
+    omega (arith, c.requires, ap (λ (v : Cells). length v.chain.nodes) c.set_offset.ensures.cells, one)
 
 pub set_before-requires : goal.set_before-requires
 set_before-requires c =
     let one = length-changed c.args.self.now c.args.name (λ n. record n { offset = c.args.offset }) in
     let two = length-changed c.set_offset.new.self c.args.name (λ n. record n { size = c.args.size }) in
-    omega (arith, c.requires, ap (λ (v : Cells). length v.room.nodes) c.set_offset.ensures.cells, one, ap (λ (v : Cells). length v.room.nodes) c.set_size.ensures.cells, two)
+    omega (arith, c.requires, ap (λ (v : Cells). length v.chain.nodes) c.set_offset.ensures.cells, one, ap (λ (v : Cells). length v.chain.nodes) c.set_size.ensures.cells, two)
 
 pub returns-clause-cells : goal.returns-clause-cells
 returns-clause-cells c =
