@@ -1,7 +1,7 @@
 -- The plain stamped machine: the space as a list of blocks, commands in, answers out. The size classes, the rows of a
 -- full report, the largest size of a space (`max_size`) and the padding of an aligned grant (`padding_to`) are the
 -- allocator's.
-use Rattle.std.specs.Prelude.{◌≡◌, ℕ, zero, suc, ◌+◌, ◌-◌, ◌*◌, Bool, true, false, ◌&&◌, ◌||◌, not, List, [], ◌∷◌, ◌++◌, length, map, sum, Option, Some, None, option_map, nat_eq, nat_lt, nat_le}
+use Rattle.std.specs.Prelude.{ℕ, zero, suc, ◌+◌, ◌-◌, ◌*◌, Bool, true, false, ◌&&◌, ◌||◌, not, List, [], ◌∷◌, ◌++◌, length, map, sum, Option, Some, None, option_map, nat_eq, nat_lt, nat_le}
 use Rattle.std.specs.Prelude.{if◌then◌else◌}
 use Rattle.offset_allocator.specs.Classes.{up, down}
 use Rattle.offset_allocator.specs.View.{max_size, padding_to}
@@ -268,10 +268,6 @@ answers (c ∷ cs) s = (step c s).answer ∷ answers cs (step c s).state
 abbrev pub after : List Command → State → State
 after [] s = s
 after (c ∷ cs) s = after cs (step c s).state
-
--- these are the answers of the plain machine to these commands, from one free block of size units
-unfoldable pub IsPlayed : ℕ → ℕ → List Command → List Answer → Type 0
-IsPlayed size limit commands given = given ≡ answers commands (start size limit)
 
 -- ---- the answers of the program
 

@@ -7,7 +7,8 @@ use Rattle.offset_script.specs.declared.faults.RunFault.{RunFault}
 use Rattle.offset_script.specs.declared.faults.RunFault.TheVariants.{Script, Memory, Read, Write}
 use Rattle.offset_script.specs.declared.scripts.Script as read
 use Rattle.offset_script.specs.Grammar.{Plan, meaning_of, line_end, text_of}
-use Rattle.offset_script.specs.Machine.{Answer, IsPlayed}
+use Rattle.offset_script.specs.Machine.{Answer}
+use Rattle.offset_script.specs.Machine as machine
 use Rattle.offset_script.specs.Faults.{fault_line}
 
 -- a script as plain data, without where it lies in memory
@@ -76,7 +77,8 @@ pub record SendsAnswers (text : List ℕ) (whole : Bool) (old new : Option (List
   pub plan : Plan
   pub answers : List Answer
   pub means : meaning_of text ≡ Ok plan
-  pub played : IsPlayed plan.header.size plan.header.max_allocs plan.commands answers
+  -- they are those of the plain machine, from one free block of the header's size
+  pub played : answers ≡ machine.answers plan.commands (machine.start plan.header.size plan.header.max_allocs)
   pub sends : Sends whole (text_of answers) old new
 
 -- What a run returned, left of a source with this text, and wrote: on `Ok` all answers of the script that the text

@@ -4,7 +4,7 @@ ghost use Rattle.std.specs.Prelude.{◌≡◌, ◌+◌, ◌<◌, ◌≤◌, ℕ,
 ghost use Rattle.std.specs.Prelude.{None, IfOk, IfSome, option_map};
 ghost use Rattle.offset_script.specs.Steps.{kept_name, IsKept, Takes, AreLive};
 ghost use Rattle.offset_script.specs.Machine as machine;
-ghost use Rattle.offset_script.specs.Machine.{answer_view, IsPlayed};
+ghost use Rattle.offset_script.specs.Machine.{answer_view};
 ghost use Rattle.offset_script.specs.Playing.{AreAnswers};
 ghost use Rattle.offset_script.specs.Grammar.{has_valid_alignment};
 ghost use Rattle.offset_allocator.specs.View.{free_sizes};
@@ -251,11 +251,11 @@ pub fn play<NI: NodeIndex>(
 /// Plays a script on an allocator of its index width, and returns the answers to its commands in order, one for each.
 ///
 /// It fails only where an allocation fails.
-#[tactic(auto, unfolding(crate::specs::Machine::IsPlayed))]
 pub fn play_script(alloc: Global, script: &Script) -> Result<Vec<Answer>, AllocError>
     // The answers are those of the plain machine to the commands of the script, from one free block of its size.
     ensures { IfOk result
-        (λ v. IsPlayed script.now.size script.now.max_allocs script.now.commands.items (map answer_view v.items)) }
+        (λ v. map answer_view v.items
+        ≡ machine.answers script.now.commands.items (machine.start script.now.size script.now.max_allocs)) }
 {
     match script.index {
         IndexWidth::Bits16 => play::<u16>(alloc, script.size, script.max_allocs, &script.commands),

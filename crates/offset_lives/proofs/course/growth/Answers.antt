@@ -1,7 +1,7 @@
 use Rattle.std.proofs.Common.{◌≡◌, ◌+◌, true, false, List, length, map, get_or, ap, ap₂, sym, ◌∙◌, arith}
 use Rattle.std.proofs.lemmas.List.{append-nil, get_or-map, length-map, take_all}
 use Rattle.offset_script.specs.declared.scripts.Command.{Command}
-use Rattle.offset_script.specs.Machine.{answer_view, Answer, State, answers, start, IsPlayed}
+use Rattle.offset_script.specs.Machine.{answer_view, Answer, State, answers, start}
 use Rattle.offset_script.specs.Totals.{added_units}
 use Rattle.offset_lives.specs.Growth.{is_refusal, refusals_from, size_after}
 use Rattle.offset_lives.proofs.Backward.{answers_count, seen_at}
@@ -10,7 +10,6 @@ use Rattle.offset_lives.proofs.course.growth.Goals as goal
 use Rattle.offset_lives.proofs.course.growth.Goals.{then-is_refusal+in_ok-push-3, else-is_refusal}
 
 pub index-answer-requires : goal.index-answer-requires
-unfolding IsPlayed
 index-answer-requires c =
     let script = c.args.script.now in
     let found = c.in_ok-answers.answers.items in
@@ -19,7 +18,6 @@ index-answer-requires c =
     omega (arith, ap length played, answers_count script.commands.items (start script.size script.max_allocs), n)
 
 pub loop-i-preserved : goal.loop-i-preserved
-unfolding IsPlayed
 loop-i-preserved c =
     let script = c.args.script.now in
     let s : State = start script.size script.max_allocs in
@@ -52,7 +50,6 @@ loop-i-preserved c =
     }
 
 pub returns-clause-refused : goal.returns-clause-refused
-unfolding IsPlayed
 returns-clause-refused c =
     let script = c.args.script.now in
     let cs : List Command = script.commands.items in

@@ -1,7 +1,7 @@
 use Rattle.std.proofs.Common.{◌≡◌, ◌+◌, ◌-◌, length, map, get_or, if◌then◌else◌, All, AllPairs, List, sym, ap, ◌∙◌, arith}
 use Rattle.std.proofs.lemmas.List.{length-map}
 use Rattle.offset_script.specs.declared.scripts.Command.{Command}
-use Rattle.offset_script.specs.Machine.{answer_view, Answer, State, answers, start, IsPlayed}
+use Rattle.offset_script.specs.Machine.{answer_view, Answer, State, answers, start}
 use Rattle.offset_script.proofs.Well.{well_start}
 use Rattle.offset_lives.specs.Ends.{end_in}
 use Rattle.offset_lives.specs.Lives.{leaves, AreApart, IsOrdered, IsWithin}
@@ -12,7 +12,6 @@ use Rattle.offset_lives.proofs.living.lives.Goals as goal
 use Rattle.offset_lives.proofs.living.lives.Goals.{in-Some+in_ok-push, in_default}
 
 pub index-requires : goal.index-requires
-unfolding IsPlayed
 index-requires c =
     let script = c.args.script.now in
     let found = c.in_ok-answers.answers.items in
@@ -21,7 +20,6 @@ index-requires c =
     omega (arith, ap length played, answers_count script.commands.items (start script.size script.max_allocs), n)
 
 pub life_of_answer-requires : goal.life_of_answer-requires
-unfolding IsPlayed
 life_of_answer-requires c k offset e =
     let script = c.args.script.now in
     let s : State = start script.size script.max_allocs in
@@ -31,7 +29,6 @@ life_of_answer-requires c k offset e =
     omega (arith, most, c.loop-i.invariant.len)
 
 pub loop-i-preserved : goal.loop-i-preserved
-unfolding IsPlayed
 loop-i-preserved c =
     let script = c.args.script.now in
     let s : State = start script.size script.max_allocs in
@@ -63,7 +60,6 @@ loop-i-preserved c =
     }
 
 pub returns : goal.returns
-unfolding IsPlayed
 returns c =
     let script = c.args.script.now in
     let cs : List Command = script.commands.items in

@@ -1,14 +1,13 @@
 use Rattle.std.proofs.Common.{◌≡◌, map, length, List, ap, ◌∙◌, arith}
 use Rattle.std.proofs.lemmas.List.{length-map, take_all}
 use Rattle.offset_script.specs.declared.scripts.Command.{Command}
-use Rattle.offset_script.specs.Machine.{answer_view, answers, start, IsPlayed}
+use Rattle.offset_script.specs.Machine.{answer_view, answers, start}
 use Rattle.offset_lives.specs.Reports.{reports_of, with_reports}
 use Rattle.offset_lives.proofs.Watched.{answers_watched, reports_count, found_report, report_taken, report_there}
 use Rattle.offset_lives.proofs.reporting.reports.Goals as goal
 use Rattle.offset_lives.proofs.reporting.reports.Goals.{in-Some+in_ok-push, in_default}
 
 pub index-requires : goal.index-requires
-unfolding IsPlayed
 index-requires c =
     let script = c.args.script.now in
     let s = start script.size script.max_allocs in
@@ -19,7 +18,6 @@ index-requires c =
     omega (arith, ap length played, n, answers_watched cs s)
 
 pub loop-i-preserved : goal.loop-i-preserved
-unfolding IsPlayed
 loop-i-preserved c =
     let script = c.args.script.now in
     let s = start script.size script.max_allocs in
