@@ -1,4 +1,4 @@
--- What it leaves of the whole allocator to slide the live ranges to the front.
+-- The whole allocator after its live ranges were moved to the front.
 use Rattle.offset_allocator.proofs.Common.{◌≡◌, ℕ, suc, ◌+◌, ◌≤◌, Bool, true, false, not, ◌&&◌, Some, None, List, [], ◌∷◌, ◌++◌, length, replicate, sum, if◌then◌else◌, nat_eq, refl, sym, ap, ap₂}
 use Rattle.offset_allocator.proofs.Common.{subst, ◌∙◌, arith, append-nil, length-append, eq-zero-or-pos, AllByRecursion, nat_tests, length-replicate, ext_get_or, down, Cells, ChainCells, Block}
 use Rattle.offset_allocator.proofs.Common.{View, Place}

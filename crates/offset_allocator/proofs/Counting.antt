@@ -1,7 +1,7 @@
 -- The names of a class are as many as its free blocks.
 use Rattle.offset_allocator.proofs.Common.{◌≡◌, ◌≢◌, ℕ, zero, suc, ◌+◌, ◌*◌, ◌<◌, ◌≤◌, true, false, not, cond, ◌&&◌, List, [], ◌∷◌, length, sum, nat_eq, nat_lt, if◌then◌else◌, refl, sym, ap, inl, inr}
 use Rattle.offset_allocator.proofs.Common.{arith, eq-eqb, ne_eqb, cases_eq, cases_lt, nat_tests, get_or_past, sum_by-cons, value, up, down, count_of, largest, Block, View, one, times, count_in_bin}
-use Rattle.offset_allocator.proofs.Common.{bin_at, free_sizes, IsWellFormed, IsLargestClass}
+use Rattle.offset_allocator.proofs.Common.{bin_at, free_sizes, IsWellFormed, IsFoundLast, Some}
 use Rattle.offset_allocator.proofs.{Classes.down_small, Classes.value_down, Classes.value_grows, Classes.up_reached, Walks.drop_one, Tallies.one-same}
 
 -- ---- sizes by their classes
@@ -81,7 +81,7 @@ module _ (v : View) (w : IsWellFormed v) where
   pub largest_none : ((c : ℕ) → c < 256 → bin_at v.order c ≡ []) → largest (free_sizes v.blocks) ≡ 0
   largest_none e = no_sizes (free_sizes v.blocks) (λ d h. uncounted d (e d h))
 
-  pub largest_some : (c : ℕ) → IsLargestClass v.order c → (largest (free_sizes v.blocks) ≡ value c) × (value c ≤ sum (free_sizes v.blocks))
+  pub largest_some : (c : ℕ) → IsFoundLast v.order (Some c) → (largest (free_sizes v.blocks) ≡ value c) × (value c ≤ sum (free_sizes v.blocks))
   largest_some c k =
       let f = value_within c (free_sizes v.blocks) (counted c k.1) in
       (omega (arith, f.0, largest_most c (free_sizes v.blocks) (λ d l h. uncounted d (k.2 d l h))), f.1)

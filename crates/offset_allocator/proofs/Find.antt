@@ -2,7 +2,7 @@
 use Rattle.offset_allocator.proofs.Common.{◌≡◌, ◌≢◌, ◌<◌, ◌≤◌, ℕ, suc, ◌+◌, ◌-◌, ◌*◌, ◌/◌, ◌%◌, ◌^◌, List, [], ◌∷◌, bit_and, refl, sym, ap, ◌∙◌, inl, inr, arith, slice_index, w32, w64, ne_eqb, bit_at}
 use Rattle.offset_allocator.proofs.Common.{Width, trailing_zeros, count_trailing_zeros, count_leading_zeros, pow_pos, leading_top, le-div, div_below, div-mul-add, mod-mul-add, and_le_l, bit_at_above}
 use Rattle.offset_allocator.proofs.Common.{bit_at-zero, bit_at-trailing_zeros, bit_at_and, bit_at_mask_inside, bit_at_mask_below, bit_at-lt, ones_shl, cases_lt, cases_eq, bin_at}
-use Rattle.offset_allocator.proofs.Common.{IsSmallestFrom, AreMasks, IsLargestClass}
+use Rattle.offset_allocator.proofs.Common.{IsFoundFrom, AreMasks, IsFoundLast, Some}
 use Rattle.offset_allocator.proofs.Masks.{flag, mark}
 use mir.Val.{bits}
 
@@ -54,7 +54,7 @@ module _ {ls : List (List ℕ)} {masks : List ℕ} {top : ℕ} (k : AreMasks ls 
     v_small : v < 2 ^ 64
     v_small = rw ve (k.words_small (c / 64) (omega arith))
 
-    pub here : r ≢ 0 → IsSmallestFrom c ls (c / 64 * 64 + count_trailing_zeros 64 r)
+    pub here : r ≢ 0 → IsFoundFrom c ls (Some (c / 64 * 64 + count_trailing_zeros 64 r))
     here z =
         let (a, b, one, zeros) = least_from w64 v (c % 64) v_small (omega arith) (rw re at z) (count_trailing_zeros 64 r) (ap (count_trailing_zeros 64) re) in (
           omega arith,
@@ -86,7 +86,7 @@ module _ {ls : List (List ℕ)} {masks : List ℕ} {top : ℕ} (k : AreMasks ls 
         pub word_below : count_trailing_zeros 32 ws < 4
         word_below = (word _ lowest.2).0
 
-        pub above : (u : ℕ) → u ≡ slice_index masks (count_trailing_zeros 32 ws) → IsSmallestFrom c ls (count_trailing_zeros 32 ws * 64 + count_trailing_zeros 64 u)
+        pub above : (u : ℕ) → u ≡ slice_index masks (count_trailing_zeros 32 ws) → IsFoundFrom c ls (Some (count_trailing_zeros 32 ws * 64 + count_trailing_zeros 64 u))
         above u ue =
             let w : ℕ = count_trailing_zeros 32 ws in
             let a = lowest.0 in
@@ -122,7 +122,7 @@ module _ {ls : List (List ℕ)} {masks : List ℕ} {top : ℕ} (k : AreMasks ls 
       pub bit_within : count_leading_zeros 64 n ≤ 63
       bit_within = let q = last_bit.1 in omega arith
 
-      pub largest_is : IsLargestClass ls ((31 - count_leading_zeros 32 top) * 64 + (63 - count_leading_zeros 64 n))
+      pub largest_is : IsFoundLast ls (Some ((31 - count_leading_zeros 32 top) * 64 + (63 - count_leading_zeros 64 n)))
       largest_is =
           let w : ℕ = 31 - count_leading_zeros 32 top in
           let (v, q, one, zeros) = last_word in

@@ -1,4 +1,4 @@
--- What it leaves of the whole allocator to free a block.
+-- The whole allocator after a block was freed.
 use Rattle.offset_allocator.proofs.Common.{◌≡◌, ℕ, ◌+◌, ◌<◌, ◌^◌, Bool, true, not, ◌&&◌, List, [], ◌∷◌, ◌++◌, Option, Some, None, if◌then◌else◌, refl, sym, ap, ap₂, subst, ◌∙◌, arith, nat_eq}
 use Rattle.offset_allocator.proofs.Common.{false≢true, down, Cells, Block, View, Place, one, count_named, count_in_bin, IsWellFormed, units, place_of, is_used_at, free_end, without_end, free_start}
 use Rattle.offset_allocator.proofs.Common.{without_start, remove_all, push, free_block, replace, IsApart, remove, IsChain, HasPlace, blocks, bins_in, IsBinned, IsSound, view_of, AreInBins}
@@ -36,7 +36,7 @@ named_live u v x y e q h = ap₂ (λ (i : ℕ) (z : View). is_used_at (place_of 
 pub record IsAt (f : Fields) (x : ℕ) : Type 0 where
   pub place : Place
   pub is : place_of x (blocks f.cells.chain f.last) ≡ Some place
-  pub stood : blocks f.cells.chain f.last ≡ place.before ++ place.block ∷ place.after
+  pub list_is : blocks f.cells.chain f.last ≡ place.before ++ place.block ∷ place.after
   pub alone : count_named x place.before ≡ 0
   pub held : HasPlace f.cells.chain f.cells.chain.reserved f.last f.count x place
 
@@ -78,7 +78,7 @@ module _ {f : Fields} {x : ℕ} (r : Release f x) where
     where
       go : (o : Option Place) → place_of x bs ≡ o → IsAt f x
       go None e = absurd (false≢true (sym (ap is_used_at e) ∙ r.live))
-      go (Some p) e = let a = place_at x bs p e in record { place = p; is = e; stood = a.0; alone = a.2; held = located s.space e }
+      go (Some p) e = let a = place_at x bs p e in record { place = p; is = e; list_is = a.0; alone = a.2; held = located s.space e }
 
   abbrev fs : List Block
   fs = at.place.before
@@ -97,7 +97,7 @@ module _ {f : Fields} {x : ℕ} (r : Release f x) where
 
   -- the bins hold the other free blocks
   pub filed : AreInBins (at.place.before ++ at.place.after) (bins_in f.max f.cells.bins)
-  filed k y = omega (arith, w.orders k y, ap (count_in_bin k y) at.stood, tally_append (share k y) fs (b ∷ cs), share_used k y b used, tally_append (share k y) fs cs)
+  filed k y = omega (arith, w.orders k y, ap (count_in_bin k y) at.list_is, tally_append (share k y) fs (b ∷ cs), share_used k y b used, tally_append (share k y) fs cs)
 
   -- the size of the whole block, and the bins without the blocks that are coalesced into it
   abbrev pub whole : ℕ
@@ -114,18 +114,18 @@ module _ {f : Fields} {x : ℕ} (r : Release f x) where
       let gone : List Block = free_end fs ++ (b ∷ free_start cs) in
       let sum : units gone ≡ (units (free_end fs) + b.size) + units (free_start cs) = units-append (free_end fs) (b ∷ free_start cs) ∙ omega arith in
       let removes : remove_all gone ls ≡ remove_all (free_start cs) (remove_all (free_end fs) ls) = grind (arith, common_steps, remove_all-append, remove_used, used) in
-      let was = ap free_units at.stood ∙ free_units-append fs (b ∷ cs) ∙ ap (λ k. free_units fs + k) (free_units-used b cs used) in
+      let was = ap free_units at.list_is ∙ free_units-append fs (b ∷ cs) ∙ ap (λ k. free_units fs + k) (free_units-used b cs used) in
       let freed : Block = free_block x (units gone) in
       let total = free_units-append (without_end fs) (freed ∷ without_start cs) ∙ ap (λ k. free_units (without_end fs) + k) (free_units-free freed (without_start cs) refl) in
       let left_view : View = replace v (without_end fs) gone (freed ∷ []) (without_start cs) in
-      let apart = apart_parts fs (b ∷ cs) (subst IsApart at.stood w.apart) in
+      let apart = apart_parts fs (b ∷ cs) (subst IsApart at.list_is w.apart) in
       let frees : (u : View) → SameSpace left_view u → Frees x v u = λ u same. record {
         before = without_end fs;
         left = free_end fs;
         block = b;
         right = free_start cs;
         after = without_start cs;
-        blocks = at.stood ∙ coalesced_parts fs (b ∷ []) cs;
+        blocks = at.list_is ∙ coalesced_parts fs (b ∷ []) cs;
         named = at.held.name;
         used = used;
         free = idle_append (free_end fs) (free_start cs) (idle_end fs) (idle_start cs);

@@ -2,7 +2,7 @@
 use Rattle.offset_allocator.proofs.Common.{◌≡◌, ℕ, zero, suc, ◌+◌, ◌-◌, ◌<◌, ◌≤◌, ◌^◌, List, [], ◌∷◌, ◌++◌, length, refl, sym, ap, ap₂, ◌∙◌, arith, slice_set, append_assoc, le-leb, nat_eq, up, down}
 use Rattle.offset_allocator.proofs.Common.{Cells, ChainCells, Block, View, Place, Grant, one, count_named, bin_at, IsWellFormed, IsNew, free_part, used_block, units, replace, remove_all, push_all}
 use Rattle.offset_allocator.proofs.Common.{remove}
-use Rattle.offset_allocator.proofs.Common.{HasPlace, IsSmallestFrom, bins_in, IsBinned, AreUnlisted, SameSpace, Splits, common_steps}
+use Rattle.offset_allocator.proofs.Common.{HasPlace, IsFoundFrom, Some, bins_in, IsBinned, AreUnlisted, SameSpace, Splits, common_steps}
 use Rattle.offset_allocator.proofs.Joints.{stepped, unused_unlisted, free_part_units, remove_free, free_units-append, free_units-free, free_units-used}
 use Rattle.offset_allocator.proofs.{Sound.Fields, Sound.AreSound, Sound.shown, Sound.well_counted, Exchange.each-le, Exchange.there-below, Places.placed, Places.end_fits, Classes.fits_size}
 use Rattle.offset_allocator.proofs.{Split.well_split, Split.part_room, Taken.Taken, Taken.taken, ViewOrders.unlisted_removed, Tallies.one-same, Tallies.one-eq, Tallies.times-append}
@@ -12,7 +12,7 @@ use Rattle.offset_allocator.proofs.Tallies.{free_units, free_sum}
 -- a grant: sound fields, the smallest class large enough that has a block, and the first name there
 pub record Call (f : Fields) (needed class x : ℕ) : Type 0 where
   pub sound : AreSound f
-  pub smallest : IsSmallestFrom (up needed) (bins_in f.max f.cells.bins) class
+  pub smallest : IsFoundFrom (up needed) (bins_in f.max f.cells.bins) (Some class)
   pub older : List ℕ
   pub newest : bin_at (bins_in f.max f.cells.bins) class ≡ x ∷ older
 
@@ -43,20 +43,20 @@ module _ {f : Fields} {needed class x : ℕ} (call : Call f needed class x) wher
   p = got.place
 
   pub held : {d : ChainCells} → d ≡ f.cells.chain → HasPlace d f.cells.chain.reserved f.last f.count x got.place
-  held e = rw e (placed (rw got.stood at call.sound.space) got.name)
+  held e = rw e (placed (rw got.list_is at call.sound.space) got.name)
 
   pub enough : needed ≤ got.place.block.size
   enough = fits_size needed p.block.size (le-leb (up needed) (down p.block.size) (omega (arith, got.class, call.smallest.0)))
 
   -- the name is in no bin then
   pub unlisted : AreUnlisted (got.place.before ++ got.place.block ∷ got.place.after) (popped f class x)
-  unlisted y e = unlisted_removed y x class ls w.classes call.smallest.1 (unused_unlisted v w y (ap (count_named y) got.stood ∙ e))
+  unlisted y e = unlisted_removed y x class ls w.classes call.smallest.1 (unused_unlisted v w y (ap (count_named y) got.list_is ∙ e))
 
   removed : remove_all (p.block ∷ []) ls ≡ popped f class x
   removed = remove_free p.block ls got.free ∙ ap₂ (λ i y. remove i y ls) got.class got.name
 
   had_free : f.free ≡ free_units p.before + (p.block.size + free_units p.after)
-  had_free = sym call.sound.total ∙ free_sum (shown f).blocks ∙ ap free_units got.stood
+  had_free = sym call.sound.total ∙ free_sum (shown f).blocks ∙ ap free_units got.list_is
       ∙ free_units-append p.before (p.block ∷ p.after) ∙ ap (λ k. free_units p.before + k) (free_units-free p.block p.after got.free)
 
   -- a request for n units, with padding
@@ -101,7 +101,7 @@ module _ {f : Fields} {needed class x : ℕ} (call : Call f needed class x) wher
           let some : 1 ≤ count_named y ((p.before ++ free_part front padding) ++ used_block p.block.name n ∷ (free_part rest left ++ p.after)) = grind (arith, common_steps, times-append) in
           record {
             below = omega (arith, there-below d.chain _ last count y _ there.chain some, there.chain.within, call.sound.memory);
-            absent = counted_none y v.blocks (ap (count_named y) got.stood ∙ omega (arith, l, names y, times-append y p.before (p.block ∷ p.after)));
+            absent = counted_none y v.blocks (ap (count_named y) got.list_is ∙ omega (arith, l, names y, times-append y p.before (p.block ∷ p.after)));
           }
 
       abbrev left_view : View
@@ -115,7 +115,7 @@ module _ {f : Fields} {needed class x : ℕ} (call : Call f needed class x) wher
         before = p.before;
         block = p.block;
         after = p.after;
-        blocks = got.stood;
+        blocks = got.list_is;
         free = got.free;
         fits = omega (arith, got.class, call.smallest.0);
         smallest = λ c l m. call.smallest.3 c l (omega (arith, m, got.class));

@@ -5,7 +5,7 @@ use Rattle.offset_allocator.proofs.Tallies.{one-eq, one-other, times-join}
 use Rattle.offset_allocator.proofs.{Rows.IsRow-kept, Sound.Fields, Sound.AreSound, Sound.shown, Uses.binned_more, Views.blocks-chain, Views.space-chain}
 use Rattle.offset_allocator.specs.Readies.{Readies}
 
--- a blank node at the end is what stands for a node that is not made
+-- a blank node at the end is what is read of a node that is not made
 blank_at : (ns : List Node) (x : ℕ) → get_or (ns ++ blank ∷ []) x blank ≡ get_or ns x blank
 blank_at [] zero = refl
 blank_at [] (suc x) = refl

@@ -44,7 +44,7 @@ module _ {x n : ℕ} {v u : View} (r : Resizes x n v u) (k : IsWellFormed v) whe
   pub well_resized : (1 ≤ length r.next) ⊎ HasRoomFor 1 v → IsWellFormed u
   well_resized room = well_same (replace v r.before old parts r.after) u r.view (well_replaced v r.before old parts r.after v.size k
       (record {
-        stood = r.blocks;
+        list_is = r.blocks;
         some = omega arith;
         distinct = distinct_parts;
         names = named_parts;
@@ -90,7 +90,7 @@ module _ {f : Fields} {x : ℕ} (call : Release f x) where
   both = (at call).place.block.size + units (free_start (at call).place.after)
 
   split : v.blocks ≡ p.before ++ ((p.block ∷ next) ++ after)
-  split = (at call).stood ∙ ap (λ l. p.before ++ p.block ∷ l) (start_parts p.after)
+  split = (at call).list_is ∙ ap (λ l. p.before ++ p.block ∷ l) (start_parts p.after)
 
   had_free : f.free ≡ free_units p.before + (units next + free_units after)
   had_free = grind (arith, split, free_units-append, free_units-used, used, units_start, free_sum)
@@ -137,7 +137,7 @@ module _ {f : Fields} {x : ℕ} (call : Release f x) where
 
     apart : IsApart (p.before ++ (new ++ after))
     apart =
-        let parts = apart_parts p.before (p.block ∷ p.after) (subst IsApart (at call).stood (w call).apart) in
+        let parts = apart_parts p.before (p.block ∷ p.after) (subst IsApart (at call).list_is (w call).apart) in
         let tail = apart_without_start p.after parts.1.1 in
         apart_append p.before (new ++ after) parts.0 (refl, apart_free_part name left after tail.0 tail.1) (and_right (ends_free p.before) false refl)
 

@@ -40,7 +40,7 @@ module _ {needed n : ℕ} {padding_at : ℕ → ℕ} {v u : View} {g : Grant} (s
   pub well_split : (k : ℕ) → IsWellFormed v → length v.blocks + k < v.max_allocs → length (free_part s.padding_name s.padding) + 1 ≤ k → IsWellFormed u
   well_split k w room parts = well_same (replace v s.before (s.block ∷ []) new s.after) u split_view (well_replaced v s.before (s.block ∷ []) new s.after v.size w
       (record {
-        stood = s.blocks;
+        list_is = s.blocks;
         some = omega (arith, lengths);
         distinct = distinct;
         names = names;

@@ -7,7 +7,7 @@ use Rattle.offset_allocator.proofs.{ViewSteps.place_at, ViewSteps.no_place, Tall
 -- the free block of class c that is named x
 pub record Taken (v : View) (c x : ℕ) : Type 0 where
   pub place : Place
-  pub stood : v.blocks ≡ place.before ++ (place.block ∷ place.after)
+  pub list_is : v.blocks ≡ place.before ++ (place.block ∷ place.after)
   pub name : place.block.name ≡ x
   pub free : place.block.used ≡ false
   pub class : down place.block.size ≡ c
@@ -33,7 +33,7 @@ taken v w c x xs e = go (place_of x v.blocks) refl
     go (Some p) f =
         let b = place_at x v.blocks p f in
         let l = listed_block c x p.before p.block p.after b.1 (omega (arith, w.distinct x, ap (count_named x) b.0)) (omega (arith, listed, ap (count_in_bin c x) b.0)) in
-        record { place = p; stood = b.0; name = sym b.1; free = not-true p.block.used l.0; class = sym l.1 }
+        record { place = p; list_is = b.0; name = sym b.1; free = not-true p.block.used l.0; class = sym l.1 }
 
 -- some bin is not empty whose class is large enough
 abbrev pub HasFit : ℕ → View → Type 0
@@ -45,4 +45,4 @@ fitting n v w h = go (bin_at v.order h.0) refl
   where
     go : (xs : List ℕ) → bin_at v.order h.0 ≡ xs → (p : Place) × (v.blocks ≡ p.before ++ (p.block ∷ p.after)) × (p.block.used ≡ false) × (up n ≤ down p.block.size)
     go [] e = absurd (h.2 e)
-    go (x ∷ xs) e = let t = taken v w h.0 x xs e in (t.place, t.stood, t.free, omega (arith, t.class, h.1))
+    go (x ∷ xs) e = let t = taken v w h.0 x xs e in (t.place, t.list_is, t.free, omega (arith, t.class, h.1))

@@ -1,5 +1,5 @@
 -- The 256 bins, as links in tables, and the masks that say which are not empty.
-use Rattle.std.specs.Prelude.{ℕ, ◌+◌, ◌≡◌, ◌≢◌, ◌<◌, ◌≤◌, ◌/◌, ◌%◌, ◌^◌, if◌then◌else◌, min, nat_eq, zero, suc, List, [], ◌∷◌, map, length, slice_index}
+use Rattle.std.specs.Prelude.{ℕ, ◌+◌, ◌≡◌, ◌≢◌, ◌<◌, ◌≤◌, ◌/◌, ◌%◌, ◌^◌, if◌then◌else◌, min, nat_eq, zero, suc, List, [], ◌∷◌, Option, Some, None, map, length, slice_index}
 use Rattle.std.specs.Int.{bit_at}
 use Rattle.offset_allocator.specs.Cells.{BinCells}
 use Rattle.offset_allocator.specs.View.{bin_at, times}
@@ -7,25 +7,25 @@ use Rattle.offset_allocator.specs.View.{bin_at, times}
 -- the names from h on, along the links to older names
 unfoldable pub names_from : ℕ → List ℕ → ℕ → ℕ → List ℕ
 names_from none older zero h = []
-names_from none older (suc k) h = if nat_eq h none then [] else h ∷ (names_from none) older k (slice_index older h)
+names_from none older (suc k) h = if nat_eq h none then [] else h ∷ names_from none older k (slice_index older h)
 
 -- the bins in the tables: of each class, newest first
 unfoldable pub bins_in : ℕ → BinCells → List (List ℕ)
-bins_in none t = map ((names_from none) t.older (length t.older)) t.heads
+bins_in none t = map (names_from none t.older (length t.older)) t.heads
 
 -- a name is in a list
 abbrev pub IsAmong : ℕ → List ℕ → Type 0
 IsAmong x xs = 1 ≤ times x xs
 
--- the first of the names, or none
+-- the first of the names, or the number that is no name
 abbrev pub first_of : ℕ → List ℕ → ℕ
 first_of none [] = none
 first_of none (x ∷ xs) = x
 
--- the names are linked back and forth; b is before the first, and none after the last
+-- the names are linked back and forth; b is newer than the first, and none is older than the last
 abbrev pub IsLinked : ℕ → BinCells → ℕ → List ℕ → Type 0
 IsLinked none t b [] = Unit {0}
-IsLinked none t b (x ∷ xs) = (x < length t.newer) × (slice_index t.newer x ≡ b) × (slice_index t.older x ≡ first_of none xs) × (IsLinked none) t x xs
+IsLinked none t b (x ∷ xs) = (x < length t.newer) × (slice_index t.newer x ≡ b) × (slice_index t.older x ≡ first_of none xs) × IsLinked none t x xs
 
 -- bit c of the masks says whether the bin of class c has a name, and bit w of the top mask whether mask w has a bit
 pub record AreMasks (ls : List (List ℕ)) (masks : List ℕ) (top : ℕ) : Type 0 where
@@ -41,19 +41,20 @@ pub record HasBins (none : ℕ) (t : BinCells) (ls : List (List ℕ)) : Type 0 w
   pub names_small : length t.newer ≤ none
   pub heads_len : length t.heads ≡ 256
   pub lists_len : length ls ≡ 256
-  pub heads : (c : ℕ) → c < 256 → slice_index t.heads c ≡ (first_of none) (bin_at ls c)
-  pub chains : (c : ℕ) → c < 256 → (IsLinked none) t none (bin_at ls c)
+  pub heads : (c : ℕ) → c < 256 → slice_index t.heads c ≡ first_of none (bin_at ls c)
+  pub chains : (c : ℕ) → c < 256 → IsLinked none t none (bin_at ls c)
   pub once : (c d x : ℕ) → c < 256 → d < 256 → c ≢ d → times x (bin_at ls c) + times x (bin_at ls d) ≤ 1
 
 -- no list has the name
 abbrev pub IsUnlisted : ℕ → List (List ℕ) → Type 0
 IsUnlisted x ls = (c : ℕ) → c < 256 → IsAmong x (bin_at ls c) → ⊥
 
--- c is the smallest class from low on whose bin has a name
-abbrev pub IsSmallestFrom : ℕ → List (List ℕ) → ℕ → Type 0
-IsSmallestFrom low ls c = (low ≤ c) × (c < 256) × (bin_at ls c ≡ [] → ⊥) × ((d : ℕ) → low ≤ d → d < c → bin_at ls d ≡ [])
+-- the smallest class from low on whose bin has a name, or none where all these are empty
+abbrev pub IsFoundFrom : ℕ → List (List ℕ) → Option ℕ → Type 0
+IsFoundFrom low ls None = (c : ℕ) → low ≤ c → c < 256 → bin_at ls c ≡ []
+IsFoundFrom low ls (Some c) = (low ≤ c) × (c < 256) × (bin_at ls c ≡ [] → ⊥) × ((d : ℕ) → low ≤ d → d < c → bin_at ls d ≡ [])
 
 -- links and masks agree with the bins
 pub record IsBinned (none : ℕ) (t : BinCells) (top : ℕ) : Type 0 where
-  pub linked : HasBins none t ((bins_in none) t)
-  pub masked : AreMasks ((bins_in none) t) t.masks top
+  pub linked : HasBins none t (bins_in none t)
+  pub masked : AreMasks (bins_in none t) t.masks top

@@ -48,7 +48,7 @@ put c x n = record c { nodes = slice_set c.nodes x n }
 unfoldable pub with_spare : ChainCells → ℕ → ℕ → ChainCells
 with_spare c i v = record c { spare = slice_set c.spare i v }
 
--- the nodes with one more, which is blank, and the stack with its name at a place
+-- the nodes with one more, which is blank, and the stack, one entry longer, with its name at a place
 unfoldable pub with_node : ChainCells → ℕ → ChainCells
 with_node c i = record c { nodes = c.nodes ++ blank ∷ []; spare = slice_set (c.spare ++ length c.nodes ∷ []) i (length c.nodes) }
 

@@ -1,5 +1,5 @@
 -- When a request is granted, why it is refused, and the reports of an allocator.
-use Rattle.std.specs.Prelude.{◌≡◌, ◌≢◌, ℕ, ◌+◌, ◌-◌, min, max, ◌%◌, ◌^◌, ◌<◌, ◌≤◌, length, List, [], sum, codes, slice_index_or}
+use Rattle.std.specs.Prelude.{◌≡◌, ◌≢◌, ℕ, ◌+◌, ◌-◌, min, max, ◌%◌, ◌^◌, ◌<◌, ◌≤◌, length, List, [], Option, Some, None, sum, codes, slice_index_or}
 use Rattle.offset_allocator.specs.declared.reports.Refusal.{Refusal}
 use Rattle.offset_allocator.specs.declared.reports.Refusal.TheVariants.{Nodes, TooLarge, Space, Fragmented}
 use Rattle.offset_allocator.specs.declared.reports.StorageReport.{StorageReport}
@@ -9,9 +9,10 @@ use Rattle.offset_allocator.specs.Classes.{value, up}
 use Rattle.offset_allocator.specs.Reports.{count_of}
 use Rattle.offset_allocator.specs.View.{View, bin_at, free_sizes, total_free, largest_free}
 
--- c is the largest class whose bin is not empty
-abbrev pub IsLargestClass : List (List ℕ) → ℕ → Type 0
-IsLargestClass ls c = (c < 256) × (bin_at ls c ≡ [] → ⊥) × ((d : ℕ) → c < d → d < 256 → bin_at ls d ≡ [])
+-- the largest class whose bin is not empty, or none where all are empty
+abbrev pub IsFoundLast : List (List ℕ) → Option ℕ → Type 0
+IsFoundLast ls None = (c : ℕ) → c < 256 → bin_at ls c ≡ []
+IsFoundLast ls (Some c) = (c < 256) × (bin_at ls c ≡ [] → ⊥) × ((d : ℕ) → c < d → d < 256 → bin_at ls d ≡ [])
 
 -- the short report of a view: its free units, and its largest free region
 abbrev pub IsReport : StorageReport → View → Type 0
@@ -21,7 +22,7 @@ IsReport r v = (r.total_free_space ≡ total_free v) × (r.largest_free_region �
 abbrev pub IsFullReport : StorageReportFull → View → Type 0
 IsFullReport r v = (c : ℕ) (d : StorageReportFullRegion) → c < 256 → slice_index_or r.free_regions c d ≡ record { size = value c % 2 ^ 32; count = count_of c (free_sizes v.blocks) }
 
--- there is room for k more blocks; one name always stays without a block
+-- there is room for k more blocks; one name always stays without a block, as in the original
 abbrev pub HasRoomFor : ℕ → View → Type 0
 HasRoomFor k v = length v.blocks + k < v.max_allocs
 

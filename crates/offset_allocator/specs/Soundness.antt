@@ -16,10 +16,10 @@ view_of max size limit c last accesses = record {
 }
 
 -- what is true of the fields between two calls
-pub record IsSound (max size limit : ℕ) (c : Cells) (last count top free : ℕ) : Type 0 where
+pub record IsSound (max size limit : ℕ) (c : Cells) (last spare_count top free : ℕ) : Type 0 where
   pub memory : c.chain.reserved ≡ limit
   pub admitted : limit + 1 < max
-  pub space : IsSpace c.chain last count
+  pub space : IsSpace c.chain last spare_count
   pub bins : IsBinned max c.bins top
   pub well : IsWellFormed (view_of max size limit c last 0)
   pub total : sum (free_sizes (blocks c.chain last)) ≡ free

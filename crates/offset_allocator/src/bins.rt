@@ -6,9 +6,9 @@ ghost use Rattle.offset_allocator.specs.Accesses.{Costs};
 ghost use Rattle.offset_allocator.specs.Cells.{AreEmpty, node};
 ghost use Rattle.offset_allocator.specs.Classes.{down};
 ghost use Rattle.offset_allocator.specs.View.{bin_at, push, remove};
-ghost use Rattle.offset_allocator.specs.Requests.{IsLargestClass};
+ghost use Rattle.offset_allocator.specs.Requests.{IsFoundLast};
 ghost use Rattle.offset_allocator.specs.Store.{AreBinned, SameChain, bins_of};
-ghost use Rattle.offset_allocator.specs.Bins.{IsUnlisted, IsSmallestFrom, IsAmong, HasBins, AreMasks, bins_in};
+ghost use Rattle.offset_allocator.specs.Bins.{IsUnlisted, IsFoundFrom, IsAmong, HasBins, AreMasks, bins_in};
 ghost use Rattle.offset_allocator.specs.Bins.{IsBinned};
 
 use crate::accesses::Accesses;
@@ -26,9 +26,7 @@ pub(crate) fn find_at_or_above<T: Tables>(
 ) -> Option<u32>
     requires binned { IsBinned T.Index.MAX (T.cells tables.now).bins top_mask }
     requires classed { class < 256 }
-    ensures smallest { MatchOption result ((c : ℕ) → class ≤ c → c < 256
-        → bin_at (bins_in T.Index.MAX (T.cells tables.now).bins) c
-        ≡ []) (IsSmallestFrom class (bins_in T.Index.MAX (T.cells tables.now).bins)) }
+    ensures smallest { IsFoundFrom class (bins_in T.Index.MAX (T.cells tables.now).bins) result }
     ensures accesses { Costs 1 2 count.old count.new }
 {
     let word = class / 64;
@@ -47,8 +45,7 @@ pub(crate) fn find_at_or_above<T: Tables>(
 /// The largest class whose bin is not empty.
 pub(crate) fn largest<T: Tables>(tables: &T, top_mask: u32, count: &mut Accesses) -> Option<u32>
     requires { IsBinned T.Index.MAX (T.cells tables.now).bins top_mask }
-    ensures largest { MatchOption result ((c : ℕ) → c < 256 → bin_at (bins_in T.Index.MAX (T.cells tables.now).bins) c
-        ≡ []) (IsLargestClass (bins_in T.Index.MAX (T.cells tables.now).bins)) }
+    ensures largest { IsFoundLast (bins_in T.Index.MAX (T.cells tables.now).bins) result }
     ensures accesses { MatchOption result (count.new ≡ count.old) (λ _. count.new ≡ count.old + 1) }
 {
     if top_mask == 0 {
@@ -105,7 +102,7 @@ pub(crate) fn push<T: Tables>(store: &mut Store<T>, name: u32, class: u32)
     }
 }
 
-// Clears the bit of a class, whose bin is empty now.
+// Clears the bit of a class: the masks are then those of the bins with this one empty.
 fn clear_bit<T: Tables>(store: &mut Store<T>, class: u32)
     requires classed { class < 256 }
     ensures masked { (ls : List (List ℕ)) → length ls ≡ 256
@@ -129,7 +126,7 @@ fn clear_bit<T: Tables>(store: &mut Store<T>, class: u32)
     }
 }
 
-// Makes `to` the link to a newer node of the node that `at` names, if any.
+// Sets the link to a newer node of the node that `at` names, if it names one, to `to`.
 fn link_newer<T: Tables>(tables: &mut T, at: T::Index, to: T::Index, count: &mut Accesses)
     requires limit { length (T.cells tables.old).bins.newer ≤ T.Index.MAX }
     requires named { T.Index.number at ≢ T.Index.MAX → T.Index.number at < length (T.cells tables.old).bins.newer }

@@ -40,7 +40,7 @@ pub(crate) fn is_used<T: Tables>(tables: &T, name: u32, count: &mut Accesses) ->
     tables.used(name, count)
 }
 
-/// Whether a name, whichever it is, is that of a used block. It counts one access for a name that no node has, too.
+/// Whether any given name is that of a used block. It counts one access for a name that no node has, too.
 pub(crate) fn is_live<T: Tables>(tables: &T, name: u32, count: &mut Accesses) -> bool
     ensures live { (last spare : ℕ) → IsSpace (T.cells tables.now).chain last spare → result
         ≡ is_used_at (place_of name (blocks (T.cells tables.now).chain last)) }

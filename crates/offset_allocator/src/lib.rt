@@ -75,7 +75,9 @@ pub type Blocks<'a, NI = u32> = BlocksOf<'a, ByNode<NI>>;
 /// nodes: it limits how many nodes there can be, and changes no result otherwise.
 #[derive(Drop)]
 pub struct AllocatorOf<T: Tables> {
+    // the units of the space
     size: u32,
+    // the node limit
     max_allocs: u32,
     // the units of all free blocks
     free_total: u32,
@@ -109,8 +111,8 @@ impl<T: Tables> AllocatorOf<T> {
     /// A space of `size` units, all free, with `max_allocs` as the node limit: at most `max_allocs - 1` blocks exist at
     /// a time, free ones included. A request is granted only while at most `max_allocs - 2` exist, and makes one of
     /// them live: so at most `max_allocs - 2` grants are live. The limit is 2 to `T::Index::MAX - 2`: 65533 for `u16`,
-    /// 4294967293 for `u32`. By node and by field it reserves 28 bytes a node with `u32`, 18 with `u16`, all of them
-    /// here; those of a node are written when its name is used for the first time.
+    /// 4294967293 for `u32`. `ByNode` and `ByField` reserve 28 bytes a node with `u32`, 18 with `u16`, all of
+    /// them here; those of a node are written when its name is used for the first time.
     ///
     /// An error is returned only where an allocation failed; then nothing is made.
     pub fn with_max_allocs(alloc: Global, size: u32, max_allocs: u32) -> Result<Self, AllocError>
@@ -128,6 +130,7 @@ impl<T: Tables> AllocatorOf<T> {
             accesses: Accesses::new(),
         };
         steps::start(&mut store, size, max_allocs);
+        // a space that is new has counted no access
         store.accesses = Accesses::new();
         Ok(AllocatorOf {
             size,
@@ -151,8 +154,9 @@ impl<T: Tables> AllocatorOf<T> {
         // It makes at most 130 accesses to table cells for each live range, and 2, and never more than 270.
         ensures accesses { Costs 1 (min (130 * used_of self.old.blocks + 2) 270) self.old.accesses self.new.accesses }
     {
+        // the invariant bounds the number of blocks
         self.formed();
-        // freeing five blocks takes about as long as emptying the bins
+        // of at most five blocks at most five are live; to free these takes about as long as to empty the bins
         if self.block_count() <= 5 {
             self.free_all();
         } else {
@@ -181,7 +185,8 @@ impl<T: Tables> AllocatorOf<T> {
         self.store.tables.len() - self.store.spare_count
     }
 
-    /// The number of nodes that were made: each block's name is below it. Only `reset` makes it smaller.
+    /// The number of nodes that were made: each block's name is below it. Only `reset` makes it smaller; a call that may
+    /// add a block can make it larger by 1 or 2, also where it is refused.
     pub fn node_count(&self) -> u32
         ensures names { (x : ℕ) → 1 ≤ count_named x self.now.blocks → x < result }
         ensures limit { result ≤ self.now.max_allocs }
@@ -198,9 +203,9 @@ impl<T: Tables> AllocatorOf<T> {
         self.block_count() == self.max_allocs - 1
     }
 
-    /// Grants a range of `size` units, and returns its handle. It takes the first `size` units of the newest block in
-    /// the first bin that is not empty of those whose blocks all fit; what remains of the block stays free, directly
-    /// after the range.
+    /// Grants a range of `size` units, and returns its handle. It takes the first `size` units of the newest block
+    /// of the smallest class that has a free block and whose blocks all fit; what remains of the block stays free,
+    /// directly after the range.
     ///
     /// `None` is returned where `max_allocs - 1` blocks exist, even for an exact fit, and where no free block is of
     /// such a class; then nothing changes. A request of at least one unit is granted exactly when it is at most the
@@ -222,7 +227,7 @@ impl<T: Tables> AllocatorOf<T> {
         ensures nearly { IfSome result (IsSplitNearBest size self.old) }
         // A refusal with room for one more block means that every free block is smaller than 9/8 of the request.
         ensures refused { result ≡ None → HasRoomFor 1 self.old → IsGoodRefusal size (free_sizes self.old.blocks) }
-        // At most 64 accesses to table cells; for a grant at least 7, which refuses a body that does not count.
+        // At most 64 accesses to table cells; for a grant at least 7, which no body meets that does not count.
         ensures accesses { Costs 0 64 self.old.accesses self.new.accesses }
         ensures accesses_min { IsSome result → self.old.accesses + 7 ≤ self.new.accesses }
         // The step as a whole: which block, which remainder, which bins.

@@ -46,7 +46,8 @@ pub(crate) fn free_after<T: Tables>(tables: &T, name: u32, count: &mut Accesses)
     None
 }
 
-// A free block directly before a block leaves its bin and is coalesced into it. The size of the whole is returned.
+// Removes the free block directly before a block, if there is one, from its bin, and coalesces it into the block. The
+// size of the whole is returned.
 #[inline(always)]
 fn with_before<T: Tables>(store: &mut Store<T>, name: u32, size: u32) -> u32
     requires place { (m : ℕ) × (p : Place) × IsPlaceIn T.cells store.old m name p
@@ -72,7 +73,8 @@ fn with_before<T: Tables>(store: &mut Store<T>, name: u32, size: u32) -> u32
     size
 }
 
-// The free block `next`, if any, directly after a block leaves its bin and is coalesced into it, likewise.
+// Removes the free block `next` directly after a block, if there is one, from its bin, and coalesces it into the block.
+// The size of the whole is returned.
 #[inline(always)]
 fn with_after<T: Tables>(store: &mut Store<T>, name: u32, size: u32, next: Option<u32>) -> u32
     requires place { (m : ℕ) × (p : Place) × IsPlaceIn T.cells store.old m name p
@@ -103,7 +105,7 @@ fn with_after<T: Tables>(store: &mut Store<T>, name: u32, size: u32, next: Optio
 }
 
 /// Coalesces a block of this size, which is in no bin, with the free blocks beside it, and pushes the whole onto its
-/// bin. If the neighbour that is coalesced last heads this bin, the block takes its place there.
+/// bin. If the neighbour that is coalesced last is the newest of this bin, the block takes its place there.
 #[inline(always)]
 pub(crate) fn coalesce<T: Tables>(store: &mut Store<T>, name: u32, size: u32)
     requires place { (m : ℕ) × (p : Place) × IsPlaceIn T.cells store.old m name p
@@ -170,7 +172,8 @@ fn split_padding<T: Tables>(store: &mut Store<T>, name: u32, units: u32) -> u32
     front
 }
 
-// Splits a block, of this offset, after `size` units, likewise: the units that are left become a free block in its bin.
+// Splits a block, of this offset, after `size` units: the units that are left become a free block in its bin, under the
+// name that is returned. Where none are left, nothing changes, and the name returned is that of the block.
 #[inline(always)]
 fn split_remainder<T: Tables>(
     store: &mut Store<T>,

@@ -105,7 +105,7 @@ pub fn is_live_counted<T: Tables>(
     ensures accesses { Costs 0 8 count.old count.new }
     ensures accesses_min { allocation.name < allocator.now.max_allocs → count.old + 1 ≤ count.new }
 {
-    allocator.is_used(allocation.name(), count)
+    allocator.is_name_live(allocation.name(), count)
 }
 
 /// As `Allocator::allocation_size`. The count grows by at most 8.
@@ -119,7 +119,7 @@ pub fn allocation_size_counted<T: Tables>(
     ensures accesses_min { IsLive allocation.name allocator.now → count.old + 2 ≤ count.new }
 {
     let name = allocation.name();
-    if allocator.is_used(name, count) {
+    if allocator.is_name_live(name, count) {
         allocator.store.tables.size(name, count)
     } else {
         0
@@ -137,7 +137,7 @@ pub fn allocation_offset_counted<T: Tables>(
     ensures accesses_min { IsLive allocation.name allocator.now → count.old + 2 ≤ count.new }
 {
     let name = allocation.name();
-    if allocator.is_used(name, count) {
+    if allocator.is_name_live(name, count) {
         Some(allocator.store.tables.offset(name, count))
     } else {
         None

@@ -1,10 +1,10 @@
 //! The steps of the public calls. Each method leaves an allocator whose blocks and bins agree.
 ghost use Rattle.std.specs.Prelude.{◌≡◌, ◌↔◌, ◌+◌, ◌-◌, ◌*◌, ◌<◌, ◌≤◌, [], ◌∷◌, length, replicate, None, false, true};
-ghost use Rattle.std.specs.Prelude.{IsTrue, IsSome, IfSome};
+ghost use Rattle.std.specs.Prelude.{IsTrue, IsSome, IfSome, Some};
 ghost use Rattle.offset_allocator.specs.Accesses.{Costs};
 ghost use Rattle.offset_allocator.specs.Classes.{up, down};
 ghost use Rattle.offset_allocator.specs.Cells.{IsBare};
-ghost use Rattle.offset_allocator.specs.Bins.{IsSmallestFrom};
+ghost use Rattle.offset_allocator.specs.Bins.{IsFoundFrom};
 ghost use Rattle.offset_allocator.specs.Store.{AreBinned, bins_of};
 ghost use Rattle.offset_allocator.specs.Ranges.{range_of, IsLive, KeepsAll, KeepsOthers};
 ghost use Rattle.offset_allocator.specs.View.{IsWellFormed, ends_used, padding_to, free_block, push, used_of};
@@ -21,7 +21,7 @@ use crate::store::Store;
 use crate::tables::Tables;
 use crate::{AllocatorOf, bins, chain, neighbours, store};
 
-/// The handle of a name.
+/// The handle of an offset and a name.
 pub(crate) fn handle_of<NI: NodeIndex>(offset: u32, name: u32) -> Allocation<NI>
     requires { name < NI.MAX }
     ensures { result ≡ record { name = name; offset = offset } }
@@ -116,7 +116,7 @@ impl<T: Tables> AllocatorOf<T> {
         requires some { 1 ≤ align }
         requires fits { units_needed size align ≤ 4294967295 }
         requires enough { HasRoomFor (blocks_needed align) self.old }
-        requires smallest { IsSmallestFrom (up (units_needed size align)) self.old.order class }
+        requires smallest { IsFoundFrom (up (units_needed size align)) self.old.order (Some class) }
         ensures step { Splits (units_needed size align) size (padding_to align) self.old self.new result }
         ensures accesses { Costs 6 59 self.old.accesses self.new.accesses }
     {
@@ -142,7 +142,8 @@ impl<T: Tables> AllocatorOf<T> {
     }
 
     /// A request for units from a multiple of `align` on. With `align` 1, which is a constant where this is inlined
-    /// into `allocate`, there is no padding. It may add `align.min(2)` blocks: the remainder, and above 1 the padding.
+    /// into `allocate`, there is no padding. It may add `align.min(2)` blocks: the remainder, and the padding where
+    /// `align` is above 1.
     #[inline(always)]
     pub(crate) fn serve(&mut self, size: u32, align: u32) -> Option<Allocation<T::Index>>
         requires { 1 ≤ align }
@@ -192,10 +193,9 @@ impl<T: Tables> AllocatorOf<T> {
         neighbours::coalesce(&mut self.store, name, size);
     }
 
-    /// Whether a name is that of a used block.
-    pub(crate) fn is_used(&self, name: u32, count: &mut Accesses) -> bool
+    /// Whether a name is that of a live range.
+    pub(crate) fn is_name_live(&self, name: u32, count: &mut Accesses) -> bool
         ensures live { IsTrue result ↔ IsLive name self.now }
-        ensures accesses_kept { count.old ≤ count.new }
         ensures accesses { count.new ≡ count.old + 1 }
     {
         chain::is_live(&self.store.tables, name, count)

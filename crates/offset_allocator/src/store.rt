@@ -8,7 +8,7 @@ ghost use Rattle.offset_allocator.specs.Readies.{Readies};
 use crate::accesses::Accesses;
 use crate::tables::Tables;
 
-/// The tables, which bins are not empty, which block is the last, and how many nodes no block has. It has no invariant:
+/// The tables, and with them: which bins are not empty, the last block, how many nodes no block has. It has no invariant:
 /// `neighbours` changes it in the middle of a step, and the invariant of `Allocator` holds between steps.
 #[derive(Drop)]
 pub(crate) struct Store<T: Tables> {
@@ -23,7 +23,7 @@ pub(crate) struct Store<T: Tables> {
     pub(crate) accesses: Accesses,
 }
 
-/// Makes a node where fewer than `names` made nodes have no block; only one may be missing.
+/// Makes one more node where fewer than `names` made nodes have no block; no more than one may be missing.
 #[inline(always)]
 pub(crate) fn ensure_spare<T: Tables>(
     tables: &mut T,

@@ -1,5 +1,5 @@
 //! The tables, whatever their layout in memory: no other module reads or writes their cells. A function on single cells
-//! counts each that it touches; `with_capacity` and `clear` make new tables, and count none.
+//! counts each that it touches; `with_capacity` makes tables, `clear` empties them, and neither counts.
 
 ghost use Rattle.std.specs.Prelude.{◌≡◌, ◌≢◌, ◌+◌, ◌-◌, ◌<◌, ◌≤◌, false, Some, [], ◌∷◌, ◌++◌, length, slice_set};
 ghost use Rattle.std.specs.Prelude.{slice_index, IfOk};
@@ -98,13 +98,13 @@ pub trait Tables: Drop {
         } }
         ensures accesses { count.new ≡ count.old + 1 };
 
-    /// The link to the node before a node in space.
+    /// The link to the node of the block before.
     fn before(&self, name: u32, count: &mut Accesses) -> Self::Index
         requires { name < length (cells self.now).chain.nodes }
         ensures cell { link_of Self.Index.MAX (Self.Index.number result) ≡ (node (cells self.now).chain name).before }
         ensures accesses { count.new ≡ count.old + 1 };
 
-    /// Writes the link to the node before a node in space.
+    /// Writes the link to the node of the block before.
     fn set_before(&mut self, name: u32, link: Self::Index, count: &mut Accesses)
         requires { name < length (cells self.old).chain.nodes }
         ensures cells { cells self.new ≡ record (cells self.old) {
@@ -113,13 +113,13 @@ pub trait Tables: Drop {
         } }
         ensures accesses { count.new ≡ count.old + 1 };
 
-    /// The link to the node after a node in space.
+    /// The link to the node of the block after.
     fn after(&self, name: u32, count: &mut Accesses) -> Self::Index
         requires { name < length (cells self.now).chain.nodes }
         ensures cell { link_of Self.Index.MAX (Self.Index.number result) ≡ (node (cells self.now).chain name).after }
         ensures accesses { count.new ≡ count.old + 1 };
 
-    /// Writes the link to the node after a node in space.
+    /// Writes the link to the node of the block after.
     fn set_after(&mut self, name: u32, link: Self::Index, count: &mut Accesses)
         requires { name < length (cells self.old).chain.nodes }
         ensures cells { cells self.new ≡ record (cells self.old) {
@@ -128,7 +128,7 @@ pub trait Tables: Drop {
         } }
         ensures accesses { count.new ≡ count.old + 1 };
 
-    /// Writes the cells of an unused node, for a free block between two links.
+    /// Writes the cells of a node that is not used, for a free block between two links.
     fn set_block(
         &mut self,
         name: u32,
@@ -151,7 +151,7 @@ pub trait Tables: Drop {
         } }
         ensures accesses { count.new ≡ count.old + 4 };
 
-    /// Writes where a node begins, its size, and the link to the node before it in space.
+    /// Writes where a block begins, its size, and the link to the node of the block before.
     fn set_start(
         &mut self,
         name: u32,
@@ -171,7 +171,7 @@ pub trait Tables: Drop {
         } }
         ensures accesses { count.new ≡ count.old + 3 };
 
-    /// Writes the size of a node, and the link to the node after it in space.
+    /// Writes the size of a node, and the link to the node of the block after.
     fn set_end(&mut self, name: u32, size: u32, link: Self::Index, count: &mut Accesses)
         requires { name < length (cells self.old).chain.nodes }
         ensures cells { cells self.new ≡ record (cells self.old) {

@@ -127,9 +127,9 @@ restored s w p needed n padding e f best enough t v m =
     let newest : (q : Pair) (x y : ℕ) → IsIn q a.0 ⊎ IsIn q d.1 → q.kind ≡ Frees x y → nat_eq (down q.size) (down z) ≡ true → (x < stamp p.block.tag) × (y < stamp_of_call t) =
     λ q x y i k same.
     let own : left q ≡ block q.size (Free x) = ap (λ l. block q.size (left_tag l)) k in
-    let stood : IsIn (block q.size (Free x)) p.before ⊎ IsIn (block q.size (Free x)) p.after =
+    let list_is : IsIn (block q.size (Free x)) p.before ⊎ IsIn (block q.size (Free x)) p.after =
     elim i [ inl h ↦ inl (subst₂ (λ (c : Block) bs. IsIn c bs) own a.3 (in_map left q a.0 h)) | inr h ↦ inr (subst₂ (λ (c : Block) bs. IsIn c bs) own d.4 (in_map left q d.1 h)) ] in
-    (older s w p needed (stamp p.block.tag) e tag f best q.size x stood same, below q y (old q i) (ap right_tag k)) in
+    (older s w p needed (stamp p.block.tag) e tag f best q.size x list_is same, below q y (old q i) (ap right_tag k)) in
     record {
       place = record { before = rights a.0 ++ rights b.0; block = right c.0; after = rights d.0 ++ rights d.1 };
       found = ap (place_of (s.grants + 1)) blocks ∙ place_at (s.grants + 1) _ (right c.0) _ none_before (live_number c.0.kind (s.grants + 1) (ap (λ (b : Block). b.tag) c.3) (m.numbers c.0 live_in));

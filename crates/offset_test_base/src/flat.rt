@@ -55,7 +55,7 @@ impl Model for Flat {
     ghost invariant = { IsFlat };
 }
 
-// What the link to a newer node is of a used block, and of one that is in no class.
+// What the link to a newer node is of a used block, and of one that is in no bin.
 fn mark(used: bool) -> u32
     ensures { result ≡ mark_of 4294967295 used }
 {

@@ -12,7 +12,7 @@ const FIRST_SLAB: u32 = 1 << 12;
 /// The meshes that a slab may have.
 const MESHES_A_SLAB: u32 = 512;
 
-/// The bytes of a vertex stand for its layout.
+/// A layout is known by the bytes of its vertices.
 type Stride = u32;
 type MeshId = u64;
 

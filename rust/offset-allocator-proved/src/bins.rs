@@ -70,7 +70,7 @@ pub(crate) fn push<T: Tables>(store: &mut Store<T>, name: u32, class: u32) {
     }
 }
 
-// Clears the bit of a class, whose bin is empty now.
+// Clears the bit of a class: the masks are then those of the bins with this one empty.
 fn clear_bit<T: Tables>(store: &mut Store<T>, class: u32) {
     let tables = &mut store.tables;
     let top_mask = &mut store.top_mask;
@@ -83,7 +83,7 @@ fn clear_bit<T: Tables>(store: &mut Store<T>, class: u32) {
     }
 }
 
-// Makes `to` the link to a newer node of the node that `at` names, if any.
+// Sets the link to a newer node of the node that `at` names, if it names one, to `to`.
 fn link_newer<T: Tables>(tables: &mut T, at: T::Index, to: T::Index, count: &mut Accesses) {
     if number(at) != T::Index::MAX {
         tables.set_newer(number(at), to, count);

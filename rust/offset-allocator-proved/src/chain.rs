@@ -18,7 +18,7 @@ pub(crate) fn is_used<T: Tables>(tables: &T, name: u32, count: &mut Accesses) ->
     tables.used(name, count)
 }
 
-/// Whether a name, whichever it is, is that of a used block. It counts one access for a name that no node has, too.
+/// Whether any given name is that of a used block. It counts one access for a name that no node has, too.
 pub(crate) fn is_live<T: Tables>(tables: &T, name: u32, count: &mut Accesses) -> bool {
     if name < tables.len() {
         is_used(tables, name, count)

@@ -80,7 +80,9 @@ pub type Blocks<'a, NI = u32> = BlocksOf<'a, ByNode<NI>>;
 /// `T` is the layout of its tables; it changes no result. The index type of the layout is the type of the links between
 /// nodes: it limits how many nodes there can be, and changes no result otherwise.
 pub struct AllocatorOf<T: Tables> {
+    // the units of the space
     size: u32,
+    // the node limit
     max_allocs: u32,
     // the units of all free blocks
     free_total: u32,
@@ -99,8 +101,8 @@ impl<T: Tables> AllocatorOf<T> {
     /// A space of `size` units, all free, with `max_allocs` as the node limit: at most `max_allocs - 1` blocks exist at
     /// a time, free ones included. A request is granted only while at most `max_allocs - 2` exist, and makes one of
     /// them live: so at most `max_allocs - 2` grants are live. The limit is 2 to `T::Index::MAX - 2`: 65533 for `u16`,
-    /// 4294967293 for `u32`. By node and by field it reserves 28 bytes a node with `u32`, 18 with `u16`, all of them
-    /// here; those of a node are written when its name is used for the first time.
+    /// 4294967293 for `u32`. `ByNode` and `ByField` reserve 28 bytes a node with `u32`, 18 with `u16`, all of
+    /// them here; those of a node are written when its name is used for the first time.
     ///
     /// An error is returned only where an allocation failed; then nothing is made.
     #[track_caller]
@@ -117,6 +119,7 @@ impl<T: Tables> AllocatorOf<T> {
             accesses: Accesses::new(),
         };
         steps::start(&mut store, size, max_allocs);
+        // a space that is new has counted no access
         store.accesses = Accesses::new();
         Ok(AllocatorOf {
             size,
@@ -132,8 +135,9 @@ impl<T: Tables> AllocatorOf<T> {
     /// frees each live range; otherwise it forgets all nodes and empties the bins: about 1 KB is written, whatever the
     /// node limit.
     pub fn reset(&mut self) {
+        // the invariant bounds the number of blocks
         self.formed();
-        // freeing five blocks takes about as long as emptying the bins
+        // of at most five blocks at most five are live; to free these takes about as long as to empty the bins
         if self.block_count() <= 5 {
             self.free_all();
         } else {
@@ -156,7 +160,8 @@ impl<T: Tables> AllocatorOf<T> {
         self.store.tables.len() - self.store.spare_count
     }
 
-    /// The number of nodes that were made: each block's name is below it. Only `reset` makes it smaller.
+    /// The number of nodes that were made: each block's name is below it. Only `reset` makes it smaller; a call that may
+    /// add a block can make it larger by 1 or 2, also where it is refused.
     pub fn node_count(&self) -> u32 {
         self.store.tables.len()
     }
@@ -167,9 +172,9 @@ impl<T: Tables> AllocatorOf<T> {
         self.block_count() == self.max_allocs - 1
     }
 
-    /// Grants a range of `size` units, and returns its handle. It takes the first `size` units of the newest block in
-    /// the first bin that is not empty of those whose blocks all fit; what remains of the block stays free, directly
-    /// after the range.
+    /// Grants a range of `size` units, and returns its handle. It takes the first `size` units of the newest block
+    /// of the smallest class that has a free block and whose blocks all fit; what remains of the block stays free,
+    /// directly after the range.
     ///
     /// `None` is returned where `max_allocs - 1` blocks exist, even for an exact fit, and where no free block is of
     /// such a class; then nothing changes. A request of at least one unit is granted exactly when it is at most the

@@ -11,7 +11,7 @@ use crate::store::Store;
 use crate::tables::Tables;
 use crate::{AllocatorOf, bins, chain, neighbours, store};
 
-/// The handle of a name.
+/// The handle of an offset and a name.
 pub(crate) fn handle_of<NI: NodeIndex>(offset: u32, name: u32) -> Allocation<NI> {
     Allocation::make(offset, NI::from_u32(name).to_name())
 }
@@ -89,7 +89,8 @@ impl<T: Tables> AllocatorOf<T> {
     }
 
     /// A request for units from a multiple of `align` on. With `align` 1, which is a constant where this is inlined
-    /// into `allocate`, there is no padding. It may add `align.min(2)` blocks: the remainder, and above 1 the padding.
+    /// into `allocate`, there is no padding. It may add `align.min(2)` blocks: the remainder, and the padding where
+    /// `align` is above 1.
     #[inline(always)]
     pub(crate) fn serve(&mut self, size: u32, align: u32) -> Option<Allocation<T::Index>> {
         if !self.has_room_for(align.min(2)) {
@@ -125,8 +126,8 @@ impl<T: Tables> AllocatorOf<T> {
         neighbours::coalesce(&mut self.store, name, size);
     }
 
-    /// Whether a name is that of a used block.
-    pub(crate) fn is_used(&self, name: u32, count: &mut Accesses) -> bool {
+    /// Whether a name is that of a live range.
+    pub(crate) fn is_name_live(&self, name: u32, count: &mut Accesses) -> bool {
         chain::is_live(&self.store.tables, name, count)
     }
 

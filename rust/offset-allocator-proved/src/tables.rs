@@ -1,7 +1,7 @@
 // Printed by rust/erase from crates/offset_allocator/src/tables.rt: change it there.
 
 //! The tables, whatever their layout in memory: no other module reads or writes their cells. A function on single cells
-//! counts each that it touches; `with_capacity` and `clear` make new tables, and count none.
+//! counts each that it touches; `with_capacity` makes tables, `clear` empties them, and neither counts.
 
 use crate::accesses::Accesses;
 use crate::index::NodeIndex;
@@ -49,19 +49,19 @@ pub trait Tables: Sized {
     /// Writes whether a node, which is in no bin, is used: its link to a newer node says so.
     fn set_used(&mut self, name: u32, used: bool, count: &mut Accesses);
 
-    /// The link to the node before a node in space.
+    /// The link to the node of the block before.
     fn before(&self, name: u32, count: &mut Accesses) -> Self::Index;
 
-    /// Writes the link to the node before a node in space.
+    /// Writes the link to the node of the block before.
     fn set_before(&mut self, name: u32, link: Self::Index, count: &mut Accesses);
 
-    /// The link to the node after a node in space.
+    /// The link to the node of the block after.
     fn after(&self, name: u32, count: &mut Accesses) -> Self::Index;
 
-    /// Writes the link to the node after a node in space.
+    /// Writes the link to the node of the block after.
     fn set_after(&mut self, name: u32, link: Self::Index, count: &mut Accesses);
 
-    /// Writes the cells of an unused node, for a free block between two links.
+    /// Writes the cells of a node that is not used, for a free block between two links.
     fn set_block(
         &mut self,
         name: u32,
@@ -72,7 +72,7 @@ pub trait Tables: Sized {
         count: &mut Accesses,
     );
 
-    /// Writes where a node begins, its size, and the link to the node before it in space.
+    /// Writes where a block begins, its size, and the link to the node of the block before.
     fn set_start(
         &mut self,
         name: u32,
@@ -82,7 +82,7 @@ pub trait Tables: Sized {
         count: &mut Accesses,
     );
 
-    /// Writes the size of a node, and the link to the node after it in space.
+    /// Writes the size of a node, and the link to the node of the block after.
     fn set_end(&mut self, name: u32, size: u32, link: Self::Index, count: &mut Accesses);
 
     /// An entry of the stack of unused names.

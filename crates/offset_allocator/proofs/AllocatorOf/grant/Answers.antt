@@ -1,4 +1,4 @@
-use Rattle.offset_allocator.proofs.Common.{◌≡◌, ◌+◌, ◌-◌, ◌≤◌, ◌<◌, ◌^◌, ◌∙◌, ℕ, ap, arith, refl, subst, sym, up, Node, View, padding_to, IsSmallestFrom, HasRoomFor, blocks_needed, units_needed}
+use Rattle.offset_allocator.proofs.Common.{◌≡◌, ◌+◌, ◌-◌, ◌≤◌, ◌<◌, ◌^◌, ◌∙◌, ℕ, ap, arith, refl, subst, sym, up, Node, View, padding_to, IsFoundFrom, Some, HasRoomFor, blocks_needed, units_needed}
 use Rattle.offset_allocator.proofs.Common.{Splits}
 use Rattle.offset_allocator.proofs.Sound.{shown, AreSound, Fields, fields_of}
 use Rattle.offset_allocator.proofs.Granting.{Call, held, unlisted, whole_fits, padding_fits, units_free, granted}
@@ -15,7 +15,7 @@ call : (g : Over) (c : After-pop-name g)
     (units_needed c.args.size c.args.align) c.args.class c.pop-name.result
 call g c = record {
   sound = made (fields_of g.T.Tables.cells g.T.Index.NodeIndex.MAX c.self.inside) c.self.invariant c.ensure_spares.ensures.readies;
-  smallest = subst (λ (u : View). IsSmallestFrom (up (units_needed c.args.size c.args.align)) u.order c.args.class)
+  smallest = subst (λ (u : View). IsFoundFrom (up (units_needed c.args.size c.args.align)) u.order (Some c.args.class))
       (sym (made_shown (fields_of g.T.Tables.cells g.T.Index.NodeIndex.MAX c.self.inside) c.self.invariant c.ensure_spares.ensures.readies ∙ c.self.view_is)) c.requires.smallest;
   older = _;
   newest = c.pop-name.ensures.first;
@@ -33,7 +33,7 @@ pop-name-requires-clause-binned g c = (c.ensure_spares.ensures.readies.bins _ c.
 
 pub pop-name-requires-clause-some : goal.pop-name-requires-clause-some
 pop-name-requires-clause-some g c =
-    (subst (λ (u : View). IsSmallestFrom (up (units_needed c.args.size c.args.align)) u.order c.args.class)
+    (subst (λ (u : View). IsFoundFrom (up (units_needed c.args.size c.args.align)) u.order (Some c.args.class))
     (sym (made_shown (fields_of g.T.Tables.cells g.T.Index.NodeIndex.MAX c.self.inside) c.self.invariant c.ensure_spares.ensures.readies ∙ c.self.view_is)) c.requires.smallest).2
 
 pub offset-offset-requires : goal.offset-offset-requires

@@ -1,5 +1,5 @@
 use Rattle.offset_allocator.proofs.{Common.ap, Common.sym, Common.◌∙◌, Common.View, Common.is_used_at, Common.place_of, Reading.live_is}
-use Rattle.offset_allocator.proofs.AllocatorOf.is_used.Goals as goal
+use Rattle.offset_allocator.proofs.AllocatorOf.is_name_live.Goals as goal
 
 pub returns-clause-live : goal.returns-clause-live
 returns-clause-live g c =
