@@ -1,5 +1,5 @@
-//! Laws: that a grant can be undone, and what holds of every allocator. Except `undo` and `unused_names`, their functions
-//! do nothing. With them are the calls that leave an allocator as it is, with a count of their accesses.
+//! Laws: that a grant can be undone, and what holds of every allocator. Except `undo` and `unused_names`, their
+//! functions do nothing. With them are the calls that leave an allocator as it is, with a count of their accesses.
 ghost use Rattle.std.specs.Prelude.{◌≡◌, ◌≢◌, ◌<◌, ◌≤◌, ◌+◌, ◌*◌, ◌%◌, ◌↔◌, ℕ, List, ◌++◌, false, IsTrue, Some, length};
 ghost use Rattle.std.specs.Prelude.{sum};
 ghost use Rattle.std.specs.Int.{IsPowerOfTwo};

@@ -185,8 +185,8 @@ impl<T: Tables> AllocatorOf<T> {
         self.store.tables.len() - self.store.spare_count
     }
 
-    /// The number of nodes that were made: each block's name is below it. Only `reset` makes it smaller; a call that may
-    /// add a block can make it larger by 1 or 2, also where it is refused.
+    /// The number of nodes that were made: each block's name is below it. Only `reset` makes it smaller; a call that
+    /// may add a block can make it larger by 1 or 2, also where it is refused.
     pub fn node_count(&self) -> u32
         ensures names { (x : ℕ) → 1 ≤ count_named x self.now.blocks → x < result }
         ensures limit { result ≤ self.now.max_allocs }

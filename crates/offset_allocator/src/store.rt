@@ -8,8 +8,8 @@ ghost use Rattle.offset_allocator.specs.Readies.{Readies};
 use crate::accesses::Accesses;
 use crate::tables::Tables;
 
-/// The tables, and with them: which bins are not empty, the last block, how many nodes no block has. It has no invariant:
-/// `neighbours` changes it in the middle of a step, and the invariant of `Allocator` holds between steps.
+/// The tables, and with them: which bins are not empty, the last block, how many nodes no block has. It has no
+/// invariant: `neighbours` changes it in the middle of a step, and the invariant of `Allocator` holds between steps.
 #[derive(Drop)]
 pub(crate) struct Store<T: Tables> {
     pub(crate) tables: T,
