@@ -28,7 +28,7 @@ blocks_back c (suc f) None rest = rest
 blocks_back c (suc f) (Some k) rest =
     blocks_back c f (node c k).before (record { name = k; size = (node c k).size; used = (node c k).used } ∷ rest)
 
--- the blocks of the space, in order: back from the last one
+-- the blocks of the space, in order, found from the last one back
 unfoldable pub blocks : ChainCells → ℕ → List Block
 blocks c last = blocks_back c (length c.nodes) (Some last) []
 

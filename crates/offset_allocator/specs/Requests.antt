@@ -43,9 +43,9 @@ CanGrant blocks units v = HasRoomFor blocks v × ((c : ℕ) × (up units ≤ c) 
 abbrev pub size_needed : ℕ → ℕ
 size_needed units = max 1 (value (up units))
 
--- why such a request is refused. Nodes: there is no room for the blocks. TooLarge: the whole space has fewer units than
--- the class. Space: all free blocks together have too few. Fragmented: together they have enough, but none is of a
--- class large enough
+-- why such a request is refused. Nodes: there is no room for the blocks. TooLarge: the whole space is smaller than any
+-- block of a class large enough. Space: so are all free units together. Fragmented: together they are enough, but no
+-- free block is of a class large enough
 abbrev pub IsWhy : ℕ → ℕ → View → Refusal → Type 0
 IsWhy blocks units v Nodes = v.max_allocs ≤ length v.blocks + blocks
 IsWhy blocks units v TooLarge = HasRoomFor blocks v × (v.size < value (up units))

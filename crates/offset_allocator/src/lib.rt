@@ -227,7 +227,7 @@ impl<T: Tables> AllocatorOf<T> {
         ensures nearly { IfSome result (IsSplitNearBest size self.old) }
         // A refusal with room for one more block means that every free block is smaller than 9/8 of the request.
         ensures refused { result ≡ None → HasRoomFor 1 self.old → IsGoodRefusal size (free_sizes self.old.blocks) }
-        // At most 64 accesses to table cells; for a grant at least 7, which no body meets that does not count.
+        // At most 64 accesses to table cells; for a grant at least 7, so that a body has to count them.
         ensures accesses { Costs 0 64 self.old.accesses self.new.accesses }
         ensures accesses_min { IsSome result → self.old.accesses + 7 ≤ self.new.accesses }
         // The step as a whole: which block, which remainder, which bins.
