@@ -1,0 +1,142 @@
+//! Requests and releases of an engine.
+
+use crate::random::{Digest, Draw, Random};
+use crate::spaces::Space;
+use offset_allocator::Allocator;
+use offset_guarded::Guarded;
+use std::alloc::{AllocError, Global};
+
+// How many frames are played.
+const FRAMES: u32 = 64;
+
+/// A load of a space: its size and node limit, among how many places its ranges are, how large they may be, and how
+/// many steps are taken.
+#[derive(Clone, Copy)]
+struct Load {
+    size: u32,
+    max_allocs: u32,
+    places: u32,
+    bits: u32,
+    steps: u32,
+}
+
+// A step on a slot: one in sixteen requests is aligned.
+fn take<S: Space>(
+    space: &mut S,
+    slot: &mut S::Slot,
+    bits: u32,
+    draw: Draw,
+    random: &mut Random,
+    digest: &mut Digest,
+) {
+    let align = if draw.part(1) == 0 { 256 } else { 1 };
+    digest.add(space.take(slot, random.size(bits), align));
+}
+
+// Each step frees the range of a random slot, or requests one for it where it is empty; one in 256 asks for a report.
+fn play<S: Space>(
+    alloc: Global,
+    load: Load,
+    random: &mut Random,
+    digest: &mut Digest,
+) -> Result<(), AllocError> {
+    let mut space = S::make(alloc, load.size, load.max_allocs)?;
+    let mut slots = Vec::from_elem(alloc, S::empty(), load.places as usize)?;
+    for _ in 0..load.steps {
+        let draw = random.draw();
+        if let Some(slot) = slots.get_mut(draw.place(load.places) as usize) {
+            take(&mut space, slot, load.bits, draw, random, digest);
+        }
+        if draw.part(2) == 0 && draw.part(3) == 0 {
+            space.add_report(digest);
+        }
+    }
+    Ok(())
+}
+
+// Frames of up to so many ranges, each ended by a reset.
+fn frames<S: Space>(
+    alloc: Global,
+    load: Load,
+    random: &mut Random,
+    digest: &mut Digest,
+) -> Result<(), AllocError> {
+    let mut space = S::make(alloc, load.size, load.max_allocs)?;
+    for _ in 0..FRAMES {
+        for _ in 0..random.draw().below(load.places) {
+            let draw = random.draw();
+            take(&mut space, &mut S::empty(), load.bits, draw, random, digest);
+        }
+        space.add_report(digest);
+        space.clear();
+    }
+    Ok(())
+}
+
+/// An engine's heaps: one with half of `live` live ranges, smaller ones, and one that is reset after each frame. Each
+/// has ample space and nodes.
+pub fn engine(
+    alloc: Global,
+    live: u32,
+    random: &mut Random,
+    digest: &mut Digest,
+) -> Result<(), AllocError> {
+    let large = Load {
+        size: u32::MAX,
+        max_allocs: live.saturating_mul(2).saturating_add(2),
+        places: live,
+        bits: 14,
+        steps: live.saturating_mul(3),
+    };
+    play::<Allocator<u32>>(alloc, large, random, digest)?;
+    let middle = Load {
+        places: live / 16,
+        steps: live,
+        ..large
+    };
+    play::<Allocator<u32>>(alloc, middle, random, digest)?;
+    frames::<Allocator<u32>>(alloc, middle, random, digest)?;
+    let small = Load {
+        places: live / 1_000,
+        ..middle
+    };
+    play::<Allocator<u32>>(alloc, small, random, digest)?;
+    let narrow = Load {
+        max_allocs: 65_533,
+        places: (live / 16).min(30_000),
+        ..middle
+    };
+    play::<Allocator<u16>>(alloc, narrow, random, digest)
+}
+
+/// Heaps near their limits, with handles and with tickets: too few nodes, too few units, and ranges of one size only.
+pub fn tight(
+    alloc: Global,
+    live: u32,
+    random: &mut Random,
+    digest: &mut Digest,
+) -> Result<(), AllocError> {
+    let few_nodes = Load {
+        size: u32::MAX,
+        max_allocs: (live / 3).saturating_add(2),
+        places: live,
+        bits: 14,
+        steps: live.saturating_mul(5),
+    };
+    play::<Allocator<u32>>(alloc, few_nodes, random, digest)?;
+    play::<Guarded<u32>>(alloc, few_nodes, random, digest)?;
+    let few_units = Load {
+        size: live.saturating_mul(400),
+        max_allocs: live.saturating_mul(2).saturating_add(2),
+        ..few_nodes
+    };
+    play::<Allocator<u32>>(alloc, few_units, random, digest)?;
+    play::<Guarded<u32>>(alloc, few_units, random, digest)?;
+    let one_size = Load {
+        size: live.saturating_mul(24),
+        bits: 0,
+        ..few_units
+    };
+    play::<Allocator<u32>>(alloc, one_size, random, digest)?;
+    play::<Guarded<u32>>(alloc, one_size, random, digest)
+}
