@@ -5,6 +5,7 @@ mod answers;
 mod devices;
 mod faults;
 pub mod laws;
+mod line;
 mod lines;
 mod playing;
 mod program;
