@@ -19,7 +19,7 @@ pub use Rattle.std.specs.Int.{bit_at, Width, trailing_zeros, bit_not, IsPowerOfT
 pub use Rattle.std.specs.Int.Count.{count_trailing_zeros, count_leading_zeros, ones_step}
 pub use Rattle.std.specs.List.{AllByRecursion, FoldsTo, filter, prefix_len, range_with_len}
 pub use Rattle.std.specs.Prelude.{vec_len, vec_capacity}
-pub use Rattle.offset_allocator.specs.Bins.{IsBinned, IsUnlisted, IsAmong, first_of, AreMasks, IsFoundFrom, IsLinked, HasBins}
+pub use Rattle.offset_allocator.specs.Bins.{IsBinned, IsUnlisted, IsAmong, first_of, AreMasks, IsFoundFrom, IsLinked, IsTail, HasBins}
 unfoldable pub use Rattle.offset_allocator.specs.Bins.{bins_in, names_from}
 pub use Rattle.offset_allocator.specs.Cells.{Node, Cells, ChainCells, link_of, BinCells, blank, AreShaped, mark_of, AreEmpty, IsBare}
 unfoldable pub use Rattle.offset_allocator.specs.Cells.{node, put, with_spare, with_node}

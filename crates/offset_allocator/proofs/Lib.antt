@@ -36,6 +36,7 @@ pub mod Resizing
 pub mod Rows
 pub mod Served
 pub mod Sound
+pub mod Starts
 pub mod Reading
 pub mod ViewApart
 pub mod ViewFits

@@ -71,6 +71,7 @@ pub record IsSliding {F : Type 0} (R : F → Move → F → Type 0) (m : ℕ) (p
   pub calls : (h : F) → FoldsTo R g (moves (units place.before + place.block.size) (units place.before) place.after) h
       → FoldsTo R f (moves (units p.before + p.block.size) (units p.before) p.after) h
   pub bounded : used + 20 * length place.after ≤ accesses + 20 * length p.after
+  pub least : accesses + 2 * length p.after ≤ used + 2 * length place.after
 
 pub live_used : (b : Block) (bs : List Block) → b.used ≡ true → live (b ∷ bs) ≡ b ∷ live bs
 live_used b bs e = ap (λ (u : Bool). if u then b ∷ live bs else live bs) e
@@ -96,9 +97,9 @@ module _ {F : Type 0} {R : F → Move → F → Type 0} {m : ℕ} {p : Place} {f
   -- a used block passes it
   pub slid_past : (b : Block) (bs : List Block) (t' : Cells) (last' count' hole' : ℕ) (g' : F) (used' : ℕ) → b.used ≡ true → q.after ≡ b ∷ bs
       → HasPlace t'.chain m last' count' hole' (record { before = q.before ++ b ∷ []; block = free_block hole' q.block.size; after = bs })
-      → FoldsTo R g (move_of (units q.before + size) (units q.before) b) g' → used' ≤ used + 20
+      → FoldsTo R g (move_of (units q.before + size) (units q.before) b) g' → used' ≤ used + 20 → used + 2 ≤ used'
       → IsSliding R m p f accesses t' last' count' hole' size g' used'
-  slid_past b bs t' last' count' hole' g' used' live_b e there call more = record {
+  slid_past b bs t' last' count' hole' g' used' live_b e there call more some = record {
     place = record { before = q.before ++ b ∷ []; block = free_block hole' q.block.size; after = bs };
     there = there;
     idle = refl;
@@ -107,6 +108,7 @@ module _ {F : Type 0} {R : F → Move → F → Type 0} {m : ℕ} {p : Place} {f
     free = omega (arith, s.free, ap free_units e, free_units-used b bs live_b);
     calls = grind (arith, common_steps, moves_used, folds_append, from, to);
     bounded = omega (arith, s.bounded, more, ap (λ (l : List Block). length l) e);
+    least = omega (arith, s.least, some, ap (λ (l : List Block). length l) e);
   }
     where
       to : units (q.before ++ b ∷ []) ≡ units q.before + b.size
@@ -118,9 +120,9 @@ module _ {F : Type 0} {R : F → Move → F → Type 0} {m : ℕ} {p : Place} {f
   -- a free block goes into it
   pub slid_into : (b : Block) (bs : List Block) (t' : Cells) (last' count' size' used' : ℕ) → b.used ≡ false → q.after ≡ b ∷ bs → size' ≡ size + b.size
       → HasPlace t'.chain m last' count' hole (record { before = q.before; block = record q.block { size = q.block.size + b.size }; after = bs })
-      → used' ≤ used + 20
+      → used' ≤ used + 20 → used + 2 ≤ used'
       → IsSliding R m p f accesses t' last' count' hole size' g used'
-  slid_into b bs t' last' count' size' used' idle_b e size_is there more = record {
+  slid_into b bs t' last' count' size' used' idle_b e size_is there more some = record {
     place = record { before = q.before; block = record q.block { size = q.block.size + b.size }; after = bs };
     there = there;
     idle = s.idle;
@@ -129,6 +131,7 @@ module _ {F : Type 0} {R : F → Move → F → Type 0} {m : ℕ} {p : Place} {f
     free = omega (arith, s.free, ap free_units e, free_units-free b bs idle_b);
     calls = grind (arith, common_steps, moves_idle, from);
     bounded = omega (arith, s.bounded, more, ap (λ (l : List Block). length l) e);
+    least = omega (arith, s.least, some, ap (λ (l : List Block). length l) e);
   }
     where
       from : units q.before + (q.block.size + b.size) ≡ (units q.before + q.block.size) + b.size
@@ -137,7 +140,7 @@ module _ {F : Type 0} {R : F → Move → F → Type 0} {m : ℕ} {p : Place} {f
   -- it is the last block
   pub slid_end : q.after ≡ [] → HasPlace t.chain m last count hole (record { before = p.before ++ live p.after; block = free_block hole size; after = [] })
       × (size ≡ p.block.size + sum (free_sizes p.after))
-      × FoldsTo R f (moves (units p.before + p.block.size) (units p.before) p.after) g × (used ≤ accesses + 20 * length p.after)
+      × FoldsTo R f (moves (units p.before + p.block.size) (units p.before) p.after) g × (used ≤ accesses + 20 * length p.after) × (accesses + 2 * length p.after ≤ used)
   slid_end e = grind (arith, append-nil, free_sum)
 
 pub at_end : {c : ChainCells} {m last count x : ℕ} {p : Place} → HasPlace c m last count x p → None ≡ (node c x).after → p.after ≡ []

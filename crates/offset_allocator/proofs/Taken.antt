@@ -17,7 +17,7 @@ hit_parts true c d r l = grind (arith, hit_cases)
 hit_parts false c d r l = grind arith
 
 -- the block of a name that is listed is free, and of that class
-listed_block : (c x : ℕ) (before : List Block) (b : Block) (after : List Block) → x ≡ b.name → count_named x (before ++ b ∷ after) ≤ 1 → 1 ≤ count_in_bin c x (before ++ b ∷ after)
+pub listed_block : (c x : ℕ) (before : List Block) (b : Block) (after : List Block) → x ≡ b.name → count_named x (before ++ b ∷ after) ≤ 1 → 1 ≤ count_in_bin c x (before ++ b ∷ after)
     → (not b.used ≡ true) × (c ≡ down b.size)
 listed_block c x before b after e most l = grind (arith, hit_parts, hit_cases, listed_named, tally_append)
 

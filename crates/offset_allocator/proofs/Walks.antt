@@ -1,6 +1,6 @@
 -- Names linked back and forth: what a change of the links leaves of them.
 use Rattle.offset_allocator.proofs.Common.{◌≡◌, ◌≢◌, ◌<◌, ◌≤◌, ◌+◌, ◌⊎◌, ℕ, zero, suc, List, [], ◌∷◌, ◌++◌, refl, sym, ap, ◌∙◌, inl, inr, arith, length, drop, nat_eq, slice_index, slice_set, eq-eqb}
-use Rattle.offset_allocator.proofs.Common.{ne_eqb, length-set, get_or-set_same, get_or-set_other, cases_eq, BinCells, one, times, IsLinked, IsAmong, first_of, names_from, common_steps}
+use Rattle.offset_allocator.proofs.Common.{ne_eqb, length-set, get_or-set_same, get_or-set_other, cases_eq, BinCells, one, times, IsLinked, IsAmong, IsTail, first_of, names_from, common_steps}
 use Rattle.offset_allocator.proofs.Tallies.{hit_cases, one-same, times-join}
 use Rattle.offset_allocator.proofs.Tallies.{without}
 
@@ -162,14 +162,6 @@ module _ (none : ℕ) (t t' : BinCells) (w x : ℕ) (cs : List ℕ) (small : len
         older_kept f (λ e. let q = ap (λ i. times i (w ∷ [])) e in omega (arith, one-same w)) ∙ c.2 ∙ first_same none w x cs fs,
         unlinked f fs (λ y. omega (arith, o y)) c.3,
       )
-
--- names from one on: n names of the list are before it, and `total` are all
-pub record IsTail (none : ℕ) (t : BinCells) (name n total : ℕ) : Type 0 where
-  pub before : ℕ
-  pub names : List ℕ
-  pub chain : IsLinked none t before names
-  pub is : name ≡ first_of none names
-  pub counted : n + length names ≡ total
 
 pub tail_next : {none : ℕ} {t : BinCells} {name n total : ℕ} → IsTail none t name n total → name ≢ none → (name < length t.newer) × (n < total)
     × IsTail none t (slice_index t.older name) (n + 1) total

@@ -27,6 +27,14 @@ abbrev pub IsLinked : ℕ → BinCells → ℕ → List ℕ → Type 0
 IsLinked none t b [] = Unit {0}
 IsLinked none t b (x ∷ xs) = (x < length t.newer) × (slice_index t.newer x ≡ b) × (slice_index t.older x ≡ first_of none xs) × IsLinked none t x xs
 
+-- a walk along a bin of total names has met n, and comes to this name next, or to the number that is no name
+pub record IsTail (none : ℕ) (t : BinCells) (name n total : ℕ) : Type 0 where
+  pub before : ℕ
+  pub names : List ℕ
+  pub chain : IsLinked none t before names
+  pub is : name ≡ first_of none names
+  pub counted : n + length names ≡ total
+
 -- bit c of the masks says whether the bin of class c has a name, and bit w of the top mask whether mask w has a bit
 pub record AreMasks (ls : List (List ℕ)) (masks : List ℕ) (top : ℕ) : Type 0 where
   pub masks_len : length masks ≡ 4

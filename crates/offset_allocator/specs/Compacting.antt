@@ -2,6 +2,7 @@
 use Rattle.std.specs.Prelude.{◌≡◌, ℕ, ◌+◌, ◌<◌, ◌≤◌, List, [], ◌∷◌, ◌++◌, Option, Some, None, option_map, sum, replicate, nat_eq, if◌then◌else◌}
 use Rattle.std.specs.List.{AllByRecursion, filter}
 use Rattle.offset_allocator.specs.declared.compact.Move.{Move as Moved}
+use Rattle.offset_allocator.specs.Chain.{last_or}
 use Rattle.offset_allocator.specs.View.{View, Block, count_named, free_sizes, free_block, push_all}
 use Rattle.offset_allocator.specs.Ranges.{Range, range_of}
 use Rattle.offset_allocator.specs.Relations.{SameSpace}
@@ -40,6 +41,16 @@ KeepsSizes v w = (x : ℕ) → option_map (λ (r : Range). r.size) (range_of x w
 abbrev pub first_free : List Block → Option ℕ
 first_free [] = None
 first_free (b ∷ bs) = if b.used then first_free bs else Some b.name
+
+-- how many blocks there are up to the first free one, or in all
+abbrev pub until_free : List Block → ℕ
+until_free [] = 0
+until_free (b ∷ bs) = if b.used then 1 + until_free bs else 1
+
+-- the blocks up to the one named x have the first free block among them, or are all
+abbrev pub IsStart : List Block → ℕ → Type 0
+IsStart bs x = (front : List Block) × (rest : List Block) × (bs ≡ front ++ rest) × (last_or None front ≡ Some x)
+    × (first_free front ≡ None → rest ≡ [])
 
 -- one free block of all these sizes, or nothing where there are none
 abbrev pub gathered : ℕ → List ℕ → List Block

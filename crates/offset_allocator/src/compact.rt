@@ -5,9 +5,11 @@ ghost use Rattle.std.specs.List.{FoldsTo};
 ghost use Rattle.offset_allocator.specs.Accesses.{Costs};
 ghost use Rattle.offset_allocator.specs.Cells.{node};
 ghost use Rattle.offset_allocator.specs.View.{Place, Block, free_block, free_sizes, units};
+ghost use Rattle.offset_allocator.specs.Bins.{IsBinned, bins_in};
 ghost use Rattle.offset_allocator.specs.Chain.{IsSpace, HasPlace, blocks};
 ghost use Rattle.offset_allocator.specs.Compacting.{live, moves, move_of, Compacts, KeepsSizes, IsCalledWith};
-ghost use Rattle.offset_allocator.specs.Compacting.{first_free};
+ghost use Rattle.offset_allocator.specs.Compacting.{IsStart, first_free, until_free};
+ghost use Rattle.offset_allocator.specs.Soundness.{AreInBins};
 ghost use Rattle.offset_allocator.specs.Store.{IsPlaceIn, SameBins};
 
 use crate::accesses::Accesses;
@@ -42,14 +44,50 @@ impl<NI: NodeIndex, N: NodeIndexNonMax> Move<NI, N> {
     }
 }
 
-// The name of the first free block, if there is one. It is found from the end on, since only the last block is known.
-fn first_free<T: Tables>(tables: &T, last: u32, count: &mut Accesses) -> Option<u32>
+// The most bins that are looked into for a free block near the start of the space.
+const BINS: u32 = 32;
+
+// A block to begin the search for the first free one at, which is this one or before it: of the newest blocks of the
+// first bins the one that begins first, or the last block of the space where none is free.
+fn search_start<T: Tables>(tables: &T, top_mask: u32, last: u32, count: &mut Accesses) -> u32
     requires space { (spare : ℕ) × IsSpace (T.cells tables.now).chain last spare }
+    requires binned { IsBinned T.Index.MAX (T.cells tables.now).bins top_mask }
+    requires filed { AreInBins (blocks (T.cells tables.now).chain last) (bins_in T.Index.MAX (T.cells tables.now).bins) }
+    ensures start { IsStart (blocks (T.cells tables.now).chain last) result }
+    ensures accesses { Costs 0 128 count.old count.new }
+{
+    let mut start = last;
+    let mut lowest = u32::MAX;
+    let mut class = 0;
+    for _ in 0..BINS {
+        if class > 255 {
+            return start;
+        }
+        let Some(found) = bins::find_at_or_above(tables, top_mask, class, count) else {
+            return start;
+        };
+        let name = tables.head(found, count);
+        let offset = tables.offset(name, count);
+        if offset < lowest {
+            lowest = offset;
+            start = name;
+        }
+        class = found + 1;
+    }
+    start
+}
+
+// The name of the first free block, if there is one. It is found by a walk back from `start`, since the first block of
+// the space is not known.
+fn first_free<T: Tables>(tables: &T, last: u32, start: u32, count: &mut Accesses) -> Option<u32>
+    requires space { (spare : ℕ) × IsSpace (T.cells tables.now).chain last spare }
+    requires start { IsStart (blocks (T.cells tables.now).chain last) start }
     ensures first { result ≡ first_free (blocks (T.cells tables.now).chain last) }
-    ensures accesses { count.new ≡ count.old + 2 * length (blocks (T.cells tables.now).chain last) }
+    ensures accesses { Costs (2 * until_free (blocks (T.cells tables.now).chain last))
+        (2 * length (blocks (T.cells tables.now).chain last)) count.old count.new }
 {
     let mut first = None;
-    let mut at = Some(last);
+    let mut at = Some(start);
     while let Some(name) = at {
         if !chain::is_used(tables, name, count) {
             first = Some(name);
@@ -140,7 +178,8 @@ fn slide<T: Tables, F: FnMut(Move<T::Index>)>(
         (moves (units p.before + p.block.size) (units p.before) p.after) moved.new
         × (store.new.accesses ≤ store.old.accesses + 20 * length p.after + 1) }
     ensures bins { SameBins T.cells store.old store.new }
-    ensures accesses_min { store.old.accesses + 1 ≤ store.new.accesses }
+    ensures accesses_min { (m : ℕ) (p : Place) → IsPlaceIn T.cells store.old m hole.name p → p.block.used ≡ false
+        → store.old.accesses + 2 * length p.after + 1 ≤ store.new.accesses }
 {
     store.tables.shape();
     while let Some(next) = chain::after(&store.tables, hole.name, &mut store.accesses) {
@@ -182,9 +221,16 @@ impl<T: Tables> AllocatorOf<T> {
         // The step as a whole: the live blocks, and after them one free block of all free units, alone in its bin.
         ensures step { Compacts self.old self.new }
     {
+        let start = search_start(
+            &self.store.tables,
+            self.store.top_mask,
+            self.store.last,
+            &mut self.store.accesses,
+        );
         let Some(first) = first_free(
             &self.store.tables,
             self.store.last,
+            start,
             &mut self.store.accesses,
         ) else {
             return;

@@ -1,7 +1,9 @@
 //! What is reported: the types of reports, and the read-only calls with a count of their accesses to table cells. The
 //! plain calls are these with a count of their own, and `laws` exports them.
-ghost use Rattle.std.specs.Prelude.{◌≡◌, ◌<◌, ◌≤◌, ◌+◌, ◌*◌, ◌↔◌, IsTrue, IfSome, None, length, option_map, replicate};
+ghost use Rattle.std.specs.Prelude.{◌≡◌, ◌<◌, ◌≤◌, ◌+◌, ◌*◌, ◌%◌, ◌^◌, ◌↔◌, IsTrue, IfSome, None};
+ghost use Rattle.std.specs.Prelude.{length, option_map, replicate, slice_set};
 ghost use Rattle.offset_allocator.specs.Accesses.{Costs};
+ghost use Rattle.offset_allocator.specs.Classes.{value};
 ghost use Rattle.offset_allocator.specs.View.{free_sizes, largest_free};
 ghost use Rattle.offset_allocator.specs.Ranges.{Range, range_of, size_of, IsLive};
 ghost use Rattle.offset_allocator.specs.Relations.{IsAlignment};
@@ -9,6 +11,7 @@ ghost use Rattle.offset_allocator.specs.Requests.{IsReport, IsFullReport, CanGra
 
 use crate::accesses::Accesses;
 use crate::handle::Allocation;
+use crate::lengths::lengths_of;
 use crate::small_float::{float_to_uint, uint_to_float_round_down, uint_to_float_round_up};
 use crate::tables::Tables;
 use crate::{AllocatorOf, bins};
@@ -173,6 +176,19 @@ pub fn storage_report_counted<T: Tables>(
     }
 }
 
+// Writes how many free blocks are of a class.
+fn put_region(report: &mut StorageReportFull, class: u32, count: u32)
+    requires classed { class < 256 }
+    requires wide { length report.old.free_regions ≡ 256 }
+    ensures { report.new.free_regions ≡ slice_set report.old.free_regions class
+        (record { size = value class % 2 ^ 32; count = count }) }
+{
+    report.free_regions[class as usize] = StorageReportFullRegion {
+        size: float_to_uint(class),
+        count,
+    };
+}
+
 /// As `Allocator::storage_report_full`. The count grows by at most 512, and 2 for each free block.
 pub fn storage_report_full_counted<T: Tables>(
     allocator: &AllocatorOf<T>,
@@ -182,11 +198,13 @@ pub fn storage_report_full_counted<T: Tables>(
     ensures accesses { Costs 256 (512 + 2 * length (free_sizes allocator.now.blocks)) count.old count.new }
 {
     let mut report = StorageReportFull::default();
-    for class in 0..256u32 {
-        report.free_regions[class as usize] = StorageReportFullRegion {
-            size: float_to_uint(class),
-            count: bins::length_of(&allocator.store.tables, class, count),
-        };
+    for quarter in 0..64u32 {
+        let class = 4 * quarter;
+        let counts = lengths_of(&allocator.store.tables, class, count);
+        put_region(&mut report, class, counts[0]);
+        put_region(&mut report, class + 1, counts[1]);
+        put_region(&mut report, class + 2, counts[2]);
+        put_region(&mut report, class + 3, counts[3]);
     }
     report
 }

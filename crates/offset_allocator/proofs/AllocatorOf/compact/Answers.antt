@@ -1,8 +1,9 @@
-use Rattle.offset_allocator.proofs.Common.{◌≡◌, ℕ, ◌+◌, [], refl, sym, ap, subst, ◌∙◌, arith, replicate, Place, View, units, free_sizes, BinCells, Node, bins_in, blocks, live, moves, KeepsSizes}
+use Rattle.offset_allocator.proofs.Common.{◌≡◌, ℕ, ◌+◌, ◌*◌, ◌≤◌, List, Block, length, length-append, ◌∷◌, [], refl, sym, ap, subst, ◌∙◌, arith, replicate, Place, View, units, free_sizes, BinCells, Node, bins_in, blocks, live, moves, KeepsSizes}
 use Rattle.offset_allocator.proofs.Common.{Compacts, common_steps}
 use Rattle.offset_allocator.proofs.Sound.{AreSound, Fields, shown, fields_of, known_sound}
 use Rattle.offset_allocator.proofs.Compacting.{IsFirst, first_is, packed, compacts_live, first_held, packs, stays_packed}
-use Rattle.offset_allocator.proofs.{Packed.compacts_sizes, Places.at_place, Places.kept_place, Classes.down_small, Fresh.empty_unlisted}
+use Rattle.offset_allocator.proofs.{Starts.until_first, Starts.until_none, Packed.compacts_sizes, Places.at_place, Places.kept_place, Classes.down_small, Fresh.empty_unlisted}
+use Rattle.offset_allocator.specs.Compacting.{until_free}
 use Rattle.offset_allocator.proofs.AllocatorOf.compact.Goals as goal
 use Rattle.offset_allocator.proofs.AllocatorOf.compact.{Goals.After-slide-hole, Goals.After-push, Given.Over}
 
@@ -92,13 +93,35 @@ returns-clause-moved g c =
     let same : moves 0 0 c.args.self.now.blocks ≡ moves (units p.before + p.block.size) (units p.before) p.after = grind (arith, common_steps) in
     rw same e.2
 
-pub returns-clause-accesses : goal.returns-clause-accesses
-returns-clause-accesses g c =
+-- the accesses, where a block is free
+counted : (g : Over) (c : After-push g) → (c.args.self.now.accesses + 2 * length c.args.self.now.blocks + 267 ≤ c.push.new.store.accesses)
+    × (c.push.new.store.accesses ≤ c.args.self.now.accesses + (24 * length c.args.self.now.blocks + 512))
+counted g c =
     let f : Fields = fields_of g.T.Tables.cells g.T.Index.NodeIndex.MAX c.self.inside in
     let o : IsFirst (blocks (g.T.Tables.cells c.self.inside.store.tables).chain c.self.inside.store.last) c.in-Some.first = first_is _ _ (sym c.first_free.ensures.first ∙ c.in-Some.is) in
     let p : Place = o.place in
     let e = c.slide-hole.ensures.place _ _ (kept_place c.empty.ensures.chain (first_held f c.self.invariant o refl)) o.idle in
-    grind (arith, common_steps)
+    let least = c.slide-hole.ensures.accesses_min _ _ (kept_place c.empty.ensures.chain (first_held f c.self.invariant o refl)) o.idle in
+    let n = ap (λ (l : List Block). length l) o.is ∙ length-append p.before (p.block ∷ p.after) in
+    let until = ap until_free o.is ∙ until_first p.before p.after p.block o.used o.idle in
+    let all = ap (λ (u : View). length u.blocks) c.self.view_is in
+    let old = ap (λ (u : View). u.accesses) c.self.view_is in (
+      omega (arith, n, until, all, old, least, c.search_start-start.ensures.accesses, c.first_free.ensures.accesses, c.size-size.ensures.accesses, c.empty.ensures.accesses, c.push.ensures.accesses),
+      omega (arith, n, all, old, e.3, c.search_start-start.ensures.accesses, c.first_free.ensures.accesses, c.size-size.ensures.accesses, c.empty.ensures.accesses, c.push.ensures.accesses),
+    )
+
+pub returns-clause-accesses : goal.returns-clause-accesses
+returns-clause-accesses g c = let k = counted g (goal.at.returns-clause-accesses g c).After-push in (omega (arith, k.0), k.1)
+
+pub returns-clause-accesses_some : goal.returns-clause-accesses_some
+returns-clause-accesses_some g c some = (counted g (goal.at.returns-clause-accesses_some g c).After-push).0
+
+pub returns-in_default-clause-accesses : goal.returns-in_default-clause-accesses
+returns-in_default-clause-accesses g c =
+    let until = until_none (blocks (g.T.Tables.cells c.self.inside.store.tables).chain c.self.inside.store.last) (sym c.first_free.ensures.first ∙ c.in_default.is) in
+    let all = ap (λ (u : View). length u.blocks) c.self.view_is in
+    let old = ap (λ (u : View). u.accesses) c.self.view_is in
+    (omega (arith, until, all, old, c.search_start-start.ensures.accesses, c.first_free.ensures.accesses), omega (arith, all, old, c.search_start-start.ensures.accesses, c.first_free.ensures.accesses))
 
 pub returns-clause-step : goal.returns-clause-step
 returns-clause-step g c =

@@ -21,6 +21,7 @@ loop-next-init g c = record {
     free = refl;
     calls = λ h k. k;
     bounded = omega arith;
+    least = omega arith;
   };
 }
 
@@ -69,7 +70,8 @@ loop-next-preserved-then-is_used g c = record {
       slid_past s n.block n.rest _ _ _ _ _ _ used n.is (c.pass.ensures.place _ _ _ _ s.there s.idle n.is)
       (subst (λ (l : List Move). FoldsTo (IsCalledWith g.T.Index.NonMax.NodeIndexNonMax.number (λ f range h. goal.F-step g f range tt h)) c.loop-next.moved l c.report.new.moved)
       (same_move c.offset-to.result (units s.place.before) c.loop-next.hole.size c.in-Some.next c.size-more.result n.block to (sym n.place.name) size) (c.report.ensures.called n.block.used))
-      (omega (arith, c.after.ensures.accesses, c.size-more.ensures.accesses, c.is_used.ensures.accesses, c.offset-to.ensures.accesses, c.pass.ensures.accesses.1));
+      (omega (arith, c.after.ensures.accesses, c.size-more.ensures.accesses, c.is_used.ensures.accesses, c.offset-to.ensures.accesses, c.pass.ensures.accesses.1))
+      (omega (arith, c.after.ensures.accesses, c.size-more.ensures.accesses, c.is_used.ensures.accesses, c.offset-to.ensures.accesses, c.pass.ensures.accesses.0));
 }
 
 pub coalesce_after-requires-clause-place : goal.coalesce_after-requires-clause-place
@@ -104,7 +106,8 @@ loop-next-preserved g c = record {
       let free : n.block.used ≡ false = sym (ap (λ (v : Node). v.used) (at_place n.place)) ∙ sym c.is_used.ensures.cell ∙ c.if-is_used.false in
       let size : c.size-more.result ≡ n.block.size = c.size-more.ensures.cell ∙ ap (λ (v : Node). v.size) (at_place n.place) in
       slid_into s n.block n.rest _ _ _ _ _ free n.is (omega (arith, size)) (absorbed s.place n.block n.rest free n.is (c.coalesce_after.ensures.place _ _ s.there))
-      (omega (arith, c.after.ensures.accesses, c.size-more.ensures.accesses, c.is_used.ensures.accesses, c.coalesce_after.ensures.accesses.1));
+      (omega (arith, c.after.ensures.accesses, c.size-more.ensures.accesses, c.is_used.ensures.accesses, c.coalesce_after.ensures.accesses.1))
+      (omega (arith, c.after.ensures.accesses, c.size-more.ensures.accesses, c.is_used.ensures.accesses, c.coalesce_after.ensures.accesses.0));
 }
 
 pub returns-clause-place : goal.returns-clause-place
@@ -112,3 +115,8 @@ returns-clause-place g c m p h idle =
     let s = c.loop-next.invariant.at m p h idle in
     let e = slid_end s (at_end s.there (sym c.in_default.is ∙ c.after.ensures.after)) in
     (e.0, e.1, e.2, omega (arith, e.3, c.after.ensures.accesses))
+
+pub returns-clause-accesses_min : goal.returns-clause-accesses_min
+returns-clause-accesses_min g c m p h idle =
+    let s = c.loop-next.invariant.at m p h idle in
+    omega (arith, (slid_end s (at_end s.there (sym c.in_default.is ∙ c.after.ensures.after))).4, c.after.ensures.accesses)
