@@ -1,3 +1,4 @@
+mod Kept
 mod Numbering
 pub mod Alike
 pub mod Along

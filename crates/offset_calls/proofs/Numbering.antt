@@ -1,7 +1,7 @@
 -- The moves of a compaction, and the numbers of the ranges that move.
-use Rattle.offset_calls.proofs.Common.{◌≡◌, ℕ, zero, suc, ◌+◌, ◌-◌, ◌<◌, ◌≤◌, Bool, true, false, List, [], ◌∷◌, ◌++◌, map, drop, length, reverse, slice_index_or, Option, Some, None, option_map}
-use Rattle.offset_calls.proofs.Common.{unwrap_or, if◌then◌else◌, refl, sym, ap, ap₂, subst, subst₂, ◌∙◌, inl, inr, arith, append_assoc, append-nil, length-append, eq-eqb, ne_eqb, cases_eq, cases_lt}
-use Rattle.offset_calls.proofs.Common.{false≢true, map-append, length-map, reverse-append, get_or_past, AllByRecursion, FoldsTo, Block, Grant, View, Range, live, Placed, placed, listing, kept_name}
+use Rattle.offset_calls.proofs.Common.{◌≡◌, ℕ, suc, ◌+◌, ◌-◌, ◌<◌, ◌≤◌, Bool, true, false, List, [], ◌∷◌, ◌++◌, map, drop, length, reverse, Option, Some, None, option_map}
+use Rattle.offset_calls.proofs.Common.{unwrap_or, if◌then◌else◌, refl, sym, ap, ap₂, subst, subst₂, ◌∙◌, inl, inr, arith, append_assoc, append-nil, length-append, eq-eqb, ne_eqb, cases_eq}
+use Rattle.offset_calls.proofs.Common.{false≢true, map-append, length-map, reverse-append, AllByRecursion, FoldsTo, Block, Grant, View, Range, live, Placed, placed, listing, kept_name}
 use Rattle.offset_calls.proofs.Common.{AreKept, AreMoves, AreNumbered, joined}
 use Rattle.std.proofs.{Math.Seq.drop-append_seam, lemmas.List.drop-map}
 use Rattle.offset_allocator.specs.{Ranges.IsLive, Ranges.range_of, Compacting.Move, Compacting.moves}
@@ -189,12 +189,6 @@ collected R (x ∷ xs) p q f see place is_refused found each =
           )),
       rest.1 ∙ one.1,
     )
-
--- a number that is not among the first ones
-pub not_found : (handles : List (Option Grant)) (x : ℕ) → ((i : ℕ) → i < length handles → option_map (λ (h : Grant). h.name) (slice_index_or handles i None) ≡ Some x → ⊥) → (k : ℕ)
-    → kept_name handles k ≡ Some x → ⊥
-not_found handles x none zero e = cc
-not_found handles x none (suc k) e = search (arith, cases_lt, length, option_map, get_or_past)
 
 -- where a live name begins
 pub offset_is : (x o : ℕ) (v : View) (r : Option ℕ) → IsLive x v → r ≡ option_map (λ (q : Range). q.offset) (range_of x v) → o ≡ unwrap_or r 0

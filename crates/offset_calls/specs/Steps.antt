@@ -1,5 +1,5 @@
 -- The named step of each call.
-use Rattle.std.specs.Prelude.{◌≡◌, ◌↔◌, ℕ, Bool, true, List, [], ◌∷◌, Option, Some, None, IfSome, option_map, if◌then◌else◌}
+use Rattle.std.specs.Prelude.{◌≡◌, ◌↔◌, ℕ, Bool, true, List, [], ◌∷◌, Option, Some, None, IfSome, option_map, slice_index, if◌then◌else◌}
 use Rattle.std.specs.List.{AllByRecursion}
 use Rattle.offset_allocator.specs.declared.reports.Refusal.{Refusal}
 use Rattle.offset_allocator.specs.View.{View, Block, Grant}
@@ -64,3 +64,7 @@ Takes (call.RefusalAligned n align) v handles w left r = Stays v handles w left
 abbrev pub AreKept : View → List (Option Grant) → Type 0
 AreKept v handles =
     AllByRecursion (λ (b : Block). b.used ≡ true → (k : ℕ) × (kept_name handles k ≡ Some b.name)) v.blocks
+
+-- at the name of each handle that is kept is the number of its grant
+abbrev pub AreNumbers : List (Option Grant) → List ℕ → Type 0
+AreNumbers handles numbers = (k x : ℕ) → kept_name handles k ≡ Some x → slice_index numbers x ≡ k

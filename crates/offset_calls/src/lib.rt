@@ -9,6 +9,7 @@ mod calls;
 mod desk;
 mod guarded;
 pub mod laws;
+mod numbers;
 mod playing;
 
 pub use calls::{Call, Moved, Reply, are_valid};

@@ -1,6 +1,6 @@
 //! Plays calls on an allocator.
 
-ghost use Rattle.std.specs.Prelude.{◌≡◌, ◌+◌, ◌-◌, ◌<◌, ◌≤◌, ◌++◌, ◌∷◌, [], All, IfOk, IsTrue, ℕ, Some, drop, false};
+ghost use Rattle.std.specs.Prelude.{◌≡◌, ◌+◌, ◌-◌, ◌<◌, ◌≤◌, ◌++◌, ◌∷◌, [], All, IfOk, IsTrue, Some, drop, false};
 ghost use Rattle.std.specs.Prelude.{if◌then◌else◌, length, map};
 ghost use Rattle.offset_allocator.specs.Compacting.{Compacts, live, moves};
 ghost use Rattle.offset_script.specs.Steps.{kept_name, AreLive};
@@ -8,11 +8,12 @@ ghost use Rattle.offset_script.specs.Machine as machine;
 ghost use Rattle.offset_calls.specs.Calls.{is_valid, move_view, reply_view};
 ghost use Rattle.offset_calls.specs.Calls as plain;
 ghost use Rattle.offset_calls.specs.Playing.{AreReplies};
-ghost use Rattle.offset_calls.specs.Steps.{AreKept, AreMoves, Takes, joined};
+ghost use Rattle.offset_calls.specs.Steps.{AreKept, AreMoves, AreNumbers, Takes, joined};
 
 use crate::calls::{Call, Moved, Reply};
+use crate::numbers::Numbers;
 use offset_allocator::laws::is_well_formed;
-use offset_allocator::{Allocation, AllocatorOf, ByNode, Move, NodeIndex, Tables};
+use offset_allocator::{AllocatorOf, ByNode, Move, NodeIndex, Tables};
 use offset_script::{Answer, PlayerOf};
 use std::alloc::{AllocError, Global};
 
@@ -51,38 +52,25 @@ fn grow<T: Tables>(player: &mut PlayerOf<T>, number: u32, size: u32) -> Reply
     }
 }
 
-// The number of the grant whose handle has the name of this one, or 0.
-fn number_of<NI: NodeIndex>(handles: &[Option<Allocation<NI>>], handle: Allocation<NI>) -> u64
-    ensures { (k : ℕ) → kept_name handles.now k ≡ Some handle.name
-        → kept_name handles.now result ≡ Some handle.name }
-{
-    for i in 0..handles.len() {
-        if let Some(kept) = handles[i] {
-            // handles with one offset are equal where their names are
-            let mut same = kept;
-            same.offset = handle.offset;
-            if same == handle {
-                return i as u64 + 1;
-            }
-        }
-    }
-    0
-}
-
 // The numbers of the live ranges, in space order.
-fn numbers_of_live<T: Tables>(alloc: Global, player: &PlayerOf<T>) -> Result<Vec<u64>, AllocError>
-    requires { AreKept player.now.space player.now.handles.items }
+fn numbers_of_live<T: Tables>(
+    alloc: Global,
+    player: &PlayerOf<T>,
+    numbers: &Numbers,
+) -> Result<Vec<u64>, AllocError>
+    requires kept { AreKept player.now.space player.now.handles.items }
+    requires numbers { AreNumbers player.now.handles.items numbers.now.by_name.items }
     ensures { IfOk result (λ ks. map (kept_name player.now.handles.items) ks.items
         ≡ map (λ b. Some b.name) (live player.now.space.blocks)) }
 {
-    let mut numbers = Vec::new(alloc);
+    let mut found = Vec::new(alloc);
     for block in player.space.blocks() {
         if let Some(handle) = block.allocation {
-            numbers.push(number_of(&player.handles, handle))?;
+            found.push(numbers.of(handle.to_parts().1))?;
         }
     }
-    numbers.reverse();
-    Ok(numbers)
+    found.reverse();
+    Ok(found)
 }
 
 // The moves of a compaction so far, without numbers, unless memory for one was refused.
@@ -150,12 +138,17 @@ pub(crate) fn numbered(
 }
 
 // The reply to `Compact`. All ranges after the first one that moves are moved too.
-fn compact<T: Tables>(alloc: Global, player: &mut PlayerOf<T>) -> Result<Reply, AllocError>
-    requires { AreKept player.old.space player.old.handles.items }
+fn compact<T: Tables>(
+    alloc: Global,
+    player: &mut PlayerOf<T>,
+    numbers: &Numbers,
+) -> Result<Reply, AllocError>
+    requires kept { AreKept player.old.space player.old.handles.items }
+    requires numbers { AreNumbers player.old.handles.items numbers.now.by_name.items }
     ensures { IfOk result (λ r. Takes Call.Compact player.old.space player.old.handles.items
         player.new.space player.new.handles.items (reply_view r)) }
 {
-    let numbers = numbers_of_live(alloc, player)?;
+    let numbers = numbers_of_live(alloc, player, numbers)?;
     let mut moves = Moves {
         found: Vec::new(alloc),
         is_refused: false,
@@ -184,10 +177,12 @@ fn offset<T: Tables>(player: &PlayerOf<T>, number: u32) -> Reply
 fn reply<T: Tables>(
     alloc: Global,
     player: &mut PlayerOf<T>,
+    numbers: &Numbers,
     call: Call,
 ) -> Result<Reply, AllocError>
     requires live { AreLive player.old.space player.old.handles.items }
     requires kept { AreKept player.old.space player.old.handles.items }
+    requires numbers { AreNumbers player.old.handles.items numbers.now.by_name.items }
     requires valid { IsTrue (is_valid call) }
     ensures { IfOk result (λ r. Takes call player.old.space player.old.handles.items
         player.new.space player.new.handles.items (reply_view r)) }
@@ -196,7 +191,7 @@ fn reply<T: Tables>(
         Call::Command(command) => Ok(Reply::Answer(player.call(alloc, command)?)),
         Call::Shrink(number, size) => Ok(shrink(player, number, size)),
         Call::Grow(number, size) => Ok(grow(player, number, size)),
-        Call::Compact => compact(alloc, player),
+        Call::Compact => compact(alloc, player, numbers),
         Call::Offset(number) => Ok(offset(player, number)),
         Call::Refusal(size) => Ok(Reply::Refusal(player.space.refusal(size))),
         Call::RefusalAligned(size, align) => Ok(Reply::Refusal(
@@ -208,9 +203,10 @@ fn reply<T: Tables>(
 /// Plays calls on an allocator of `size` units with the node limit `max_allocs`, and returns the replies in order, one
 /// for each.
 ///
-/// The limit has to be 2 to `T::Index::MAX - 2`, and each alignment a power of two. All replies are kept in memory. It
-/// fails only where an allocation fails. A compaction looks for the number of each live range among all grants so far;
-/// every other call costs what it costs in the allocator.
+/// The limit has to be 2 to `T::Index::MAX - 2`, and each alignment a power of two. All replies are kept in memory, and
+/// so is the number of each name's newest grant, which takes 8 bytes for each node that was made. It fails only where an
+/// allocation fails. Each call costs what it costs in the allocator; a grant also writes its number, and a compaction
+/// reads that of each live range.
 pub fn play_calls_of<T: Tables>(
     alloc: Global,
     size: u32,
@@ -230,10 +226,13 @@ pub fn play_calls_of<T: Tables>(
     let mut player: PlayerOf<T> = PlayerOf::start(alloc, size, max_allocs)?;
     // A step of the proof, which does nothing, here and below.
     is_well_formed(&player.space);
+    let mut numbers = Numbers::new(alloc);
     let mut found = Vec::new(alloc);
     for call in calls {
-        let reply = reply(alloc, &mut player, *call)?;
+        let grants = player.handles.len();
+        let reply = reply(alloc, &mut player, &numbers, *call)?;
         is_well_formed(&player.space);
+        numbers.keep(&player.handles, grants)?;
         found.push(reply)?;
     }
     Ok(found)

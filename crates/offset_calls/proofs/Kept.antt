@@ -1,0 +1,109 @@
+-- The numbers of grants by their names, from one call to the next.
+use Rattle.offset_calls.proofs.Common.{◌≡◌, ℕ, zero, suc, ◌+◌, ◌-◌, ◌≤◌, ◌⊎◌, List, [], ◌∷◌, ◌++◌, length, Option, Some, None, nat_eq, if◌then◌else◌, sym, ap, subst, ◌∙◌, inl, inr, arith}
+use Rattle.offset_calls.proofs.Common.{slice_set, option_map, eq-eqb, ne_eqb, cases_eq, cases_lt, length-append, Grant, View, IsWellFormed, kept_name, IfNamed, IsKept, Call, Reply, Takes}
+use Rattle.offset_calls.proofs.Common.{Command}
+use Rattle.std.specs.List.{slice_index}
+use Rattle.std.proofs.lemmas.List.{get_or-set_other, get_or-set_same, set_past, length-set}
+use Rattle.offset_allocator.specs.{Relations.Splits, Relations.Allocates, Relations.Aligns}
+use Rattle.offset_allocator.proofs.Ranges.{split_grants}
+use Rattle.offset_script.specs.Steps.{AreLive}
+use Rattle.offset_script.proofs.Simulation.{kept_push}
+use Rattle.offset_calls.specs.Steps.{AreNumbers}
+use Rattle.offset_script.specs.declared.scripts.Command.TheVariants as command
+use Rattle.offset_calls.specs.declared.calls.Call.TheVariants as call
+use Rattle.offset_script.specs.Machine as machine
+use Rattle.offset_script.specs.Steps as script
+
+-- a number that is looked up by its name is that of a grant with this name
+pub number_kept : (handles : List (Option Grant)) (numbers : List ℕ) (k n x y : ℕ) → AreNumbers handles numbers → kept_name handles k ≡ Some x → n ≡ slice_index numbers y → y ≡ x
+    → kept_name handles n ≡ Some x
+number_kept handles numbers k n x y a h e f = subst (λ j. kept_name handles j ≡ Some x) (sym (e ∙ ap (slice_index numbers) f ∙ a k x h)) h
+
+-- a call makes no grant, and no name becomes kept; or it makes one, whose name was not kept
+abbrev pub IsNext : List (Option Grant) → List (Option Grant) → Type 0
+IsNext hs left = ((length left ≤ length hs) × ((k x : ℕ) → kept_name left k ≡ Some x → kept_name hs k ≡ Some x))
+    ⊎ ((h : Grant) × (left ≡ hs ++ Some h ∷ []) × ((k : ℕ) → kept_name hs k ≡ Some h.name → ⊥))
+
+next_same : (hs left : List (Option Grant)) → left ≡ hs → IsNext hs left
+next_same hs left e = inl (omega (arith, ap length e), λ k x h. sym (ap (λ l. kept_name l k) e) ∙ h)
+
+-- a handle is removed
+kept_before : (hs : List (Option Grant)) (i k x : ℕ) → kept_name (slice_set hs i None) k ≡ Some x → kept_name hs k ≡ Some x
+kept_before hs i zero x e = e
+kept_before hs i (suc k) x e = elim (cases_eq k i) [
+  | inr n ↦ sym (ap (option_map (λ (h : Grant). h.name)) (get_or-set_other hs i k None None n)) ∙ e
+  | inl s ↦ elim (cases_lt i (length hs)) [
+    | inl l ↦ absurd (let gone = ap (option_map (λ (h : Grant). h.name)) (get_or-set_same hs i None None l) in let f = subst (λ j. kept_name (slice_set hs i None) (suc j) ≡ Some x) s e in cc)
+    | inr m ↦ sym (ap (λ l. kept_name l (suc k)) (set_past hs i None m)) ∙ e
+  ]
+]
+
+next_without : (hs left : List (Option Grant)) (i : ℕ) → left ≡ slice_set hs i None → IsNext hs left
+next_without hs left i e = inl (omega (arith, ap length e, length-set hs i None), λ k x h. kept_before hs i k x (sym (ap (λ l. kept_name l k) e) ∙ h))
+
+module _ (v w : View) (hs left : List (Option Grant)) (before : IsWellFormed v) (after : IsWellFormed w) (live : AreLive v hs) where
+  -- the name of a grant was not kept
+  not_kept : (needed n : ℕ) (padding_at : ℕ → ℕ) (h : Grant) → Splits needed n padding_at v w h → (k : ℕ) → kept_name hs k ≡ Some h.name → ⊥
+  not_kept needed n padding_at h s k e = let none = (split_grants s before after).not_live in let some = live k h.name e in cc
+
+  next_granted : (needed n : ℕ) (padding_at : ℕ → ℕ) (h : Grant) → Splits needed n padding_at v w h → left ≡ hs ++ Some h ∷ [] → IsNext hs left
+  next_granted needed n padding_at h s e = inr (h, e, not_kept needed n padding_at h s)
+
+  next_allocated : (n : ℕ) (a : machine.Answer) (r : Option Grant) → Allocates n v w r → IsKept r hs left a → IsNext hs left
+  next_allocated n a None t k = next_same hs left k.0
+  next_allocated n a (Some h) t k = next_granted _ _ _ h t.1 k.0
+
+  next_aligned : (n align : ℕ) (a : machine.Answer) (r : Option Grant) → Aligns n align v w r → IsKept r hs left a → IsNext hs left
+  next_aligned n align a None t k = next_same hs left k.0
+  next_aligned n align a (Some h) t k = next_granted _ _ _ h t.1 k.0
+
+  -- what is so where a name is kept, and where none is
+  either : (o : Option ℕ) (P : ℕ → Type 0) (Q A : Type 0) → ((x : ℕ) → P x → A) → (Q → A) → IfNamed o P Q → A
+  either None P Q A f g t = g t
+  either (Some x) P Q A f g t = f x t
+
+  next_command : (c : Command) (a : machine.Answer) → script.Takes c v hs w left a → IsNext hs left
+  next_command (command.Alloc n) a t = next_allocated n a t.0 t.1 t.2
+  next_command (command.Free k) a t = either (kept_name hs k) _ _ _ (λ x u. next_without hs left (k - 1) u.1) (λ u. next_same hs left u.0.1) t
+  next_command (command.Size k) a t = next_same hs left t.0.1
+  next_command command.Report a t = next_same hs left t.0.1
+  next_command command.Full a t = next_same hs left t.0.1
+  next_command command.Reset a t = inl (omega (arith, t.1), λ k x e. absurd (let none = t.2 k in cc))
+  next_command (command.Align n align) a t = next_aligned n align a t.0 t.1 t.2
+  next_command (command.Extend more) a t = next_same hs left t.2
+
+  pub next_call : (c : Call) (r : Reply) → Takes c v hs w left r → IsNext hs left
+  next_call (call.Command c) r t = next_command c t.0 t.1
+  next_call (call.Shrink k n) r t = either (kept_name hs k) _ _ _ (λ x u. next_same hs left u.2) (λ u. next_same hs left u.0.1) t
+  next_call (call.Grow k n) r t = either (kept_name hs k) _ _ _ (λ x u. next_same hs left u.2) (λ u. next_same hs left u.0.1) t
+  next_call call.Compact r t = next_same hs left t.1
+  next_call (call.Offset k) r t = next_same hs left t.0.1
+  next_call (call.Refusal n) r t = next_same hs left t.0.1
+  next_call (call.RefusalAligned n align) r t = next_same hs left t.0.1
+
+-- the numbers follow, where a new grant's number is put at its name
+numbers_next : (hs left : List (Option Grant)) (numbers now : List ℕ) → IsNext hs left → AreNumbers hs numbers
+    → ((h : Grant) → left ≡ hs ++ Some h ∷ [] → (x : ℕ) → slice_index now x ≡ (if nat_eq x h.name then length left else slice_index numbers x)) → (length left ≤ length hs → now ≡ numbers)
+    → AreNumbers left now
+numbers_next hs left numbers now (inl r) a granted same k x e = ap (λ l. slice_index l x) (same r.0) ∙ a k x (r.1 k x e)
+numbers_next hs left numbers now (inr r) a granted same k x e =
+    let put = granted r.0 r.1 x in
+    let more = ap length r.1 ∙ length-append hs (Some r.0 ∷ []) in
+    let kept = sym (ap (λ l. kept_name l k) r.1 ∙ kept_push hs r.0 k) ∙ e in
+    elim (cases_eq k (length hs + 1)) [
+      | inl s ↦
+          let own : r.0.name ≡ x = grind (arith, eq-eqb, kept) in
+          put ∙ ap (λ b. if b then length left else slice_index numbers x) (eq-eqb x r.0.name (sym own)) ∙ more ∙ sym s
+      | inr n ↦
+          let old : kept_name hs k ≡ Some x = sym (ap (λ b. if b then Some r.0.name else kept_name hs k) (ne_eqb k (length hs + 1) n)) ∙ kept in
+          put ∙ ap (λ b. if b then length left else slice_index numbers x) (ne_eqb x r.0.name (λ s. r.2 k (old ∙ ap Some s))) ∙ a k x old
+    ]
+
+-- the same, as `Numbers::keep` says it: of a slice, and of how many handles there were before
+pub numbers_keep : (hs left here : List (Option Grant)) (before : ℕ) (numbers now : List ℕ) → here ≡ left → length hs ≡ before → IsNext hs left → AreNumbers hs numbers
+    → ((gs : List (Option Grant)) (h : Grant) → length gs ≡ before → here ≡ gs ++ Some h ∷ [] → (x : ℕ) → slice_index now x ≡ (if nat_eq x h.name then length here else slice_index numbers x))
+    → (length here ≤ before → now ≡ numbers)
+    → AreNumbers left now
+numbers_keep hs left here before numbers now e f next a granted same =
+    numbers_next hs left numbers now next a (λ h i x. granted hs h f (e ∙ i) x ∙ ap (λ l. if nat_eq x h.name then length l else slice_index numbers x) e)
+    (λ l. same (omega (arith, l, f, ap length e)))
