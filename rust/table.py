@@ -78,7 +78,7 @@ IMPORTS = {
 }
 
 # Names that need no import in Rattle, and here come from the hand-written module.
-PRELUDE = {"Vec": "crate::memory::Vec", "String": "crate::memory::String"}
+PRELUDE = {"Vec": "crate::memory::Vec"}
 
 # Exact replacements: the text of the source, the text here, and the reason.
 PAIRS = [
@@ -164,4 +164,4 @@ EXAMPLES = {
 
 # Attributes and macros that are printed as they are. Any other stops `erase`.
 ATTRIBUTES = {"inline"}
-MACROS = {"write", "writeln"}
+MACROS = {"write"}

@@ -10,7 +10,7 @@ const ROOM: usize = 80;
 
 /// The end of a line, seen as its bytes. It takes no memory of the allocator.
 #[derive(Drop)]
-pub struct Line {
+pub(crate) struct Line {
     room: [u8; ROOM],
     start: usize,
 }
@@ -47,7 +47,7 @@ fn put_digits(room: &mut [u8; ROOM], end: usize, n: u64) -> usize
 
 impl Line {
     /// An end of no bytes.
-    pub fn new() -> Self
+    pub(crate) fn new() -> Self
         ensures { result ≡ [] }
     {
         Line {
@@ -58,7 +58,7 @@ impl Line {
 
     /// Puts bytes before it.
     #[inline(always)]
-    pub fn put(&mut self, bytes: &[u8])
+    pub(crate) fn put(&mut self, bytes: &[u8])
         requires { length bytes.now + length self.old ≤ 80 }
         ensures { self.new ≡ bytes.now ++ self.old }
     {
@@ -69,7 +69,7 @@ impl Line {
     }
 
     /// Puts the digits of a number before it, without leading zeros: at most 20.
-    pub fn put_number(&mut self, n: u64)
+    pub(crate) fn put_number(&mut self, n: u64)
         requires { 20 + length self.old ≤ 80 }
         ensures text { self.new ≡ decimal n ++ self.old }
         ensures length { length self.new ≤ 20 + length self.old }
@@ -78,7 +78,7 @@ impl Line {
     }
 
     /// Its bytes.
-    pub fn bytes(&self) -> &[u8]
+    pub(crate) fn bytes(&self) -> &[u8]
         ensures { result.now ≡ self.now }
     {
         &self.room[self.start..]

@@ -38,17 +38,6 @@ pub(crate) fn largest<T: Tables>(tables: &T, top_mask: u32, count: &mut Accesses
     Some(word * 64 + (63 - tables.mask(word, count).leading_zeros()))
 }
 
-/// How many names are in the bin of a class.
-pub(crate) fn length_of<T: Tables>(tables: &T, class: u32, count: &mut Accesses) -> u32 {
-    let mut names = 0;
-    let mut name = tables.head(class, count);
-    while name != T::Index::MAX {
-        names += 1;
-        name = number(tables.older(name, count));
-    }
-    names
-}
-
 /// Pushes a name onto a bin.
 #[inline(always)]
 pub(crate) fn push<T: Tables>(store: &mut Store<T>, name: u32, class: u32) {

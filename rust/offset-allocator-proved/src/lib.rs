@@ -47,6 +47,7 @@ mod fills;
 mod handle;
 mod index;
 pub mod laws;
+mod lengths;
 mod neighbours;
 mod nonmax;
 mod reports;

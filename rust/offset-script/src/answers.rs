@@ -2,8 +2,8 @@
 
 //! Answers, and their text.
 
-use crate::memory::String;
 use crate::memory::Vec;
+use crate::line::Line;
 use offset_allocator::StorageReport;
 use crate::memory::{AllocError, Global};
 
@@ -42,16 +42,61 @@ pub enum Answer {
     Extended,
 }
 
+// Appends the line of a grant.
+fn put_grant(out: &mut Vec<u8>, number: u64, offset: u32) -> Result<(), AllocError> {
+    let mut line = Line::new();
+    line.put(b"\n");
+    line.put_number(u64::from(offset));
+    line.put(b" at ");
+    line.put_number(number);
+    line.put(b"grant ");
+    out.extend_from_slice(line.bytes())
+}
+
+// Appends the line of a size.
+fn put_size(out: &mut Vec<u8>, size: u32) -> Result<(), AllocError> {
+    let mut line = Line::new();
+    line.put(b"\n");
+    line.put_number(u64::from(size));
+    line.put(b"size ");
+    out.extend_from_slice(line.bytes())
+}
+
+// Appends the line of a report.
+fn put_report(out: &mut Vec<u8>, free: u32, largest: u32) -> Result<(), AllocError> {
+    let mut line = Line::new();
+    line.put(b"\n");
+    line.put_number(u64::from(largest));
+    line.put(b" largest ");
+    line.put_number(u64::from(free));
+    line.put(b"free ");
+    out.extend_from_slice(line.bytes())
+}
+
+// Appends the first line of a full report.
+fn put_count(out: &mut Vec<u8>, count: usize) -> Result<(), AllocError> {
+    let mut line = Line::new();
+    line.put(b"\n");
+    line.put_number(count as u64);
+    line.put(b"full ");
+    out.extend_from_slice(line.bytes())
+}
+
 // Appends the line of a row, with its line end.
-fn put_row(out: &mut String, row: &FullRow) -> Result<(), AllocError> {
-    let class = row.class;
-    let size = row.size;
-    let count = row.count;
-    writeln!(out, "class {class} size {size} count {count}")
+fn put_row(out: &mut Vec<u8>, row: &FullRow) -> Result<(), AllocError> {
+    let mut line = Line::new();
+    line.put(b"\n");
+    line.put_number(u64::from(row.count));
+    line.put(b" count ");
+    line.put_number(u64::from(row.size));
+    line.put(b" size ");
+    line.put_number(u64::from(row.class));
+    line.put(b"class ");
+    out.extend_from_slice(line.bytes())
 }
 
 // Appends the lines of rows.
-fn put_rows(out: &mut String, rows: &[FullRow]) -> Result<(), AllocError> {
+fn put_rows(out: &mut Vec<u8>, rows: &[FullRow]) -> Result<(), AllocError> {
     for row in rows {
         put_row(out, row)?;
     }
@@ -59,31 +104,28 @@ fn put_rows(out: &mut String, rows: &[FullRow]) -> Result<(), AllocError> {
 }
 
 // Appends the lines of an answer.
-fn put_answer(out: &mut String, answer: &Answer) -> Result<(), AllocError> {
+fn put_answer(out: &mut Vec<u8>, answer: &Answer) -> Result<(), AllocError> {
     match answer {
-        Answer::Grant { number, offset } => writeln!(out, "grant {number} at {offset}"),
-        Answer::Refused => writeln!(out, "none"),
-        Answer::Freed => writeln!(out, "freed"),
-        Answer::Gone => writeln!(out, "gone"),
-        Answer::Size(n) => writeln!(out, "size {n}"),
+        Answer::Grant { number, offset } => put_grant(out, *number, *offset),
+        Answer::Refused => out.extend_from_slice(b"none\n"),
+        Answer::Freed => out.extend_from_slice(b"freed\n"),
+        Answer::Gone => out.extend_from_slice(b"gone\n"),
+        Answer::Size(size) => put_size(out, *size),
         Answer::Report(report) => {
-            let free = report.total_free_space;
-            let largest = report.largest_free_region;
-            writeln!(out, "free {free} largest {largest}")
+            put_report(out, report.total_free_space, report.largest_free_region)
         }
         Answer::Full(rows) => {
-            let count = rows.len();
-            writeln!(out, "full {count}")?;
+            put_count(out, rows.len())?;
             put_rows(out, rows)
         }
-        Answer::Reset => writeln!(out, "reset"),
-        Answer::Extended => writeln!(out, "extended"),
+        Answer::Reset => out.extend_from_slice(b"reset\n"),
+        Answer::Extended => out.extend_from_slice(b"extended\n"),
     }
 }
 
 /// The text of answers: a line for each, and after the line of a full report one for each of its rows.
-pub fn answer_text(alloc: Global, answers: &[Answer]) -> Result<String, AllocError> {
-    let mut out = String::new(alloc);
+pub fn answer_text(alloc: Global, answers: &[Answer]) -> Result<Vec<u8>, AllocError> {
+    let mut out = Vec::new(alloc);
     for answer in answers {
         put_answer(&mut out, answer)?;
     }

@@ -12,6 +12,7 @@ mod answers;
 mod devices;
 mod faults;
 pub mod laws;
+mod line;
 mod lines;
 mod playing;
 mod program;

@@ -50,7 +50,7 @@ pub fn run<S: Source, K: Sink>(alloc: Global, input: &mut S, output: &mut K) -> 
     let script = read_script(alloc, input)?;
     let answers = play_script(alloc, &script)?;
     let text = answer_text(alloc, &answers)?;
-    if send(output, text.as_bytes()) {
+    if send(output, &text) {
         Ok(())
     } else {
         Err(RunFault::Write)
