@@ -1,15 +1,15 @@
 //! Answers, and their text.
 
-ghost use Rattle.std.specs.Prelude.{◌≡◌, ◌++◌, OnOk, IfOk, codes, map};
+ghost use Rattle.std.specs.Prelude.{◌≡◌, ◌++◌, OnOk, codes, map};
 ghost use Rattle.std.specs.Fmt.{decimal};
 ghost use Rattle.std.specs.List.{flat_map};
 ghost use Rattle.offset_script.specs.Machine.{row_view, answer_view};
 ghost use Rattle.offset_script.specs.Machine as machine;
-ghost use Rattle.offset_script.specs.Grammar.{row_line, line_end, lines_of_answer, text_of};
+ghost use Rattle.offset_script.specs.Grammar.{row_line, line_end, lines_of_answer};
 
 use crate::line::Line;
 use offset_allocator::StorageReport;
-use std::alloc::{AllocError, Global};
+use std::alloc::AllocError;
 
 /// One size class of a full report.
 #[derive(Clone, Copy, PartialEq, Debug)]
@@ -123,9 +123,9 @@ fn put_rows(out: &mut Vec<u8>, rows: &[FullRow]) -> Result<(), AllocError>
     Ok(())
 }
 
-// Appends the lines of an answer.
+/// Appends the lines of an answer: one, and for a full report one more for each of its rows.
 #[tactic(auto, unfolding(crate::specs::Grammar::lines_of_answer))]
-fn put_answer(out: &mut Vec<u8>, answer: &Answer) -> Result<(), AllocError>
+pub(crate) fn put_answer(out: &mut Vec<u8>, answer: &Answer) -> Result<(), AllocError>
     ensures { OnOk result (out.new.items ≡ out.old.items ++ lines_of_answer (answer_view answer.now)) }
 {
     match answer {
@@ -144,15 +144,4 @@ fn put_answer(out: &mut Vec<u8>, answer: &Answer) -> Result<(), AllocError>
         Answer::Reset => out.extend_from_slice(b"reset\n"),
         Answer::Extended => out.extend_from_slice(b"extended\n"),
     }
-}
-
-/// The text of answers: a line for each, and after the line of a full report one for each of its rows.
-pub fn answer_text(alloc: Global, answers: &[Answer]) -> Result<Vec<u8>, AllocError>
-    ensures { IfOk result (λ text. text.items ≡ text_of (map answer_view answers.now)) }
-{
-    let mut out = Vec::new(alloc);
-    for answer in answers {
-        put_answer(&mut out, answer)?;
-    }
-    Ok(out)
 }

@@ -14,6 +14,7 @@ mod running;
 mod scripts;
 mod sending;
 mod tokens;
+mod writing;
 
 pub use answers::{Answer, FullRow};
 pub use devices::{FromRead, IntoWrite, Sink, Source};

@@ -5,13 +5,12 @@ ghost use Rattle.offset_script.specs.Running.{IsRunOf, IsScriptOf, HasText, is_r
 ghost use Rattle.offset_script.specs.declared.faults.RunFault.TheVariants as faults;
 ghost use Rattle.offset_script.specs.declared.faults.ScriptFault.TheVariants as scripts;
 
-use crate::answers::answer_text;
 use crate::devices::{Sink, Source};
 use crate::faults::RunFault;
-use crate::playing::play_script;
 use crate::reading::{MAX_TEXT, parse};
 use crate::scripts::Script;
 use crate::sending::send;
+use crate::writing::text_of_script;
 use std::alloc::Global;
 
 // The largest number of bytes that one pull requests.
@@ -56,8 +55,8 @@ pub fn read_script<S: Source>(alloc: Global, input: &mut S) -> Result<Script, Ru
     Ok(parse(alloc, &text)?)
 }
 
-/// Reads a script to its end, plays it, writes the text of its answers, and then flushes. The script, all answers and
-/// their text are in memory at once.
+/// Reads a script to its end, plays it, writes the text of its answers, and then flushes. The script and the text of all
+/// answers are in memory at once.
 ///
 /// Nothing is written unless the whole text is a script; of a text that is too long, 1,048,577 bytes are read. `Read`
 /// is returned exactly where the source failed in this call, and `Write` exactly where the sink did; then a beginning
@@ -82,8 +81,7 @@ pub fn run<S: Source, K: Sink>(alloc: Global, input: &mut S, output: &mut K) -> 
     ensures write { K.has_failed output.new ≡ (is_write_fault result || K.has_failed output.old) }
 {
     let script = read_script(alloc, input)?;
-    let answers = play_script(alloc, &script)?;
-    let text = answer_text(alloc, &answers)?;
+    let text = text_of_script(alloc, &script)?;
     if send(output, &text) {
         Ok(())
     } else {

@@ -2,15 +2,11 @@ use Rattle.offset_script.proofs.Common.{◌<◌, map, take, length, refl, sym, s
 use Rattle.offset_script.proofs.Common.{append_assoc, drop-cons, map-append, take_more, take_all, drop_all, All-get_or, has_valid_alignment, answers, start, after, State, Answer, step, answer_view}
 use Rattle.offset_script.proofs.Common.{Takes, Command, HasFreshRestarts, HasTracelessNests, HasCommutingRows}
 use Rattle.offset_script.proofs.Simulation.{all_live, follows, fresh_represents, run_begins, run_goes_on, run_ends}
-use Rattle.offset_script.proofs.{Agreement.IsAtState, Well.well_start, Well.well_after, Fresh.fresh_law, Nests.after-append, Nests.nest_law, Commute.commute_next}
+use Rattle.offset_script.proofs.{Agreement.IsAtState, Well.well_start, Well.well_after, Fresh.fresh_law, Nests.after-append, Nests.nest_law, Commute.commute_next, Stepping.after_more}
 use Rattle.offset_script.specs.declared.answers.Answer as program
 use Rattle.offset_script.proofs.playing.play_of.Goals as goal
 
 -- A loop over commands: one more command, and one more answer.
-
--- the state after one more command
-after_more : (cs : List Command) (s : State) (i : ℕ) (d : Command) → i < length cs → after (take (i + 1) cs) s ≡ (step (get_or cs i d) (after (take i cs) s)).state
-after_more cs s i d h = ap (λ l. after l s) (take_more cs i d h) ∙ after-append (take i cs) (get_or cs i d ∷ []) s
 
 -- the answers so far, one more, and those to what is left
 answers_more : (cs : List Command) (s : State) (i : ℕ) (d : Command) (found left : List program.Answer) (x : program.Answer) (all : List Answer) → i < length cs → left ≡ found ++ x ∷ []
