@@ -1,15 +1,15 @@
 -- Going over a script from its last command to its first.
 use Rattle.std.proofs.Common.{◌≡◌, ℕ, zero, suc, ◌+◌, ◌<◌, ◌≤◌, Bool, true, false, List, [], ◌∷◌, ◌++◌, length, map, reverse, drop, get_or, cond, Option, Some, None, option_map, option_to_list}
 use Rattle.std.proofs.Common.{if◌then◌else◌, refl, sym, ap, ap₂, subst, ◌∙◌, arith, Result, Ok, Err, IfOk, Vec}
-use Rattle.std.proofs.lemmas.List.{drop_more, get_or-map, length-map, reverse-append, reverse-reverse}
+use Rattle.std.proofs.lemmas.List.{drop_more, get_or-map, reverse-append}
 use Rattle.std.specs.List.{prefix_len}
 use Rattle.offset_script.specs.declared.scripts.Command.{Command}
 use Rattle.offset_script.specs.declared.answers.Answer as program
 use Rattle.offset_script.specs.Machine.{answer_view, State, Answer, start, step, answers}
 use Rattle.offset_script.specs.Machine as machine
-use Rattle.offset_script.proofs.Well.{IsWell, well_step}
+use Rattle.offset_script.proofs.Well.{IsWell, well_start, well_step}
 use Rattle.offset_lives.specs.declared.living.Life as found
-use Rattle.offset_lives.specs.Lives.{Life, leaves, life_of_answer, end_from, lives_from, lives_of, life_view}
+use Rattle.offset_lives.specs.Lives.{Life, leaves, life_of_answer, end_from, lives_from, life_view}
 use Rattle.offset_lives.proofs.Seen.{grants_of, call_counts, call_grants}
 
 -- an answer for each command
@@ -34,6 +34,12 @@ number_most [] s w i d k offset h e = absurd (omega arith)
 number_most (c ∷ cs) s w zero d k offset h e = let g = call_grants c s w k offset e in omega (arith, g.0)
 number_most (c ∷ cs) s w (suc i) d k offset h e =
     omega (arith, number_most cs (step c s).state (well_step c s w) i d k offset (omega arith) e, call_counts c s w, few_grants (step c s).answer)
+
+-- the same, of answers to commands from the start of a script
+pub numbers_few : (size limit : ℕ) → 2 ≤ limit → (cs : List Command) (n : ℕ) (given : List Answer) → given ≡ answers cs (start size limit) → length cs ≡ n → (i k offset : ℕ) → i < n
+    → get_or given i machine.Refused ≡ machine.Grant k offset → k ≤ n
+numbers_few size limit low cs n given played same i k offset less e =
+    omega (arith, number_most cs (start size limit) (well_start size limit low) i machine.Refused k offset (omega arith) (ap (λ l. get_or l i machine.Refused) (sym played) ∙ e))
 
 -- one command back
 pub end_back : (cs : List Command) (i j : ℕ) (c : Command) (k : ℕ) → i ≡ j + 1 → drop j cs ≡ c ∷ drop i cs → end_from j (drop j cs) k ≡ (if leaves k c then end_from i (drop i cs) k else j)
@@ -69,11 +75,8 @@ lives_back cs given i j c a back new o end e d b same is grown before =
     ∙ sym (ap₂ (lives_from j) d b)
 
 -- an answer found, as the plain machine returns it
-pub seen_at : (cs : List Command) (s : State) (all : List program.Answer) (j : ℕ) (x : program.Answer) → map answer_view all ≡ answers cs s → j < length cs → x ≡ get_or all j x
-    → get_or (answers cs s) j (answer_view x) ≡ answer_view x
-seen_at cs s all j x played h e =
-    let n = answers_count cs s in
-    ap (λ l. get_or l j (answer_view x)) (sym played) ∙ get_or-map answer_view all j x (answer_view x) (omega (arith, ap length played, length-map all answer_view)) ∙ ap answer_view (sym e)
+pub seen_at : (all : List program.Answer) (j : ℕ) (d : Answer) (x : program.Answer) → j < length all → x ≡ get_or all j x → get_or (map answer_view all) j d ≡ answer_view x
+seen_at all j d x h e = get_or-map answer_view all j x d h ∙ ap answer_view (sym e)
 
 -- what is left from a command on
 pub left_at : {X : Type 0} (xs : List X) (i j : ℕ) (x : X) → i ≡ j + 1 → j < length xs → get_or xs j x ≡ x → drop j xs ≡ x ∷ drop i xs
@@ -90,13 +93,13 @@ none_is None h = refl
 none_is (Some x) h = absurd (h x refl)
 
 -- once no command is left, these are all lives, in order
-pub all_lives : {Z E : Type 0} (cs : List Command) (i : ℕ) (back : List found.Life) (given : List Answer) (size limit : ℕ) (r : Result (Vec found.Life Z) E) → i ≡ 0
-    → given ≡ answers cs (start size limit)
-    → map life_view (reverse back) ≡ lives_from i (drop i cs) (drop i given) → IfOk r (λ v. reverse v.items ≡ back) → IfOk r (λ v. map life_view v.items ≡ lives_of size limit cs)
-all_lives cs i back given size limit (Err e) z played lives h = tt
-all_lives cs i back given size limit (Ok v) z played lives h =
-    ap (map life_view) (sym (reverse-reverse v.items) ∙ ap reverse h) ∙ lives
-    ∙ ap (λ n. lives_from n (drop n cs) (drop n given)) z ∙ ap (lives_from 0 cs) played
+pub all_lives : (cs : List Command) (given : List Answer) (i : ℕ) (back found : List found.Life) → i ≡ 0 → found ≡ reverse back
+    → map life_view (reverse back) ≡ lives_from i (drop i cs) (drop i given) → map life_view found ≡ lives_from 0 cs given
+all_lives cs given i back found z e lives = ap (map life_view) e ∙ lives ∙ ap (λ n. lives_from n (drop n cs) (drop n given)) z
+
+-- the lives found, where they are the same by another name
+pub same_lives : {Z E : Type 0} (r : Result (Vec found.Life Z) E) (xs ys : List Life) → IfOk r (λ v. map life_view v.items ≡ xs) → xs ≡ ys → IfOk r (λ v. map life_view v.items ≡ ys)
+same_lives r xs ys h e = subst (λ l. IfOk r (λ v. map life_view v.items ≡ l)) e h
 
 -- what holds of all lives holds of those that were found
 pub each_result : {Z E : Type 0} (P : List Life → Type 0) (r : Result (Vec found.Life Z) E) (ls : List Life) → IfOk r (λ v. map life_view v.items ≡ ls) → P ls → IfOk r (λ v. P (map life_view v.items))

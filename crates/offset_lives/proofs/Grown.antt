@@ -53,6 +53,17 @@ size_pushed xs x i f n h e k l =
 
 -- ---- a script without full reports
 
+-- a full report adds as little as a report
+pub added_quiet : (c : Command) (a : Answer) → added_units (replace_full c) a ≡ added_units c a
+added_quiet (command.Alloc n) a = refl
+added_quiet (command.Free k) a = refl
+added_quiet (command.Size k) a = refl
+added_quiet command.Report a = refl
+added_quiet command.Full a = refl
+added_quiet command.Reset a = refl
+added_quiet (command.Align n align) a = refl
+added_quiet (command.Extend more) a = refl
+
 quiet_added : (c : Command) (s : State) → added_units (replace_full c) (step (replace_full c) s).answer ≡ added_units c (step c s).answer
 quiet_added (command.Alloc n) s = refl
 quiet_added (command.Free k) s = refl

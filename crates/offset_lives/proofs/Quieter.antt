@@ -1,14 +1,12 @@
 -- A report in place of each full report leaves lives and reports as they were.
-use Rattle.std.proofs.Common.{◌≡◌, ℕ, ◌+◌, List, [], ◌∷◌, ◌++◌, Bool, true, false, if◌then◌else◌, cond, refl, ap, ap₂, ◌∙◌}
-use Rattle.std.specs.List.{prefix_len}
+use Rattle.std.proofs.Common.{◌≡◌, ℕ, ◌+◌, List, [], ◌∷◌, ◌++◌, Bool, true, false, if◌then◌else◌, refl, ap, ap₂, ◌∙◌}
 use Rattle.offset_script.specs.declared.scripts.Command.{Command}
 use Rattle.offset_script.specs.declared.scripts.Command.TheVariants as command
 use Rattle.offset_script.specs.Machine.{State, step, answers, start, report, is_short_of}
 use Rattle.offset_script.specs.Machine as machine
-use Rattle.offset_lives.specs.Lives.{leaves, life_of_answer, end_from, lives_from, lives_of}
+use Rattle.offset_lives.specs.Lives.{life_of_answer, end_from, lives_from, lives_of}
 use Rattle.offset_lives.specs.Quiet.{replace_full, replace_all_full}
 use Rattle.offset_lives.specs.Reports.{reports_from, reports_of}
-use Rattle.offset_lives.proofs.Backward.{same_answer}
 
 pub quiet_state : (c : Command) (s : State) → (step (replace_full c) s).state ≡ (step c s).state
 quiet_state (command.Alloc n) s = refl
@@ -20,42 +18,27 @@ quiet_state command.Reset s = refl
 quiet_state (command.Align n align) s = refl
 quiet_state (command.Extend more) s = refl
 
-quiet_leaves : (k : ℕ) (c : Command) → leaves k (replace_full c) ≡ leaves k c
-quiet_leaves k (command.Alloc n) = refl
-quiet_leaves k (command.Free j) = refl
-quiet_leaves k (command.Size j) = refl
-quiet_leaves k command.Report = refl
-quiet_leaves k command.Full = refl
-quiet_leaves k command.Reset = refl
-quiet_leaves k (command.Align n align) = refl
-quiet_leaves k (command.Extend more) = refl
-
-quiet_answer : (j : ℕ) (c : Command) (s : State) (f : ℕ → ℕ) → life_of_answer j (replace_full c) (step (replace_full c) s).answer f ≡ life_of_answer j c (step c s).answer f
+quiet_answer : (j : ℕ) (c : Command) (s : State) (f : ℕ → ℕ) → life_of_answer j c (step (replace_full c) s).answer f ≡ life_of_answer j c (step c s).answer f
 quiet_answer j (command.Alloc n) s f = refl
 quiet_answer j (command.Free k) s f = refl
 quiet_answer j (command.Size k) s f = refl
 quiet_answer j command.Report s f = refl
 quiet_answer j command.Full s f = no_life (is_short_of 1 s) _ _
   where
-    no_life : (b : Bool) (x y : ℕ) → life_of_answer j command.Report (if b then machine.Report 0 0 else machine.Report x y) f ≡ []
+    no_life : (b : Bool) (x y : ℕ) → life_of_answer j command.Full (if b then machine.Report 0 0 else machine.Report x y) f ≡ []
     no_life true x y = refl
     no_life false x y = refl
 quiet_answer j command.Reset s f = refl
 quiet_answer j (command.Align n align) s f = refl
 quiet_answer j (command.Extend more) s f = refl
 
-quiet_end : (k : ℕ) (cs : List Command) → prefix_len (leaves k) (replace_all_full cs) ≡ prefix_len (leaves k) cs
-quiet_end k [] = refl
-quiet_end k (c ∷ cs) = ap₂ (λ b n. cond b (1 + n) 0) (quiet_leaves k c) (quiet_end k cs)
-
-quiet_from : (cs : List Command) (s : State) (j : ℕ) → lives_from j (replace_all_full cs) (answers (replace_all_full cs) s) ≡ lives_from j cs (answers cs s)
+quiet_from : (cs : List Command) (s : State) (j : ℕ) → lives_from j cs (answers (replace_all_full cs) s) ≡ lives_from j cs (answers cs s)
 quiet_from [] s j = refl
 quiet_from (c ∷ cs) s j = ap₂ (λ xs ys. xs ++ ys)
-    (same_answer j (replace_full c) (step (replace_full c) s).answer (end_from (j + 1) (replace_all_full cs)) (end_from (j + 1) cs) (λ k offset e. ap (λ n. j + 1 + n) (quiet_end k cs))
-    ∙ quiet_answer j c s (end_from (j + 1) cs))
-    (ap (λ t. lives_from (j + 1) (replace_all_full cs) (answers (replace_all_full cs) t)) (quiet_state c s) ∙ quiet_from cs (step c s).state (j + 1))
+    (quiet_answer j c s (end_from (j + 1) cs))
+    (ap (λ t. lives_from (j + 1) cs (answers (replace_all_full cs) t)) (quiet_state c s) ∙ quiet_from cs (step c s).state (j + 1))
 
-pub quiet_lives : (size limit : ℕ) (cs : List Command) → lives_of size limit (replace_all_full cs) ≡ lives_of size limit cs
+pub quiet_lives : (size limit : ℕ) (cs : List Command) → lives_from 0 cs (answers (replace_all_full cs) (start size limit)) ≡ lives_of size limit cs
 quiet_lives size limit cs = quiet_from cs (start size limit) 0
 
 quiet_reported : (cs : List Command) (s : State) → reports_from (replace_all_full cs) s ≡ reports_from cs s

@@ -2,7 +2,6 @@
 use Rattle.std.specs.Prelude.{ℕ, List, [], ◌∷◌}
 use Rattle.offset_allocator.specs.declared.reports.StorageReport.{StorageReport}
 use Rattle.offset_script.specs.declared.scripts.Command.{Command}
-use Rattle.offset_script.specs.declared.scripts.Command.TheVariants as command
 use Rattle.offset_script.specs.Machine.{State, Answer, Report, start, step, report}
 
 -- a report, as the plain machine has it
@@ -17,8 +16,3 @@ reports_from (c ∷ cs) s = report s ∷ reports_from cs (step c s).state
 -- the reports before the first command and after each, from one free block of size units
 abbrev pub reports_of : ℕ → ℕ → List Command → List Answer
 reports_of size limit cs = reports_from cs (start size limit)
-
--- the commands, with a report before and after each
-abbrev pub with_reports : List Command → List Command
-with_reports [] = command.Report ∷ []
-with_reports (c ∷ cs) = command.Report ∷ c ∷ with_reports cs

@@ -1,17 +1,18 @@
 //! The course of a script: all that a picture shows of it.
 
-ghost use Rattle.std.specs.Prelude.{◌≡◌, All, IfOk, map};
+ghost use Rattle.std.specs.Prelude.{◌≡◌, All, IfOk, length, map};
+ghost use Rattle.offset_script.specs.Machine as machine;
 ghost use Rattle.offset_script.specs.Machine.{answer_view};
 ghost use Rattle.offset_script.specs.Totals.{added_units};
 ghost use Rattle.offset_lives.specs.Growth.{AreSizes, is_refusal, refusals_of};
 ghost use Rattle.offset_lives.specs.Lives.{IsOrdered, life_view, lives_of};
+ghost use Rattle.offset_lives.specs.Quiet.{replace_all_full};
 ghost use Rattle.offset_lives.specs.Reports.{report_view, reports_of};
 
-use crate::living::{Life, lives};
-use crate::quiet::without_full;
-use crate::reporting::reports;
+use crate::living::{Life, lives_of_answers};
+use crate::watching::{Watched, watch};
 use offset_allocator::StorageReport;
-use offset_script::{Answer, Command, Script, play_script};
+use offset_script::{Answer, Command, Script};
 use std::alloc::{AllocError, Global};
 
 /// A script after it was played.
@@ -49,14 +50,22 @@ fn is_refusal(answer: &Answer) -> bool
     matches!(answer, Answer::Refused)
 }
 
-// The units of the space in each state, and the calls that returned `none`.
-fn growth(alloc: Global, script: &Script) -> Result<(Vec<u32>, Vec<usize>), AllocError>
+// The units of the space in each state, and the calls that returned `none`, where the answers have a report in place of
+// each full report.
+fn growth(
+    alloc: Global,
+    script: &Script,
+    answers: &[Answer],
+) -> Result<(Vec<u32>, Vec<usize>), AllocError>
+    requires len { length answers.now ≡ length script.now.commands.items }
+    requires played { map answer_view answers.now
+        ≡ machine.answers (replace_all_full script.now.commands.items)
+        (machine.start script.now.size script.now.max_allocs) }
     ensures sizes { IfOk result
         (λ g. AreSizes g.0.items script.now.size script.now.max_allocs script.now.commands.items) }
     ensures refused { IfOk result
         (λ g. g.1.items ≡ refusals_of script.now.size script.now.max_allocs script.now.commands.items) }
 {
-    let answers = play_script(alloc, script)?;
     let calls = script.commands.len();
     let mut size = script.size;
     let mut sizes = Vec::new(alloc);
@@ -89,12 +98,12 @@ pub fn course_of(alloc: Global, script: &Script) -> Result<Course, AllocError>
         (λ c. c.refused.items
         ≡ refusals_of script.now.size script.now.max_allocs script.now.commands.items) }
 {
-    let script = without_full(alloc, script)?;
-    let (sizes, refused) = growth(alloc, &script)?;
+    let Watched { answers, reports } = watch(alloc, script)?;
+    let (sizes, refused) = growth(alloc, script, &answers)?;
     Ok(Course {
         max_allocs: script.max_allocs,
-        lives: lives(alloc, &script)?,
-        reports: reports(alloc, &script)?,
+        lives: lives_of_answers(alloc, &script.commands, &answers)?,
+        reports,
         sizes,
         refused,
     })

@@ -21,6 +21,7 @@ mod shapes;
 mod steps;
 mod style;
 mod titles;
+mod watching;
 
 pub use drawing::picture;
 pub use living::{Life, lives};

@@ -1,12 +1,12 @@
 //! The lives of grants.
 
-ghost use Rattle.std.specs.Prelude.{◌≡◌, ℕ, ◌+◌, ◌-◌, ◌^◌, ◌<◌, ◌≤◌, All, AllPairs, IfOk, map, reverse};
+ghost use Rattle.std.specs.Prelude.{◌≡◌, ℕ, ◌+◌, ◌-◌, ◌^◌, ◌<◌, ◌≤◌, All, AllPairs, IfOk, length, map, get_or};
 ghost use Rattle.std.specs.Prelude.{option_map, option_to_list, if◌then◌else◌};
 ghost use Rattle.offset_script.specs.Machine.{answer_view};
 ghost use Rattle.offset_script.specs.Machine as machine;
 ghost use Rattle.offset_script.specs.Totals.{requested_units};
 ghost use Rattle.offset_lives.specs.Ends.{grants_in, end_in};
-ghost use Rattle.offset_lives.specs.Lives.{AreApart, IsOrdered, IsWithin, life_of_answer, leaves, lives_of, life_view};
+ghost use Rattle.offset_lives.specs.Lives.{AreApart, IsOrdered, IsWithin, life_of_answer, leaves, lives_from, lives_of, life_view};
 
 use offset_script::{Answer, Command, Script, play_script};
 use std::alloc::{AllocError, Global};
@@ -109,21 +109,38 @@ fn life_of_answer(i: usize, command: Command, answer: &Answer, ends: &Ends) -> O
     }
 }
 
-// The values in reverse order.
-fn in_reverse<T: Copy>(alloc: Global, values: &[T]) -> Result<Vec<T>, AllocError>
-    ensures { IfOk result (λ v. reverse v.items ≡ values.now) }
+/// The lives of the grants among the answers to these commands, in the order of the calls.
+///
+/// It goes over the commands once, from the last to the first, so that the end of a life is known when its beginning is
+/// seen.
+pub fn lives_of_answers(
+    alloc: Global,
+    commands: &[Command],
+    answers: &[Answer],
+) -> Result<Vec<Life>, AllocError>
+    requires len { length answers.now ≡ length commands.now }
+    requires few { (i k offset : ℕ) → i < length commands.now
+        → get_or (map answer_view answers.now) i machine.Refused ≡ machine.Grant k offset → k ≤ length commands.now }
+    ensures { IfOk result
+        (λ v. map life_view v.items ≡ lives_from 0 commands.now (map answer_view answers.now)) }
 {
-    let mut found = Vec::with_capacity(alloc, values.len())?;
-    for i in (0..values.len()).rev() {
-        found.push(values[i])?;
+    let calls = commands.len();
+    let mut ends = Ends::new(alloc, calls)?;
+    let mut lives = Vec::new(alloc);
+    for i in (0..calls).rev() {
+        let command = commands[i];
+        if let Some(life) = life_of_answer(i, command, &answers[i], &ends) {
+            lives.push(life)?;
+        }
+        ends.meet(i, command);
     }
-    Ok(found)
+    lives.reverse();
+    Ok(lives)
 }
 
 /// Plays a script, and returns the lives of all its grants, in the order of their numbers.
 ///
-/// It fails only where an allocation fails. After playing, it goes over the commands once, from the last to the first,
-/// so that the end of a life is known when its beginning is seen.
+/// It fails only where an allocation fails.
 pub fn lives(alloc: Global, script: &Script) -> Result<Vec<Life>, AllocError>
     // The lives are those of the grants that the plain machine makes, in order: each with its number, offset and size,
     // the call that granted it, and the call that ended it, or the number of all calls.
@@ -140,15 +157,5 @@ pub fn lives(alloc: Global, script: &Script) -> Result<Vec<Life>, AllocError>
     ensures ordered { IfOk result (λ v. All IsOrdered (map life_view v.items)) }
 {
     let answers = play_script(alloc, script)?;
-    let calls = script.commands.len();
-    let mut ends = Ends::new(alloc, calls)?;
-    let mut backward = Vec::new(alloc);
-    for i in (0..calls).rev() {
-        let command = script.commands[i];
-        if let Some(life) = life_of_answer(i, command, &answers[i], &ends) {
-            backward.push(life)?;
-        }
-        ends.meet(i, command);
-    }
-    in_reverse(alloc, &backward)
+    lives_of_answers(alloc, &script.commands, &answers)
 }

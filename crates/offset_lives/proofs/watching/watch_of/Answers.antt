@@ -1,0 +1,62 @@
+use Rattle.std.proofs.Common.{◌≡◌, map, take, length, get_or, ◌+◌, ◌<◌, ◌≤◌, ◌++◌, sym, ap, subst, ◌∙◌, arith}
+use Rattle.std.proofs.lemmas.List.{get_or-map, length-map}
+use Rattle.offset_script.specs.declared.scripts.Command.{Command}
+use Rattle.offset_script.specs.Machine.{after, start, answers, answer_view}
+use Rattle.offset_script.proofs.{Agreement.IsAtState, Simulation.all_live, Simulation.follows, Simulation.fresh_represents, Well.well_start, Well.well_after}
+use Rattle.offset_lives.specs.Quiet.{replace_full, replace_all_full}
+use Rattle.offset_lives.specs.Reports.{reports_from}
+use Rattle.offset_lives.proofs.Quieter.{quiet_reports}
+use Rattle.offset_lives.proofs.Watched.{same_report, first_report, after_more, answer_more, report_more, all_answers, all_reports}
+use Rattle.offset_lives.proofs.watching.watch_of.Goals as goal
+
+pub call-requires-clause-live : goal.call-requires-clause-live
+call-requires-clause-live g c =
+    let s = start c.args.size c.args.max_allocs in
+    let before = take c.loop-command.command-index (replace_all_full c.args.commands.now) in
+    all_live _ _ (after before s) (well_after before s (well_start c.args.size c.args.max_allocs c.requires.low)) c.loop-command.invariant.represents
+
+pub loop-command-init : goal.loop-command-init
+loop-command-init g c =
+    let cs = replace_all_full c.args.commands.now in
+    let s = start c.args.size c.args.max_allocs in
+    let fresh = c.in_ok-player.ensures in
+    let represents = fresh_represents c.in_ok-player.player.space c.is_well_formed.ensures c.args.size c.args.max_allocs c.in_ok-player.player.handles.items fresh.0 fresh.1 in
+    let r = c.storage_report-fresh.result in
+    let here = same_report r c.in_ok-player.player.space c.in_ok-player.player.handles.items s (well_start c.args.size c.args.max_allocs c.requires.low) represents c.storage_report-fresh.ensures in
+    record {
+      represents = represents;
+      answered = ap (λ l. map answer_view l ++ answers cs s) c.in_ok-answers.ensures.items;
+      reported = first_report cs s r c.in_ok-reports.reports.items c.push.new.self.items here c.in_ok-reports.ensures.items c.in_ok-push.ensures.items;
+    }
+
+pub loop-command-preserved : goal.loop-command-preserved
+loop-command-preserved g c =
+    let cs = replace_all_full c.args.commands.now in
+    let s = start c.args.size c.args.max_allocs in
+    let i = c.loop-command.command-index in
+    let q : Command = c.replace_full.result in
+    let within : i < length c.args.commands.now = omega arith in
+    let less : i < length cs = omega (arith, length-map c.args.commands.now replace_full) in
+    let at : get_or cs i q ≡ q = get_or-map replace_full c.args.commands.now i _ q within ∙ sym c.replace_full.ensures.command in
+    let well = well_after (take i cs) s (well_start c.args.size c.args.max_allocs c.requires.low) in
+    let next = follows _ _ _ _ _ (after (take i cs) s) c.is_well_formed-in-loop-command.ensures well c.loop-command.invariant.represents q c.replace_full.ensures.power c.in_ok-answer.ensures in
+    let represents = subst (IsAtState c.call.new.self.space c.call.new.self.handles.items) (sym (after_more cs s i q less at)) next.1 in
+    let here = same_report c.storage_report-report.result c.call.new.self.space c.call.new.self.handles.items (after (take (i + 1) cs) s) (well_after (take (i + 1) cs) s (well_start c.args.size c.args.max_allocs c.requires.low))
+    represents c.storage_report-report.ensures in
+    record {
+      represents = represents;
+      answered = answer_more cs s i q less at c.loop-command.answers.items _ c.in_ok-answer.answer (answers cs s) c.in_ok-push-2.ensures.items next.0 c.loop-command.invariant.answered;
+      reported = report_more cs s i q less at c.loop-command.reports.items _ c.storage_report-report.result (reports_from cs s) c.in_ok-push-3.ensures.items here
+          c.loop-command.invariant.reported;
+    }
+
+pub returns : goal.returns
+returns g c =
+    let cs = replace_all_full c.args.commands.now in
+    let s = start c.args.size c.args.max_allocs in
+    let most : length cs ≤ c.loop-command.command-index = omega (arith, length-map c.args.commands.now replace_full) in
+    record {
+      answers = all_answers cs s c.loop-command.command-index c.loop-command.answers.items (answers cs s) most c.loop-command.invariant.answered;
+      reports = all_reports cs s c.loop-command.command-index c.loop-command.reports.items (reports_from cs s) most c.loop-command.invariant.reported
+          ∙ quiet_reports c.args.size c.args.max_allocs c.args.commands.now;
+    }
