@@ -106,7 +106,7 @@ pub fn play_guarded<T: Tables>(
     };
     // A step of the proof, which does nothing, here and below.
     is_well_formed(desk.space.allocator());
-    let mut replies = Vec::new(alloc);
+    let mut replies = Vec::with_capacity(alloc, calls.len())?;
     for call in calls {
         let ticket = passed(&desk.tickets, call);
         let reply = reply(alloc, &mut desk, call.call, ticket)?;

@@ -227,7 +227,7 @@ pub fn play_calls_of<T: Tables>(
     // A step of the proof, which does nothing, here and below.
     is_well_formed(&player.space);
     let mut numbers = Numbers::new(alloc);
-    let mut found = Vec::new(alloc);
+    let mut found = Vec::with_capacity(alloc, calls.len())?;
     for call in calls {
         let grants = player.handles.len();
         let reply = reply(alloc, &mut player, &numbers, *call)?;
