@@ -1,6 +1,7 @@
 pub mod Devices
 pub mod Faults
 pub mod Grammar
+pub mod Heads
 pub mod Histories
 pub mod Machine
 pub mod Playing

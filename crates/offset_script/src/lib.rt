@@ -3,6 +3,7 @@
 
 mod answers;
 mod devices;
+mod direct;
 mod faults;
 pub mod laws;
 mod line;

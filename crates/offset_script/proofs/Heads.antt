@@ -1,0 +1,65 @@
+-- A command at the head of a text is the command of its first line.
+use Rattle.offset_script.proofs.Common.{◌≡◌, ℕ, ◌+◌, Bool, true, false, eqb, List, [], ◌∷◌, ◌++◌, Some, refl, sym, ap, subst, ◌∙◌, append_assoc, arith, rules, codes, AllByRecursion, IsTrue, all_ascii_digits, and_parts, nat_tests}
+use Rattle.offset_script.proofs.Common.{slice_split_at, All-from_recursion, Command, Alloc, Size, Report, Full, Reset, Align, Extend, has_valid_alignment, parts, is_skipped, significant_from, line_ends}
+use Rattle.offset_script.proofs.{FirstLine.significant_step, FirstLine.ends_step, Spelled.commands}
+use Rattle.std.specs.{Char.is_ascii_digit}
+use Rattle.offset_script.specs.{declared.scripts.Command.TheVariants.Free, Spelling.IsNumeral, Spelling.IsNumbered, Spelling.IsSpelling, Heads.BeginsWithNumber, Heads.BeginsWithCommand, Heads.BeginsWithLine}
+
+-- a word and a number are a line
+pub numbered_line : (c : Command) (word text after rest : List ℕ) (n : ℕ) → ((line : List ℕ) → IsNumbered word n line → IsSpelling c line) → text ≡ word ++ after
+    → BeginsWithNumber after n 10 rest → BeginsWithCommand text c rest
+numbered_line c word text after rest n f e b = record {
+  line = word ++ b.digits;
+  spells = f (word ++ b.digits) (b.digits, b.numeral, refl);
+  text_is = e ∙ ap (λ (x : List ℕ). word ++ x) b.text_is ∙ sym (append_assoc word b.digits (10 ∷ rest));
+}
+
+-- ---- no line of a command has a line end or is skipped
+
+abbrev HasNoEnd : List ℕ → Type 0
+HasNoEnd xs = AllByRecursion (λ x. eqb x 10 ≡ false) xs
+
+no_end_digits : (ds : List ℕ) → all_ascii_digits ds ≡ true → HasNoEnd ds
+no_end_digits [] h = tt
+no_end_digits (d ∷ ds) h = let p = and_parts (is_ascii_digit d) (all_ascii_digits ds) h in (grind (arith, nat_tests), no_end_digits ds p.1)
+
+no_end_both : (xs ys : List ℕ) → HasNoEnd xs → HasNoEnd ys → HasNoEnd (xs ++ ys)
+no_end_both [] ys h k = k
+no_end_both (x ∷ xs) ys h k = (h.0, no_end_both xs ys h.1 k)
+
+-- a line of a command has no line end, and is not skipped
+record IsFullLine (line : List ℕ) : Type 0 where
+  whole : HasNoEnd line
+  kept : is_skipped line ≡ false
+
+numbered_is_full : (b : ℕ) (word line : List ℕ) (n : ℕ) → HasNoEnd (b ∷ word) → eqb b 35 ≡ false → IsNumbered (b ∷ word) n line → IsFullLine line
+numbered_is_full b word line n h e s = subst IsFullLine (sym s.2) (record { whole = no_end_both (b ∷ word) s.0 h (no_end_digits s.0 s.1.each); kept = e })
+
+is_full : (c : Command) (line : List ℕ) → IsSpelling c line → IsFullLine line
+is_full (Alloc n) line s = numbered_is_full 97 (codes "lloc ") line n (search rules) refl s
+is_full (Free n) line s = numbered_is_full 102 (codes "ree ") line n (search rules) refl s
+is_full (Size n) line s = numbered_is_full 115 (codes "ize ") line n (search rules) refl s
+is_full Report line s = subst IsFullLine (sym s) (record { whole = search rules; kept = refl })
+is_full Full line s = subst IsFullLine (sym s) (record { whole = search rules; kept = refl })
+is_full Reset line s = subst IsFullLine (sym s) (record { whole = search rules; kept = refl })
+is_full (Align n a) line s =
+    subst IsFullLine (sym s.5) (record { whole = no_end_both (codes "align " ++ s.0 ++ codes " ") s.1 (no_end_both (codes "align " ++ s.0) (codes " ") (no_end_both (codes "align ") s.0 (search rules) (no_end_digits s.0 s.2.each)) (search rules)) (no_end_digits s.1 s.3.each); kept = refl })
+is_full (Extend n) line s = numbered_is_full 101 (codes "xtend ") line n (search rules) refl s
+
+-- ---- the first line
+
+pub is_valid : (c : Command) (line : List ℕ) → IsSpelling c line → IsTrue (has_valid_alignment c)
+is_valid (Align n a) line s = s.4
+is_valid other line s = refl
+
+head_parts : (text rest : List ℕ) (c : Command) (b : BeginsWithCommand text c rest) → parts 10 text ≡ b.line ∷ parts 10 rest
+head_parts text rest c b = ap (parts 10) b.text_is ∙ slice_split_at (λ x. eqb x 10) b.line 10 rest (All-from_recursion (λ x. eqb x 10 ≡ false) b.line (is_full c b.line b.spells).whole) refl
+
+pub head_line : (n : ℕ) (text rest : List ℕ) (c : Command) → BeginsWithCommand text c rest → BeginsWithLine (significant_from n text) n (Some c) (significant_from (n + 1) rest)
+head_line n text rest c b =
+    let step = significant_step n text b.line (Some rest) (head_parts text rest c b) in
+    record {
+      text = b.line;
+      lines_are = rw (is_full c b.line b.spells).kept at step;
+      command_is = sym (commands c b.line b.spells);
+    }

@@ -1,0 +1,23 @@
+-- What stands at the head of a text, and what the next command of its lines is.
+use Rattle.std.specs.Prelude.{◌≡◌, ℕ, List, ◌∷◌, ◌++◌, Option}
+use Rattle.offset_script.specs.declared.scripts.Command.{Command}
+use Rattle.offset_script.specs.Grammar.{Line, command_of}
+use Rattle.offset_script.specs.Spelling.{IsNumeral, IsSpelling}
+
+-- a number, the byte `end` and a rest
+pub record BeginsWithNumber (text : List ℕ) (n end : ℕ) (rest : List ℕ) : Type 0 where
+  pub digits : List ℕ
+  pub numeral : IsNumeral digits n
+  pub text_is : text ≡ digits ++ end ∷ rest
+
+-- the line of a command, its line end and a rest
+pub record BeginsWithCommand (text : List ℕ) (c : Command) (rest : List ℕ) : Type 0 where
+  pub line : List ℕ
+  pub spells : IsSpelling c line
+  pub text_is : text ≡ line ++ 10 ∷ rest
+
+-- of these lines the first has this number and spells this command, if it spells one, and others come after it
+pub record BeginsWithLine (lines : List Line) (number : ℕ) (command : Option Command) (others : List Line) : Type 0 where
+  pub text : List ℕ
+  pub lines_are : lines ≡ record { number = number; text = text } ∷ others
+  pub command_is : command ≡ command_of text
