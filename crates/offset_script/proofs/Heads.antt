@@ -3,15 +3,22 @@ use Rattle.offset_script.proofs.Common.{◌≡◌, ℕ, ◌+◌, Bool, true, fal
 use Rattle.offset_script.proofs.Common.{slice_split_at, All-from_recursion, Command, Alloc, Size, Report, Full, Reset, Align, Extend, has_valid_alignment, parts, is_skipped, significant_from, line_ends}
 use Rattle.offset_script.proofs.{FirstLine.significant_step, FirstLine.ends_step, Spelled.commands}
 use Rattle.std.specs.{Char.is_ascii_digit}
-use Rattle.offset_script.specs.{declared.scripts.Command.TheVariants.Free, Spelling.IsNumeral, Spelling.IsNumbered, Spelling.IsSpelling, Heads.BeginsWithNumber, Heads.BeginsWithCommand, Heads.BeginsWithLine}
+use Rattle.offset_script.specs.{declared.scripts.Command.TheVariants.Free, Spelling.IsNumeral, Spelling.IsNumbered, Spelling.IsSpelling, Heads.BeginsWithNumber, Heads.BeginsWithCommand, Heads.BeginsWithLine, Heads.name_of, Heads.counted}
+use Rattle.offset_script.specs.declared.direct.Word.{Word}
+use Rattle.offset_script.specs.declared.direct.Word.TheVariants as words
 
 -- a word and a number are a line
-pub numbered_line : (c : Command) (word text after rest : List ℕ) (n : ℕ) → ((line : List ℕ) → IsNumbered word n line → IsSpelling c line) → text ≡ word ++ after
-    → BeginsWithNumber after n 10 rest → BeginsWithCommand text c rest
-numbered_line c word text after rest n f e b = record {
-  line = word ++ b.digits;
-  spells = f (word ++ b.digits) (b.digits, b.numeral, refl);
-  text_is = e ∙ ap (λ (x : List ℕ). word ++ x) b.text_is ∙ sym (append_assoc word b.digits (10 ∷ rest));
+abbrev spelled : (w : Word) (n : ℕ) (line : List ℕ) → IsNumbered (name_of w) n line → IsSpelling (counted w n) line
+spelled words.Alloc n line h = h
+spelled words.Free n line h = h
+spelled words.Size n line h = h
+spelled words.Extend n line h = h
+
+pub numbered_line : (w : Word) (n : ℕ) (text after rest : List ℕ) → text ≡ name_of w ++ after → BeginsWithNumber after n 10 rest → BeginsWithCommand text (counted w n) rest
+numbered_line w n text after rest e b = record {
+  line = name_of w ++ b.digits;
+  spells = spelled w n (name_of w ++ b.digits) (b.digits, b.numeral, refl);
+  text_is = e ∙ ap (λ (x : List ℕ). name_of w ++ x) b.text_is ∙ sym (append_assoc (name_of w) b.digits (10 ∷ rest));
 }
 
 -- ---- no line of a command has a line end or is skipped

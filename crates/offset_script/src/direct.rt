@@ -1,67 +1,111 @@
 //! Reads the commonest commands in one pass over their lines.
 
-ghost use Rattle.std.specs.Prelude.{◌≡◌, ◌++◌, IfSome, codes};
-ghost use Rattle.offset_script.specs.Heads.{BeginsWithNumber, BeginsWithCommand};
+ghost use Rattle.std.specs.Prelude.{◌≡◌, ◌+◌, ◌-◌, ◌<◌, nat_lt, ◌≤◌, ◌++◌, length, IfSome, codes};
+ghost use Rattle.std.specs.Char.{is_ascii_digit};
+ghost use Rattle.std.specs.Int.{to_le_bytes, w32};
+ghost use Rattle.offset_script.specs.Heads.{BeginsWithNumber, BeginsWithCommand, name_of, counted};
 
 use crate::scripts::Command;
 use crate::tokens::MOST_DIGITS;
 
+// The most bytes that are read here: a word, a space, and a number with its line end.
+const LONGEST: usize = 18;
+
+// The commands of a word and a number.
+#[derive(Clone, Copy)]
+enum Word {
+    Alloc,
+    Free,
+    Size,
+    Extend,
+}
+
+impl Word {
+    // The command with this number.
+    fn with(self, n: u32) -> Command
+        ensures { result ≡ counted self n }
+    {
+        match self {
+            Word::Alloc => Command::Alloc(n),
+            Word::Free => Command::Free(n),
+            Word::Size => Command::Size(n),
+            Word::Extend => Command::Extend(n),
+        }
+    }
+}
+
+// Four bytes as one number, to compare them together.
+fn joined(bytes: [u8; 4]) -> u32
+    ensures { to_le_bytes w32 result ≡ bytes }
+{
+    u32::from_le_bytes(bytes)
+}
+
+// `allo`, `free`, `size` and `exte`, joined.
+const ALLO: u32 = 0x6f6c_6c61;
+
+const FREE: u32 = 0x6565_7266;
+
+const SIZE: u32 = 0x657a_6973;
+
+const EXTE: u32 = 0x6574_7865;
+
+// The word at the head of a text, and what comes after the space behind it.
+fn word_before(text: &[u8]) -> Option<(Word, &[u8])>
+    ensures word { IfSome result (λ r. text.now ≡ name_of r.0 ++ r.1.now) }
+    ensures room { IfSome result (λ r. length text.now ≤ length r.1.now + 7) }
+{
+    let [a, b, c, d, more @ ..] = text else {
+        return None;
+    };
+    match joined([*a, *b, *c, *d]) {
+        ALLO => match more {
+            [b'c', b' ', rest @ ..] => Some((Word::Alloc, rest)),
+            _ => None,
+        },
+        FREE => match more {
+            [b' ', rest @ ..] => Some((Word::Free, rest)),
+            _ => None,
+        },
+        SIZE => match more {
+            [b' ', rest @ ..] => Some((Word::Size, rest)),
+            _ => None,
+        },
+        EXTE => match more {
+            [b'n', b'd', b' ', rest @ ..] => Some((Word::Extend, rest)),
+            _ => None,
+        },
+        _ => None,
+    }
+}
+
+// The value of a digit. It is 10 or more of any other byte.
+fn digit(b: u8) -> u64
+    ensures digit { nat_lt result 10 ≡ is_ascii_digit b }
+    ensures value { result < 10 → result ≡ b - 48 }
+{
+    u64::from(b).wrapping_sub(u64::from(b'0'))
+}
+
 // The number at the head of a text, and what comes after the byte `end` behind it. `None` where these do not stand there.
+#[inline(always)]
 fn number_before(text: &[u8], end: u8) -> Option<(u32, &[u8])>
+    requires { 10 < length text.now }
     ensures { IfSome result (λ r. BeginsWithNumber text.now r.0 end r.1.now) }
 {
     let mut n = 0u64;
-    for i in 0..text.len().min(MOST_DIGITS + 1) {
-        let b = text[i];
-        if !b.is_ascii_digit() {
-            if b != end || i == 0 {
+    // So few bytes that the loop is unrolled.
+    for i in 0..=MOST_DIGITS {
+        let d = digit(text[i]);
+        if d >= 10 {
+            if text[i] != end || i == 0 {
                 return None;
             }
             return Some((u32::try_from(n).ok()?, &text[i + 1..]));
         }
-        n = n * 10 + u64::from(b - b'0');
+        n = n * 10 + d;
     }
     None
-}
-
-// What comes after the word `alloc` and a space.
-fn after_alloc(text: &[u8]) -> Option<&[u8]>
-    ensures { IfSome result (λ rest. text.now ≡ codes "alloc " ++ rest.now) }
-{
-    match text {
-        [b'a', b'l', b'l', b'o', b'c', b' ', rest @ ..] => Some(rest),
-        _ => None,
-    }
-}
-
-// What comes after the word `free` and a space.
-fn after_free(text: &[u8]) -> Option<&[u8]>
-    ensures { IfSome result (λ rest. text.now ≡ codes "free " ++ rest.now) }
-{
-    match text {
-        [b'f', b'r', b'e', b'e', b' ', rest @ ..] => Some(rest),
-        _ => None,
-    }
-}
-
-// What comes after the word `size` and a space.
-fn after_size(text: &[u8]) -> Option<&[u8]>
-    ensures { IfSome result (λ rest. text.now ≡ codes "size " ++ rest.now) }
-{
-    match text {
-        [b's', b'i', b'z', b'e', b' ', rest @ ..] => Some(rest),
-        _ => None,
-    }
-}
-
-// What comes after the word `report` and a line end.
-fn after_report(text: &[u8]) -> Option<&[u8]>
-    ensures { IfSome result (λ rest. text.now ≡ codes "report\n" ++ rest.now) }
-{
-    match text {
-        [b'r', b'e', b'p', b'o', b'r', b't', b'\n', rest @ ..] => Some(rest),
-        _ => None,
-    }
 }
 
 /// The command on the first line of a text, if it is one of the commonest and its line end follows, and what comes
@@ -69,18 +113,15 @@ fn after_report(text: &[u8]) -> Option<&[u8]>
 pub fn command_at_head(text: &[u8]) -> Option<(Command, &[u8])>
     ensures { IfSome result (λ r. BeginsWithCommand text.now r.0 r.1.now) }
 {
-    if let Some(rest) = after_alloc(text) {
-        let (n, rest) = number_before(rest, b'\n')?;
-        return Some((Command::Alloc(n), rest));
+    if text.len() < LONGEST {
+        return None;
     }
-    if let Some(rest) = after_free(text) {
+    if let Some((word, rest)) = word_before(text) {
         let (n, rest) = number_before(rest, b'\n')?;
-        return Some((Command::Free(n), rest));
+        return Some((word.with(n), rest));
     }
-    if let Some(rest) = after_size(text) {
-        let (n, rest) = number_before(rest, b'\n')?;
-        return Some((Command::Size(n), rest));
+    match text {
+        [b'r', b'e', b'p', b'o', b'r', b't', b'\n', rest @ ..] => Some((Command::Report, rest)),
+        _ => None,
     }
-    let rest = after_report(text)?;
-    Some((Command::Report, rest))
 }
