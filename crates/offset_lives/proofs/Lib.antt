@@ -7,9 +7,11 @@ mod Levelled
 mod Merged
 mod Ordered
 mod Peaks
+mod Pieces
 mod Quieter
 mod Ranges
 mod Seen
 mod Stepped
 mod Watched
 mod Whole
+mod Written

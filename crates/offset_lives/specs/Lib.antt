@@ -6,6 +6,7 @@ pub mod Figures
 pub mod Growth
 pub mod Levels
 pub mod Lives
+pub mod Marks
 pub mod Merging
 pub mod Places
 pub mod Quiet

@@ -9,6 +9,7 @@ mod figures;
 pub mod laws;
 mod legend;
 mod levels;
+mod line;
 mod living;
 mod merging;
 mod numbers;

@@ -1,9 +1,11 @@
 //! A rectangle for each grant.
 
-ghost use Rattle.std.specs.Prelude.{◌≡◌, ◌≤◌, ◌↔◌, IsTrue};
+ghost use Rattle.std.specs.Prelude.{◌≡◌, ◌≤◌, ◌++◌, ◌↔◌, IsTrue, OnOk, length, string_bytes};
+ghost use Rattle.offset_lives.specs.Marks.{rectangle_text, title_text};
 ghost use Rattle.offset_lives.specs.Places.{frame_of};
 
 use crate::ages::AGES;
+use crate::line::Line;
 use crate::living::Life;
 use crate::merging::shapes_of;
 use crate::numbers::Pixels;
@@ -51,39 +53,48 @@ impl Frame {
     }
 }
 
-// The beginning of a rectangle's element.
-fn put_shape(out: &mut String, shape: &Shape) -> Result<(), AllocError> {
+// Puts the beginning of a rectangle's element before the end of its tag.
+fn put_shape(line: &mut Line, shape: &Shape)
+    requires { length line.old ≤ 10 }
+    ensures { line.new ≡ rectangle_text (frame_of shape.now) ++ line.old }
+{
     let frame = frame_of(shape);
-    let x = Pixels(frame.x);
-    let y = Pixels(frame.y);
-    let width = Pixels(frame.width);
-    let height = Pixels(frame.height);
-    write!(
-        out,
-        "<rect x='{x}' y='{y}' width='{width}' height='{height}'"
-    )?;
     if frame.has_edge() {
-        write!(out, " class='edge'")?;
+        line.put(" class='edge'");
     }
-    Ok(())
+    line.put("'");
+    line.put_pixels(Pixels(frame.height));
+    line.put("' height='");
+    line.put_pixels(Pixels(frame.width));
+    line.put("' width='");
+    line.put_pixels(Pixels(frame.y));
+    line.put("' y='");
+    line.put_pixels(Pixels(frame.x));
+    line.put("<rect x='");
 }
 
-// The title of a life, the last of whose calls is at most this one.
-fn put_title(out: &mut String, life: &Life, calls: u32) -> Result<(), AllocError> {
-    let number = life.number;
-    let offset = life.offset;
-    let size = life.size;
-    let first = life.first.saturating_add(1);
+// Appends the title of a life, the last of whose calls is at most this one, and the end of its rectangle.
+fn put_title(out: &mut String, life: &Life, calls: u32) -> Result<(), AllocError>
+    ensures { OnOk result (string_bytes out.new ≡ string_bytes out.old ++ title_text life.now calls) }
+{
     let last = life.last.saturating_add(1);
-    write!(
-        out,
-        "<title>grant {number}, offset {offset}, size {size}, calls {first}-"
-    )?;
+    let mut line = Line::new();
+    line.put("</title></rect>\n");
     if last > calls as usize {
-        write!(out, "end</title>")
+        line.put("end");
     } else {
-        write!(out, "{last}</title>")
+        line.put_number(last as u64);
     }
+    line.put("-");
+    line.put_number(life.first.saturating_add(1) as u64);
+    line.put(", calls ");
+    line.put_number(u64::from(life.size));
+    line.put(", size ");
+    line.put_number(u64::from(life.offset));
+    line.put(", offset ");
+    line.put_number(life.number);
+    line.put("<title>grant ");
+    line.put_in(out)
 }
 
 // The rectangles of the lives of an age, each with its title.
@@ -97,10 +108,11 @@ fn put_titled(
     for life in lives {
         let shape = shape_of(plot, life);
         if shape.age == age {
-            put_shape(out, &shape)?;
-            out.push('>')?;
+            let mut line = Line::new();
+            line.put(">");
+            put_shape(&mut line, &shape);
+            line.put_in(out)?;
             put_title(out, life, calls)?;
-            writeln!(out, "</rect>")?;
         }
     }
     Ok(())
@@ -110,8 +122,10 @@ fn put_titled(
 fn put_plain(out: &mut String, shapes: &[Shape], age: usize) -> Result<(), AllocError> {
     for shape in shapes {
         if shape.age == age {
-            put_shape(out, shape)?;
-            writeln!(out, "/>")?;
+            let mut line = Line::new();
+            line.put("/>\n");
+            put_shape(&mut line, shape);
+            line.put_in(out)?;
         }
     }
     Ok(())

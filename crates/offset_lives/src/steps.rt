@@ -1,6 +1,10 @@
 //! Values of states, as a line of steps, and calls, as marks. Both are drawn to a tenth of a pixel.
 
+ghost use Rattle.std.specs.Prelude.{◌≡◌, ◌++◌, OnOk, string_bytes};
+ghost use Rattle.offset_lives.specs.Marks.{column_text};
+
 use crate::axes::{Axis, TENTH};
+use crate::line::Line;
 use crate::numbers::Pixels;
 use crate::plots::Plot;
 use std::alloc::AllocError;
@@ -36,20 +40,26 @@ impl Column {
     }
 
     // Continues the line, which is at the height `pen`, over all of the heights, to the last.
-    fn put(&self, out: &mut String, pen: u32) -> Result<(), AllocError> {
+    fn put(&self, out: &mut String, pen: u32) -> Result<(), AllocError>
+        ensures { OnOk result (string_bytes out.new ≡ string_bytes out.old ++ column_text self.now pen) }
+    {
         if self.top == pen && self.bottom == pen {
             return Ok(());
         }
-        let left = Pixels(self.left);
-        write!(out, "H{left}")?;
-        for height in [self.top, self.bottom] {
-            if height != self.last {
-                let height = Pixels(height);
-                write!(out, "V{height}")?;
-            }
+        let mut line = Line::new();
+        line.put_pixels(Pixels(self.last));
+        if self.bottom != self.last {
+            line.put("V");
+            line.put_pixels(Pixels(self.bottom));
         }
-        let last = Pixels(self.last);
-        write!(out, "V{last}")
+        if self.top != self.last {
+            line.put("V");
+            line.put_pixels(Pixels(self.top));
+        }
+        line.put("V");
+        line.put_pixels(Pixels(self.left));
+        line.put("H");
+        line.put_in(out)
     }
 }
 
@@ -93,8 +103,13 @@ pub fn put_marks(
     for call in marked {
         let place = in_tenths(calls.right(call.saturating_add(1) as u64));
         if before != Some(place) {
-            let place = Pixels(place);
-            write!(out, "M{place} {top}v12")?;
+            let mut line = Line::new();
+            line.put("v12");
+            line.put_pixels(top);
+            line.put(" ");
+            line.put_pixels(Pixels(place));
+            line.put("M");
+            line.put_in(out)?;
         }
         before = Some(place);
     }
