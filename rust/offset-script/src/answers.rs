@@ -5,7 +5,7 @@
 use crate::memory::Vec;
 use crate::line::Line;
 use offset_allocator::StorageReport;
-use crate::memory::{AllocError, Global};
+use crate::memory::AllocError;
 
 /// One size class of a full report.
 #[derive(Clone, Copy, PartialEq, Debug)]
@@ -103,8 +103,8 @@ fn put_rows(out: &mut Vec<u8>, rows: &[FullRow]) -> Result<(), AllocError> {
     Ok(())
 }
 
-// Appends the lines of an answer.
-fn put_answer(out: &mut Vec<u8>, answer: &Answer) -> Result<(), AllocError> {
+/// Appends the lines of an answer: one, and for a full report one more for each of its rows.
+pub(crate) fn put_answer(out: &mut Vec<u8>, answer: &Answer) -> Result<(), AllocError> {
     match answer {
         Answer::Grant { number, offset } => put_grant(out, *number, *offset),
         Answer::Refused => out.extend_from_slice(b"none\n"),
@@ -121,13 +121,4 @@ fn put_answer(out: &mut Vec<u8>, answer: &Answer) -> Result<(), AllocError> {
         Answer::Reset => out.extend_from_slice(b"reset\n"),
         Answer::Extended => out.extend_from_slice(b"extended\n"),
     }
-}
-
-/// The text of answers: a line for each, and after the line of a full report one for each of its rows.
-pub fn answer_text(alloc: Global, answers: &[Answer]) -> Result<Vec<u8>, AllocError> {
-    let mut out = Vec::new(alloc);
-    for answer in answers {
-        put_answer(&mut out, answer)?;
-    }
-    Ok(out)
 }

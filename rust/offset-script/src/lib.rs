@@ -10,6 +10,7 @@ pub use memory::{AllocError, Global, String, Vec};
 
 mod answers;
 mod devices;
+mod direct;
 mod faults;
 pub mod laws;
 mod line;
@@ -21,6 +22,7 @@ mod running;
 mod scripts;
 mod sending;
 mod tokens;
+mod writing;
 
 pub use answers::{Answer, FullRow};
 pub use devices::{FromRead, IntoWrite, Sink, Source};

@@ -3,13 +3,12 @@
 //! Runs a script from a source to a sink.
 
 use crate::memory::Vec;
-use crate::answers::answer_text;
 use crate::devices::{Sink, Source};
 use crate::faults::RunFault;
-use crate::playing::play_script;
 use crate::reading::{MAX_TEXT, parse};
 use crate::scripts::Script;
 use crate::sending::send;
+use crate::writing::text_of_script;
 use crate::memory::Global;
 
 // The largest number of bytes that one pull requests.
@@ -39,8 +38,8 @@ pub fn read_script<S: Source>(alloc: Global, input: &mut S) -> Result<Script, Ru
     Ok(parse(alloc, &text)?)
 }
 
-/// Reads a script to its end, plays it, writes the text of its answers, and then flushes. The script, all answers and
-/// their text are in memory at once.
+/// Reads a script to its end, plays it, writes the text of its answers, and then flushes. The script and the text of all
+/// answers are in memory at once.
 ///
 /// Nothing is written unless the whole text is a script; of a text that is too long, 1,048,577 bytes are read. `Read`
 /// is returned exactly where the source failed in this call, and `Write` exactly where the sink did; then a beginning
@@ -48,8 +47,7 @@ pub fn read_script<S: Source>(alloc: Global, input: &mut S) -> Result<Script, Ru
 /// allocation fails, the fault is `Memory`.
 pub fn run<S: Source, K: Sink>(alloc: Global, input: &mut S, output: &mut K) -> Result<(), RunFault> {
     let script = read_script(alloc, input)?;
-    let answers = play_script(alloc, &script)?;
-    let text = answer_text(alloc, &answers)?;
+    let text = text_of_script(alloc, &script)?;
     if send(output, &text) {
         Ok(())
     } else {
