@@ -1,9 +1,10 @@
--- A command at the head of a text is the command of its first line.
-use Rattle.offset_script.proofs.Common.{◌≡◌, ℕ, ◌+◌, Bool, true, false, eqb, List, [], ◌∷◌, ◌++◌, Some, refl, sym, ap, subst, ◌∙◌, append_assoc, arith, rules, codes, AllByRecursion, IsTrue, all_ascii_digits, and_parts, nat_tests}
-use Rattle.offset_script.proofs.Common.{slice_split_at, All-from_recursion, Command, Alloc, Size, Report, Full, Reset, Align, Extend, has_valid_alignment, parts, is_skipped, significant_from, line_ends}
-use Rattle.offset_script.proofs.{FirstLine.significant_step, FirstLine.ends_step, Spelled.commands}
+-- Commands at the head of a text are the commands of its first lines.
+use Rattle.offset_script.proofs.Common.{◌≡◌, ℕ, ◌+◌, ◌<◌, length, length-append, true, false, eqb, List, [], ◌∷◌, ◌++◌, Some, refl, sym, ap, subst, ◌∙◌, append_assoc, arith, rules, codes, AllByRecursion, IsTrue, all_ascii_digits, and_parts, nat_tests}
+use Rattle.offset_script.proofs.Common.{slice_split_at, All-from_recursion, Command, Alloc, Size, Report, Full, Reset, Align, Extend, has_valid_alignment, parts, is_skipped, significant_from, Line, Plan, ◌>>=!◌, commands_of, append-nil, Result, Ok, Err}
+use Rattle.offset_script.proofs.{FirstLine.significant_step, Spelled.commands, Meaning.rest_of_plan}
 use Rattle.std.specs.{Char.is_ascii_digit}
-use Rattle.offset_script.specs.{declared.scripts.Command.TheVariants.Free, Spelling.IsNumeral, Spelling.IsNumbered, Spelling.IsSpelling, Heads.BeginsWithNumber, Heads.BeginsWithCommand, Heads.BeginsWithLine, Heads.name_of, Heads.counted}
+use Rattle.offset_script.specs.{declared.scripts.Command.TheVariants.Free, Spelling.IsNumbered, Spelling.IsSpelling, Heads.BeginsWithNumber, Heads.BeginsWithCommand, Heads.ReadsCommands, Heads.name_of, Heads.counted}
+use Rattle.offset_script.specs.{declared.scripts.Header.Header, declared.faults.ScriptFault.ScriptFault}
 use Rattle.offset_script.specs.declared.direct.Word.{Word}
 use Rattle.offset_script.specs.declared.direct.Word.TheVariants as words
 
@@ -12,7 +13,6 @@ abbrev spelled : (w : Word) (n : ℕ) (line : List ℕ) → IsNumbered (name_of 
 spelled words.Alloc n line h = h
 spelled words.Free n line h = h
 spelled words.Size n line h = h
-spelled words.Extend n line h = h
 
 pub numbered_line : (w : Word) (n : ℕ) (text after rest : List ℕ) → text ≡ name_of w ++ after → BeginsWithNumber after n 10 rest → BeginsWithCommand text (counted w n) rest
 numbered_line w n text after rest e b = record {
@@ -59,14 +59,48 @@ pub is_valid : (c : Command) (line : List ℕ) → IsSpelling c line → IsTrue 
 is_valid (Align n a) line s = s.4
 is_valid other line s = refl
 
+pub is_shorter : (text rest : List ℕ) (c : Command) → BeginsWithCommand text c rest → length rest < length text
+is_shorter text rest c b = omega (arith, ap length b.text_is, length-append b.line (10 ∷ rest))
+
 head_parts : (text rest : List ℕ) (c : Command) (b : BeginsWithCommand text c rest) → parts 10 text ≡ b.line ∷ parts 10 rest
 head_parts text rest c b = ap (parts 10) b.text_is ∙ slice_split_at (λ x. eqb x 10) b.line 10 rest (All-from_recursion (λ x. eqb x 10 ≡ false) b.line (is_full c b.line b.spells).whole) refl
 
-pub head_line : (n : ℕ) (text rest : List ℕ) (c : Command) → BeginsWithCommand text c rest → BeginsWithLine (significant_from n text) n (Some c) (significant_from (n + 1) rest)
-head_line n text rest c b =
-    let step = significant_step n text b.line (Some rest) (head_parts text rest c b) in
-    record {
-      text = b.line;
-      lines_are = rw (is_full c b.line b.spells).kept at step;
-      command_is = sym (commands c b.line b.spells);
-    }
+head_line : (n : ℕ) (text rest : List ℕ) (c : Command) → BeginsWithCommand text c rest → commands_of (significant_from n text) ≡ (commands_of (significant_from (n + 1) rest) >>=! λ cs. Ok (c ∷ cs))
+unfolding commands_of
+head_line n text rest c b = rw (significant_step n text b.line (Some rest) (head_parts text rest c b), (is_full c b.line b.spells).kept, commands c b.line b.spells) refl
+
+-- ---- the first lines
+
+nothing_more : (r : Result (List Command) ScriptFault) → r ≡ (r >>=! λ cs. Ok ([] ++ cs))
+nothing_more (Ok cs) = refl
+nothing_more (Err e) = refl
+
+pub reads_none : (lines : List Line) (cs : List Command) → ReadsCommands lines cs lines cs
+reads_none lines cs = record { read = []; new_is = sym (append-nil cs); means = nothing_more (commands_of lines) }
+
+one_more : (front : List Command) (c : Command) (r : Result (List Command) ScriptFault) → ((r >>=! λ cs. Ok (c ∷ cs)) >>=! λ cs. Ok (front ++ cs)) ≡ (r >>=! λ cs. Ok ((front ++ c ∷ []) ++ cs))
+one_more front c (Ok cs) = ap (λ (x : List Command). Ok x) (sym (append_assoc front (c ∷ []) cs))
+one_more front c (Err e) = refl
+
+pub reads_one_more : (n : ℕ) (text rest : List ℕ) (c : Command) (before : List Line) (old new : List Command) → ReadsCommands before old (significant_from n text) new → BeginsWithCommand text c rest
+    → ReadsCommands before old (significant_from (n + 1) rest) (new ++ c ∷ [])
+reads_one_more n text rest c before old new r b = record {
+  read = r.read ++ c ∷ [];
+  new_is = ap (λ (x : List Command). x ++ c ∷ []) r.new_is ∙ append_assoc old r.read (c ∷ []);
+  means = r.means ∙ rw (head_line n text rest c b) (one_more r.read c (commands_of (significant_from (n + 1) rest)));
+}
+
+abbrev planned : Header → List Command → Result Plan ScriptFault
+planned h cs = Ok (record { header = h; commands = cs })
+
+append_read : (h : Header) (front read : List Command) (r : Result (List Command) ScriptFault)
+    → ((r >>=! λ cs. Ok (read ++ cs)) >>=! λ cs. planned h (front ++ cs)) ≡ (r >>=! λ cs. planned h ((front ++ read) ++ cs))
+append_read h front read (Ok cs) = ap (planned h) (sym (append_assoc front read cs))
+append_read h front read (Err e) = refl
+
+-- the meaning of the script stays the same
+pub goes_on_past : (h : Header) (before after : List Line) (old new : List Command) (meaning : Result Plan ScriptFault) → rest_of_plan h old before ≡ meaning → ReadsCommands before old after new
+    → rest_of_plan h new after ≡ meaning
+goes_on_past h before after old new meaning so_far r =
+    let one : rest_of_plan h old before ≡ rest_of_plan h new after = rw (r.means, r.new_is) (append_read h old r.read (commands_of after)) in
+    sym one ∙ so_far

@@ -1,15 +1,18 @@
 //! Reads the commonest commands in one pass over their lines.
 
-ghost use Rattle.std.specs.Prelude.{◌≡◌, ◌+◌, ◌-◌, ◌<◌, nat_lt, ◌≤◌, ◌++◌, length, IfSome, codes};
+ghost use Rattle.std.specs.Prelude.{◌≡◌, ◌+◌, ◌-◌, ◌<◌, nat_lt, ◌≤◌, ◌++◌, length, All, IfOk, IfSome, IsTrue};
 ghost use Rattle.std.specs.Char.{is_ascii_digit};
 ghost use Rattle.std.specs.Int.{to_le_bytes, w32};
-ghost use Rattle.offset_script.specs.Heads.{BeginsWithNumber, BeginsWithCommand, name_of, counted};
+ghost use Rattle.offset_script.specs.Heads.{BeginsWithNumber, BeginsWithCommand, ReadsCommands, name_of, counted};
+ghost use Rattle.offset_script.specs.Grammar.{has_valid_alignment, significant_from};
 
+use crate::lines::Lines;
 use crate::scripts::Command;
 use crate::tokens::MOST_DIGITS;
+use std::alloc::AllocError;
 
 // The most bytes that are read here: a word, a space, and a number with its line end.
-const LONGEST: usize = 18;
+const LONGEST: usize = 17;
 
 // The commands of a word and a number.
 #[derive(Clone, Copy)]
@@ -17,7 +20,6 @@ enum Word {
     Alloc,
     Free,
     Size,
-    Extend,
 }
 
 impl Word {
@@ -29,7 +31,6 @@ impl Word {
             Word::Alloc => Command::Alloc(n),
             Word::Free => Command::Free(n),
             Word::Size => Command::Size(n),
-            Word::Extend => Command::Extend(n),
         }
     }
 }
@@ -41,19 +42,17 @@ fn joined(bytes: [u8; 4]) -> u32
     u32::from_le_bytes(bytes)
 }
 
-// `allo`, `free`, `size` and `exte`, joined.
+// `allo`, `free` and `size`, joined.
 const ALLO: u32 = 0x6f6c_6c61;
 
 const FREE: u32 = 0x6565_7266;
 
 const SIZE: u32 = 0x657a_6973;
 
-const EXTE: u32 = 0x6574_7865;
-
 // The word at the head of a text, and what comes after the space behind it.
 fn word_before(text: &[u8]) -> Option<(Word, &[u8])>
     ensures word { IfSome result (λ r. text.now ≡ name_of r.0 ++ r.1.now) }
-    ensures room { IfSome result (λ r. length text.now ≤ length r.1.now + 7) }
+    ensures room { IfSome result (λ r. length text.now ≤ length r.1.now + 6) }
 {
     let [a, b, c, d, more @ ..] = text else {
         return None;
@@ -69,10 +68,6 @@ fn word_before(text: &[u8]) -> Option<(Word, &[u8])>
         },
         SIZE => match more {
             [b' ', rest @ ..] => Some((Word::Size, rest)),
-            _ => None,
-        },
-        EXTE => match more {
-            [b'n', b'd', b' ', rest @ ..] => Some((Word::Extend, rest)),
             _ => None,
         },
         _ => None,
@@ -101,16 +96,19 @@ fn number_before(text: &[u8], end: u8) -> Option<(u32, &[u8])>
             if text[i] != end || i == 0 {
                 return None;
             }
-            return Some((u32::try_from(n).ok()?, &text[i + 1..]));
+            if n > u64::from(u32::MAX) {
+                return None;
+            }
+            return Some((n as u32, &text[i + 1..]));
         }
         n = n * 10 + d;
     }
     None
 }
 
-/// The command on the first line of a text, if it is one of the commonest and its line end follows, and what comes
-/// after that. Where it is `None` the line may be a command too.
-pub fn command_at_head(text: &[u8]) -> Option<(Command, &[u8])>
+// The command on the first line of a text, if it is one of the commonest and its line end follows, and what comes
+// after that. Where it is `None` the line may be a command too.
+fn command_at_head(text: &[u8]) -> Option<(Command, &[u8])>
     ensures { IfSome result (λ r. BeginsWithCommand text.now r.0 r.1.now) }
 {
     if text.len() < LONGEST {
@@ -124,4 +122,28 @@ pub fn command_at_head(text: &[u8]) -> Option<(Command, &[u8])>
         [b'r', b'e', b'p', b'o', b'r', b't', b'\n', rest @ ..] => Some((Command::Report, rest)),
         _ => None,
     }
+}
+
+/// Reads the lines at the head that are of the commonest commands, up to the first that is not, and appends these.
+///
+/// It is never inlined: with the code for all other lines around it the loop has too few registers.
+#[inline(never)]
+pub fn read_common(lines: &mut Lines, commands: &mut Vec<Command>) -> Result<(), AllocError>
+    ensures read { IfOk result (λ _. ReadsCommands
+        (significant_from lines.old.number lines.old.rest.now) commands.old.items
+        (significant_from lines.new.number lines.new.rest.now) commands.new.items) }
+    ensures powers { IfOk result (λ _. All (λ c. IsTrue (has_valid_alignment c)) commands.old.items
+        → All (λ c. IsTrue (has_valid_alignment c)) commands.new.items) }
+    ensures shorter { length lines.new.rest.now ≤ length lines.old.rest.now }
+{
+    let mut rest = lines.rest;
+    let mut number = lines.number;
+    while let Some((command, after)) = command_at_head(rest) {
+        commands.push(command)?;
+        rest = after;
+        number += 1;
+    }
+    lines.rest = rest;
+    lines.number = number;
+    Ok(())
 }

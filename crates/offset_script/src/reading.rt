@@ -1,12 +1,11 @@
 //! Reads a text as a script.
 
-ghost use Rattle.std.specs.Prelude.{◌≡◌, ◌<◌, [], length, IfSome, MatchOption, IsTrue};
-ghost use Rattle.offset_script.specs.Heads.{BeginsWithLine};
+ghost use Rattle.std.specs.Prelude.{◌≡◌, IfSome, IsTrue};
 ghost use Rattle.offset_script.specs.Grammar.{plain_command, number_command, pair_command, command_of, width_of};
-ghost use Rattle.offset_script.specs.Grammar.{header_of, has_valid_alignment, is_admitted, meaning_of, significant_from};
+ghost use Rattle.offset_script.specs.Grammar.{header_of, has_valid_alignment, is_admitted, meaning_of};
 ghost use Rattle.offset_script.specs.Running.{IsParsed};
 
-use crate::direct::command_at_head;
+use crate::direct::read_common;
 use crate::faults::ScriptFault;
 use crate::lines::Lines;
 use crate::scripts::{Command, Header, IndexWidth, Script};
@@ -136,27 +135,6 @@ impl Header {
     }
 }
 
-// Takes lines up to the next one that is neither empty nor a comment, and returns its number and the command that it
-// spells, if it spells one. `None` where there is no such line.
-fn next_command(lines: &mut Lines) -> Option<(u32, Option<Command>)>
-    ensures line { MatchOption result
-        (significant_from lines.old.number lines.old.rest.now ≡ [])
-        (λ r. BeginsWithLine (significant_from lines.old.number lines.old.rest.now) r.0 r.1
-        (significant_from lines.new.number lines.new.rest.now)) }
-    ensures shorter { IfSome result (λ _. length lines.new.rest.now < length lines.old.rest.now) }
-    ensures power { IfSome result (λ r. IfSome r.1 (λ c. IsTrue (has_valid_alignment c))) }
-{
-    // Most lines are read here in one pass.
-    if let Some((command, rest)) = command_at_head(lines.rest) {
-        let number = lines.number;
-        lines.rest = rest;
-        lines.number += 1;
-        return Some((number, Some(command)));
-    }
-    let (number, line) = lines.next_line()?;
-    Some((number, command(line)))
-}
-
 /// Reads a text as a script, and returns it, or the fault of its first faulty line.
 ///
 /// A text of more than 1,048,576 bytes is `TooLong`. Lines end with LF and are counted from 1; empty lines and those
@@ -182,11 +160,13 @@ pub fn parse(alloc: Global, text: &[u8]) -> Result<Script, ScriptFault>
         return Err(ScriptFault::BadLimit(line));
     }
     let mut commands = Vec::new(alloc);
-    while let Some((line, command)) = next_command(&mut lines) {
-        let Some(command) = command else {
+    read_common(&mut lines, &mut commands)?;
+    while let Some((line, words)) = lines.next_line() {
+        let Some(command) = command(words) else {
             return Err(ScriptFault::BadCommand(line));
         };
         commands.push(command)?;
+        read_common(&mut lines, &mut commands)?;
     }
     Ok(Script {
         size: header.size,

@@ -1,4 +1,4 @@
-use Rattle.offset_script.proofs.Common.{◌≡◌, ◌+◌, ◌-◌, ◌*◌, arith, get_or, sym, ◌∙◌}
+use Rattle.offset_script.proofs.Common.{arith}
 use Rattle.offset_script.proofs.Numbers.{goes_on_digits, goes_on_value, goes_on_small}
 use Rattle.offset_script.proofs.direct.number_before.Goals as goal
 
