@@ -2,6 +2,7 @@ mod Apart
 mod Backward
 mod Counted
 mod Drawn
+mod Falling
 mod Grown
 mod Levelled
 mod Merged

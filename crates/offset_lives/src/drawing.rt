@@ -10,16 +10,21 @@ use crate::legend::{put_legend, put_notes};
 use crate::levels::levels_of;
 use crate::plots::{Plot, ranges_plot, reports_plot};
 use crate::rectangles::put_grants;
-use crate::steps::{put_marks, put_steps};
+use crate::steps::{places_of, put_marks, put_steps};
 use crate::style::{HEADING, OPENING, STYLE};
 use crate::titles::put_escaped;
 use offset_script::Script;
 use std::alloc::{AllocError, Global};
 
 // The units that are not in the space yet, where the plot goes beyond it.
-fn put_beyond(out: &mut String, plot: &Plot, course: &Course) -> Result<(), AllocError> {
+fn put_beyond(
+    out: &mut String,
+    plot: &Plot,
+    course: &Course,
+    places: &[u32],
+) -> Result<(), AllocError> {
     write!(out, "<path class='out' d='")?;
-    put_steps(out, plot, plot.units.start, &course.sizes)?;
+    put_steps(out, plot, plot.units.start, &course.sizes, places)?;
     writeln!(out, "'/>")
 }
 
@@ -29,6 +34,7 @@ fn put_reports(
     out: &mut String,
     plot: &Plot,
     course: &Course,
+    places: &[u32],
 ) -> Result<(), AllocError> {
     let levels = levels_of(alloc, &course.reports)?;
     for (class, values) in [
@@ -37,7 +43,7 @@ fn put_reports(
         ("most", &levels.most),
     ] {
         write!(out, "<path class='{class}' d='")?;
-        put_steps(out, plot, plot.bottom(), values)?;
+        put_steps(out, plot, plot.bottom(), values, places)?;
         writeln!(out, "'/>")?;
     }
     Ok(())
@@ -50,9 +56,12 @@ fn body(alloc: Global, course: &Course) -> Result<String, AllocError>
     let figures = figures_of(alloc, course)?;
     let ranges = ranges_plot(&figures);
     let reports = reports_plot(&figures);
+    // The axes of calls of both plots are the same.
+    let states = course.sizes.len().max(course.reports.len());
+    let places = places_of(alloc, &ranges.calls, states)?;
     let mut out = String::new(alloc);
     put_legend(&mut out, &figures, course.max_allocs, ranges.units.most)?;
-    put_beyond(&mut out, &ranges, course)?;
+    put_beyond(&mut out, &ranges, course, &places)?;
     ranges.put_axes(&mut out, 6, 12)?;
     let merged = put_grants(alloc, &mut out, &ranges, &course.lives, figures.calls)?;
     if figures.refusals > 0 {
@@ -60,7 +69,7 @@ fn body(alloc: Global, course: &Course) -> Result<String, AllocError>
         put_marks(&mut out, &ranges.calls, ranges.bottom(), &course.refused)?;
         writeln!(out, "'/>")?;
     }
-    put_reports(alloc, &mut out, &reports, course)?;
+    put_reports(alloc, &mut out, &reports, course, &places)?;
     reports.put_axes(&mut out, 4, 12)?;
     put_notes(&mut out, merged)?;
     Ok(out)

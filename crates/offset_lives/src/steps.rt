@@ -1,22 +1,39 @@
 //! Values of states, as a line of steps, and calls, as marks. Both are drawn to a tenth of a pixel.
 
-ghost use Rattle.std.specs.Prelude.{◌≡◌, ◌++◌, OnOk, string_bytes};
-ghost use Rattle.offset_lives.specs.Marks.{column_text};
+ghost use Rattle.std.specs.Prelude.{◌≡◌, ℕ, ◌≤◌, ◌++◌, EachIndex, IfOk, OnOk, max, min, slice_index, string_bytes, vec_len};
+ghost use Rattle.offset_lives.specs.Marks.{column_of, column_text, height_of, in_tenths, IsAt};
+ghost use Rattle.offset_lives.specs.Places.{right_of};
 
 use crate::axes::{Axis, TENTH};
 use crate::line::Line;
 use crate::numbers::Pixels;
 use crate::plots::Plot;
-use std::alloc::AllocError;
+use std::alloc::{AllocError, Global};
 
 // The length in whole tenths of a pixel.
-fn in_tenths(length: u32) -> u32 {
+fn in_tenths(length: u32) -> u32
+    ensures is { result ≡ in_tenths length }
+    ensures within { result ≤ length }
+{
     length / TENTH * TENTH
+}
+
+/// Where each of so many states lies, to a tenth of a pixel.
+pub fn places_of(alloc: Global, calls: &Axis, states: usize) -> Result<Vec<u32>, AllocError>
+    ensures len { IfOk result (λ v. vec_len v ≡ states) }
+    ensures places { IfOk result
+        (λ v. EachIndex v.items (λ s. slice_index v.items s ≡ in_tenths (right_of calls.now s))) }
+{
+    let mut places = Vec::with_capacity(alloc, states)?;
+    for state in 0..states {
+        places.push(in_tenths(calls.right(state as u64)))?;
+    }
+    Ok(places)
 }
 
 // The states that lie within one tenth of a pixel: their heights.
 #[derive(Clone, Copy)]
-struct Column {
+pub struct Column {
     left: u32,
     top: u32,
     bottom: u32,
@@ -24,21 +41,6 @@ struct Column {
 }
 
 impl Column {
-    fn new(left: u32, height: u32) -> Self {
-        Column {
-            left,
-            top: height,
-            bottom: height,
-            last: height,
-        }
-    }
-
-    fn add(&mut self, height: u32) {
-        self.top = height.min(self.top);
-        self.bottom = height.max(self.bottom);
-        self.last = height;
-    }
-
     // Continues the line, which is at the height `pen`, over all of the heights, to the last.
     fn put(&self, out: &mut String, pen: u32) -> Result<(), AllocError>
         ensures { OnOk result (string_bytes out.new ≡ string_bytes out.old ++ column_text self.now pen) }
@@ -63,31 +65,124 @@ impl Column {
     }
 }
 
+// The states that lie within one tenth of a pixel: the smallest and the largest of their values, and the last one.
+#[derive(Clone, Copy)]
+pub struct Group {
+    left: u32,
+    least: u32,
+    most: u32,
+    last: u32,
+}
+
+impl Group {
+    fn new(left: u32, value: u32) -> Self {
+        Group {
+            left,
+            least: value,
+            most: value,
+            last: value,
+        }
+    }
+
+    fn add(&mut self, value: u32)
+        ensures left { self.new.left ≡ self.old.left }
+        ensures least { self.new.least ≡ min value self.old.least }
+        ensures most { self.new.most ≡ max value self.old.most }
+        ensures last { self.new.last ≡ value }
+    {
+        self.least = value.min(self.least);
+        self.most = value.max(self.most);
+        self.last = value;
+    }
+
+    // The heights of its values: only those of the smallest and the largest, and of the last, are computed.
+    fn column(&self, units: &Axis) -> Column
+        ensures is { result ≡ column_of units.now self.now }
+        // The others are between them.
+        ensures within { (value : ℕ) → self.now.least ≤ value → value ≤ self.now.most
+            → (result.top ≤ height_of units.now value) × (height_of units.now value ≤ result.bottom) }
+    {
+        let top = in_tenths(units.up(u64::from(self.most)));
+        let bottom = if self.least == self.most {
+            top
+        } else {
+            in_tenths(units.up(u64::from(self.least)))
+        };
+        let last = if self.last == self.most {
+            top
+        } else if self.last == self.least {
+            bottom
+        } else {
+            in_tenths(units.up(u64::from(self.last)))
+        };
+        Column {
+            left: self.left,
+            top,
+            bottom,
+            last,
+        }
+    }
+
+    // Continues the line, which is at this pen, over the heights of its values, to the last.
+    fn put(&self, out: &mut String, units: &Axis, pen: Pen) -> Result<Pen, AllocError>
+        requires { IsAt units.now pen }
+        ensures text { OnOk result
+            (string_bytes out.new
+            ≡ string_bytes out.old ++ column_text (column_of units.now self.now) pen.height) }
+        ensures pen { IfOk result (λ p. p.height ≡ height_of units.now self.now.last) }
+        ensures at { IfOk result (λ p. IsAt units.now p) }
+    {
+        if self.least == self.most && pen.value == Some(self.most) && self.last == self.most {
+            return Ok(pen);
+        }
+        let column = self.column(units);
+        column.put(out, pen.height)?;
+        Ok(Pen {
+            height: column.last,
+            value: Some(self.last),
+        })
+    }
+}
+
+// Where a line of steps has come: its height, and the value of that height, if it is that of a value.
+#[derive(Clone, Copy)]
+pub struct Pen {
+    height: u32,
+    value: Option<u32>,
+}
+
 /// The line of steps of these values, one for each state, from the height `base` and back to it.
+/// These are the places of the states, as `places_of` has them.
 pub fn put_steps(
     out: &mut String,
     plot: &Plot,
     base: u32,
     values: &[u32],
+    places: &[u32],
 ) -> Result<(), AllocError> {
     let start = Pixels(plot.calls.start);
     let end = Pixels(plot.calls.start + plot.calls.span);
     let base_line = Pixels(base);
     write!(out, "M{start} {base_line}")?;
-    let mut pen = base;
-    let mut column = Column::new(plot.calls.start, base);
-    for (state, value) in values.iter().enumerate() {
-        let left = in_tenths(plot.calls.right(state as u64));
-        let height = in_tenths(plot.units.up(u64::from(*value)));
-        if state > 0 && left == column.left {
-            column.add(height);
-        } else {
-            column.put(out, pen)?;
-            pen = column.last;
-            column = Column::new(left, height);
+    let mut pen = Pen {
+        height: base,
+        value: None,
+    };
+    let mut group: Option<Group> = None;
+    for (value, place) in values.iter().zip(places) {
+        match &mut group {
+            Some(group) if group.left == *place => group.add(*value),
+            _ => {
+                if let Some(group) = &group {
+                    pen = group.put(out, &plot.units, pen)?;
+                }
+                group = Some(Group::new(*place, *value));
+            }
         }
     }
-    column.put(out, pen)?;
+    if let Some(group) = &group {
+        group.put(out, &plot.units, pen)?;
+    }
     write!(out, "H{end}V{base_line}")
 }
 
