@@ -1,6 +1,6 @@
 -- Commands at the head of a text are the commands of its first lines.
 use Rattle.offset_script.proofs.Common.{◌≡◌, ℕ, ◌+◌, ◌<◌, length, length-append, true, false, eqb, List, [], ◌∷◌, ◌++◌, Some, refl, sym, ap, subst, ◌∙◌, append_assoc, arith, rules, codes, AllByRecursion, IsTrue, all_ascii_digits, and_parts, nat_tests}
-use Rattle.offset_script.proofs.Common.{slice_split_at, All-from_recursion, Command, Alloc, Size, Report, Full, Reset, Align, Extend, has_valid_alignment, parts, is_skipped, significant_from, Line, Plan, ◌>>=!◌, commands_of, append-nil, Result, Ok, Err}
+use Rattle.offset_script.proofs.Common.{slice_split_at, All-from_recursion, Command, Alloc, Size, Report, Full, Reset, Align, Extend, has_valid_alignment, parts, is_skipped, significant_from, Line, Plan, ◌>>=!◌, commands_of, Result, Ok, Err}
 use Rattle.offset_script.proofs.{FirstLine.significant_step, Spelled.commands, Meaning.rest_of_plan}
 use Rattle.std.specs.{Char.is_ascii_digit}
 use Rattle.offset_script.specs.{declared.scripts.Command.TheVariants.Free, Spelling.IsNumbered, Spelling.IsSpelling, Heads.BeginsWithNumber, Heads.BeginsWithCommand, Heads.ReadsCommands, Heads.name_of, Heads.counted}
@@ -14,7 +14,7 @@ spelled words.Alloc n line h = h
 spelled words.Free n line h = h
 spelled words.Size n line h = h
 
-pub numbered_line : (w : Word) (n : ℕ) (text after rest : List ℕ) → text ≡ name_of w ++ after → BeginsWithNumber after n 10 rest → BeginsWithCommand text (counted w n) rest
+pub numbered_line : (w : Word) (n : ℕ) (text after rest : List ℕ) → text ≡ name_of w ++ after → BeginsWithNumber after n rest → BeginsWithCommand text (counted w n) rest
 numbered_line w n text after rest e b = record {
   line = name_of w ++ b.digits;
   spells = spelled w n (name_of w ++ b.digits) (b.digits, b.numeral, refl);
@@ -70,13 +70,6 @@ unfolding commands_of
 head_line n text rest c b = rw (significant_step n text b.line (Some rest) (head_parts text rest c b), (is_full c b.line b.spells).kept, commands c b.line b.spells) refl
 
 -- ---- the first lines
-
-nothing_more : (r : Result (List Command) ScriptFault) → r ≡ (r >>=! λ cs. Ok ([] ++ cs))
-nothing_more (Ok cs) = refl
-nothing_more (Err e) = refl
-
-pub reads_none : (lines : List Line) (cs : List Command) → ReadsCommands lines cs lines cs
-reads_none lines cs = record { read = []; new_is = sym (append-nil cs); means = nothing_more (commands_of lines) }
 
 one_more : (front : List Command) (c : Command) (r : Result (List Command) ScriptFault) → ((r >>=! λ cs. Ok (c ∷ cs)) >>=! λ cs. Ok (front ++ cs)) ≡ (r >>=! λ cs. Ok ((front ++ c ∷ []) ++ cs))
 one_more front c (Ok cs) = ap (λ (x : List Command). Ok x) (sym (append_assoc front (c ∷ []) cs))

@@ -19,11 +19,11 @@ counted Alloc n = commands.Alloc n
 counted Free n = commands.Free n
 counted Size n = commands.Size n
 
--- a number, the byte `end` and a rest
-pub record BeginsWithNumber (text : List ℕ) (n end : ℕ) (rest : List ℕ) : Type 0 where
+-- a number, a line end and a rest
+pub record BeginsWithNumber (text : List ℕ) (n : ℕ) (rest : List ℕ) : Type 0 where
   pub digits : List ℕ
   pub numeral : IsNumeral digits n
-  pub text_is : text ≡ digits ++ end ∷ rest
+  pub text_is : text ≡ digits ++ 10 ∷ rest
 
 -- the line of a command, its line end and a rest
 pub record BeginsWithCommand (text : List ℕ) (c : Command) (rest : List ℕ) : Type 0 where

@@ -82,18 +82,18 @@ fn digit(b: u8) -> u64
     u64::from(b).wrapping_sub(u64::from(b'0'))
 }
 
-// The number at the head of a text, and what comes after the byte `end` behind it. `None` where these do not stand there.
+// The number at the head of a text, and what comes after the line end behind it. `None` where these do not stand there.
 #[inline(always)]
-fn number_before(text: &[u8], end: u8) -> Option<(u32, &[u8])>
+fn number_before(text: &[u8]) -> Option<(u32, &[u8])>
     requires { 10 < length text.now }
-    ensures { IfSome result (λ r. BeginsWithNumber text.now r.0 end r.1.now) }
+    ensures { IfSome result (λ r. BeginsWithNumber text.now r.0 r.1.now) }
 {
     let mut n = 0u64;
     // So few bytes that the loop is unrolled.
     for i in 0..=MOST_DIGITS {
         let d = digit(text[i]);
         if d >= 10 {
-            if text[i] != end || i == 0 {
+            if text[i] != b'\n' || i == 0 {
                 return None;
             }
             if n > u64::from(u32::MAX) {
@@ -115,7 +115,7 @@ fn command_at_head(text: &[u8]) -> Option<(Command, &[u8])>
         return None;
     }
     if let Some((word, rest)) = word_before(text) {
-        let (n, rest) = number_before(rest, b'\n')?;
+        let (n, rest) = number_before(rest)?;
         return Some((word.with(n), rest));
     }
     match text {
