@@ -1,8 +1,8 @@
 //! A rectangle for each grant.
 
-ghost use Rattle.std.specs.Prelude.{◌≡◌, ◌≤◌, ◌++◌, ◌↔◌, IsTrue, OnOk, length, string_bytes};
+ghost use Rattle.std.specs.Prelude.{◌≡◌, ◌≤◌, ◌++◌, ◌↔◌, IfOk, IsTrue, OnOk, length, map, string_bytes};
 ghost use Rattle.offset_lives.specs.Marks.{rectangle_text, title_text};
-ghost use Rattle.offset_lives.specs.Places.{frame_of};
+ghost use Rattle.offset_lives.specs.Places.{frame_of, shape_of};
 
 use crate::ages::AGES;
 use crate::line::Line;
@@ -97,20 +97,26 @@ fn put_title(out: &mut String, life: &Life, calls: u32) -> Result<(), AllocError
     line.put_in(out)
 }
 
+// The rectangles of lives, each as it is.
+fn single_shapes(alloc: Global, plot: &Plot, lives: &[Life]) -> Result<Vec<Shape>, AllocError>
+    ensures { IfOk result (λ v. v.items ≡ map (shape_of plot.now) lives.now) }
+{
+    lives.iter().map(|life| shape_of(plot, life)).collect(alloc)
+}
+
 // The rectangles of the lives of an age, each with its title.
 fn put_titled(
     out: &mut String,
-    plot: &Plot,
+    shapes: &[Shape],
     lives: &[Life],
     age: usize,
     calls: u32,
 ) -> Result<(), AllocError> {
-    for life in lives {
-        let shape = shape_of(plot, life);
+    for (shape, life) in shapes.iter().zip(lives) {
         if shape.age == age {
             let mut line = Line::new();
             line.put(">");
-            put_shape(&mut line, &shape);
+            put_shape(&mut line, shape);
             line.put_in(out)?;
             put_title(out, life, calls)?;
         }
@@ -140,19 +146,21 @@ pub fn put_grants(
     lives: &[Life],
     calls: u32,
 ) -> Result<Option<usize>, AllocError> {
-    let shapes = if lives.len() > MOST_TITLES {
-        Some(shapes_of(alloc, plot, lives)?)
+    let is_merged = lives.len() > MOST_TITLES;
+    let shapes = if is_merged {
+        shapes_of(alloc, plot, lives)?
     } else {
-        None
+        single_shapes(alloc, plot, lives)?
     };
     for age in (0..AGES.len()).rev() {
         let class = AGES[age].class;
         writeln!(out, "<g class='{class}'>")?;
-        match &shapes {
-            None => put_titled(out, plot, lives, age, calls)?,
-            Some(shapes) => put_plain(out, shapes, age)?,
+        if is_merged {
+            put_plain(out, &shapes, age)?;
+        } else {
+            put_titled(out, &shapes, lives, age, calls)?;
         }
         writeln!(out, "</g>")?;
     }
-    Ok(shapes.as_ref().map(|shapes| shapes.len()))
+    Ok(is_merged.then_some(shapes.len()))
 }
