@@ -3,12 +3,13 @@ use Rattle.std.proofs.Common.{◌≡◌, ℕ, ◌+◌, ◌*◌, ◌/◌, ◌<◌
 use Rattle.std.specs.Prelude.{IsPermutation, option_to_list, if◌then◌else◌}
 use Rattle.std.specs.List.{list_any}
 use Rattle.std.proofs.lemmas.Bool.Decides.{nat_tests}
+use Rattle.std.proofs.lemmas.List.{map-append}
 use Rattle.std.proofs.lemmas.List.Folds.{list_any-append, list_any_more}
 use Rattle.std.proofs.lemmas.List.Sorted.{list_any-IsPermutation}
 use Rattle.offset_lives.specs.declared.living.Life.{Life}
 use Rattle.offset_lives.specs.declared.shapes.Shape.{Shape}
 use Rattle.offset_lives.specs.Axes.{along}
-use Rattle.offset_lives.specs.Merging.{Place, covers, drawn, is_tiny, round_out, touch, join}
+use Rattle.offset_lives.specs.Merging.{Place, covers, drawn, is_tiny, round_out, shape_of_key, touch, join}
 
 -- a value that is cut to 64 bits lies where it lay
 pub along_capped : (span most v w : ℕ) → most < 4294967296 → v ≡ min w 18446744073709551615 → along span most v ≡ along span most w
@@ -30,6 +31,10 @@ one_more p xs ys x e =
 any_map : (t : Shape → Bool) (h : Life → Shape) (ls : List Life) → list_any t (map h ls) ≡ list_any (λ l. t (h l)) ls
 any_map t h [] = refl
 any_map t h (l ∷ ls) = ap (λ b. t (h l) || b) (any_map t h ls)
+
+-- the rectangles that keys stand for, with one more at its end
+pub one_more_key : (keys more : List ℕ) (key : ℕ) (x : Shape) → more ≡ keys ++ key ∷ [] → shape_of_key key ≡ x → map shape_of_key more ≡ map shape_of_key keys ++ x ∷ []
+one_more_key keys more key x e is = ap (map shape_of_key) e ∙ map-append shape_of_key keys (key ∷ []) ∙ ap (λ (y : Shape). map shape_of_key keys ++ y ∷ []) is
 
 pub one_more_life : (p : Place) (h : Life → Shape) (ls : List Life) (i : ℕ) (d : Life) → i < length ls
     → list_any (covers p) (map h (take (i + 1) ls)) ≡ (list_any (covers p) (map h (take i ls)) || covers p (h (get_or ls i d)))

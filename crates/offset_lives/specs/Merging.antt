@@ -1,5 +1,5 @@
 -- How the rectangles of many grants are merged. Lengths are in hundredths of a pixel.
-use Rattle.std.specs.Prelude.{ℕ, ◌+◌, ◌-◌, ◌*◌, ◌/◌, Bool, ◌&&◌, ◌||◌, nat_eq, nat_lt, nat_le, min, max, if◌then◌else◌}
+use Rattle.std.specs.Prelude.{◌≡◌, ℕ, ◌+◌, ◌-◌, ◌*◌, ◌/◌, ◌%◌, ◌≤◌, Bool, ◌&&◌, ◌||◌, nat_eq, nat_lt, nat_le, min, max, if◌then◌else◌}
 use Rattle.offset_lives.specs.declared.shapes.Shape.{Shape}
 
 -- thinner than a tenth of a pixel
@@ -9,6 +9,14 @@ is_tiny s = nat_lt (s.right - s.left) 10 || nat_lt (s.bottom - s.top) 10
 -- the rectangle with its edges at whole tenths of a pixel around it
 abbrev pub round_out : Shape → Shape
 round_out s = record { top = s.top / 10 * 10; bottom = (s.bottom + 9) / 10 * 10; age = s.age; left = s.left / 10 * 10; right = (s.right + 9) / 10 * 10 }
+
+-- the rectangle that a number stands for: its edges in tenths of a pixel, with 14 bits each, and 3 bits of its age
+unfoldable pub shape_of_key : ℕ → Shape
+shape_of_key key = record { top = key / 35184372088832 * 10; bottom = key / 2147483648 % 16384 * 10; age = key / 268435456 % 8; left = key / 16384 % 16384 * 10; right = key % 16384 * 10 }
+
+-- an edge at a whole tenth of a pixel, on the picture
+abbrev pub IsAtTenth : ℕ → Type 0
+IsAtTenth edge = (edge ≤ 120000) × (edge / 10 * 10 ≡ edge)
 
 -- a tiny rectangle is drawn with its edges rounded
 abbrev pub drawn : Shape → Shape

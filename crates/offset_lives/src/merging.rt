@@ -1,8 +1,8 @@
 //! Merges the rectangles of many grants.
 
-ghost use Rattle.std.specs.Prelude.{◌≡◌, ◌≤◌, IfOk, IsTrue, map};
+ghost use Rattle.std.specs.Prelude.{◌≡◌, ◌<◌, ◌≤◌, IfOk, IsTrue, map};
 ghost use Rattle.std.specs.List.{list_any};
-ghost use Rattle.offset_lives.specs.Merging.{is_tiny, round_out, drawn, touch, join, Place, covers};
+ghost use Rattle.offset_lives.specs.Merging.{is_tiny, round_out, drawn, touch, join, Place, covers, IsAtTenth, shape_of_key};
 ghost use Rattle.offset_lives.specs.Places.{shape_of};
 
 use crate::axes::TENTH;
@@ -30,6 +30,37 @@ fn round_out(shape: &Shape) -> Shape
         age: shape.age,
         left: shape.left / TENTH * TENTH,
         right: shape.right.div_ceil(TENTH) * TENTH,
+    }
+}
+
+// A rectangle with its edges at whole tenths of a pixel, as a number. The numbers of two rectangles have their order.
+#[tactic(auto, unfolding(crate::specs::Merging::shape_of_key))]
+fn key_of(shape: &Shape) -> u64
+    requires top { IsAtTenth shape.now.top }
+    requires bottom { IsAtTenth shape.now.bottom }
+    requires left { IsAtTenth shape.now.left }
+    requires right { IsAtTenth shape.now.right }
+    requires age { shape.now.age < 8 }
+    ensures { shape_of_key result ≡ shape.now }
+{
+    let top = u64::from(shape.top / TENTH);
+    let bottom = u64::from(shape.bottom / TENTH);
+    let left = u64::from(shape.left / TENTH);
+    let right = u64::from(shape.right / TENTH);
+    (((top * 16_384 + bottom) * 8 + shape.age as u64) * 16_384 + left) * 16_384 + right
+}
+
+// The rectangle that a number stands for.
+#[tactic(auto, unfolding(crate::specs::Merging::shape_of_key))]
+fn shape_of_key(key: u64) -> Shape
+    ensures { result ≡ shape_of_key key }
+{
+    Shape {
+        top: (key / 35_184_372_088_832) as u32 * TENTH,
+        bottom: (key / 2_147_483_648 % 16_384) as u32 * TENTH,
+        age: (key / 268_435_456 % 8) as usize,
+        left: (key / 16_384 % 16_384) as u32 * TENTH,
+        right: (key % 16_384) as u32 * TENTH,
     }
 }
 
@@ -64,25 +95,26 @@ pub fn shapes_of(alloc: Global, plot: &Plot, lives: &[Life]) -> Result<Vec<Shape
         ≡ list_any (covers p) (map (λ l. drawn (shape_of plot.now l)) lives.now)) }
 {
     let mut found = Vec::new(alloc);
-    let mut tiny = Vec::new(alloc);
+    let mut tiny: Vec<u64> = Vec::new(alloc);
     for life in lives {
         let shape = shape_of(plot, life);
         if is_tiny(&shape) {
-            tiny.push(round_out(&shape))?;
+            tiny.push(key_of(&round_out(&shape)))?;
         } else {
             found.push(shape)?;
         }
     }
     tiny.sort()?;
     let mut last: Option<Shape> = None;
-    for shape in &tiny {
+    for key in &tiny {
+        let shape = shape_of_key(*key);
         match last {
-            Some(before) if touch(&before, shape) => last = Some(join(before, shape)),
+            Some(before) if touch(&before, &shape) => last = Some(join(before, &shape)),
             Some(before) => {
                 found.push(before)?;
-                last = Some(*shape);
+                last = Some(shape);
             }
-            None => last = Some(*shape),
+            None => last = Some(shape),
         }
     }
     if let Some(before) = last {

@@ -7,8 +7,8 @@ use crate::ages::age_of;
 use crate::living::Life;
 use crate::plots::Plot;
 
-/// A rectangle, in hundredths of a pixel. The order is that in which they are merged.
-#[derive(Clone, Copy, PartialEq, Eq, PartialOrd, Ord, Debug)]
+/// A rectangle, in hundredths of a pixel. They are merged in the order of their fields.
+#[derive(Clone, Copy, PartialEq, Debug)]
 pub struct Shape {
     pub top: u32,
     pub bottom: u32,
@@ -39,6 +39,9 @@ pub fn shape_of(plot: &Plot, life: &Life) -> Shape
     ensures shape { result ≡ shape_of plot.now life.now }
     ensures right { result.right ≤ 120000 }
     ensures bottom { result.bottom ≤ 120000 }
+    ensures left { result.left ≤ 120000 }
+    ensures top { result.top ≤ 120000 }
+    ensures age { result.age < 8 }
 {
     Shape {
         top: plot.units.up(u64::from(life.offset) + u64::from(life.size)),

@@ -1,16 +1,16 @@
 use Rattle.std.proofs.Common.{◌≡◌, ◌||◌, map, take}
 use Rattle.std.specs.Prelude.{option_to_list}
 use Rattle.std.specs.List.{list_any}
-use Rattle.offset_lives.specs.Merging.{Place, covers, drawn}
+use Rattle.offset_lives.specs.Merging.{Place, covers, drawn, shape_of_key}
 use Rattle.offset_lives.specs.Places.{shape_of}
 use Rattle.offset_lives.proofs.merging.shapes_of.Given as goal
 
 -- the rectangles so far cover what those of the lives so far do
 abbrev pub invariant-loop-life : goal.invariant-loop-life
 invariant-loop-life l = (p : Place)
-    → (list_any (covers p) l.found.items || list_any (covers p) l.tiny.items) ≡ list_any (covers p) (map (λ x. drawn (shape_of l.plot x)) (take l.life-index l.lives))
+    → (list_any (covers p) l.found.items || list_any (covers p) (map shape_of_key l.tiny.items)) ≡ list_any (covers p) (map (λ x. drawn (shape_of l.plot x)) (take l.life-index l.lives))
 
 -- the rectangles so far, the last of which may still grow, cover what those before the loop and the tiny ones so far do
-abbrev pub invariant-loop-shape : goal.invariant-loop-shape
-invariant-loop-shape l = (p : Place)
-    → (list_any (covers p) l.found.items || list_any (covers p) (option_to_list l.last)) ≡ (list_any (covers p) l.initial.found.items || list_any (covers p) (take l.shape-index l.shape-items))
+abbrev pub invariant-loop-key : goal.invariant-loop-key
+invariant-loop-key l = (p : Place)
+    → (list_any (covers p) l.found.items || list_any (covers p) (option_to_list l.last)) ≡ (list_any (covers p) l.initial.found.items || list_any (covers p) (take l.key-index (map shape_of_key l.key-items)))
