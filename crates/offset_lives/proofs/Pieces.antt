@@ -1,5 +1,5 @@
 -- Pieces of text that are put one before the other.
-use Rattle.std.proofs.Common.{◌≡◌, ℕ, ◌≤◌, ◌∙◌, ◌↔◌, Bool, true, false, ◌&&◌, IsTrue, nat_le, List, ◌++◌, ap, append_assoc, arith}
+use Rattle.std.proofs.Common.{◌≡◌, ℕ, ◌≤◌, ◌∙◌, ◌↔◌, Bool, ◌&&◌, IsTrue, nat_le, List, ◌++◌, ap, append_assoc, arith}
 use Rattle.std.proofs.lemmas.Bool.Decides.{nat_tests}
 
 -- two tests decide what both say

@@ -1,5 +1,5 @@
 -- How marks of a picture are written. Lengths are in hundredths of a pixel.
-use Rattle.std.specs.Prelude.{◌≡◌, ℕ, ◌+◌, ◌*◌, ◌/◌, Bool, ◌&&◌, List, [], ◌++◌, codes, MatchOption, min, nat_eq, nat_le, nat_lt, if◌then◌else◌}
+use Rattle.std.specs.Prelude.{◌≡◌, ℕ, ◌+◌, ◌*◌, ◌/◌, ◌&&◌, List, [], ◌++◌, codes, MatchOption, min, nat_eq, nat_le, nat_lt, if◌then◌else◌}
 use Rattle.std.specs.Fmt.{decimal}
 use Rattle.offset_lives.specs.declared.living.Life.{Life}
 use Rattle.offset_lives.specs.declared.rectangles.Frame.{Frame}

@@ -1,6 +1,6 @@
 use Rattle.std.proofs.lemmas.List.{get_or-map, length-map}
 use Rattle.std.proofs.lemmas.List.Sorted.{IsPermutation-map}
-use Rattle.std.proofs.Common.{◌≡◌, ℕ, ◌<◌, [], ◌∷◌, ◌++◌, length, map, ◌∙◌, List, Some, get_or, arith, ap, refl, subst, sym, ◌||◌}
+use Rattle.std.proofs.Common.{◌≡◌, ℕ, ◌<◌, [], ◌∷◌, ◌++◌, length, map, ◌∙◌, List, Some, get_or, arith, ap, subst, sym, ◌||◌}
 use Rattle.std.specs.Prelude.{IsPermutation}
 use Rattle.std.specs.List.{list_any}
 use Rattle.offset_lives.specs.declared.living.Life.{Life}

@@ -1,4 +1,4 @@
-use Rattle.std.proofs.Common.{◌≡◌, ◌++◌, ◌&&◌, List, ℕ, Bool, [], codes, nat_le, if◌then◌else◌, ap, ◌∙◌, sym}
+use Rattle.std.proofs.Common.{◌≡◌, ◌++◌, ◌&&◌, Bool, [], codes, nat_le, if◌then◌else◌, ap, ◌∙◌, sym}
 use Rattle.offset_lives.specs.declared.rectangles.Frame.{Frame}
 use Rattle.offset_lives.specs.Drawing.{pixels_text}
 use Rattle.offset_lives.specs.Marks.{rectangle_text}

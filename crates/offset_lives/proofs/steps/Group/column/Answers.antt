@@ -1,4 +1,4 @@
-use Rattle.std.proofs.Common.{◌≡◌, ◌≤◌, arith, ap, sym, ◌∙◌, rules}
+use Rattle.std.proofs.Common.{◌≡◌, arith, ap, sym, ◌∙◌, rules}
 use Rattle.offset_lives.specs.declared.axes.Axis.{Axis}
 use Rattle.offset_lives.specs.Marks.{height_of, in_tenths}
 use Rattle.offset_lives.proofs.Falling.{height_falls}
