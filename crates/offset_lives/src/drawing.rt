@@ -88,6 +88,8 @@ pub fn picture_of(alloc: Global, title: &str, course: &Course) -> Result<String,
     out.push_str(HEADING)?;
     put_escaped(&mut out, title)?;
     out.push_str("</text>\n")?;
+    // So that the last seven bytes do not double the room of the text, with a copy of all of it.
+    out.reserve(body.len().saturating_add(7))?;
     out.push_str(&body)?;
     out.push_str("</svg>\n")?;
     Ok(out)

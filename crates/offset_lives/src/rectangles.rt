@@ -16,6 +16,11 @@ use std::alloc::{AllocError, Global};
 // The most grants that are drawn with a title each.
 const MOST_TITLES: usize = 20_000;
 
+// About how many bytes a rectangle takes, and one with a title: the text gets room for all of them at once.
+const RECTANGLE: usize = 56;
+
+const TITLED: usize = 136;
+
 // The smallest width and height that is drawn: 0.3 pixels.
 const SMALLEST: u32 = 30;
 
@@ -152,6 +157,8 @@ pub fn put_grants(
     } else {
         single_shapes(alloc, plot, lives)?
     };
+    let bytes = if is_merged { RECTANGLE } else { TITLED };
+    out.reserve(shapes.len().saturating_mul(bytes))?;
     for age in (0..AGES.len()).rev() {
         let class = AGES[age].class;
         writeln!(out, "<g class='{class}'>")?;
