@@ -15,7 +15,7 @@ text_before a b ab e u v = ap is_utf8 e ∙ is_utf8-from_IsUtf8 (a ++ b) (IsUtf8
 pub number_before : (n : ℕ) (b ab : List ℕ) → n < 2 ^ 64 → ab ≡ decimal n ++ b → is_utf8 b ≡ true → is_utf8 ab ≡ true
 number_before n b ab small e v = text_before (decimal n) b ab e (IsUtf8-from_ascii (decimal n) (IsAscii-decimal n small)) v
 
--- a digit that was written before the byte i is the number that it stands for
+-- a digit that was written before the byte i is the number that it is a digit of
 pub digit_set : (n i j : ℕ) (room : List ℕ) → n < 10 → j ≡ i + 1 → i < length room → drop i (set room i (48 + n)) ≡ decimal n ++ drop j room
 digit_set n i j room small e within = drop-set room i (48 + n) within ∙ ap (λ (k : ℕ). (48 + n) ∷ drop k room) (sym e) ∙ ap (λ (d : List ℕ). d ++ drop j room) (sym (decimal_digit n small))
 

@@ -49,7 +49,7 @@ const FREE: u32 = 0x6565_7266;
 
 const SIZE: u32 = 0x657a_6973;
 
-// The word at the head of a text, and what comes after the space behind it.
+// The word at the head of a text, and what comes after its space.
 fn word_before(text: &[u8]) -> Option<(Word, &[u8])>
     ensures word { IfSome result (λ r. text.now ≡ name_of r.0 ++ r.1.now) }
     ensures room { IfSome result (λ r. length text.now ≤ length r.1.now + 6) }
@@ -82,7 +82,7 @@ fn digit(b: u8) -> u64
     u64::from(b).wrapping_sub(u64::from(b'0'))
 }
 
-// The number at the head of a text, and what comes after the line end behind it. `None` where these do not stand there.
+// The number that a text begins with, and what comes after its line end. `None` where it does not begin so.
 #[inline(always)]
 fn number_before(text: &[u8]) -> Option<(u32, &[u8])>
     requires { 10 < length text.now }
