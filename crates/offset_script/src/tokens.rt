@@ -1,53 +1,18 @@
 //! Words and numbers of a line.
 
-ghost use Rattle.std.specs.Prelude.{◌≡◌, ◌+◌, ◌<◌, ◌≤◌, ◌∷◌, ◌==◌, [], length, not, position, IfSome};
-ghost use Rattle.std.specs.List.{prefix_len};
-ghost use Rattle.std.specs.Simd.Lanes.{chunk};
+ghost use Rattle.std.specs.Prelude.{◌≡◌, ◌<◌, ◌∷◌, ◌==◌, [], length, position, IfSome};
 ghost use Rattle.std.specs.Fmt.{decimal};
 ghost use Rattle.std.specs.Option.{option_copied, option_map_or};
 ghost use Rattle.offset_script.specs.Grammar.{parts, number_of};
 
-use std::simd::prelude::*;
-
 /// The most digits that a number has.
 pub const MOST_DIGITS: usize = 10;
-
-// How many bytes are searched together.
-const LANES: usize = 16;
-
-// How many of the bytes from `from` on, of `LANES`, come before the first byte `at`.
-fn run_before(text: &[u8], from: usize, at: u8) -> usize
-    requires { from + 16 ≤ length text.now }
-    ensures { result ≡ prefix_len (λ b. not (b == at)) (chunk from 16 text.now) }
-{
-    let hits = u8x16::from_slice(&text[from..])
-        .simd_eq(u8x16::splat(at))
-        .to_bitmask();
-    if hits == 0 {
-        LANES
-    } else {
-        hits.trailing_zeros() as usize
-    }
-}
 
 // The index of the first byte `at`, if there is one.
 fn place_of(text: &[u8], at: u8) -> Option<usize>
     ensures { result ≡ position (λ b. b == at) text.now }
 {
-    let mut from = 0;
-    while text.len() - from >= LANES {
-        let run = run_before(text, from, at);
-        if run < LANES {
-            return Some(from + run);
-        }
-        from += LANES;
-    }
-    for i in from..text.len() {
-        if text[i] == at {
-            return Some(i);
-        }
-    }
-    None
+    text.iter().position(|b| *b == at)
 }
 
 /// The part before the first byte `at`, and what comes after that byte. All of the text and `None` where there is none.

@@ -3,7 +3,7 @@
 //! Reads a text as a script.
 
 use crate::memory::Vec;
-use crate::direct::command_at_head;
+use crate::direct::read_common;
 use crate::faults::ScriptFault;
 use crate::lines::Lines;
 use crate::scripts::{Command, Header, IndexWidth, Script};
@@ -113,20 +113,6 @@ impl Header {
     }
 }
 
-// Takes lines up to the next one that is neither empty nor a comment, and returns its number and the command that it
-// spells, if it spells one. `None` where there is no such line.
-fn next_command(lines: &mut Lines) -> Option<(u32, Option<Command>)> {
-    // Most lines are read here in one pass.
-    if let Some((command, rest)) = command_at_head(lines.rest) {
-        let number = lines.number;
-        lines.rest = rest;
-        lines.number += 1;
-        return Some((number, Some(command)));
-    }
-    let (number, line) = lines.next_line()?;
-    Some((number, command(line)))
-}
-
 /// Reads a text as a script, and returns it, or the fault of its first faulty line.
 ///
 /// A text of more than 1,048,576 bytes is `TooLong`. Lines end with LF and are counted from 1; empty lines and those
@@ -148,11 +134,13 @@ pub fn parse(alloc: Global, text: &[u8]) -> Result<Script, ScriptFault> {
         return Err(ScriptFault::BadLimit(line));
     }
     let mut commands = Vec::new(alloc);
-    while let Some((line, command)) = next_command(&mut lines) {
-        let Some(command) = command else {
+    read_common(&mut lines, &mut commands)?;
+    while let Some((line, words)) = lines.next_line() {
+        let Some(command) = command(words) else {
             return Err(ScriptFault::BadCommand(line));
         };
         commands.push(command)?;
+        read_common(&mut lines, &mut commands)?;
     }
     Ok(Script {
         size: header.size,
