@@ -32,7 +32,7 @@ any_map : (t : Shape → Bool) (h : Life → Shape) (ls : List Life) → list_an
 any_map t h [] = refl
 any_map t h (l ∷ ls) = ap (λ b. t (h l) || b) (any_map t h ls)
 
--- the rectangles that keys stand for, with one more at its end
+-- the rectangles of keys, with one more at its end
 pub one_more_key : (keys more : List ℕ) (key : ℕ) (x : Shape) → more ≡ keys ++ key ∷ [] → shape_of_key key ≡ x → map shape_of_key more ≡ map shape_of_key keys ++ x ∷ []
 one_more_key keys more key x e is = ap (map shape_of_key) e ∙ map-append shape_of_key keys (key ∷ []) ∙ ap (λ (y : Shape). map shape_of_key keys ++ y ∷ []) is
 

@@ -10,7 +10,7 @@ is_tiny s = nat_lt (s.right - s.left) 10 || nat_lt (s.bottom - s.top) 10
 abbrev pub round_out : Shape → Shape
 round_out s = record { top = s.top / 10 * 10; bottom = (s.bottom + 9) / 10 * 10; age = s.age; left = s.left / 10 * 10; right = (s.right + 9) / 10 * 10 }
 
--- the rectangle that a number stands for: its edges in tenths of a pixel, with 14 bits each, and 3 bits of its age
+-- the rectangle of a number: its edges in tenths of a pixel, with 14 bits each, and 3 bits of its age
 unfoldable pub shape_of_key : ℕ → Shape
 shape_of_key key = record { top = key / 35184372088832 * 10; bottom = key / 2147483648 % 16384 * 10; age = key / 268435456 % 8; left = key / 16384 % 16384 * 10; right = key % 16384 * 10 }
 

@@ -109,6 +109,17 @@ fn life_of_answer(i: usize, command: Command, answer: &Answer, ends: &Ends) -> O
     }
 }
 
+// How many of the answers are grants.
+fn grants_among(answers: &[Answer]) -> usize {
+    let mut grants = 0usize;
+    for answer in answers {
+        if matches!(answer, Answer::Grant { .. }) {
+            grants = grants.saturating_add(1);
+        }
+    }
+    grants
+}
+
 /// The lives of the grants among the answers to these commands, in the order of the calls.
 ///
 /// It goes over the commands once, from the last to the first, so that the end of a life is known when its beginning is
@@ -126,7 +137,8 @@ pub fn lives_of_answers(
 {
     let calls = commands.len();
     let mut ends = Ends::new(alloc, calls)?;
-    let mut lives = Vec::new(alloc);
+    // The caller keeps them: there is no room for more.
+    let mut lives = Vec::with_capacity(alloc, grants_among(answers))?;
     for i in (0..calls).rev() {
         let command = commands[i];
         if let Some(life) = life_of_answer(i, command, &answers[i], &ends) {

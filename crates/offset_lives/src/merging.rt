@@ -50,7 +50,7 @@ fn key_of(shape: &Shape) -> u64
     (((top * 16_384 + bottom) * 8 + shape.age as u64) * 16_384 + left) * 16_384 + right
 }
 
-// The rectangle that a number stands for.
+// The rectangle of a number.
 #[tactic(auto, unfolding(crate::specs::Merging::shape_of_key))]
 fn shape_of_key(key: u64) -> Shape
     ensures { result ≡ shape_of_key key }

@@ -4,7 +4,7 @@ use super::support::Part::{Lines, Lives};
 use super::support::{GRANT_TITLE, Picture, RECTANGLE, count, expect_pictures, picture_of};
 use crate::asserts::{assert_same, assert_that_at};
 
-const PICTURES: [Picture; 4] = [
+const PICTURES: [Picture; 5] = [
     // Each grant has its title.
     Picture {
         script: &[
@@ -77,6 +77,26 @@ const PICTURES: [Picture; 4] = [
             // their classes are 96, at 636, and 40
             "<path class='joined' d='M120 780H120V636H120.1V720V636H320V720H320.1V636V720H1170V780'/>",
             "<path class='refusal' d='M420 550v12M420.1 550v12'/>",
+        ],
+        counts: &[],
+    },
+    // Each call takes a fiftieth of a pixel: 52,499 calls. Five states lie within one tenth of a pixel. Those after
+    // calls 5 to 9 are at 120.1 to 120.18: 100, 40, 10, 40 and 40 units are free, of which the last is neither the most
+    // nor the least.
+    Picture {
+        script: &[
+            Lines(1, "space 100 nodes 16 index 32\n"),
+            Lines(5, "report\n"),
+            Lines(1, "alloc 60\nalloc 30\nfree 2\nreport\nfree 1\n"),
+            Lines(52_489, "report\n"),
+        ],
+        once: &[
+            ">52,499 calls on a space of 100 units, with 16 nodes<",
+            // 100 free units are at 630, 40 at 720, and 10 at 765
+            "<path class='free' d='M120 780H120V630H120.1V630V765V720H120.2V630H1170V780'/>",
+            // their classes are 96, at 636, 40 and 10
+            "<path class='joined' d='M120 780H120V636H120.1V636V765V720H120.2V636H1170V780'/>",
+            "<path class='most' d='M120 780H120V636H120.1V636V765V720H120.2V636H1170V780'/>",
         ],
         counts: &[],
     },
