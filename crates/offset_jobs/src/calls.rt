@@ -64,8 +64,8 @@ fn use_of(number: u32, random: &mut Random) -> Call {
     }
 }
 
-// Calls of an editor that keeps up to so many ranges: requests, releases and uses of ranges that are live where no
-// request is refused, and a compaction every 3,000 calls.
+// `count` calls of an editor with at most `live` live ranges: requests, releases, other calls on a live range, and a
+// compaction every 3,000 calls. The numbers of grants are right while no request is refused.
 fn list(
     alloc: Global,
     count: u32,
@@ -95,8 +95,8 @@ fn list(
     Ok(calls)
 }
 
-/// Three lists of so many calls, on spaces with ample units and nodes: two by handles, of as many live ranges as recorded
-/// programs have, and one by tickets.
+/// Plays three lists of `count` calls, in spaces that refuse nothing: two by handles, with at most a fortieth and a
+/// four-hundredth of `count` live ranges, and one by tickets.
 pub fn calls(
     alloc: Global,
     count: u32,

@@ -9,8 +9,7 @@ use std::alloc::{AllocError, Global};
 // How many frames are played.
 const FRAMES: u32 = 64;
 
-/// A load of a space: its size and node limit, among how many places its ranges are, how large they may be, and how
-/// many steps are taken.
+/// A load of a space: its size, its node limit, the number of slots, the most bits of a size, and the number of steps.
 #[derive(Clone, Copy)]
 struct Load {
     size: u32,
@@ -54,7 +53,7 @@ fn play<S: Space>(
     Ok(())
 }
 
-// Frames of up to so many ranges, each ended by a reset.
+// Plays frames. Each requests fewer than `load.places` ranges, and ends with a reset.
 fn frames<S: Space>(
     alloc: Global,
     load: Load,

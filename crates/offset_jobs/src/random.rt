@@ -57,8 +57,8 @@ impl Draw {
         u32::try_from(product >> 32).unwrap_or(0)
     }
 
-    /// The large part, as the place of a range among so many: every second time, by the first small part, one of the
-    /// first sixteenth, whose ranges live shortly.
+    /// The large part, as a number below `places`. If the first small part is odd, it is in the first sixteenth: ranges
+    /// at these places are freed sooner.
     pub fn place(self, places: u32) -> u32 {
         let among = if self.part(0) % 2 == 0 {
             places

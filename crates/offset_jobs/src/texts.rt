@@ -99,8 +99,8 @@ fn play(alloc: Global, text: &[u8], digest: &mut Digest) {
     digest.add_text(&errors.into_inner());
 }
 
-/// Scripts of up to so many lines, each in four spaces: a long one, several as recorded programs have, one with many full
-/// reports, and one whose last line is no command.
+/// Plays scripts of at most `lines` commands, each in four spaces: a long one, three of the size of a recorded program,
+/// and one with many full reports. Then it plays a long one whose last line is no command.
 pub fn scripts(
     alloc: Global,
     lines: u32,
@@ -151,8 +151,8 @@ fn draw(alloc: Global, text: &[u8], digest: &mut Digest) {
     digest.add_text(&errors.into_inner());
 }
 
-/// Pictures of scripts of up to so many lines, each in four spaces: of a long one, and of several as recorded programs
-/// have, whose ranges have titles.
+/// Draws scripts of at most `lines` commands, each in four spaces: a long one, and three of the size of a recorded
+/// program, whose ranges have titles.
 pub fn pictures(
     alloc: Global,
     lines: u32,

@@ -18,7 +18,7 @@ fn in_tenths(length: u32) -> u32
     length / TENTH * TENTH
 }
 
-/// Where each of so many states lies, to a tenth of a pixel.
+/// Where each of the first `states` states lies, to a tenth of a pixel.
 pub fn places_of(alloc: Global, calls: &Axis, states: usize) -> Result<Vec<u32>, AllocError>
     ensures len { IfOk result (λ v. vec_len v ≡ states) }
     ensures places { IfOk result
