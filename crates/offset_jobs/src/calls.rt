@@ -95,7 +95,7 @@ fn list(
     Ok(calls)
 }
 
-/// Plays three lists of `count` calls, in spaces that refuse nothing: two by handles, with at most a fortieth and a
+/// Plays three lists of `count` calls, in spaces that refuse no request: two by handles, with at most a fortieth and a
 /// four-hundredth of `count` live ranges, and one by tickets.
 pub fn calls(
     alloc: Global,
