@@ -1,11 +1,14 @@
-"""Puts the module and the traces into the page: page.py MODULE PAGE. Traces are deflated."""
+"""Puts the module and the traces into the page: page.py MODULE PAGE. Traces are deflated. The page ends with the sum of
+the sources that it is made of."""
 
 import base64
+import hashlib
 import pathlib
+import re
 import sys
 import zlib
 
-here = pathlib.Path(__file__).parent
+here = pathlib.Path(__file__).resolve().parent
 
 
 def base(data):
@@ -17,7 +20,35 @@ def deflated(path):
     return base(packer.compress(path.read_bytes()) + packer.flush())
 
 
-paths = [*sorted((here / "../bench/traces").glob("*.script")), here / "every.script"]
-traces = ",\n".join(f"  '{path.stem}': '{deflated(path)}'" for path in paths)
-page = (here / "source.html").read_text().replace("@TRACES@", traces)
-pathlib.Path(sys.argv[2]).write_text(page.replace("@MODULE@", base(pathlib.Path(sys.argv[1]).read_bytes())))
+def traces():
+    return [*sorted((here / "../bench/traces").glob("*.script")), here / "every.script"]
+
+
+def sum_of_sources():
+    """The sum of all that the page is made of, except the compiler and std."""
+    crates = [here / "../rust/offset-allocator-proved", here / "../rust/offset-script"]
+    files = [here / "source.html", here / "page.py", *sorted((here / "module").glob("*.*")), *traces()]
+    for crate in crates:
+        files += [crate / "Cargo.toml", *sorted(crate.glob("src/*.rs"))]
+    found = hashlib.sha256()
+    for path in files:
+        found.update(f"{path.name} {path.stat().st_size}\n".encode())
+        found.update(path.read_bytes())
+    return found.hexdigest()
+
+
+def sum_within(page):
+    """The sum that a page has of its sources, or `None`."""
+    found = re.search(r"<!-- made of ([0-9a-f]{64}) -->\n\Z", page)
+    return found and found[1]
+
+
+def main(module, to):
+    named = ",\n".join(f"  '{path.stem}': '{deflated(path)}'" for path in traces())
+    page = (here / "source.html").read_text().replace("@TRACES@", named)
+    page = page.replace("@MODULE@", base(pathlib.Path(module).read_bytes()))
+    pathlib.Path(to).write_text(f"{page}<!-- made of {sum_of_sources()} -->\n")
+
+
+if __name__ == "__main__":
+    main(*sys.argv[1:])

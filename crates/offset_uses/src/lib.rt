@@ -17,6 +17,8 @@ pub mod daily;
 pub mod engine;
 pub mod in_memory;
 pub mod pool;
+pub mod promises;
+pub mod tickets;
 pub mod walking;
 
 use offset_allocator::{Accesses, Allocation, AllocatorOf, Tables, laws};

@@ -1,10 +1,13 @@
-//! 100,000 random histories of the calls that change a space, on an allocator and on a plain list of blocks that is written
-//! for this test. They have to agree in every result, in every move of `compact`, and in what is live and free after each
-//! call. A buffer has a pattern for each live range, and is copied as the moves say.
+//! 40,000 random histories of the calls that change a space, over a million calls, on an allocator of each layout and index
+//! type, with handles and with tickets, and on a plain list of blocks that is written for this test, from the words of the
+//! documents alone. They have to agree in every result, in every move of `compact`, in both reports, and in what is live
+//! and free after each call. A buffer has a pattern for each live range, and is copied as the moves say.
 
-use offset_allocator_proved::{Allocation, Allocator, Global, NodeIndex, Refusal};
+use offset_allocator::{Allocation, AllocatorOf, ByField, ByNode, Global, Refusal, Tables};
+use offset_allocator_guarded::{self as guarded, GuardedOf, Ticket};
+use std::fmt::Debug;
 
-const HISTORIES: u64 = 100_000;
+const HISTORIES: u64 = 40_000;
 const MOST_CALLS: u32 = 60;
 const THREADS: u64 = 4;
 /// A space of more units has no buffer.
@@ -58,37 +61,218 @@ fn class_for(units: u32) -> usize {
     VALUES.partition_point(|value| *value < units)
 }
 
-/// A live range: its handle, with the offset of when it was made, and the number of its pattern.
+/// A space whose grants are handles, or tickets.
+trait Space {
+    type Layout: Tables;
+    type Grant: Copy + PartialEq + Debug;
+    /// Whether a grant that is freed is never live again.
+    const IS_GUARDED: bool;
+
+    fn new(size: u32, limit: u32) -> Self;
+    fn allocator(&self) -> &AllocatorOf<Self::Layout>;
+    fn refusal(&self, size: u32, align: u32) -> Option<Refusal>;
+    fn allocate(&mut self, size: u32, align: u32) -> Option<Self::Grant>;
+    fn free(&mut self, grant: Self::Grant);
+    fn shrink(&mut self, grant: Self::Grant, size: u32) -> bool;
+    fn grow_in_place(&mut self, grant: Self::Grant, size: u32) -> bool;
+    fn extend(&mut self, more: u32) -> bool;
+    fn reset(&mut self);
+    /// The moves: from, to, size, and the grant after.
+    fn compact(&mut self, moved: impl FnMut(u32, u32, u32)) -> Vec<Option<Self::Grant>>;
+    fn is_live(&self, grant: Self::Grant) -> bool;
+    /// The size and the offset of a live range.
+    fn range(&self, grant: Self::Grant) -> Option<(u32, u32)>;
+    /// The grant of a handle.
+    fn grant(&self, handle: Handle<Self>) -> Option<Self::Grant>;
+    /// A grant with another offset.
+    fn at(grant: Self::Grant, offset: u32) -> Self::Grant;
+}
+
+type Handle<S> = Allocation<<<S as Space>::Layout as Tables>::Index>;
+
+impl<T: Tables> Space for AllocatorOf<T> {
+    type Layout = T;
+    type Grant = Allocation<T::Index>;
+    const IS_GUARDED: bool = false;
+
+    fn new(size: u32, limit: u32) -> Self {
+        AllocatorOf::with_max_allocs(Global, size, limit).unwrap()
+    }
+
+    fn allocator(&self) -> &AllocatorOf<T> {
+        self
+    }
+
+    fn refusal(&self, size: u32, align: u32) -> Option<Refusal> {
+        if align == 1 {
+            assert_eq!(self.refusal(size), self.refusal_aligned(size, 1));
+        }
+        self.refusal_aligned(size, align)
+    }
+
+    fn allocate(&mut self, size: u32, align: u32) -> Option<Self::Grant> {
+        if align == 1 {
+            self.allocate(size)
+        } else {
+            self.allocate_aligned(size, align)
+        }
+    }
+
+    fn free(&mut self, grant: Self::Grant) {
+        self.free(grant);
+    }
+
+    fn shrink(&mut self, grant: Self::Grant, size: u32) -> bool {
+        self.shrink(grant, size)
+    }
+
+    fn grow_in_place(&mut self, grant: Self::Grant, size: u32) -> bool {
+        self.grow_in_place(grant, size)
+    }
+
+    fn extend(&mut self, more: u32) -> bool {
+        self.extend(more)
+    }
+
+    fn reset(&mut self) {
+        self.reset();
+    }
+
+    fn compact(&mut self, mut moved: impl FnMut(u32, u32, u32)) -> Vec<Option<Self::Grant>> {
+        let mut found = Vec::new();
+        self.compact(&mut |range| {
+            moved(range.from, range.to, range.size);
+            found.push(Some(range.allocation()));
+        });
+        found
+    }
+
+    fn is_live(&self, grant: Self::Grant) -> bool {
+        self.is_live(grant)
+    }
+
+    fn range(&self, grant: Self::Grant) -> Option<(u32, u32)> {
+        let offset = self.allocation_offset(grant)?;
+        Some((self.allocation_size(grant), offset))
+    }
+
+    fn grant(&self, handle: Allocation<T::Index>) -> Option<Self::Grant> {
+        Some(handle)
+    }
+
+    fn at(mut grant: Self::Grant, offset: u32) -> Self::Grant {
+        grant.offset = offset;
+        grant
+    }
+}
+
+impl<T: Tables> Space for GuardedOf<T> {
+    type Layout = T;
+    type Grant = Ticket;
+    const IS_GUARDED: bool = true;
+
+    fn new(size: u32, limit: u32) -> Self {
+        GuardedOf::with_max_allocs(Global, size, limit, 7).unwrap()
+    }
+
+    fn allocator(&self) -> &AllocatorOf<T> {
+        self.allocator()
+    }
+
+    fn refusal(&self, size: u32, align: u32) -> Option<Refusal> {
+        let why = self.refusal_aligned(size, align);
+        if align == 1 {
+            assert_eq!(self.refusal(size), why);
+        }
+        match why {
+            None => None,
+            Some(guarded::Refusal::Allocator(why)) => Some(why),
+            Some(guarded::Refusal::Serials) => panic!("some serials are left"),
+        }
+    }
+
+    fn allocate(&mut self, size: u32, align: u32) -> Option<Ticket> {
+        if align == 1 {
+            self.allocate(size)
+        } else {
+            self.allocate_aligned(size, align)
+        }
+    }
+
+    fn free(&mut self, grant: Ticket) {
+        assert!(self.free(grant));
+        assert!(!self.free(grant), "a second time it changes nothing");
+    }
+
+    fn shrink(&mut self, grant: Ticket, size: u32) -> bool {
+        self.shrink(grant, size).unwrap()
+    }
+
+    fn grow_in_place(&mut self, grant: Ticket, size: u32) -> bool {
+        self.grow_in_place(grant, size).unwrap()
+    }
+
+    fn extend(&mut self, more: u32) -> bool {
+        self.extend(more)
+    }
+
+    fn reset(&mut self) {
+        self.reset();
+    }
+
+    fn compact(&mut self, mut moved: impl FnMut(u32, u32, u32)) -> Vec<Option<Ticket>> {
+        let mut found = Vec::new();
+        self.compact(&mut |range| {
+            moved(range.from, range.to, range.size);
+            found.push(range.allocation());
+        });
+        found.into_iter().map(|handle| self.ticket(handle)).collect()
+    }
+
+    fn is_live(&self, grant: Ticket) -> bool {
+        self.is_live(grant)
+    }
+
+    fn range(&self, grant: Ticket) -> Option<(u32, u32)> {
+        let (size, offset) = (self.size_of(grant), self.offset_of(grant));
+        Some((size?, offset?))
+    }
+
+    fn grant(&self, handle: Allocation<T::Index>) -> Option<Ticket> {
+        self.ticket(handle)
+    }
+
+    fn at(mut grant: Ticket, offset: u32) -> Ticket {
+        grant.offset = offset;
+        grant
+    }
+}
+
+/// A live range: its grant, with the offset of when it was made, and the number of its pattern.
 #[derive(Clone, Copy)]
-struct Range<NI: NodeIndex> {
-    handle: Allocation<NI>,
+struct Range<G> {
+    grant: G,
     number: u64,
 }
 
 #[derive(Clone, Copy)]
-struct Block<NI: NodeIndex> {
+struct Block<G> {
     size: u32,
-    live: Option<Range<NI>>,
+    live: Option<Range<G>>,
     /// When it became free. Of one class, the newest block is taken first.
     stamp: u64,
 }
 
 /// The blocks of a space in its order.
 #[derive(Clone)]
-struct Model<NI: NodeIndex> {
+struct Model<G> {
     limit: usize,
-    blocks: Vec<Block<NI>>,
+    blocks: Vec<Block<G>>,
     time: u64,
 }
 
-/// A handle with another offset.
-fn at<NI: NodeIndex>(mut handle: Allocation<NI>, offset: u32) -> Allocation<NI> {
-    handle.offset = offset;
-    handle
-}
-
-impl<NI: NodeIndex> Model<NI> {
-    fn free_block(&mut self, size: u32) -> Block<NI> {
+impl<G: Copy> Model<G> {
+    fn free_block(&mut self, size: u32) -> Block<G> {
         self.time += 1;
         Block { size, live: None, stamp: self.time }
     }
@@ -107,7 +291,7 @@ impl<NI: NodeIndex> Model<NI> {
 
     /// Coalesces a free block with its free neighbours.
     fn coalesce(&mut self, place: usize) {
-        let is_free = |block: Option<&Block<NI>>| block.is_some_and(|block| block.live.is_none());
+        let is_free = |block: Option<&Block<G>>| block.is_some_and(|block| block.live.is_none());
         let start = if place > 0 && is_free(self.blocks.get(place - 1)) { place - 1 } else { place };
         let end = if is_free(self.blocks.get(place + 1)) { place + 2 } else { place + 1 };
         let whole = self.blocks[start..end].iter().map(|block| block.size).sum();
@@ -121,7 +305,7 @@ impl<NI: NodeIndex> Model<NI> {
         if !self.has_room_for(align.min(2)) {
             return None;
         }
-        let is_fitting = |block: &Block<NI>| block.live.is_none() && class_for(needed) <= class_of(block.size);
+        let is_fitting = |block: &Block<G>| block.live.is_none() && class_for(needed) <= class_of(block.size);
         let fitting = (0..self.blocks.len()).filter(|place| is_fitting(&self.blocks[*place]));
         let place = fitting.min_by_key(|place| (class_of(self.blocks[*place].size), u64::MAX - self.blocks[*place].stamp))?;
         let padding = self.offset(place).wrapping_neg() % align;
@@ -183,13 +367,13 @@ impl<NI: NodeIndex> Model<NI> {
         self.blocks = vec![self.free_block(self.size())];
     }
 
-    /// The moves: from, to, size, and the handle after.
-    fn compact(&mut self) -> Vec<(u32, u32, u32, Allocation<NI>)> {
+    /// The moves: from, to, size, and the grant that is moved.
+    fn compact(&mut self) -> Vec<(u32, u32, u32, G)> {
         let (mut from, mut to, mut moves) = (0, 0, Vec::new());
         for block in &self.blocks {
             if let Some(range) = block.live {
                 if from != to {
-                    moves.push((from, to, block.size, at(range.handle, to)));
+                    moves.push((from, to, block.size, range.grant));
                 }
                 to += block.size;
             }
@@ -245,6 +429,9 @@ fn byte(number: u64, i: u32) -> u8 {
 /// What the histories had, so that none of it is missing.
 #[derive(Default, Debug)]
 struct Met {
+    calls: u64,
+    /// Tickets that were tried after their end.
+    stale: u64,
     grants: u64,
     refusals: u64,
     /// By the four reasons.
@@ -256,62 +443,75 @@ struct Met {
     grown: u64,
 }
 
-struct Pair<NI: NodeIndex> {
-    space: Allocator<NI>,
-    model: Model<NI>,
+struct Pair<S: Space> {
+    space: S,
+    model: Model<S::Grant>,
     buffer: Option<Vec<u8>>,
     grants: u64,
+    /// Some grants that were freed.
+    gone: Vec<S::Grant>,
 }
 
-impl<NI: NodeIndex> Pair<NI> {
+impl<S: Space> Pair<S> {
     fn new(size: u32, limit: u32) -> Self {
         let first = Block { size, live: None, stamp: 0 };
         Pair {
-            space: Allocator::with_max_allocs(Global, size, limit).unwrap(),
+            space: S::new(size, limit),
             model: Model { limit: limit as usize, blocks: vec![first], time: 0 },
             buffer: (size <= LARGEST_BUFFER).then(|| vec![0; size as usize]),
             grants: 0,
+            gone: Vec::new(),
         }
     }
 
     fn allocate(&mut self, size: u32, align: u32, met: &mut Met) {
-        let why = self.space.refusal_aligned(size, align);
+        let why = self.space.refusal(size, align);
         assert_eq!(why, self.model.refusal(size, align));
-        let found = if align == 1 { self.space.allocate(size) } else { self.space.allocate_aligned(size, align) };
+        let found = self.space.allocate(size, align);
         assert_eq!(found.is_none(), why.is_some());
         if let Some(why) = why {
             met.reasons[why as usize] += 1;
         }
         let expected = self.model.request(size, align);
-        assert_eq!(found.map(|handle| handle.offset), expected.map(|place| self.model.offset(place)));
-        let (Some(handle), Some(place)) = (found, expected) else {
+        let (Some(grant), Some(place)) = (found, expected) else {
+            assert!(found.is_none() && expected.is_none());
             met.refusals += 1;
             return;
         };
+        let offset = self.model.offset(place);
+        assert_eq!(grant, S::at(grant, offset));
         met.grants += 1;
         self.grants += 1;
-        let range = Range { handle, number: self.grants };
+        let range = Range { grant, number: self.grants };
         self.model.blocks[place].live = Some(range);
-        self.write(range, handle.offset, 0, size);
+        self.write(range, offset, 0, size);
     }
 
     /// Writes the pattern of a range at its bytes from `start` to `end`.
-    fn write(&mut self, range: Range<NI>, offset: u32, start: u32, end: u32) {
+    fn write(&mut self, range: Range<S::Grant>, offset: u32, start: u32, end: u32) {
         let Some(buffer) = &mut self.buffer else { return };
         for i in start..end {
             buffer[(offset + i) as usize] = byte(range.number, i);
         }
     }
 
+    fn free(&mut self, place: usize) {
+        let grant = self.model.blocks[place].live.unwrap().grant;
+        self.space.free(grant);
+        self.model.free(place);
+        assert_eq!(self.space.range(grant), None);
+        self.gone.push(grant);
+    }
+
     fn resize(&mut self, place: usize, size: u32, met: &mut Met) {
         let (range, offset, held) = (self.model.blocks[place].live.unwrap(), self.model.offset(place), self.model.blocks[place].size);
         let (shrunk, grown) = if size < held {
             // to fewer units nothing grows, and to more units nothing shrinks
-            assert!(!self.space.grow_in_place(range.handle, size));
-            (self.space.shrink(range.handle, size), false)
+            assert!(!self.space.grow_in_place(range.grant, size));
+            (self.space.shrink(range.grant, size), false)
         } else {
-            assert_eq!(self.space.shrink(range.handle, size), size == held);
-            (false, self.space.grow_in_place(range.handle, size))
+            assert_eq!(self.space.shrink(range.grant, size), size == held);
+            (false, self.space.grow_in_place(range.grant, size))
         };
         assert_eq!(shrunk || grown, self.model.resize(place, size));
         met.shrunk += u64::from(shrunk);
@@ -331,21 +531,33 @@ impl<NI: NodeIndex> Pair<NI> {
         }
     }
 
+    fn reset(&mut self) {
+        for place in self.model.live() {
+            self.gone.push(self.model.blocks[place].live.unwrap().grant);
+        }
+        self.space.reset();
+        self.model.reset();
+    }
+
     fn compact(&mut self, met: &mut Met) {
         met.compacted_at_the_limit += u64::from(!self.model.has_room_for(1));
         let mut moves = Vec::new();
-        let mut buffer = self.buffer.as_mut();
-        self.space.compact(&mut |range| {
-            moves.push((range.from, range.to, range.size, range.allocation()));
-            if let Some(buffer) = &mut buffer {
-                let from = range.from as usize;
-                buffer.copy_within(from..from + range.size as usize, range.to as usize);
+        let buffer = &mut self.buffer;
+        let grants = self.space.compact(|from, to, size| {
+            moves.push((from, to, size));
+            if let Some(buffer) = buffer {
+                buffer.copy_within(from as usize..(from + size) as usize, to as usize);
             }
         });
-        assert_eq!(moves, self.model.compact());
+        let expected = self.model.compact();
+        assert_eq!(moves.len(), expected.len());
+        assert_eq!(grants.len(), expected.len());
+        for (((from, to, size), found), (old, new, units, grant)) in moves.iter().zip(grants).zip(expected) {
+            assert_eq!((*from, *to, *size, found), (old, new, units, Some(S::at(grant, new))));
+        }
         met.moves += moves.len() as u64;
-        met.overlapping_moves += moves.iter().filter(|(from, to, size, _)| to + size > *from).count() as u64;
-        self.space.compact(&mut |_| panic!("a second compact moves nothing"));
+        met.overlapping_moves += moves.iter().filter(|(from, to, size)| to + size > *from).count() as u64;
+        self.space.compact(|_, _, _| panic!("a second compact moves nothing"));
         self.check_bytes();
     }
 
@@ -361,24 +573,38 @@ impl<NI: NodeIndex> Pair<NI> {
         }
     }
 
-    fn check(&self) {
-        assert_eq!(self.space.size(), self.model.size());
-        assert_eq!(self.space.block_count() as usize, self.model.blocks.len());
-        let report = self.space.storage_report();
+    fn check_reports(&self) {
+        let space = self.space.allocator();
+        assert_eq!(space.size(), self.model.size());
+        assert_eq!(space.block_count() as usize, self.model.blocks.len());
+        assert_eq!(space.is_full(), !self.model.has_room_for(1));
+        let report = space.storage_report();
         assert_eq!((report.total_free_space, report.largest_free_region), self.model.report());
-        let mut blocks = self.space.blocks();
+        let mut counts = [0; 256];
+        for block in self.model.blocks.iter().filter(|block| block.live.is_none()) {
+            counts[class_of(block.size)] += 1;
+        }
+        for (class, region) in space.storage_report_full().free_regions.iter().enumerate() {
+            let value = if class < 8 { class as u64 } else { (8 + class as u64 % 8) << (class / 8 - 1) };
+            assert_eq!((region.size, region.count), (value as u32, counts[class]));
+        }
+    }
+
+    fn check(&self) {
+        self.check_reports();
+        let mut blocks = self.space.allocator().blocks();
         assert_eq!(blocks.len(), self.model.blocks.len());
         let mut end = self.model.size();
         for block in self.model.blocks.iter().rev() {
             end -= block.size;
             let found = blocks.next().unwrap();
             assert_eq!((found.offset, found.size), (end, block.size));
-            assert_eq!(found.allocation, block.live.map(|range| at(range.handle, end)));
+            let grant = found.allocation.map(|handle| self.space.grant(handle).unwrap());
+            assert_eq!(grant, block.live.map(|range| S::at(range.grant, end)));
             if let Some(range) = block.live {
                 // its public offset is perhaps that of before a move
-                assert!(self.space.is_live(range.handle));
-                assert_eq!(self.space.allocation_size(range.handle), block.size);
-                assert_eq!(self.space.allocation_offset(range.handle), Some(end));
+                assert!(self.space.is_live(range.grant));
+                assert_eq!(self.space.range(range.grant), Some((block.size, end)));
             }
         }
         assert!(blocks.next().is_none());
@@ -393,18 +619,9 @@ impl<NI: NodeIndex> Pair<NI> {
                 let align = if random.below(8) == 0 { 1 << random.below(32) } else { 1 << random.below(5) };
                 self.allocate(size, align, met);
             }
-            16..=26 if !live.is_empty() => {
-                let place = live[random.below(live.len() as u32) as usize];
-                let handle = self.model.blocks[place].live.unwrap().handle;
-                self.space.free(handle);
-                self.model.free(place);
-                assert_eq!(self.space.allocation_offset(handle), None);
-            }
+            16..=26 if !live.is_empty() => self.free(live[random.below(live.len() as u32) as usize]),
             27..=28 => self.extend(if random.below(16) == 0 { random.next() as u32 } else { random.below(40) }),
-            29 if random.below(4) == 0 => {
-                self.space.reset();
-                self.model.reset();
-            }
+            29 if random.below(4) == 0 => self.reset(),
             30..=31 => self.compact(met),
             32..=35 if !live.is_empty() => {
                 let place = live[random.below(live.len() as u32) as usize];
@@ -414,11 +631,17 @@ impl<NI: NodeIndex> Pair<NI> {
             }
             _ => self.check_bytes(),
         }
+        if S::IS_GUARDED && !self.gone.is_empty() {
+            let gone = self.gone[random.below(self.gone.len() as u32) as usize];
+            assert!(!self.space.is_live(gone));
+            assert_eq!(self.space.range(gone), None);
+            met.stale += 1;
+        }
         self.check();
     }
 }
 
-fn play<NI: NodeIndex>(random: &mut Random, met: &mut Met) {
+fn play<S: Space>(random: &mut Random, met: &mut Met) {
     let size = match random.below(16) {
         0 => random.next() as u32,
         1 => u32::MAX - random.below(100),
@@ -426,33 +649,41 @@ fn play<NI: NodeIndex>(random: &mut Random, met: &mut Met) {
         _ => random.below(400),
     };
     let limit = if random.below(3) == 0 { 2 + random.below(10) } else { 12 + random.below(60) };
-    let mut pair = Pair::<NI>::new(size, limit);
+    let mut pair = Pair::<S>::new(size, limit);
     for _ in 0..random.below(MOST_CALLS) {
         pair.call(random, met);
+        met.calls += 1;
     }
     pair.compact(met);
     pair.check();
     // every unit is in one block again
-    for place in pair.model.live() {
-        pair.space.free(pair.model.blocks[place].live.unwrap().handle);
+    for place in pair.model.live().into_iter().rev() {
+        pair.space.free(pair.model.blocks[place].live.unwrap().grant);
     }
-    assert_eq!(pair.space.block_count(), 1);
-    assert_eq!(pair.space.allocate(0).map(|handle| handle.offset), (limit > 2).then_some(0));
+    assert_eq!(pair.space.allocator().block_count(), 1);
+    let last = pair.space.allocate(0, 1).and_then(|grant| pair.space.range(grant));
+    assert_eq!(last, (limit > 2).then_some((0, 0)));
 }
 
 #[test]
-fn an_allocator_and_a_list_of_blocks_agree() {
+fn each_space_and_a_list_of_blocks_agree() {
     let play_from = |first: u64| {
         let mut met = Met::default();
         for seed in (first..HISTORIES).step_by(THREADS as usize) {
             let mut random = Random(seed);
-            if random.below(2) == 0 {
-                play::<u32>(&mut random, &mut met);
-            } else {
-                play::<u16>(&mut random, &mut met);
+            match random.below(8) {
+                0 => play::<AllocatorOf<ByNode<u32>>>(&mut random, &mut met),
+                1 => play::<AllocatorOf<ByNode<u16>>>(&mut random, &mut met),
+                2 => play::<AllocatorOf<ByField<u32>>>(&mut random, &mut met),
+                3 => play::<AllocatorOf<ByField<u16>>>(&mut random, &mut met),
+                4 => play::<GuardedOf<ByNode<u32>>>(&mut random, &mut met),
+                5 => play::<GuardedOf<ByNode<u16>>>(&mut random, &mut met),
+                6 => play::<GuardedOf<ByField<u32>>>(&mut random, &mut met),
+                _ => play::<GuardedOf<ByField<u16>>>(&mut random, &mut met),
             }
         }
         let count = HISTORIES / THREADS;
+        assert!(met.calls > 20 * count && met.stale > 5 * count, "{met:?}");
         assert!(met.grants > 10 * count && met.refusals > count, "{met:?}");
         assert!(met.reasons.iter().all(|n| *n > count / 50), "{met:?}");
         assert!(met.moves > 3 * count && met.overlapping_moves > count, "{met:?}");

@@ -1,0 +1,253 @@
+//! Each call of an allocator, with every clause of its contract once more: what a caller may rely on. Where a clause is
+//! taken back there, the function here is not proved.
+
+ghost use Rattle.std.specs.List.{FoldsTo};
+ghost use Rattle.std.specs.Prelude.{◌%◌, ◌*◌, ◌+◌, ◌-◌, ◌/◌, ◌<◌, ◌↔◌, ◌≡◌, ◌≢◌, ◌≤◌, IfOk, IfSome, IsSome, IsTrue};
+ghost use Rattle.std.specs.Prelude.{None, [], false, length, min, option_map, true, ℕ};
+ghost use Rattle.offset_allocator.specs.Accesses.{Costs};
+ghost use Rattle.offset_allocator.specs.Compacting.{Compacts, IsCalledWith, KeepsSizes, live, moves};
+ghost use Rattle.offset_allocator.specs.Listing.{listing};
+ghost use Rattle.offset_allocator.specs.Ranges.{Grants, IsLive, KeepsAll, KeepsOthers, Range, range_of, size_of};
+ghost use Rattle.offset_allocator.specs.Relations.{Aligns, Allocates, CanExtend, Extends, Frees, IsAlignment};
+ghost use Rattle.offset_allocator.specs.Relations.{IsFresh, IsSplitNearBest, Resets, SameSpace};
+ghost use Rattle.offset_allocator.specs.Reports.{IsGoodRefusal};
+ghost use Rattle.offset_allocator.specs.Requests.{CanGrant, HasRoomFor, IsFullReport, IsReport, IsWhy, blocks_needed};
+ghost use Rattle.offset_allocator.specs.Requests.{units_needed};
+ghost use Rattle.offset_allocator.specs.Resizing.{CanGrow, CanShrink, Grows, HasUnits, Shrinks};
+ghost use Rattle.offset_allocator.specs.View.{count_named, free_sizes, is_full, largest_free, used_of};
+
+use offset_allocator::{
+    Allocation, AllocatorOf, BlocksOf, Move, Refusal, StorageReport, StorageReportFull, Tables,
+};
+use std::alloc::{AllocError, Global};
+
+/// `new`, with each clause of its contract.
+pub fn new<T: Tables>(alloc: Global, size: u32) -> Result<AllocatorOf<T>, AllocError>
+    ensures { IfOk result (IsFresh size (min 131072 (T.Index.MAX - 2))) }
+{
+    AllocatorOf::new(alloc, size)
+}
+
+/// `with_max_allocs`, with each clause of its contract.
+pub fn with_max_allocs<T: Tables>(
+    alloc: Global,
+    size: u32,
+    max_allocs: u32,
+) -> Result<AllocatorOf<T>, AllocError>
+    requires limit_min { 2 ≤ max_allocs }
+    requires limit_max { max_allocs + 1 < T.Index.MAX }
+    ensures { IfOk result (IsFresh size max_allocs) }
+{
+    AllocatorOf::with_max_allocs(alloc, size, max_allocs)
+}
+
+/// `reset`, with each clause of its contract.
+pub fn reset<T: Tables>(space: &mut AllocatorOf<T>)
+    ensures size { space.new.size ≡ space.old.size }
+    ensures gone { (x : ℕ) → range_of x space.new ≡ None }
+    ensures step { Resets space.old space.new }
+    ensures accesses { Costs 1 (min (130 * used_of space.old.blocks + 2) 270) space.old.accesses space.new.accesses }
+{
+    space.reset();
+}
+
+/// `block_count`, with each clause of its contract.
+pub fn block_count<T: Tables>(space: &AllocatorOf<T>) -> u32
+    ensures { result ≡ length space.now.blocks }
+{
+    space.block_count()
+}
+
+/// `node_count`, with each clause of its contract.
+pub fn node_count<T: Tables>(space: &AllocatorOf<T>) -> u32
+    ensures names { (x : ℕ) → 1 ≤ count_named x space.now.blocks → x < result }
+    ensures limit { result ≤ space.now.max_allocs }
+{
+    space.node_count()
+}
+
+/// `is_full`, with each clause of its contract.
+pub fn is_full<T: Tables>(space: &AllocatorOf<T>) -> bool
+    ensures limit { IsTrue result ↔ (length space.now.blocks + 1 ≡ space.now.max_allocs) }
+    ensures full { result ≡ is_full space.now }
+{
+    space.is_full()
+}
+
+/// `allocate`, with each clause of its contract.
+pub fn allocate<T: Tables>(space: &mut AllocatorOf<T>, size: u32) -> Option<Allocation<T::Index>>
+    ensures granted { 1 ≤ size → (IsSome result ↔ (size ≤ largest_free space.old)) }
+    ensures can_grant { IsSome result ↔ CanGrant 1 size space.old }
+    ensures grants { IfSome result (Grants size space.old space.new) }
+    ensures same { result ≡ None → SameSpace space.old space.new }
+    ensures nearly { IfSome result (IsSplitNearBest size space.old) }
+    ensures refused { result ≡ None → HasRoomFor 1 space.old → IsGoodRefusal size (free_sizes space.old.blocks) }
+    ensures accesses { Costs 0 64 space.old.accesses space.new.accesses }
+    ensures accesses_min { IsSome result → space.old.accesses + 7 ≤ space.new.accesses }
+    ensures step { Allocates size space.old space.new result }
+{
+    space.allocate(size)
+}
+
+/// `free`, with each clause of its contract.
+pub fn free<T: Tables>(space: &mut AllocatorOf<T>, allocation: Allocation<T::Index>)
+    requires live { IsLive allocation.name space.old }
+    ensures gone { range_of allocation.name space.new ≡ None }
+    ensures others { KeepsOthers allocation.name space.old space.new }
+    ensures accesses { Costs 9 128 space.old.accesses space.new.accesses }
+    ensures step { Frees allocation.name space.old space.new }
+{
+    space.free(allocation);
+}
+
+/// `is_live`, with each clause of its contract.
+pub fn is_live<T: Tables>(space: &AllocatorOf<T>, allocation: Allocation<T::Index>) -> bool
+    ensures { IsTrue result ↔ IsLive allocation.name space.now }
+{
+    space.is_live(allocation)
+}
+
+/// `allocation_size`, with each clause of its contract.
+pub fn allocation_size<T: Tables>(space: &AllocatorOf<T>, allocation: Allocation<T::Index>) -> u32
+    ensures { result ≡ size_of allocation.name space.now }
+{
+    space.allocation_size(allocation)
+}
+
+/// `allocation_offset`, with each clause of its contract.
+pub fn allocation_offset<T: Tables>(
+    space: &AllocatorOf<T>,
+    allocation: Allocation<T::Index>,
+) -> Option<u32>
+    ensures { result ≡ option_map (λ (r : Range). r.offset) (range_of allocation.name space.now) }
+{
+    space.allocation_offset(allocation)
+}
+
+/// `blocks`, with each clause of its contract.
+pub fn blocks<T: Tables>(space: &AllocatorOf<T>) -> BlocksOf<'_, T>
+    ensures { result ≡ listing space.now }
+{
+    space.blocks()
+}
+
+/// `storage_report`, with each clause of its contract.
+pub fn storage_report<T: Tables>(space: &AllocatorOf<T>) -> StorageReport
+    ensures { IsReport result space.now }
+{
+    space.storage_report()
+}
+
+/// `storage_report_full`, with each clause of its contract.
+pub fn storage_report_full<T: Tables>(space: &AllocatorOf<T>) -> StorageReportFull
+    ensures { IsFullReport result space.now }
+{
+    space.storage_report_full()
+}
+
+/// `refusal`, with each clause of its contract.
+pub fn refusal<T: Tables>(space: &AllocatorOf<T>, size: u32) -> Option<Refusal>
+    ensures granted { result ≡ None ↔ CanGrant 1 size space.now }
+    ensures why { IfSome result (IsWhy 1 size space.now) }
+{
+    space.refusal(size)
+}
+
+/// `refusal_aligned`, with each clause of its contract.
+pub fn refusal_aligned<T: Tables>(space: &AllocatorOf<T>, size: u32, align: u32) -> Option<Refusal>
+    requires power { IsAlignment align }
+    ensures granted { result ≡ None ↔ CanGrant (blocks_needed align) (units_needed size align) space.now }
+    ensures why { IfSome result (IsWhy (blocks_needed align) (units_needed size align) space.now) }
+{
+    space.refusal_aligned(size, align)
+}
+
+/// `allocate_aligned`, with each clause of its contract.
+pub fn allocate_aligned<T: Tables>(
+    space: &mut AllocatorOf<T>,
+    size: u32,
+    align: u32,
+) -> Option<Allocation<T::Index>>
+    requires power { IsAlignment align }
+    ensures granted { 1 ≤ units_needed size align → (IsSome result
+        ↔ (HasRoomFor (blocks_needed align) space.old × (units_needed size align ≤ largest_free space.old))) }
+    ensures can_grant { IsSome result ↔ CanGrant (blocks_needed align) (units_needed size align) space.old }
+    ensures grants { IfSome result (Grants size space.old space.new) }
+    ensures aligned { IfSome result (λ h. h.offset % align ≡ 0) }
+    ensures same { result ≡ None → SameSpace space.old space.new }
+    ensures nearly { IfSome result (IsSplitNearBest (units_needed size align) space.old) }
+    ensures refused { result ≡ None → HasRoomFor (blocks_needed align) space.old
+        → IsGoodRefusal (units_needed size align) (free_sizes space.old.blocks) }
+    ensures accesses { Costs 0 128 space.old.accesses space.new.accesses }
+    ensures accesses_min { IsSome result → space.old.accesses + 7 ≤ space.new.accesses }
+    ensures step { Aligns size align space.old space.new result }
+{
+    space.allocate_aligned(size, align)
+}
+
+/// `extend`, with each clause of its contract.
+pub fn extend<T: Tables>(space: &mut AllocatorOf<T>, more: u32) -> bool
+    ensures done { IsTrue result ↔ (1 ≤ more → CanExtend more space.old) }
+    ensures size { IsTrue result → space.new.size ≡ space.old.size + more }
+    ensures kept { KeepsAll space.old space.new }
+    ensures same { result ≡ false → SameSpace space.old space.new }
+    ensures accesses { Costs 0 128 space.old.accesses space.new.accesses }
+    ensures accesses_min { result ≡ true → 0 < more → space.old.accesses + 10 ≤ space.new.accesses }
+    ensures step { Extends more space.old space.new result }
+{
+    space.extend(more)
+}
+
+/// `shrink`, with each clause of its contract.
+pub fn shrink<T: Tables>(
+    space: &mut AllocatorOf<T>,
+    allocation: Allocation<T::Index>,
+    size: u32,
+) -> bool
+    requires live { IsLive allocation.name space.old }
+    ensures done { IsTrue result ↔ CanShrink allocation.name size space.old }
+    ensures range { IsTrue result → HasUnits allocation.name size space.old space.new }
+    ensures others { KeepsOthers allocation.name space.old space.new }
+    ensures same { result ≡ false → SameSpace space.old space.new }
+    ensures accesses { Costs 1 128 space.old.accesses space.new.accesses }
+    ensures accesses_done { IsTrue result → size < size_of allocation.name space.old
+        → space.old.accesses + 16 ≤ space.new.accesses }
+    ensures step { Shrinks allocation.name size space.old space.new result }
+{
+    space.shrink(allocation, size)
+}
+
+/// `grow_in_place`, with each clause of its contract.
+pub fn grow_in_place<T: Tables>(
+    space: &mut AllocatorOf<T>,
+    allocation: Allocation<T::Index>,
+    size: u32,
+) -> bool
+    requires live { IsLive allocation.name space.old }
+    ensures done { IsTrue result ↔ CanGrow allocation.name size space.old }
+    ensures range { IsTrue result → HasUnits allocation.name size space.old space.new }
+    ensures others { KeepsOthers allocation.name space.old space.new }
+    ensures same { result ≡ false → SameSpace space.old space.new }
+    ensures accesses { Costs 1 128 space.old.accesses space.new.accesses }
+    ensures accesses_done { IsTrue result → size_of allocation.name space.old < size
+        → space.old.accesses + 11 ≤ space.new.accesses }
+    ensures step { Grows allocation.name size space.old space.new result }
+{
+    space.grow_in_place(allocation, size)
+}
+
+/// `compact`, with each clause of its contract.
+pub fn compact<T: Tables, F: FnMut(Move<T::Index>)>(space: &mut AllocatorOf<T>, moved: &mut F)
+    requires callable { F.IsAlwaysCallable moved.old }
+    ensures live { live space.new.blocks ≡ live space.old.blocks }
+    ensures sizes { KeepsSizes space.old space.new }
+    ensures moved { FoldsTo (IsCalledWith T.Index.NonMax.number (λ f range g. F.step f range tt g)) moved.old
+        (moves 0 0 space.old.blocks) moved.new }
+    ensures accesses { Costs (2 * length space.old.blocks)
+        (24 * length space.old.blocks + 512) space.old.accesses space.new.accesses }
+    ensures accesses_some { free_sizes space.old.blocks ≢ []
+        → space.old.accesses + 2 * length space.old.blocks + 267 ≤ space.new.accesses }
+    ensures step { Compacts space.old space.new }
+{
+    space.compact(moved);
+}

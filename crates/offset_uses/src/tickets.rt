@@ -1,0 +1,236 @@
+//! Each call of a guarded allocator, with every clause of its contract once more: what a caller may rely on. Where a
+//! clause is taken back there, the function here is not proved.
+
+ghost use Rattle.std.specs.List.{FoldsTo};
+ghost use Rattle.std.specs.Prelude.{◌%◌, ◌*◌, ◌+◌, ◌-◌, ◌<◌, ◌↔◌, ◌≡◌, ◌≤◌, IfOk, IfSome, IsSome, IsTrue};
+ghost use Rattle.std.specs.Prelude.{MatchOption, None, Some, [], false, length, min, option_map, true};
+ghost use Rattle.offset_allocator.specs.Compacting.{Compacts, IsCalledWith, moves};
+ghost use Rattle.offset_allocator.specs.Ranges.{Range};
+ghost use Rattle.offset_allocator.specs.Relations.{Aligns, Allocates, CanExtend, Extends, Frees, IsAlignment};
+ghost use Rattle.offset_allocator.specs.Relations.{IsFresh, Resets};
+ghost use Rattle.offset_allocator.specs.Requests.{CanGrant, blocks_needed, units_needed};
+ghost use Rattle.offset_allocator.specs.Resizing.{CanGrow, CanShrink, Grows, Shrinks};
+ghost use Rattle.offset_allocator.specs.View.{largest_free, used_of};
+ghost use Rattle.offset_guarded.specs.Guard.{Grants, HasSerialLeft, HasUnits, IsLive, IsSame, IsWhy, KeepsAll};
+ghost use Rattle.offset_guarded.specs.Guard.{KeepsLive, KeepsOthers, KeepsSerials, KeepsSizes, grant_of, last_serial};
+ghost use Rattle.offset_guarded.specs.Guard.{range_of, serial_of};
+ghost use Rattle.offset_allocator.specs.Ranges as named;
+
+use offset_allocator::{Allocation, AllocatorOf, Move, Tables};
+use offset_guarded::{GuardedOf, Refusal, Ticket};
+use std::alloc::{AllocError, Global};
+
+/// `new`, with each clause of its contract.
+pub fn new<T: Tables>(alloc: Global, size: u32, realm: u32) -> Result<GuardedOf<T>, AllocError>
+    ensures space { IfOk result (λ g. IsFresh size (min 131072 (T.Index.MAX - 2)) g.space) }
+    ensures serials { IfOk result (λ g. (g.given ≡ 0) × (g.serials ≡ []) × (g.realm ≡ realm)) }
+{
+    GuardedOf::new(alloc, size, realm)
+}
+
+/// `with_max_allocs`, with each clause of its contract.
+pub fn with_max_allocs<T: Tables>(
+    alloc: Global,
+    size: u32,
+    max_allocs: u32,
+    realm: u32,
+) -> Result<GuardedOf<T>, AllocError>
+    requires limit_min { 2 ≤ max_allocs }
+    requires limit_max { max_allocs + 1 < T.Index.MAX }
+    ensures space { IfOk result (λ g. IsFresh size max_allocs g.space) }
+    ensures serials { IfOk result (λ g. (g.given ≡ 0) × (g.serials ≡ []) × (g.realm ≡ realm)) }
+{
+    GuardedOf::with_max_allocs(alloc, size, max_allocs, realm)
+}
+
+/// `allocator`, with each clause of its contract.
+pub fn allocator<T: Tables>(space: &GuardedOf<T>) -> &AllocatorOf<T>
+    ensures { result.now ≡ space.now.space }
+{
+    space.allocator()
+}
+
+/// `realm`, with each clause of its contract.
+pub fn realm<T: Tables>(space: &GuardedOf<T>) -> u32
+    ensures { result ≡ space.now.realm }
+{
+    space.realm()
+}
+
+/// `is_spent`, with each clause of its contract.
+pub fn is_spent<T: Tables>(space: &GuardedOf<T>) -> bool
+    ensures { IsTrue result ↔ (space.now.given ≡ last_serial) }
+{
+    space.is_spent()
+}
+
+/// `is_live`, with each clause of its contract.
+pub fn is_live<T: Tables>(space: &GuardedOf<T>, ticket: Ticket) -> bool
+    ensures { IsTrue result ↔ IsLive ticket space.now }
+{
+    space.is_live(ticket)
+}
+
+/// `size_of`, with each clause of its contract.
+pub fn size_of<T: Tables>(space: &GuardedOf<T>, ticket: Ticket) -> Option<u32>
+    ensures { result ≡ option_map (λ (r : Range). r.size) (range_of ticket space.now) }
+{
+    space.size_of(ticket)
+}
+
+/// `offset_of`, with each clause of its contract.
+pub fn offset_of<T: Tables>(space: &GuardedOf<T>, ticket: Ticket) -> Option<u32>
+    ensures { result ≡ option_map (λ (r : Range). r.offset) (range_of ticket space.now) }
+{
+    space.offset_of(ticket)
+}
+
+/// `ticket`, with each clause of its contract.
+pub fn ticket<T: Tables>(space: &GuardedOf<T>, handle: Allocation<T::Index>) -> Option<Ticket>
+    ensures { MatchOption result (named.range_of handle.name space.now.space ≡ None)
+        (λ t. (t ≡ record {
+          offset = t.offset;
+          name = handle.name;
+          serial = serial_of handle.name space.now;
+          realm = space.now.realm;
+        })
+        × (range_of t space.now ≡ named.range_of handle.name space.now.space)
+        × (option_map (λ (r : Range). r.offset) (range_of t space.now) ≡ Some t.offset)) }
+{
+    space.ticket(handle)
+}
+
+/// `free`, with each clause of its contract.
+pub fn free<T: Tables>(space: &mut GuardedOf<T>, ticket: Ticket) -> bool
+    ensures done { IsTrue result ↔ IsLive ticket space.old }
+    ensures gone { range_of ticket space.new ≡ None }
+    ensures others { KeepsOthers ticket space.old space.new }
+    ensures same { result ≡ false → space.new ≡ space.old }
+    ensures step { result ≡ true → Frees ticket.name space.old.space space.new.space }
+    ensures serials { space.new ≡ record space.old { space = space.new.space } }
+    ensures accesses_max { space.new.space.accesses ≤ space.old.space.accesses + 128 }
+{
+    space.free(ticket)
+}
+
+/// `reset`, with each clause of its contract.
+pub fn reset<T: Tables>(space: &mut GuardedOf<T>)
+    ensures gone { (t : Ticket) → range_of t space.new ≡ None }
+    ensures size { space.new.space.size ≡ space.old.space.size }
+    ensures step { Resets space.old.space space.new.space }
+    ensures serials { space.new ≡ record space.old { space = space.new.space } }
+    ensures accesses_max { space.new.space.accesses
+        ≤ space.old.space.accesses + min (130 * used_of space.old.space.blocks + 2) 270 }
+{
+    space.reset();
+}
+
+/// `allocate`, with each clause of its contract.
+pub fn allocate<T: Tables>(space: &mut GuardedOf<T>, size: u32) -> Option<Ticket>
+    ensures granted { 1 ≤ size
+        → (IsSome result ↔ (HasSerialLeft space.old × (size ≤ largest_free space.old.space))) }
+    ensures can_grant { IsSome result ↔ (HasSerialLeft space.old × CanGrant 1 size space.old.space) }
+    ensures grants { IfSome result (Grants size space.old space.new) }
+    ensures same { result ≡ None → IsSame space.old space.new }
+    ensures step { HasSerialLeft space.old
+        → Allocates size space.old.space space.new.space (option_map grant_of result) }
+    ensures accesses_max { space.new.space.accesses ≤ space.old.space.accesses + 64 }
+{
+    space.allocate(size)
+}
+
+/// `allocate_aligned`, with each clause of its contract.
+pub fn allocate_aligned<T: Tables>(
+    space: &mut GuardedOf<T>,
+    size: u32,
+    align: u32,
+) -> Option<Ticket>
+    requires power { IsAlignment align }
+    ensures can_grant { IsSome result
+        ↔ (HasSerialLeft space.old × CanGrant (blocks_needed align) (units_needed size align) space.old.space) }
+    ensures grants { IfSome result (Grants size space.old space.new) }
+    ensures aligned { IfSome result (λ t. t.offset % align ≡ 0) }
+    ensures same { result ≡ None → IsSame space.old space.new }
+    ensures step { HasSerialLeft space.old
+        → Aligns size align space.old.space space.new.space (option_map grant_of result) }
+    ensures accesses_max { space.new.space.accesses ≤ space.old.space.accesses + 128 }
+{
+    space.allocate_aligned(size, align)
+}
+
+/// `refusal`, with each clause of its contract.
+pub fn refusal<T: Tables>(space: &GuardedOf<T>, size: u32) -> Option<Refusal>
+    ensures granted { result ≡ None ↔ (HasSerialLeft space.now × CanGrant 1 size space.now.space) }
+    ensures why { IfSome result (IsWhy 1 size space.now) }
+{
+    space.refusal(size)
+}
+
+/// `refusal_aligned`, with each clause of its contract.
+pub fn refusal_aligned<T: Tables>(space: &GuardedOf<T>, size: u32, align: u32) -> Option<Refusal>
+    requires power { IsAlignment align }
+    ensures granted { result ≡ None
+        ↔ (HasSerialLeft space.now × CanGrant (blocks_needed align) (units_needed size align) space.now.space) }
+    ensures why { IfSome result (IsWhy (blocks_needed align) (units_needed size align) space.now) }
+{
+    space.refusal_aligned(size, align)
+}
+
+/// `shrink`, with each clause of its contract.
+pub fn shrink<T: Tables>(space: &mut GuardedOf<T>, ticket: Ticket, size: u32) -> Option<bool>
+    ensures live { IsSome result ↔ IsLive ticket space.old }
+    ensures done { IfSome result (λ done. IsTrue done ↔ CanShrink ticket.name size space.old.space) }
+    ensures range { result ≡ Some true → HasUnits ticket size space.old space.new }
+    ensures others { KeepsOthers ticket space.old space.new }
+    ensures kept { KeepsLive space.old space.new }
+    ensures same { result ≡ Some false → IsSame space.old space.new }
+    ensures gone { result ≡ None → space.new ≡ space.old }
+    ensures step { IfSome result (Shrinks ticket.name size space.old.space space.new.space) }
+    ensures serials { KeepsSerials space.old space.new }
+    ensures accesses_max { space.new.space.accesses ≤ space.old.space.accesses + 128 }
+{
+    space.shrink(ticket, size)
+}
+
+/// `grow_in_place`, with each clause of its contract.
+pub fn grow_in_place<T: Tables>(space: &mut GuardedOf<T>, ticket: Ticket, size: u32) -> Option<bool>
+    ensures live { IsSome result ↔ IsLive ticket space.old }
+    ensures done { IfSome result (λ done. IsTrue done ↔ CanGrow ticket.name size space.old.space) }
+    ensures range { result ≡ Some true → HasUnits ticket size space.old space.new }
+    ensures others { KeepsOthers ticket space.old space.new }
+    ensures kept { KeepsLive space.old space.new }
+    ensures same { result ≡ Some false → IsSame space.old space.new }
+    ensures gone { result ≡ None → space.new ≡ space.old }
+    ensures step { IfSome result (Grows ticket.name size space.old.space space.new.space) }
+    ensures serials { KeepsSerials space.old space.new }
+    ensures accesses_max { space.new.space.accesses ≤ space.old.space.accesses + 128 }
+{
+    space.grow_in_place(ticket, size)
+}
+
+/// `extend`, with each clause of its contract.
+pub fn extend<T: Tables>(space: &mut GuardedOf<T>, more: u32) -> bool
+    ensures done { IsTrue result ↔ (1 ≤ more → CanExtend more space.old.space) }
+    ensures size { IsTrue result → space.new.space.size ≡ space.old.space.size + more }
+    ensures kept { KeepsAll space.old space.new }
+    ensures same { result ≡ false → IsSame space.old space.new }
+    ensures step { Extends more space.old.space space.new.space result }
+    ensures serials { KeepsSerials space.old space.new }
+    ensures accesses_max { space.new.space.accesses ≤ space.old.space.accesses + 128 }
+{
+    space.extend(more)
+}
+
+/// `compact`, with each clause of its contract.
+pub fn compact<T: Tables, F: FnMut(Move<T::Index>)>(space: &mut GuardedOf<T>, moved: &mut F)
+    requires callable { F.IsAlwaysCallable moved.old }
+    ensures sizes { KeepsSizes space.old space.new }
+    ensures moved { FoldsTo (IsCalledWith T.Index.NonMax.number (λ f range g. F.step f range tt g)) moved.old
+        (moves 0 0 space.old.space.blocks) moved.new }
+    ensures step { Compacts space.old.space space.new.space }
+    ensures serials { space.new ≡ record space.old { space = space.new.space } }
+    ensures accesses_max { space.new.space.accesses
+        ≤ space.old.space.accesses + 24 * length space.old.space.blocks + 512 }
+{
+    space.compact(moved);
+}
