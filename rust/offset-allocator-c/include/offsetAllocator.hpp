@@ -38,6 +38,11 @@ struct Allocation {
     NodeIndex metadata = NO_SPACE;
 };
 
+// Before C++17 a constant that is bound to a reference, as std::max does, needs a definition: here one for all sources.
+#if !defined(__cpp_inline_variables) && defined(__GNUC__)
+__attribute__((weak)) constexpr uint32 Allocation::NO_SPACE;
+#endif
+
 inline bool operator==(Allocation a, Allocation b) { return a.offset == b.offset && a.metadata == b.metadata; }
 inline bool operator!=(Allocation a, Allocation b) { return !(a == b); }
 
@@ -76,13 +81,20 @@ public:
     // Where memory is out, or the limit is not 2 to 4294967293, it is empty: every request is refused.
     Allocator(uint32 size, uint32 maxAllocs = 128 * 1024) noexcept : space(oa_new(size, maxAllocs)) {}
 
-    // What is moved from is empty.
+    // What is moved from is empty; a move to itself changes nothing.
     Allocator(Allocator &&other) noexcept : space(other.space) { other.space = nullptr; }
     Allocator &operator=(Allocator &&other) noexcept {
+        if (this != &other) {
+            oa_drop(space);
+            space = other.space;
+            other.space = nullptr;
+        }
+        return *this;
+    }
+    void swap(Allocator &other) noexcept {
         oa_allocator *mine = space;
         space = other.space;
         other.space = mine;
-        return *this;
     }
     Allocator(const Allocator &) = delete;
     Allocator &operator=(const Allocator &) = delete;
@@ -189,6 +201,8 @@ private:
 #endif
     };
 };
+
+inline void swap(Allocator &a, Allocator &b) noexcept { a.swap(b); }
 
 // The smallest size of a fresh space that grants a request of this size; 0 above 4026531840.
 inline uint32 minAllocatorSize(uint32 size) { return oa_min_allocator_size(size); }

@@ -1,6 +1,7 @@
 // The class of the C++ original, as an engine uses it, and what it has beside.
 #include "offsetAllocator.hpp"
 
+#include <algorithm>
 #include <cstdio>
 #include <cstdlib>
 #include <cstring>
@@ -148,6 +149,33 @@ static void surface() {
     CHECK(count == 1);
 }
 
+// Moves, swaps, and a constant that is bound to a reference.
+static void moves() {
+    Allocator a(100), b(200);
+    Allocation x = a.allocate(10), y = b.allocate(20);
+    a = std::move(b);
+    CHECK(a && !b && b.size() == 0 && a.size() == 200 && a.isLive(y) && a.allocationSize(y) == 20);
+    CHECK(b.allocate(1).offset == Allocation::NO_SPACE && b.blockCount() == 0 && !b.isLive(x));
+    b = std::move(b);
+    CHECK(!b);
+    Allocator &same = a;
+    a = std::move(same);
+    CHECK(a && a.isLive(y));
+    Allocator c(300);
+    swap(a, c);
+    CHECK(a.size() == 300 && c.size() == 200 && c.isLive(y));
+    c.swap(b);
+    CHECK(!c && b.isLive(y));
+    b = Allocator(400);
+    CHECK(b.size() == 400 && !b.isLive(y));
+    std::vector<Allocator> several;
+    for (uint32 i = 1; i <= 5; i++) several.push_back(Allocator(100 * i));
+    several.erase(several.begin());
+    std::swap(several[0], several[3]);
+    CHECK(several.size() == 4 && several[0].size() == 500 && several[3].size() == 200);
+    CHECK(std::max(x.offset, Allocation::NO_SPACE) == Allocation::NO_SPACE);
+}
+
 static void beside() {
     Allocator a(100, 16);
     CHECK(a.allocateAligned(10, 3).offset == Allocation::NO_SPACE && a.refusalAligned(10, 3) == Refusal::badCall);
@@ -187,6 +215,7 @@ int main() {
     zeroFragmentation();
     minSize();
     surface();
+    moves();
     beside();
     std::printf("C++: %d checks pass\n", checks);
 }
