@@ -32,8 +32,8 @@ fn add_answer(answer: &Answer, digest: &mut Digest) {
     }
 }
 
-// Adds replies.
-fn add_replies(replies: &[Reply], digest: &mut Digest) {
+/// Adds replies.
+pub fn add_replies(replies: &[Reply], digest: &mut Digest) {
     for reply in replies {
         match reply {
             Reply::Answer(answer) => add_answer(answer, digest),

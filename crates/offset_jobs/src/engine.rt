@@ -11,12 +11,12 @@ const FRAMES: u32 = 64;
 
 /// A load of a space: its size, its node limit, the number of slots, the most bits of a size, and the number of steps.
 #[derive(Clone, Copy)]
-struct Load {
-    size: u32,
-    max_allocs: u32,
-    places: u32,
-    bits: u32,
-    steps: u32,
+pub struct Load {
+    pub size: u32,
+    pub max_allocs: u32,
+    pub places: u32,
+    pub bits: u32,
+    pub steps: u32,
 }
 
 // A step on a slot: one in sixteen requests is aligned.
@@ -32,8 +32,8 @@ fn take<S: Space>(
     digest.add(space.take(slot, random.size(bits), align));
 }
 
-// Each step frees the range of a random slot, or requests one for it where it is empty; one in 256 asks for a report.
-fn play<S: Space>(
+/// Each step frees the range of a random slot, or requests one for it where it is empty; one in 256 asks for a report.
+pub fn play<S: Space>(
     alloc: Global,
     load: Load,
     random: &mut Random,
@@ -53,8 +53,8 @@ fn play<S: Space>(
     Ok(())
 }
 
-// Plays frames. Each requests fewer than `load.places` ranges, and ends with a reset.
-fn frames<S: Space>(
+/// Plays frames. Each requests fewer than `load.places` ranges, and ends with a reset.
+pub fn frames<S: Space>(
     alloc: Global,
     load: Load,
     random: &mut Random,

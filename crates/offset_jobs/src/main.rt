@@ -1,12 +1,14 @@
 //! The jobs that a user waits for, each on inputs that it makes from a seed. It prints a digest of all results.
 //!
 //! The words are the job, the seed, the number of rounds, and the size of a round's inputs. Each round has inputs of its
-//! own. `all` does every job. `docs/PERF.md` says how the jobs are timed.
+//! own. `all` does every job of those. `docs/PERF.md` says how they are timed; `.ci/speed` counts instructions, of
+//! some more jobs too (`rows`).
 #![tactic(auto)]
 
 mod calls;
 mod engine;
 mod random;
+mod rows;
 mod spaces;
 mod texts;
 mod upkeep;
@@ -39,7 +41,7 @@ fn round(
             texts::scripts(alloc, size, random, digest)?;
             texts::pictures(alloc, size, random, digest)?;
         }
-        _ => return Ok(false),
+        _ => return rows::row(alloc, job, size, random, digest),
     }
     Ok(true)
 }

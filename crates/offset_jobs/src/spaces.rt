@@ -1,7 +1,7 @@
 //! What an engine asks of a space: of an allocator with handles, and of one with tickets.
 
 use crate::random::Digest;
-use offset_allocator::{Allocation, Allocator, NodeIndex, StorageReport};
+use offset_allocator::{Allocation, AllocatorOf, NodeIndex, StorageReport, Tables};
 use offset_guarded::{Guarded, Ticket};
 use std::alloc::{AllocError, Global};
 
@@ -38,21 +38,21 @@ fn add_report(report: &StorageReport, digest: &mut Digest) {
     digest.add(u64::from(report.largest_free_region));
 }
 
-impl<NI: NodeIndex> Space for Allocator<NI> {
-    type Slot = Option<Allocation<NI>>;
+impl<T: Tables> Space for AllocatorOf<T> {
+    type Slot = Option<Allocation<T::Index>>;
 
-    fn empty() -> Option<Allocation<NI>> {
+    fn empty() -> Option<Allocation<T::Index>> {
         None
     }
 
     fn make(alloc: Global, size: u32, max_allocs: u32) -> Result<Self, AllocError> {
-        if max_allocs < 2 || max_allocs >= NI::MAX - 1 {
+        if max_allocs < 2 || max_allocs >= T::Index::MAX - 1 {
             return Err(AllocError);
         }
-        Allocator::with_max_allocs(alloc, size, max_allocs)
+        AllocatorOf::with_max_allocs(alloc, size, max_allocs)
     }
 
-    fn take(&mut self, slot: &mut Option<Allocation<NI>>, size: u32, align: u32) -> u64 {
+    fn take(&mut self, slot: &mut Option<Allocation<T::Index>>, size: u32, align: u32) -> u64 {
         match *slot {
             Some(grant) => {
                 *slot = None;

@@ -134,6 +134,23 @@ pub fn scripts(
     Ok(())
 }
 
+/// Plays a script of at most `lines` commands, with many full reports among them.
+pub fn reporting(
+    alloc: Global,
+    lines: u32,
+    random: &mut Random,
+    digest: &mut Digest,
+) -> Result<(), AllocError> {
+    let kind = Kind {
+        lines,
+        live: 2_000,
+        full: 5,
+    };
+    let commands = commands(alloc, kind, random)?;
+    play(alloc, &script(alloc, HEADERS[0], &commands)?, digest);
+    Ok(())
+}
+
 // Draws a script, and adds what it writes and its status.
 fn draw(alloc: Global, text: &[u8], digest: &mut Digest) {
     let mut input = FromRead::new(text);

@@ -45,8 +45,8 @@ fn resize(space: &mut Allocator<u32>, grants: &Grants, random: &mut Random, dige
     }
 }
 
-// Adds every block.
-fn add_blocks(space: &Allocator<u32>, digest: &mut Digest) {
+/// Adds every block.
+pub fn add_blocks(space: &Allocator<u32>, digest: &mut Digest) {
     for block in space.blocks() {
         digest.add(u64::from(block.offset));
         digest.add(u64::from(block.size) << 1 | u64::from(block.allocation.is_some()));

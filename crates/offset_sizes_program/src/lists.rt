@@ -1,0 +1,88 @@
+//! Lists of calls whose lengths are powers of two, with handles and with tickets.
+
+use offset_allocator::{NodeIndex, Tables};
+use offset_calls::{Call, TicketCall, are_valid, play_calls_of, play_guarded};
+use offset_guarded::Ticket;
+use offset_script::Command;
+use std::alloc::{AllocError, Global};
+
+// The call at a place of a list: every kind of call, and more requests than releases.
+fn call_at(place: u32) -> Call {
+    let number = place / 3 + 1;
+    match place % 32 {
+        3 => Call::Command(Command::Free(number)),
+        5 => Call::Command(Command::Size(number)),
+        7 => Call::Command(Command::Report),
+        9 => Call::Shrink(number, 3),
+        11 => Call::Grow(number, 9),
+        13 => Call::Offset(number),
+        15 => Call::Refusal(place),
+        17 => Call::RefusalAligned(place, 64),
+        19 => Call::Command(Command::Align(5, 1u32.wrapping_shl(place / 32 % 32))),
+        21 => Call::Command(Command::Extend(1)),
+        23 => Call::Command(Command::Free(number)),
+        _ => Call::Command(Command::Alloc(place % 7)),
+    }
+}
+
+// A list of `count` calls with a compaction and a full report at its end, and at some places before.
+fn list(alloc: Global, count: u32) -> Result<Vec<Call>, AllocError> {
+    let mut calls = Vec::new(alloc);
+    for place in 0..count {
+        calls.push(match place % 4096 {
+            200 => Call::Compact,
+            400 => Call::Command(Command::Full),
+            _ => call_at(place),
+        })?;
+    }
+    calls.push(Call::Command(Command::Full))?;
+    calls.push(Call::Compact)?;
+    calls.push(Call::Command(Command::Reset))?;
+    Ok(calls)
+}
+
+// The same calls, of which some pass a ticket of their own.
+fn with_tickets(alloc: Global, calls: &[Call]) -> Result<Vec<TicketCall>, AllocError> {
+    let mut found = Vec::new(alloc);
+    for call in calls {
+        let serial = found.len() as u64 / 2;
+        let ticket = Ticket {
+            offset: 0,
+            name: (serial % 1024) as u32,
+            serial,
+            realm: 7,
+        };
+        found.push(TicketCall {
+            call: *call,
+            ticket: if serial % 3 == 1 { Some(ticket) } else { None },
+        })?;
+    }
+    Ok(found)
+}
+
+// Lists of 1 to 2 to the power of `most` calls, played with handles and with tickets, and with requests alone.
+fn play_all<T: Tables>(alloc: Global, limit: u32, most: u32) -> Result<u32, AllocError> {
+    if limit < 2 || limit >= T::Index::MAX - 1 {
+        return Err(AllocError);
+    }
+    let mut count = 0u32;
+    for power in 0..most {
+        let calls = list(alloc, 1u32.wrapping_shl(power))?;
+        let guarded = with_tickets(alloc, &calls)?;
+        if are_valid(&calls) && guarded.iter().all(|call| call.call.is_valid()) {
+            let _replies = play_calls_of::<T>(alloc, 4_000_000_000, limit, &calls)?;
+            let _played = play_guarded::<T>(alloc, 4_000_000_000, limit, 7, &guarded)?;
+            count = count.saturating_add(1);
+        }
+    }
+    Ok(count)
+}
+
+/// Lists of up to 262,144 calls, or of up to 32,768 where the index type admits no more nodes. Returns their number.
+pub fn all<T: Tables>(alloc: Global) -> Result<u32, AllocError> {
+    if T::Index::MAX > 600_000 {
+        play_all::<T>(alloc, 600_000 - 2, 19)
+    } else {
+        play_all::<T>(alloc, 60_000, 16)
+    }
+}

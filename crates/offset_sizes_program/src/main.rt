@@ -1,0 +1,42 @@
+//! Makes every call that may return out of memory once at sizes in powers of two, on each layout and index type, and
+//! prints at how many sizes all calls returned a result. No clause says when memory is out, so a body that gives up at
+//! some sizes, or for some calls, is proved: it is refused here.
+#![tactic(auto)]
+
+mod lists;
+mod spaces;
+mod texts;
+
+use offset_allocator::{ByField, ByNode};
+use std::alloc::{AllocError, Global};
+use std::io;
+use std::process::ExitCode;
+
+// How many sizes there were. All layouts and index types are named here alone.
+fn all(alloc: Global) -> Result<[u32; 3], AllocError> {
+    let mut spaces = spaces::all::<ByNode<u32>>(alloc)?;
+    spaces = spaces.saturating_add(spaces::all::<ByField<u32>>(alloc)?);
+    spaces = spaces.saturating_add(spaces::all::<ByNode<u16>>(alloc)?);
+    spaces = spaces.saturating_add(spaces::all::<ByField<u16>>(alloc)?);
+    let mut lists = lists::all::<ByNode<u32>>(alloc)?;
+    lists = lists.saturating_add(lists::all::<ByField<u32>>(alloc)?);
+    lists = lists.saturating_add(lists::all::<ByNode<u16>>(alloc)?);
+    lists = lists.saturating_add(lists::all::<ByField<u16>>(alloc)?);
+    Ok([spaces, lists, texts::all(alloc)?])
+}
+
+fn main(rt: HostRuntime) -> io::Result<ExitCode> {
+    match all(rt.alloc()) {
+        Ok(counts) => {
+            let spaces = counts[0];
+            let lists = counts[1];
+            let texts = counts[2];
+            println!(rt; "{spaces} spaces, {lists} lists and {texts} texts")?;
+            Ok(ExitCode::SUCCESS)
+        }
+        Err(_) => {
+            println!(rt; "out of memory")?;
+            Ok(ExitCode::from(3))
+        }
+    }
+}
