@@ -7,5 +7,6 @@ mod attempts;
 mod calls;
 mod guarded;
 mod ladder;
+mod lists;
 mod scripts;
 mod tables;
