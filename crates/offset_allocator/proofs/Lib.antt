@@ -19,6 +19,7 @@ pub mod Granting
 pub mod Joints
 pub mod Listing
 pub mod Masks
+pub mod Nearest
 pub mod Nodes
 pub mod Packed
 pub mod Padding

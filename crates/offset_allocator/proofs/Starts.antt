@@ -1,6 +1,6 @@
 -- Where the search for the first free block begins.
 use Rattle.offset_allocator.proofs.Common.{◌≡◌, ◌≢◌, ℕ, suc, ◌+◌, ◌≤◌, Bool, true, false, List, [], ◌∷◌, ◌++◌, length, Option, Some, None, if◌then◌else◌, refl, sym, ap, ◌∙◌, arith, not-true}
-use Rattle.offset_allocator.proofs.Common.{append-nil, append_assoc, Block, Place, times, count_named, count_in_bin, bin_at, place_of, last_or, first_free, first_of, AreInBins}
+use Rattle.offset_allocator.proofs.Common.{append-nil, append_assoc, Block, Place, times, count_named, count_in_bin, bin_at, place_of, last_or, first_free, first_of, AreInBins, down}
 use Rattle.offset_allocator.proofs.{ViewSteps.place_at, ViewSteps.no_place, Tallies.listed_named, Tallies.one-same, Taken.listed_block, Rows.last_or-append, Sliding.first_used, Sliding.first_idle}
 use Rattle.offset_allocator.proofs.{Compacting.AreUsed}
 use Rattle.offset_allocator.specs.Compacting.{IsStart, until_free}
@@ -33,20 +33,20 @@ pub head_name : (none : ℕ) (xs : List ℕ) → (xs ≡ [] → ⊥) → (ys : L
 head_name none [] n = absurd (n refl)
 head_name none (x ∷ xs) n = (xs, refl)
 
--- the newest name of a bin is that of a free block
+-- the newest name of a bin is that of a free block of its class
 pub start_listed : (bs : List Block) (ls : List (List ℕ)) → AreInBins bs ls → ((x : ℕ) → count_named x bs ≤ 1) → (c x : ℕ) (xs : List ℕ) → bin_at ls c ≡ x ∷ xs
-    → (p : Place) × (bs ≡ p.before ++ (p.block ∷ p.after)) × (p.block.name ≡ x) × (p.block.used ≡ false)
+    → (p : Place) × (bs ≡ p.before ++ (p.block ∷ p.after)) × (p.block.name ≡ x) × (p.block.used ≡ false) × (c ≡ down p.block.size)
 start_listed bs ls filed distinct c x xs e = go (place_of x bs) refl
   where
     listed : 1 ≤ count_in_bin c x bs
     listed = omega (arith, filed c x, ap (times x) e, one-same x)
 
-    go : (o : Option Place) → place_of x bs ≡ o → (p : Place) × (bs ≡ p.before ++ (p.block ∷ p.after)) × (p.block.name ≡ x) × (p.block.used ≡ false)
+    go : (o : Option Place) → place_of x bs ≡ o → (p : Place) × (bs ≡ p.before ++ (p.block ∷ p.after)) × (p.block.name ≡ x) × (p.block.used ≡ false) × (c ≡ down p.block.size)
     go None f = absurd (omega (arith, no_place x bs f, listed_named c x bs, listed))
     go (Some p) f =
         let b = place_at x bs p f in
         let l = listed_block c x p.before p.block p.after b.1 (omega (arith, distinct x, ap (count_named x) b.0)) (omega (arith, listed, ap (count_in_bin c x) b.0)) in
-        (p, b.0, sym b.1, not-true p.block.used l.0)
+        (p, b.0, sym b.1, not-true p.block.used l.0, l.1)
 
 -- what is found from there on is the first of all
 pub first_front : (front rest : List Block) → (first_free front ≡ None → rest ≡ []) → first_free (front ++ rest) ≡ first_free front

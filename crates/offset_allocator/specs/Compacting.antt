@@ -1,9 +1,9 @@
 -- What `compact` leaves: the live ranges at the front of the space, and all free units in one block after them.
-use Rattle.std.specs.Prelude.{◌≡◌, ℕ, ◌+◌, ◌<◌, ◌≤◌, List, [], ◌∷◌, ◌++◌, Option, Some, None, option_map, sum, replicate, nat_eq, if◌then◌else◌}
+use Rattle.std.specs.Prelude.{◌≡◌, ℕ, zero, suc, ◌+◌, ◌<◌, ◌≤◌, List, [], ◌∷◌, ◌++◌, Option, Some, None, option_map, sum, replicate, nat_eq, nat_lt, if◌then◌else◌}
 use Rattle.std.specs.List.{AllByRecursion, filter}
 use Rattle.offset_allocator.specs.declared.compact.Move.{Move as Moved}
 use Rattle.offset_allocator.specs.Chain.{last_or}
-use Rattle.offset_allocator.specs.View.{View, Block, count_named, free_sizes, free_block, push_all}
+use Rattle.offset_allocator.specs.View.{View, Block, count_named, free_sizes, free_block, push_all, times}
 use Rattle.offset_allocator.specs.Ranges.{Range, range_of}
 use Rattle.offset_allocator.specs.Relations.{SameSpace}
 
@@ -46,6 +46,23 @@ first_free (b ∷ bs) = if b.used then first_free bs else Some b.name
 abbrev pub until_free : List Block → ℕ
 until_free [] = 0
 until_free (b ∷ bs) = if b.used then 1 + until_free bs else 1
+
+-- how many blocks there are up to the one named x
+abbrev pub until : ℕ → List Block → ℕ
+until x [] = 0
+until x (b ∷ bs) = if nat_eq x b.name then 1 else 1 + until x bs
+
+-- the newest blocks of the first k bins that have some: their names
+abbrev pub newest : ℕ → List (List ℕ) → List ℕ
+newest zero order = []
+newest (suc k) [] = []
+newest (suc k) ([] ∷ order) = newest (suc k) order
+newest (suc k) ((x ∷ xs) ∷ order) = x ∷ newest k order
+
+-- the name of the first block that has one of these names
+abbrev pub first_among : List ℕ → List Block → Option ℕ
+first_among xs [] = None
+first_among xs (b ∷ bs) = if nat_lt 0 (times b.name xs) then Some b.name else first_among xs bs
 
 -- the blocks up to the one named x have the first free block among them, or are all
 abbrev pub IsStart : List Block → ℕ → Type 0

@@ -1,6 +1,6 @@
 //! Slides every live range to the front of the space, so that all free units are one block at its end.
 ghost use Rattle.std.specs.Prelude.{ℕ, ◌≡◌, ◌≢◌, ◌+◌, ◌*◌, ◌<◌, ◌≤◌, [], ◌∷◌, ◌++◌, Some, false, Bool, List, length};
-ghost use Rattle.std.specs.Prelude.{sum};
+ghost use Rattle.std.specs.Prelude.{sum, unwrap_or};
 ghost use Rattle.std.specs.List.{FoldsTo};
 ghost use Rattle.offset_allocator.specs.Accesses.{Costs};
 ghost use Rattle.offset_allocator.specs.Cells.{node};
@@ -8,7 +8,7 @@ ghost use Rattle.offset_allocator.specs.View.{Place, Block, free_block, free_siz
 ghost use Rattle.offset_allocator.specs.Bins.{IsBinned, bins_in};
 ghost use Rattle.offset_allocator.specs.Chain.{IsSpace, HasPlace, blocks};
 ghost use Rattle.offset_allocator.specs.Compacting.{live, moves, move_of, Compacts, KeepsSizes, IsCalledWith};
-ghost use Rattle.offset_allocator.specs.Compacting.{IsStart, first_free, until_free};
+ghost use Rattle.offset_allocator.specs.Compacting.{IsStart, first_among, first_free, newest, until, until_free};
 ghost use Rattle.offset_allocator.specs.Soundness.{AreInBins};
 ghost use Rattle.offset_allocator.specs.Store.{IsPlaceIn, SameBins};
 
@@ -45,29 +45,34 @@ impl<NI: NodeIndex, N: NodeIndexNonMax> Move<NI, N> {
 }
 
 // The most bins that are looked into for a free block near the start of the space.
-const BINS: u32 = 32;
+const MOST_BINS: u32 = 32;
 
 // A block to begin the search for the first free one at, which is this one or before it: of the newest blocks of the
-// first bins the one that begins first, or the last block of the space where none is free.
+// first bins that have some, the first in space, or the last block of the space where none is free.
 fn search_start<T: Tables>(tables: &T, top_mask: u32, last: u32, count: &mut Accesses) -> u32
     requires space { (spare : ℕ) × IsSpace (T.cells tables.now).chain last spare }
     requires binned { IsBinned T.Index.MAX (T.cells tables.now).bins top_mask }
     requires filed { AreInBins (blocks (T.cells tables.now).chain last) (bins_in T.Index.MAX (T.cells tables.now).bins) }
+    ensures first { result ≡ unwrap_or (first_among (newest 32 (bins_in T.Index.MAX (T.cells tables.now).bins))
+        (blocks (T.cells tables.now).chain last)) last }
     ensures start { IsStart (blocks (T.cells tables.now).chain last) result }
-    ensures accesses { Costs 0 128 count.old count.new }
+    ensures accesses { count.new
+        ≡ count.old + 4 + 2 * length (newest 32 (bins_in T.Index.MAX (T.cells tables.now).bins)) }
 {
+    let masks = bins::masks(tables, count);
     let mut start = last;
-    let mut lowest = u32::MAX;
+    // above each offset
+    let mut lowest = u64::MAX;
     let mut class = 0;
-    for _ in 0..BINS {
+    for _ in 0..MOST_BINS {
         if class > 255 {
             return start;
         }
-        let Some(found) = bins::find_at_or_above(tables, top_mask, class, count) else {
+        let Some(found) = bins::next_filled(&masks, top_mask, class) else {
             return start;
         };
         let name = tables.head(found, count);
-        let offset = tables.offset(name, count);
+        let offset = tables.offset(name, count) as u64;
         if offset < lowest {
             lowest = offset;
             start = name;
@@ -83,8 +88,12 @@ fn first_free<T: Tables>(tables: &T, last: u32, start: u32, count: &mut Accesses
     requires space { (spare : ℕ) × IsSpace (T.cells tables.now).chain last spare }
     requires start { IsStart (blocks (T.cells tables.now).chain last) start }
     ensures first { result ≡ first_free (blocks (T.cells tables.now).chain last) }
-    ensures accesses { Costs (2 * until_free (blocks (T.cells tables.now).chain last))
-        (2 * length (blocks (T.cells tables.now).chain last)) count.old count.new }
+    ensures accesses { count.new ≡ count.old + 2 * until start (blocks (T.cells tables.now).chain last) }
+    // no fewer than up to the first free block
+    ensures least { until_free (blocks (T.cells tables.now).chain last)
+        ≤ until start (blocks (T.cells tables.now).chain last) }
+    ensures most { until start (blocks (T.cells tables.now).chain last)
+        ≤ length (blocks (T.cells tables.now).chain last) }
 {
     let mut first = None;
     let mut at = Some(start);

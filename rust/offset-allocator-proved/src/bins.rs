@@ -29,6 +29,33 @@ pub(crate) fn find_at_or_above<T: Tables>(
     Some(found * 64 + tables.mask(found, count).trailing_zeros())
 }
 
+/// The words of the masks.
+#[inline(always)]
+pub(crate) fn masks<T: Tables>(tables: &T, count: &mut Accesses) -> [u64; 4] {
+    [
+        tables.mask(0, count),
+        tables.mask(1, count),
+        tables.mask(2, count),
+        tables.mask(3, count),
+    ]
+}
+
+/// As `find_at_or_above`, where the caller has read the masks.
+#[inline(always)]
+pub(crate) fn next_filled(masks: &[u64; 4], top_mask: u32, class: u32) -> Option<u32> {
+    let place = class / 64;
+    let above = masks[place as usize] & (u64::MAX << (class % 64));
+    if above != 0 {
+        return Some(place * 64 + above.trailing_zeros());
+    }
+    let others = top_mask & (u32::MAX << (place + 1));
+    if others == 0 {
+        return None;
+    }
+    let found = others.trailing_zeros();
+    Some(found * 64 + masks[found as usize].trailing_zeros())
+}
+
 /// The largest class whose bin is not empty.
 pub(crate) fn largest<T: Tables>(tables: &T, top_mask: u32, count: &mut Accesses) -> Option<u32> {
     if top_mask == 0 {

@@ -2,7 +2,7 @@ use Rattle.offset_allocator.proofs.Common.{◌≡◌, ℕ, ◌+◌, ◌*◌, ◌
 use Rattle.offset_allocator.proofs.Common.{Compacts, common_steps}
 use Rattle.offset_allocator.proofs.Sound.{AreSound, Fields, shown, fields_of, known_sound}
 use Rattle.offset_allocator.proofs.Compacting.{IsFirst, first_is, packed, compacts_live, first_held, packs, stays_packed}
-use Rattle.offset_allocator.proofs.{Starts.until_first, Starts.until_none, Packed.compacts_sizes, Places.at_place, Places.kept_place, Classes.down_small, Fresh.empty_unlisted}
+use Rattle.offset_allocator.proofs.{Nearest.newest_few, Starts.until_first, Starts.until_none, Packed.compacts_sizes, Places.at_place, Places.kept_place, Classes.down_small, Fresh.empty_unlisted}
 use Rattle.offset_allocator.specs.Compacting.{until_free}
 use Rattle.offset_allocator.proofs.AllocatorOf.compact.Goals as goal
 use Rattle.offset_allocator.proofs.AllocatorOf.compact.{Goals.After-slide-hole, Goals.After-push, Given.Over}
@@ -105,9 +105,10 @@ counted g c =
     let n = ap (λ (l : List Block). length l) o.is ∙ length-append p.before (p.block ∷ p.after) in
     let until = ap until_free o.is ∙ until_first p.before p.after p.block o.used o.idle in
     let all = ap (λ (u : View). length u.blocks) c.self.view_is in
-    let old = ap (λ (u : View). u.accesses) c.self.view_is in (
-      omega (arith, n, until, all, old, least, c.search_start-start.ensures.accesses, c.first_free.ensures.accesses, c.size-size.ensures.accesses, c.empty.ensures.accesses, c.push.ensures.accesses),
-      omega (arith, n, all, old, e.3, c.search_start-start.ensures.accesses, c.first_free.ensures.accesses, c.size-size.ensures.accesses, c.empty.ensures.accesses, c.push.ensures.accesses),
+    let old = ap (λ (u : View). u.accesses) c.self.view_is in
+    let few = newest_few 32 (bins_in g.T.Index.NodeIndex.MAX (g.T.Tables.cells c.self.inside.store.tables).bins) in (
+      omega (arith, n, until, all, old, least, c.search_start-start.ensures.accesses, c.first_free.ensures.accesses, c.first_free.ensures.least, c.size-size.ensures.accesses, c.empty.ensures.accesses, c.push.ensures.accesses),
+      omega (arith, n, all, old, e.3, few, c.search_start-start.ensures.accesses, c.first_free.ensures.accesses, c.first_free.ensures.most, c.size-size.ensures.accesses, c.empty.ensures.accesses, c.push.ensures.accesses),
     )
 
 pub returns-clause-accesses : goal.returns-clause-accesses
@@ -121,7 +122,10 @@ returns-in_default-clause-accesses g c =
     let until = until_none (blocks (g.T.Tables.cells c.self.inside.store.tables).chain c.self.inside.store.last) (sym c.first_free.ensures.first ∙ c.in_default.is) in
     let all = ap (λ (u : View). length u.blocks) c.self.view_is in
     let old = ap (λ (u : View). u.accesses) c.self.view_is in
-    (omega (arith, until, all, old, c.search_start-start.ensures.accesses, c.first_free.ensures.accesses), omega (arith, all, old, c.search_start-start.ensures.accesses, c.first_free.ensures.accesses))
+    let few = newest_few 32 (bins_in g.T.Index.NodeIndex.MAX (g.T.Tables.cells c.self.inside.store.tables).bins) in (
+      omega (arith, until, all, old, c.search_start-start.ensures.accesses, c.first_free.ensures.accesses, c.first_free.ensures.least),
+      omega (arith, all, old, few, c.search_start-start.ensures.accesses, c.first_free.ensures.accesses, c.first_free.ensures.most),
+    )
 
 pub returns-clause-step : goal.returns-clause-step
 returns-clause-step g c =

@@ -1,6 +1,7 @@
-use Rattle.offset_allocator.proofs.Common.{◌≡◌, ◌≤◌, List, [], ◌∷◌, ◌++◌, Some, None, length, refl, sym, ap, ◌∙◌, arith, append-nil, append_assoc, length-append, Node, Block, last_or, first_free, common_steps}
+use Rattle.offset_allocator.proofs.Common.{◌≡◌, ◌≤◌, List, [], ◌∷◌, ◌++◌, Some, None, length, refl, sym, ap, ◌∙◌, arith, append-nil, append_assoc, length-append, Node, Block, last_or, first_free, count_named, common_steps}
 use Rattle.offset_allocator.proofs.{Ends.Ended, Ends.ended, Ends.last_none, Places.at_place, Sliding.walked, Sliding.first_used, Sliding.first_idle, Starts.first_front, Starts.until_front}
-use Rattle.offset_allocator.specs.Compacting.{until_free}
+use Rattle.offset_allocator.proofs.{Exchange.each-le, Nearest.until_last}
+use Rattle.offset_allocator.specs.Compacting.{until, until_free}
 use Rattle.offset_allocator.proofs.compact.first_free.Goals as goal
 use Rattle.offset_allocator.proofs.compact.first_free.Goals.{then-not-is_used, else-not-is_used}
 
@@ -18,6 +19,7 @@ loop-at-init g c =
       ends = s.3;
       first = refl;
       whole = λ e. s.4 (sym (ap first_free (append-nil s.0)) ∙ e);
+      all = ap (until c.args.start) s.2 ∙ until_last s.0 s.1 c.args.start s.3 (let e = each-le _ _ _ _ _ c.requires.space.1 c.args.start in omega (arith, e, ap (count_named c.args.start) s.2)) ∙ omega arith;
       accesses = omega arith;
     }
 
@@ -39,6 +41,7 @@ loop-at-preserved g c =
       ends = sym (c.before-at.ensures.before ∙ ap (λ (n : Node). n.before) (at_place h));
       first = grind (arith, common_steps, then-not-is_used, first_idle, else-not-is_used, first_used);
       whole = λ n. i.whole (ap (λ (l : List Block). first_free (l ++ i.met)) f.is ∙ ap first_free (append_assoc f.front (f.last ∷ []) i.met) ∙ n);
+      all = omega (arith, i.all, ap (λ (l : List Block). length l) f.is, length-append f.front (f.last ∷ []));
       accesses = omega (arith, i.accesses, c.is_used.ensures.accesses, c.before-at.ensures.accesses);
     }
 
@@ -60,5 +63,18 @@ returns-clause-first g c =
 pub returns-clause-accesses : goal.returns-clause-accesses
 returns-clause-accesses g c =
     let i = c.loop-at.invariant in
-    let u = met_until i.front i.met i.rest (last_none i.front (i.ends ∙ c.in_default.is)) _ i.is i.whole in
-    (omega (arith, u.0, i.accesses), omega (arith, u.1, i.accesses))
+    omega (arith, i.all, i.accesses, ap (λ (l : List Block). length l) (last_none i.front (i.ends ∙ c.in_default.is)))
+
+pub returns-clause-least : goal.returns-clause-least
+returns-clause-least g c =
+    let i = c.loop-at.invariant in
+    let n = last_none i.front (i.ends ∙ c.in_default.is) in
+    let u = met_until i.front i.met i.rest n _ i.is i.whole in
+    omega (arith, u.0, i.all, ap (λ (l : List Block). length l) n)
+
+pub returns-clause-most : goal.returns-clause-most
+returns-clause-most g c =
+    let i = c.loop-at.invariant in
+    let n = last_none i.front (i.ends ∙ c.in_default.is) in
+    let u = met_until i.front i.met i.rest n _ i.is i.whole in
+    omega (arith, u.1, i.all, ap (λ (l : List Block). length l) n)

@@ -1,4 +1,5 @@
 use Rattle.offset_allocator.proofs.Common.{◌≡◌, ◌+◌, ◌-◌, ◌*◌, List, ◌++◌, None, [], length, Block, blocks, last_or, first_free}
+use Rattle.offset_allocator.specs.Compacting.{until}
 use Rattle.offset_allocator.proofs.compact.first_free.Given as goal
 
 -- the blocks in front are left, those in `met` were met, and the search began before those in `rest`
@@ -11,6 +12,7 @@ invariant-loop-at g l = record {
   ends : last_or None front ≡ l.at;
   first : l.first ≡ first_free met;
   whole : first_free (front ++ met) ≡ None → rest ≡ [];
+  all : until l.start (blocks (g.T.Tables.cells l.tables).chain l.last) ≡ length front + length met;
   accesses : l.count ≡ l.initial.count + 2 * length met;
 }
 
