@@ -33,10 +33,24 @@ impl Walk {
             self.name = number(tables.older(self.name, count));
         }
     }
+
+    // Meets all names that are left.
+    fn finish<T: Tables>(&mut self, tables: &T, count: &mut Accesses)
+        requires linked { HasBins T.Index.MAX (T.cells tables.now).bins (bins_in T.Index.MAX (T.cells tables.now).bins) }
+        requires tail { (total : ℕ) × IsTail T.Index.MAX (T.cells tables.now).bins self.old.name self.old.met total
+            × (total ≤ T.Index.MAX) }
+        ensures all { (total : ℕ) → IsTail T.Index.MAX (T.cells tables.now).bins self.old.name self.old.met total
+            → self.new.met ≡ total }
+        ensures accesses { count.new + self.old.met ≡ count.old + self.new.met }
+    {
+        while self.name != T::Index::MAX {
+            self.step(tables, count);
+        }
+    }
 }
 
-/// How many names are in the bins of four classes, from `class` on. The four lists are followed side by side, so that
-/// the links of four nodes are on their way from memory at once.
+/// How many names are in the bins of four classes, from `class` on. While two lists or more go on, the four are followed
+/// side by side, so that the links of several nodes are on their way from memory at once; the last one is followed alone.
 pub(crate) fn lengths_of<T: Tables>(tables: &T, class: u32, count: &mut Accesses) -> [u32; 4]
     requires linked { HasBins T.Index.MAX (T.cells tables.now).bins (bins_in T.Index.MAX (T.cells tables.now).bins) }
     requires classed { class + 3 < 256 }
@@ -63,11 +77,19 @@ pub(crate) fn lengths_of<T: Tables>(tables: &T, class: u32, count: &mut Accesses
         name: tables.head(class + 3, count),
     };
     let none = T::Index::MAX;
-    while a.name != none || b.name != none || c.name != none || d.name != none {
+    while a.name != none && b.name != none
+        || c.name != none && d.name != none
+        || (a.name != none || b.name != none) && (c.name != none || d.name != none)
+    {
         a.step(tables, count);
         b.step(tables, count);
         c.step(tables, count);
         d.step(tables, count);
     }
+    // one list at most goes on
+    a.finish(tables, count);
+    b.finish(tables, count);
+    c.finish(tables, count);
+    d.finish(tables, count);
     [a.met, b.met, c.met, d.met]
 }
