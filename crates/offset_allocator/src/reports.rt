@@ -176,7 +176,7 @@ pub fn storage_report_counted<T: Tables>(
     }
 }
 
-// Writes how many free blocks are of a class.
+// Writes the row of a class: its value, and how many free blocks are of it.
 fn put_region(report: &mut StorageReportFull, class: u32, count: u32)
     requires classed { class < 256 }
     requires wide { length report.old.free_regions ≡ 256 }
@@ -198,8 +198,8 @@ pub fn storage_report_full_counted<T: Tables>(
     ensures accesses { Costs 256 (512 + 2 * length (free_sizes allocator.now.blocks)) count.old count.new }
 {
     let mut report = StorageReportFull::default();
-    for quarter in 0..64u32 {
-        let class = 4 * quarter;
+    for group in 0..64u32 {
+        let class = 4 * group;
         let counts = lengths_of(&allocator.store.tables, class, count);
         put_region(&mut report, class, counts[0]);
         put_region(&mut report, class + 1, counts[1]);
