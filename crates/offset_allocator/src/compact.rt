@@ -210,9 +210,10 @@ impl<T: Tables> AllocatorOf<T> {
     /// end. `moved` is called for each range that gets another offset, in space order: the units from `from` on are to
     /// be copied to `to`, as `copy_within` does. In this order no copy writes on a unit that a later one reads.
     ///
-    /// Every handle stays live, with its size; only the public `offset` of a moved one is that of before, and
-    /// `allocation_offset` returns the new one. `moved` has to be callable with any move: its contract may require
-    /// nothing of it. It makes at most 24 accesses to the tables for each block, and 512, and takes no memory.
+    /// Every handle stays live, with its name and its size; only the public `offset` of a moved one is that of before,
+    /// and `allocation_offset` returns the new one. The name of the free block at the end is left open. `moved` has to
+    /// be callable with any move: its contract may require nothing of it. It makes at most 24 accesses to the tables
+    /// for each block, and 512, and takes no memory.
     pub fn compact<F: FnMut(Move<T::Index>)>(&mut self, moved: &mut F)
         requires callable { F.IsAlwaysCallable moved.old }
         // The live blocks keep their names, their sizes and their order: so every handle stays live, with its size.

@@ -157,8 +157,8 @@ pub fn alignments_are_powers()
     ensures { (n : ℕ) → IsAlignment n ↔ IsPowerOfTwo n }
 {}
 
-/// After `compact`, with room for one more block, a request is granted exactly when it is at most the value of the
-/// class of all free units together.
+/// After `compact`, with room for one more block, a request of at least one unit is granted exactly when it is at most
+/// the value of the class of all free units together.
 pub fn a_compacted_space_grants<T: Tables>(allocator: &AllocatorOf<T>)
     ensures { (v : View) (n : ℕ) → 1 ≤ n → Compacts v allocator.now
         → CanGrant 1 n allocator.now ↔ (HasRoomFor 1 allocator.now × (n ≤ value (down (sum (free_sizes v.blocks))))) }

@@ -38,7 +38,8 @@ pub enum Refusal {
     /// There is no room for one more block, or for two more where an aligned request needs them. Use another space,
     /// free ranges that have free neighbours, or compact a space of several free blocks.
     Nodes,
-    /// A fresh space of this size would refuse the request too. Extend the space, or use a larger one.
+    /// A fresh space of this size would refuse the request too. Extend the space, or use a larger one; but where the
+    /// size, with `align - 1` more for an aligned request, is above 4026531840, no space grants it.
     TooLarge,
     /// All free units in one block would not be enough, so `compact` does not help. Free ranges, or extend the space.
     Space,

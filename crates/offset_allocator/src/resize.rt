@@ -29,12 +29,13 @@ fn units_after<T: Tables>(tables: &T, name: u32, next: Option<u32>, count: &mut 
 
 impl<T: Tables> AllocatorOf<T> {
     /// Frees the units of a live range after its first `size`. They are free at once, in one block with the free block
-    /// directly after the range, and that block is the newest of its bin. The handle stays live, with its offset.
+    /// directly after the range, and that block is the newest of its bin; its name is that of the block that was there,
+    /// or one that no block had. The handle stays live, with its offset.
     ///
-    /// `false` is returned where `size` is above the units of the range, and where no further block may exist and no
-    /// free block is directly after the range; then nothing changes. With exactly the units of the range it is `true`,
-    /// and nothing changes either. The handle has to be live, and only its name counts, as in `free`. It makes at most
-    /// 128 accesses to the tables, and takes no memory.
+    /// `false` is returned where `size` is above the units of the range, or where it is below them, no further block
+    /// may exist and no free block is directly after the range; then the space is as it was. With exactly the units of
+    /// the range it is `true`, at the node limit too, and the space is as it was. The handle has to be live, and only
+    /// its name counts, as in `free`. It makes at most 128 accesses to the tables, and takes no memory.
     pub fn shrink(&mut self, allocation: Allocation<T::Index>, size: u32) -> bool
         requires live { IsLive allocation.name self.old }
         // It is done exactly when the range has at least `size` units, and, if it has more, a free block is directly
@@ -61,12 +62,13 @@ impl<T: Tables> AllocatorOf<T> {
     }
 
     /// Adds units to a live range at its end, so that it has `size`: those of the free block directly after it. What
-    /// remains of that block stays free, and is the newest of its bin. The handle stays live, with its offset.
+    /// remains of that block stays free, and is the newest of its bin; its name is that of the block, or one that no
+    /// block had. The handle stays live, with its offset.
     ///
-    /// `false` is returned where `size` is below the units of the range, and where no free block directly after the
-    /// range has the units that it lacks; then nothing changes. With exactly the units of the range it is `true`, and
-    /// nothing changes either. The handle has to be live, and only its name counts, as in `free`. It makes at most 128
-    /// accesses to the tables, and takes no memory.
+    /// `false` is returned where `size` is below the units of the range, or where it lacks units and no free block
+    /// directly after it has as many; then the space is as it was. With exactly the units of the range it is `true`,
+    /// and the space is as it was. The handle has to be live, and only its name counts, as in `free`. It makes at most
+    /// 128 accesses to the tables, and takes no memory.
     pub fn grow_in_place(&mut self, allocation: Allocation<T::Index>, size: u32) -> bool
         requires live { IsLive allocation.name self.old }
         // It is done exactly when the range has at most `size` units, and at least `size` with those of the free block

@@ -164,7 +164,7 @@ impl<T: Tables> GuardedOf<T> {
 
     /// Where the range of a ticket begins, in units from the start of the space, or `None` where it is not live.
     ///
-    /// The `offset` of the ticket is where the range began when it was granted. `compact` does not change it.
+    /// The `offset` of the ticket is where the range began when the ticket was made. `compact` does not change it.
     pub fn offset_of(&self, ticket: Ticket) -> Option<u32>
         ensures { result ≡ option_map (λ (r : Range). r.offset) (range_of ticket self.now) }
     {
@@ -175,7 +175,8 @@ impl<T: Tables> GuardedOf<T> {
     }
 
     /// The ticket of a live handle of the allocator, as its `blocks` and the moves of `compact` have them, or `None`
-    /// where the handle is not live.
+    /// where the handle is not live. Its offset is where the range begins now: the ticket that the grant returned has
+    /// another one where `compact` moved the range, and is live as well, but not equal to this one.
     pub fn ticket(&self, handle: Allocation<T::Index>) -> Option<Ticket>
         ensures { MatchOption result (named.range_of handle.name self.now.space ≡ None)
             (λ t. (t ≡ record {

@@ -30,7 +30,7 @@ impl<T: Tables> GuardedOf<T> {
     /// Grants a range of `size` units, and returns its ticket: of the range that `Allocator::allocate` grants, with the
     /// next serial.
     ///
-    /// `None` is returned where that call returns `None`, and where all serials are given; then nothing changes.
+    /// `None` is returned where that call returns `None`, or where all serials are given; then all is as it was.
     #[inline(always)]
     pub fn allocate(&mut self, size: u32) -> Option<Ticket> {
         if self.serials.is_spent() {
@@ -45,7 +45,7 @@ impl<T: Tables> GuardedOf<T> {
     /// Grants `size` units that begin at a multiple of `align`, a power of two: the range that
     /// `Allocator::allocate_aligned` grants, with the next serial.
     ///
-    /// `None` is returned where that call returns `None`, and where all serials are given; then nothing changes.
+    /// `None` is returned where that call returns `None`, or where all serials are given; then all is as it was.
     #[track_caller]
     pub fn allocate_aligned(&mut self, size: u32, align: u32) -> Option<Ticket> {
         assert!(align.is_power_of_two(), "align must be a power of two");

@@ -134,7 +134,7 @@ impl<T: Tables> GuardedOf<T> {
 
     /// Where the range of a ticket begins, in units from the start of the space, or `None` where it is not live.
     ///
-    /// The `offset` of the ticket is where the range began when it was granted. `compact` does not change it.
+    /// The `offset` of the ticket is where the range began when the ticket was made. `compact` does not change it.
     pub fn offset_of(&self, ticket: Ticket) -> Option<u32> {
         match self.handle(ticket) {
             None => None,
@@ -143,7 +143,8 @@ impl<T: Tables> GuardedOf<T> {
     }
 
     /// The ticket of a live handle of the allocator, as its `blocks` and the moves of `compact` have them, or `None`
-    /// where the handle is not live.
+    /// where the handle is not live. Its offset is where the range begins now: the ticket that the grant returned has
+    /// another one where `compact` moved the range, and is live as well, but not equal to this one.
     pub fn ticket(&self, handle: Allocation<T::Index>) -> Option<Ticket> {
         let (_, name) = handle.to_parts();
         match self.space.allocation_offset(handle) {

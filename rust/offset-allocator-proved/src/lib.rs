@@ -6,7 +6,8 @@
 //! A *block* is a run of units, used or free; no two free blocks are neighbours. Each block has a *node* of the tables,
 //! whose index is the block's *name*; the range of a used block, and its name, are *live*. A *size class* is a range of
 //! sizes, and its *bin* the list of the free blocks of that class, the newest first: that which became free, or got its
-//! present size, last.
+//! present size, last. A range has the name of the free block that it was granted from, and leaves it to the block that
+//! `free` makes; which unused name a new free block has otherwise is left open.
 //!
 //! ```
 //! use offset_allocator_proved::*;
@@ -78,8 +79,9 @@ pub type Blocks<'a, NI = u32> = BlocksOf<'a, ByNode<NI>>;
 
 /// The allocator of one space.
 ///
-/// `T` is the layout of its tables; it changes no result. The index type of the layout is the type of the links between
-/// nodes: it limits how many nodes there can be, and changes no result otherwise.
+/// `T` is the layout of its tables; it changes no answer but names that are left open, and `node_count`. The index type
+/// of the layout is the type of the links between nodes: it limits how many nodes there can be, and changes no other
+/// answer either.
 pub struct AllocatorOf<T: Tables> {
     // the units of the space
     size: u32,
@@ -103,7 +105,7 @@ impl<T: Tables> AllocatorOf<T> {
     /// a time, free ones included. A request is granted only while at most `max_allocs - 2` exist, and makes one of
     /// them live: so at most `max_allocs - 2` grants are live. The limit is 2 to `T::Index::MAX - 2`: 65533 for `u16`,
     /// 4294967293 for `u32`. `ByNode` and `ByField` reserve 28 bytes a node with `u32`, 18 with `u16`, all of
-    /// them here; those of a node are written when its name is used for the first time.
+    /// them here; those of a node are written when it is made, which `node_count` counts.
     ///
     /// An error is returned only where an allocation failed; then nothing is made.
     #[track_caller]
@@ -161,8 +163,9 @@ impl<T: Tables> AllocatorOf<T> {
         self.store.tables.len() - self.store.spare_count
     }
 
-    /// The number of nodes that were made: each block's name is below it. Only `reset` makes it smaller; a call that
-    /// may add a block can make it larger by 1 or 2, also where it is refused.
+    /// The number of nodes that were made: each block's name is below it. Contracts leave it open, as some names, and no
+    /// other answer depends on it: `grow_in_place` and a call that may add a block can make it larger by 1 or 2, also
+    /// where they leave the space as it was, and only `reset` makes it smaller.
     pub fn node_count(&self) -> u32 {
         self.store.tables.len()
     }
@@ -177,8 +180,8 @@ impl<T: Tables> AllocatorOf<T> {
     /// of the smallest class that has a free block and whose blocks all fit; what remains of the block stays free,
     /// directly after the range.
     ///
-    /// `None` is returned where `max_allocs - 1` blocks exist, even for an exact fit, and where no free block is of
-    /// such a class; then nothing changes. A request of at least one unit is granted exactly when it is at most the
+    /// `None` is returned where `max_allocs - 1` blocks exist, even for an exact fit, or where no free block is of such
+    /// a class; then the space is as it was. A request of at least one unit is granted exactly when it is at most the
     /// `largest_free_region` that `storage_report` returns just before. One of 0 units takes a node too, and needs a
     /// free block of any size. It makes at most 64 accesses to the tables, and takes no memory.
     pub fn allocate(&mut self, size: u32) -> Option<Allocation<T::Index>> {
@@ -231,8 +234,9 @@ impl<T: Tables> AllocatorOf<T> {
         }
     }
 
-    /// The free space in short: the units of all free blocks, and the largest request that would be granted. Both are
-    /// 0 where `max_allocs - 1` blocks exist. It makes at most 8 accesses to the tables.
+    /// The free space in short: the units of all free blocks, and the largest request that would be granted, or 0 where
+    /// none of at least one unit would be. Both are 0 where `max_allocs - 1` blocks exist or no block is free, and then
+    /// a request of 0 units is refused too. It makes at most 8 accesses to the tables.
     pub fn storage_report(&self) -> StorageReport {
         reports::storage_report_counted(self, &mut Accesses::new())
     }
@@ -265,8 +269,9 @@ impl<T: Tables> AllocatorOf<T> {
     /// The block is the one that a request for `size + align - 1` units would take. Its units before the range (the
     /// padding) and after it (the remainder) stay free. `None` is returned if that request finds no block, if `size +
     /// align - 1` is above 4294967295, or if `align` is above 1 and there is no room for two more blocks, even if fewer
-    /// would be added. Then nothing changes. With `align` 1 the call is `allocate(size)`. It makes at most 128 accesses
-    /// to the tables, and takes no memory.
+    /// would be added. Then the space is as it was. Where padding and remainder are of one class, the remainder is the
+    /// newer one. With `align` 1 the call is `allocate(size)`. It makes at most 128 accesses to the tables, and takes
+    /// no memory.
     ///
     /// A fresh space of 1,048,576 units grants 64 KiB at a multiple of 256 only 15 times. Where all requests have one
     /// alignment, let a unit be as large as that, and call `allocate`: then it grants all 16.
@@ -279,9 +284,9 @@ impl<T: Tables> AllocatorOf<T> {
     /// Adds `more` units at the end of the space: to the last block where that is free, or else as a new free block.
     /// That block is then the newest of its bin.
     ///
-    /// `false` is returned where the space would have more than 4294967295 units, and where its last block is used and
-    /// no further block may exist; then nothing changes. With 0 units it is `true`. It makes at most 128 accesses to
-    /// the tables, and takes no memory.
+    /// `false` is returned where the space would have more than 4294967295 units, or where its last block is used and
+    /// no further block may exist; then the space is as it was. With 0 units it is `true`, and the space is as it was
+    /// too. It makes at most 128 accesses to the tables, and takes no memory.
     pub fn extend(&mut self, more: u32) -> bool {
         let left = self.names_left();
         if more == 0 {
