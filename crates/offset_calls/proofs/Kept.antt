@@ -1,9 +1,9 @@
 -- The numbers of grants by their names, from one call to the next.
-use Rattle.offset_calls.proofs.Common.{◌≡◌, ℕ, zero, suc, ◌+◌, ◌-◌, ◌≤◌, ◌⊎◌, List, [], ◌∷◌, ◌++◌, length, Option, Some, None, nat_eq, if◌then◌else◌, sym, ap, subst, ◌∙◌, inl, inr, arith}
-use Rattle.offset_calls.proofs.Common.{slice_set, option_map, eq-eqb, ne_eqb, cases_eq, cases_lt, length-append, Grant, View, IsWellFormed, kept_name, IfNamed, IsKept, Call, Reply, Takes}
+use Rattle.offset_calls.proofs.Common.{◌≡◌, ℕ, zero, suc, ◌+◌, ◌-◌, ◌<◌, ◌≤◌, ◌⊎◌, List, [], ◌∷◌, ◌++◌, length, Option, Some, None, nat_eq, if◌then◌else◌, sym, ap, subst, ◌∙◌, inl, inr, arith}
+use Rattle.offset_calls.proofs.Common.{slice_set, option_map, eq-eqb, ne_eqb, cases_eq, cases_lt, length-append, add-one, get_or, get_or_past, Grant, View, IsWellFormed, kept_name, IfNamed, IsKept, Call, Reply, Takes}
 use Rattle.offset_calls.proofs.Common.{Command}
 use Rattle.std.specs.List.{slice_index}
-use Rattle.std.proofs.lemmas.List.{get_or-set_other, get_or-set_same, set_past, length-set}
+use Rattle.std.proofs.lemmas.List.{get_or_default, get_or-set_other, get_or-set_same, set_past, length-set}
 use Rattle.offset_allocator.specs.{Relations.Splits, Relations.Allocates, Relations.Aligns}
 use Rattle.offset_allocator.proofs.Ranges.{split_grants}
 use Rattle.offset_script.specs.Steps.{AreLive}
@@ -14,18 +14,68 @@ use Rattle.offset_calls.specs.declared.calls.Call.TheVariants as call
 use Rattle.offset_script.specs.Machine as machine
 use Rattle.offset_script.specs.Steps as script
 
+-- a handle that is kept is among the handles
+pub kept_within : (handles : List (Option Grant)) (k x : ℕ) → kept_name handles k ≡ Some x → k ≤ length handles
+kept_within handles zero x e = omega arith
+kept_within handles (suc k) x e = elim (cases_lt k (length handles)) [
+  | inl l ↦ omega (arith, l)
+  | inr m ↦ absurd (let none = ap (option_map (λ (h : Grant). h.name)) (get_or_past handles k None m) in cc)
+]
+
 -- a number that is looked up by its name is that of a grant with this name
-pub number_kept : (handles : List (Option Grant)) (numbers : List ℕ) (k n x y : ℕ) → AreNumbers handles numbers → kept_name handles k ≡ Some x → n ≡ slice_index numbers y → y ≡ x
+pub number_kept : (handles : List (Option Grant)) (numbers : List ℕ) (k n x y : ℕ) → AreNumbers handles (length handles) numbers → kept_name handles k ≡ Some x → n ≡ slice_index numbers y → y ≡ x
     → kept_name handles n ≡ Some x
-number_kept handles numbers k n x y a h e f = subst (λ j. kept_name handles j ≡ Some x) (sym (e ∙ ap (slice_index numbers) f ∙ a k x h)) h
+number_kept handles numbers k n x y a h e f = subst (λ j. kept_name handles j ≡ Some x) (sym (e ∙ ap (slice_index numbers) f ∙ a.numbered k x (kept_within handles k x h) h)) h
+
+-- no grants were read, and there are none
+pub numbers_begin : (handles : List (Option Grant)) (read : ℕ) (numbers : List ℕ) → handles ≡ [] → read ≡ 0 → AreNumbers handles read numbers
+numbers_begin handles read numbers none e =
+    let nothing : (k x : ℕ) → kept_name handles k ≡ Some x → ⊥ = λ k x h.
+    let i = kept_within handles k x h in let l = ap length none in let z : k ≡ 0 = omega arith in let f = subst (λ j. kept_name handles j ≡ Some x) z h in cc in
+    record {
+      within = omega (arith, e);
+      apart = λ j k x h i. absurd (nothing j x h);
+      numbered = λ k x l h. absurd (nothing k x h);
+    }
+
+module _ (handles : List (Option Grant)) (i : ℕ) (d : Option Grant) (numbers now : List ℕ) (within : i < length handles) (a : AreNumbers handles i numbers) where
+  read_at : kept_name handles (i + 1) ≡ option_map (λ (h : Grant). h.name) (get_or handles i d)
+  read_at = ap (kept_name handles) (add-one i) ∙ ap (option_map (λ (h : Grant). h.name)) (get_or_default handles i None d within)
+
+  -- one more handle is read, and there is none
+  pub read_none : get_or handles i d ≡ None → ((x : ℕ) → slice_index now x ≡ slice_index numbers x) → AreNumbers handles (i + 1) now
+  read_none none same =
+      let gone : kept_name handles (i + 1) ≡ None = read_at ∙ ap (option_map (λ (h : Grant). h.name)) none in
+      record {
+        within = omega (arith, within);
+        apart = a.apart;
+        numbered = λ k x h e. elim (cases_eq k (i + 1)) [
+          | inl s ↦ absurd (let f = subst (λ j. kept_name handles j ≡ Some x) s e in cc)
+          | inr n ↦ same x ∙ a.numbered k x (omega (arith, h, n)) e
+        ];
+      }
+
+  -- one more handle is read, and its number is put at its name
+  pub read_one : (h : Grant) (y : ℕ) → get_or handles i d ≡ Some h → y ≡ h.name → ((x : ℕ) → slice_index now x ≡ (if nat_eq x y then i + 1 else slice_index numbers x)) → AreNumbers handles (i + 1) now
+  read_one h y is named put =
+      let own : kept_name handles (i + 1) ≡ Some y = read_at ∙ ap (option_map (λ (h : Grant). h.name)) is ∙ ap Some (sym named) in
+      record {
+        within = omega (arith, within);
+        apart = a.apart;
+        numbered = λ k x l e. elim (cases_eq x y) [
+          | inl s ↦ put x ∙ ap (λ b. if b then i + 1 else slice_index numbers x) (eq-eqb x y s) ∙ a.apart (i + 1) k x (own ∙ ap Some (sym s)) e
+          | inr n ↦ put x ∙ ap (λ b. if b then i + 1 else slice_index numbers x) (ne_eqb x y n)
+              ∙ a.numbered k x (elim (cases_eq k (i + 1)) [ inl s ↦ absurd (n (let f = subst (λ j. kept_name handles j ≡ Some x) s e in cc)) | inr m ↦ omega (arith, l, m) ]) e
+        ];
+      }
 
 -- a call makes no grant, and no name becomes kept; or it makes one, whose name was not kept
 abbrev pub IsNext : List (Option Grant) → List (Option Grant) → Type 0
-IsNext hs left = ((length left ≤ length hs) × ((k x : ℕ) → kept_name left k ≡ Some x → kept_name hs k ≡ Some x))
+IsNext hs left = ((length left ≡ length hs) × ((k x : ℕ) → kept_name left k ≡ Some x → kept_name hs k ≡ Some x))
     ⊎ ((h : Grant) × (left ≡ hs ++ Some h ∷ []) × ((k : ℕ) → kept_name hs k ≡ Some h.name → ⊥))
 
 next_same : (hs left : List (Option Grant)) → left ≡ hs → IsNext hs left
-next_same hs left e = inl (omega (arith, ap length e), λ k x h. sym (ap (λ l. kept_name l k) e) ∙ h)
+next_same hs left e = inl (ap length e, λ k x h. sym (ap (λ l. kept_name l k) e) ∙ h)
 
 -- a handle is removed
 kept_before : (hs : List (Option Grant)) (i k x : ℕ) → kept_name (slice_set hs i None) k ≡ Some x → kept_name hs k ≡ Some x
@@ -39,7 +89,7 @@ kept_before hs i (suc k) x e = elim (cases_eq k i) [
 ]
 
 next_without : (hs left : List (Option Grant)) (i : ℕ) → left ≡ slice_set hs i None → IsNext hs left
-next_without hs left i e = inl (omega (arith, ap length e, length-set hs i None), λ k x h. kept_before hs i k x (sym (ap (λ l. kept_name l k) e) ∙ h))
+next_without hs left i e = inl (ap length e ∙ length-set hs i None, λ k x h. kept_before hs i k x (sym (ap (λ l. kept_name l k) e) ∙ h))
 
 module _ (v w : View) (hs left : List (Option Grant)) (before : IsWellFormed v) (after : IsWellFormed w) (live : AreLive v hs) where
   -- the name of a grant was not kept
@@ -68,7 +118,7 @@ module _ (v w : View) (hs left : List (Option Grant)) (before : IsWellFormed v) 
   next_command (command.Size k) a t = next_same hs left t.0.1
   next_command command.Report a t = next_same hs left t.0.1
   next_command command.Full a t = next_same hs left t.0.1
-  next_command command.Reset a t = inl (omega (arith, t.1), λ k x e. absurd (let none = t.2 k in cc))
+  next_command command.Reset a t = inl (t.1, λ k x e. absurd (let none = t.2 k in cc))
   next_command (command.Align n align) a t = next_aligned n align a t.0 t.1 t.2
   next_command (command.Extend more) a t = next_same hs left t.2
 
@@ -81,29 +131,36 @@ module _ (v w : View) (hs left : List (Option Grant)) (before : IsWellFormed v) 
   next_call (call.Refusal n) r t = next_same hs left t.0.1
   next_call (call.RefusalAligned n align) r t = next_same hs left t.0.1
 
--- the numbers follow, where a new grant's number is put at its name
-numbers_next : (hs left : List (Option Grant)) (numbers now : List ℕ) → IsNext hs left → AreNumbers hs numbers
-    → ((h : Grant) → left ≡ hs ++ Some h ∷ [] → (x : ℕ) → slice_index now x ≡ (if nat_eq x h.name then length left else slice_index numbers x)) → (length left ≤ length hs → now ≡ numbers)
-    → AreNumbers left now
-numbers_next hs left numbers now (inl r) a granted same k x e = ap (λ l. slice_index l x) (same r.0) ∙ a k x (r.1 k x e)
-numbers_next hs left numbers now (inr r) a granted same k x e =
-    let put = granted r.0 r.1 x in
-    let more = ap length r.1 ∙ length-append hs (Some r.0 ∷ []) in
-    let kept = sym (ap (λ l. kept_name l k) r.1 ∙ kept_push hs r.0 k) ∙ e in
-    elim (cases_eq k (length hs + 1)) [
-      | inl s ↦
-          let own : r.0.name ≡ x = grind (arith, eq-eqb, kept) in
-          put ∙ ap (λ b. if b then length left else slice_index numbers x) (eq-eqb x r.0.name (sym own)) ∙ more ∙ sym s
-      | inr n ↦
-          let old : kept_name hs k ≡ Some x = sym (ap (λ b. if b then Some r.0.name else kept_name hs k) (ne_eqb k (length hs + 1) n)) ∙ kept in
-          put ∙ ap (λ b. if b then length left else slice_index numbers x) (ne_eqb x r.0.name (λ s. r.2 k (old ∙ ap Some s))) ∙ a k x old
+-- the numbers that were read stay right
+pub numbers_next : (hs left : List (Option Grant)) (read : ℕ) (numbers : List ℕ) → IsNext hs left → AreNumbers hs read numbers → AreNumbers left read numbers
+numbers_next hs left read numbers (inl r) a = record {
+  within = omega (arith, r.0, a.within);
+  apart = λ j k x d e. a.apart j k x (r.1 j x d) (r.1 k x e);
+  numbered = λ k x l e. a.numbered k x l (r.1 k x e);
+}
+numbers_next hs left read numbers (inr r) a = record {
+  within = omega (arith, a.within, more);
+  apart = λ j k x d e. elim (cases_eq j (length hs + 1)) [
+    | inl s ↦ elim (cases_eq k (length hs + 1)) [
+      | inl t ↦ s ∙ sym t
+      | inr t ↦ absurd (r.2 k (old k x t e ∙ sym (own j x s d)))
     ]
+    | inr s ↦ elim (cases_eq k (length hs + 1)) [
+      | inl t ↦ absurd (r.2 j (old j x s d ∙ sym (own k x t e)))
+      | inr t ↦ a.apart j k x (old j x s d) (old k x t e)
+    ]
+  ];
+  numbered = λ k x l e. a.numbered k x l (old k x (λ s. omega (arith, s, l, a.within)) e);
+}
+  where
+    more : length left ≡ length hs + 1
+    more = ap length r.1 ∙ length-append hs (Some r.0 ∷ [])
 
--- the same, as `Numbers::keep` says it: of a slice, and of how many handles there were before
-pub numbers_keep : (hs left here : List (Option Grant)) (before : ℕ) (numbers now : List ℕ) → here ≡ left → length hs ≡ before → IsNext hs left → AreNumbers hs numbers
-    → ((gs : List (Option Grant)) (h : Grant) → length gs ≡ before → here ≡ gs ++ Some h ∷ [] → (x : ℕ) → slice_index now x ≡ (if nat_eq x h.name then length here else slice_index numbers x))
-    → (length here ≤ before → now ≡ numbers)
-    → AreNumbers left now
-numbers_keep hs left here before numbers now e f next a granted same =
-    numbers_next hs left numbers now next a (λ h i x. granted hs h f (e ∙ i) x ∙ ap (λ l. if nat_eq x h.name then length l else slice_index numbers x) e)
-    (λ l. same (omega (arith, l, f, ap length e)))
+    kept : (k x : ℕ) → kept_name left k ≡ Some x → (if nat_eq k (length hs + 1) then Some r.0.name else kept_name hs k) ≡ Some x
+    kept k x e = sym (ap (λ l. kept_name l k) r.1 ∙ kept_push hs r.0 k) ∙ e
+
+    old : (k x : ℕ) → (k ≡ length hs + 1 → ⊥) → kept_name left k ≡ Some x → kept_name hs k ≡ Some x
+    old k x n e = sym (ap (λ b. if b then Some r.0.name else kept_name hs k) (ne_eqb k (length hs + 1) n)) ∙ kept k x e
+
+    own : (k x : ℕ) → k ≡ length hs + 1 → kept_name left k ≡ Some x → Some r.0.name ≡ Some x
+    own k x s e = sym (ap (λ b. if b then Some r.0.name else kept_name hs k) (eq-eqb k (length hs + 1) s)) ∙ kept k x e

@@ -1,5 +1,5 @@
 -- The named step of each call.
-use Rattle.std.specs.Prelude.{◌≡◌, ◌↔◌, ℕ, Bool, true, List, [], ◌∷◌, Option, Some, None, IfSome, option_map, slice_index, if◌then◌else◌}
+use Rattle.std.specs.Prelude.{◌≡◌, ◌≤◌, ◌↔◌, ℕ, Bool, true, List, [], ◌∷◌, length, Option, Some, None, IfSome, option_map, slice_index, if◌then◌else◌}
 use Rattle.std.specs.List.{AllByRecursion}
 use Rattle.offset_allocator.specs.declared.reports.Refusal.{Refusal}
 use Rattle.offset_allocator.specs.View.{View, Block, Grant}
@@ -65,6 +65,9 @@ abbrev pub AreKept : View → List (Option Grant) → Type 0
 AreKept v handles =
     AllByRecursion (λ (b : Block). b.used ≡ true → (k : ℕ) × (kept_name handles k ≡ Some b.name)) v.blocks
 
--- at the name of each handle that is kept is the number of its grant
-abbrev pub AreNumbers : List (Option Grant) → List ℕ → Type 0
-AreNumbers handles numbers = (k x : ℕ) → kept_name handles k ≡ Some x → slice_index numbers x ≡ k
+-- No two handles that are kept have one name, and at the name of each of the first `read` that is kept is the number of
+-- its grant.
+pub record AreNumbers (handles : List (Option Grant)) (read : ℕ) (numbers : List ℕ) : Type 0 where
+  pub within : read ≤ length handles
+  pub apart : (j k x : ℕ) → kept_name handles j ≡ Some x → kept_name handles k ≡ Some x → j ≡ k
+  pub numbered : (k x : ℕ) → k ≤ read → kept_name handles k ≡ Some x → slice_index numbers x ≡ k

@@ -1,41 +1,57 @@
 //! The numbers of grants, by their names.
 
-ghost use Rattle.std.specs.Prelude.{◌≡◌, ◌≤◌, ◌++◌, ◌∷◌, [], IfOk, List, ℕ, Option, Some, length, nat_eq, slice_index};
+ghost use Rattle.std.specs.Prelude.{◌≡◌, [], IfOk, ℕ, length, nat_eq, slice_index};
 ghost use Rattle.std.specs.Prelude.{if◌then◌else◌};
-ghost use Rattle.offset_allocator.specs.View.{Grant};
+ghost use Rattle.offset_calls.specs.Steps.{AreNumbers};
 
 use offset_allocator::{Allocation, NodeIndex};
 use std::alloc::{AllocError, Global};
 
-/// The number of the newest grant of each name. It takes 8 bytes for each name up to the largest that a grant had, so at
-/// most that for each node that was made. Each call costs the same however many grants there were.
+/// The numbers of the grants that it has read, by their names. It is empty, and takes no memory, until it reads the
+/// first; then 8 bytes for each name. A grant is read once, so all reading costs what the grants did.
 #[derive(Drop)]
 pub(crate) struct Numbers {
-    // at a name, or 0 where no grant had it
+    // at a name the number of the last grant that had it when it was read, or 0 where none had
     by_name: Vec<u64>,
+    // how many grants it has read
+    grants: usize,
 }
 
 impl Numbers {
     // No grants.
     pub(crate) fn new(alloc: Global) -> Self
-        ensures { result.by_name.items ≡ [] }
+        ensures names { result.by_name.items ≡ [] }
+        ensures grants { result.grants ≡ 0 }
     {
         Numbers {
             by_name: Vec::new(alloc),
+            grants: 0,
         }
     }
 
-    // The number of the newest grant of a name, or 0.
+    // The number at a name, or 0.
     pub(crate) fn of(&self, name: u32) -> u64
         ensures { result ≡ slice_index self.now.by_name.items name }
     {
         self.by_name.get(name as usize).copied().unwrap_or(0)
     }
 
-    // From now on the newest grant of a name has this number.
+    // Makes room for this many names at once. Where that is refused, room is made as they come.
+    fn make_room(&mut self, names: usize)
+        ensures names { (x : ℕ) → slice_index self.new.by_name.items x ≡ slice_index self.old.by_name.items x }
+        ensures grants { self.new.grants ≡ self.old.grants }
+    {
+        let len = self.by_name.len();
+        if len < names && self.by_name.reserve_exact(names - len).is_ok() {
+            let _is_made = self.by_name.resize(names, 0);
+        }
+    }
+
+    // Puts a number at a name.
     fn set(&mut self, name: u32, number: u64) -> Result<(), AllocError>
-        ensures { IfOk result (λ _. (x : ℕ) → slice_index self.new.by_name.items x
+        ensures names { IfOk result (λ _. (x : ℕ) → slice_index self.new.by_name.items x
             ≡ (if nat_eq x name then number else slice_index self.old.by_name.items x)) }
+        ensures grants { self.new.grants ≡ self.old.grants }
     {
         let at = name as usize;
         if self.by_name.len() <= at {
@@ -45,23 +61,24 @@ impl Numbers {
         Ok(())
     }
 
-    // Keeps the number of the last of these handles, where there are more than before: then it is that of a new grant.
-    pub(crate) fn keep<NI: NodeIndex>(
+    // Reads the grants that it has not read yet. A name is below `names`.
+    pub(crate) fn read<NI: NodeIndex>(
         &mut self,
         handles: &[Option<Allocation<NI>>],
-        before: usize,
+        names: u32,
     ) -> Result<(), AllocError>
-        ensures granted { IfOk result (λ _. (hs : List (Option Grant)) (h : Grant) → length hs ≡ before
-            → handles.now ≡ hs ++ Some h ∷ [] → (x : ℕ) → slice_index self.new.by_name.items x
-            ≡ (if nat_eq x h.name then length handles.now else slice_index self.old.by_name.items x)) }
-        ensures same { length handles.now ≤ before → self.new ≡ self.old }
+        requires { AreNumbers handles.now self.old.grants self.old.by_name.items }
+        ensures numbers { IfOk result (λ _.
+            AreNumbers handles.now (length handles.now) self.new.by_name.items) }
+        ensures grants { IfOk result (λ _. self.new.grants ≡ length handles.now) }
     {
-        if handles.len() <= before {
-            return Ok(());
+        self.make_room(names as usize);
+        for i in self.grants..handles.len() {
+            if let Some(handle) = handles[i] {
+                self.set(handle.to_parts().1, i as u64 + 1)?;
+            }
         }
-        match handles.last() {
-            Some(Some(handle)) => self.set(handle.to_parts().1, handles.len() as u64),
-            _ => Ok(()),
-        }
+        self.grants = handles.len();
+        Ok(())
     }
 }

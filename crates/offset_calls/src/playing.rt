@@ -1,6 +1,6 @@
 //! Plays calls on an allocator.
 
-ghost use Rattle.std.specs.Prelude.{◌≡◌, ◌+◌, ◌-◌, ◌<◌, ◌≤◌, ◌++◌, ◌∷◌, [], All, IfOk, IsTrue, Some, drop, false};
+ghost use Rattle.std.specs.Prelude.{◌≡◌, ◌+◌, ◌-◌, ◌<◌, ◌≤◌, ◌++◌, ◌∷◌, [], All, IfOk, IsTrue, OnOk, Some, drop, false};
 ghost use Rattle.std.specs.Prelude.{if◌then◌else◌, length, map};
 ghost use Rattle.offset_allocator.specs.Compacting.{Compacts, live, moves};
 ghost use Rattle.offset_script.specs.Steps.{kept_name, AreLive};
@@ -59,7 +59,8 @@ fn numbers_of_live<T: Tables>(
     numbers: &Numbers,
 ) -> Result<Vec<u64>, AllocError>
     requires kept { AreKept player.now.space player.now.handles.items }
-    requires numbers { AreNumbers player.now.handles.items numbers.now.by_name.items }
+    requires numbers { AreNumbers player.now.handles.items (length player.now.handles.items)
+        numbers.now.by_name.items }
     ensures { IfOk result (λ ks. map (kept_name player.now.handles.items) ks.items
         ≡ map (λ b. Some b.name) (live player.now.space.blocks)) }
 {
@@ -141,14 +142,17 @@ pub(crate) fn numbered(
 fn compact<T: Tables>(
     alloc: Global,
     player: &mut PlayerOf<T>,
-    numbers: &Numbers,
+    numbers: &mut Numbers,
 ) -> Result<Reply, AllocError>
     requires kept { AreKept player.old.space player.old.handles.items }
-    requires numbers { AreNumbers player.old.handles.items numbers.now.by_name.items }
-    ensures { IfOk result (λ r. Takes Call.Compact player.old.space player.old.handles.items
+    requires numbers { AreNumbers player.old.handles.items numbers.old.grants numbers.old.by_name.items }
+    ensures takes { IfOk result (λ r. Takes Call.Compact player.old.space player.old.handles.items
         player.new.space player.new.handles.items (reply_view r)) }
+    ensures numbers { OnOk result
+        (AreNumbers player.old.handles.items numbers.new.grants numbers.new.by_name.items) }
 {
-    let numbers = numbers_of_live(alloc, player, numbers)?;
+    numbers.read(&player.handles, player.space.node_count())?;
+    let live_numbers = numbers_of_live(alloc, player, numbers)?;
     let mut moves = Moves {
         found: Vec::new(alloc),
         is_refused: false,
@@ -157,7 +161,7 @@ fn compact<T: Tables>(
     if moves.is_refused {
         return Err(AllocError);
     }
-    Ok(Reply::Compacted(numbered(alloc, &numbers, &moves.found)?))
+    Ok(Reply::Compacted(numbered(alloc, &live_numbers, &moves.found)?))
 }
 
 // The reply to `Offset`.
@@ -177,15 +181,17 @@ fn offset<T: Tables>(player: &PlayerOf<T>, number: u32) -> Reply
 fn reply<T: Tables>(
     alloc: Global,
     player: &mut PlayerOf<T>,
-    numbers: &Numbers,
+    numbers: &mut Numbers,
     call: Call,
 ) -> Result<Reply, AllocError>
     requires live { AreLive player.old.space player.old.handles.items }
     requires kept { AreKept player.old.space player.old.handles.items }
-    requires numbers { AreNumbers player.old.handles.items numbers.now.by_name.items }
+    requires numbers { AreNumbers player.old.handles.items numbers.old.grants numbers.old.by_name.items }
     requires valid { IsTrue (is_valid call) }
-    ensures { IfOk result (λ r. Takes call player.old.space player.old.handles.items
+    ensures takes { IfOk result (λ r. Takes call player.old.space player.old.handles.items
         player.new.space player.new.handles.items (reply_view r)) }
+    ensures numbers { OnOk result
+        (AreNumbers player.old.handles.items numbers.new.grants numbers.new.by_name.items) }
 {
     match call {
         Call::Command(command) => Ok(Reply::Answer(player.call(alloc, command)?)),
@@ -204,9 +210,9 @@ fn reply<T: Tables>(
 /// for each.
 ///
 /// The limit has to be 2 to `T::Index::MAX - 2`, and each alignment a power of two. All replies are kept in memory, and
-/// so is the number of each name's newest grant, which takes 8 bytes for each node that was made. It fails only where an
-/// allocation fails. Each call costs what it costs in the allocator; a grant also writes its number, and a compaction
-/// reads that of each live range.
+/// from the first compaction on 8 bytes for each node that was made, twice that while a later compaction finds that
+/// there are more nodes. It fails only where an allocation fails. Each call costs what it costs in the allocator; a
+/// compaction also reads the grants since the last one.
 pub fn play_calls_of<T: Tables>(
     alloc: Global,
     size: u32,
@@ -229,10 +235,8 @@ pub fn play_calls_of<T: Tables>(
     let mut numbers = Numbers::new(alloc);
     let mut found = Vec::with_capacity(alloc, calls.len())?;
     for call in calls {
-        let grants = player.handles.len();
-        let reply = reply(alloc, &mut player, &numbers, *call)?;
+        let reply = reply(alloc, &mut player, &mut numbers, *call)?;
         is_well_formed(&player.space);
-        numbers.keep(&player.handles, grants)?;
         found.push(reply)?;
     }
     Ok(found)

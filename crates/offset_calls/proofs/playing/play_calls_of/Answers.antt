@@ -2,7 +2,7 @@ use Rattle.offset_calls.proofs.Common.{◌≡◌, ◌+◌, ◌<◌, ◌≤◌, �
 use Rattle.offset_calls.proofs.Common.{drop-cons, map-append, take_more, take_all, drop_all, State, start, Call, Reply, after, is_valid, replies, reply_view, step, Takes, rules}
 use Rattle.std.proofs.lemmas.List.Elements.{All-get_or}
 use Rattle.offset_script.proofs.{Agreement.IsAtState, Simulation.all_live, Simulation.fresh_represents, Simulation.run_begins, Simulation.run_goes_on, Simulation.run_ends, Well.well_start}
-use Rattle.offset_calls.proofs.{Kept.next_call, Kept.numbers_keep, Followed.follows, Followed.well_calls, Compacted.all_kept}
+use Rattle.offset_calls.proofs.{Kept.next_call, Kept.numbers_begin, Kept.numbers_next, Followed.follows, Followed.well_calls, Compacted.all_kept}
 use Rattle.offset_calls.specs.declared.calls.Reply as program
 use Rattle.offset_calls.proofs.playing.play_calls_of.Goals as goal
 
@@ -36,7 +36,7 @@ reply-requires-clause-kept g c =
     all_kept _ _ _ r.formed (well_calls (take c.loop-call.call-index c.args.calls.now) _ (well_start c.args.size c.args.max_allocs c.requires.low)) r.agrees
 
 pub loop-call-init : goal.loop-call-init
-loop-call-init g c = search (arith, fresh_represents, run_begins, map)
+loop-call-init g c = search (arith, fresh_represents, run_begins, map, numbers_begin)
 
 pub loop-call-preserved : goal.loop-call-preserved
 loop-call-preserved g c =
@@ -48,13 +48,12 @@ loop-call-preserved g c =
     let valid = All-get_or (λ c. IsTrue (is_valid c)) cs i _ within c.requires.valid in
     let well = well_calls (take i cs) s (well_start c.args.size c.args.max_allocs c.requires.low) in
     let live = all_live _ _ _ well c.loop-call.invariant.represents in
-    let next = follows _ _ _ _ _ state c.is_well_formed-in-loop-call.ensures well c.loop-call.invariant.represents _ valid c.in_ok-reply.ensures in
+    let next = follows _ _ _ _ _ state c.is_well_formed-in-loop-call.ensures well c.loop-call.invariant.represents _ valid c.in_ok-reply.ensures.takes in
     record {
-      numbers = numbers_keep c.loop-call.player.handles.items _ c.deref.result.now c.len-grants.result c.loop-call.numbers.by_name.items _ c.deref.ensures.value (search rules)
-          (next_call _ _ _ _ c.loop-call.invariant.represents.formed c.is_well_formed-in-loop-call.ensures live _ _ c.in_ok-reply.ensures) c.loop-call.invariant.numbers c.in_ok-keep.ensures.granted
-          (λ l. ap (λ n. n.by_name.items) (c.keep.ensures.same l));
+      numbers = numbers_next c.loop-call.player.handles.items _ _ _
+          (next_call _ _ _ _ c.loop-call.invariant.represents.formed c.is_well_formed-in-loop-call.ensures live _ _ c.in_ok-reply.ensures.takes) c.in_ok-reply.ensures.numbers;
       represents = subst (IsAtState c.reply.new.player.space c.reply.new.player.handles.items) (sym (after_more cs s i _ within)) next.1;
-      run = run_goes_on Takes _ _ _ _ _ _ _ _ _ _ _ _ c.loop-call.invariant.run c.in_ok-reply.ensures c.is_well_formed-in-loop-call.ensures (take_more cs i _ within)
+      run = run_goes_on Takes _ _ _ _ _ _ _ _ _ _ _ _ c.loop-call.invariant.run c.in_ok-reply.ensures.takes c.is_well_formed-in-loop-call.ensures (take_more cs i _ within)
           (ap (map reply_view) c.in_ok-push.ensures.items ∙ map-append reply_view c.loop-call.found.items _);
       so_far = replies_more cs s i _ c.loop-call.found.items _ c.in_ok-reply.reply (replies cs s) within c.in_ok-push.ensures.items next.0 c.loop-call.invariant.so_far;
     }
