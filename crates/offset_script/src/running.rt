@@ -9,7 +9,7 @@ use crate::devices::{Sink, Source};
 use crate::faults::RunFault;
 use crate::reading::{MAX_TEXT, parse};
 use crate::scripts::Script;
-use crate::sending::send;
+use crate::sending::send_in_turn;
 use crate::writing::text_of_script;
 use std::alloc::Global;
 
@@ -81,8 +81,8 @@ pub fn run<S: Source, K: Sink>(alloc: Global, input: &mut S, output: &mut K) -> 
     ensures write { K.has_failed output.new ≡ (is_write_fault result || K.has_failed output.old) }
 {
     let script = read_script(alloc, input)?;
-    let text = text_of_script(alloc, &script)?;
-    if send(output, &text) {
+    let pieces = text_of_script(alloc, &script)?;
+    if send_in_turn(output, &pieces) {
         Ok(())
     } else {
         Err(RunFault::Write)

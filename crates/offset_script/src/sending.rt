@@ -40,6 +40,31 @@ pub fn send<K: Sink>(output: &mut K, text: &[u8]) -> bool
     push_all(output, text) && output.flush()
 }
 
+// `push_all` of a text in pieces.
+fn push_pieces<K: Sink>(output: &mut K, pieces: &[Vec<u8>]) -> bool
+    ensures sent { Sends result (flat_map (λ piece. piece.items) pieces.now)
+        (K.held output.old) (K.held output.new) }
+    ensures failed { K.has_failed output.new ≡ (not result || K.has_failed output.old) }
+    ensures failed_push { K.push_has_failed output.new ≡ (not result || K.push_has_failed output.old) }
+{
+    for part in pieces {
+        if !push_all(output, part) {
+            return false;
+        }
+    }
+    true
+}
+
+/// `send` of a text in pieces.
+pub(crate) fn send_in_turn<K: Sink>(output: &mut K, pieces: &[Vec<u8>]) -> bool
+    ensures sent { Sends (result || not (K.push_has_failed output.new))
+        (flat_map (λ piece. piece.items) pieces.now) (K.held output.old) (K.held output.new) }
+    ensures failed { K.has_failed output.new ≡ (not result || K.has_failed output.old) }
+    ensures flushed { IsTrue result → K.is_flushed output.new ≡ true }
+{
+    push_pieces(output, pieces) && output.flush()
+}
+
 // Appends the pieces of a text in turn, and then flushes. Returns whether all succeeded. It stops at the first failure,
 // and tries nothing again.
 fn send_pieces<K: Sink>(output: &mut K, pieces: &[&[u8]]) -> bool
