@@ -62,6 +62,7 @@ impl Pieces {
     }
 
     // Appends the lines of an answer.
+    #[inline(always)]
     fn put(&mut self, alloc: Global, answer: &Answer) -> Result<(), AllocError>
         ensures { OnOk result (self.new ≡ self.old ++ lines_of_answer (answer_view answer.now)) }
     {
