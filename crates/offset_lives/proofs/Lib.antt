@@ -3,8 +3,11 @@ mod Backward
 mod Counted
 mod Drawn
 mod Falling
+mod Grouped
 mod Grown
+mod Held
 mod Levelled
+mod Listed
 mod Merged
 mod Ordered
 mod Peaks

@@ -10,5 +10,7 @@ pub mod Marks
 pub mod Merging
 pub mod Places
 pub mod Quiet
+pub mod Rectangles
 pub mod Reports
+pub mod Steps
 pub mod Titles

@@ -3,47 +3,17 @@
 ghost use Rattle.std.specs.Prelude.{◌≡◌, ◌<◌};
 ghost use Rattle.offset_lives.specs.Figures.{age_of};
 
-/// A bin of lives: what the legend says of it, and the class of its rectangles.
-#[derive(Clone, Copy)]
-pub struct Age {
-    pub name: &'static str,
-    pub class: &'static str,
-}
-
-/// The bins, rising.
-pub const AGES: [Age; 8] = [
-    Age {
-        name: "to 10 calls",
-        class: "age1",
-    },
-    Age {
-        name: "to 30",
-        class: "age2",
-    },
-    Age {
-        name: "to 100",
-        class: "age3",
-    },
-    Age {
-        name: "to 300",
-        class: "age4",
-    },
-    Age {
-        name: "to 1,000",
-        class: "age5",
-    },
-    Age {
-        name: "to 3,000",
-        class: "age6",
-    },
-    Age {
-        name: "to 10,000",
-        class: "age7",
-    },
-    Age {
-        name: "longer",
-        class: "age8",
-    },
+/// The bins of lives, rising: what the legend says of each. The rectangles of bin k, counted from 0, have the class
+/// `age` with the number k + 1.
+pub const AGES: [&str; 8] = [
+    "to 10 calls",
+    "to 30",
+    "to 100",
+    "to 300",
+    "to 1,000",
+    "to 3,000",
+    "to 10,000",
+    "longer",
 ];
 
 /// The bin of a life, by the number of its calls.

@@ -1,8 +1,9 @@
 //! The picture of a script.
 
-ghost use Rattle.std.specs.Prelude.{All, IfOk, map, string_bytes};
+ghost use Rattle.std.specs.Prelude.{◌≡◌, ◌≤◌, ◌++◌, All, IfOk, OnOk, length, map, string_bytes};
 ghost use Rattle.offset_lives.specs.Drawing.{IsPicture};
 ghost use Rattle.offset_lives.specs.Lives.{IsOrdered, life_view};
+ghost use Rattle.offset_lives.specs.Steps.{ArePlaces, beyond_text, reports_text};
 
 use crate::course::{Course, course_of};
 use crate::figures::figures_of;
@@ -10,7 +11,7 @@ use crate::legend::{put_legend, put_notes};
 use crate::levels::levels_of;
 use crate::plots::{Plot, ranges_plot, reports_plot};
 use crate::rectangles::put_grants;
-use crate::steps::{places_of, put_marks, put_steps};
+use crate::steps::{places_of, put_line, put_marks};
 use crate::style::{HEADING, OPENING, STYLE};
 use crate::titles::put_escaped;
 use offset_script::Script;
@@ -22,10 +23,13 @@ fn put_beyond(
     plot: &Plot,
     course: &Course,
     places: &[u32],
-) -> Result<(), AllocError> {
-    write!(out, "<path class='out' d='")?;
-    put_steps(out, plot, plot.units.start, &course.sizes, places)?;
-    writeln!(out, "'/>")
+) -> Result<(), AllocError>
+    requires enough { length course.now.sizes.items ≤ length places.now }
+    requires places { ArePlaces plot.now.calls places.now }
+    ensures { OnOk result (string_bytes out.new
+        ≡ string_bytes out.old ++ beyond_text plot.now course.now) }
+{
+    put_line(out, "out", plot, plot.units.start, &course.sizes, places)
 }
 
 // The free units, before them what the largest free region would be without fragmentation, and before both what it is.
@@ -35,18 +39,17 @@ fn put_reports(
     plot: &Plot,
     course: &Course,
     places: &[u32],
-) -> Result<(), AllocError> {
+) -> Result<(), AllocError>
+    requires enough { length course.now.reports.items ≤ length places.now }
+    requires places { ArePlaces plot.now.calls places.now }
+    ensures { OnOk result (string_bytes out.new
+        ≡ string_bytes out.old ++ reports_text plot.now course.now) }
+{
     let levels = levels_of(alloc, &course.reports)?;
-    for (class, values) in [
-        ("free", &levels.free),
-        ("joined", &levels.joined),
-        ("most", &levels.most),
-    ] {
-        write!(out, "<path class='{class}' d='")?;
-        put_steps(out, plot, plot.bottom(), values, places)?;
-        writeln!(out, "'/>")?;
-    }
-    Ok(())
+    let base = plot.bottom();
+    put_line(out, "free", plot, base, &levels.free, places)?;
+    put_line(out, "joined", plot, base, &levels.joined, places)?;
+    put_line(out, "most", plot, base, &levels.most, places)
 }
 
 // What a picture holds after its heading.
@@ -88,8 +91,9 @@ pub fn picture_of(alloc: Global, title: &str, course: &Course) -> Result<String,
     out.push_str(HEADING)?;
     put_escaped(&mut out, title)?;
     out.push_str("</text>\n")?;
-    // So that the last seven bytes do not double the room of the text, with a copy of all of it.
-    out.reserve(body.len().saturating_add(7))?;
+    // So that the last seven bytes do not double the room of the text, with a copy of all of it. Where this room is
+    // refused, the text grows as it needs.
+    let _has_room = out.reserve(body.len().saturating_add(7)).is_ok();
     out.push_str(&body)?;
     out.push_str("</svg>\n")?;
     Ok(out)

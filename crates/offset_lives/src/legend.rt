@@ -64,12 +64,15 @@ fn put_worst(out: &mut String, figures: &Figures) -> Result<(), AllocError> {
 // The colours of the ages, and the mark of a refusal.
 fn put_ages(out: &mut String) -> Result<(), AllocError> {
     writeln!(out, "<text class='end' x='112' y='113'>live for</text>")?;
-    for (i, age) in AGES.iter().enumerate() {
+    for (i, name) in AGES.iter().enumerate() {
         let left = Pixels(LEFT + i as u32 * 11_500);
         let text = Pixels(LEFT + i as u32 * 11_500 + 2_200);
-        let class = age.class;
-        let name = age.name;
-        write!(out, "<path class='{class}' d='M{left} 101h16v14h-16z'/>")?;
+        let number = i + 1;
+        let name = *name;
+        write!(
+            out,
+            "<path class='age{number}' d='M{left} 101h16v14h-16z'/>"
+        )?;
         writeln!(out, "<text x='{text}' y='113'>{name}</text>")?;
     }
     write!(out, "<path class='refusal' d='M1048 102v12'/>")?;

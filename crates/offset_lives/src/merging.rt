@@ -2,7 +2,7 @@
 
 ghost use Rattle.std.specs.Prelude.{◌≡◌, ◌<◌, ◌≤◌, IfOk, IsTrue, map};
 ghost use Rattle.std.specs.List.{list_any};
-ghost use Rattle.offset_lives.specs.Merging.{is_tiny, round_out, drawn, touch, join, Place, covers, IsAtTenth, shape_of_key};
+ghost use Rattle.offset_lives.specs.Merging.{AreMerged, Place, IsAtTenth, covers, drawn, is_tiny, join, key_of, round_out, shape_of_key, touch};
 ghost use Rattle.offset_lives.specs.Places.{shape_of};
 
 use crate::axes::TENTH;
@@ -41,7 +41,8 @@ fn key_of(shape: &Shape) -> u64
     requires left { IsAtTenth shape.now.left }
     requires right { IsAtTenth shape.now.right }
     requires age { shape.now.age < 8 }
-    ensures { shape_of_key result ≡ shape.now }
+    ensures is { result ≡ key_of shape.now }
+    ensures shape { shape_of_key result ≡ shape.now }
 {
     let top = u64::from(shape.top / TENTH);
     let bottom = u64::from(shape.bottom / TENTH);
@@ -91,8 +92,10 @@ fn join(before: Shape, shape: &Shape) -> Shape
 pub fn shapes_of(alloc: Global, plot: &Plot, lives: &[Life]) -> Result<Vec<Shape>, AllocError>
     // Merging covers and uncovers no place: at each height and age they cover those that the rectangles of the lives
     // do.
-    ensures { IfOk result (λ v. (p : Place) → list_any (covers p) v.items
+    ensures covers { IfOk result (λ v. (p : Place) → list_any (covers p) v.items
         ≡ list_any (covers p) (map (λ l. drawn (shape_of plot.now l)) lives.now)) }
+    // The list, in its order.
+    ensures is { IfOk result (λ v. AreMerged plot.now lives.now v.items) }
 {
     let mut found = Vec::new(alloc);
     let mut tiny: Vec<u64> = Vec::new(alloc);

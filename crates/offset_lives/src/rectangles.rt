@@ -1,8 +1,9 @@
 //! A rectangle for each grant.
 
-ghost use Rattle.std.specs.Prelude.{◌≡◌, ◌≤◌, ◌++◌, ◌↔◌, IfOk, IsTrue, OnOk, length, map, string_bytes};
+ghost use Rattle.std.specs.Prelude.{◌≡◌, ℕ, List, ◌≤◌, ◌++◌, ◌↔◌, IfOk, IsTrue, OnOk, length, map, string_bytes};
 ghost use Rattle.offset_lives.specs.Marks.{rectangle_text, title_text};
 ghost use Rattle.offset_lives.specs.Places.{frame_of, shape_of};
+ghost use Rattle.offset_lives.specs.Rectangles.{AreGrants, plain_of_age, titled_of_age};
 
 use crate::ages::AGES;
 use crate::line::Line;
@@ -17,9 +18,9 @@ use std::alloc::{AllocError, Global};
 const MOST_TITLES: usize = 20_000;
 
 // About how many bytes a rectangle takes, and one with a title: the text gets room for all of them at once.
-const RECTANGLE: usize = 56;
+const RECTANGLE_BYTES: usize = 56;
 
-const TITLED: usize = 136;
+const TITLED_BYTES: usize = 136;
 
 // The smallest width and height that is drawn: 0.3 pixels.
 const SMALLEST: u32 = 30;
@@ -116,7 +117,11 @@ fn put_titled(
     lives: &[Life],
     age: usize,
     calls: u32,
-) -> Result<(), AllocError> {
+) -> Result<(), AllocError>
+    requires { length shapes.now ≡ length lives.now }
+    ensures { OnOk result (string_bytes out.new
+        ≡ string_bytes out.old ++ titled_of_age calls shapes.now lives.now age) }
+{
     for (shape, life) in shapes.iter().zip(lives) {
         if shape.age == age {
             let mut line = Line::new();
@@ -130,7 +135,10 @@ fn put_titled(
 }
 
 // The rectangles of an age, without titles.
-fn put_plain(out: &mut String, shapes: &[Shape], age: usize) -> Result<(), AllocError> {
+fn put_plain(out: &mut String, shapes: &[Shape], age: usize) -> Result<(), AllocError>
+    ensures { OnOk result (string_bytes out.new
+        ≡ string_bytes out.old ++ plain_of_age shapes.now age) }
+{
     for shape in shapes {
         if shape.age == age {
             let mut line = Line::new();
@@ -150,18 +158,27 @@ pub fn put_grants(
     plot: &Plot,
     lives: &[Life],
     calls: u32,
-) -> Result<Option<usize>, AllocError> {
+) -> Result<Option<usize>, AllocError>
+    ensures { IfOk result (λ merged. (text : List ℕ)
+        × (string_bytes out.new ≡ string_bytes out.old ++ text)
+        × AreGrants plot.now lives.now calls merged text) }
+{
     let is_merged = lives.len() > MOST_TITLES;
     let shapes = if is_merged {
         shapes_of(alloc, plot, lives)?
     } else {
         single_shapes(alloc, plot, lives)?
     };
-    let bytes = if is_merged { RECTANGLE } else { TITLED };
-    out.reserve(shapes.len().saturating_mul(bytes))?;
+    let bytes = if is_merged {
+        RECTANGLE_BYTES
+    } else {
+        TITLED_BYTES
+    };
+    // Room for all at once saves copies. Where it is refused, the text grows as it needs.
+    let _has_room = out.reserve(shapes.len().saturating_mul(bytes)).is_ok();
     for age in (0..AGES.len()).rev() {
-        let class = AGES[age].class;
-        writeln!(out, "<g class='{class}'>")?;
+        let number = age + 1;
+        writeln!(out, "<g class='age{number}'>")?;
         if is_merged {
             put_plain(out, &shapes, age)?;
         } else {

@@ -1,8 +1,8 @@
 //! Values of states, as a line of steps, and calls, as marks. Both are drawn to a tenth of a pixel.
 
-ghost use Rattle.std.specs.Prelude.{◌≡◌, ℕ, ◌≤◌, ◌++◌, EachIndex, IfOk, OnOk, max, min, slice_index, string_bytes, vec_len};
+ghost use Rattle.std.specs.Prelude.{◌≡◌, ℕ, ◌≤◌, ◌++◌, IfOk, OnOk, length, max, min, string_bytes, vec_len};
 ghost use Rattle.offset_lives.specs.Marks.{column_of, column_text, height_of, in_tenths, IsAt};
-ghost use Rattle.offset_lives.specs.Places.{right_of};
+ghost use Rattle.offset_lives.specs.Steps.{ArePlaces, line_text, marks_text, one_state, steps_text};
 
 use crate::axes::{Axis, TENTH};
 use crate::line::Line;
@@ -21,8 +21,7 @@ fn in_tenths(length: u32) -> u32
 /// Where each of the first `states` states lies, to a tenth of a pixel.
 pub fn places_of(alloc: Global, calls: &Axis, states: usize) -> Result<Vec<u32>, AllocError>
     ensures len { IfOk result (λ v. vec_len v ≡ states) }
-    ensures places { IfOk result
-        (λ v. EachIndex v.items (λ s. slice_index v.items s ≡ in_tenths (right_of calls.now s))) }
+    ensures places { IfOk result (λ v. ArePlaces calls.now v.items) }
 {
     let mut places = Vec::with_capacity(alloc, states)?;
     for state in 0..states {
@@ -75,7 +74,10 @@ pub struct Group {
 }
 
 impl Group {
-    fn new(left: u32, value: u32) -> Self {
+    // The group of one state.
+    fn new(left: u32, value: u32) -> Self
+        ensures { result ≡ one_state left value }
+    {
         Group {
             left,
             least: value,
@@ -151,15 +153,20 @@ pub struct Pen {
     value: Option<u32>,
 }
 
-/// The line of steps of these values, one for each state, from the height `base` and back to it.
-/// These are the places of the states, as `places_of` has them.
-pub fn put_steps(
+// The line of steps of these values, one for each state, from the height `base` and back to it.
+// These are the places of the states, as `places_of` has them, and perhaps of more.
+fn put_steps(
     out: &mut String,
     plot: &Plot,
     base: u32,
     values: &[u32],
     places: &[u32],
-) -> Result<(), AllocError> {
+) -> Result<(), AllocError>
+    requires enough { length values.now ≤ length places.now }
+    requires places { ArePlaces plot.now.calls places.now }
+    ensures { OnOk result (string_bytes out.new
+        ≡ string_bytes out.old ++ steps_text plot.now base values.now) }
+{
     let start = Pixels(plot.calls.start);
     let end = Pixels(plot.calls.start + plot.calls.span);
     let base_line = Pixels(base);
@@ -183,7 +190,28 @@ pub fn put_steps(
     if let Some(group) = &group {
         group.put(out, &plot.units, pen)?;
     }
-    write!(out, "H{end}V{base_line}")
+    write!(out, "H{end}V{base_line}")?;
+    Ok(())
+}
+
+/// Appends the line of steps of these values, one for each state, as an element of this class: from the height `base` and
+/// back to it. These are the places of the states, as `places_of` has them, and perhaps of more.
+pub fn put_line(
+    out: &mut String,
+    class: &str,
+    plot: &Plot,
+    base: u32,
+    values: &[u32],
+    places: &[u32],
+) -> Result<(), AllocError>
+    requires enough { length values.now ≤ length places.now }
+    requires places { ArePlaces plot.now.calls places.now }
+    ensures { OnOk result (string_bytes out.new
+        ≡ string_bytes out.old ++ line_text class.now plot.now base values.now) }
+{
+    write!(out, "<path class='{class}' d='")?;
+    put_steps(out, plot, base, values, places)?;
+    writeln!(out, "'/>")
 }
 
 /// A mark below an axis for each of these calls. Those at one tenth of a pixel have one mark.
@@ -192,7 +220,10 @@ pub fn put_marks(
     calls: &Axis,
     height: u32,
     marked: &[usize],
-) -> Result<(), AllocError> {
+) -> Result<(), AllocError>
+    ensures { OnOk result (string_bytes out.new
+        ≡ string_bytes out.old ++ marks_text calls.now height marked.now) }
+{
     let top = Pixels(height);
     let mut before = None;
     for call in marked {
