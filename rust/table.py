@@ -75,6 +75,7 @@ IMPORTS = {
     "std::iter::FusedIterator": "core::iter::FusedIterator",  # the library has no std
     "std::marker::Model": None,                             # the model of a type, for contracts, which are erased
     "std::marker::PhantomData": "core::marker::PhantomData",  # the library has no std
+    "std::mem::replace": "core::mem::replace",              # the same
 }
 
 # Names that need no import in Rattle, and here come from the hand-written module.
