@@ -4,7 +4,7 @@
 ghost use Rattle.std.specs.Prelude.{◌≡◌, true};
 
 use std::alloc::Global;
-use std::fmt::Debug;
+use std::fmt::{Debug, Display};
 use std::process::Abort;
 
 /// Ends the test where this is false.
@@ -44,4 +44,10 @@ pub fn text_of<T: Debug>(rt: &impl Abort, alloc: Global, value: &T) -> String {
 /// Ends the test where the text of a value, by its `Debug`, is not this one.
 pub fn assert_text<T: Debug>(rt: &impl Abort, alloc: Global, value: &T, wanted: &str) {
     assert_same(rt, &text_of(rt, alloc, value).as_str(), &wanted);
+}
+
+/// Ends the test where the text of a value, by its `Display`, is not this one.
+pub fn assert_shown<T: Display>(rt: &impl Abort, alloc: Global, value: &T, wanted: &str) {
+    let text = format!(in alloc; "{value}").expect(rt, "memory");
+    assert_same(rt, &text.as_str(), &wanted);
 }

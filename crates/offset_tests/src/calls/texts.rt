@@ -1,9 +1,9 @@
-//! The `Debug` texts of allocators, handles and reports.
+//! The `Debug` texts of allocators, handles and reports, and what `Display` prints of names and reasons.
 
 use super::steps::Limit::{Few, Limited};
 use super::steps::Step::{Grants, Shows};
 use super::steps::{Case, expect_all, make_allocator};
-use crate::asserts::{assert_text, assert_that, text_of};
+use crate::asserts::{assert_shown, assert_text, assert_that, text_of};
 use crate::layouts::{ALL, Expectation, check_each};
 use offset_allocator::{
     NonMaxU16, NonMaxU32, Refusal, StorageReport, StorageReportFull, StorageReportFullRegion,
@@ -98,6 +98,31 @@ fn names_and_reasons_have_a_text(rt: HostRuntime) {
         (Refusal::Fragmented, "Fragmented"),
     ] {
         assert_text(&rt, rt.alloc(), &reason, wanted);
+    }
+}
+
+#[test]
+fn names_and_reasons_are_printed(rt: HostRuntime) {
+    for (value, wanted) in [(0u16, "0"), (65_534, "65534")] {
+        let name = NonMaxU16::new(value).expect(&rt, "a name");
+        assert_shown(&rt, rt.alloc(), &name, wanted);
+        assert_text(&rt, rt.alloc(), &name, wanted);
+    }
+    for (value, wanted) in [(0u32, "0"), (4_294_967_294, "4294967294")] {
+        let name = NonMaxU32::new(value).expect(&rt, "a name");
+        assert_shown(&rt, rt.alloc(), &name, wanted);
+        assert_text(&rt, rt.alloc(), &name, wanted);
+    }
+    for (reason, wanted) in [
+        (Refusal::Nodes, "too few nodes are left"),
+        (Refusal::TooLarge, "the request is too large for the space"),
+        (Refusal::Space, "too few units are free"),
+        (
+            Refusal::Fragmented,
+            "no free block is large enough until the space is compacted",
+        ),
+    ] {
+        assert_shown(&rt, rt.alloc(), &reason, wanted);
     }
 }
 
