@@ -1,4 +1,5 @@
-//! The text of the answers to a script, written while it is played: no list of answers is kept.
+//! The text of the answers to a script, written while it is played: no list of answers is kept, unless full reports have
+//! many rows.
 
 ghost use Rattle.std.specs.Prelude.{◌≡◌, ◌+◌, ◌++◌, ◌∷◌, ◌<◌, ◌≤◌, All, IfOk, IsTrue, OnOk, []};
 ghost use Rattle.std.specs.List.{flat_map};
@@ -21,69 +22,121 @@ const ROOM: usize = 65536;
 // A piece with this many bytes is full. The lines of one more answer, which has at most 256 rows, fit below `ROOM`.
 const FULL: usize = 49152;
 
-// A text in pieces, so that it grows without a copy. It is seen as its bytes.
-#[derive(Drop)]
-struct Pieces {
-    // those that are full
-    full: Vec<Vec<u8>>,
-    last: Vec<u8>,
+// The text of a report with so many rows takes about as much memory as the report.
+const SHORT: usize = 8;
+
+// The most rows beyond `SHORT` of all reports together that are written while the script is played.
+const FEW_ROWS: usize = 4096;
+
+// Begins a new piece of a text. Where its room is refused, room is made as its text comes.
+#[cold]
+fn cut(alloc: Global, full: &mut Vec<Vec<u8>>, last: &mut Vec<u8>) -> Result<(), AllocError>
+    ensures full { OnOk result (full.new.items ≡ full.old.items ++ last.old ∷ []) }
+    ensures last { OnOk result (last.new.items ≡ []) }
+{
+    let mut next = Vec::new(alloc);
+    let _has_room = next.reserve_exact(ROOM);
+    let piece = replace(last, next);
+    full.push(piece)?;
+    Ok(())
 }
 
-impl Model for Pieces {
-    ghost use Rattle.std.specs.Prelude.{ℕ, List, ◌++◌};
+// Appends the lines of an answer to the last piece of a text, or to a new one where it is full.
+fn put_late(
+    alloc: Global,
+    full: &mut Vec<Vec<u8>>,
+    last: &mut Vec<u8>,
+    answer: &Answer,
+) -> Result<(), AllocError>
+    ensures { OnOk result (flat_map (λ piece. piece.items) full.new.items ++ last.new.items
+        ≡ flat_map (λ piece. piece.items) full.old.items ++ last.old.items
+        ++ lines_of_answer (answer_view answer.now)) }
+{
+    if last.len() >= FULL {
+        cut(alloc, full, last)?;
+    }
+    put_answer(last, answer)
+}
+
+// The text of answers, seen as its bytes. It grows in pieces, without a copy. After `FEW_ROWS` rows, which take more
+// memory as text, it keeps the answers, and their text is written at the end.
+#[derive(Drop)]
+struct Text {
+    // the pieces that are full
+    full: Vec<Vec<u8>>,
+    last: Vec<u8>,
+    // the answers whose text follows
+    late: Vec<Answer>,
+    // the rows beyond `SHORT` of the reports written so far
+    rows: usize,
+}
+
+impl Model for Text {
+    ghost use Rattle.std.specs.Prelude.{ℕ, List, [], ◌++◌, ◌≡◌, ◌<◌, length, map};
     ghost use Rattle.std.specs.List.{flat_map};
+    ghost use Rattle.offset_script.specs.Grammar.{text_of};
+    ghost use Rattle.offset_script.specs.Machine.{answer_view};
 
     ghost Value = { List ℕ };
 
-    ghost view = { λ p. flat_map (λ piece. piece.items) p.full.items ++ p.last.items };
+    ghost view = { λ t. flat_map (λ piece. piece.items) t.full.items ++ t.last.items
+        ++ text_of (map answer_view t.late.items) };
+
+    ghost invariant = { λ t. length t.last.items < 49152 → t.late.items ≡ [] };
 }
 
-impl Pieces {
+impl Text {
     // No text.
     fn new(alloc: Global) -> Self
         ensures { result ≡ [] }
     {
-        Pieces {
+        Text {
             full: Vec::new(alloc),
             last: Vec::new(alloc),
+            late: Vec::new(alloc),
+            rows: 0,
         }
-    }
-
-    // Begins a new piece. Where its room is refused, room is made as its text comes.
-    #[cold]
-    fn cut(&mut self, alloc: Global) -> Result<(), AllocError>
-        ensures { OnOk result (self.new ≡ self.old) }
-    {
-        let mut next = Vec::new(alloc);
-        let _has_room = next.reserve_exact(ROOM);
-        let piece = replace(&mut self.last, next);
-        self.full.push(piece)?;
-        Ok(())
     }
 
     // Appends the lines of an answer.
     #[inline(always)]
-    fn put(&mut self, alloc: Global, answer: &Answer) -> Result<(), AllocError>
-        ensures { OnOk result (self.new ≡ self.old ++ lines_of_answer (answer_view answer.now)) }
+    fn put(&mut self, alloc: Global, answer: Answer) -> Result<(), AllocError>
+        ensures { OnOk result (self.new ≡ self.old ++ lines_of_answer (answer_view answer)) }
     {
-        put_answer(&mut self.last, answer)?;
-        if self.last.len() >= FULL {
-            self.cut(alloc)?;
+        if self.last.len() < FULL {
+            if let Answer::Full(rows) = &answer {
+                let more = rows.len().saturating_sub(SHORT);
+                self.rows = self.rows.saturating_add(more);
+            }
+            return put_answer(&mut self.last, &answer);
         }
+        if self.late.is_empty() && self.rows <= FEW_ROWS {
+            cut(alloc, &mut self.full, &mut self.last)?;
+            return put_answer(&mut self.last, &answer);
+        }
+        self.late.push(answer)?;
         Ok(())
     }
 
     // All pieces.
-    fn all(self) -> Result<Vec<Vec<u8>>, AllocError>
+    fn pieces(self, alloc: Global) -> Result<Vec<Vec<u8>>, AllocError>
         ensures { IfOk result (λ pieces. flat_map (λ piece. piece.items) pieces.items ≡ self) }
     {
-        let Pieces { mut full, last } = self;
+        let Text {
+            mut full,
+            mut last,
+            late,
+            rows: _,
+        } = self;
+        for answer in &late {
+            put_late(alloc, &mut full, &mut last, answer)?;
+        }
         full.push(last)?;
         Ok(full)
     }
 }
 
-// Plays commands on an allocator, and returns the text of their answers.
+// Plays commands on an allocator, and returns the text of their answers in pieces.
 fn text_of_commands<T: Tables>(
     alloc: Global,
     size: u32,
@@ -99,13 +152,15 @@ fn text_of_commands<T: Tables>(
     let mut player: PlayerOf<T> = PlayerOf::start(alloc, size, max_allocs)?;
     // A step of the proof, which does nothing, here and below.
     is_well_formed(&player.space);
-    let mut pieces = Pieces::new(alloc);
+    let mut text = Text::new(alloc);
     for command in commands {
         let answer = player.call(alloc, *command)?;
         is_well_formed(&player.space);
-        pieces.put(alloc, &answer)?;
+        text.put(alloc, answer)?;
     }
-    pieces.all()
+    // the space is given back before the rest of the text is written
+    drop(player);
+    text.pieces(alloc)
 }
 
 /// Plays a script on an allocator of its index width, and returns the text of its answers in pieces: a line for each,

@@ -21,5 +21,5 @@ loop-command-preserved g c =
     _ power c.in_ok-answer.ensures in
     record {
       represents = subst (IsAtState c.call.new.self.space c.call.new.self.handles.items) (sym (after_more cs s i _ within)) next.1;
-      so_far = text_more cs s i _ c.loop-command.pieces c.put.new.self (text_of (answers cs s)) _ within c.in_ok-put.ensures next.0 c.loop-command.invariant.so_far;
+      so_far = text_more cs s i _ c.loop-command.text c.put.new.self (text_of (answers cs s)) _ within c.in_ok-put.ensures next.0 c.loop-command.invariant.so_far;
     }

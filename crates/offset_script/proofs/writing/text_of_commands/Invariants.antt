@@ -8,5 +8,5 @@ invariant-loop-command g l =
     let state = after (take l.command-index l.commands) (start l.size l.max_allocs) in
     record {
       represents : IsAtState l.player.space l.player.handles.items state;
-      so_far : l.pieces ++ text_of (answers (drop l.command-index l.commands) state) ≡ text_of (answers l.commands (start l.size l.max_allocs));
+      so_far : l.text ++ text_of (answers (drop l.command-index l.commands) state) ≡ text_of (answers l.commands (start l.size l.max_allocs));
     }
