@@ -164,5 +164,5 @@ EXAMPLES = {
 }
 
 # Attributes and macros that are printed as they are. Any other stops `erase`.
-ATTRIBUTES = {"inline"}
+ATTRIBUTES = {"cold", "inline"}
 MACROS = {"write"}

@@ -23,6 +23,11 @@ impl<T> Vec<T> {
         Ok(())
     }
 
+    /// Makes room for more values, and for no others.
+    pub fn reserve_exact(&mut self, more: usize) -> Result<(), AllocError> {
+        self.0.try_reserve_exact(more).map_err(|_| AllocError)
+    }
+
     /// Appends copies of some values.
     pub fn extend_from_slice(&mut self, values: &[T]) -> Result<(), AllocError>
     where

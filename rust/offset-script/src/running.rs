@@ -7,7 +7,7 @@ use crate::devices::{Sink, Source};
 use crate::faults::RunFault;
 use crate::reading::{MAX_TEXT, parse};
 use crate::scripts::Script;
-use crate::sending::send;
+use crate::sending::send_in_turn;
 use crate::writing::text_of_script;
 use crate::memory::Global;
 
@@ -38,8 +38,12 @@ pub fn read_script<S: Source>(alloc: Global, input: &mut S) -> Result<Script, Ru
     Ok(parse(alloc, &text)?)
 }
 
-/// Reads a script to its end, plays it, writes the text of its answers, and then flushes. The script and the text of all
-/// answers are in memory at once.
+/// Reads a script to its end, plays it, writes the text of its answers, and then flushes.
+///
+/// The script and the text of all answers are in memory at once: the text in pieces of 64 KiB, of which no copy is made,
+/// and the space beside it until the last command is played. Once 4,096 rows are written, beyond the first eight of each
+/// report, the other answers are kept as values in place of their text: 32 bytes each, and 12 to 24 for each row, which
+/// takes 23 to 43 as text. Their text is made when the space is given back.
 ///
 /// Nothing is written unless the whole text is a script; of a text that is too long, 1,048,577 bytes are read. `Read`
 /// is returned exactly where the source failed in this call, and `Write` exactly where the sink did; then a beginning
@@ -47,8 +51,8 @@ pub fn read_script<S: Source>(alloc: Global, input: &mut S) -> Result<Script, Ru
 /// allocation fails, the fault is `Memory`.
 pub fn run<S: Source, K: Sink>(alloc: Global, input: &mut S, output: &mut K) -> Result<(), RunFault> {
     let script = read_script(alloc, input)?;
-    let text = text_of_script(alloc, &script)?;
-    if send(output, &text) {
+    let pieces = text_of_script(alloc, &script)?;
+    if send_in_turn(output, &pieces) {
         Ok(())
     } else {
         Err(RunFault::Write)

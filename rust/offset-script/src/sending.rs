@@ -2,6 +2,7 @@
 
 //! Sends texts to sinks.
 
+use crate::memory::Vec;
 use crate::devices::Sink;
 use crate::faults::RunFault;
 use crate::tokens::{MOST_DIGITS, digits};
@@ -22,6 +23,21 @@ fn push_all<K: Sink>(output: &mut K, text: &[u8]) -> bool {
 /// first failure, and tries nothing again.
 pub fn send<K: Sink>(output: &mut K, text: &[u8]) -> bool {
     push_all(output, text) && output.flush()
+}
+
+// `push_all` of a text in pieces.
+fn push_pieces<K: Sink>(output: &mut K, pieces: &[Vec<u8>]) -> bool {
+    for part in pieces {
+        if !push_all(output, part) {
+            return false;
+        }
+    }
+    true
+}
+
+/// `send` of a text in pieces.
+pub(crate) fn send_in_turn<K: Sink>(output: &mut K, pieces: &[Vec<u8>]) -> bool {
+    push_pieces(output, pieces) && output.flush()
 }
 
 // Appends the pieces of a text in turn, and then flushes. Returns whether all succeeded. It stops at the first failure,

@@ -1,37 +1,133 @@
 // Printed by rust/erase from crates/offset_script/src/writing.rt: change it there.
 
-//! The text of the answers to a script, written while it is played: no list of answers is kept.
+//! The text of the answers to a script, written while it is played: no list of answers is kept, unless full reports have
+//! many rows.
 
 use crate::memory::Vec;
-use crate::answers::put_answer;
+use crate::answers::{Answer, put_answer};
 use crate::playing::PlayerOf;
 use crate::scripts::{Command, IndexWidth, Script};
 use offset_allocator::laws::is_well_formed;
 use offset_allocator::{ByNode, Tables};
 use crate::memory::{AllocError, Global};
+use core::mem::replace;
 
-// Plays commands on an allocator, and returns the text of their answers.
+// The room of a piece of text.
+const ROOM: usize = 65536;
+
+// A piece with this many bytes is full. The lines of one more answer, which has at most 256 rows, fit below `ROOM`.
+const FULL: usize = 49152;
+
+// The text of a report with so many rows takes about as much memory as the report.
+const SHORT: usize = 8;
+
+// The most rows beyond `SHORT` of all reports together that are written while the script is played.
+const FEW_ROWS: usize = 4096;
+
+// Begins a new piece of a text. Where its room is refused, room is made as its text comes.
+#[cold]
+fn cut(alloc: Global, full: &mut Vec<Vec<u8>>, last: &mut Vec<u8>) -> Result<(), AllocError> {
+    let mut next = Vec::new(alloc);
+    let _has_room = next.reserve_exact(ROOM);
+    let piece = replace(last, next);
+    full.push(piece)?;
+    Ok(())
+}
+
+// Appends the lines of an answer to the last piece of a text, or to a new one where it is full.
+fn put_late(
+    alloc: Global,
+    full: &mut Vec<Vec<u8>>,
+    last: &mut Vec<u8>,
+    answer: &Answer,
+) -> Result<(), AllocError> {
+    if last.len() >= FULL {
+        cut(alloc, full, last)?;
+    }
+    put_answer(last, answer)
+}
+
+// The text of answers, seen as its bytes. It grows in pieces, without a copy. After `FEW_ROWS` rows, which take more
+// memory as text, it keeps the answers, and their text is written at the end.
+struct Text {
+    // the pieces that are full
+    full: Vec<Vec<u8>>,
+    last: Vec<u8>,
+    // the answers whose text follows
+    late: Vec<Answer>,
+    // the rows beyond `SHORT` of the reports written so far
+    rows: usize,
+}
+
+impl Text {
+    // No text.
+    fn new(alloc: Global) -> Self {
+        Text {
+            full: Vec::new(alloc),
+            last: Vec::new(alloc),
+            late: Vec::new(alloc),
+            rows: 0,
+        }
+    }
+
+    // Appends the lines of an answer.
+    #[inline(always)]
+    fn put(&mut self, alloc: Global, answer: Answer) -> Result<(), AllocError> {
+        if self.last.len() < FULL {
+            if let Answer::Full(rows) = &answer {
+                let more = rows.len().saturating_sub(SHORT);
+                self.rows = self.rows.saturating_add(more);
+            }
+            return put_answer(&mut self.last, &answer);
+        }
+        if self.late.is_empty() && self.rows <= FEW_ROWS {
+            cut(alloc, &mut self.full, &mut self.last)?;
+            return put_answer(&mut self.last, &answer);
+        }
+        self.late.push(answer)?;
+        Ok(())
+    }
+
+    // All pieces.
+    fn pieces(self, alloc: Global) -> Result<Vec<Vec<u8>>, AllocError> {
+        let Text {
+            mut full,
+            mut last,
+            late,
+            rows: _,
+        } = self;
+        for answer in &late {
+            put_late(alloc, &mut full, &mut last, answer)?;
+        }
+        full.push(last)?;
+        Ok(full)
+    }
+}
+
+// Plays commands on an allocator, and returns the text of their answers in pieces.
 fn text_of_commands<T: Tables>(
     alloc: Global,
     size: u32,
     max_allocs: u32,
     commands: &[Command],
-) -> Result<Vec<u8>, AllocError> {
+) -> Result<Vec<Vec<u8>>, AllocError> {
     let mut player: PlayerOf<T> = PlayerOf::start(alloc, size, max_allocs)?;
     // A step of the proof, which does nothing, here and below.
     is_well_formed(&player.space);
-    let mut out = Vec::new(alloc);
+    let mut text = Text::new(alloc);
     for command in commands {
         let answer = player.call(alloc, *command)?;
         is_well_formed(&player.space);
-        put_answer(&mut out, &answer)?;
+        text.put(alloc, answer)?;
     }
-    Ok(out)
+    // the space is given back before the rest of the text is written
+    drop(player);
+    text.pieces(alloc)
 }
 
-/// Plays a script on an allocator of its index width, and returns the text of its answers: a line for each, and after
-/// the line of a full report one for each of its rows. It fails only where an allocation fails.
-pub(crate) fn text_of_script(alloc: Global, script: &Script) -> Result<Vec<u8>, AllocError> {
+/// Plays a script on an allocator of its index width, and returns the text of its answers in pieces: a line for each,
+/// and after the line of a full report one for each of its rows. It fails only where an allocation fails.
+pub(crate) fn text_of_script(alloc: Global, script: &Script) -> Result<Vec<Vec<u8>>, AllocError> {
     let commands = &script.commands;
     match script.index {
         IndexWidth::Bits16 => {
