@@ -1,5 +1,5 @@
 -- The lines of steps of a picture, and the marks below its axis. Lengths are in hundredths of a pixel.
-use Rattle.std.specs.Prelude.{◌≡◌, ℕ, ◌+◌, List, [], ◌∷◌, ◌++◌, EachIndex, codes, flat_map, map, max, min, nat_eq, slice_index, if◌then◌else◌}
+use Rattle.std.specs.Prelude.{◌≡◌, ℕ, ◌+◌, List, [], ◌∷◌, ◌++◌, EachIndex, codes, flat_map, length, map, max, min, nat_eq, slice_index, if◌then◌else◌}
 use Rattle.offset_lives.specs.declared.axes.Axis.{Axis}
 use Rattle.offset_lives.specs.declared.course.Course.{Course}
 use Rattle.offset_lives.specs.declared.plots.Plot.{Plot}
@@ -83,3 +83,8 @@ mark_text height place = codes "M" ++ pixels_text place ++ codes " " ++ pixels_t
 -- the marks of these calls, which are counted from 0: one for neighbours at one place
 abbrev pub marks_text : Axis → ℕ → List ℕ → List ℕ
 marks_text calls height marked = flat_map (mark_text height) (one_of_each (map (λ call. place_of calls (counted_from_1 call)) marked))
+
+-- the marks of refused calls as an element, from the lower end of the plot down; where there are none, nothing
+abbrev pub refusals_text : Plot → List ℕ → List ℕ
+refusals_text p refused =
+    if nat_eq (length refused) 0 then [] else codes "<path class='refusal' d='" ++ marks_text p.calls (p.units.start + p.units.span) refused ++ codes "'/>\n"

@@ -3,7 +3,7 @@
 ghost use Rattle.std.specs.Prelude.{◌≡◌, ◌≤◌, ◌++◌, All, IfOk, OnOk, length, map, string_bytes};
 ghost use Rattle.offset_lives.specs.Drawing.{IsPicture};
 ghost use Rattle.offset_lives.specs.Lives.{IsOrdered, life_view};
-ghost use Rattle.offset_lives.specs.Steps.{ArePlaces, beyond_text, reports_text};
+ghost use Rattle.offset_lives.specs.Steps.{ArePlaces, beyond_text, refusals_text, reports_text};
 
 use crate::course::{Course, course_of};
 use crate::figures::figures_of;
@@ -30,6 +30,20 @@ fn put_beyond(
         ≡ string_bytes out.old ++ beyond_text plot.now course.now) }
 {
     put_line(out, "out", plot, plot.units.start, &course.sizes, places)
+}
+
+// The marks of the calls that were refused, below the plot, if there are any.
+fn put_refusals(out: &mut String, plot: &Plot, refused: &[usize]) -> Result<(), AllocError>
+    ensures { OnOk result (string_bytes out.new
+        ≡ string_bytes out.old ++ refusals_text plot.now refused.now) }
+{
+    if refused.is_empty() {
+        return Ok(());
+    }
+    write!(out, "<path class='refusal' d='")?;
+    put_marks(out, &plot.calls, plot.bottom(), refused)?;
+    writeln!(out, "'/>")?;
+    Ok(())
 }
 
 // The free units, before them what the largest free region would be without fragmentation, and before both what it is.
@@ -67,11 +81,7 @@ fn body(alloc: Global, course: &Course) -> Result<String, AllocError>
     put_beyond(&mut out, &ranges, course, &places)?;
     ranges.put_axes(&mut out, 6, 12)?;
     let merged = put_grants(alloc, &mut out, &ranges, &course.lives, figures.calls)?;
-    if figures.refusals > 0 {
-        write!(out, "<path class='refusal' d='")?;
-        put_marks(&mut out, &ranges.calls, ranges.bottom(), &course.refused)?;
-        writeln!(out, "'/>")?;
-    }
+    put_refusals(&mut out, &ranges, &course.refused)?;
     put_reports(alloc, &mut out, &reports, course, &places)?;
     reports.put_axes(&mut out, 4, 12)?;
     put_notes(&mut out, merged)?;
