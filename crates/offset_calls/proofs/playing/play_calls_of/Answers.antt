@@ -1,5 +1,5 @@
 use Rattle.offset_calls.proofs.Common.{◌≡◌, ◌+◌, ◌<◌, ◌≤◌, ℕ, List, [], ◌∷◌, ◌++◌, map, take, drop, length, get_or, refl, sym, ap, subst, ◌∙◌, arith, IsTrue, add-one, append-nil, append_assoc}
-use Rattle.offset_calls.proofs.Common.{drop-cons, map-append, take_more, take_all, drop_all, State, start, Call, Reply, after, is_valid, replies, reply_view, step, Takes, rules}
+use Rattle.offset_calls.proofs.Common.{drop-cons, map-append, take_more, take_all, drop_all, State, start, Call, Reply, after, is_valid, replies, reply_view, step, Takes}
 use Rattle.std.proofs.lemmas.List.Elements.{All-get_or}
 use Rattle.offset_script.proofs.{Agreement.IsAtState, Simulation.all_live, Simulation.fresh_represents, Simulation.run_begins, Simulation.run_goes_on, Simulation.run_ends, Well.well_start}
 use Rattle.offset_calls.proofs.{Kept.next_call, Kept.numbers_begin, Kept.numbers_next, Followed.follows, Followed.well_calls, Compacted.all_kept}
