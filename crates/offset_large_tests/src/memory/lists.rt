@@ -21,37 +21,45 @@ const CALLS: [Call; 7] = [
 // The replies to these calls in a space of 100 units, worked out by hand: range 2 moves from 10 to 0, and 92 units are
 // free in the end, of the class of 88.
 fn are_right(replies: &[Reply]) -> bool {
-    let [
-        Reply::Answer(
-            Answer::Grant {
-                number: 1,
-                offset: 0,
-            },
-        ),
-        Reply::Answer(
-            Answer::Grant {
-                number: 2,
-                offset: 10,
-            },
-        ),
-        Reply::Answer(Answer::Freed),
-        Reply::Compacted(moves),
-        Reply::Offset(0),
-        Reply::Resized,
-        Reply::Answer(Answer::Full(rows)),
-    ] = replies
-    else {
+    let [first, second, freed, compacted, offset, shrunk, full] = replies else {
         return false;
     };
+    is_grant(first, 1, 0)
+        && is_grant(second, 2, 10)
+        && matches!(freed, Reply::Answer(Answer::Freed))
+        && are_moved(compacted)
+        && matches!(offset, Reply::Offset(0))
+        && matches!(shrunk, Reply::Resized)
+        && is_one_row(full)
+}
+
+fn is_grant(reply: &Reply, wanted: u64, at: u32) -> bool {
+    match reply {
+        Reply::Answer(Answer::Grant { number, offset }) => *number == wanted && *offset == at,
+        _ => false,
+    }
+}
+
+fn are_moved(reply: &Reply) -> bool {
     let moved = Moved {
         number: 2,
         from: 10,
         to: 0,
         size: 20,
     };
-    moves.as_slice() == [moved].as_slice()
-        && rows.iter().all(|row| row.size == 88 && row.count == 1)
-        && rows.len() == 1
+    match reply {
+        Reply::Compacted(moves) => moves.as_slice() == [moved].as_slice(),
+        _ => false,
+    }
+}
+
+fn is_one_row(reply: &Reply) -> bool {
+    match reply {
+        Reply::Answer(Answer::Full(rows)) => {
+            rows.len() == 1 && rows.iter().all(|row| row.size == 88 && row.count == 1)
+        }
+        _ => false,
+    }
 }
 
 #[derive(Drop)]
