@@ -16,6 +16,8 @@ mod Quieter
 mod Ranges
 mod Seen
 mod Stepped
+mod Texts
+mod Ticked
 mod Watched
 mod Whole
 mod Written

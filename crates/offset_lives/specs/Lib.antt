@@ -4,6 +4,7 @@ pub mod Drawing
 pub mod Ends
 pub mod Figures
 pub mod Growth
+pub mod Legend
 pub mod Levels
 pub mod Lives
 pub mod Marks
@@ -13,4 +14,5 @@ pub mod Quiet
 pub mod Rectangles
 pub mod Reports
 pub mod Steps
+pub mod Ticks
 pub mod Titles

@@ -1,8 +1,9 @@
 //! The two plots: where they are, and their axes with round numbers.
 
-ghost use Rattle.std.specs.Prelude.{◌≡◌, ◌≤◌, ◌+◌};
+ghost use Rattle.std.specs.Prelude.{◌≡◌, ◌≤◌, ◌+◌, ◌++◌, OnOk, string_bytes};
 ghost use Rattle.offset_lives.specs.Figures.{counted};
 ghost use Rattle.offset_lives.specs.Places.{IsAxis, ranges_end, reports_end};
+ghost use Rattle.offset_lives.specs.Ticks.{axes_text, calls_text, units_text};
 
 use crate::axes::{Axis, round_step};
 use crate::figures::Figures;
@@ -88,6 +89,7 @@ impl Plot {
     // The lines across at round numbers of units, with these numbers.
     fn put_units(&self, out: &mut String, count: u8) -> Result<(), AllocError>
         requires { 3 ≤ count }
+        ensures { OnOk result (string_bytes out.new ≡ string_bytes out.old ++ units_text self.now count) }
     {
         let step = u64::from(round_step(self.units.most, count));
         let left = Pixels(self.calls.start);
@@ -113,6 +115,7 @@ impl Plot {
     // The marks below at round numbers of calls, with these numbers.
     fn put_calls(&self, out: &mut String, count: u8) -> Result<(), AllocError>
         requires { 3 ≤ count }
+        ensures { OnOk result (string_bytes out.new ≡ string_bytes out.old ++ calls_text self.now count) }
     {
         let step = u64::from(round_step(self.calls.most, count));
         let bottom = Pixels(self.bottom());
@@ -137,6 +140,7 @@ impl Plot {
     pub fn put_axes(&self, out: &mut String, lines: u8, marks: u8) -> Result<(), AllocError>
         requires lines { 3 ≤ lines }
         requires marks { 3 ≤ marks }
+        ensures { OnOk result (string_bytes out.new ≡ string_bytes out.old ++ axes_text self.now lines marks) }
     {
         self.put_units(out, lines)?;
         self.put_calls(out, marks)
