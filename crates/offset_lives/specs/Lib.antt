@@ -9,7 +9,9 @@ pub mod Levels
 pub mod Lives
 pub mod Marks
 pub mod Merging
+pub mod Picture
 pub mod Places
+pub mod Program
 pub mod Quiet
 pub mod Rectangles
 pub mod Reports

@@ -84,6 +84,7 @@ fn growth(
 
 /// Plays a script, without its full reports, and returns its course.
 pub fn course_of(alloc: Global, script: &Script) -> Result<Course, AllocError>
+    ensures limit { IfOk result (λ c. c.max_allocs ≡ script.now.max_allocs) }
     ensures lives { IfOk result
         (λ c. map life_view c.lives.items
         ≡ lives_of script.now.size script.now.max_allocs script.now.commands.items) }

@@ -1,8 +1,9 @@
 //! The picture of a script.
 
 ghost use Rattle.std.specs.Prelude.{◌≡◌, ◌≤◌, ◌++◌, All, IfOk, OnOk, length, map, string_bytes};
-ghost use Rattle.offset_lives.specs.Drawing.{IsPicture};
 ghost use Rattle.offset_lives.specs.Lives.{IsOrdered, life_view};
+ghost use Rattle.offset_lives.specs.Picture.{IsBody, IsPicture, IsPictureOf};
+ghost use Rattle.offset_script.specs.Running.{view};
 ghost use Rattle.offset_lives.specs.Steps.{ArePlaces, beyond_text, refusals_text, reports_text};
 
 use crate::course::{Course, course_of};
@@ -69,6 +70,7 @@ fn put_reports(
 // What a picture holds after its heading.
 fn body(alloc: Global, course: &Course) -> Result<String, AllocError>
     requires { All IsOrdered (map life_view course.now.lives.items) }
+    ensures { IfOk result (λ text. IsBody course.now (string_bytes text)) }
 {
     let figures = figures_of(alloc, course)?;
     let ranges = ranges_plot(&figures);
@@ -91,7 +93,7 @@ fn body(alloc: Global, course: &Course) -> Result<String, AllocError>
 /// The picture of a course, as SVG, with this title.
 pub fn picture_of(alloc: Global, title: &str, course: &Course) -> Result<String, AllocError>
     requires { All IsOrdered (map life_view course.now.lives.items) }
-    ensures { IfOk result (λ text. IsPicture title.now (string_bytes text)) }
+    ensures { IfOk result (λ text. IsPictureOf title.now course.now (string_bytes text)) }
 {
     let body = body(alloc, course)?;
     let mut out = String::from_str(alloc, OPENING)?;
@@ -114,9 +116,9 @@ pub fn picture_of(alloc: Global, title: &str, course: &Course) -> Result<String,
 /// In the title a space takes the place of each line end and tab, and of each character that XML 1.0 forbids. It fails
 /// only where an allocation fails.
 pub fn picture(alloc: Global, title: &str, script: &Script) -> Result<String, AllocError>
-    // The text begins with the tag of an SVG and the title, has the title as its heading, and ends with `</svg>` and a
-    // line end.
-    ensures { IfOk result (λ text. IsPicture title.now (string_bytes text)) }
+    // All of the text: the tag of an SVG, the title, the style, the title as heading, and what is drawn of the course of
+    // the script, whose lives, reports, sizes and refusals are those of the plain machine.
+    ensures { IfOk result (λ text. IsPicture title.now (view script.now) (string_bytes text)) }
 {
     picture_of(alloc, title, &course_of(alloc, script)?)
 }

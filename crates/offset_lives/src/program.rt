@@ -1,7 +1,7 @@
 //! What a program that draws does: a picture, its status, and the line of its fault.
 
 ghost use Rattle.std.specs.Prelude.{◌≡◌, ◌≢◌, Result, Err, true, IfErr, IfSome, MatchResult, OnOk, if◌then◌else◌};
-ghost use Rattle.offset_lives.specs.Drawing.{DrawOf};
+ghost use Rattle.offset_lives.specs.Program.{DrawOf};
 ghost use Rattle.offset_script.specs.declared.faults.RunFault.{RunFault};
 ghost use Rattle.offset_script.specs.declared.faults.RunFault.TheVariants as faults;
 ghost use Rattle.offset_script.specs.declared.faults.ScriptFault.TheVariants as scripts;
