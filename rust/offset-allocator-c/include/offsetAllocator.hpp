@@ -4,13 +4,23 @@
 //     OffsetAllocator::Allocation mesh = vertices.allocate(3000);    // mesh.offset is its first vertex
 //     vertices.free(mesh);
 //
+// Allocator is the original's class, with handles of 8 bytes: a second free of mesh is refused as long as no later grant
+// has its name, and then frees that grant. GuardedAllocator refuses it always, with tickets of 16 bytes; new code is to
+// take that one:
+//
+//     OffsetAllocator::GuardedAllocator vertices(1 << 20);
+//     OffsetAllocator::Ticket mesh = vertices.allocate(3000);    // vertices.offsetOf(mesh) is its first vertex
+//     vertices.free(mesh);
+//
 // offset_allocator.h says of each call what it does, its errors and its cost; only what is particular to C++ is said
 // here. No call throws. C++11 or later.
 #pragma once
 
 #include "offset_allocator.h"
 
+#include <cstddef>
 #include <cstdint>
+#include <iterator>
 #if defined(__cpp_exceptions) || defined(__EXCEPTIONS) || defined(_CPPUNWIND)
 #define OFFSET_ALLOCATOR_EXCEPTIONS 1
 #include <exception>
@@ -60,7 +70,7 @@ struct StorageReportFull {
     Region freeRegions[NUM_LEAF_BINS];
 };
 
-enum class Refusal { granted, nodes, tooLarge, space, fragmented, badCall };
+enum class Refusal { granted, nodes, tooLarge, space, fragmented, badCall, serials };
 
 struct Move {
     uint32 from;
@@ -74,6 +84,120 @@ struct Block {
     uint32 offset;
     uint32 size;
     Allocation allocation;
+};
+
+namespace detail {
+
+inline Allocation of(oa_allocation from) {
+    Allocation allocation;
+    allocation.offset = from.offset;
+    allocation.metadata = from.metadata;
+    return allocation;
+}
+
+inline Block of(const oa_block &from) { return Block{from.kind == OA_USED, from.offset, from.size, of(from.allocation)}; }
+
+inline oa_allocation in(Allocation allocation) { return {allocation.offset, allocation.metadata}; }
+
+inline StorageReport of(oa_report report) { return {report.total_free_space, report.largest_free_region}; }
+
+inline StorageReportFull of(const oa_report_full &from) {
+    StorageReportFull report;
+    for (uint32 i = 0; i < NUM_LEAF_BINS; i++) report.freeRegions[i] = {from.free_regions[i].size, from.free_regions[i].count};
+    return report;
+}
+
+// Calls a function with each block of a list.
+template <class F> bool each(oa_blocks *blocks, F &seen) {
+    struct Listed {
+        oa_blocks *blocks;
+        ~Listed() { oa_blocks_drop(blocks); }
+    } listed = {blocks};
+    if (!listed.blocks) return false;
+    for (;;) {
+        oa_block block = oa_blocks_next(listed.blocks);
+        if (block.kind == OA_END) return true;
+        seen(of(block));
+    }
+}
+
+// What is called with each move.
+template <class F> struct Moving {
+    F &moved;
+    explicit Moving(F &f) : moved(f) {}
+#ifdef OFFSET_ALLOCATOR_EXCEPTIONS
+    std::exception_ptr thrown;
+
+    static void call(void *user, oa_move range) {
+        Moving &moving = *static_cast<Moving *>(user);
+        if (moving.thrown) return;
+        try {
+            moving.moved(Move{range.from, range.to, range.size, of(range.allocation)});
+        } catch (...) {
+            moving.thrown = std::current_exception();
+        }
+    }
+
+    void finish() {
+        if (thrown) std::rethrow_exception(thrown);
+    }
+#else
+    static void call(void *user, oa_move range) {
+        static_cast<Moving *>(user)->moved(Move{range.from, range.to, range.size, of(range.allocation)});
+    }
+
+    void finish() {}
+#endif
+};
+
+} // namespace detail
+
+// The blocks of a space, from its end to its start, for a loop: for (Block block : a.blocks()). It takes no memory, and
+// the loop may end early. The allocator may not be changed in the loop; eachBlock is for that.
+class Blocks {
+public:
+    class iterator {
+    public:
+        typedef std::input_iterator_tag iterator_category;
+        typedef Block value_type;
+        typedef std::ptrdiff_t difference_type;
+        typedef const Block *pointer;
+        typedef const Block &reference;
+
+        iterator() : walk(), block(), end(true) {}
+        const Block &operator*() const { return block; }
+        const Block *operator->() const { return &block; }
+        iterator &operator++() {
+            oa_block next = oa_walk_next(&walk);
+            end = next.kind == OA_END;
+            block = detail::of(next);
+            return *this;
+        }
+        iterator operator++(int) {
+            iterator before = *this;
+            ++*this;
+            return before;
+        }
+        // Only whether they are at the end counts.
+        friend bool operator==(const iterator &a, const iterator &b) { return a.end == b.end; }
+        friend bool operator!=(const iterator &a, const iterator &b) { return a.end != b.end; }
+
+    private:
+        friend class Blocks;
+        explicit iterator(const oa_walk &start) : walk(start), block(), end(false) { ++*this; }
+        oa_walk walk;
+        Block block;
+        bool end;
+    };
+
+    iterator begin() const { return iterator(start); }
+    iterator end() const { return iterator(); }
+
+private:
+    friend class Allocator;
+    friend class GuardedAllocator;
+    explicit Blocks(const oa_walk &walk) : start(walk) {}
+    oa_walk start;
 };
 
 class Allocator {
@@ -106,39 +230,38 @@ public:
     void reset() { oa_reset(space); }
 
     // Where it is refused, both parts are NO_SPACE.
-    Allocation allocate(uint32 size) { return of(oa_allocate(space, size)); }
-    Allocation allocateAligned(uint32 size, uint32 align) { return of(oa_allocate_aligned(space, size, align)); }
+    Allocation allocate(uint32 size) { return detail::of(oa_allocate(space, size)); }
+    Allocation allocateAligned(uint32 size, uint32 align) { return detail::of(oa_allocate_aligned(space, size, align)); }
 
     // Whether the allocation was live; if not, nothing changes.
-    bool free(Allocation allocation) { return oa_free(space, in(allocation)); }
+    bool free(Allocation allocation) { return oa_free(space, detail::in(allocation)); }
 
-    bool isLive(Allocation allocation) const { return oa_is_live(space, in(allocation)); }
-    uint32 allocationSize(Allocation allocation) const { return oa_allocation_size(space, in(allocation)); }
-    uint32 allocationOffset(Allocation allocation) const { return oa_allocation_offset(space, in(allocation)); }
-    bool shrink(Allocation allocation, uint32 size) { return oa_shrink(space, in(allocation), size); }
-    bool growInPlace(Allocation allocation, uint32 size) { return oa_grow_in_place(space, in(allocation), size); }
+    bool isLive(Allocation allocation) const { return oa_is_live(space, detail::in(allocation)); }
+    uint32 allocationSize(Allocation allocation) const { return oa_allocation_size(space, detail::in(allocation)); }
+    uint32 allocationOffset(Allocation allocation) const { return oa_allocation_offset(space, detail::in(allocation)); }
+    bool shrink(Allocation allocation, uint32 size) { return oa_shrink(space, detail::in(allocation), size); }
+    bool growInPlace(Allocation allocation, uint32 size) { return oa_grow_in_place(space, detail::in(allocation), size); }
     bool extend(uint32 more) { return oa_extend(space, more); }
 
     // Calls moved(Move) for each range that moves. An exception of it goes on to the caller when all ranges have moved;
     // after it, moved is not called again.
     template <class F> void compact(F &&moved) {
-        Moving<F> each(moved);
-        oa_compact(space, Moving<F>::call, &each);
+        detail::Moving<F> each(moved);
+        oa_compact(space, detail::Moving<F>::call, &each);
         each.finish();
     }
 
-    // Calls seen(Block) for each block, from the start of the space. False where memory is out.
+    // Calls seen(Block) for each block, from the start of the space to its end, of a list that is made first: seen may
+    // change the allocator. False where memory for the list is out.
     template <class F> bool eachBlock(F &&seen) const {
-        struct Listed {
-            oa_blocks *blocks;
-            ~Listed() { oa_blocks_drop(blocks); }
-        } listed = {oa_blocks_new(space)};
-        if (!listed.blocks) return false;
-        for (;;) {
-            oa_block block = oa_blocks_next(listed.blocks);
-            if (block.kind == OA_END) return true;
-            seen(Block{block.kind == OA_USED, block.offset, block.size, of(block.allocation)});
-        }
+        return detail::each(oa_blocks_new(space), seen);
+    }
+
+    // The blocks, for a loop.
+    Blocks blocks() const {
+        oa_walk walk;
+        oa_walk_start(space, &walk);
+        return Blocks(walk);
     }
 
     uint32 size() const { return oa_size(space); }
@@ -146,65 +269,127 @@ public:
     uint32 blockCount() const { return oa_block_count(space); }
     bool isFull() const { return oa_is_full(space); }
 
-    StorageReport storageReport() const {
-        oa_report report = oa_storage_report(space);
-        return {report.total_free_space, report.largest_free_region};
-    }
-
-    StorageReportFull storageReportFull() const {
-        oa_report_full from = oa_storage_report_full(space);
-        StorageReportFull report;
-        for (uint32 i = 0; i < NUM_LEAF_BINS; i++) report.freeRegions[i] = {from.free_regions[i].size, from.free_regions[i].count};
-        return report;
-    }
-
+    StorageReport storageReport() const { return detail::of(oa_storage_report(space)); }
+    StorageReportFull storageReportFull() const { return detail::of(oa_storage_report_full(space)); }
     Refusal refusal(uint32 size) const { return Refusal(oa_refusal(space, size)); }
     Refusal refusalAligned(uint32 size, uint32 align) const { return Refusal(oa_refusal_aligned(space, size, align)); }
 
 private:
     oa_allocator *space;
-
-    static Allocation of(oa_allocation from) {
-        Allocation allocation;
-        allocation.offset = from.offset;
-        allocation.metadata = from.metadata;
-        return allocation;
-    }
-
-    static oa_allocation in(Allocation allocation) { return {allocation.offset, allocation.metadata}; }
-
-    template <class F> struct Moving {
-        F &moved;
-        explicit Moving(F &f) : moved(f) {}
-#ifdef OFFSET_ALLOCATOR_EXCEPTIONS
-        std::exception_ptr thrown;
-
-        static void call(void *user, oa_move range) {
-            Moving &moving = *static_cast<Moving *>(user);
-            if (moving.thrown) return;
-            try {
-                moving.moved(Move{range.from, range.to, range.size, of(range.allocation)});
-            } catch (...) {
-                moving.thrown = std::current_exception();
-            }
-        }
-
-        void finish() {
-            if (thrown) std::rethrow_exception(thrown);
-        }
-#else
-        static void call(void *user, oa_move range) {
-            static_cast<Moving *>(user)->moved(Move{range.from, range.to, range.size, of(range.allocation)});
-        }
-
-        void finish() {}
-#endif
-    };
 };
 
 inline void swap(Allocator &a, Allocator &b) noexcept { a.swap(b); }
 
+// A granted range of a GuardedAllocator, for as long as the grant lives.
+struct Ticket {
+    uint64_t serial = 0;
+    uint32 name = Allocation::NO_SPACE;
+    uint32 realm = 0;
+
+    // Whether a request was granted; isLive says whether the range still is.
+    explicit operator bool() const { return serial != 0; }
+};
+
+inline bool operator==(Ticket a, Ticket b) { return a.serial == b.serial && a.name == b.name && a.realm == b.realm; }
+inline bool operator!=(Ticket a, Ticket b) { return !(a == b); }
+
+// An allocator whose tickets cannot be stale: a ticket is live exactly until its grant is freed or reset. Every call takes
+// any ticket, and one that is not live changes nothing. It refuses the tickets of an allocator with another realm.
+class GuardedAllocator {
+public:
+    // Where memory is out, or the limit is not 2 to 4294967293, it is empty: every request is refused.
+    explicit GuardedAllocator(uint32 size, uint32 maxAllocs = 128 * 1024, uint32 realm = 0) noexcept
+        : space(oag_new(size, maxAllocs, realm)) {}
+
+    // What is moved from is empty; a move to itself changes nothing.
+    GuardedAllocator(GuardedAllocator &&other) noexcept : space(other.space) { other.space = nullptr; }
+    GuardedAllocator &operator=(GuardedAllocator &&other) noexcept {
+        if (this != &other) {
+            oag_drop(space);
+            space = other.space;
+            other.space = nullptr;
+        }
+        return *this;
+    }
+    void swap(GuardedAllocator &other) noexcept {
+        oag_allocator *mine = space;
+        space = other.space;
+        other.space = mine;
+    }
+    GuardedAllocator(const GuardedAllocator &) = delete;
+    GuardedAllocator &operator=(const GuardedAllocator &) = delete;
+    ~GuardedAllocator() { oag_drop(space); }
+
+    // Whether it has a space.
+    explicit operator bool() const noexcept { return space != nullptr; }
+
+    void reset() { oag_reset(space); }
+
+    // Where it is refused, the ticket converts to false.
+    Ticket allocate(uint32 size) { return of(oag_allocate(space, size)); }
+    Ticket allocateAligned(uint32 size, uint32 align) { return of(oag_allocate_aligned(space, size, align)); }
+
+    // Whether the ticket was live; if not, nothing changes.
+    bool free(Ticket ticket) { return oag_free(space, in(ticket)); }
+
+    bool isLive(Ticket ticket) const { return oag_is_live(space, in(ticket)); }
+    uint32 sizeOf(Ticket ticket) const { return oag_size_of(space, in(ticket)); }
+    uint32 offsetOf(Ticket ticket) const { return oag_offset_of(space, in(ticket)); }
+    bool shrink(Ticket ticket, uint32 size) { return oag_shrink(space, in(ticket), size); }
+    bool growInPlace(Ticket ticket, uint32 size) { return oag_grow_in_place(space, in(ticket), size); }
+    bool extend(uint32 more) { return oag_extend(space, more); }
+
+    // The ticket of the allocation of a block or of a move; it converts to false where that is not live.
+    Ticket ticketOf(Allocation allocation) const { return of(oag_ticket_of(space, detail::in(allocation))); }
+
+    // As those of Allocator.
+    template <class F> void compact(F &&moved) {
+        detail::Moving<F> each(moved);
+        oag_compact(space, detail::Moving<F>::call, &each);
+        each.finish();
+    }
+    template <class F> bool eachBlock(F &&seen) const { return detail::each(oag_blocks_new(space), seen); }
+    Blocks blocks() const {
+        oa_walk walk;
+        oag_walk_start(space, &walk);
+        return Blocks(walk);
+    }
+    uint32 size() const { return oag_size(space); }
+    uint32 maxAllocs() const { return oag_max_allocs(space); }
+    uint32 blockCount() const { return oag_block_count(space); }
+    bool isFull() const { return oag_is_full(space); }
+    StorageReport storageReport() const { return detail::of(oag_storage_report(space)); }
+    StorageReportFull storageReportFull() const { return detail::of(oag_storage_report_full(space)); }
+    Refusal refusal(uint32 size) const { return Refusal(oag_refusal(space, size)); }
+    Refusal refusalAligned(uint32 size, uint32 align) const { return Refusal(oag_refusal_aligned(space, size, align)); }
+
+    bool isSpent() const { return oag_is_spent(space); }
+    uint32 realm() const { return oag_realm(space); }
+
+private:
+    oag_allocator *space;
+
+    static Ticket of(oag_ticket from) {
+        Ticket ticket;
+        ticket.serial = from.serial;
+        ticket.name = from.name;
+        ticket.realm = from.realm;
+        return ticket;
+    }
+
+    static oag_ticket in(Ticket ticket) { return {ticket.serial, ticket.name, ticket.realm}; }
+};
+
+inline void swap(GuardedAllocator &a, GuardedAllocator &b) noexcept { a.swap(b); }
+
 // The smallest size of a fresh space that grants a request of this size; 0 above 4026531840.
 inline uint32 minAllocatorSize(uint32 size) { return oa_min_allocator_size(size); }
+
+// The size classes, by the names of the original.
+namespace SmallFloat {
+inline uint32 uintToFloatRoundUp(uint32 size) { return oa_uint_to_float_round_up(size); }
+inline uint32 uintToFloatRoundDown(uint32 size) { return oa_uint_to_float_round_down(size); }
+inline uint32 floatToUint(uint32 floatValue) { return oa_float_to_uint(floatValue); }
+} // namespace SmallFloat
 
 } // namespace OffsetAllocator

@@ -5,6 +5,9 @@
  *     oa_free(vertices, mesh);
  *     oa_drop(vertices);
  *
+ * A second oa_free of mesh is refused as long as no later grant has its name, and then frees that grant. The calls oag_*
+ * have tickets of 16 bytes in place of handles, for which it is always refused.
+ *
  * A space has units: bytes, vertices, rows. It is never touched. A block is a run of units, live or free; no two free
  * blocks are neighbours. Each block has a node, whose number is its name.
  *
@@ -93,6 +96,11 @@ typedef struct oa_block {
     oa_allocation allocation;
 } oa_block;
 
+/* A walk over the blocks of a space, in memory of yours. What is in it is not to be read or changed; all 0 it has ended. */
+typedef struct oa_walk {
+    uint64_t state[4];
+} oa_walk;
+
 /* A list of blocks. */
 typedef struct oa_blocks oa_blocks;
 
@@ -177,6 +185,21 @@ oa_reason oa_refusal_aligned(const oa_allocator *space, uint32_t size, uint32_t 
 /* The smallest size of a fresh space that grants a request of this size; 0 above 4026531840, where none does. */
 uint32_t oa_min_allocator_size(uint32_t size);
 
+/* The size classes of the original's SmallFloat: the smallest class whose value is at least `size` (240, which no block
+ * has, above 4026531840), the largest whose value is at most `size`, and the value of a class: of those from 240 on the
+ * low 32 bits; 0 from 256 on. */
+uint32_t oa_uint_to_float_round_up(uint32_t size);
+uint32_t oa_uint_to_float_round_down(uint32_t size);
+uint32_t oa_float_to_uint(uint32_t class_of_size);
+
+/* Starts a walk over all blocks, from the end of the space to its start, with oa_walk_next. It takes no memory, and can
+ * be left at any block. No call may change or drop the space before the last oa_walk_next. Of a null allocator it has
+ * ended. */
+void oa_walk_start(const oa_allocator *space, oa_walk *walk);
+
+/* The next block of a walk; after the last one, and for null, of kind OA_END. At most 5 accesses. */
+oa_block oa_walk_next(oa_walk *walk);
+
 /* Lists all blocks, for oa_blocks_next. The list stays as it is when the space changes. Null where memory is out, or the
  * allocator is null. Cost: 20 bytes and 5 accesses a block. */
 oa_blocks *oa_blocks_new(const oa_allocator *space);
@@ -242,11 +265,31 @@ bool oag_extend(oag_allocator *space, uint32_t more);
 /* As oa_compact. Tickets stay live; metadata of a move is the name in the ticket. */
 void oag_compact(oag_allocator *space, void (*moved)(void *user, oa_move range), void *user);
 
-/* As oa_storage_report. */
+/* As the calls oa_* of these names. */
+uint32_t oag_size(const oag_allocator *space);
+uint32_t oag_max_allocs(const oag_allocator *space);
+uint32_t oag_block_count(const oag_allocator *space);
+bool oag_is_full(const oag_allocator *space);
 oa_report oag_storage_report(const oag_allocator *space);
+oa_report_full oag_storage_report_full(const oag_allocator *space);
 
-/* Why oag_allocate would be refused now. */
+/* Whether all serials are given, after 18446744073709551615 grants, so that every request is refused; true for null. */
+bool oag_is_spent(const oag_allocator *space);
+
+/* The realm of its tickets; 0 for null. */
+uint32_t oag_realm(const oag_allocator *space);
+
+/* Why oag_allocate and oag_allocate_aligned would be refused now. */
 oa_reason oag_refusal(const oag_allocator *space, uint32_t size);
+oa_reason oag_refusal_aligned(const oag_allocator *space, uint32_t size, uint32_t align);
+
+/* As oa_walk_start and oa_blocks_new, for oa_walk_next, oa_blocks_next and oa_blocks_drop. A block has a handle, which
+ * oag_ticket_of makes a ticket. */
+void oag_walk_start(const oag_allocator *space, oa_walk *walk);
+oa_blocks *oag_blocks_new(const oag_allocator *space);
+
+/* The ticket of a handle that a block or a move has; the serial is 0 where it is not live. At most 16 accesses. */
+oag_ticket oag_ticket_of(const oag_allocator *space, oa_allocation allocation);
 
 #ifdef __cplusplus
 }

@@ -7,10 +7,12 @@
 #![deny(unsafe_code)]
 
 use core::ffi::c_void;
+use core::mem::MaybeUninit;
 use core::ptr::NonNull;
 
 use offset_allocator_guarded::{Guarded, Ticket};
 use offset_allocator_proved::ext::min_allocator_size;
+use offset_allocator_proved::small_float::{float_to_uint, uint_to_float_round_down, uint_to_float_round_up};
 use offset_allocator_proved::{Allocation, Allocator, Global, Move, Refusal};
 
 /// The value of a missing offset or name.
@@ -103,6 +105,14 @@ pub struct Block {
 /// Blocks that were listed, the next one last.
 pub type Blocks = [Vec<Block>; 1];
 
+/// A walk over the blocks of a space, in memory of the caller: `oa_walk` in the header. All zero it is at its end.
+pub struct Walk<'a> {
+    left: Option<offset_allocator_proved::Blocks<'a>>,
+}
+
+// the header gives it 4 numbers of 64 bits
+const _: () = assert!(size_of::<Walk>() <= 32 && align_of::<Walk>() <= align_of::<u64>());
+
 const NOTHING: Handle = Handle { offset: NO_SPACE, metadata: NO_SPACE };
 
 fn handle(allocation: Option<Allocation>) -> Handle {
@@ -131,6 +141,40 @@ fn live(space: &Allocator, handle: Handle) -> Option<Allocation> {
     Allocation::from_parts(handle.offset, handle.metadata).filter(|allocation| space.is_live(*allocation))
 }
 
+// What the header says of a block.
+fn shown(block: offset_allocator_proved::Block) -> Block {
+    Block {
+        kind: if block.allocation.is_some() { Kind::Used } else { Kind::Free },
+        offset: block.offset,
+        size: block.size,
+        allocation: handle(block.allocation),
+    }
+}
+
+const END: Block = Block { kind: Kind::End, offset: 0, size: 0, allocation: NOTHING };
+
+// All blocks of a space, or nothing where memory is out.
+fn listed(space: &Allocator) -> Option<Box<Blocks>> {
+    let mut listed = Vec::new();
+    listed.try_reserve_exact(space.block_count() as usize).ok()?;
+    listed.extend(space.blocks().map(shown));
+    boxed(listed)
+}
+
+fn short(space: &Allocator) -> Report {
+    let report = space.storage_report();
+    Report { total_free_space: report.total_free_space, largest_free_region: report.largest_free_region }
+}
+
+const NO_REPORT: Report = Report { total_free_space: 0, largest_free_region: 0 };
+
+fn full(space: &Allocator) -> FullReport {
+    let report = space.storage_report_full();
+    FullReport { free_regions: report.free_regions.map(|region| Region { size: region.size, count: region.count }) }
+}
+
+const NO_FULL_REPORT: FullReport = FullReport { free_regions: [Region { size: 0, count: 0 }; 256] };
+
 // A box with one value, or nothing where its allocation fails.
 fn boxed<T>(value: T) -> Option<Box<[T; 1]>> {
     let mut one = Vec::new();
@@ -149,6 +193,14 @@ fn reason(refusal: Option<Refusal>) -> Reason {
     }
 }
 
+fn guarded_reason(refusal: Option<offset_allocator_guarded::Refusal>) -> Reason {
+    match refusal {
+        Some(offset_allocator_guarded::Refusal::Serials) => Reason::Serials,
+        Some(offset_allocator_guarded::Refusal::Allocator(why)) => reason(Some(why)),
+        None => Reason::None,
+    }
+}
+
 /// What C passes to be called with each move.
 pub type Callback = extern "C" fn(Option<NonNull<c_void>>, Moved);
 
@@ -164,12 +216,13 @@ fn calls(moved: Option<Callback>, user: Option<NonNull<c_void>>) -> impl FnMut(M
 
 // The functions that C calls. Where a pointer to an allocator is null, a function returns its last expression.
 macro_rules! exports { ($(
-    fn $name:ident($([$space:ident: $($type:tt)*],)? $($argument:ident: $of:ty),*) -> $returned:ty { $($body:tt)* } else $other:expr;
+    fn $name:ident$(<$life:lifetime>)?($([$space:ident: $($type:tt)*],)? $($argument:ident: $of:ty),*) -> $returned:ty { $($body:tt)* } else $other:expr;
 )*) => { $(
-    // the first lint is of the export's name, which a program may have only once; the others are of the form of this list
-    #[allow(unsafe_code, clippy::question_mark, clippy::unused_unit)]
+    // the first lint is of the export's name, which a program may have only once; the second of the walk, which C never
+    // looks into; the others are of the form of this list
+    #[allow(unsafe_code, improper_ctypes_definitions, clippy::question_mark, clippy::unused_unit)]
     #[no_mangle]
-    pub extern "C" fn $name($($space: Option<$($type)*>,)? $($argument: $of),*) -> $returned {
+    pub extern "C" fn $name$(<$life>)?($($space: Option<$($type)*>,)? $($argument: $of),*) -> $returned {
         $(let Some([$space]) = $space else {
             return $other;
         };)?
@@ -242,15 +295,9 @@ exports! {
 
     fn oa_is_full([space: &Space],) -> bool { space.is_full() } else true;
 
-    fn oa_storage_report([space: &Space],) -> Report {
-        let report = space.storage_report();
-        Report { total_free_space: report.total_free_space, largest_free_region: report.largest_free_region }
-    } else Report { total_free_space: 0, largest_free_region: 0 };
+    fn oa_storage_report([space: &Space],) -> Report { short(space) } else NO_REPORT;
 
-    fn oa_storage_report_full([space: &Space],) -> FullReport {
-        let report = space.storage_report_full();
-        FullReport { free_regions: report.free_regions.map(|region| Region { size: region.size, count: region.count }) }
-    } else FullReport { free_regions: [Region { size: 0, count: 0 }; 256] };
+    fn oa_storage_report_full([space: &Space],) -> FullReport { full(space) } else NO_FULL_REPORT;
 
     fn oa_refusal([space: &Space], size: u32) -> Reason { reason(space.refusal(size)) } else Reason::BadCall;
 
@@ -262,21 +309,25 @@ exports! {
         if size <= 4_026_531_840 { min_allocator_size(size) } else { 0 }
     } else 0;
 
-    fn oa_blocks_new([space: &Space],) -> Option<Box<Blocks>> {
-        let mut listed = Vec::new();
-        listed.try_reserve_exact(space.block_count() as usize).ok()?;
-        listed.extend(space.blocks().map(|block| Block {
-            kind: if block.allocation.is_some() { Kind::Used } else { Kind::Free },
-            offset: block.offset,
-            size: block.size,
-            allocation: handle(block.allocation),
-        }));
-        boxed(listed)
-    } else None;
+    fn oa_uint_to_float_round_up(size: u32) -> u32 { uint_to_float_round_up(size) } else 0;
 
-    fn oa_blocks_next([blocks: &mut Blocks],) -> Block {
-        blocks.pop().unwrap_or(Block { kind: Kind::End, offset: 0, size: 0, allocation: NOTHING })
-    } else Block { kind: Kind::End, offset: 0, size: 0, allocation: NOTHING };
+    fn oa_uint_to_float_round_down(size: u32) -> u32 { uint_to_float_round_down(size) } else 0;
+
+    fn oa_float_to_uint(class: u32) -> u32 { if class < 256 { float_to_uint(class) } else { 0 } } else 0;
+
+    fn oa_walk_start<'a>(space: Option<&'a Space>, walk: Option<&mut MaybeUninit<Walk<'a>>>) -> () {
+        if let Some(walk) = walk {
+            walk.write(Walk { left: space.map(|[space]| space.blocks()) });
+        }
+    } else ();
+
+    fn oa_walk_next(walk: Option<&mut Walk>) -> Block {
+        walk.and_then(|walk| walk.left.as_mut()?.next()).map_or(END, shown)
+    } else ();
+
+    fn oa_blocks_new([space: &Space],) -> Option<Box<Blocks>> { listed(space) } else None;
+
+    fn oa_blocks_next([blocks: &mut Blocks],) -> Block { blocks.pop().unwrap_or(END) } else END;
 
     fn oa_blocks_drop(blocks: Option<Box<Blocks>>) -> () { drop(blocks) } else ();
 
@@ -327,16 +378,37 @@ exports! {
         space.compact(&mut calls(moved, user))
     } else ();
 
-    fn oag_storage_report([space: &GuardedSpace],) -> Report {
-        let report = space.allocator().storage_report();
-        Report { total_free_space: report.total_free_space, largest_free_region: report.largest_free_region }
-    } else Report { total_free_space: 0, largest_free_region: 0 };
+    fn oag_size([space: &GuardedSpace],) -> u32 { space.allocator().size() } else 0;
 
-    fn oag_refusal([space: &GuardedSpace], size: u32) -> Reason {
-        match space.refusal(size) {
-            Some(offset_allocator_guarded::Refusal::Serials) => Reason::Serials,
-            Some(offset_allocator_guarded::Refusal::Allocator(why)) => reason(Some(why)),
-            None => Reason::None,
+    fn oag_max_allocs([space: &GuardedSpace],) -> u32 { space.allocator().max_allocs() } else 0;
+
+    fn oag_block_count([space: &GuardedSpace],) -> u32 { space.allocator().block_count() } else 0;
+
+    fn oag_is_full([space: &GuardedSpace],) -> bool { space.allocator().is_full() } else true;
+
+    fn oag_is_spent([space: &GuardedSpace],) -> bool { space.is_spent() } else true;
+
+    fn oag_realm([space: &GuardedSpace],) -> u32 { space.realm() } else 0;
+
+    fn oag_ticket_of([space: &GuardedSpace], allocation: Handle) -> Guard {
+        guard(Allocation::from_parts(allocation.offset, allocation.metadata).and_then(|live| space.ticket(live)))
+    } else NO_TICKET;
+
+    fn oag_walk_start<'a>(space: Option<&'a GuardedSpace>, walk: Option<&mut MaybeUninit<Walk<'a>>>) -> () {
+        if let Some(walk) = walk {
+            walk.write(Walk { left: space.map(|[space]| space.allocator().blocks()) });
         }
+    } else ();
+
+    fn oag_blocks_new([space: &GuardedSpace],) -> Option<Box<Blocks>> { listed(space.allocator()) } else None;
+
+    fn oag_storage_report([space: &GuardedSpace],) -> Report { short(space.allocator()) } else NO_REPORT;
+
+    fn oag_storage_report_full([space: &GuardedSpace],) -> FullReport { full(space.allocator()) } else NO_FULL_REPORT;
+
+    fn oag_refusal([space: &GuardedSpace], size: u32) -> Reason { guarded_reason(space.refusal(size)) } else Reason::BadCall;
+
+    fn oag_refusal_aligned([space: &GuardedSpace], size: u32, align: u32) -> Reason {
+        if align.is_power_of_two() { guarded_reason(space.refusal_aligned(size, align)) } else { Reason::BadCall }
     } else Reason::BadCall;
 }

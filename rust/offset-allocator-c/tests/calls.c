@@ -140,6 +140,42 @@ static void compacts(void) {
     oa_drop(space);
 }
 
+/* a walk shows the blocks from the end to the start, in memory of the caller, and can be left */
+static void walks(void) {
+    oa_allocator *space = oa_new(100, 16);
+    oa_allocation a = oa_allocate(space, 10), b = oa_allocate(space, 20);
+    oa_free(space, a);
+    static const uint32_t offsets[] = {30, 10, 0}, sizes[] = {70, 20, 10};
+    oa_walk walk, left;
+    memset(&walk, 0xaa, sizeof walk);
+    oa_walk_start(space, &walk);
+    for (int i = 0; i < 3; i++) {
+        left = walk;
+        oa_block block = oa_walk_next(&walk);
+        CHECK(block.kind == (i == 1 ? OA_USED : OA_FREE) && block.offset == offsets[i] && block.size == sizes[i]);
+        CHECK(i == 1 ? block.allocation.metadata == b.metadata && block.allocation.offset == 10 : is_nothing(block.allocation));
+    }
+    CHECK(oa_walk_next(&walk).kind == OA_END && oa_walk_next(&walk).kind == OA_END);
+    /* a copy goes its own way */
+    CHECK(oa_walk_next(&left).offset == 0 && oa_walk_next(&left).kind == OA_END);
+    oa_walk zero = {{0}};
+    CHECK(oa_walk_next(&zero).kind == OA_END && oa_walk_next(NULL).kind == OA_END);
+    oa_walk_start(NULL, &left);
+    CHECK(oa_walk_next(&left).kind == OA_END);
+    oa_walk_start(space, NULL);
+    oa_drop(space);
+}
+
+static void classes(void) {
+    static const uint32_t sizes[] = {0, 7, 8, 17, 118, 4026531840u, 4026531841u, 4294967295u};
+    static const uint32_t up[] = {0, 7, 8, 17, 39, 239, 240, 240}, down[] = {0, 7, 8, 16, 38, 239, 239, 239};
+    for (int i = 0; i < 8; i++) {
+        CHECK(oa_uint_to_float_round_up(sizes[i]) == up[i] && oa_uint_to_float_round_down(sizes[i]) == down[i]);
+    }
+    CHECK(oa_float_to_uint(39) == 120 && oa_float_to_uint(38) == 112 && oa_float_to_uint(239) == 4026531840u);
+    CHECK(oa_float_to_uint(255) == 0xc0000000u && !oa_float_to_uint(256) && !oa_float_to_uint(4294967295u));
+}
+
 static void nulls(void) {
     oa_allocation a = made(0, 0);
     oa_reset(NULL);
@@ -196,6 +232,16 @@ static void garbage(void) {
                 }
                 CHECK(used == live && end == oa_size(space));
                 oa_blocks_drop(blocks);
+                oa_walk walk;
+                oa_walk_start(space, &walk);
+                for (;;) {
+                    oa_block block = oa_walk_next(&walk);
+                    if (block.kind == OA_END) break;
+                    CHECK(block.offset + block.size == end);
+                    end = block.offset;
+                    used -= block.kind == OA_USED;
+                }
+                CHECK(used == 0 && end == 0);
             }
         }
         oa_drop(space);
@@ -209,6 +255,8 @@ int main(void) {
     resizes();
     reasons();
     compacts();
+    walks();
+    classes();
     nulls();
     garbage();
     printf("C: %d checks pass\n", checks);

@@ -52,6 +52,9 @@ int main(void) {
     oa_extend(space, 50);
     oa_compact(space, NULL, NULL);
     oa_storage_report_full(space);
+    oa_walk walk;
+    oa_walk_start(space, &walk);
+    while (oa_walk_next(&walk).kind != OA_END) {}
     oa_reset(space);
     if (left != 0) return printf("a call takes memory\n"), 1;
     left = -1;

@@ -206,6 +206,96 @@ static void beside() {
     CHECK(caught && called == 1 && a.allocationOffset(live[3]) == 0);
 }
 
+// The blocks, in a loop that may end early and takes no memory.
+static void loops() {
+    Allocator a(100, 16);
+    Allocation x = a.allocate(10), y = a.allocate(20);
+    a.free(x);
+    std::vector<uint32> offsets;
+    for (auto block : a.blocks()) offsets.push_back(block.offset);
+    CHECK(offsets == (std::vector<uint32>{30, 10, 0}));
+    uint32 seen = 0;
+    for (const Block &block : a.blocks()) {
+        seen++;
+        if (block.used) {
+            CHECK(block.allocation == y && block.size == 20);
+            break;
+        }
+    }
+    CHECK(seen == 2);
+    Blocks blocks = a.blocks();
+    CHECK(std::count_if(blocks.begin(), blocks.end(), [](const Block &b) { return !b.used; }) == 2);
+    Blocks::iterator at = blocks.begin();
+    CHECK(at++->offset == 30 && at->offset == 10 && (++at)->size == 10 && at != blocks.end() && ++at == blocks.end());
+    Allocator empty(std::move(a));
+    for (auto block : a.blocks()) CHECK(block.used && false);
+    // eachBlock may change the allocator
+    CHECK(empty.eachBlock([&](Block b) { if (b.used) CHECK(empty.free(b.allocation)); }) && empty.blockCount() == 1);
+    CHECK(SmallFloat::uintToFloatRoundUp(118) == 39 && SmallFloat::uintToFloatRoundDown(118) == 38 && SmallFloat::floatToUint(39) == 120);
+}
+
+// Tickets: what a stale handle does by the original's class, and what a stale ticket does.
+static void tickets() {
+    Allocator a(100, 16);
+    Allocation x = a.allocate(10);
+    CHECK(a.free(x) && !a.free(x));
+    Allocation z = a.allocate(20);
+    CHECK(z.metadata == x.metadata && a.free(x) && !a.isLive(z)); // the grant of another is freed
+
+    static_assert(!std::is_copy_constructible<GuardedAllocator>::value && std::is_nothrow_move_constructible<GuardedAllocator>::value, "");
+    static_assert(sizeof(Ticket) == 16 && sizeof(GuardedAllocator) == sizeof(void *), "");
+    GuardedAllocator g(100, 16, 3), other(100, 16, 4);
+    Ticket t = g.allocate(10), foreign = other.allocate(10), none;
+    CHECK(g && t && !none && t != none && t == t && t.serial == 1 && t.realm == 3 && g.realm() == 3 && !g.isSpent());
+    CHECK(g.isLive(t) && g.sizeOf(t) == 10 && g.offsetOf(t) == 0 && !g.isLive(none) && !g.isLive(foreign) && !g.free(foreign));
+    CHECK(g.free(t) && !g.free(t));
+    Ticket u = g.allocate(20);
+    CHECK(u.name == t.name && !g.free(t) && g.isLive(u) && g.sizeOf(t) == 0 && g.offsetOf(t) == Allocation::NO_SPACE);
+    CHECK(g.shrink(u, 5) && g.growInPlace(u, 20) && !g.shrink(t, 0) && !g.growInPlace(t, 30) && g.extend(28) && g.size() == 128);
+    Ticket v = g.allocateAligned(10, 32);
+    CHECK(v && g.offsetOf(v) == 32 && !g.allocateAligned(1, 3) && g.refusalAligned(1, 3) == Refusal::badCall);
+    CHECK(g.refusal(129) == Refusal::tooLarge && g.refusalAligned(8, 8) == Refusal::granted && g.maxAllocs() == 16);
+    CHECK(g.blockCount() == 4 && !g.isFull() && g.storageReport().totalFreeSpace == 98);
+    uint32 count = 0, used = 0;
+    for (StorageReportFull::Region &region : g.storageReportFull().freeRegions) count += region.count;
+    CHECK(count == 2);
+    for (auto block : g.blocks()) {
+        CHECK(!block.used || g.ticketOf(block.allocation) == (block.offset ? v : u));
+        used += block.used;
+    }
+    CHECK(used == 2 && !g.ticketOf(Allocation()));
+    used = 0;
+    CHECK(g.eachBlock([&](Block b) { used += b.used; }) && used == 2);
+    CHECK(g.free(u));
+    std::vector<uint32> to;
+    g.compact([&](Move m) { to.push_back(m.to); CHECK(m.allocation.metadata == v.name); });
+    CHECK(to == (std::vector<uint32>{0}) && g.isLive(v) && g.offsetOf(v) == 0);
+    bool caught = false;
+    g.extend(1);
+    Ticket w = g.allocate(1);
+    g.free(v);
+    try {
+        g.compact([](Move) { throw std::runtime_error("stop"); });
+    } catch (const std::runtime_error &) {
+        caught = true;
+    }
+    CHECK(caught && g.offsetOf(w) == 0);
+    // moves, as those of Allocator
+    GuardedAllocator h(std::move(g));
+    CHECK(!g && h.isLive(w) && !g.allocate(1) && g.refusal(1) == Refusal::badCall && !g.eachBlock([](Block) {}) && g.isFull());
+    g = std::move(h);
+    GuardedAllocator &same = g;
+    g = std::move(same);
+    CHECK(g.isLive(w) && !h && h.size() == 0);
+    swap(g, other);
+    CHECK(other.isLive(w) && g.isLive(foreign));
+    other.reset();
+    CHECK(!other.isLive(w) && !other.free(w) && !GuardedAllocator(10, 1) && GuardedAllocator(10).maxAllocs() == 128 * 1024);
+    std::vector<GuardedAllocator> several;
+    for (uint32 i = 0; i < 5; i++) several.emplace_back(100 * i, 16, i);
+    CHECK(several[4].allocate(200).realm == 4 && !several[0].allocate(1));
+}
+
 int main() {
     basic();
     simple();
@@ -217,5 +307,7 @@ int main() {
     surface();
     moves();
     beside();
+    loops();
+    tickets();
     std::printf("C++: %d checks pass\n", checks);
 }

@@ -50,7 +50,44 @@ static void stale(void) {
     oag_drop(NULL);
 }
 
+/* what is read of the space, and blocks, whose handles become tickets */
+static void reads(void) {
+    oag_allocator *space = oag_new(100, 7, 5);
+    oag_ticket a = oag_allocate(space, 10), b = oag_allocate(space, 20);
+    CHECK(oag_size(space) == 100 && oag_max_allocs(space) == 7 && oag_realm(space) == 5 && !oag_is_spent(space));
+    CHECK(oag_free(space, a) && oag_block_count(space) == 3 && !oag_is_full(space));
+    oa_report_full full = oag_storage_report_full(space);
+    for (int c = 0; c < 256; c++) CHECK(full.free_regions[c].count == (c == 10 || c == 32));
+    CHECK(oag_refusal(space, 97) == OA_TOO_LARGE && oag_refusal(space, 80) == OA_FRAGMENTED);
+    CHECK(oag_refusal_aligned(space, 10, 3) == OA_BAD_CALL && oag_refusal_aligned(space, 10, 8) == OA_GRANTED);
+    CHECK(oag_refusal_aligned(space, 60, 64) == OA_TOO_LARGE && oag_refusal_aligned(space, 10, 0) == OA_BAD_CALL);
+    static const uint32_t offsets[] = {30, 10, 0};
+    oa_walk walk;
+    oag_walk_start(space, &walk);
+    for (int i = 0; i < 3; i++) {
+        oa_block block = oa_walk_next(&walk);
+        oag_ticket of = oag_ticket_of(space, block.allocation);
+        CHECK(block.offset == offsets[i] && (i == 1 ? of.serial == b.serial && of.name == b.name && of.realm == 5 : of.serial == 0));
+    }
+    CHECK(oa_walk_next(&walk).kind == OA_END);
+    oa_blocks *blocks = oag_blocks_new(space);
+    for (int i = 3; i-- > 0;) CHECK(oa_blocks_next(blocks).offset == offsets[i]);
+    CHECK(oa_blocks_next(blocks).kind == OA_END);
+    oa_blocks_drop(blocks);
+    for (int i = 0; i < 3; i++) oag_allocate(space, 1);
+    oag_allocate(space, 1);
+    CHECK(oag_is_full(space) && oag_refusal(space, 1) == OA_NODES && oag_refusal_aligned(space, 1, 1) == OA_NODES);
+    oag_drop(space);
+}
+
 static void nulls(void) {
+    oa_allocation handle = {0, 0};
+    oa_walk walk;
+    CHECK(!oag_size(NULL) && !oag_max_allocs(NULL) && !oag_block_count(NULL) && oag_is_full(NULL) && oag_is_spent(NULL));
+    CHECK(!oag_realm(NULL) && !oag_blocks_new(NULL) && !oag_ticket_of(NULL, handle).serial);
+    CHECK(oag_refusal_aligned(NULL, 1, 1) == OA_BAD_CALL && !oag_storage_report_full(NULL).free_regions[0].count);
+    oag_walk_start(NULL, &walk);
+    CHECK(oa_walk_next(&walk).kind == OA_END);
     oag_ticket none = oag_allocate(NULL, 1);
     CHECK(none.serial == 0 && !oag_free(NULL, none) && !oag_is_live(NULL, none) && !oag_extend(NULL, 1));
     CHECK(oag_refusal(NULL, 1) == OA_BAD_CALL && oag_offset_of(NULL, none) == OA_NO_SPACE);
@@ -92,6 +129,7 @@ static void random_tickets(void) {
 
 int main(void) {
     stale();
+    reads();
     nulls();
     random_tickets();
     printf("C: %d checks of tickets pass\n", checks);
