@@ -11,11 +11,11 @@
  * A space has units: bytes, vertices, rows. It is never touched. A block is a run of units, live or free; no two free
  * blocks are neighbours. Each block has a node, whose number is its name.
  *
- * Errors. No argument is undefined, except a pointer that is neither null nor of oa_new (or oa_blocks_new) or that was
- * dropped. A call with a null allocator does nothing and returns what its comment says. A handle that is not live here
- * is refused by the result, and nothing changes: it was freed, or a reset freed it, or its name is not in use. A stale
- * handle, or one of another allocator, whose name is in use here cannot be distinguished from the live one.
- * Only constructors take memory: oa_new and oa_blocks_new.
+ * Errors. No argument is undefined, except a pointer that is neither null nor of a call named *_new or that was dropped,
+ * and a walk whose space changed. A call with a null allocator does nothing and returns what its comment says. A handle
+ * that is not live here is refused by the result, and nothing changes: it was freed, or a reset freed it, or its name is
+ * not in use. A stale handle, or one of another allocator, whose name is in use here cannot be distinguished from the live
+ * one. Only the calls named *_new take memory.
  *
  * Threads. Calls with an oa_allocator * need it for themselves; calls with a const oa_allocator * may run at the same
  * time as each other.

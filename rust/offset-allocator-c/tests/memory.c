@@ -60,8 +60,29 @@ int main(void) {
     left = -1;
     oa_blocks_drop(blocks);
     oa_drop(space);
+    int guarded = 0;
+    oag_allocator *tickets = NULL;
+    for (left = 0; !tickets; guarded++) {
+        long before = held, next = left;
+        tickets = oag_new(1000, 100, 1);
+        if (!tickets && held != before) return printf("oag_new keeps memory\n"), 1;
+        left = tickets ? -1 : next + 1;
+    }
+    left = 0;
+    oag_ticket t = oag_allocate(tickets, 20);
+    oag_allocate_aligned(tickets, 20, 8);
+    oag_free(tickets, t);
+    oag_compact(tickets, NULL, NULL);
+    oag_storage_report_full(tickets);
+    oag_walk_start(tickets, &walk);
+    while (oa_walk_next(&walk).kind != OA_END) {}
+    oag_reset(tickets);
+    if (left != 0) return printf("a call with tickets takes memory\n"), 1;
+    if (oag_blocks_new(tickets)) return printf("oag_blocks_new has no memory\n"), 1;
+    left = -1;
+    oag_drop(tickets);
     if (held != 0) return printf("%ld pieces are kept\n", held), 1;
-    if (made < 3 || listed < 2) return printf("%d and %d tries\n", made, listed), 1;
-    printf("memory: %d refused in oa_new, %d in oa_blocks_new\n", made - 1, listed - 1);
+    if (made < 3 || listed < 2 || guarded < 4) return printf("%d, %d and %d tries\n", made, listed, guarded), 1;
+    printf("memory: %d refused in oa_new, %d in oa_blocks_new, %d in oag_new\n", made - 1, listed - 1, guarded - 1);
     return 0;
 }
