@@ -10,9 +10,10 @@ fn main() {
     let major = part("MAJOR");
     let version = if major == "0" { format!("0.{}", part("MINOR")) } else { major };
     let argument = match var("CARGO_CFG_TARGET_OS").unwrap_or_default().as_str() {
-        "windows" => None,
+        "linux" | "freebsd" | "netbsd" | "openbsd" | "dragonfly" => Some(format!("-Wl,-soname,liboffset_allocator_c.so.{version}")),
+        // not tried
         "macos" | "ios" => Some(format!("-Wl,-install_name,@rpath/liboffset_allocator_c.{version}.dylib")),
-        _ => Some(format!("-Wl,-soname,liboffset_allocator_c.so.{version}")),
+        _ => None,
     };
     if let Some(argument) = argument {
         println!("cargo:rustc-cdylib-link-arg={argument}");
