@@ -1,8 +1,8 @@
 //! The C interface of `offset-allocator-proved` and `offset-allocator-guarded`. `include/offset_allocator.h` documents
 //! each function.
 //!
-//! No pointer is read here by hand: an allocator is a box that C holds, a call borrows it, and all else
-//! goes by value. Each call tests what the library requires of its caller, so that no argument panics.
+//! No pointer is read here by hand: an allocator is a box that C holds, a call borrows it, a walk is written into what C
+//! lends, and all else goes by value. Each call tests what the library requires of its caller, so that no argument panics.
 
 #![deny(unsafe_code)]
 
@@ -218,9 +218,8 @@ fn calls(moved: Option<Callback>, user: Option<NonNull<c_void>>) -> impl FnMut(M
 macro_rules! exports { ($(
     fn $name:ident$(<$life:lifetime>)?($([$space:ident: $($type:tt)*],)? $($argument:ident: $of:ty),*) -> $returned:ty { $($body:tt)* } else $other:expr;
 )*) => { $(
-    // the first lint is of the export's name, which a program may have only once; the second of the walk, which C never
-    // looks into; the others are of the form of this list
-    #[allow(unsafe_code, improper_ctypes_definitions, clippy::question_mark, clippy::unused_unit)]
+    // the first lint is of the export's name, which a program may have only once; the others are of the form of this list
+    #[allow(unsafe_code, clippy::question_mark, clippy::unused_unit)]
     #[no_mangle]
     pub extern "C" fn $name$(<$life>)?($($space: Option<$($type)*>,)? $($argument: $of),*) -> $returned {
         $(let Some([$space]) = $space else {
