@@ -8,8 +8,10 @@ mod Grown
 mod Held
 mod Levelled
 mod Listed
+mod Marked
 mod Merged
 mod Ordered
+mod Parted
 mod Peaks
 mod Pieces
 mod Quieter

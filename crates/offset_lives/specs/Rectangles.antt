@@ -1,11 +1,12 @@
 -- The rectangles of grants, as they are written.
-use Rattle.std.specs.Prelude.{◌≡◌, ℕ, zero, suc, ◌+◌, List, [], ◌∷◌, ◌++◌, Option, Some, None, codes, filter, flat_map, length, map, nat_eq, nat_lt}
+use Rattle.std.specs.Prelude.{◌≡◌, ℕ, zero, suc, ◌+◌, ◌-◌, List, [], ◌∷◌, ◌++◌, Option, Some, None, IsPermutation, codes, filter, flat_map, length, map, nat_eq, nat_lt}
 use Rattle.std.specs.Bool.{MatchBool}
 use Rattle.std.specs.Fmt.{decimal}
 use Rattle.std.specs.List.{zip}
 use Rattle.offset_lives.specs.declared.living.Life.{Life}
 use Rattle.offset_lives.specs.declared.plots.Plot.{Plot}
 use Rattle.offset_lives.specs.declared.shapes.Shape.{Shape}
+use Rattle.offset_lives.specs.Figures.{age_of}
 use Rattle.offset_lives.specs.Marks.{rectangle_text, title_text}
 use Rattle.offset_lives.specs.Merging.{AreMerged}
 use Rattle.offset_lives.specs.Places.{frame_of, shape_of}
@@ -45,3 +46,16 @@ abbrev pub AreGrants : Plot → List Life → ℕ → Option ℕ → List ℕ �
 AreGrants plot lives calls merged text = MatchBool (nat_lt 20000 (length lives))
     ((shapes : List Shape) × AreMerged plot lives shapes × (merged ≡ Some (length shapes)) × (text ≡ ages_text (plain_of_age shapes)))
     ((merged ≡ None) × (text ≡ ages_text (titled_of_age calls (map (shape_of plot) lives) lives)))
+
+-- ---- every grant has its rectangle
+
+-- the lives of an age, in the order of the list
+abbrev pub lives_of_age : List Life → ℕ → List Life
+lives_of_age lives age = filter (λ l. nat_eq (age_of (l.last - l.first)) age) lives
+
+-- the group of an age has a rectangle with its title for each life of this age, and the groups have each life once
+abbrev pub EachLifeHasARectangle : Type 0
+EachLifeHasARectangle =
+    (plot : Plot) (calls : ℕ) (lives : List Life)
+    → ((age : ℕ) → titled_of_age calls (map (shape_of plot) lives) lives age ≡ flat_map (λ l. titled_text calls (shape_of plot l, l)) (lives_of_age lives age))
+    × IsPermutation lives (flat_map (lives_of_age lives) (falling_below 8))

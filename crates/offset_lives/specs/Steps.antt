@@ -1,5 +1,5 @@
 -- The lines of steps of a picture, and the marks below its axis. Lengths are in hundredths of a pixel.
-use Rattle.std.specs.Prelude.{◌≡◌, ℕ, ◌+◌, List, [], ◌∷◌, ◌++◌, EachIndex, codes, flat_map, length, map, max, min, nat_eq, slice_index, if◌then◌else◌}
+use Rattle.std.specs.Prelude.{◌≡◌, ℕ, ◌+◌, ◌<◌, ◌≤◌, List, [], ◌∷◌, ◌++◌, All, Contains, EachIndex, codes, flat_map, length, map, max, min, nat_eq, slice_index, if◌then◌else◌}
 use Rattle.offset_lives.specs.declared.axes.Axis.{Axis}
 use Rattle.offset_lives.specs.declared.course.Course.{Course}
 use Rattle.offset_lives.specs.declared.plots.Plot.{Plot}
@@ -80,11 +80,23 @@ one_of_each (n ∷ ns) = n ∷ after_equal n (one_of_each ns)
 abbrev pub mark_text : ℕ → ℕ → List ℕ
 mark_text height place = codes "M" ++ pixels_text place ++ codes " " ++ pixels_text height ++ codes "v12"
 
--- the marks of these calls, which are counted from 0: one for neighbours at one place
+-- the places of the marks of these calls, which are counted from 0: one for neighbours at one place
+abbrev pub marked_places : Axis → List ℕ → List ℕ
+marked_places calls marked = one_of_each (map (λ call. place_of calls (counted_from_1 call)) marked)
+
+-- the marks of these calls
 abbrev pub marks_text : Axis → ℕ → List ℕ → List ℕ
-marks_text calls height marked = flat_map (mark_text height) (one_of_each (map (λ call. place_of calls (counted_from_1 call)) marked))
+marks_text calls height marked = flat_map (mark_text height) (marked_places calls marked)
 
 -- the marks of refused calls as an element, from the lower end of the plot down; where there are none, nothing
 abbrev pub refusals_text : Plot → List ℕ → List ℕ
 refusals_text p refused =
     if nat_eq (length refused) 0 then [] else codes "<path class='refusal' d='" ++ marks_text p.calls (p.units.start + p.units.span) refused ++ codes "'/>\n"
+
+-- a mark is at this place, or less than a tenth of a pixel to the left of it
+abbrev pub IsMarked : List ℕ → ℕ → Type 0
+IsMarked marks place = (mark : ℕ) × Contains marks mark × (mark ≤ place) × (place < mark + 10)
+
+-- whichever calls are refused, each has its mark
+abbrev pub EachRefusalIsMarked : Type 0
+EachRefusalIsMarked = (calls : Axis) (refused : List ℕ) → All (λ call. IsMarked (marked_places calls refused) (right_of calls (counted_from_1 call))) refused

@@ -3,6 +3,8 @@
 
 ghost use Rattle.offset_lives.specs.Levels.{ReportsAreLevelled};
 ghost use Rattle.offset_lives.specs.Lives.{LivesAreSeen, LivesAreWithin, LivesAreApart};
+ghost use Rattle.offset_lives.specs.Rectangles.{EachLifeHasARectangle};
+ghost use Rattle.offset_lives.specs.Steps.{EachRefusalIsMarked};
 
 /// After any number of calls, a live block of a life's number exists, with its range, exactly while the life is on.
 pub fn a_life_is_what_the_space_shows()
@@ -22,4 +24,14 @@ pub fn no_two_lives_overlap()
 /// No report has a larger free region than if its free units were one block, and that is at most these units.
 pub fn lines_never_cross()
     ensures { ReportsAreLevelled }
+{}
+
+/// Where grants have titles, each has exactly one rectangle, with its title, in the group of its age.
+pub fn each_life_has_a_rectangle()
+    ensures { EachLifeHasARectangle }
+{}
+
+/// Each refused call has its mark, to a tenth of a pixel.
+pub fn each_refusal_is_marked()
+    ensures { EachRefusalIsMarked }
 {}
