@@ -84,3 +84,13 @@ pub record IsPicture (title : List ℕ) (plan : Plan) (text : List ℕ) : Type 0
   pub course : Course
   pub is_course : IsCourse plan course
   pub is_picture : IsPictureOf title course text
+
+-- a text that begins with the tag of an SVG and the title, has the title once more as its heading, and ends with `</svg>`
+-- and a line end
+abbrev pub HasTitle : List ℕ → List ℕ → Type 0
+HasTitle title text = (inner body : List ℕ)
+    × (text ≡ opening ++ escaped title ++ codes "</title>\n" ++ inner ++ heading ++ escaped title ++ codes "</text>\n" ++ body ++ codes "</svg>\n")
+
+-- each picture is such a text
+abbrev pub PicturesHaveTitles : Type 0
+PicturesHaveTitles = (title : List ℕ) (plan : Plan) (text : List ℕ) → IsPicture title plan text → HasTitle title text

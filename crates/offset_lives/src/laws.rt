@@ -3,6 +3,7 @@
 
 ghost use Rattle.offset_lives.specs.Levels.{ReportsAreLevelled};
 ghost use Rattle.offset_lives.specs.Lives.{LivesAreSeen, LivesAreWithin, LivesAreApart};
+ghost use Rattle.offset_lives.specs.Picture.{PicturesHaveTitles};
 ghost use Rattle.offset_lives.specs.Rectangles.{EachLifeHasARectangle};
 ghost use Rattle.offset_lives.specs.Steps.{EachRefusalIsMarked};
 
@@ -34,4 +35,9 @@ pub fn each_life_has_a_rectangle()
 /// Each refused call has its mark, to a tenth of a pixel.
 pub fn each_refusal_is_marked()
     ensures { EachRefusalIsMarked }
+{}
+
+/// Each picture begins with its title, and has it once more as its heading.
+pub fn a_picture_has_its_title()
+    ensures { PicturesHaveTitles }
 {}

@@ -57,8 +57,8 @@ pub fn draw_program<S: Source, K: Sink, E: Sink>(
     // - after `Ok` the status returned is 0, and `errors` is as it was; else it is that of the fault, and the line of
     //   the fault was appended to `errors` and flushed, or `errors` failed, and a beginning of that line was: all of
     //   it, where no push has failed;
-    // - where the text of the source is known: on `Ok` it means a script, and a whole picture is appended; on `Write` a
-    //   beginning of a picture is: all of it, where no push has failed; on `Script` the fault is that of the text;
+    // - where the text of the source is known: on `Ok` it means a script, and all of this script's picture is appended; on
+    //   `Write` a beginning of it is: all of it, where no push has failed; on `Script` the fault is that of the text;
     // - after `Ok` the output is flushed;
     // - after `Script`, `Memory` and `Read` the output is as it was;
     // - it is `Read` exactly where the source failed in this call;
