@@ -3,6 +3,7 @@ mod Backward
 mod Counted
 mod Drawn
 mod Falling
+mod Fixed
 mod Grouped
 mod Grown
 mod Held

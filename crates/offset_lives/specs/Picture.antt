@@ -1,10 +1,10 @@
 -- The whole text of a picture.
-use Rattle.std.specs.Prelude.{◌≡◌, ℕ, ◌+◌, List, ◌++◌, Option, codes, map}
+use Rattle.std.specs.Prelude.{◌≡◌, ℕ, ◌+◌, ◌<◌, List, ◌++◌, Option, codes, map}
 use Rattle.offset_script.specs.Grammar.{Plan}
 use Rattle.offset_lives.specs.declared.course.Course.{Course}
 use Rattle.offset_lives.specs.declared.figures.Figures.{Figures}
 use Rattle.offset_lives.specs.declared.plots.Plot.{Plot}
-use Rattle.offset_lives.specs.Figures.{AreFigures, counted}
+use Rattle.offset_lives.specs.Figures.{AreFigures, counted, states}
 use Rattle.offset_lives.specs.Growth.{AreSizes, refusals_of}
 use Rattle.offset_lives.specs.Legend.{legend_text, notes_text}
 use Rattle.offset_lives.specs.Lives.{life_view, lives_of}
@@ -94,3 +94,7 @@ HasTitle title text = (inner body : List ℕ)
 -- each picture is such a text
 abbrev pub PicturesHaveTitles : Type 0
 PicturesHaveTitles = (title : List ℕ) (plan : Plan) (text : List ℕ) → IsPicture title plan text → HasTitle title text
+
+-- the figures of a course that has a state are fixed
+abbrev pub FiguresAreFixed : Type 0
+FiguresAreFixed = (c : Course) (f g : Figures) → 0 < states c → AreFigures f c → AreFigures g c → f ≡ g

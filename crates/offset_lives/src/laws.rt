@@ -3,7 +3,7 @@
 
 ghost use Rattle.offset_lives.specs.Levels.{ReportsAreLevelled};
 ghost use Rattle.offset_lives.specs.Lives.{LivesAreSeen, LivesAreWithin, LivesAreApart};
-ghost use Rattle.offset_lives.specs.Picture.{PicturesHaveTitles};
+ghost use Rattle.offset_lives.specs.Picture.{FiguresAreFixed, PicturesHaveTitles};
 ghost use Rattle.offset_lives.specs.Rectangles.{EachLifeHasARectangle};
 ghost use Rattle.offset_lives.specs.Steps.{EachRefusalIsMarked};
 
@@ -40,4 +40,9 @@ pub fn each_refusal_is_marked()
 /// Each picture begins with its title, and has it once more as its heading.
 pub fn a_picture_has_its_title()
     ensures { PicturesHaveTitles }
+{}
+
+/// The figures of a course, which the legend shows, are fixed by the course.
+pub fn a_course_fixes_its_figures()
+    ensures { FiguresAreFixed }
 {}
