@@ -4,16 +4,18 @@
 #[derive(Clone, Copy)]
 pub struct Call {
     name: &'static str,
+    /// Whether some of its requests are for room alone that it may need: where one fails, it goes on.
+    pub has_hints: bool,
     function: unsafe extern "C" fn(*const u8, usize, *mut u64, usize) -> u32,
 }
 
-macro_rules! calls { ($($call:ident $function:ident $name:literal)*) => {
+macro_rules! calls { ($has_hints:literal $($call:ident $function:ident $name:literal)*) => {
     extern "C" {
         $(fn $function(text: *const u8, bytes: usize, cells: *mut u64, count: usize) -> u32;)*
     }
-    $(pub const $call: Call = Call { name: $name, function: $function };)*
+    $(pub const $call: Call = Call { name: $name, has_hints: $has_hints, function: $function };)*
 } }
-calls! {
+calls! { false
     NEW offset_new "new"
     LIMITED offset_with_max_allocs "with_max_allocs"
     CALLS offset_calls "with_max_allocs and 1,000 calls"
@@ -24,8 +26,20 @@ calls! {
     CALLS_BY_FIELD offset_calls_by_field "with_max_allocs and 1,000 calls by field"
     FILL_BY_FIELD offset_fill_by_field "with_max_allocs and twice 3,000 requests and a reset by field"
     PLAY_BY_FIELD offset_play_by_field "play by field"
+    GUARDED offset_guarded "guarded with_max_allocs and 1,000 calls"
+    GUARDED_BY_FIELD offset_guarded_by_field "guarded with_max_allocs and 1,000 calls by field"
     PARSE offset_parse "parse"
     RUN offset_run "run"
+    RUN_PROGRAM offset_run_program "the program"
+    LIVES offset_lives "lives and reports"
+}
+calls! { true
+    LIST offset_list "a list of calls"
+    LIST_BY_FIELD offset_list_by_field "a list of calls by field"
+    TICKETS offset_tickets "a list of calls with tickets"
+    TICKETS_BY_FIELD offset_tickets_by_field "a list of calls with tickets by field"
+    PICTURE offset_picture "a picture"
+    DRAW_PROGRAM offset_draw_program "the program that draws"
 }
 
 /// The calls on a layout, and the bytes of each of its tables, by the number of nodes and the bytes of an index.
@@ -36,6 +50,9 @@ pub struct Layout {
     pub calls: Call,
     pub fill: Call,
     pub play: Call,
+    pub list: Call,
+    pub tickets: Call,
+    pub guarded: Call,
     pub tables: fn(usize, usize) -> Vec<usize>,
 }
 
@@ -46,6 +63,9 @@ pub const BY_NODE: Layout = Layout {
     calls: CALLS,
     fill: FILL,
     play: PLAY,
+    list: LIST,
+    tickets: TICKETS,
+    guarded: GUARDED,
     tables: |nodes, index| vec![(4 + 4 + 4 * index) * nodes, index * nodes],
 };
 
@@ -56,6 +76,9 @@ pub const BY_FIELD: Layout = Layout {
     calls: CALLS_BY_FIELD,
     fill: FILL_BY_FIELD,
     play: PLAY_BY_FIELD,
+    list: LIST_BY_FIELD,
+    tickets: TICKETS_BY_FIELD,
+    guarded: GUARDED_BY_FIELD,
     tables: |nodes, index| {
         [4, 4, index, index, index, index, index]
             .map(|cell| cell * nodes)
@@ -85,7 +108,7 @@ const EMPTY: u64 = u64::MAX;
 
 impl Call {
     pub fn with(&self, text: &str) -> Outcome {
-        let mut cells = vec![EMPTY; 32_768];
+        let mut cells = vec![EMPTY; 131_072];
         let (at, length) = (cells.as_mut_ptr(), cells.len());
         let result = unsafe { (self.function)(text.as_ptr(), text.len(), at, length) };
         let last = cells.iter().rposition(|number| *number != EMPTY);

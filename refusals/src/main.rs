@@ -20,6 +20,15 @@ const WRITTEN: &str = "grant 1 at 0\ngrant 2 at 10\nfreed\nnone\nfree 0 largest 
 const BAD: &str = "# c\n\nspace 010 nodes 4 index 32\nalloc 0000000001\nalloc 00000000001\n";
 const FAULT: &[u64] = &[3, 5];
 
+/// The replies to the short list of calls, each as its place in the enum, and then its numbers. Range 2 moves from 10 to
+/// 0; in the end 92 units are free, of class 35, whose value is 88.
+const REPLIES: &[u64] = &[
+    0, 0, 1, 0, 0, 0, 2, 10, 0, 2, 2, 1, 2, 10, 0, 20, 3, 0, 1, 0, 6, 1, 35, 88, 1,
+];
+
+/// The serials of its two grants.
+const SERIALS: &[u64] = &[1, 2];
+
 /// Whether a constructor first requests the bytes of all tables in one piece, and frees it, before it requests each
 /// table.
 const REQUESTS_ALL_FIRST: bool = true;
@@ -41,7 +50,7 @@ impl Check {
     fn must(&mut self, holds: bool, call: Call, text: &str, what: String) {
         if !holds {
             self.wrong += 1;
-            println!("WRONG: {}: {what}", call.title(text));
+            println!("WRONG: {}: {what:.300}", call.title(text));
         }
     }
 
@@ -49,6 +58,7 @@ impl Check {
     /// that one with all after it. It ends where a run makes no such request, and returns the number of requests.
     fn fail_each(&mut self, call: Call, text: &str, first: u64, wanted: &Outcome) -> u64 {
         let out_of_memory = outcome(REFUSED, &[]);
+        let mut hints = 0;
         for place in first + 1.. {
             let mut is_met = false;
             for end in [place + 1, u64::MAX] {
@@ -56,21 +66,25 @@ impl Check {
                 self.runs += 1;
                 is_met = memory.failed > 0;
                 // a fault may be found before the request
-                let may_be_wanted = !is_met || wanted.result == FAULTY;
+                let may_be_wanted = !is_met || wanted.result == FAULTY || call.has_hints;
                 let is_right =
                     is_met && found == out_of_memory || may_be_wanted && found == *wanted;
                 let (left, strange) = (memory.blocks.len(), memory.strange);
                 let what = format!(
                     "request {place} refused: {is_met}, {found:?}, left {left}, strange {strange}"
                 );
+                hints +=
+                    u64::from(is_met && call.has_hints && end == place + 1 && found == *wanted);
                 self.must(is_right && left == 0 && strange == 0, call, text, what);
             }
             if !is_met {
                 let requests = place - 1 - first;
-                println!(
-                    "{}: {requests} requests, each refused in turn",
-                    call.title(text)
-                );
+                let which = if hints > 0 {
+                    format!(", {hints} of them hints")
+                } else {
+                    String::new()
+                };
+                println!("{}: {requests} requests{which}", call.title(text));
                 return requests;
             }
         }
@@ -111,6 +125,10 @@ impl Check {
             header,
             format!("{called} requests, not {made}"),
         );
+        let guarded = [vec![8 * nodes], table_requests(layout, nodes, bits)].concat();
+        self.expect_requests(layout.guarded, header, &guarded);
+        let wanted = self.with_ample_memory(GUARDED, header);
+        self.fail_each(layout.guarded, header, 0, &wanted);
         let played = self.fail_each(layout.play, header, 0, &outcome(ANSWERED, &[]));
         self.must(
             played >= made,
@@ -153,6 +171,24 @@ impl Check {
         self.fail_each(PLAY, text, first, answers);
         self.fail_each(PLAY_BY_FIELD, text, first, answers);
         self.fail_each(RUN, text, 0, written);
+        self.fail_each(RUN_PROGRAM, text, 0, written);
+        for call in [LIVES, PICTURE] {
+            let wanted = self.with_ample_memory(call, text);
+            self.fail_each(call, text, first, &wanted);
+        }
+        let wanted = self.with_ample_memory(PICTURE, text);
+        self.fail_each(DRAW_PROGRAM, text, 0, &wanted);
+        let [replies, with_tickets] =
+            [LIST, TICKETS].map(|call| self.with_ample_memory(call, text));
+        self.lists(text, first, &replies, &with_tickets);
+    }
+
+    /// Lists of calls for a script whose parse makes the `first` requests; a list takes one more, two with tickets.
+    fn lists(&mut self, text: &str, first: u64, replies: &Outcome, with_tickets: &Outcome) {
+        for layout in [BY_NODE, BY_FIELD] {
+            self.fail_each(layout.list, text, first + 1, replies);
+            self.fail_each(layout.tickets, text, first + 2, with_tickets);
+        }
     }
 }
 
@@ -172,6 +208,9 @@ fn main() {
             &answers,
             &written,
         );
+        let with_tickets = outcome(ANSWERED, &[REPLIES, SERIALS].concat());
+        let eight = format!("space 100 nodes 8 index {bits}");
+        check.lists(&eight, 0, &outcome(ANSWERED, REPLIES), &with_tickets);
         let mixed = mixed(bits);
         let [script, answers, written] =
             [PARSE, PLAY, RUN].map(|call| check.with_ample_memory(call, &mixed));

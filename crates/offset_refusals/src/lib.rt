@@ -9,13 +9,19 @@
 mod allocators;
 mod cell_writer;
 mod layouts;
+mod lists;
 mod numbers;
 mod outcomes;
+mod pictures;
+mod programs;
 mod scripts;
+mod tickets;
 
 use crate::allocators::{MakeAndCall, MakeAndFill, MakeDefault, MakeLimited, Play};
 use crate::layouts::{Layout, Work, run_on};
+use crate::lists::{PlayList, PlayTickets};
 use crate::outcomes::code;
+use crate::tickets::MakeGuardedAndCall;
 use std::alloc::Global;
 
 fn work_on<W: Work>(
@@ -103,4 +109,65 @@ pub extern "C" fn offset_play_by_field(alloc: Global, text: &[u8], cells: &mut [
 #[unsafe(no_mangle)]
 pub extern "C" fn offset_run(alloc: Global, text: &[u8], cells: &mut [u64]) -> u32 {
     code(scripts::run_text(alloc, text, cells))
+}
+
+/// Plays a list of calls made of the script's commands, and puts the replies into the cells.
+#[unsafe(no_mangle)]
+pub extern "C" fn offset_list(alloc: Global, text: &[u8], cells: &mut [u64]) -> u32 {
+    work_on(Layout::ByNode, &PlayList, alloc, text, cells)
+}
+
+/// The same by field.
+#[unsafe(no_mangle)]
+pub extern "C" fn offset_list_by_field(alloc: Global, text: &[u8], cells: &mut [u64]) -> u32 {
+    work_on(Layout::ByField, &PlayList, alloc, text, cells)
+}
+
+/// Plays the same list with tickets, and puts the serials of the grants after the replies.
+#[unsafe(no_mangle)]
+pub extern "C" fn offset_tickets(alloc: Global, text: &[u8], cells: &mut [u64]) -> u32 {
+    work_on(Layout::ByNode, &PlayTickets, alloc, text, cells)
+}
+
+/// The same by field.
+#[unsafe(no_mangle)]
+pub extern "C" fn offset_tickets_by_field(alloc: Global, text: &[u8], cells: &mut [u64]) -> u32 {
+    work_on(Layout::ByField, &PlayTickets, alloc, text, cells)
+}
+
+/// Makes a guarded allocator by `with_max_allocs`, then makes 1,000 calls with tickets, and puts a checksum of their
+/// results into the cells.
+#[unsafe(no_mangle)]
+pub extern "C" fn offset_guarded(alloc: Global, text: &[u8], cells: &mut [u64]) -> u32 {
+    work_on(Layout::ByNode, &MakeGuardedAndCall, alloc, text, cells)
+}
+
+/// The same by field.
+#[unsafe(no_mangle)]
+pub extern "C" fn offset_guarded_by_field(alloc: Global, text: &[u8], cells: &mut [u64]) -> u32 {
+    work_on(Layout::ByField, &MakeGuardedAndCall, alloc, text, cells)
+}
+
+/// Puts the lives of a script's grants, and the reports after its commands, into the cells.
+#[unsafe(no_mangle)]
+pub extern "C" fn offset_lives(alloc: Global, text: &[u8], cells: &mut [u64]) -> u32 {
+    code(pictures::put_lives(alloc, text, &mut cells.iter_mut()))
+}
+
+/// Draws a script, and puts each byte of the picture into a cell.
+#[unsafe(no_mangle)]
+pub extern "C" fn offset_picture(alloc: Global, text: &[u8], cells: &mut [u64]) -> u32 {
+    code(pictures::put_picture(alloc, text, &mut cells.iter_mut()))
+}
+
+/// Plays a script as its program does, and puts each byte that is written into a cell.
+#[unsafe(no_mangle)]
+pub extern "C" fn offset_run_program(alloc: Global, text: &[u8], cells: &mut [u64]) -> u32 {
+    code(programs::run_all(alloc, text, cells))
+}
+
+/// Draws a script as its program does, and puts each byte that is written into a cell.
+#[unsafe(no_mangle)]
+pub extern "C" fn offset_draw_program(alloc: Global, text: &[u8], cells: &mut [u64]) -> u32 {
+    code(programs::draw_all(alloc, text, cells))
 }

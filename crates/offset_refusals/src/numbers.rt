@@ -1,6 +1,7 @@
 //! Results as numbers. A variant of an enum is its place in the declaration, from 0.
 
 use offset_allocator::StorageReport;
+use offset_calls::{Moved, Reply};
 use offset_script::{Answer, Command, FullRow, IndexWidth, Script, ScriptFault};
 use std::slice::IterMut;
 
@@ -99,5 +100,40 @@ fn put_answer(cells: &mut Cells<'_>, answer: &Answer) {
 pub fn put_answers(cells: &mut Cells<'_>, answers: &[Answer]) {
     for answer in answers {
         put_answer(cells, answer);
+    }
+}
+
+fn put_moved(cells: &mut Cells<'_>, moved: &Moved) {
+    put(cells, moved.number);
+    put_all(cells, &[moved.from, moved.to, moved.size]);
+}
+
+fn put_reply(cells: &mut Cells<'_>, reply: &Reply) {
+    match reply {
+        Reply::Answer(answer) => {
+            put(cells, 0);
+            put_answer(cells, answer);
+        }
+        Reply::Resized => put(cells, 1),
+        Reply::Compacted(moves) => {
+            put(cells, 2);
+            put(cells, moves.len() as u64);
+            for moved in moves {
+                put_moved(cells, moved);
+            }
+        }
+        Reply::Offset(offset) => put_all(cells, &[3, *offset]),
+        Reply::Refusal(None) => put(cells, 4),
+        Reply::Refusal(Some(why)) => {
+            put(cells, 5);
+            put(cells, u64::from(*why as u8));
+        }
+    }
+}
+
+/// Puts each reply with its numbers; a compaction has the number of its moves before them.
+pub fn put_replies(cells: &mut Cells<'_>, replies: &[Reply]) {
+    for reply in replies {
+        put_reply(cells, reply);
     }
 }

@@ -1,8 +1,10 @@
 //! Makes every call that may return out of memory once at sizes in powers of two, on each layout and index type, and
 //! prints at how many sizes all calls returned a result. No clause says when memory is out, so a body that gives up at
-//! some sizes, or for some calls, is proved: it is refused here.
+//! some sizes, or for some calls, is proved: it is refused here. Large spaces and node limits that are reached are
+//! compared with what they have to grant and report.
 #![tactic(auto)]
 
+mod limits;
 mod lists;
 mod spaces;
 mod texts;
@@ -25,7 +27,28 @@ fn all(alloc: Global) -> Result<[u32; 3], AllocError> {
     Ok([spaces, lists, texts::all(alloc)?])
 }
 
+// Whether large spaces and limits are right on each layout.
+fn are_right(alloc: Global) -> Result<bool, AllocError> {
+    Ok(
+        limits::are_right::<ByNode<u32>>(alloc)?
+            && limits::are_right::<ByField<u32>>(alloc)?
+            && limits::are_right::<ByNode<u16>>(alloc)?
+            && limits::are_right::<ByField<u16>>(alloc)?,
+    )
+}
+
 fn main(rt: HostRuntime) -> io::Result<ExitCode> {
+    match are_right(rt.alloc()) {
+        Ok(true) => {}
+        Ok(false) => {
+            println!(rt; "a space or a limit has other results")?;
+            return Ok(ExitCode::from(1));
+        }
+        Err(_) => {
+            println!(rt; "out of memory")?;
+            return Ok(ExitCode::from(3));
+        }
+    }
     match all(rt.alloc()) {
         Ok(counts) => {
             let spaces = counts[0];

@@ -41,6 +41,20 @@ pub fn with_max_allocs<T: Tables>(
     AllocatorOf::with_max_allocs(alloc, size, max_allocs)
 }
 
+/// `size`, with each clause of its contract.
+pub fn size<T: Tables>(space: &AllocatorOf<T>) -> u32
+    ensures { result ≡ space.now.size }
+{
+    space.size()
+}
+
+/// `max_allocs`, with each clause of its contract.
+pub fn max_allocs<T: Tables>(space: &AllocatorOf<T>) -> u32
+    ensures { result ≡ space.now.max_allocs }
+{
+    space.max_allocs()
+}
+
 /// `reset`, with each clause of its contract.
 pub fn reset<T: Tables>(space: &mut AllocatorOf<T>)
     ensures size { space.new.size ≡ space.old.size }

@@ -1,6 +1,6 @@
 //! Each call of an adapter is one call of its reader or writer, also after a failure.
 
-use crate::asserts::{assert_same_at, assert_that_at};
+use crate::asserts::{assert_same, assert_same_at, assert_that, assert_that_at};
 use offset_script::{FromRead, IntoWrite, Sink, Source};
 use offset_test_base::devices::{Reader, Writer};
 use std::alloc::Global;
@@ -285,4 +285,16 @@ fn each_push_is_one_write_and_each_flush_one_flush(rt: HostRuntime) {
     for row in &CALLS {
         expect_calls(&rt, rt.alloc(), &letters, row);
     }
+}
+
+#[test]
+fn pulls_two_mebibytes_by_one_read(rt: HostRuntime) {
+    let text = vec![in rt.alloc(); b'a'; 3_000_000].expect(&rt, "memory");
+    let mut input = FromRead::new(Reader::new(&text, 3_000_000));
+    let mut buf = vec![in rt.alloc(); 0u8; 2_097_152].expect(&rt, "memory");
+    assert_same(&rt, &input.pull(&mut buf), &Some(2_097_152));
+    assert_that(&rt, buf.iter().all(|byte| *byte == b'a'));
+    let reader = input.into_inner();
+    assert_same(&rt, &reader.reads, &1);
+    assert_same(&rt, &reader.text.len(), &902_848);
 }

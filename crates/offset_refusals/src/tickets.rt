@@ -1,0 +1,87 @@
+//! Guarded allocators, and calls of every kind with tickets.
+
+use crate::layouts::{Kept, Work};
+use crate::numbers::{Cells, put};
+use crate::outcomes::Failure;
+use offset_allocator::{NodeIndex, Tables};
+use offset_guarded::{GuardedOf, Ticket};
+use offset_script::Script;
+use std::alloc::Global;
+
+// Makes one call. It returns the result as a number.
+fn call<T: Tables>(
+    space: &mut GuardedOf<T>,
+    kept: &mut Option<Ticket>,
+    kind: u32,
+    number: u32,
+) -> u64 {
+    match *kept {
+        None => {
+            *kept = match kind % 4 {
+                0 => space.allocate_aligned(number, 8),
+                _ => space.allocate(number),
+            };
+            match kept {
+                None => 1,
+                Some(ticket) => ticket.serial,
+            }
+        }
+        Some(ticket) => match kind {
+            0..=9 => u64::from(space.free(ticket)),
+            10 => u64::from(space.shrink(ticket, number / 2) == Some(true)),
+            11 => u64::from(space.grow_in_place(ticket, number) == Some(true)),
+            12 => u64::from(space.extend(number)),
+            13 => u64::from(space.size_of(ticket).unwrap_or(0)),
+            14 => u64::from(space.offset_of(ticket).unwrap_or(0)),
+            _ => {
+                *kept = None;
+                if number % 8 == 0 {
+                    space.reset();
+                }
+                2
+            }
+        },
+    }
+}
+
+// Makes 1,000 calls of every kind, and returns a checksum of their results.
+fn checksum<T: Tables>(space: &mut GuardedOf<T>) -> u64 {
+    let mut kept: [Option<Ticket>; 16] = [None; 16];
+    let mut state = 1u64;
+    let mut sum = 0u64;
+    for _ in 0..1_000u32 {
+        state = state.wrapping_mul(1_103_515_245).wrapping_add(12_345) % 2_147_483_648;
+        let number = state / 65_536;
+        if let Some(kept) = kept.get_mut((number / 16 % 16) as usize) {
+            let answer = call(
+                space,
+                kept,
+                (number % 16) as u32,
+                (number / 256 % 100) as u32,
+            );
+            sum = sum.wrapping_mul(31).wrapping_add(answer);
+        }
+    }
+    sum
+}
+
+/// Makes a guarded allocator, makes 1,000 calls with tickets, and puts a checksum of their results into the cells.
+pub struct MakeGuardedAndCall;
+
+impl Work for MakeGuardedAndCall {
+    fn run<T: Tables>(
+        &self,
+        alloc: Global,
+        script: &Script,
+        _kept: &mut [Kept<T::Index>],
+        cells: &mut Cells<'_>,
+    ) -> Result<(), Failure> {
+        let limit = script.max_allocs;
+        if limit >= T::Index::MAX - 1 {
+            return Err(Failure::Unfit);
+        }
+        let mut space = GuardedOf::<T>::with_max_allocs(alloc, script.size, limit, 1)?;
+        put(cells, checksum(&mut space));
+        Ok(())
+    }
+}
