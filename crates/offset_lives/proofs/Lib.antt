@@ -8,6 +8,7 @@ mod Grouped
 mod Grown
 mod Held
 mod Levelled
+mod Lined
 mod Listed
 mod Marked
 mod Merged
@@ -18,6 +19,7 @@ mod Pieces
 mod Quieter
 mod Ranges
 mod Seen
+mod Shown
 mod Stepped
 mod Texts
 mod Ticked

@@ -6,6 +6,7 @@ pub mod Figures
 pub mod Growth
 pub mod Legend
 pub mod Levels
+pub mod Lines
 pub mod Lives
 pub mod Marks
 pub mod Merging

@@ -2,6 +2,7 @@
 //! nothing.
 
 ghost use Rattle.offset_lives.specs.Levels.{ReportsAreLevelled};
+ghost use Rattle.offset_lives.specs.Lines.{EachLineShowsItsValues};
 ghost use Rattle.offset_lives.specs.Lives.{LivesAreSeen, LivesAreWithin, LivesAreApart};
 ghost use Rattle.offset_lives.specs.Picture.{FiguresAreFixed, PicturesHaveTitles};
 ghost use Rattle.offset_lives.specs.Rectangles.{EachLifeHasARectangle};
@@ -30,6 +31,12 @@ pub fn lines_never_cross()
 /// Where grants have titles, each has exactly one rectangle, with its title, in the group of its age.
 pub fn each_life_has_a_rectangle()
     ensures { EachLifeHasARectangle }
+{}
+
+/// Each line has a point for each of its states, at the height of its value to a tenth of a pixel, and from there to the
+/// next state no other height.
+pub fn each_line_shows_its_values()
+    ensures { EachLineShowsItsValues }
 {}
 
 /// Each refused call has its mark, to a tenth of a pixel.
