@@ -16,6 +16,7 @@ mod Ordered
 mod Parted
 mod Peaks
 mod Pieces
+mod Placed
 mod Quieter
 mod Ranges
 mod Seen

@@ -10,6 +10,7 @@ pub mod Lines
 pub mod Lives
 pub mod Marks
 pub mod Merging
+pub mod Overlaps
 pub mod Picture
 pub mod Places
 pub mod Program

@@ -4,6 +4,7 @@
 ghost use Rattle.offset_lives.specs.Levels.{ReportsAreLevelled};
 ghost use Rattle.offset_lives.specs.Lines.{EachLineShowsItsValues};
 ghost use Rattle.offset_lives.specs.Lives.{LivesAreSeen, LivesAreWithin, LivesAreApart};
+ghost use Rattle.offset_lives.specs.Overlaps.{RectanglesAreApart};
 ghost use Rattle.offset_lives.specs.Picture.{FiguresAreFixed, PicturesHaveTitles};
 ghost use Rattle.offset_lives.specs.Rectangles.{EachLifeHasARectangle};
 ghost use Rattle.offset_lives.specs.Steps.{EachRefusalIsMarked};
@@ -31,6 +32,11 @@ pub fn lines_never_cross()
 /// Where grants have titles, each has exactly one rectangle, with its title, in the group of its age.
 pub fn each_life_has_a_rectangle()
     ensures { EachLifeHasARectangle }
+{}
+
+/// No two rectangles of lives overlap, but by the 0.3 pixels that thin ones are drawn with.
+pub fn rectangles_never_overlap()
+    ensures { RectanglesAreApart }
 {}
 
 /// Each line has a point for each of its states, at the height of its value to a tenth of a pixel, and from there to the
