@@ -19,6 +19,7 @@ mod Pieces
 mod Placed
 mod Quieter
 mod Ranges
+mod Same
 mod Seen
 mod Shown
 mod Stepped

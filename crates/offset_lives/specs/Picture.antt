@@ -98,3 +98,7 @@ PicturesHaveTitles = (title : List ℕ) (plan : Plan) (text : List ℕ) → IsPi
 -- the figures of a course that has a state are fixed
 abbrev pub FiguresAreFixed : Type 0
 FiguresAreFixed = (c : Course) (f g : Figures) → 0 < states c → AreFigures f c → AreFigures g c → f ≡ g
+
+-- two pictures of one script, with one title, are the same text
+abbrev pub PicturesAreFixed : Type 0
+PicturesAreFixed = (title : List ℕ) (plan : Plan) (a b : List ℕ) → IsPicture title plan a → IsPicture title plan b → a ≡ b

@@ -5,7 +5,7 @@ ghost use Rattle.offset_lives.specs.Levels.{ReportsAreLevelled};
 ghost use Rattle.offset_lives.specs.Lines.{EachLineShowsItsValues};
 ghost use Rattle.offset_lives.specs.Lives.{LivesAreSeen, LivesAreWithin, LivesAreApart};
 ghost use Rattle.offset_lives.specs.Overlaps.{RectanglesAreApart};
-ghost use Rattle.offset_lives.specs.Picture.{FiguresAreFixed, PicturesHaveTitles};
+ghost use Rattle.offset_lives.specs.Picture.{FiguresAreFixed, PicturesAreFixed, PicturesHaveTitles};
 ghost use Rattle.offset_lives.specs.Rectangles.{EachLifeHasARectangle};
 ghost use Rattle.offset_lives.specs.Steps.{EachRefusalIsMarked};
 
@@ -58,4 +58,9 @@ pub fn a_picture_has_its_title()
 /// The figures of a course, which the legend shows, are fixed by the course.
 pub fn a_course_fixes_its_figures()
     ensures { FiguresAreFixed }
+{}
+
+/// A script and a title fix the whole text of their picture.
+pub fn a_script_fixes_its_picture()
+    ensures { PicturesAreFixed }
 {}
