@@ -2,8 +2,10 @@ mod Apart
 mod Backward
 mod Counted
 mod Drawn
+mod Enclosed
 mod Falling
 mod Fixed
+mod Formed
 mod Grouped
 mod Grown
 mod Held
@@ -23,8 +25,10 @@ mod Same
 mod Seen
 mod Shown
 mod Stepped
+mod Tagged
 mod Texts
 mod Ticked
 mod Watched
 mod Whole
+mod Worded
 mod Written

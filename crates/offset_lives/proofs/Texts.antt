@@ -16,7 +16,7 @@ after_a : (a b : List ℕ) (bs : List (List ℕ)) → a ++ in_a_row b bs ≡ joi
 after_a a b [] = refl
 after_a a b (c ∷ bs) = sym (append_assoc a b (in_a_row c bs)) ∙ after_a (a ++ b) c bs
 
-same_text : (a : List ℕ) (bs : List (List ℕ)) → in_a_row a bs ≡ joined_up a bs
+pub same_text : (a : List ℕ) (bs : List (List ℕ)) → in_a_row a bs ≡ joined_up a bs
 same_text a [] = refl
 same_text a (b ∷ bs) = after_a a b bs
 

@@ -20,3 +20,4 @@ pub mod Reports
 pub mod Steps
 pub mod Ticks
 pub mod Titles
+pub mod Xml

@@ -1,5 +1,5 @@
 -- The whole text of a picture.
-use Rattle.std.specs.Prelude.{◌≡◌, ℕ, ◌+◌, ◌<◌, List, ◌++◌, Option, codes, map}
+use Rattle.std.specs.Prelude.{◌≡◌, ℕ, ◌+◌, ◌<◌, List, ◌++◌, IsUtf8, Option, codes, map}
 use Rattle.offset_script.specs.Grammar.{Plan}
 use Rattle.offset_lives.specs.declared.course.Course.{Course}
 use Rattle.offset_lives.specs.declared.figures.Figures.{Figures}
@@ -14,6 +14,7 @@ use Rattle.offset_lives.specs.Reports.{report_view, reports_of}
 use Rattle.offset_lives.specs.Steps.{beyond_text, refusals_text, reports_text}
 use Rattle.offset_lives.specs.Ticks.{axes_text}
 use Rattle.offset_lives.specs.Titles.{escaped}
+use Rattle.offset_lives.specs.Xml.{IsWellFormed}
 
 -- what a picture begins with, up to its title
 abbrev pub opening : List ℕ
@@ -102,3 +103,7 @@ FiguresAreFixed = (c : Course) (f g : Figures) → 0 < states c → AreFigures f
 -- two pictures of one script, with one title, are the same text
 abbrev pub PicturesAreFixed : Type 0
 PicturesAreFixed = (title : List ℕ) (plan : Plan) (a b : List ℕ) → IsPicture title plan a → IsPicture title plan b → a ≡ b
+
+-- each picture whose title is UTF-8 is well-formed XML
+abbrev pub PicturesAreWellFormed : Type 0
+PicturesAreWellFormed = (title : List ℕ) (plan : Plan) (text : List ℕ) → IsUtf8 title → IsPicture title plan text → IsWellFormed text

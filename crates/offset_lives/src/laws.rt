@@ -5,7 +5,7 @@ ghost use Rattle.offset_lives.specs.Levels.{ReportsAreLevelled};
 ghost use Rattle.offset_lives.specs.Lines.{EachLineShowsItsValues};
 ghost use Rattle.offset_lives.specs.Lives.{LivesAreSeen, LivesAreWithin, LivesAreApart};
 ghost use Rattle.offset_lives.specs.Overlaps.{RectanglesAreApart};
-ghost use Rattle.offset_lives.specs.Picture.{FiguresAreFixed, PicturesAreFixed, PicturesHaveTitles};
+ghost use Rattle.offset_lives.specs.Picture.{FiguresAreFixed, PicturesAreFixed, PicturesAreWellFormed, PicturesHaveTitles};
 ghost use Rattle.offset_lives.specs.Rectangles.{EachLifeHasARectangle};
 ghost use Rattle.offset_lives.specs.Steps.{EachRefusalIsMarked};
 
@@ -53,6 +53,12 @@ pub fn each_refusal_is_marked()
 /// Each picture begins with its title, and has it once more as its heading.
 pub fn a_picture_has_its_title()
     ensures { PicturesHaveTitles }
+{}
+
+/// Each picture is well-formed XML: one element, in which tags nest, names of attributes differ, and each character is
+/// one that XML allows.
+pub fn a_picture_is_well_formed()
+    ensures { PicturesAreWellFormed }
 {}
 
 /// The figures of a course, which the legend shows, are fixed by the course.

@@ -1,0 +1,203 @@
+-- The pieces of a picture are pieces of XML.
+use Rattle.std.proofs.Common.{ℕ, ◌+◌, ◌-◌, Bool, true, false, cond, ◌&&◌, List, [], ◌∷◌, ◌++◌, length, nat_eq, nat_le, nat_lt, sym, ap, codes, refl}
+use Rattle.std.specs.Fmt.{decimal}
+use Rattle.std.specs.Prelude.{flat_map}
+use Rattle.offset_lives.specs.declared.axes.Axis.{Axis}
+use Rattle.offset_lives.specs.declared.living.Life.{Life}
+use Rattle.offset_lives.specs.declared.plots.Plot.{Plot}
+use Rattle.offset_lives.specs.declared.rectangles.Frame.{Frame}
+use Rattle.offset_lives.specs.declared.shapes.Shape.{Shape}
+use Rattle.offset_lives.specs.declared.steps.Column.{Column}
+use Rattle.offset_lives.specs.declared.steps.Group.{Group}
+use Rattle.offset_lives.specs.Axes.{round_step}
+use Rattle.offset_lives.specs.Drawing.{grouped_text, pixels_text}
+use Rattle.offset_lives.specs.Marks.{column_of, column_text, counted_from_1, height_of, title_text}
+use Rattle.offset_lives.specs.Places.{frame_of, right_of, up_of}
+use Rattle.offset_lives.specs.Rectangles.{age_text, ages_text, falling_below, plain_of_age, plain_text, titled_of_age, titled_text}
+use Rattle.offset_lives.specs.Steps.{groups_from, groups_text, line_text, mark_text, marked_places, marks_text, refusals_text, steps_text}
+use Rattle.offset_lives.specs.Ticks.{axes_text, calls_text, calls_tick, multiples_to, units_tick}
+use Rattle.offset_lives.specs.Xml.{IsContent}
+use Rattle.offset_lives.specs.Xml.IsContent.{nothing}
+use Rattle.offset_lives.proofs.Texts.{in_a_row, same_text}
+use Rattle.offset_lives.proofs.Formed.{IsQuoted, end, ◌⊙◌, Attributes, InPieces, none, one, Grows, ◌⊕◌, both_quoted, content, decimal_numeric, each, empty_tag, full_tag, grouped_numeric, in_pieces, joins, literal, number_in_value, number_words, pixels_numeric, quoted, words}
+
+-- a number of pixels in a value, and numbers in text
+pub at : (n : ℕ) → IsQuoted (pixels_text n)
+at n = number_in_value (pixels_text n) (pixels_numeric n)
+
+pub grouped : (n : ℕ) → Grows (λ rest. grouped_text n ++ rest)
+grouped n = content (number_words (grouped_text n) (grouped_numeric n))
+
+number : (n : ℕ) → Grows (λ rest. decimal n ++ rest)
+number n = content (number_words (decimal n) (decimal_numeric n))
+
+-- ---- ticks
+
+is_units_tick : (p : Plot) (units : ℕ) → IsContent (units_tick p units)
+is_units_tick p units =
+    in_pieces (codes "<path class='grid' d='M")
+    (pixels_text p.calls.start ∷ codes " " ∷ pixels_text (up_of p.units units) ∷ codes "H" ∷ pixels_text (p.calls.start + p.calls.span) ∷ codes "'/>" ∷ codes "<text class='end' x='" ∷ pixels_text (p.calls.start - 800)
+    ∷ codes "' y='" ∷ pixels_text (up_of p.units units + 500) ∷ codes "'>" ∷ grouped_text units ∷ codes "</text>\n" ∷ [])
+    (empty_tag (codes "path") refl
+    (one (codes "class") refl (quoted (codes "grid") refl ⊙ end)
+    (one (codes "d") refl (quoted (codes "M") refl ⊙ at p.calls.start ⊙ quoted (codes " ") refl ⊙ at (up_of p.units units) ⊙ quoted (codes "H") refl ⊙ at (p.calls.start + p.calls.span) ⊙ end) none))
+    ⊕ full_tag (codes "text") refl
+    (one (codes "class") refl (quoted (codes "end") refl ⊙ end) (one (codes "x") refl (at (p.calls.start - 800) ⊙ end) (one (codes "y") refl (at (up_of p.units units + 500) ⊙ end) none))) (grouped units)
+    ⊕ literal (codes "\n") refl)
+    refl
+
+is_calls_tick : (p : Plot) (calls : ℕ) → IsContent (calls_tick p calls)
+is_calls_tick p calls =
+    in_pieces (codes "<path class='tick' d='M")
+    (pixels_text (right_of p.calls calls) ∷ codes " " ∷ pixels_text (p.units.start + p.units.span) ∷ codes "v10'/>" ∷ codes "<text class='middle' x='" ∷ pixels_text (right_of p.calls calls)
+    ∷ codes "' y='" ∷ pixels_text (p.units.start + p.units.span + 2600) ∷ codes "'>" ∷ grouped_text calls ∷ codes "</text>\n" ∷ [])
+    (empty_tag (codes "path") refl
+    (one (codes "class") refl (quoted (codes "tick") refl ⊙ end)
+    (one (codes "d") refl (quoted (codes "M") refl ⊙ at (right_of p.calls calls) ⊙ quoted (codes " ") refl ⊙ at (p.units.start + p.units.span) ⊙ quoted (codes "v10") refl ⊙ end) none))
+    ⊕ full_tag (codes "text") refl
+    (one (codes "class") refl (quoted (codes "middle") refl ⊙ end) (one (codes "x") refl (at (right_of p.calls calls) ⊙ end) (one (codes "y") refl (at (p.units.start + p.units.span + 2600) ⊙ end) none))) (grouped calls)
+    ⊕ literal (codes "\n") refl)
+    refl
+
+are_calls : (p : Plot) (marks : ℕ) → IsContent (calls_text p marks)
+are_calls p marks =
+    let ticks = flat_map (calls_tick p) (multiples_to (round_step p.calls.most marks) (p.calls.most - 1)) in
+    in_pieces ticks
+    (codes "<text class='end' x='" ∷ pixels_text (p.calls.start - 800) ∷ codes "' y='" ∷ pixels_text (p.units.start + p.units.span + 2600) ∷ codes "'>call</text>\n" ∷ [])
+    (content (each (calls_tick p) (is_calls_tick p) (multiples_to (round_step p.calls.most marks) (p.calls.most - 1)))
+    ⊕ full_tag (codes "text") refl
+    (one (codes "class") refl (quoted (codes "end") refl ⊙ end) (one (codes "x") refl (at (p.calls.start - 800) ⊙ end) (one (codes "y") refl (at (p.units.start + p.units.span + 2600) ⊙ end) none))) (literal (codes "call") refl)
+    ⊕ literal (codes "\n") refl)
+    refl
+
+pub axes_content : (p : Plot) (lines marks : ℕ) → IsContent (axes_text p lines marks)
+axes_content p lines marks = joins _ _ (each (units_tick p) (is_units_tick p) (multiples_to (round_step p.units.most lines) p.units.most)) (are_calls p marks)
+
+-- ---- lines of steps, and marks
+
+either_quoted : (b : Bool) (x y : List ℕ) → IsQuoted x → IsQuoted y → IsQuoted (cond b x y)
+either_quoted true x y h k = h
+either_quoted false x y h k = k
+
+no_steps : IsQuoted []
+no_steps = quoted [] refl
+
+upright : (b : Bool) (n : ℕ) → IsQuoted (cond b [] (codes "V" ++ pixels_text n))
+upright b n = either_quoted b [] (codes "V" ++ pixels_text n) no_steps (both_quoted (quoted (codes "V") refl) (at n))
+
+is_column : (c : Column) (pen : ℕ) → IsQuoted (column_text c pen)
+is_column c pen =
+    either_quoted (nat_eq c.top pen && nat_eq c.bottom pen) [] _ no_steps
+    (both_quoted (both_quoted (both_quoted (both_quoted (both_quoted (quoted (codes "H") refl) (at c.left)) (upright (nat_eq c.top c.last) c.top)) (upright (nat_eq c.bottom c.last) c.bottom)) (quoted (codes "V") refl)) (at c.last))
+
+are_groups : (u : Axis) (pen : ℕ) (gs : List Group) → IsQuoted (groups_text u pen gs)
+are_groups u pen [] = no_steps
+are_groups u pen (g ∷ gs) = both_quoted (is_column (column_of u g) pen) (are_groups u (height_of u g.last) gs)
+
+pub line_content : (class : List ℕ) (p : Plot) (base : ℕ) (values : List ℕ) → IsQuoted class → IsContent (line_text class p base values)
+line_content class p base values q =
+    in_pieces (codes "<path class='") (class ∷ codes "' d='" ∷ steps_text p base values ∷ codes "'/>\n" ∷ [])
+    (empty_tag (codes "path") refl
+    (one (codes "class") refl (q ⊙ end) (one (codes "d") refl
+    (both_quoted (both_quoted (both_quoted (both_quoted (both_quoted (both_quoted (both_quoted (both_quoted (quoted (codes "M") refl) (at p.calls.start)) (quoted (codes " ") refl)) (at base)) (are_groups p.units base (groups_from p.calls 0 values))) (quoted (codes "H") refl)) (at (p.calls.start + p.calls.span))) (quoted (codes "V") refl)) (at base) ⊙ end) none))
+    ⊕ literal (codes "\n") refl)
+    refl
+
+are_marks : (height : ℕ) (places : List ℕ) → IsQuoted (flat_map (mark_text height) places)
+are_marks height [] = no_steps
+are_marks height (x ∷ xs) = both_quoted (both_quoted (both_quoted (both_quoted (both_quoted (quoted (codes "M") refl) (at x)) (quoted (codes " ") refl)) (at height)) (quoted (codes "v12") refl)) (are_marks height xs)
+
+pub either_content : (b : Bool) (x y : List ℕ) → IsContent x → IsContent y → IsContent (cond b x y)
+either_content true x y h k = h
+either_content false x y h k = k
+
+pub refusals_content : (p : Plot) (refused : List ℕ) → IsContent (refusals_text p refused)
+refusals_content p refused =
+    either_content (nat_eq (length refused) 0) [] _ nothing
+    (in_pieces (codes "<path class='refusal' d='") (marks_text p.calls (p.units.start + p.units.span) refused ∷ codes "'/>\n" ∷ [])
+    (empty_tag (codes "path") refl
+    (one (codes "class") refl (quoted (codes "refusal") refl ⊙ end) (one (codes "d") refl (are_marks (p.units.start + p.units.span) (marked_places p.calls refused) ⊙ end) none)) ⊕ literal (codes "\n") refl)
+    refl)
+
+-- ---- rectangles
+
+-- the attributes of a rectangle, with an edge and without
+abbrev places : Frame → InPieces → InPieces
+places f more = (codes "x", pixels_text f.x ∷ []) ∷ (codes "y", pixels_text f.y ∷ []) ∷ (codes "width", pixels_text f.width ∷ []) ∷ (codes "height", pixels_text f.height ∷ []) ∷ more
+
+abbrev edge : Bool → InPieces
+edge true = (codes "class", codes "edge" ∷ []) ∷ []
+edge false = []
+
+are_places : (b : Bool) (f : Frame) → Attributes (places f (edge b))
+are_places true f = one (codes "x") refl (at f.x ⊙ end) (one (codes "y") refl (at f.y ⊙ end) (one (codes "width") refl (at f.width ⊙ end) (one (codes "height") refl (at f.height ⊙ end) (one (codes "class") refl (quoted (codes "edge") refl ⊙ end) none))))
+are_places false f = one (codes "x") refl (at f.x ⊙ end) (one (codes "y") refl (at f.y ⊙ end) (one (codes "width") refl (at f.width ⊙ end) (one (codes "height") refl (at f.height ⊙ end) none)))
+
+abbrev rectangle : Frame → Bool → List ℕ
+rectangle f b = codes "<rect x='" ++ pixels_text f.x ++ codes "' y='" ++ pixels_text f.y ++ codes "' width='" ++ pixels_text f.width ++ codes "' height='" ++ pixels_text f.height ++ codes "'" ++ cond b (codes " class='edge'") []
+
+-- what stands after the first piece of a rectangle
+abbrev after_first : Frame → Bool → List (List ℕ) → List (List ℕ)
+after_first f b more = pixels_text f.x ∷ codes "' y='" ∷ pixels_text f.y ∷ codes "' width='" ∷ pixels_text f.width ∷ codes "' height='" ∷ pixels_text f.height ∷ codes "'" ∷ cond b (codes " class='edge'") [] ∷ more
+
+plain_rectangle : (f : Frame) (b : Bool) → IsContent (rectangle f b ++ codes "/>\n")
+plain_rectangle f true = in_pieces (codes "<rect x='") (after_first f true (codes "/>\n" ∷ [])) (empty_tag (codes "rect") refl (are_places true f) ⊕ literal (codes "\n") refl) refl
+plain_rectangle f false = in_pieces (codes "<rect x='") (after_first f false (codes "/>\n" ∷ [])) (empty_tag (codes "rect") refl (are_places false f) ⊕ literal (codes "\n") refl) refl
+
+-- the end of a life, as its title has it
+abbrev last_call : Life → ℕ → List ℕ
+last_call l calls = cond (nat_lt calls (counted_from_1 l.last)) (codes "end") (decimal (counted_from_1 l.last))
+
+is_last : (l : Life) (calls : ℕ) → IsContent (last_call l calls)
+is_last l calls = either_content (nat_lt calls (counted_from_1 l.last)) (codes "end") (decimal (counted_from_1 l.last)) (words (codes "end") refl) (number_words (decimal (counted_from_1 l.last)) (decimal_numeric (counted_from_1 l.last)))
+
+-- the title of a life, before a text
+abbrev title_onto : Life → ℕ → List ℕ → List ℕ
+title_onto l calls rest =
+    codes "<" ++ (codes "title" ++ (codes ">" ++ (codes "grant " ++ (decimal l.number ++ (codes ", offset " ++ (decimal l.offset ++ (codes ", size " ++ (decimal l.size ++ (codes ", calls " ++ (decimal (counted_from_1 l.first) ++ (codes "-" ++ (last_call l calls
+    ++ (codes "</" ++ (codes "title" ++ (codes ">" ++ rest)))))))))))))))
+
+is_title : (l : Life) (calls : ℕ) → Grows (title_onto l calls)
+is_title l calls =
+    full_tag (codes "title") refl none
+    (literal (codes "grant ") refl ⊕ number l.number ⊕ literal (codes ", offset ") refl ⊕ number l.offset ⊕ literal (codes ", size ") refl ⊕ number l.size ⊕ literal (codes ", calls ") refl ⊕ number (counted_from_1 l.first)
+    ⊕ literal (codes "-") refl ⊕ content (is_last l calls))
+
+-- what stands after the first piece of a title
+abbrev title_pieces : Life → ℕ → List (List ℕ)
+title_pieces l calls =
+    decimal l.number ∷ codes ", offset " ∷ decimal l.offset ∷ codes ", size " ∷ decimal l.size ∷ codes ", calls " ∷ decimal (counted_from_1 l.first) ∷ codes "-" ∷ last_call l calls ∷ codes "</title></rect>\n" ∷ []
+
+titled_rectangle : (f : Frame) (b : Bool) (l : Life) (calls : ℕ) → IsContent (rectangle f b ++ codes ">" ++ title_text l calls)
+titled_rectangle f true l calls =
+    in_pieces (codes "<rect x='") (after_first f true (codes ">" ∷ title_text l calls ∷ []))
+    (full_tag (codes "rect") refl (are_places true f) (is_title l calls) ⊕ literal (codes "\n") refl)
+    (ap (λ t. in_a_row (codes "<rect x='") (after_first f true (codes ">" ∷ t ∷ []))) (sym (same_text (codes "<title>grant ") (title_pieces l calls))))
+titled_rectangle f false l calls =
+    in_pieces (codes "<rect x='") (after_first f false (codes ">" ∷ title_text l calls ∷ []))
+    (full_tag (codes "rect") refl (are_places false f) (is_title l calls) ⊕ literal (codes "\n") refl)
+    (ap (λ t. in_a_row (codes "<rect x='") (after_first f false (codes ">" ∷ t ∷ []))) (sym (same_text (codes "<title>grant ") (title_pieces l calls))))
+
+abbrev has_edge : Frame → Bool
+has_edge f = nat_le 300 f.width && nat_le 300 f.height
+
+is_plain : (s : Shape) → IsContent (plain_text s)
+is_plain s = plain_rectangle (frame_of s) (has_edge (frame_of s))
+
+is_titled : (calls : ℕ) (r : Shape × Life) → IsContent (titled_text calls r)
+is_titled calls r = titled_rectangle (frame_of r.0) (has_edge (frame_of r.0)) r.1 calls
+
+is_age : (held : ℕ → List ℕ) (age : ℕ) → IsContent (held age) → IsContent (age_text held age)
+is_age held age h =
+    in_pieces (codes "<g class='age") (decimal (age + 1) ∷ codes "'>\n" ∷ held age ∷ codes "</g>\n" ∷ [])
+    (full_tag (codes "g") refl (one (codes "class") refl (quoted (codes "age") refl ⊙ number_in_value (decimal (age + 1)) (decimal_numeric (age + 1)) ⊙ end) none) (literal (codes "\n") refl ⊕ content h) ⊕ literal (codes "\n") refl)
+    refl
+
+ages_content : (held : ℕ → List ℕ) → ((age : ℕ) → IsContent (held age)) → IsContent (ages_text held)
+ages_content held h = each (age_text held) (λ age. is_age held age (h age)) (falling_below 8)
+
+pub plain_content : (shapes : List Shape) → IsContent (ages_text (plain_of_age shapes))
+plain_content shapes = ages_content (plain_of_age shapes) (λ age. each plain_text is_plain _)
+
+pub titled_content : (calls : ℕ) (shapes : List Shape) (lives : List Life) → IsContent (ages_text (titled_of_age calls shapes lives))
+titled_content calls shapes lives = ages_content (titled_of_age calls shapes lives) (λ age. each (titled_text calls) (is_titled calls) _)
