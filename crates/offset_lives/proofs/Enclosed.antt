@@ -18,7 +18,8 @@ use Rattle.offset_lives.specs.Rectangles.{ages_text, plain_of_age, titled_of_age
 use Rattle.offset_lives.specs.Titles.{escape, escaped, is_in_xml}
 use Rattle.offset_lives.specs.Xml.{IsContent, IsWellFormed, is_plain}
 use Rattle.offset_lives.specs.Xml.IsContent.{nothing, characters, entity}
-use Rattle.offset_lives.proofs.Formed.{Attributes, InPieces, end, ◌⊙◌, none, one, Grows, ◌⊕◌, and_both, both, content, document, empty_tag, full_tag, joins, literal, quoted, words}
+use Rattle.offset_lives.proofs.Formed.{and_both, both, joins, words}
+use Rattle.offset_lives.proofs.Nested.{Attributes, InPieces, end, ◌⊙◌, none, one, Grows, ◌⊕◌, content, document, empty_tag, full_tag, literal, quoted}
 use Rattle.offset_lives.proofs.Tagged.{axes_content, line_content, plain_content, refusals_content, titled_content}
 use Rattle.offset_lives.proofs.Texts.{same_text}
 use Rattle.offset_lives.proofs.Worded.{legend_content, notes_content}
@@ -65,7 +66,8 @@ is_style =
 -- ---- the whole text
 
 are_grants : (b : Bool) (p : Plot) (ls : List Life) (calls : ℕ) (merged : Option ℕ) (text : List ℕ)
-    → MatchBool b ((shapes : List Shape) × AreMerged p ls shapes × (merged ≡ Some (length shapes)) × (text ≡ ages_text (plain_of_age shapes))) ((merged ≡ None) × (text ≡ ages_text (titled_of_age calls (map (shape_of p) ls) ls)))
+    → MatchBool b ((shapes : List Shape) × AreMerged p ls shapes × (merged ≡ Some (length shapes)) × (text ≡ ages_text (plain_of_age shapes)))
+    ((merged ≡ None) × (text ≡ ages_text (titled_of_age calls (map (shape_of p) ls) ls)))
     → IsContent text
 are_grants true p ls calls merged text x = subst IsContent (sym x.3) (plain_content x.0)
 are_grants false p ls calls merged text x = subst IsContent (sym x.1) (titled_content calls (map (shape_of p) ls) ls)
@@ -76,19 +78,23 @@ body_content c text x =
     let q = x.below in
     let base = q.units.start + q.units.span in
     subst IsContent (sym x.is)
-    (joins _ _ (joins _ _ (joins _ _ (joins _ _ (joins _ _ (joins _ _ (joins _ _ (legend_content x.figures c.max_allocs p.units.most) (line_content (codes "out") p p.units.start c.sizes.items (quoted (codes "out") refl))) (axes_content p 6 12))
+    (joins _ _ (joins _ _ (joins _ _ (joins _ _ (joins _ _ (joins _ _ (joins _ _ (legend_content x.figures c.max_allocs p.units.most)
+    (line_content (codes "out") p p.units.start c.sizes.items (quoted (codes "out") refl))) (axes_content p 6 12))
     (are_grants (nat_lt 20000 (length c.lives.items)) p c.lives.items x.figures.calls x.merged x.grants x.are_grants)) (refusals_content p c.refused.items))
-    (joins _ _ (joins _ _ (line_content (codes "free") q base (map free_of c.reports.items) (quoted (codes "free") refl)) (line_content (codes "joined") q base (map joined_of c.reports.items) (quoted (codes "joined") refl)))
+    (joins _ _ (joins _ _ (line_content (codes "free") q base (map free_of c.reports.items) (quoted (codes "free") refl))
+    (line_content (codes "joined") q base (map joined_of c.reports.items) (quoted (codes "joined") refl)))
     (line_content (codes "most") q base (map most_of c.reports.items) (quoted (codes "most") refl)))) (axes_content q 4 12)) (notes_content x.merged))
 
 -- the attributes of the whole, and of the heading
 abbrev svg : InPieces
 svg =
-    (codes "xmlns", codes "http://www.w3.org/2000/svg" ∷ []) ∷ (codes "width", codes "1200" ∷ []) ∷ (codes "height", codes "840" ∷ []) ∷ (codes "viewBox", codes "0 0 1200 840" ∷ []) ∷ (codes "role", codes "img" ∷ []) ∷ []
+    (codes "xmlns", codes "http://www.w3.org/2000/svg" ∷ []) ∷ (codes "width", codes "1200" ∷ []) ∷ (codes "height", codes "840" ∷ [])
+    ∷ (codes "viewBox", codes "0 0 1200 840" ∷ []) ∷ (codes "role", codes "img" ∷ []) ∷ []
 
 are_svg : Attributes svg
 are_svg =
-    one (codes "xmlns") refl (quoted (codes "http://www.w3.org/2000/svg") refl ⊙ end) (one (codes "width") refl (quoted (codes "1200") refl ⊙ end) (one (codes "height") refl (quoted (codes "840") refl ⊙ end)
+    one (codes "xmlns") refl (quoted (codes "http://www.w3.org/2000/svg") refl ⊙ end) (one (codes "width") refl (quoted (codes "1200") refl ⊙ end)
+    (one (codes "height") refl (quoted (codes "840") refl ⊙ end)
     (one (codes "viewBox") refl (quoted (codes "0 0 1200 840") refl ⊙ end) (one (codes "role") refl (quoted (codes "img") refl ⊙ end) none))))
 
 are_heading : Attributes ((codes "class", codes "big" ∷ []) ∷ (codes "x", codes "24" ∷ []) ∷ (codes "y", codes "28" ∷ []) ∷ [])
@@ -98,8 +104,8 @@ is_well_formed : (title : List ℕ) (c : Course) (text : List ℕ) → IsUtf8 ti
 is_well_formed title c text u x =
     let t = title_content title u in
     document (codes "svg") text refl are_svg
-    (literal (codes "\n") refl ⊕ full_tag (codes "title") refl none (content t) ⊕ literal (codes "\n") refl ⊕ is_style ⊕ full_tag (codes "text") refl are_heading (content t) ⊕ literal (codes "\n") refl
-    ⊕ content (body_content c x.body x.is_body))
+    (literal (codes "\n") refl ⊕ full_tag (codes "title") refl none (content t) ⊕ literal (codes "\n") refl ⊕ is_style
+    ⊕ full_tag (codes "text") refl are_heading (content t) ⊕ literal (codes "\n") refl ⊕ content (body_content c x.body x.is_body))
     (x.is ∙ sym (same_text opening (escaped title ∷ codes "</title>\n" ∷ style ∷ heading ∷ escaped title ∷ codes "</text>\n" ∷ x.body ∷ codes "</svg>\n" ∷ [])))
 
 pub xml_law : PicturesAreWellFormed

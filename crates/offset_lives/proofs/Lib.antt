@@ -14,6 +14,7 @@ mod Lined
 mod Listed
 mod Marked
 mod Merged
+mod Nested
 mod Ordered
 mod Parted
 mod Peaks
@@ -28,6 +29,7 @@ mod Stepped
 mod Tagged
 mod Texts
 mod Ticked
+mod Traced
 mod Watched
 mod Whole
 mod Worded

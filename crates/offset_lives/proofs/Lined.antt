@@ -1,8 +1,8 @@
 -- The steps of a line over its groups of states, and which points are on it.
-use Rattle.std.proofs.Common.{◌≡◌, ℕ, ◌+◌, ◌*◌, ◌/◌, ◌<◌, ◌≤◌, ◌∙◌, Bool, true, false, cond, ◌&&◌, ◌⊎◌, inl, inr, List, [], ◌∷◌, ◌++◌, append_assoc, append-nil, codes, nat_eq, nat_lt, refl, sym, ap, ap₂, subst, arith, eqb-true}
+use Rattle.std.proofs.Common.{◌≡◌, ℕ, ◌+◌, ◌*◌, ◌/◌, ◌<◌, ◌≤◌, ◌∙◌, Bool, true, false, cond, ◌&&◌, ◌⊎◌, inl, inr}
+use Rattle.std.proofs.Common.{List, [], ◌∷◌, ◌++◌, append_assoc, append-nil, codes, nat_eq, refl, sym, ap, ap₂, subst, arith, eqb-true}
 use Rattle.std.proofs.Math.Nat.{div-le_of_le-mul, div-mul-le_self}
 use Rattle.std.proofs.lemmas.Bool.{true≢false}
-use Rattle.std.proofs.lemmas.Bool.Decides.{nat_tests}
 use Rattle.std.proofs.lemmas.Grind.{flat_map-append}
 use Rattle.std.proofs.lemmas.Nat.{le-div}
 use Rattle.std.specs.Prelude.{flat_map, min}
@@ -12,7 +12,7 @@ use Rattle.offset_lives.specs.declared.steps.Column.{Column}
 use Rattle.offset_lives.specs.declared.steps.Group.{Group}
 use Rattle.offset_lives.specs.Axes.{along}
 use Rattle.offset_lives.specs.Drawing.{pixels_text}
-use Rattle.offset_lives.specs.Lines.{Step, Across, Upright, IsBetween, IsOn, path_text, step_text}
+use Rattle.offset_lives.specs.Lines.{Step, Across, Upright, IsOn, path_text, step_text}
 use Rattle.offset_lives.specs.Marks.{column_of, height_of}
 use Rattle.offset_lives.specs.Steps.{groups_from, groups_text, place_of, steps_text}
 
@@ -39,13 +39,13 @@ height_falls a m n l = let e = along_grows a.span a.most m n a.positive l in ome
 -- ---- the steps of a line
 
 -- the upright steps over the heights of a column, where it is said which of them are the last one
-abbrev uprights : Bool → Bool → Column → List Step
+abbrev pub uprights : Bool → Bool → Column → List Step
 uprights true true c = Upright c.last ∷ []
 uprights true false c = Upright c.bottom ∷ Upright c.last ∷ []
 uprights false true c = Upright c.top ∷ Upright c.last ∷ []
 uprights false false c = Upright c.top ∷ Upright c.bottom ∷ Upright c.last ∷ []
 
-abbrev all_uprights : Column → List Step
+abbrev pub all_uprights : Column → List Step
 all_uprights c = uprights (nat_eq c.top c.last) (nat_eq c.bottom c.last) c
 
 abbrev column_steps : Column → ℕ → List Step
@@ -75,7 +75,8 @@ groups_written u pen (g ∷ gs) =
     flat_map-append step_text (column_steps c pen) (groups_steps u (height_of u g.last) gs)
     ∙ ap₂ (λ a b. a ++ b) (column_by (nat_eq c.top pen && nat_eq c.bottom pen) (nat_eq c.top c.last) (nat_eq c.bottom c.last) c) (groups_written u (height_of u g.last) gs)
 
-pub line_written : (p : Plot) (base : ℕ) (values : List ℕ) → steps_text p base values ≡ path_text p.calls.start base (line p.units (p.calls.start + p.calls.span) base base (groups_from p.calls 0 values))
+pub line_written : (p : Plot) (base : ℕ) (values : List ℕ)
+    → steps_text p base values ≡ path_text p.calls.start base (line p.units (p.calls.start + p.calls.span) base base (groups_from p.calls 0 values))
 line_written p base values =
     let end = p.calls.start + p.calls.span in
     let gs = groups_from p.calls 0 values in
@@ -97,21 +98,6 @@ covered true false c pen h rest e f a b = let t = eqb-true c.top c.last e in inr
 covered false true c pen h rest e f a b = let m = eqb-true c.bottom c.last f in inr (inl (refl, (omega arith, omega arith)))
 covered false false c pen h rest e f a b = inr (inl (refl, (omega arith, omega arith)))
 
--- a point on them is at the place of the column, or comes later
-passed : (y z : Bool) (c : Column) (pen q h : ℕ) (rest : List Step) → IsOn q h c.left pen (uprights y z c ++ rest) → (q ≡ c.left) ⊎ IsOn q h c.left c.last rest
-passed true true c pen q h rest (inl x) = inl x.0
-passed true true c pen q h rest (inr m) = inr m
-passed true false c pen q h rest (inl x) = inl x.0
-passed true false c pen q h rest (inr (inl x)) = inl x.0
-passed true false c pen q h rest (inr (inr m)) = inr m
-passed false true c pen q h rest (inl x) = inl x.0
-passed false true c pen q h rest (inr (inl x)) = inl x.0
-passed false true c pen q h rest (inr (inr m)) = inr m
-passed false false c pen q h rest (inl x) = inl x.0
-passed false false c pen q h rest (inr (inl x)) = inl x.0
-passed false false c pen q h rest (inr (inr (inl x))) = inl x.0
-passed false false c pen q h rest (inr (inr (inr m))) = inr m
-
 -- ---- groups
 
 -- the groups lie from the place `from` to the place `end`, and the last value of each is one of its values
@@ -123,16 +109,6 @@ IsRising end from (g ∷ gs) = (from ≤ g.left) × (g.least ≤ g.last) × (g.l
 abbrev pub Has : List Group → ℕ → ℕ → Type 0
 Has [] x v = ⊥
 Has (g ∷ gs) x v = ((g.left ≡ x) × (g.least ≤ v) × (v ≤ g.most)) ⊎ Has gs x v
-
--- no group is at this place
-abbrev pub IsApartFrom : ℕ → List Group → Type 0
-IsApartFrom q [] = Unit {0}
-IsApartFrom q (g ∷ gs) = ((q < g.left) ⊎ (g.left < q)) × IsApartFrom q gs
-
--- the height of the line at a place that no group has
-abbrev pub height_at : Axis → ℕ → List Group → ℕ → ℕ
-height_at u pen [] q = pen
-height_at u pen (g ∷ gs) q = cond (nat_lt g.left q) (height_at u (height_of u g.last) gs q) pen
 
 pub sooner : (end from m : ℕ) (gs : List Group) → from ≤ m → IsRising end m gs → IsRising end from gs
 sooner end from m [] l r = omega (arith, r)
@@ -147,7 +123,7 @@ both_same : (a b : Bool) → (a && b) ≡ true → (a ≡ true) × (b ≡ true)
 both_same true b e = (refl, e)
 both_same false b e = absurd (true≢false (sym e))
 
-same_height : (u : Axis) (g : Group) (pen v : ℕ) → (nat_eq (height_of u g.most) pen && nat_eq (height_of u g.least) pen) ≡ true → g.least ≤ v → v ≤ g.most → height_of u v ≡ pen
+pub same_height : (u : Axis) (g : Group) (pen v : ℕ) → (nat_eq (height_of u g.most) pen && nat_eq (height_of u g.least) pen) ≡ true → g.least ≤ v → v ≤ g.most → height_of u v ≡ pen
 same_height u g pen v e a b =
     let x = both_same (nat_eq (height_of u g.most) pen) (nat_eq (height_of u g.least) pen) e in
     let t = eqb-true (height_of u g.most) pen x.0 in
@@ -156,7 +132,8 @@ same_height u g pen v e a b =
     omega (arith, t, m, h.0, h.1)
 
 -- the line goes on at its height up to a place that no group is before
-here_step : (u : Axis) (end base from pen q : ℕ) (g : Group) (gs : List Group) (b : Bool) → (nat_eq (height_of u g.most) pen && nat_eq (height_of u g.least) pen) ≡ b → from ≤ q → q ≤ g.left → g.least ≤ g.last → g.last ≤ g.most
+here_step : (u : Axis) (end base from pen q : ℕ) (g : Group) (gs : List Group) (b : Bool)
+    → (nat_eq (height_of u g.most) pen && nat_eq (height_of u g.least) pen) ≡ b → from ≤ q → q ≤ g.left → g.least ≤ g.last → g.last ≤ g.most
     → IsOn q (height_of u g.last) from (height_of u g.last) (line u end base (height_of u g.last) gs)
     → IsOn q pen from pen ((cond b [] (Across g.left ∷ all_uprights (column_of u g)) ++ groups_steps u (height_of u g.last) gs) ++ Across end ∷ Upright base ∷ [])
 here_step u end base from pen q g gs true e l m a b on = subst (λ h. IsOn q h from h (line u end base (height_of u g.last) gs)) (same_height u g pen g.last e a b) on
@@ -169,24 +146,26 @@ goes_here u end base from pen q (g ∷ gs) l r =
     (goes_here u end base from (height_of u g.last) q gs l (sooner end q g.left gs r.0 r.3))
 
 -- what the column g, drawn or not, does to a line from (from, pen)
-abbrev one : Axis → ℕ → ℕ → ℕ → Group → List Group → Bool → List Step
+abbrev pub one : Axis → ℕ → ℕ → ℕ → Group → List Group → Bool → List Step
 one u end base pen g gs b = (cond b [] (Across g.left ∷ all_uprights (column_of u g)) ++ groups_steps u (height_of u g.last) gs) ++ Across end ∷ Upright base ∷ []
 
-abbrev is_left_out : Axis → Group → ℕ → Bool
+abbrev pub is_left_out : Axis → Group → ℕ → Bool
 is_left_out u g pen = nat_eq (height_of u g.most) pen && nat_eq (height_of u g.least) pen
 
 -- the steps of a drawn column come before those of the others
-drawn_first : (u : Axis) (end base : ℕ) (g : Group) (gs : List Group)
+pub drawn_first : (u : Axis) (end base : ℕ) (g : Group) (gs : List Group)
     → (all_uprights (column_of u g) ++ groups_steps u (height_of u g.last) gs) ++ Across end ∷ Upright base ∷ [] ≡ all_uprights (column_of u g) ++ line u end base (height_of u g.last) gs
 drawn_first u end base g gs = append_assoc (all_uprights (column_of u g)) (groups_steps u (height_of u g.last) gs) (Across end ∷ Upright base ∷ [])
 
 -- a point of the line after a group is a point of the whole line
 more_step : (u : Axis) (end base from pen q h : ℕ) (g : Group) (gs : List Group) (b : Bool) → is_left_out u g pen ≡ b → g.least ≤ g.last → g.last ≤ g.most
-    → IsOn q h from (height_of u g.last) (line u end base (height_of u g.last) gs) → IsOn q h g.left (height_of u g.last) (line u end base (height_of u g.last) gs) → IsOn q h from pen (one u end base pen g gs b)
+    → IsOn q h from (height_of u g.last) (line u end base (height_of u g.last) gs) → IsOn q h g.left (height_of u g.last) (line u end base (height_of u g.last) gs)
+    → IsOn q h from pen (one u end base pen g gs b)
 more_step u end base from pen q h g gs true e a b stays goes = subst (λ (y : ℕ). IsOn q h from y (line u end base (height_of u g.last) gs)) (same_height u g pen g.last e a b) stays
 more_step u end base from pen q h g gs false e a b stays goes =
     let c = column_of u g in
-    inr (subst (λ (s : List Step). IsOn q h g.left pen s) (sym (drawn_first u end base g gs)) (later (nat_eq c.top c.last) (nat_eq c.bottom c.last) c pen q h (line u end base (height_of u g.last) gs) goes))
+    inr (subst (λ (s : List Step). IsOn q h g.left pen s) (sym (drawn_first u end base g gs))
+    (later (nat_eq c.top c.last) (nat_eq c.bottom c.last) c pen q h (line u end base (height_of u g.last) gs) goes))
 
 -- a value of a group is on the line
 at_step : (u : Axis) (end base from pen v : ℕ) (g : Group) (gs : List Group) (b : Bool) → is_left_out u g pen ≡ b → from ≤ g.left → g.least ≤ g.last → g.last ≤ g.most → g.least ≤ v → v ≤ g.most
@@ -194,7 +173,8 @@ at_step : (u : Axis) (end base from pen v : ℕ) (g : Group) (gs : List Group) (
 at_step u end base from pen v g gs true e l a b i j stays =
     let x = same_height u g pen g.last e a b in
     let y = same_height u g pen v e i j in
-    subst (λ (z : ℕ). IsOn g.left z from pen (line u end base (height_of u g.last) gs)) (x ∙ sym y) (subst (λ (z : ℕ). IsOn g.left (height_of u g.last) from z (line u end base (height_of u g.last) gs)) x stays)
+    subst (λ (z : ℕ). IsOn g.left z from pen (line u end base (height_of u g.last) gs)) (x ∙ sym y)
+    (subst (λ (z : ℕ). IsOn g.left (height_of u g.last) from z (line u end base (height_of u g.last) gs)) x stays)
 at_step u end base from pen v g gs false e l a b i j stays =
     let c = column_of u g in
     let h = tops u g v i j in
@@ -209,72 +189,3 @@ shows u end base from pen x v (g ∷ gs) r (inl h) =
 shows u end base from pen x v (g ∷ gs) r (inr h) =
     more_step u end base from pen x (height_of u v) g gs (is_left_out u g pen) refl r.1 r.2 (shows u end base from (height_of u g.last) x v gs (sooner end from g.left gs r.0 r.3) h)
     (shows u end base g.left (height_of u g.last) x v gs r.3 h)
-
--- a point of the whole line is on the part before the next group, or at its place, or after it
-abbrev Goes : (u : Axis) (end base from y q h : ℕ) (g : Group) (gs : List Group) → Bool → Type 0
-Goes u end base from y q h g gs true = IsOn q h from y (line u end base (height_of u g.last) gs)
-Goes u end base from y q h g gs false = ((h ≡ y) × IsBetween from g.left q) ⊎ ((q ≡ g.left) ⊎ IsOn q h g.left (height_of u g.last) (line u end base (height_of u g.last) gs))
-
-part_step : (u : Axis) (end base from pen y q h : ℕ) (g : Group) (gs : List Group) (b : Bool) → IsOn q h from y (one u end base pen g gs b) → Goes u end base from y q h g gs b
-part_step u end base from pen y q h g gs true on = on
-part_step u end base from pen y q h g gs false (inl x) = inl x
-part_step u end base from pen y q h g gs false (inr m) =
-    let c = column_of u g in
-    inr (passed (nat_eq c.top c.last) (nat_eq c.bottom c.last) c y q h (line u end base (height_of u g.last) gs) (subst (λ (s : List Step). IsOn q h g.left y s) (drawn_first u end base g gs) m))
-
--- no point of the line is before its beginning
-from_step : (u : Axis) (end base from y q h : ℕ) (g : Group) (gs : List Group) (b : Bool) → from ≤ g.left
-    → ((z : ℕ) → IsOn q h from z (line u end base (height_of u g.last) gs) → from ≤ q) → (IsOn q h g.left (height_of u g.last) (line u end base (height_of u g.last) gs) → g.left ≤ q)
-    → Goes u end base from y q h g gs b → from ≤ q
-from_step u end base from y q h g gs true l stays goes on = stays y on
-from_step u end base from y q h g gs false l stays goes (inl x) = omega (arith, x.1.0)
-from_step u end base from y q h g gs false l stays goes (inr (inl e)) = omega (arith, e)
-from_step u end base from y q h g gs false l stays goes (inr (inr more)) = let k = goes more in omega arith
-
-is_from : (u : Axis) (end base from pen y q h : ℕ) (gs : List Group) → IsRising end from gs → IsOn q h from y (line u end base pen gs) → from ≤ q
-is_from u end base from pen y q h [] r (inl x) = omega (arith, x.1.0)
-is_from u end base from pen y q h [] r (inr (inl x)) = omega (arith, x.0, r)
-is_from u end base from pen y q h [] r (inr (inr x)) = omega (arith, x.0, r)
-is_from u end base from pen y q h (g ∷ gs) r on =
-    from_step u end base from y q h g gs (is_left_out u g pen) r.0 (λ z m. is_from u end base from (height_of u g.last) z q h gs (sooner end from g.left gs r.0 r.3) m)
-    (λ m. is_from u end base g.left (height_of u g.last) (height_of u g.last) q h gs r.3 m) (part_step u end base from pen y q h g gs (is_left_out u g pen) on)
-
--- the height at a place before all groups is that of the line
-pub before_all : (u : Axis) (end pen q : ℕ) (gs : List Group) → IsRising end q gs → height_at u pen gs q ≡ pen
-before_all u end pen q [] r = refl
-before_all u end pen q (g ∷ gs) r = ap (λ b. cond b (height_at u (height_of u g.last) gs q) pen) (not_less g.left q r.0)
-  where
-    not_less : (m n : ℕ) → n ≤ m → nat_lt m n ≡ false
-    not_less m n l = grind (arith, nat_tests)
-
--- between the places of the groups a line has one height
-less_is : (m n : ℕ) → nat_lt m n ≡ true → m < n
-less_is m n e = grind (arith, nat_tests)
-
-not_less_is : (m n : ℕ) → nat_lt m n ≡ false → n ≤ m
-not_less_is m n e = grind (arith, nat_tests)
-
-abbrev Only : (u : Axis) (end base q h : ℕ) (gs : List Group) → Type 0
-Only u end base q h gs = (from pen : ℕ) → IsRising end from gs → IsOn q h from pen (line u end base pen gs) → from < q → h ≡ height_at u pen gs q
-
-only_step : (u : Axis) (end base from pen q h : ℕ) (g : Group) (gs : List Group) (b c : Bool) → is_left_out u g pen ≡ b → nat_lt g.left q ≡ c → IsRising end from (g ∷ gs) → (q < g.left) ⊎ (g.left < q) → from < q
-    → Only u end base q h gs → Goes u end base from pen q h g gs b → h ≡ cond c (height_at u (height_of u g.last) gs q) pen
-only_step u end base from pen q h g gs true true e f r apart l ih on =
-    ih from (height_of u g.last) (sooner end from g.left gs r.0 r.3) (subst (λ (z : ℕ). IsOn q h from z (line u end base (height_of u g.last) gs)) (sym (same_height u g pen g.last e r.1 r.2)) on) l
-only_step u end base from pen q h g gs true false e f r apart l ih on =
-    ih from (height_of u g.last) (sooner end from g.left gs r.0 r.3) (subst (λ (z : ℕ). IsOn q h from z (line u end base (height_of u g.last) gs)) (sym (same_height u g pen g.last e r.1 r.2)) on) l
-    ∙ before_all u end (height_of u g.last) q gs (sooner end q g.left gs (not_less_is g.left q f) r.3) ∙ same_height u g pen g.last e r.1 r.2
-only_step u end base from pen q h g gs false true e f r apart l ih (inl x) = let less = less_is g.left q f in absurd (omega (arith, x.1.1))
-only_step u end base from pen q h g gs false true e f r apart l ih (inr (inl x)) = let less = less_is g.left q f in absurd (omega (arith, x))
-only_step u end base from pen q h g gs false true e f r apart l ih (inr (inr m)) = ih g.left (height_of u g.last) r.3 m (less_is g.left q f)
-only_step u end base from pen q h g gs false false e f r apart l ih (inl x) = x.0
-only_step u end base from pen q h g gs false false e f r apart l ih (inr (inl x)) = absurd (omega (arith, x, apart))
-only_step u end base from pen q h g gs false false e f r apart l ih (inr (inr m)) =
-    let less = not_less_is g.left q f in let back = is_from u end base g.left (height_of u g.last) (height_of u g.last) q h gs r.3 m in absurd (omega (arith, apart))
-
-pub only : (u : Axis) (end base q h : ℕ) (gs : List Group) → IsApartFrom q gs → q < end → Only u end base q h gs
-only u end base q h [] apart before from pen r (inl x) l = x.0
-only u end base q h [] apart before from pen r (inr (inl x)) l = absurd (omega (arith, x.0))
-only u end base q h [] apart before from pen r (inr (inr x)) l = absurd (omega (arith, x.0))
-only u end base q h (g ∷ gs) apart before from pen r on l =
-    only_step u end base from pen q h g gs (is_left_out u g pen) (nat_lt g.left q) refl refl r apart.0 l (only u end base q h gs apart.1 before) (part_step u end base from pen pen q h g gs (is_left_out u g pen) on)

@@ -44,9 +44,12 @@ lower p low a b l =
     above (shape_of p a) (shape_of p b) (omega arith) (omega arith) (up_falls p.units a.offset (a.offset + a.size) (omega arith)) (up_falls p.units b.offset (b.offset + b.size) (omega arith))
     (up_falls p.units (b.offset + b.size) a.offset l)
 
-drawn_apart : (p : Plot) (a b : Life) → 30 ≤ p.units.start → a.first ≤ a.last → b.first ≤ b.last → AreApart (life_view a) (life_view b) → AreDrawnApart (frame_of (shape_of p a)) (frame_of (shape_of p b))
-drawn_apart p a b low o q (inl l) = inl (left_of (shape_of p a) (shape_of p b) (right_grows p.calls (a.first + 1) (a.last + 1) (omega arith)) (right_grows p.calls (a.last + 1) (b.first + 1) (omega arith)))
-drawn_apart p a b low o q (inr (inl l)) = inr (inl (left_of (shape_of p b) (shape_of p a) (right_grows p.calls (b.first + 1) (b.last + 1) (omega arith)) (right_grows p.calls (b.last + 1) (a.first + 1) (omega arith))))
+drawn_apart : (p : Plot) (a b : Life) → 30 ≤ p.units.start → a.first ≤ a.last → b.first ≤ b.last → AreApart (life_view a) (life_view b)
+    → AreDrawnApart (frame_of (shape_of p a)) (frame_of (shape_of p b))
+drawn_apart p a b low o q (inl l) =
+    inl (left_of (shape_of p a) (shape_of p b) (right_grows p.calls (a.first + 1) (a.last + 1) (omega arith)) (right_grows p.calls (a.last + 1) (b.first + 1) (omega arith)))
+drawn_apart p a b low o q (inr (inl l)) =
+    inr (inl (left_of (shape_of p b) (shape_of p a) (right_grows p.calls (b.first + 1) (b.last + 1) (omega arith)) (right_grows p.calls (b.last + 1) (a.first + 1) (omega arith))))
 drawn_apart p a b low o q (inr (inr (inl l))) = inr (inr (inr (lower p low b a l)))
 drawn_apart p a b low o q (inr (inr (inr l))) = inr (inr (inl (lower p low a b l)))
 

@@ -1,5 +1,6 @@
 -- Two pictures of one script are one.
-use Rattle.std.proofs.Common.{◌≡◌, ℕ, suc, ◌+◌, ◌-◌, ◌<◌, ◌≤◌, ◌∙◌, Bool, true, false, cond, ◌&&◌, List, [], ◌∷◌, ◌++◌, Option, Some, None, All, codes, length, map, nat_eq, nat_lt, refl, sym, ap, ap₂, subst, arith, eqb-true, eq-eqb, if◌then◌else◌}
+use Rattle.std.proofs.Common.{◌≡◌, ℕ, suc, ◌+◌, ◌-◌, ◌<◌, ◌≤◌, ◌∙◌, Bool, true, false, cond, ◌&&◌, List, [], ◌∷◌, ◌++◌}
+use Rattle.std.proofs.Common.{Option, Some, None, All, codes, length, map, nat_eq, nat_lt, refl, sym, ap, ap₂, subst, arith, eqb-true, eq-eqb, if◌then◌else◌}
 use Rattle.std.proofs.Math.Bridge.{le_prop}
 use Rattle.std.proofs.Math.ListN.{length-map}
 use Rattle.std.proofs.lemmas.List.Elements.{All-cons, All-head, All-tail, All-weaker}
@@ -15,7 +16,7 @@ use Rattle.offset_lives.specs.declared.figures.Figures.{Figures}
 use Rattle.offset_lives.specs.declared.living.Life.{Life}
 use Rattle.offset_lives.specs.declared.plots.Plot.{Plot}
 use Rattle.offset_lives.specs.declared.shapes.Shape.{Shape}
-use Rattle.offset_lives.specs.Figures.{AreFigures, IsFirstLargest, IsFirstSmallest, count_below, counted, end_of, largest, states}
+use Rattle.offset_lives.specs.Figures.{AreFigures, AreTotals, IsFirstLargest, IsFirstSmallest, count_below, counted, end_of, largest, states}
 use Rattle.offset_lives.specs.Legend.{legend_text, notes_text}
 use Rattle.offset_lives.specs.Levels.{free_of, joined_of, most_of}
 use Rattle.offset_lives.specs.Lives.{is_on, life_view}
@@ -120,8 +121,8 @@ same_fields a b x y z = same_axis a.start a.span a.most b.start b.span b.most a.
 abbrev plot_of : Axis → Axis → Plot
 plot_of calls units = record { calls = calls; units = units }
 
-one_plot : (n top height l n' l' : ℕ) (p q : Plot) → n ≡ n' → l ≡ l' → IsPlot n top height l p → IsPlot n' top height l' q → p ≡ q
-one_plot n top height l n' l' p q e f x y =
+one_plot : {n top height l n' l' : ℕ} (p q : Plot) → IsPlot n top height l p → IsPlot n' top height l' q → n ≡ n' → l ≡ l' → p ≡ q
+one_plot p q x y e f =
     ap₂ plot_of
     (same_fields p.calls q.calls (x.calls.0 ∙ sym y.calls.0) (x.calls.1 ∙ sym y.calls.1) (x.calls.2 ∙ ap (λ k. counted (k + 1)) e ∙ sym y.calls.2))
     (same_fields p.units q.units (x.units.0 ∙ sym y.units.0) (x.units.1 ∙ sym y.units.1) (x.units.2 ∙ f ∙ sym y.units.2))
@@ -172,20 +173,31 @@ free_in reports s = slice_index (map (λ r. r.total_free_space) reports) s
 abbrev states_in : List StorageReport → List ℕ → ℕ
 states_in reports sizes = min (length sizes) (length reports)
 
+-- what holds of what is read of one course holds of the same of the other
+like_read : (c d : Course) (P : List Life → List StorageReport → List ℕ → Type 0) → IsLike c d → P c.lives.items c.reports.items c.sizes.items → P d.lives.items d.reports.items d.sizes.items
+like_read c d P e h = moved P c.lives.items d.lives.items c.reports.items d.reports.items c.sizes.items d.sizes.items e.lives e.reports e.sizes h
+
+like_totals : (c d : Course) (f : Figures) → IsLike c d → AreTotals f c → AreTotals f d
+like_totals c d f e x = record {
+  calls = x.calls ∙ ap (λ ss. counted (length ss - 1)) e.sizes;
+  grants = x.grants ∙ ap (λ ls. counted (length ls)) e.lives;
+  refusals = x.refusals ∙ ap (λ rs. counted (length rs)) e.refused;
+  first_size = x.first_size ∙ ap (λ ss. slice_index ss 0) e.sizes;
+  highest = x.highest ∙ ap (λ ls. largest (map end_of ls)) e.lives;
+}
+
 like_figures : (c d : Course) (f : Figures) → IsLike c d → AreFigures f c → AreFigures f d
 like_figures c d f e x = record {
-  totals = record {
-    calls = x.totals.calls ∙ ap (λ ss. counted (length ss - 1)) e.sizes;
-    grants = x.totals.grants ∙ ap (λ ls. counted (length ls)) e.lives;
-    refusals = x.totals.refusals ∙ ap (λ rs. counted (length rs)) e.refused;
-    first_size = x.totals.first_size ∙ ap (λ ss. slice_index ss 0) e.sizes;
-    highest = x.totals.highest ∙ ap (λ ls. largest (map end_of ls)) e.lives;
-  };
-  live = moved (λ ls rs ss. 0 < states_in rs ss → (s : ℕ) × IsFirstLargest (live_in ls) (states_in rs ss) s × (f.most_live ≡ live_in ls s)) c.lives.items d.lives.items c.reports.items d.reports.items c.sizes.items d.sizes.items e.lives e.reports e.sizes x.live;
-  used = moved (λ ls rs ss. 0 < states_in rs ss → (s : ℕ) × IsFirstLargest (used_in ls) (states_in rs ss) s × (f.most_used ≡ used_in ls s) × (f.size_then ≡ size_in ss s)) c.lives.items d.lives.items c.reports.items d.reports.items c.sizes.items d.sizes.items e.lives e.reports e.sizes x.used;
-  size = moved (λ ls rs ss. 0 < states_in rs ss → (s : ℕ) × IsFirstLargest (size_in ss) (states_in rs ss) s × (f.largest_size ≡ size_in ss s)) c.lives.items d.lives.items c.reports.items d.reports.items c.sizes.items d.sizes.items e.lives e.reports e.sizes x.size;
-  worst = moved (λ ls rs ss. 0 < states_in rs ss → (s : ℕ) × IsFirstSmallest (region_in rs) (states_in rs ss) s × (f.worst ≡ counted s) × (f.worst_region ≡ region_in rs s) × (f.worst_free ≡ free_in rs s)) c.lives.items d.lives.items c.reports.items d.reports.items c.sizes.items d.sizes.items e.lives e.reports e.sizes x.worst;
-  full = moved (λ ls rs ss. f.full_states ≡ counted (count_below (λ s. nat_lt (used_in ls s) (size_in ss s) && nat_eq (free_in rs s) 0) (states_in rs ss))) c.lives.items d.lives.items c.reports.items d.reports.items c.sizes.items d.sizes.items e.lives e.reports e.sizes x.full;
+  totals = like_totals c d f e x.totals;
+  live = like_read c d (λ ls rs ss. 0 < states_in rs ss → (s : ℕ) × IsFirstLargest (live_in ls) (states_in rs ss) s × (f.most_live ≡ live_in ls s)) e x.live;
+  used =
+      like_read c d (λ ls rs ss. 0 < states_in rs ss → (s : ℕ) × IsFirstLargest (used_in ls) (states_in rs ss) s × (f.most_used ≡ used_in ls s) × (f.size_then ≡ size_in ss s)) e x.used;
+  size = like_read c d (λ ls rs ss. 0 < states_in rs ss → (s : ℕ) × IsFirstLargest (size_in ss) (states_in rs ss) s × (f.largest_size ≡ size_in ss s)) e x.size;
+  worst =
+      like_read c d
+      (λ ls rs ss. 0 < states_in rs ss → (s : ℕ) × IsFirstSmallest (region_in rs) (states_in rs ss) s × (f.worst ≡ counted s) × (f.worst_region ≡ region_in rs s) × (f.worst_free ≡ free_in rs s)) e
+      x.worst;
+  full = like_read c d (λ ls rs ss. f.full_states ≡ counted (count_below (λ s. nat_lt (used_in ls s) (size_in ss s) && nat_eq (free_in rs s) 0) (states_in rs ss))) e x.full;
 }
 
 -- ---- the whole text
@@ -194,14 +206,15 @@ like_figures c d f e x = record {
 abbrev whole : Figures → ℕ → Plot → Plot → List ℕ → List ℕ → List StorageReport → List ℕ → Option ℕ → List ℕ
 whole f nodes p q sizes refused reports grants merged =
     legend_text f nodes p.units.most ++ line_text (codes "out") p p.units.start sizes ++ axes_text p 6 12 ++ grants ++ refusals_text p refused
-    ++ (line_text (codes "free") q (q.units.start + q.units.span) (map free_of reports) ++ line_text (codes "joined") q (q.units.start + q.units.span) (map joined_of reports) ++ line_text (codes "most") q (q.units.start + q.units.span) (map most_of reports))
+    ++ (line_text (codes "free") q (q.units.start + q.units.span) (map free_of reports) ++ line_text (codes "joined") q (q.units.start + q.units.span) (map joined_of reports)
+    ++ line_text (codes "most") q (q.units.start + q.units.span) (map most_of reports))
     ++ axes_text q 4 12 ++ notes_text merged
 
 pub one_body : (c d : Course) (a b : List ℕ) → IsLike c d → 0 < states d → IsBody c a → IsBody d b → a ≡ b
 one_body c d a b e some x y =
     let f : x.figures ≡ y.figures = figures_law d x.figures y.figures some (like_figures c d x.figures e x.are) y.are in
-    let p : x.above ≡ y.above = one_plot x.figures.calls 15000 40000 (ranges_end x.figures) y.figures.calls (ranges_end y.figures) x.above y.above (ap (λ g. g.calls) f) (ap ranges_end f) x.is_above y.is_above in
-    let q : x.below ≡ y.below = one_plot x.figures.calls 63000 15000 (reports_end x.figures) y.figures.calls (reports_end y.figures) x.below y.below (ap (λ g. g.calls) f) (ap reports_end f) x.is_below y.is_below in
+    let p : x.above ≡ y.above = one_plot x.above y.above x.is_above y.is_above (ap (λ g. g.calls) f) (ap ranges_end f) in
+    let q : x.below ≡ y.below = one_plot x.below y.below x.is_below y.is_below (ap (λ g. g.calls) f) (ap reports_end f) in
     let here : AreGrants y.above d.lives.items y.figures.calls x.merged x.grants =
     moved (λ t ls n. AreGrants t ls n x.merged x.grants) x.above y.above c.lives.items d.lives.items x.figures.calls y.figures.calls p e.lives (ap (λ g. g.calls) f) x.are_grants in
     let g = one_grants (nat_lt 20000 (length d.lives.items)) y.above d.lives.items y.figures.calls x.merged y.merged x.grants y.grants here y.are_grants in
@@ -218,7 +231,10 @@ one_body c d a b e some x y =
 
 pub one_picture : (title : List ℕ) (c d : Course) (a b : List ℕ) → IsLike c d → 0 < states d → IsPictureOf title c a → IsPictureOf title d b → a ≡ b
 one_picture title c d a b e some x y =
-    x.is ∙ ap (λ body. opening ++ escaped title ++ codes "</title>\n" ++ style ++ heading ++ escaped title ++ codes "</text>\n" ++ body ++ codes "</svg>\n") (one_body c d x.body y.body e some x.is_body y.is_body) ∙ sym y.is
+    x.is
+    ∙ ap (λ body. opening ++ escaped title ++ codes "</title>\n" ++ style ++ heading ++ escaped title ++ codes "</text>\n" ++ body ++ codes "</svg>\n")
+    (one_body c d x.body y.body e some x.is_body y.is_body)
+    ∙ sym y.is
 
 -- ---- two courses of one script
 

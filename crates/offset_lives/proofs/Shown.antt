@@ -1,14 +1,16 @@
 -- Each line shows its values.
-use Rattle.std.proofs.Common.{◌≡◌, ℕ, zero, suc, ◌+◌, ◌<◌, ◌≤◌, ◌∙◌, Bool, true, false, cond, ◌⊎◌, inl, inr, List, [], ◌∷◌, length, nat_eq, nat_lt, refl, sym, ap, subst, arith, eqb-true}
-use Rattle.std.proofs.lemmas.Bool.{cases_lt}
-use Rattle.std.proofs.lemmas.Bool.Decides.{nat_tests}
-use Rattle.std.specs.Prelude.{slice_index}
+use Rattle.std.proofs.Common.{◌≡◌, ℕ, zero, suc, ◌+◌, ◌*◌, ◌/◌, ◌<◌, ◌≤◌, ◌∙◌, Bool, true, false, cond, ◌⊎◌, inl, inr, List, [], ◌∷◌, length, nat_eq, refl, ap, subst, arith, eqb-true}
+use Rattle.std.proofs.Math.Nat.{div-le_self}
+use Rattle.std.specs.Prelude.{min, slice_index}
 use Rattle.offset_lives.specs.declared.axes.Axis.{Axis}
+use Rattle.offset_lives.specs.declared.plots.Plot.{Plot}
 use Rattle.offset_lives.specs.declared.steps.Group.{Group}
-use Rattle.offset_lives.specs.Lines.{EachLineShowsItsValues}
+use Rattle.offset_lives.specs.Axes.{along}
+use Rattle.offset_lives.specs.Lines.{EachLineShowsItsValues, IsHeightAt}
 use Rattle.offset_lives.specs.Marks.{height_of}
 use Rattle.offset_lives.specs.Steps.{group_before, groups_from, join_groups, one_state, place_of}
-use Rattle.offset_lives.proofs.Lined.{Has, IsApartFrom, IsRising, along_within, before_all, height_at, line, line_written, only, place_grows, shows, sooner}
+use Rattle.offset_lives.proofs.Lined.{Has, IsRising, along_within, line, line_written, place_grows, shows, sooner}
+use Rattle.offset_lives.proofs.Traced.{AreHeights, first_before, first_left, heights_before, traced}
 
 -- ---- the groups of states
 
@@ -52,79 +54,58 @@ each_is_in a (v ∷ vs) k zero n e l =
 each_is_in a (v ∷ vs) k (suc j) n e l =
     has_more (one_state (place_of a k) v) (groups_from a (k + 1) vs) (place_of a n) (slice_index vs j) (each_is_in a vs (k + 1) j n (omega arith) (omega arith))
 
--- a place between those of a state and the next one is no state's
-IsNoPlace : Axis → ℕ → Type 0
-IsNoPlace a q = (n : ℕ) → (q < place_of a n) ⊎ (place_of a n < q)
+-- ---- the heights of states
 
-between_places : (a : Axis) (k q n : ℕ) → place_of a k < q → q < place_of a (k + 1) → (q < place_of a n) ⊎ (place_of a n < q)
-between_places a k q n l m = either (cases_lt k n)
+-- the heights that the first states have are those of their values
+states_step : (p : Plot) (base k v : ℕ) (values : List ℕ) → k < length values → v ≡ slice_index values k → (x : ℕ) → place_of p.calls k ≤ x → (x ≤ place_of p.calls (k + 1)) ⊎ (k + 1 ≡ length values)
+    → IsHeightAt p base values x (height_of p.units v)
+states_step p base k v values l e x at next = inl (k, (l, at, next), ap (height_of p.units) e)
+
+are_heights : (p : Plot) (base end k : ℕ) (values vs : List ℕ) → k + length vs ≡ length values → ((j : ℕ) → j < length vs → slice_index vs j ≡ slice_index values (k + j))
+    → AreHeights p.units end (IsHeightAt p base values) (groups_from p.calls k vs)
+are_heights p base end k values [] e h = tt
+are_heights p base end k values (v ∷ vs) e h =
+    let here : v ≡ slice_index values k = h 0 (omega arith) ∙ ap (slice_index values) (omega arith) in
+    let value = states_step p base k v values (omega arith) here in
+    let place = place_of p.calls k in
+    heights_before p.units end (IsHeightAt p base values) (one_state place v) (groups_from p.calls (k + 1) vs) (value place (omega arith) (inl (place_grows p.calls k (k + 1) (omega arith))))
+    (value place (omega arith) (inl (place_grows p.calls k (k + 1) (omega arith)))) (λ x l m. value x l (until vs e m))
+    (are_heights p base end (k + 1) values vs (omega arith) (λ j l. h (suc j) (omega arith) ∙ ap (slice_index values) (omega arith)))
   where
-    either : (k < n) ⊎ (n ≤ k) → (q < place_of a n) ⊎ (place_of a n < q)
-    either (inl x) = let e = place_grows a (k + 1) n (omega arith) in inl (omega arith)
-    either (inr x) = let e = place_grows a n k x in inr (omega arith)
+    until : {x : ℕ} (ws : List ℕ) → k + suc (length ws) ≡ length values → x ≤ first_left end (groups_from p.calls (k + 1) ws) → (x ≤ place_of p.calls (k + 1)) ⊎ (k + 1 ≡ length values)
+    until [] e m = inr (omega arith)
+    until (w ∷ ws) e m = inl (omega (arith, first_before end (one_state (place_of p.calls (k + 1)) w) (groups_from p.calls (k + 1 + 1) ws)))
 
-apart_step : (q : ℕ) (g h : Group) (hs : List Group) (b : Bool) → (q < g.left) ⊎ (g.left < q) → IsApartFrom q (h ∷ hs) → IsApartFrom q (cond b (join_groups g h ∷ hs) (g ∷ h ∷ hs))
-apart_step q g h hs true x r = (x, r.1)
-apart_step q g h hs false x r = (x, r)
-
-apart_before : (q : ℕ) (g : Group) (gs : List Group) → (q < g.left) ⊎ (g.left < q) → IsApartFrom q gs → IsApartFrom q (group_before g gs)
-apart_before q g [] x r = (x, r)
-apart_before q g (h ∷ hs) x r = apart_step q g h hs (nat_eq g.left h.left) x r
-
-all_apart : (a : Axis) (q k : ℕ) (vs : List ℕ) → ((n : ℕ) → (q < place_of a n) ⊎ (place_of a n < q)) → IsApartFrom q (groups_from a k vs)
-all_apart a q k [] h = tt
-all_apart a q k (v ∷ vs) h = apart_before q (one_state (place_of a k) v) (groups_from a (k + 1) vs) (h k) (all_apart a q (k + 1) vs h)
-
--- the height of the line between two places is that of the state at the first
-height_step : (u : Axis) (pen q : ℕ) (g h : Group) (hs : List Group) (b c : Bool) → nat_eq g.left h.left ≡ b → nat_lt g.left q ≡ c
-    → height_at u pen (cond b (join_groups g h ∷ hs) (g ∷ h ∷ hs)) q ≡ cond c (height_at u (height_of u g.last) (h ∷ hs) q) pen
-height_step u pen q g h hs true true e f =
-    let same = eqb-true g.left h.left e in
-    ap (λ x. cond x (height_at u (height_of u h.last) hs q) pen) f
-    ∙ sym (ap (λ x. cond x (height_at u (height_of u h.last) hs q) (height_of u g.last)) (ap (λ x. nat_lt x q) (sym same) ∙ f))
-height_step u pen q g h hs true false e f = ap (λ x. cond x (height_at u (height_of u h.last) hs q) pen) f
-height_step u pen q g h hs false c e f = ap (λ x. cond x (height_at u (height_of u g.last) (h ∷ hs) q) pen) f
-
-height_before : (u : Axis) (pen q : ℕ) (g : Group) (gs : List Group) → height_at u pen (group_before g gs) q ≡ cond (nat_lt g.left q) (height_at u (height_of u g.last) gs q) pen
-height_before u pen q g [] = refl
-height_before u pen q g (h ∷ hs) = height_step u pen q g h hs (nat_eq g.left h.left) (nat_lt g.left q) refl refl
-
-is_less : (m n : ℕ) → m < n → nat_lt m n ≡ true
-is_less m n l = grind (arith, nat_tests)
-
-height_is : (a u : Axis) (end q : ℕ) (vs : List ℕ) (k j n pen : ℕ) → ((i : ℕ) → place_of a i ≤ end) → n ≡ k + j → j < length vs → place_of a n < q → q < place_of a (n + 1)
-    → height_at u pen (groups_from a k vs) q ≡ height_of u (slice_index vs j)
-height_is a u end q [] k j n pen w e l x y = absurd (omega arith)
-height_is a u end q (v ∷ vs) k zero n pen w e l x y =
-    let here : place_of a k < q = let g = place_grows a k n (omega arith) in omega arith in
-    let next : q ≤ place_of a (k + 1) = let g = place_grows a (n + 1) (k + 1) (omega arith) in omega arith in
-    height_before u pen q (one_state (place_of a k) v) (groups_from a (k + 1) vs)
-    ∙ ap (λ b. cond b (height_at u (height_of u v) (groups_from a (k + 1) vs) q) pen) (is_less (place_of a k) q here)
-    ∙ before_all u end (height_of u v) q (groups_from a (k + 1) vs) (sooner end q (place_of a (k + 1)) (groups_from a (k + 1) vs) next (groups_rise a end (k + 1) vs w))
-height_is a u end q (v ∷ vs) k (suc j) n pen w e l x y =
-    let here : place_of a k < q = let g = place_grows a k n (omega arith) in omega arith in
-    height_before u pen q (one_state (place_of a k) v) (groups_from a (k + 1) vs)
-    ∙ ap (λ b. cond b (height_at u (height_of u v) (groups_from a (k + 1) vs) q) pen) (is_less (place_of a k) q here)
-    ∙ height_is a u end q vs (k + 1) j n (height_of u v) w (omega arith) (omega arith) x y
+-- the first state lies at the beginning of the axis
+at_start : (a : Axis) → a.start ≡ 12000 → place_of a 0 ≡ a.start
+at_start a e =
+    let none : min 0 a.most ≡ 0 = omega arith in
+    let zero-along : along a.span a.most 0 ≡ 0 * a.span / a.most = ap (λ n. n * a.span / a.most) none in
+    let small = div-le_self (0 * a.span) a.most in
+    omega (arith, zero-along, small)
 
 pub lines_law : EachLineShowsItsValues
-lines_law count top height last base p values is_plot =
+lines_law count top height last base p values is_plot some =
     let a = p.calls in
     let u = p.units in
     let end = a.start + a.span in
     let gs = groups_from a 0 values in
     let w : (i : ℕ) → place_of a i ≤ end = λ i. let e = along_within a.span a.most i a.positive in omega arith in
-    let begin : a.start ≤ place_of a 0 = let e = is_plot.calls.0 in omega arith in
-    let rises : IsRising end a.start gs = sooner end a.start (place_of a 0) gs begin (groups_rise a end 0 values w) in (
+    let begin : place_of a 0 ≡ a.start = at_start a is_plot.calls.0 in
+    let rises : IsRising end a.start gs = sooner end a.start (place_of a 0) gs (omega arith) (groups_rise a end 0 values w) in
+    let before : (x : ℕ) → a.start ≤ x → x ≤ first_left end gs → IsHeightAt p base values x base =
+    λ x l m. inr (inl (omega (arith, begins a end values some)), refl) in
+    let heights = are_heights p base end 0 values values (omega arith) (λ j l. ap (slice_index values) (omega arith)) in (
       line u end base base gs,
       line_written p base values,
-      λ k l. record {
-        across = (omega arith, omega arith);
-        upright = (omega arith, omega arith);
-        is_on = shows u end base a.start base (place_of a k) (slice_index values k) gs rises (each_is_in a values 0 k k (omega arith) l);
-        alone = λ x y on after before.
-            only u end base x y gs (all_apart a x 0 values (λ n. between_places a k x n after before)) (let e = w (k + 1) in omega arith) a.start base rises on
-            (let e = place_grows a 0 k (omega arith) in omega arith)
-            ∙ height_is a u end x values 0 k k base w (omega arith) l after before;
+      record {
+        across = λ k. (omega arith, omega arith);
+        upright = λ v. (omega arith, omega arith);
+        each_state = λ k l. shows u end base a.start base (place_of a k) (slice_index values k) gs rises (each_is_in a values 0 k k (omega arith) l);
+        each_point = λ x y on. traced u end base a.start base x y (IsHeightAt p base values) gs rises before heights (inr (inr refl, refl)) on;
       },
     )
+  where
+    begins : (a : Axis) (end : ℕ) (vs : List ℕ) → 0 < length vs → first_left end (groups_from a 0 vs) ≡ place_of a 0
+    begins a end [] h = absurd (omega arith)
+    begins a end (v ∷ vs) h = first_before end (one_state (place_of a 0) v) (groups_from a (0 + 1) vs)

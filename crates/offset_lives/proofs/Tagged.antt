@@ -18,8 +18,10 @@ use Rattle.offset_lives.specs.Steps.{groups_from, groups_text, line_text, mark_t
 use Rattle.offset_lives.specs.Ticks.{axes_text, calls_text, calls_tick, multiples_to, units_tick}
 use Rattle.offset_lives.specs.Xml.{IsContent}
 use Rattle.offset_lives.specs.Xml.IsContent.{nothing}
-use Rattle.offset_lives.proofs.Texts.{in_a_row, same_text}
-use Rattle.offset_lives.proofs.Formed.{IsQuoted, end, ◌⊙◌, Attributes, InPieces, none, one, Grows, ◌⊕◌, both_quoted, content, decimal_numeric, each, empty_tag, full_tag, grouped_numeric, in_pieces, joins, literal, number_in_value, number_words, pixels_numeric, quoted, words}
+use Rattle.offset_lives.proofs.Texts.{in_a_row, joined_up, same_text}
+use Rattle.offset_lives.proofs.Nested.{IsQuoted, ◌⊛◌, end, ◌⊙◌, Attributes, InPieces, none, one, Grows, ◌⊕◌, content, empty_tag, full_tag, in_pieces, literal, quoted}
+use Rattle.offset_lives.proofs.Formed.{decimal_numeric, grouped_numeric, joins, number_words, pixels_numeric, words}
+use Rattle.offset_lives.proofs.Nested.{each, number_in_value}
 
 -- a number of pixels in a value, and numbers in text
 pub at : (n : ℕ) → IsQuoted (pixels_text n)
@@ -31,43 +33,54 @@ grouped n = content (number_words (grouped_text n) (grouped_numeric n))
 number : (n : ℕ) → Grows (λ rest. decimal n ++ rest)
 number n = content (number_words (decimal n) (decimal_numeric n))
 
+-- ---- texts at a place
+
+abbrev pub placed : List ℕ → List ℕ → InPieces
+placed x y = (codes "x", x ∷ []) ∷ (codes "y", y ∷ []) ∷ []
+
+pub at_place : {x y : List ℕ} → IsQuoted x → IsQuoted y → Attributes (placed x y)
+at_place p q = one (codes "x") refl (p ⊙ end) (one (codes "y") refl (q ⊙ end) none)
+
+pub in_class : {class x y : List ℕ} → IsQuoted class → IsQuoted x → IsQuoted y → Attributes ((codes "class", class ∷ []) ∷ placed x y)
+in_class c p q = one (codes "class") refl (c ⊙ end) (at_place p q)
+
 -- ---- ticks
 
 is_units_tick : (p : Plot) (units : ℕ) → IsContent (units_tick p units)
 is_units_tick p units =
+    let x = p.calls.start - 800 in
+    let y = up_of p.units units in
+    let right = p.calls.start + p.calls.span in
     in_pieces (codes "<path class='grid' d='M")
-    (pixels_text p.calls.start ∷ codes " " ∷ pixels_text (up_of p.units units) ∷ codes "H" ∷ pixels_text (p.calls.start + p.calls.span) ∷ codes "'/>" ∷ codes "<text class='end' x='" ∷ pixels_text (p.calls.start - 800)
-    ∷ codes "' y='" ∷ pixels_text (up_of p.units units + 500) ∷ codes "'>" ∷ grouped_text units ∷ codes "</text>\n" ∷ [])
+    (pixels_text p.calls.start ∷ codes " " ∷ pixels_text y ∷ codes "H" ∷ pixels_text right ∷ codes "'/>" ∷ codes "<text class='end' x='" ∷ pixels_text x
+    ∷ codes "' y='" ∷ pixels_text (y + 500) ∷ codes "'>"
+    ∷ grouped_text units ∷ codes "</text>\n" ∷ [])
     (empty_tag (codes "path") refl
     (one (codes "class") refl (quoted (codes "grid") refl ⊙ end)
-    (one (codes "d") refl (quoted (codes "M") refl ⊙ at p.calls.start ⊙ quoted (codes " ") refl ⊙ at (up_of p.units units) ⊙ quoted (codes "H") refl ⊙ at (p.calls.start + p.calls.span) ⊙ end) none))
-    ⊕ full_tag (codes "text") refl
-    (one (codes "class") refl (quoted (codes "end") refl ⊙ end) (one (codes "x") refl (at (p.calls.start - 800) ⊙ end) (one (codes "y") refl (at (up_of p.units units + 500) ⊙ end) none))) (grouped units)
-    ⊕ literal (codes "\n") refl)
+    (one (codes "d") refl (quoted (codes "M") refl ⊙ at p.calls.start ⊙ quoted (codes " ") refl ⊙ at y ⊙ quoted (codes "H") refl ⊙ at right ⊙ end) none))
+    ⊕ full_tag (codes "text") refl (in_class (quoted (codes "end") refl) (at x) (at (y + 500))) (grouped units) ⊕ literal (codes "\n") refl)
     refl
 
 is_calls_tick : (p : Plot) (calls : ℕ) → IsContent (calls_tick p calls)
 is_calls_tick p calls =
+    let x = right_of p.calls calls in
+    let bottom = p.units.start + p.units.span in
     in_pieces (codes "<path class='tick' d='M")
-    (pixels_text (right_of p.calls calls) ∷ codes " " ∷ pixels_text (p.units.start + p.units.span) ∷ codes "v10'/>" ∷ codes "<text class='middle' x='" ∷ pixels_text (right_of p.calls calls)
-    ∷ codes "' y='" ∷ pixels_text (p.units.start + p.units.span + 2600) ∷ codes "'>" ∷ grouped_text calls ∷ codes "</text>\n" ∷ [])
+    (pixels_text x ∷ codes " " ∷ pixels_text bottom ∷ codes "v10'/>" ∷ codes "<text class='middle' x='" ∷ pixels_text x
+    ∷ codes "' y='" ∷ pixels_text (bottom + 2600) ∷ codes "'>" ∷ grouped_text calls ∷ codes "</text>\n" ∷ [])
     (empty_tag (codes "path") refl
-    (one (codes "class") refl (quoted (codes "tick") refl ⊙ end)
-    (one (codes "d") refl (quoted (codes "M") refl ⊙ at (right_of p.calls calls) ⊙ quoted (codes " ") refl ⊙ at (p.units.start + p.units.span) ⊙ quoted (codes "v10") refl ⊙ end) none))
-    ⊕ full_tag (codes "text") refl
-    (one (codes "class") refl (quoted (codes "middle") refl ⊙ end) (one (codes "x") refl (at (right_of p.calls calls) ⊙ end) (one (codes "y") refl (at (p.units.start + p.units.span + 2600) ⊙ end) none))) (grouped calls)
-    ⊕ literal (codes "\n") refl)
+    (one (codes "class") refl (quoted (codes "tick") refl ⊙ end) (one (codes "d") refl (quoted (codes "M") refl ⊙ at x ⊙ quoted (codes " ") refl ⊙ at bottom ⊙ quoted (codes "v10") refl ⊙ end) none))
+    ⊕ full_tag (codes "text") refl (in_class (quoted (codes "middle") refl) (at x) (at (bottom + 2600))) (grouped calls) ⊕ literal (codes "\n") refl)
     refl
 
 are_calls : (p : Plot) (marks : ℕ) → IsContent (calls_text p marks)
 are_calls p marks =
-    let ticks = flat_map (calls_tick p) (multiples_to (round_step p.calls.most marks) (p.calls.most - 1)) in
-    in_pieces ticks
-    (codes "<text class='end' x='" ∷ pixels_text (p.calls.start - 800) ∷ codes "' y='" ∷ pixels_text (p.units.start + p.units.span + 2600) ∷ codes "'>call</text>\n" ∷ [])
-    (content (each (calls_tick p) (is_calls_tick p) (multiples_to (round_step p.calls.most marks) (p.calls.most - 1)))
-    ⊕ full_tag (codes "text") refl
-    (one (codes "class") refl (quoted (codes "end") refl ⊙ end) (one (codes "x") refl (at (p.calls.start - 800) ⊙ end) (one (codes "y") refl (at (p.units.start + p.units.span + 2600) ⊙ end) none))) (literal (codes "call") refl)
-    ⊕ literal (codes "\n") refl)
+    let x = p.calls.start - 800 in
+    let y = p.units.start + p.units.span + 2600 in
+    let calls = multiples_to (round_step p.calls.most marks) (p.calls.most - 1) in
+    in_pieces (flat_map (calls_tick p) calls) (codes "<text class='end' x='" ∷ pixels_text x ∷ codes "' y='" ∷ pixels_text y ∷ codes "'>call</text>\n" ∷ [])
+    (content (each (calls_tick p) (is_calls_tick p) calls)
+    ⊕ full_tag (codes "text") refl (in_class (quoted (codes "end") refl) (at x) (at y)) (literal (codes "call") refl) ⊕ literal (codes "\n") refl)
     refl
 
 pub axes_content : (p : Plot) (lines marks : ℕ) → IsContent (axes_text p lines marks)
@@ -83,29 +96,31 @@ no_steps : IsQuoted []
 no_steps = quoted [] refl
 
 upright : (b : Bool) (n : ℕ) → IsQuoted (cond b [] (codes "V" ++ pixels_text n))
-upright b n = either_quoted b [] (codes "V" ++ pixels_text n) no_steps (both_quoted (quoted (codes "V") refl) (at n))
+upright b n = either_quoted b [] (codes "V" ++ pixels_text n) no_steps (quoted (codes "V") refl ⊛ at n)
 
 is_column : (c : Column) (pen : ℕ) → IsQuoted (column_text c pen)
 is_column c pen =
     either_quoted (nat_eq c.top pen && nat_eq c.bottom pen) [] _ no_steps
-    (both_quoted (both_quoted (both_quoted (both_quoted (both_quoted (quoted (codes "H") refl) (at c.left)) (upright (nat_eq c.top c.last) c.top)) (upright (nat_eq c.bottom c.last) c.bottom)) (quoted (codes "V") refl)) (at c.last))
+    (quoted (codes "H") refl ⊛ at c.left ⊛ upright (nat_eq c.top c.last) c.top ⊛ upright (nat_eq c.bottom c.last) c.bottom ⊛ quoted (codes "V") refl ⊛ at c.last)
 
 are_groups : (u : Axis) (pen : ℕ) (gs : List Group) → IsQuoted (groups_text u pen gs)
 are_groups u pen [] = no_steps
-are_groups u pen (g ∷ gs) = both_quoted (is_column (column_of u g) pen) (are_groups u (height_of u g.last) gs)
+are_groups u pen (g ∷ gs) = is_column (column_of u g) pen ⊛ are_groups u (height_of u g.last) gs
+
+are_steps : (p : Plot) (base : ℕ) (values : List ℕ) → IsQuoted (steps_text p base values)
+are_steps p base values =
+    quoted (codes "M") refl ⊛ at p.calls.start ⊛ quoted (codes " ") refl ⊛ at base ⊛ are_groups p.units base (groups_from p.calls 0 values) ⊛ quoted (codes "H") refl
+    ⊛ at (p.calls.start + p.calls.span) ⊛ quoted (codes "V") refl ⊛ at base
 
 pub line_content : (class : List ℕ) (p : Plot) (base : ℕ) (values : List ℕ) → IsQuoted class → IsContent (line_text class p base values)
 line_content class p base values q =
     in_pieces (codes "<path class='") (class ∷ codes "' d='" ∷ steps_text p base values ∷ codes "'/>\n" ∷ [])
-    (empty_tag (codes "path") refl
-    (one (codes "class") refl (q ⊙ end) (one (codes "d") refl
-    (both_quoted (both_quoted (both_quoted (both_quoted (both_quoted (both_quoted (both_quoted (both_quoted (quoted (codes "M") refl) (at p.calls.start)) (quoted (codes " ") refl)) (at base)) (are_groups p.units base (groups_from p.calls 0 values))) (quoted (codes "H") refl)) (at (p.calls.start + p.calls.span))) (quoted (codes "V") refl)) (at base) ⊙ end) none))
-    ⊕ literal (codes "\n") refl)
+    (empty_tag (codes "path") refl (one (codes "class") refl (q ⊙ end) (one (codes "d") refl (are_steps p base values ⊙ end) none)) ⊕ literal (codes "\n") refl)
     refl
 
 are_marks : (height : ℕ) (places : List ℕ) → IsQuoted (flat_map (mark_text height) places)
 are_marks height [] = no_steps
-are_marks height (x ∷ xs) = both_quoted (both_quoted (both_quoted (both_quoted (both_quoted (quoted (codes "M") refl) (at x)) (quoted (codes " ") refl)) (at height)) (quoted (codes "v12") refl)) (are_marks height xs)
+are_marks height (x ∷ xs) = quoted (codes "M") refl ⊛ at x ⊛ quoted (codes " ") refl ⊛ at height ⊛ quoted (codes "v12") refl ⊛ are_marks height xs
 
 pub either_content : (b : Bool) (x y : List ℕ) → IsContent x → IsContent y → IsContent (cond b x y)
 either_content true x y h k = h
@@ -113,10 +128,11 @@ either_content false x y h k = k
 
 pub refusals_content : (p : Plot) (refused : List ℕ) → IsContent (refusals_text p refused)
 refusals_content p refused =
+    let bottom = p.units.start + p.units.span in
     either_content (nat_eq (length refused) 0) [] _ nothing
-    (in_pieces (codes "<path class='refusal' d='") (marks_text p.calls (p.units.start + p.units.span) refused ∷ codes "'/>\n" ∷ [])
+    (in_pieces (codes "<path class='refusal' d='") (marks_text p.calls bottom refused ∷ codes "'/>\n" ∷ [])
     (empty_tag (codes "path") refl
-    (one (codes "class") refl (quoted (codes "refusal") refl ⊙ end) (one (codes "d") refl (are_marks (p.units.start + p.units.span) (marked_places p.calls refused) ⊙ end) none)) ⊕ literal (codes "\n") refl)
+    (one (codes "class") refl (quoted (codes "refusal") refl ⊙ end) (one (codes "d") refl (are_marks bottom (marked_places p.calls refused) ⊙ end) none)) ⊕ literal (codes "\n") refl)
     refl)
 
 -- ---- rectangles
@@ -130,15 +146,19 @@ edge true = (codes "class", codes "edge" ∷ []) ∷ []
 edge false = []
 
 are_places : (b : Bool) (f : Frame) → Attributes (places f (edge b))
-are_places true f = one (codes "x") refl (at f.x ⊙ end) (one (codes "y") refl (at f.y ⊙ end) (one (codes "width") refl (at f.width ⊙ end) (one (codes "height") refl (at f.height ⊙ end) (one (codes "class") refl (quoted (codes "edge") refl ⊙ end) none))))
-are_places false f = one (codes "x") refl (at f.x ⊙ end) (one (codes "y") refl (at f.y ⊙ end) (one (codes "width") refl (at f.width ⊙ end) (one (codes "height") refl (at f.height ⊙ end) none)))
-
-abbrev rectangle : Frame → Bool → List ℕ
-rectangle f b = codes "<rect x='" ++ pixels_text f.x ++ codes "' y='" ++ pixels_text f.y ++ codes "' width='" ++ pixels_text f.width ++ codes "' height='" ++ pixels_text f.height ++ codes "'" ++ cond b (codes " class='edge'") []
+are_places true f =
+    one (codes "x") refl (at f.x ⊙ end) (one (codes "y") refl (at f.y ⊙ end)
+    (one (codes "width") refl (at f.width ⊙ end) (one (codes "height") refl (at f.height ⊙ end) (one (codes "class") refl (quoted (codes "edge") refl ⊙ end) none))))
+are_places false f =
+    one (codes "x") refl (at f.x ⊙ end) (one (codes "y") refl (at f.y ⊙ end) (one (codes "width") refl (at f.width ⊙ end) (one (codes "height") refl (at f.height ⊙ end) none)))
 
 -- what stands after the first piece of a rectangle
 abbrev after_first : Frame → Bool → List (List ℕ) → List (List ℕ)
-after_first f b more = pixels_text f.x ∷ codes "' y='" ∷ pixels_text f.y ∷ codes "' width='" ∷ pixels_text f.width ∷ codes "' height='" ∷ pixels_text f.height ∷ codes "'" ∷ cond b (codes " class='edge'") [] ∷ more
+after_first f b more =
+    pixels_text f.x ∷ codes "' y='" ∷ pixels_text f.y ∷ codes "' width='" ∷ pixels_text f.width ∷ codes "' height='" ∷ pixels_text f.height ∷ codes "'" ∷ cond b (codes " class='edge'") [] ∷ more
+
+abbrev rectangle : Frame → Bool → List ℕ
+rectangle f b = joined_up (codes "<rect x='") (after_first f b [])
 
 plain_rectangle : (f : Frame) (b : Bool) → IsContent (rectangle f b ++ codes "/>\n")
 plain_rectangle f true = in_pieces (codes "<rect x='") (after_first f true (codes "/>\n" ∷ [])) (empty_tag (codes "rect") refl (are_places true f) ⊕ literal (codes "\n") refl) refl
@@ -149,24 +169,27 @@ abbrev last_call : Life → ℕ → List ℕ
 last_call l calls = cond (nat_lt calls (counted_from_1 l.last)) (codes "end") (decimal (counted_from_1 l.last))
 
 is_last : (l : Life) (calls : ℕ) → IsContent (last_call l calls)
-is_last l calls = either_content (nat_lt calls (counted_from_1 l.last)) (codes "end") (decimal (counted_from_1 l.last)) (words (codes "end") refl) (number_words (decimal (counted_from_1 l.last)) (decimal_numeric (counted_from_1 l.last)))
+is_last l calls =
+    let last = counted_from_1 l.last in
+    either_content (nat_lt calls last) (codes "end") (decimal last) (words (codes "end") refl) (number_words (decimal last) (decimal_numeric last))
 
--- the title of a life, before a text
-abbrev title_onto : Life → ℕ → List ℕ → List ℕ
-title_onto l calls rest =
-    codes "<" ++ (codes "title" ++ (codes ">" ++ (codes "grant " ++ (decimal l.number ++ (codes ", offset " ++ (decimal l.offset ++ (codes ", size " ++ (decimal l.size ++ (codes ", calls " ++ (decimal (counted_from_1 l.first) ++ (codes "-" ++ (last_call l calls
-    ++ (codes "</" ++ (codes "title" ++ (codes ">" ++ rest)))))))))))))))
+-- what the title of a life says, before a text
+abbrev said : Life → ℕ → List ℕ → List ℕ
+said l calls rest =
+    codes "grant " ++ (decimal l.number ++ (codes ", offset " ++ (decimal l.offset ++ (codes ", size " ++ (decimal l.size ++ (codes ", calls " ++ (decimal (counted_from_1 l.first)
+    ++ (codes "-" ++ (last_call l calls ++ rest)))))))))
 
-is_title : (l : Life) (calls : ℕ) → Grows (title_onto l calls)
+is_title : (l : Life) (calls : ℕ) → Grows (λ rest. codes "<" ++ (codes "title" ++ (codes ">" ++ said l calls (codes "</" ++ (codes "title" ++ (codes ">" ++ rest))))))
 is_title l calls =
     full_tag (codes "title") refl none
-    (literal (codes "grant ") refl ⊕ number l.number ⊕ literal (codes ", offset ") refl ⊕ number l.offset ⊕ literal (codes ", size ") refl ⊕ number l.size ⊕ literal (codes ", calls ") refl ⊕ number (counted_from_1 l.first)
-    ⊕ literal (codes "-") refl ⊕ content (is_last l calls))
+    (literal (codes "grant ") refl ⊕ number l.number ⊕ literal (codes ", offset ") refl ⊕ number l.offset ⊕ literal (codes ", size ") refl ⊕ number l.size
+    ⊕ literal (codes ", calls ") refl ⊕ number (counted_from_1 l.first) ⊕ literal (codes "-") refl ⊕ content (is_last l calls))
 
 -- what stands after the first piece of a title
 abbrev title_pieces : Life → ℕ → List (List ℕ)
 title_pieces l calls =
-    decimal l.number ∷ codes ", offset " ∷ decimal l.offset ∷ codes ", size " ∷ decimal l.size ∷ codes ", calls " ∷ decimal (counted_from_1 l.first) ∷ codes "-" ∷ last_call l calls ∷ codes "</title></rect>\n" ∷ []
+    decimal l.number ∷ codes ", offset " ∷ decimal l.offset ∷ codes ", size " ∷ decimal l.size ∷ codes ", calls " ∷ decimal (counted_from_1 l.first) ∷ codes "-" ∷ last_call l calls
+    ∷ codes "</title></rect>\n" ∷ []
 
 titled_rectangle : (f : Frame) (b : Bool) (l : Life) (calls : ℕ) → IsContent (rectangle f b ++ codes ">" ++ title_text l calls)
 titled_rectangle f true l calls =
@@ -190,7 +213,8 @@ is_titled calls r = titled_rectangle (frame_of r.0) (has_edge (frame_of r.0)) r.
 is_age : (held : ℕ → List ℕ) (age : ℕ) → IsContent (held age) → IsContent (age_text held age)
 is_age held age h =
     in_pieces (codes "<g class='age") (decimal (age + 1) ∷ codes "'>\n" ∷ held age ∷ codes "</g>\n" ∷ [])
-    (full_tag (codes "g") refl (one (codes "class") refl (quoted (codes "age") refl ⊙ number_in_value (decimal (age + 1)) (decimal_numeric (age + 1)) ⊙ end) none) (literal (codes "\n") refl ⊕ content h) ⊕ literal (codes "\n") refl)
+    (full_tag (codes "g") refl (one (codes "class") refl (quoted (codes "age") refl ⊙ number_in_value (decimal (age + 1)) (decimal_numeric (age + 1)) ⊙ end) none)
+    (literal (codes "\n") refl ⊕ content h) ⊕ literal (codes "\n") refl)
     refl
 
 ages_content : (held : ℕ → List ℕ) → ((age : ℕ) → IsContent (held age)) → IsContent (ages_text held)

@@ -1,5 +1,6 @@
 -- The points of the lines of a picture. Lengths are in hundredths of a pixel.
 use Rattle.std.specs.Prelude.{◌≡◌, ℕ, ◌+◌, ◌<◌, ◌≤◌, ◌⊎◌, List, [], ◌∷◌, ◌++◌, codes, flat_map, length, max, min, slice_index}
+use Rattle.offset_lives.specs.declared.axes.Axis.{Axis}
 use Rattle.offset_lives.specs.declared.plots.Plot.{Plot}
 use Rattle.offset_lives.specs.Drawing.{pixels_text}
 use Rattle.offset_lives.specs.Marks.{height_of}
@@ -34,16 +35,27 @@ IsOn x y place height (Upright end ∷ steps) = ((x ≡ place) × IsBetween heig
 abbrev pub IsWithinTenth : ℕ → ℕ → Type 0
 IsWithinTenth drawn exact = (drawn ≤ exact) × (exact < drawn + 10)
 
--- A line shows the value of a state: it has a point where the state lies, at the height of the value, each within a tenth
--- of a pixel; and from there to where the next state lies, it has no point at another height.
-pub record IsShown (p : Plot) (base : ℕ) (steps : List Step) (state value : ℕ) : Type 0 where
-  pub across : IsWithinTenth (place_of p.calls state) (right_of p.calls state)
-  pub upright : IsWithinTenth (height_of p.units value) (up_of p.units value)
-  pub is_on : IsOn (place_of p.calls state) (height_of p.units value) p.calls.start base steps
-  pub alone : (x y : ℕ) → IsOn x y p.calls.start base steps → place_of p.calls state < x → x < place_of p.calls (state + 1) → y ≡ height_of p.units value
+-- a state of so many is on at a place: it lies there or to the left, and the next one there or to the right, if there is one
+abbrev pub IsOnAt : Axis → ℕ → ℕ → ℕ → Type 0
+IsOnAt calls count place state = (state < count) × (place_of calls state ≤ place) × ((place ≤ place_of calls (state + 1)) ⊎ (state + 1 ≡ count))
 
--- in a plot, the line of steps of these values shows each of them
+-- the height at a place of the value of a state that is on there, or at an end of the plot the one at which the line begins
+-- and ends
+abbrev pub IsHeightAt : Plot → ℕ → List ℕ → ℕ → ℕ → Type 0
+IsHeightAt p base values place height =
+    ((state : ℕ) × IsOnAt p.calls (length values) place state × (height ≡ height_of p.units (slice_index values state)))
+    ⊎ (((place ≡ p.calls.start) ⊎ (place ≡ p.calls.start + p.calls.span)) × (height ≡ base))
+
+-- A line shows these values: it has a point where each state lies, at the height of its value, each within a tenth of a
+-- pixel; and each of its points is at such a height of its place, or upright between two of them.
+pub record Shows (p : Plot) (base : ℕ) (values : List ℕ) (steps : List Step) : Type 0 where
+  pub across : (state : ℕ) → IsWithinTenth (place_of p.calls state) (right_of p.calls state)
+  pub upright : (value : ℕ) → IsWithinTenth (height_of p.units value) (up_of p.units value)
+  pub each_state : (k : ℕ) → k < length values → IsOn (place_of p.calls k) (height_of p.units (slice_index values k)) p.calls.start base steps
+  pub each_point : (x y : ℕ) → IsOn x y p.calls.start base steps → (a b : ℕ) × IsHeightAt p base values x a × IsHeightAt p base values x b × IsBetween a b y
+
+-- in a plot, the line of steps of these values shows them
 abbrev pub EachLineShowsItsValues : Type 0
 EachLineShowsItsValues =
-    (count top height last base : ℕ) (p : Plot) (values : List ℕ) → IsPlot count top height last p
-    → (steps : List Step) × (steps_text p base values ≡ path_text p.calls.start base steps) × ((k : ℕ) → k < length values → IsShown p base steps k (slice_index values k))
+    (count top height last base : ℕ) (p : Plot) (values : List ℕ) → IsPlot count top height last p → 0 < length values
+    → (steps : List Step) × (steps_text p base values ≡ path_text p.calls.start base steps) × Shows p base values steps

@@ -50,8 +50,10 @@ pub data IsContent : List ℕ → Type 0 where
   nothing : IsContent []
   characters : (text rest : List ℕ) → IsOf is_plain text → IsContent rest → IsContent (text ++ rest)
   entity : (name rest : List ℕ) → Contains entities name → IsContent rest → IsContent (codes "&" ++ name ++ codes ";" ++ rest)
-  empty : (name : List ℕ) (attributes : List (List ℕ × List ℕ)) (rest : List ℕ) → IsName name → AreAttributes attributes → IsContent rest → IsContent (empty_element name attributes ++ rest)
-  full : (name : List ℕ) (attributes : List (List ℕ × List ℕ)) (inside rest : List ℕ) → IsName name → AreAttributes attributes → IsContent inside → IsContent rest → IsContent (full_element name attributes inside ++ rest)
+  empty : (name : List ℕ) (attributes : List (List ℕ × List ℕ)) (rest : List ℕ) → IsName name → AreAttributes attributes → IsContent rest
+      → IsContent (empty_element name attributes ++ rest)
+  full : (name : List ℕ) (attributes : List (List ℕ × List ℕ)) (inside rest : List ℕ) → IsName name → AreAttributes attributes → IsContent inside → IsContent rest
+      → IsContent (full_element name attributes inside ++ rest)
 
 -- one element, and a line end
 pub record IsWellFormed (text : List ℕ) : Type 0 where

@@ -39,8 +39,8 @@ pub fn rectangles_never_overlap()
     ensures { RectanglesAreApart }
 {}
 
-/// Each line has a point for each of its states, at the height of its value to a tenth of a pixel, and from there to the
-/// next state no other height.
+/// Each line has a point where each of its states lies, at the height of its value, both to a tenth of a pixel; and each
+/// of its points is at the height of a state that is on there, or upright between two of them.
 pub fn each_line_shows_its_values()
     ensures { EachLineShowsItsValues }
 {}
