@@ -7,7 +7,7 @@ An entry that is not used by the sources stops `erase`, so that none outlives it
 # Crate of the sources, folder of the erased crate, and the modules that are written by hand there.
 CRATES = [
     ("offset_allocator", "offset-allocator-proved", {"accesses", "memory", "nonmax", "traits"}),
-    ("offset_guarded", "offset-allocator-guarded", {"memory"}),
+    ("offset_guarded", "offset-allocator-guarded", {"memory", "traits"}),
     ("offset_script", "offset-script", {"memory"}),
 ]
 
@@ -36,6 +36,7 @@ pub use nonmax::IsMax;
 extern crate alloc;
 
 mod memory;
+mod traits;
 
 pub use memory::{AllocError, Global};
 """,
@@ -164,5 +165,5 @@ EXAMPLES = {
 }
 
 # Attributes and macros that are printed as they are. Any other stops `erase`.
-ATTRIBUTES = {"cold", "inline"}
+ATTRIBUTES = {"cold", "inline", "track_caller"}
 MACROS = {"write"}

@@ -2,6 +2,8 @@
 use Rattle.offset_allocator.proofs.Common.{◌≡◌, ℕ, ◌+◌, ◌*◌, ◌<◌, ◌≤◌, Bool, false, not, ◌&&◌, ◌↔◌, List, [], ◌∷◌, ◌++◌, length, sum, sym, ap, ap₂, subst, ◌∙◌, arith, le-leb, true≢false}
 use Rattle.offset_allocator.proofs.Common.{AllByRecursion, sum_by-cons, value, up, down, Block, View, used_units, used_of, one, starts_free, total_free, largest_free, units, free_sizes, free_block}
 use Rattle.offset_allocator.proofs.Common.{IsApart, IsWellFormed, max_size, IsFresh, CanGrant, common_steps}
+use Rattle.offset_allocator.proofs.Common.{None, Some, last_or, is_used_at, place_of, eq-eqb, ◌≢◌}
+use Rattle.std.specs.Prelude.{IsTrue}
 use Rattle.offset_allocator.proofs.{Taken.fitting, Classes.down_law, ViewTaken.well_alone}
 
 -- used and free units
@@ -64,3 +66,21 @@ module _ (size max_allocs n : ℕ) (v : View) (f : IsFresh size max_allocs v) (l
         (down_law size (up n) (omega arith)).0 (subst (λ z. up n ≤ down z) (ap (λ (b : Block). b.size) (sym block)) t.3),
     λ l. (room, (down size, (down_law size (up n) (omega arith)).1 l, λ e. let o = formed.orders (down size) f.name in absurd (grind (arith, e, o)))),
   )
+
+-- free and used blocks
+pub split_count : (bs : List Block) → length (free_sizes bs) + used_of bs ≡ length bs
+split_count [] = grind (arith, common_steps)
+split_count (b ∷ bs) = grind (arith, common_steps, split_count bs)
+
+-- where no block is used, there is one
+pub none_live : (v : View) → IsWellFormed v → (x : ℕ) → last_or None v.blocks ≡ Some x → length v.blocks ≡ 1 → (used : Bool) → used ≡ is_used_at (place_of x v.blocks)
+    → IsTrue (not used) ↔ (used_of v.blocks ≡ 0)
+none_live v w x ends one used e = go v.blocks ends one e
+  where
+    go : (bs : List Block) → last_or None bs ≡ Some x → length bs ≡ 1 → used ≡ is_used_at (place_of x bs) → IsTrue (not used) ↔ (used_of bs ≡ 0)
+    go [] f l u = absurd (omega arith)
+    go (b ∷ []) f l u = let same : b.name ≡ x = cc in let k = eq-eqb x b.name (sym same) in grind (arith, common_steps)
+    go (b ∷ d ∷ bs) f l u = absurd (omega arith)
+
+pub some_live : (v : View) → IsWellFormed v → length v.blocks ≢ 1 → used_of v.blocks ≢ 0
+some_live v w l u = absurd (let f = few_blocks v w in let s = w.some in omega (arith, f, s, l, u))

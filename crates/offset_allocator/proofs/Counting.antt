@@ -92,15 +92,15 @@ names_below zero order = 0
 names_below (suc c) order = names_below c order + length (bin_at order c)
 
 -- how many sizes are of the classes below c
-abbrev sizes_below : ℕ → List ℕ → ℕ
+abbrev pub sizes_below : ℕ → List ℕ → ℕ
 sizes_below c [] = 0
 sizes_below c (n ∷ ns) = cond (nat_lt (down n) c) 1 0 + sizes_below c ns
 
-sizes_none : (ns : List ℕ) → sizes_below 0 ns ≡ 0
+pub sizes_none : (ns : List ℕ) → sizes_below 0 ns ≡ 0
 sizes_none [] = refl
 sizes_none (n ∷ ns) = let ih = sizes_none ns in grind (arith, nat_tests)
 
-sizes_more : (c : ℕ) (ns : List ℕ) → (sizes_below (suc c) ns ≡ sizes_below c ns + count_of c ns) × (sizes_below c ns ≤ length ns)
+pub sizes_more : (c : ℕ) (ns : List ℕ) → (sizes_below (suc c) ns ≡ sizes_below c ns + count_of c ns) × (sizes_below c ns ≤ length ns)
 sizes_more c [] = grind arith
 sizes_more c (n ∷ ns) = grind (arith, cases_eq, eq-eqb, nat_tests, ne_eqb, sizes_more c ns)
 
@@ -111,3 +111,20 @@ names_counts v w (suc c) = omega (arith, names_counts v w c, length_names v w c,
 -- all classes together have at most as many names as there are free blocks
 pub accesses_most : (v : View) → IsWellFormed v → (c new old : ℕ) → c ≡ 256 → new ≤ old + c + names_below c v.order → new ≤ old + 512 + 2 * length (free_sizes v.blocks)
 accesses_most v w c new old e l = omega (arith, names_counts v w c, (sizes_more c (free_sizes v.blocks)).1)
+
+-- each size is of a class below 256
+pub sizes_all : (ns : List ℕ) → sizes_below 256 ns ≡ length ns
+sizes_all [] = refl
+sizes_all (n ∷ ns) = let ih = sizes_all ns in let d = down_small n in grind (arith, nat_tests)
+
+-- the free blocks of a class are some of the free blocks
+pub names_few : (v : View) → IsWellFormed v → (c : ℕ) → length (bin_at v.order c) ≤ length (free_sizes v.blocks)
+names_few v w c = omega (arith, length_names v w c, (sizes_more c (free_sizes v.blocks)).0, (sizes_more (suc c) (free_sizes v.blocks)).1)
+
+-- one class more
+pub sizes_next : (c b k : ℕ) (ns : List ℕ) → b ≡ sizes_below c ns → k ≡ count_of c ns → (b + k ≡ sizes_below (c + 1) ns) × (b + k ≤ length ns)
+sizes_next c b k ns e f =
+    let more = sizes_more c ns in
+    let most = sizes_more (suc c) ns in
+    let is : suc c ≡ c + 1 = omega arith in
+    (omega (arith, e, f, more.0, ap (λ i. sizes_below i ns) is), omega (arith, e, f, more.0, most.1))

@@ -17,6 +17,7 @@ pub mod Freeing
 pub mod Fresh
 pub mod Granting
 pub mod Joints
+pub mod Largest
 pub mod Listing
 pub mod Masks
 pub mod Nearest

@@ -22,11 +22,11 @@ pub listed_block : (c x : ℕ) (before : List Block) (b : Block) (after : List B
 listed_block c x before b after e most l = grind (arith, hit_parts, hit_cases, listed_named, tally_append)
 
 -- a name in a bin is that of a free block of its class
-pub taken : (v : View) → IsWellFormed v → (c x : ℕ) (xs : List ℕ) → bin_at v.order c ≡ x ∷ xs → Taken v c x
-taken v w c x xs e = go (place_of x v.blocks) refl
+pub taken_among : (v : View) → IsWellFormed v → (c x : ℕ) → 1 ≤ times x (bin_at v.order c) → Taken v c x
+taken_among v w c x there = go (place_of x v.blocks) refl
   where
     listed : 1 ≤ count_in_bin c x v.blocks
-    listed = omega (arith, w.orders c x, ap (times x) e, one-same x)
+    listed = omega (arith, w.orders c x, there)
 
     go : (o : Option Place) → place_of x v.blocks ≡ o → Taken v c x
     go None f = absurd (omega (arith, no_place x v.blocks f, listed_named c x v.blocks, listed))
@@ -34,6 +34,9 @@ taken v w c x xs e = go (place_of x v.blocks) refl
         let b = place_at x v.blocks p f in
         let l = listed_block c x p.before p.block p.after b.1 (omega (arith, w.distinct x, ap (count_named x) b.0)) (omega (arith, listed, ap (count_in_bin c x) b.0)) in
         record { place = p; list_is = b.0; name = sym b.1; free = not-true p.block.used l.0; class = sym l.1 }
+
+pub taken : (v : View) → IsWellFormed v → (c x : ℕ) (xs : List ℕ) → bin_at v.order c ≡ x ∷ xs → Taken v c x
+taken v w c x xs e = taken_among v w c x (omega (arith, ap (times x) e, one-same x))
 
 -- some bin is not empty whose class is large enough
 abbrev pub HasFit : ℕ → View → Type 0

@@ -13,5 +13,6 @@ pub mod Reports
 pub mod Requests
 pub mod Resizing
 pub mod Soundness
+pub mod Statistics
 pub mod Store
 pub mod View

@@ -10,7 +10,10 @@ ghost use Rattle.offset_allocator.specs.View.{View, Block, Grant, IsWellFormed, 
 ghost use Rattle.offset_allocator.specs.View.{largest_free, padding_to, used_of, used_units};
 ghost use Rattle.offset_allocator.specs.Ranges.{Range, range_of, AreDisjoint};
 ghost use Rattle.offset_allocator.specs.Relations.{IsAlignment, SameSpace, Allocates, Frees, IsFresh};
-ghost use Rattle.offset_allocator.specs.Requests.{CanGrant, HasRoomFor, IsWhy};
+ghost use Rattle.offset_allocator.specs.Requests.{CanGrant, HasRoomFor, IsReport, IsWhy};
+ghost use Rattle.offset_allocator.specs.Statistics.{AreStatistics};
+ghost use Rattle.offset_allocator.specs.declared.reports.StorageReport.{StorageReport};
+ghost use Rattle.offset_allocator.specs.declared.statistics.Statistics.{Statistics};
 ghost use Rattle.offset_allocator.specs.declared.reports.Refusal.{Refusal};
 ghost use Rattle.offset_allocator.specs.declared.reports.Refusal.TheVariants.{TooLarge, Fragmented};
 ghost use Rattle.offset_allocator.specs.Compacting.{moves, AreSafe, Compacts};
@@ -22,6 +25,7 @@ pub use crate::reports::{
     allocation_offset_counted, allocation_size_counted, is_live_counted, refusal_aligned_counted,
     refusal_counted, storage_report_counted, storage_report_full_counted,
 };
+pub use crate::statistics::{is_empty_counted, statistics_counted};
 use crate::store::Store;
 use crate::tables::Tables;
 
@@ -91,6 +95,25 @@ pub fn unused_names<T: Tables>(allocator: &AllocatorOf<T>) -> u32
 /// The units of the used and of the free blocks add up to the size of the space.
 pub fn sizes_add_up<T: Tables>(allocator: &AllocatorOf<T>)
     ensures { used_units allocator.now.blocks + sum (free_sizes allocator.now.blocks) ≡ allocator.now.size }
+{
+    allocator.formed();
+}
+
+/// How the numbers of `statistics` belong together. The units add up to the size, and the blocks with the unused nodes to
+/// the node limit. The largest region is the value of a class, so at most the largest free block, of which it is at least
+/// 8/9. With room for one more block a report has the same two numbers.
+pub fn statistics_belong_together<T: Tables>(allocator: &AllocatorOf<T>)
+    ensures units { (s : Statistics) → AreStatistics s allocator.now
+        → s.live_units + s.free_units ≡ allocator.now.size }
+    ensures nodes { (s : Statistics) → AreStatistics s allocator.now
+        → s.live_ranges + s.free_blocks + s.unused_nodes ≡ allocator.now.max_allocs }
+    ensures largest { (s : Statistics) → AreStatistics s allocator.now
+        → (s.largest_free_region ≤ s.largest_free_block) × (s.largest_free_block ≤ s.free_units)
+        × (8 * s.largest_free_block ≤ 9 * s.largest_free_region) }
+    ensures few { (s : Statistics) → AreStatistics s allocator.now → s.free_blocks ≤ s.live_ranges + 1 }
+    ensures report { (s : Statistics) (r : StorageReport) → AreStatistics s allocator.now → IsReport r allocator.now
+        → HasRoomFor 1 allocator.now
+        → (r.total_free_space ≡ s.free_units) × (r.largest_free_region ≡ s.largest_free_region) }
 {
     allocator.formed();
 }

@@ -20,7 +20,7 @@ use std::fmt;
 /// The free space of an allocator, in short.
 ///
 /// Both numbers are 0 where `max_allocs - 1` blocks exist, since nothing is granted there.
-#[derive(Debug, Drop)]
+#[derive(Clone, Copy, Debug, PartialEq)]
 pub struct StorageReport {
     /// The units of all free blocks together.
     pub total_free_space: u32,
@@ -65,7 +65,7 @@ impl fmt::Display for Refusal {
 }
 
 /// One size class in the full report.
-#[derive(Clone, Copy, Debug)]
+#[derive(Clone, Copy, Debug, PartialEq)]
 pub struct StorageReportFullRegion {
     /// The value of the class: each of its blocks has at least that many units. The values of the classes 240 to 255
     /// are reported modulo 2 to the power of 32; no block is of these classes.
@@ -83,7 +83,7 @@ impl Default for StorageReportFullRegion {
 }
 
 /// The free blocks of an allocator, class by class, at the node limit too.
-#[derive(Debug, Drop)]
+#[derive(Clone, Debug, PartialEq, Drop)]
 pub struct StorageReportFull {
     /// The size classes from 0 to 255.
     pub free_regions: [StorageReportFullRegion; 256],

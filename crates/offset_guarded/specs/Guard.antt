@@ -1,5 +1,5 @@
 -- What contracts see of a guarded allocator: which tickets are live, and what a call leaves of them.
-use Rattle.std.specs.Prelude.{◌≡◌, ℕ, ◌+◌, ◌<◌, ◌≤◌, Bool, ◌&&◌, List, Option, Some, None, IsSome, is_some, nat_eq, slice_index_or, if◌then◌else◌, option_map}
+use Rattle.std.specs.Prelude.{codes, ◌≡◌, ℕ, ◌+◌, ◌<◌, ◌≤◌, Bool, ◌&&◌, List, Option, Some, None, IsSome, is_some, nat_eq, slice_index_or, if◌then◌else◌, option_map}
 use Rattle.offset_allocator.specs.View.{View, Grant}
 use Rattle.offset_allocator.specs.Ranges.{Range}
 use Rattle.offset_allocator.specs.Ranges as named
@@ -110,6 +110,11 @@ pub record Grants (n : ℕ) (g h : Guard) (t : Ticket) : Type 0 where
 abbrev pub IsWhy : ℕ → ℕ → Guard → Refusal → Type 0
 IsWhy blocks units g Serials = g.given ≡ last_serial
 IsWhy blocks units g (Allocator why) = HasSerialLeft g × allocator.IsWhy blocks units g.space why
+
+-- the text of a reason
+abbrev pub refusal_words : Refusal → List ℕ
+refusal_words Serials = codes "all serials are given"
+refusal_words (Allocator why) = allocator.refusal_words why
 
 -- what is true of the fields between two calls
 pub record IsGuarded (max : ℕ) (space : View) (t : Table) : Type 0 where

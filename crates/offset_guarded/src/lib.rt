@@ -33,6 +33,7 @@ use offset_allocator::{Allocation, AllocatorOf, ByNode, NodeIndex, Tables};
 pub use refusal::Refusal;
 use serials::Serials;
 use std::alloc::{AllocError, Global};
+use std::fmt;
 use std::marker::Model;
 pub use ticket::Ticket;
 
@@ -69,6 +70,7 @@ impl<T: Tables> GuardedOf<T> {
     /// realm is kept in its tickets: a ticket of another realm is never live here.
     ///
     /// An error is returned only where an allocation failed; then nothing is made.
+    #[track_caller]
     pub fn new(alloc: Global, size: u32, realm: u32) -> Result<Self, AllocError>
         ensures space { IfOk result (λ g. IsFresh size (min 131072 (T.Index.MAX - 2)) g.space) }
         ensures serials { IfOk result (λ g. (g.given ≡ 0) × (g.serials ≡ []) × (g.realm ≡ realm)) }
@@ -102,7 +104,8 @@ impl<T: Tables> GuardedOf<T> {
         })
     }
 
-    /// The allocator, to read: its reports, its blocks, its sizes, and why it refuses a request.
+    /// The allocator, to read: its reports and statistics, whether nothing is live, its blocks, its sizes, and why it
+    /// refuses a request.
     pub fn allocator(&self) -> &AllocatorOf<T>
         ensures { result.now ≡ self.now.space }
     {
@@ -239,5 +242,16 @@ impl<T: Tables> GuardedOf<T> {
             ≤ self.old.space.accesses + min (130 * used_of self.old.space.blocks + 2) 270 }
     {
         self.space.reset();
+    }
+}
+
+/// The text is that of a struct with the realm, the number of serials that are given, and the allocator.
+impl<T: Tables> fmt::Debug for GuardedOf<T> {
+    fn fmt<W: fmt::Write>(&self, f: &mut fmt::Formatter<W>) -> fmt::Result {
+        f.debug_struct("Guarded")
+            .field("realm", &self.realm)
+            .field("given", &self.serials.count())
+            .field("allocator", &self.space)
+            .finish()
     }
 }

@@ -70,6 +70,13 @@ impl Serials {
         }
     }
 
+    /// How many serials are given.
+    pub(crate) fn count(&self) -> u64
+        ensures { result ≡ self.now.given }
+    {
+        self.given
+    }
+
     /// Whether all serials are given.
     #[inline]
     pub(crate) fn is_spent(&self) -> bool

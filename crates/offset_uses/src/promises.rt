@@ -3,7 +3,7 @@
 
 ghost use Rattle.std.specs.List.{FoldsTo};
 ghost use Rattle.std.specs.Prelude.{◌%◌, ◌*◌, ◌+◌, ◌-◌, ◌/◌, ◌<◌, ◌↔◌, ◌≡◌, ◌≢◌, ◌≤◌, IfOk, IfSome, IsSome, IsTrue};
-ghost use Rattle.std.specs.Prelude.{None, [], false, length, min, option_map, true, ℕ};
+ghost use Rattle.std.specs.Prelude.{None, [], false, length, min, option_map, sum, true, ℕ};
 ghost use Rattle.offset_allocator.specs.Accesses.{Costs};
 ghost use Rattle.offset_allocator.specs.Compacting.{Compacts, IsCalledWith, KeepsSizes, live, moves};
 ghost use Rattle.offset_allocator.specs.Listing.{listing};
@@ -14,10 +14,12 @@ ghost use Rattle.offset_allocator.specs.Reports.{IsGoodRefusal};
 ghost use Rattle.offset_allocator.specs.Requests.{CanGrant, HasRoomFor, IsFullReport, IsReport, IsWhy, blocks_needed};
 ghost use Rattle.offset_allocator.specs.Requests.{units_needed};
 ghost use Rattle.offset_allocator.specs.Resizing.{CanGrow, CanShrink, Grows, HasUnits, Shrinks};
-ghost use Rattle.offset_allocator.specs.View.{count_named, free_sizes, is_full, largest_free, used_of};
+ghost use Rattle.offset_allocator.specs.Statistics.{AreStatistics};
+ghost use Rattle.offset_allocator.specs.View.{count_named, free_sizes, is_full, largest_free, used_of, used_units};
 
 use offset_allocator::{
-    Allocation, AllocatorOf, BlocksOf, Move, Refusal, StorageReport, StorageReportFull, Tables,
+    Allocation, AllocatorOf, BlocksOf, Move, Refusal, Statistics, StorageReport, StorageReportFull,
+    Tables,
 };
 use std::alloc::{AllocError, Global};
 
@@ -86,6 +88,34 @@ pub fn is_full<T: Tables>(space: &AllocatorOf<T>) -> bool
     ensures full { result ≡ is_full space.now }
 {
     space.is_full()
+}
+
+/// `free_units`, with each clause of its contract.
+pub fn free_units<T: Tables>(space: &AllocatorOf<T>) -> u32
+    ensures { result ≡ sum (free_sizes space.now.blocks) }
+{
+    space.free_units()
+}
+
+/// `live_units`, with each clause of its contract.
+pub fn live_units<T: Tables>(space: &AllocatorOf<T>) -> u32
+    ensures { result ≡ used_units space.now.blocks }
+{
+    space.live_units()
+}
+
+/// `is_empty`, with each clause of its contract.
+pub fn is_empty<T: Tables>(space: &AllocatorOf<T>) -> bool
+    ensures { IsTrue result ↔ (used_of space.now.blocks ≡ 0) }
+{
+    space.is_empty()
+}
+
+/// `statistics`, with each clause of its contract.
+pub fn statistics<T: Tables>(space: &AllocatorOf<T>) -> Statistics
+    ensures { AreStatistics result space.now }
+{
+    space.statistics()
 }
 
 /// `allocate`, with each clause of its contract.

@@ -70,6 +70,16 @@ struct StorageReportFull {
     Region freeRegions[NUM_LEAF_BINS];
 };
 
+struct Statistics {
+    uint32 liveRanges;
+    uint32 liveUnits;
+    uint32 freeBlocks;
+    uint32 freeUnits;
+    uint32 largestFreeBlock;
+    uint32 largestFreeRegion;
+    uint32 unusedNodes;
+};
+
 enum class Refusal { granted, nodes, tooLarge, space, fragmented, badCall, serials };
 
 struct Move {
@@ -100,6 +110,11 @@ inline Block of(const oa_block &from) { return Block{from.kind == OA_USED, from.
 inline oa_allocation in(Allocation allocation) { return {allocation.offset, allocation.metadata}; }
 
 inline StorageReport of(oa_report report) { return {report.total_free_space, report.largest_free_region}; }
+
+inline Statistics of(const oa_totals &from) {
+    return {from.live_ranges,        from.live_units,          from.free_blocks, from.free_units,
+            from.largest_free_block, from.largest_free_region, from.unused_nodes};
+}
 
 inline StorageReportFull of(const oa_report_full &from) {
     StorageReportFull report;
@@ -269,6 +284,10 @@ public:
     uint32 blockCount() const { return oa_block_count(space); }
     bool isFull() const { return oa_is_full(space); }
 
+    bool isEmpty() const { return oa_is_empty(space); }
+    uint32 freeUnits() const { return oa_free_units(space); }
+    uint32 liveUnits() const { return oa_live_units(space); }
+    Statistics statistics() const { return detail::of(oa_statistics(space)); }
     StorageReport storageReport() const { return detail::of(oa_storage_report(space)); }
     StorageReportFull storageReportFull() const { return detail::of(oa_storage_report_full(space)); }
     Refusal refusal(uint32 size) const { return Refusal(oa_refusal(space, size)); }
@@ -358,6 +377,10 @@ public:
     uint32 maxAllocs() const { return oag_max_allocs(space); }
     uint32 blockCount() const { return oag_block_count(space); }
     bool isFull() const { return oag_is_full(space); }
+    bool isEmpty() const { return oag_is_empty(space); }
+    uint32 freeUnits() const { return oag_free_units(space); }
+    uint32 liveUnits() const { return oag_live_units(space); }
+    Statistics statistics() const { return detail::of(oag_statistics(space)); }
     StorageReport storageReport() const { return detail::of(oag_storage_report(space)); }
     StorageReportFull storageReportFull() const { return detail::of(oag_storage_report_full(space)); }
     Refusal refusal(uint32 size) const { return Refusal(oag_refusal(space, size)); }

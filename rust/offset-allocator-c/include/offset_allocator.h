@@ -58,6 +58,21 @@ typedef struct oa_report {
     uint32_t largest_free_region;
 } oa_report;
 
+/* What is live and what is free, exactly, at the node limit too. live_units + free_units is the size of the space, and
+ * live_ranges + free_blocks + unused_nodes the node limit.
+ * largest_free_block: its units. largest_free_region: the smallest size of its class; with room for one more block a
+ * request of at least 1 unit is granted exactly when it is at most this.
+ * unused_nodes: a block is added only while there are at least 2. */
+typedef struct oa_totals {
+    uint32_t live_ranges;
+    uint32_t live_units;
+    uint32_t free_blocks;
+    uint32_t free_units;
+    uint32_t largest_free_block;
+    uint32_t largest_free_region;
+    uint32_t unused_nodes;
+} oa_totals;
+
 /* The free blocks by size class. size: the smallest size of the class (from class 240 on, where no block is, modulo
  * 2 to the power of 32). count: how many free blocks it has. */
 typedef struct oa_region {
@@ -169,6 +184,16 @@ uint32_t oa_block_count(const oa_allocator *space);
 /* Whether max_allocs - 1 blocks exist, so that every request is refused; true for null. */
 bool oa_is_full(const oa_allocator *space);
 
+/* Whether no range is live, not even one of no units; true for null. At most 8 accesses. */
+bool oa_is_empty(const oa_allocator *space);
+
+/* The units of all free blocks, at the node limit too, and of all live ranges; 0 for null. No accesses. */
+uint32_t oa_free_units(const oa_allocator *space);
+uint32_t oa_live_units(const oa_allocator *space);
+
+/* What is live and what is free; all 0 for null. Cost: 520 accesses, and 4 a free block. */
+oa_totals oa_statistics(const oa_allocator *space);
+
 /* The free space in short; 0, 0 for null. A request of at least 1 unit is granted exactly when it is at most
  * largest_free_region. At most 8 accesses. */
 oa_report oa_storage_report(const oa_allocator *space);
@@ -270,6 +295,10 @@ uint32_t oag_size(const oag_allocator *space);
 uint32_t oag_max_allocs(const oag_allocator *space);
 uint32_t oag_block_count(const oag_allocator *space);
 bool oag_is_full(const oag_allocator *space);
+bool oag_is_empty(const oag_allocator *space);
+uint32_t oag_free_units(const oag_allocator *space);
+uint32_t oag_live_units(const oag_allocator *space);
+oa_totals oag_statistics(const oag_allocator *space);
 oa_report oag_storage_report(const oag_allocator *space);
 oa_report_full oag_storage_report_full(const oag_allocator *space);
 

@@ -48,6 +48,19 @@ pub struct Report {
     largest_free_region: u32,
 }
 
+/// What is live and what is free.
+#[repr(C)]
+#[derive(Default)]
+pub struct Totals {
+    live_ranges: u32,
+    live_units: u32,
+    free_blocks: u32,
+    free_units: u32,
+    largest_free_block: u32,
+    largest_free_region: u32,
+    unused_nodes: u32,
+}
+
 /// One size class.
 #[repr(C)]
 #[derive(Clone, Copy)]
@@ -167,6 +180,19 @@ fn short(space: &Allocator) -> Report {
 }
 
 const NO_REPORT: Report = Report { total_free_space: 0, largest_free_region: 0 };
+
+fn totals(space: &Allocator) -> Totals {
+    let found = space.statistics();
+    Totals {
+        live_ranges: found.live_ranges,
+        live_units: found.live_units,
+        free_blocks: found.free_blocks,
+        free_units: found.free_units,
+        largest_free_block: found.largest_free_block,
+        largest_free_region: found.largest_free_region,
+        unused_nodes: found.unused_nodes,
+    }
+}
 
 fn full(space: &Allocator) -> FullReport {
     let report = space.storage_report_full();
@@ -294,6 +320,14 @@ exports! {
 
     fn oa_is_full([space: &Space],) -> bool { space.is_full() } else true;
 
+    fn oa_is_empty([space: &Space],) -> bool { space.is_empty() } else true;
+
+    fn oa_free_units([space: &Space],) -> u32 { space.free_units() } else 0;
+
+    fn oa_live_units([space: &Space],) -> u32 { space.live_units() } else 0;
+
+    fn oa_statistics([space: &Space],) -> Totals { totals(space) } else Totals::default();
+
     fn oa_storage_report([space: &Space],) -> Report { short(space) } else NO_REPORT;
 
     fn oa_storage_report_full([space: &Space],) -> FullReport { full(space) } else NO_FULL_REPORT;
@@ -384,6 +418,14 @@ exports! {
     fn oag_block_count([space: &GuardedSpace],) -> u32 { space.allocator().block_count() } else 0;
 
     fn oag_is_full([space: &GuardedSpace],) -> bool { space.allocator().is_full() } else true;
+
+    fn oag_is_empty([space: &GuardedSpace],) -> bool { space.allocator().is_empty() } else true;
+
+    fn oag_free_units([space: &GuardedSpace],) -> u32 { space.allocator().free_units() } else 0;
+
+    fn oag_live_units([space: &GuardedSpace],) -> u32 { space.allocator().live_units() } else 0;
+
+    fn oag_statistics([space: &GuardedSpace],) -> Totals { totals(space.allocator()) } else Totals::default();
 
     fn oag_is_spent([space: &GuardedSpace],) -> bool { space.is_spent() } else true;
 

@@ -56,6 +56,31 @@ static void grants(void) {
     oa_drop(space);
 }
 
+static bool are(oa_totals t, uint32_t ranges, uint32_t live, uint32_t blocks, uint32_t units, uint32_t block, uint32_t region, uint32_t nodes) {
+    return t.live_ranges == ranges && t.live_units == live && t.free_blocks == blocks && t.free_units == units
+        && t.largest_free_block == block && t.largest_free_region == region && t.unused_nodes == nodes;
+}
+
+/* at the node limit too, where a report has 0 and 0 */
+static void statistics(void) {
+    oa_allocator *space = oa_new(100, 4);
+    CHECK(oa_is_empty(space) && are(oa_statistics(space), 0, 0, 1, 100, 100, 96, 3));
+    oa_allocation a = oa_allocate(space, 10);
+    oa_allocate(space, 20);
+    CHECK(oa_is_full(space) && !oa_storage_report(space).total_free_space && !oa_is_empty(space));
+    CHECK(oa_free_units(space) == 70 && oa_live_units(space) == 30 && are(oa_statistics(space), 2, 30, 1, 70, 70, 64, 1));
+    oa_free(space, a);
+    CHECK(oa_free_units(space) == 80 && oa_live_units(space) == 20 && are(oa_statistics(space), 1, 20, 2, 80, 70, 64, 1));
+    oa_reset(space);
+    CHECK(oa_is_empty(space) && oa_free_units(space) == 100 && !oa_live_units(space));
+    oa_drop(space);
+    /* a range of no units is live */
+    space = oa_new(0, 3);
+    oa_allocate(space, 0);
+    CHECK(!oa_is_empty(space) && are(oa_statistics(space), 1, 0, 0, 0, 0, 0, 2));
+    oa_drop(space);
+}
+
 static void aligned(void) {
     oa_allocator *space = oa_new(1000, 16);
     oa_allocate(space, 3);
@@ -185,6 +210,7 @@ static void nulls(void) {
     CHECK(oa_allocation_offset(NULL, a) == OA_NO_SPACE && !oa_shrink(NULL, a, 0) && !oa_grow_in_place(NULL, a, 0));
     CHECK(!oa_extend(NULL, 0) && !oa_size(NULL) && !oa_max_allocs(NULL) && !oa_block_count(NULL) && oa_is_full(NULL));
     CHECK(!oa_storage_report(NULL).total_free_space && !oa_storage_report(NULL).largest_free_region);
+    CHECK(oa_is_empty(NULL) && !oa_free_units(NULL) && !oa_live_units(NULL) && are(oa_statistics(NULL), 0, 0, 0, 0, 0, 0, 0));
     CHECK(!oa_storage_report_full(NULL).free_regions[255].count && oa_refusal(NULL, 0) == OA_BAD_CALL);
     CHECK(oa_refusal_aligned(NULL, 0, 1) == OA_BAD_CALL && !oa_blocks_new(NULL) && oa_blocks_next(NULL).kind == OA_END);
 }
@@ -231,6 +257,10 @@ static void garbage(void) {
                     if (block.kind == OA_USED) { used++; CHECK(oa_allocation_size(space, block.allocation) == block.size); }
                 }
                 CHECK(used == live && end == oa_size(space));
+                oa_totals sums = oa_statistics(space);
+                CHECK(sums.live_ranges == live && sums.live_ranges + sums.free_blocks == oa_block_count(space));
+                CHECK(sums.live_units + sums.free_units == end && oa_is_empty(space) == (live == 0));
+                CHECK(sums.largest_free_block <= sums.free_units && sums.largest_free_region <= sums.largest_free_block);
                 oa_blocks_drop(blocks);
                 oa_walk walk;
                 oa_walk_start(space, &walk);
@@ -251,6 +281,7 @@ static void garbage(void) {
 int main(void) {
     constructors();
     grants();
+    statistics();
     aligned();
     resizes();
     reasons();

@@ -92,6 +92,7 @@ static void zeroFragmentation() {
         CHECK(live[i].offset == i * MIB);
     }
     CHECK(a.storageReport().totalFreeSpace == 0 && a.storageReport().largestFreeRegion == 0);
+    CHECK(!a.isEmpty() && a.freeUnits() + a.liveUnits() == a.size() && a.statistics().freeUnits == a.freeUnits());
     for (int i : {243, 5, 123, 95, 151, 152, 153, 154}) a.free(live[i]);
     for (int i : {243, 5, 123, 95}) {
         live[i] = a.allocate(MIB);
@@ -256,6 +257,9 @@ static void tickets() {
     CHECK(v && g.offsetOf(v) == 32 && !g.allocateAligned(1, 3) && g.refusalAligned(1, 3) == Refusal::badCall);
     CHECK(g.refusal(129) == Refusal::tooLarge && g.refusalAligned(8, 8) == Refusal::granted && g.maxAllocs() == 16);
     CHECK(g.blockCount() == 4 && !g.isFull() && g.storageReport().totalFreeSpace == 98);
+    Statistics sums = g.statistics();
+    CHECK(sums.freeUnits == 98 && g.freeUnits() == 98 && sums.liveUnits == g.liveUnits() && !g.isEmpty());
+    CHECK(sums.liveRanges + sums.freeBlocks == 4 && sums.unusedNodes + 4 == g.maxAllocs());
     uint32 count = 0, used = 0;
     for (StorageReportFull::Region &region : g.storageReportFull().freeRegions) count += region.count;
     CHECK(count == 2);

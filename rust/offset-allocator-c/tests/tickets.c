@@ -56,6 +56,9 @@ static void reads(void) {
     oag_ticket a = oag_allocate(space, 10), b = oag_allocate(space, 20);
     CHECK(oag_size(space) == 100 && oag_max_allocs(space) == 7 && oag_realm(space) == 5 && !oag_is_spent(space));
     CHECK(oag_free(space, a) && oag_block_count(space) == 3 && !oag_is_full(space));
+    oa_totals sums = oag_statistics(space);
+    CHECK(sums.live_ranges == 1 && sums.free_blocks == 2 && sums.largest_free_block == 70 && sums.unused_nodes == 4);
+    CHECK(!oag_is_empty(space) && oag_live_units(space) == 20 && oag_free_units(space) == 80);
     oa_report_full full = oag_storage_report_full(space);
     for (int c = 0; c < 256; c++) CHECK(full.free_regions[c].count == (c == 10 || c == 32));
     CHECK(oag_refusal(space, 97) == OA_TOO_LARGE && oag_refusal(space, 80) == OA_FRAGMENTED);
@@ -86,6 +89,7 @@ static void nulls(void) {
     CHECK(!oag_size(NULL) && !oag_max_allocs(NULL) && !oag_block_count(NULL) && oag_is_full(NULL) && oag_is_spent(NULL));
     CHECK(!oag_realm(NULL) && !oag_blocks_new(NULL) && !oag_ticket_of(NULL, handle).serial);
     CHECK(oag_refusal_aligned(NULL, 1, 1) == OA_BAD_CALL && !oag_storage_report_full(NULL).free_regions[0].count);
+    CHECK(oag_is_empty(NULL) && !oag_free_units(NULL) && !oag_live_units(NULL) && !oag_statistics(NULL).unused_nodes);
     oag_walk_start(NULL, &walk);
     CHECK(oa_walk_next(&walk).kind == OA_END);
     oag_ticket none = oag_allocate(NULL, 1);

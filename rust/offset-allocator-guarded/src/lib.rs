@@ -26,6 +26,7 @@
 extern crate alloc;
 
 mod memory;
+mod traits;
 
 pub use memory::{AllocError, Global};
 
@@ -39,6 +40,7 @@ use offset_allocator::laws::is_well_formed;
 use offset_allocator::{Allocation, AllocatorOf, ByNode, NodeIndex, Tables};
 pub use refusal::Refusal;
 use serials::Serials;
+use core::fmt;
 pub use ticket::Ticket;
 
 /// The allocator of one space, with tickets in place of handles, and one table of nodes.
@@ -58,6 +60,7 @@ impl<T: Tables> GuardedOf<T> {
     /// realm is kept in its tickets: a ticket of another realm is never live here.
     ///
     /// An error is returned only where an allocation failed; then nothing is made.
+    #[track_caller]
     pub fn new(alloc: Global, size: u32, realm: u32) -> Result<Self, AllocError> {
         Self::with_max_allocs(alloc, size, 131072u32.min(T::Index::MAX - 2), realm)
     }
@@ -86,7 +89,8 @@ impl<T: Tables> GuardedOf<T> {
         })
     }
 
-    /// The allocator, to read: its reports, its blocks, its sizes, and why it refuses a request.
+    /// The allocator, to read: its reports and statistics, whether nothing is live, its blocks, its sizes, and why it
+    /// refuses a request.
     pub fn allocator(&self) -> &AllocatorOf<T> {
         &self.space
     }
@@ -177,5 +181,16 @@ impl<T: Tables> GuardedOf<T> {
     /// Makes the whole space one free block again, as `Allocator::reset` does. No earlier ticket is ever live again.
     pub fn reset(&mut self) {
         self.space.reset();
+    }
+}
+
+/// The text is that of a struct with the realm, the number of serials that are given, and the allocator.
+impl<T: Tables> fmt::Debug for GuardedOf<T> {
+    fn fmt(&self, f: &mut fmt::Formatter<'_>) -> fmt::Result {
+        f.debug_struct("Guarded")
+            .field("realm", &self.realm)
+            .field("given", &self.serials.count())
+            .field("allocator", &self.space)
+            .finish()
     }
 }

@@ -2,6 +2,8 @@
 
 //! Why a request is refused.
 
+use core::fmt;
+
 /// Why a request is refused: the first of these that applies.
 #[derive(Clone, Copy, Debug, PartialEq)]
 pub enum Refusal {
@@ -9,4 +11,20 @@ pub enum Refusal {
     Serials,
     /// The allocator refuses it, for this reason.
     Allocator(offset_allocator::Refusal),
+}
+
+/// A reason of the allocator is one here.
+impl From<offset_allocator::Refusal> for Refusal {
+    fn from(why: offset_allocator::Refusal) -> Refusal {
+        Refusal::Allocator(why)
+    }
+}
+
+impl fmt::Display for Refusal {
+    fn fmt(&self, f: &mut fmt::Formatter<'_>) -> fmt::Result {
+        match self {
+            Refusal::Serials => write!(f, "all serials are given"),
+            Refusal::Allocator(why) => write!(f, "{why}"),
+        }
+    }
 }

@@ -44,6 +44,11 @@ impl Serials {
         }
     }
 
+    /// How many serials are given.
+    pub(crate) fn count(&self) -> u64 {
+        self.given
+    }
+
     /// Whether all serials are given.
     #[inline]
     pub(crate) fn is_spent(&self) -> bool {

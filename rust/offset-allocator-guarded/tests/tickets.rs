@@ -6,7 +6,7 @@
 //!     cargo test --offline --release -p offset-allocator-guarded -- --ignored
 
 use offset_allocator::NodeIndex;
-use offset_allocator_guarded::{Global, Guarded, Ticket};
+use offset_allocator_guarded::{Global, Guarded, Refusal, Ticket};
 use std::collections::HashMap;
 
 const REALM: u32 = 1;
@@ -201,4 +201,23 @@ fn random_tickets_touch_no_live_range() {
 fn a_hundred_million_random_tickets_touch_no_live_range() {
     try_tickets::<u32>(50_000_000, 3);
     try_tickets::<u16>(50_000_000, 4);
+}
+
+#[test]
+fn reasons_are_errors_and_spaces_have_a_text() {
+    let mut space = Guarded::<u32>::with_max_allocs(Global, 17, 4, 7).unwrap();
+    space.allocate(5).unwrap();
+    assert_eq!(
+        format!("{space:?}"),
+        "Guarded { realm: 7, given: 1, allocator: Allocator { size: 17, max_allocs: 4, statistics: Statistics { live_ranges: 1, \
+         live_units: 5, free_blocks: 1, free_units: 12, largest_free_block: 12, largest_free_region: 12, unused_nodes: 2 } } }"
+    );
+    let why = space.refusal(13).unwrap();
+    assert_eq!(why, Refusal::Allocator(offset_allocator::Refusal::Space));
+    assert_eq!(why, Refusal::from(space.allocator().refusal(13).unwrap()));
+    let errors: [Box<dyn std::error::Error>; 2] = [why.into(), Refusal::Serials.into()];
+    assert_eq!(errors.map(|error| error.to_string()), ["too few units are free", "all serials are given"]);
+    let kinds: std::collections::HashSet<_> = [why, Refusal::Serials, why].into();
+    assert_eq!(kinds.len(), 2);
+    assert!(!space.allocator().is_empty());
 }

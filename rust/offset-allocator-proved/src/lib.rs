@@ -54,6 +54,7 @@ mod nonmax;
 mod reports;
 mod resize;
 pub mod small_float;
+mod statistics;
 mod steps;
 mod store;
 mod tables;
@@ -67,6 +68,7 @@ pub use handle::Allocation;
 pub use index::{NodeIndex, NodeIndexNonMax};
 pub use nonmax::{NonMaxU16, NonMaxU32};
 pub use reports::{Refusal, StorageReport, StorageReportFull, StorageReportFullRegion};
+pub use statistics::Statistics;
 use core::fmt;
 use store::Store;
 pub use tables::Tables;
@@ -97,6 +99,7 @@ impl<T: Tables> AllocatorOf<T> {
     /// costs as much as in `with_max_allocs`.
     ///
     /// An error is returned only where an allocation failed; then nothing is made.
+    #[track_caller]
     pub fn new(alloc: Global, size: u32) -> Result<Self, AllocError> {
         Self::with_max_allocs(alloc, size, 131072u32.min(T::Index::MAX - 2))
     }
@@ -312,9 +315,13 @@ impl<T: Tables> AllocatorOf<T> {
     }
 }
 
-/// The text is that of the short report.
+/// The text is that of a struct with the size, the node limit and the statistics.
 impl<T: Tables> fmt::Debug for AllocatorOf<T> {
     fn fmt(&self, f: &mut fmt::Formatter<'_>) -> fmt::Result {
-        fmt::Debug::fmt(&self.storage_report(), f)
+        f.debug_struct("Allocator")
+            .field("size", &self.size)
+            .field("max_allocs", &self.max_allocs)
+            .field("statistics", &self.statistics())
+            .finish()
     }
 }

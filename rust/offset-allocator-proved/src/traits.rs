@@ -2,20 +2,34 @@
 
 use core::hash::{Hash, Hasher};
 
+use crate::blocks::Block;
 use crate::handle::Allocation;
 use crate::index::{NodeIndex, NodeIndexNonMax};
-use crate::reports::Refusal;
+use crate::reports::{Refusal, StorageReport, StorageReportFull, StorageReportFullRegion};
+use crate::statistics::Statistics;
 
 /// Two names are equal exactly where their numbers are: that is a law of `NodeIndexNonMax`.
 impl<NI: NodeIndex, N: NodeIndexNonMax> Eq for Allocation<NI, N> {}
 
-/// The hash is of the offset and of the name's number, as `==` compares them.
+/// The hash is of the public offset and of the name's number, as `==` compares them: so a handle that `blocks` or a move
+/// yields after `compact` is not found in a map whose key is the handle that `allocate` returned. Let
+/// [`name`](Allocation::name) be the key.
 impl<NI: NodeIndex, N: NodeIndexNonMax> Hash for Allocation<NI, N> {
     fn hash<H: Hasher>(&self, state: &mut H) {
         self.offset.hash(state);
         self.metadata.to_usize().hash(state);
     }
 }
+
+impl<NI: NodeIndex + Eq, N: NodeIndexNonMax + Eq> Eq for Block<NI, N> {}
+
+impl Eq for StorageReport {}
+
+impl Eq for StorageReportFull {}
+
+impl Eq for StorageReportFullRegion {}
+
+impl Eq for Statistics {}
 
 impl Eq for Refusal {}
 

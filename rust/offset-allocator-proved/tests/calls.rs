@@ -1,7 +1,7 @@
 //! Each public call, with values computed by hand.
 use offset_allocator_proved::ext::min_allocator_size;
 use offset_allocator_proved::small_float::{float_to_uint, uint_to_float_round_down, uint_to_float_round_up};
-use offset_allocator_proved::{laws, Accesses, AllocError, Allocator, Global, NodeIndex, NonMaxU16, NonMaxU32, Refusal};
+use offset_allocator_proved::{laws, Accesses, AllocError, Allocator, Global, NodeIndex, NonMaxU16, NonMaxU32, Refusal, Statistics, StorageReport};
 
 fn space(size: u32, max_allocs: u32) -> Allocator {
     Allocator::with_max_allocs(Global, size, max_allocs).unwrap()
@@ -25,7 +25,53 @@ fn grants_and_releases() {
     a.free(second);
     // 100 units are of the class of 96
     assert_eq!(a.storage_report().largest_free_region, 96);
-    assert_eq!(format!("{a:?}"), "StorageReport { total_free_space: 100, largest_free_region: 96 }");
+    assert_eq!(
+        format!("{a:?}"),
+        "Allocator { size: 100, max_allocs: 16, statistics: Statistics { live_ranges: 0, live_units: 0, free_blocks: 1, \
+         free_units: 100, largest_free_block: 100, largest_free_region: 96, unused_nodes: 15 } }"
+    );
+}
+
+#[test]
+fn statistics_at_the_node_limit() {
+    let mut a = space(100, 4);
+    assert!(a.is_empty());
+    let first = a.allocate(10).unwrap();
+    a.allocate(20).unwrap();
+    // three blocks: a report has 0 and 0 here
+    assert!(a.is_full() && a.storage_report() == StorageReport { total_free_space: 0, largest_free_region: 0 });
+    assert_eq!((a.free_units(), a.live_units(), a.is_empty()), (70, 30, false));
+    a.free(first);
+    let wanted = Statistics {
+        live_ranges: 1,
+        live_units: 20,
+        free_blocks: 2,
+        free_units: 80,
+        largest_free_block: 70,
+        largest_free_region: 64,
+        unused_nodes: 1,
+    };
+    assert_eq!(a.statistics(), wanted);
+    assert_eq!(laws::statistics_counted(&a, &mut Accesses::new()), wanted);
+    assert!(!laws::is_empty_counted(&a, &mut Accesses::new()));
+    // a range of no units is live
+    let mut none = space(0, 3);
+    none.allocate(0).unwrap();
+    assert!(!none.is_empty() && none.statistics().live_ranges == 1);
+}
+
+#[test]
+fn blocks_and_reports_are_compared_and_copied() {
+    let mut a = space(100, 16);
+    a.allocate(10).unwrap();
+    let blocks: Vec<_> = a.blocks().collect();
+    assert!(blocks.iter().eq(&a.blocks().collect::<Vec<_>>()) && blocks[0] != blocks[1]);
+    let report = a.storage_report_full();
+    assert!(report.clone() == a.storage_report_full() && report != space(100, 16).storage_report_full());
+    fn equal<T: Eq + Clone>(value: T) -> bool {
+        value.clone() == value
+    }
+    assert!(equal(blocks[0]) && equal(a.storage_report()) && equal(report) && equal(a.statistics()));
 }
 
 #[test]

@@ -65,6 +65,36 @@ fn keys() {
     assert_eq!(numbers.len(), 5);
 }
 
+// What a program keeps of its ranges stands in a table by name, which `compact` does not change.
+#[test]
+fn a_side_table_by_name() {
+    let mut heap = Allocator::<u32>::with_max_allocs(Global, 100, 16).unwrap();
+    let mut meshes: Vec<Option<&str>> = vec![None; heap.max_allocs() as usize];
+    for text in ["rock", "tree"] {
+        let range = heap.allocate(10).unwrap();
+        meshes[range.name() as usize] = Some(text);
+    }
+    let rock = heap.blocks().last().and_then(|block| block.allocation).unwrap();
+    assert_eq!(meshes[rock.name() as usize].take(), Some("rock"));
+    heap.free(rock);
+    heap.compact(&mut |_| {});
+    let tree = heap.blocks().last().and_then(|block| block.allocation).unwrap();
+    assert_eq!((tree.offset, meshes[tree.name() as usize]), (0, Some("tree")));
+    assert!(meshes.iter().flatten().count() == 1 && tree.name() < heap.node_count());
+}
+
+// A handle that a move has is another key than that of the grant, and has the same name.
+#[test]
+fn a_moved_handle_is_another_key() {
+    let mut heap = Allocator::<u32>::with_max_allocs(Global, 100, 16).unwrap();
+    let (first, second) = (heap.allocate(10).unwrap(), heap.allocate(10).unwrap());
+    let known = HashSet::from([second]);
+    heap.free(first);
+    let mut moved = Vec::new();
+    heap.compact(&mut |range| moved.push(range.allocation()));
+    assert!(moved.len() == 1 && !known.contains(&moved[0]) && moved[0].name() == second.name());
+}
+
 #[test]
 fn names_of_numbers() {
     assert_eq!((NonMaxU32::try_from(7).map(u32::from), NonMaxU32::try_from(u32::MAX)), (Ok(7), Err(IsMax)));
@@ -84,6 +114,32 @@ fn refusals_are_errors_with_a_text() {
     for (why, text) in texts {
         let error: Box<dyn Error> = why.into();
         assert_eq!(error.to_string(), text);
+    }
+}
+
+// An index type that is not lawful: its largest number is below 4, so no limit is admitted.
+#[derive(Clone, Copy, Default)]
+struct Three(u16);
+
+impl NodeIndex for Three {
+    type NonMax = NonMaxU16;
+
+    const MAX: u32 = 3;
+
+    fn from_u32(val: u32) -> Self {
+        Three(val as u16)
+    }
+
+    fn to_usize(self) -> usize {
+        self.0 as usize
+    }
+
+    fn to_nonmax(self) -> Option<NonMaxU16> {
+        NonMaxU16::new(self.0)
+    }
+
+    fn of_nonmax(n: NonMaxU16) -> Self {
+        Three(n.get())
     }
 }
 
@@ -122,6 +178,7 @@ fn a_panic_names_the_line_of_the_call_and_the_handle() {
     expect!(align, a.refusal_aligned(1, 0));
     expect!(align, laws::refusal_aligned_counted(&a, 1, 6, &mut Accesses::new()));
     expect!("max_allocs must be at least 2", Allocator::<u32>::with_max_allocs(Global, 1, 1));
+    expect!("max_allocs must be at least 2", Allocator::<Three>::new(Global, 1));
     expect!("max_allocs must be at most NI::MAX - 2", Allocator::<u16>::with_max_allocs(Global, 1, 65_534));
     expect!("needed_object_size must be at most 4026531840", min_allocator_size(u32::MAX));
     expect!("float_value must be below 256", float_to_uint(256));

@@ -126,6 +126,7 @@ where
     NI: NodeIndex,
 {
     fn fmt(&self, f: &mut fmt::Formatter<'_>) -> fmt::Result {
-        self.proved.fmt(f)
+        // the text of the original
+        self.proved.storage_report().fmt(f)
     }
 }

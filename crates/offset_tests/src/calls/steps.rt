@@ -3,11 +3,12 @@
 use crate::asserts::{assert_same_at, assert_that_at, text_of};
 use crate::layouts::{ALL, Expectation, check_each};
 use offset_allocator::laws::{
-    allocation_offset_counted, next_block_counted, refusal_aligned_counted, refusal_counted, undo,
+    allocation_offset_counted, is_empty_counted, next_block_counted, refusal_aligned_counted,
+    refusal_counted, statistics_counted, undo,
 };
 use offset_allocator::{
-    Accesses, Allocation, AllocatorOf, Block, Move, NodeIndex, Refusal, StorageReportFullRegion,
-    Tables,
+    Accesses, Allocation, AllocatorOf, Block, Move, NodeIndex, Refusal, Statistics,
+    StorageReportFullRegion, Tables,
 };
 use std::alloc::{AllocError, Global};
 use std::process::Abort;
@@ -52,6 +53,9 @@ pub enum Step {
     LacksAligned(u32, u32, Refusal),
     /// The space has this size, this many blocks, and is full or not.
     Is(u32, u32, bool),
+    /// Of live ranges, their units, free blocks, their units, the largest free block, the largest region, and unused
+    /// nodes there are as many.
+    Sums([u32; 7]),
     /// The short report has this total, and this largest region.
     Reports(u32, u32),
     /// The full report has these classes, with their sizes and counts, and no free block besides.
@@ -168,6 +172,33 @@ fn expect_counts<T: Tables>(
         }
     }
     assert_same_at(rt, at, &found, &wanted.len());
+}
+
+// The statistics, what else says the same, and the counted forms.
+fn expect_sums<T: Tables>(
+    rt: &impl Abort,
+    at: &Place,
+    allocator: &AllocatorOf<T>,
+    wanted: &[u32; 7],
+) {
+    let found = allocator.statistics();
+    let wanted = Statistics {
+        live_ranges: wanted[0],
+        live_units: wanted[1],
+        free_blocks: wanted[2],
+        free_units: wanted[3],
+        largest_free_block: wanted[4],
+        largest_free_region: wanted[5],
+        unused_nodes: wanted[6],
+    };
+    assert_same_at(rt, at, &found, &wanted);
+    assert_same_at(rt, at, &allocator.live_units(), &wanted.live_units);
+    assert_same_at(rt, at, &allocator.free_units(), &wanted.free_units);
+    let empty = wanted.live_ranges == 0;
+    assert_same_at(rt, at, &allocator.is_empty(), &empty);
+    let mut count = Accesses::new();
+    assert_same_at(rt, at, &is_empty_counted(allocator, &mut count), &empty);
+    assert_same_at(rt, at, &statistics_counted(allocator, &mut count), &wanted);
 }
 
 fn request<T: Tables>(
@@ -386,6 +417,7 @@ fn observe<T: Tables>(
             assert_same_at(rt, at, &allocator.block_count(), blocks);
             assert_same_at(rt, at, &allocator.is_full(), full);
         }
+        Step::Sums(wanted) => expect_sums(rt, at, allocator, wanted),
         Step::Reports(total, largest) => {
             let report = allocator.storage_report();
             assert_same_at(rt, at, &report.total_free_space, total);

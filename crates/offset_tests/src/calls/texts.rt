@@ -1,6 +1,6 @@
 //! The `Debug` texts of allocators, handles and reports, and what `Display` prints of names and reasons.
 
-use super::steps::Limit::{Few, Limited};
+use super::steps::Limit::Limited;
 use super::steps::Step::{Grants, Shows};
 use super::steps::{Case, expect_all, make_allocator};
 use crate::asserts::{assert_shown, assert_text, assert_that, text_of};
@@ -12,35 +12,32 @@ use offset_allocator::{
 use std::alloc::{AllocError, Global};
 use std::process::Abort;
 
-const SHOWN: [Case; 3] = [
+const SHOWN: [Case; 2] = [
     Case {
         name: "a space of 17 units",
         size: 17,
-        limit: Few,
-        steps: &[Shows("StorageReport { total_free_space: 17, largest_free_region: 16 }")],
+        limit: Limited(4),
+        steps: &[
+            Grants(5, 0),
+            Shows(
+                "Allocator { size: 17, max_allocs: 4, statistics: Statistics { live_ranges: 1, live_units: 5, \
+                 free_blocks: 1, free_units: 12, largest_free_block: 12, largest_free_region: 12, unused_nodes: 2 } }",
+            ),
+        ],
     },
     Case {
         name: "a space at its block limit",
         size: 17,
         limit: Limited(2),
-        steps: &[Shows("StorageReport { total_free_space: 0, largest_free_region: 0 }")],
-    },
-    Case {
-        name: "the largest space",
-        size: 4_294_967_295,
-        limit: Few,
-        steps: &[
-            Shows(
-                "StorageReport { total_free_space: 4294967295, largest_free_region: 4026531840 }",
-            ),
-            Grants(4_025_564_544, 0),
-            Shows("StorageReport { total_free_space: 269402751, largest_free_region: 268435456 }"),
-        ],
+        steps: &[Shows(
+            "Allocator { size: 17, max_allocs: 2, statistics: Statistics { live_ranges: 0, live_units: 0, \
+             free_blocks: 1, free_units: 17, largest_free_block: 17, largest_free_region: 16, unused_nodes: 1 } }",
+        )],
     },
 ];
 
 #[test]
-fn allocators_have_the_texts_of_short_reports(rt: HostRuntime) {
+fn allocators_have_the_texts_of_their_statistics(rt: HostRuntime) {
     expect_all(&rt, rt.alloc(), &SHOWN);
 }
 
@@ -73,6 +70,7 @@ fn reports_name_their_fields(rt: HostRuntime) {
     };
     let wanted = "StorageReportFullRegion { size: 88, count: 4294967295 }";
     assert_text(&rt, rt.alloc(), &region, wanted);
+    assert_that(&rt, report == report.clone().expect(&rt, "memory"));
     let mut report = StorageReportFull::default();
     report.free_regions[3] = StorageReportFullRegion { size: 3, count: 2 };
     let wanted = text_of_class_3(rt.alloc()).expect(&rt, "memory");
