@@ -51,7 +51,7 @@ packed_fewer x bs = omega (arith, length-append (live bs) (gathered x (free_size
 module _ (v : View) (w : IsWellFormed v) (blocks n : ℕ) (room : HasRoomFor blocks v) where
   -- what compaction leaves
   module _ (u : View) (c : Compacts v u) where
-    open_still : HasRoomFor blocks u
+    pub open_still : HasRoomFor blocks u
     open_still = omega (arith, room, packed_fewer c.name v.blocks, ap (λ (x : View). length x.blocks) c.view, ap (λ (x : View). x.max_allocs) c.view)
 
     bins_are : u.order ≡ push_all (gathered c.name (free_sizes v.blocks)) (replicate 256 [])

@@ -1,18 +1,19 @@
 -- What a grant leaves of the whole allocator.
-use Rattle.offset_allocator.proofs.Common.{◌≡◌, ℕ, zero, suc, ◌+◌, ◌-◌, ◌<◌, ◌≤◌, ◌^◌, List, [], ◌∷◌, ◌++◌, length, refl, sym, ap, ap₂, ◌∙◌, arith, slice_set, append_assoc, le-leb, nat_eq, up, down}
+use Rattle.offset_allocator.proofs.Common.{◌≡◌, ℕ, zero, suc, ◌+◌, ◌-◌, ◌<◌, ◌≤◌, ◌^◌, List, [], ◌∷◌, ◌++◌, length, refl, sym, ap, ap₂, ◌∙◌, arith, slice_set, append_assoc, le-leb, padding_to, units_needed, times, count_in_bin, nat_eq, value, up, down, ◌%◌}
 use Rattle.offset_allocator.proofs.Common.{Cells, ChainCells, Block, View, Place, Grant, one, count_named, bin_at, IsWellFormed, IsNew, free_part, used_block, units, replace, remove_all, push_all}
 use Rattle.offset_allocator.proofs.Common.{remove}
 use Rattle.offset_allocator.proofs.Common.{HasPlace, IsFoundFrom, Some, bins_in, IsBinned, AreUnlisted, SameSpace, Splits, common_steps}
 use Rattle.offset_allocator.proofs.Joints.{stepped, unused_unlisted, free_part_units, remove_free, free_units-append, free_units-free, free_units-used}
-use Rattle.offset_allocator.proofs.{Sound.Fields, Sound.AreSound, Sound.shown, Sound.well_counted, Exchange.each-le, Exchange.there-below, Places.placed, Places.end_fits, Classes.fits_size}
-use Rattle.offset_allocator.proofs.{Split.well_split, Split.part_room, Taken.Taken, Taken.taken, ViewOrders.unlisted_removed, Tallies.one-same, Tallies.one-eq, Tallies.times-append}
+use Rattle.offset_allocator.proofs.{Sound.Fields, Sound.AreSound, Sound.shown, Sound.well_counted, Exchange.each-le, Exchange.there-below, Places.placed, Places.end_fits, Classes.fits_size, Classes.value_clauses}
+use Rattle.offset_allocator.proofs.{Split.well_split, Split.part_room, Taken.Taken, Taken.taken, Taken.listed_block, ViewOrders.unlisted_removed, Tallies.one-same, Tallies.one-eq, Tallies.times-append}
+use Rattle.offset_allocator.specs.Tight.{HoldsFirst}
 use Rattle.offset_allocator.proofs.Tallies.{without, counted_none}
 use Rattle.offset_allocator.proofs.Tallies.{free_units, free_sum}
 
--- a grant: sound fields, the smallest class large enough that has a block, and the first name there
-pub record Call (f : Fields) (needed class x : ℕ) : Type 0 where
+-- a grant: sound fields, a class that has a block, and the first name there
+pub record Call (f : Fields) (class x : ℕ) : Type 0 where
   pub sound : AreSound f
-  pub smallest : IsFoundFrom (up needed) (bins_in f.max f.cells.bins) (Some class)
+  pub classed : class < 256
   pub older : List ℕ
   pub newest : bin_at (bins_in f.max f.cells.bins) class ≡ x ∷ older
 
@@ -20,12 +21,18 @@ pub record Call (f : Fields) (needed class x : ℕ) : Type 0 where
 abbrev pub popped : Fields → ℕ → ℕ → List (List ℕ)
 popped f class x = slice_set (bins_in f.max f.cells.bins) class (without x (bin_at (bins_in f.max f.cells.bins) class))
 
+-- a request for the value of a class with a block takes that class
+pub found_itself : (class : ℕ) → class < 256 → (xs : List ℕ) → (xs ≡ [] → ⊥) → (order : List (List ℕ)) → xs ≡ bin_at order class → IsFoundFrom (up (value class)) order (Some class)
+found_itself class l xs some order e =
+    let again = (value_clauses class (value class % 2 ^ 32) l refl).up_again in
+    (omega (arith, again), l, λ n. some (e ∙ n), λ d low high. absurd (omega (arith, again, low, high)))
+
 -- padding or a remainder has a name where it has units
 pub part_names : (y k n : ℕ) → 1 ≤ n → count_named y (free_part k n) ≡ one (nat_eq y k)
 part_names y k zero l = absurd (omega arith)
 part_names y k (suc n) l = omega arith
 
-module _ {f : Fields} {needed class x : ℕ} (call : Call f needed class x) where
+module _ {f : Fields} {class x : ℕ} (call : Call f class x) where
   abbrev v : View
   v = shown f
 
@@ -45,12 +52,9 @@ module _ {f : Fields} {needed class x : ℕ} (call : Call f needed class x) wher
   pub held : {d : ChainCells} → d ≡ f.cells.chain → HasPlace d f.cells.chain.reserved f.last f.count x got.place
   held e = rw e (placed (rw got.list_is at call.sound.space) got.name)
 
-  pub enough : needed ≤ got.place.block.size
-  enough = fits_size needed p.block.size (le-leb (up needed) (down p.block.size) (omega (arith, got.class, call.smallest.0)))
-
   -- the name is in no bin then
   pub unlisted : AreUnlisted (got.place.before ++ got.place.block ∷ got.place.after) (popped f class x)
-  unlisted y e = unlisted_removed y x class ls w.classes call.smallest.1 (unused_unlisted v w y (ap (count_named y) got.list_is ∙ e))
+  unlisted y e = unlisted_removed y x class ls w.classes call.classed (unused_unlisted v w y (ap (count_named y) got.list_is ∙ e))
 
   removed : remove_all (p.block ∷ []) ls ≡ popped f class x
   removed = remove_free p.block ls got.free ∙ ap₂ (λ i y. remove i y ls) got.class got.name
@@ -59,22 +63,19 @@ module _ {f : Fields} {needed class x : ℕ} (call : Call f needed class x) wher
   had_free = sym call.sound.total ∙ free_sum (shown f).blocks ∙ ap free_units got.list_is
       ∙ free_units-append p.before (p.block ∷ p.after) ∙ ap (λ k. free_units p.before + k) (free_units-free p.block p.after got.free)
 
-  -- a request for n units, with padding
-  module _ (n : ℕ) (padding_at : ℕ → ℕ) (within : (o : ℕ) → padding_at o + n ≤ needed) where
+  -- a request for n units, with padding, that the block holds
+  module _ (n : ℕ) (padding_at : ℕ → ℕ) (whole_fits : padding_at (units got.place.before) + n ≤ got.place.block.size) where
     abbrev padding : ℕ
     padding = padding_at (units p.before)
 
     abbrev left : ℕ
     left = p.block.size - (padding + n)
 
-    pub whole_fits : padding_at (units got.place.before) + n ≤ got.place.block.size
-    whole_fits = omega (arith, enough, within (units p.before))
-
     pub padding_fits : units got.place.before + padding_at (units got.place.before) < 2 ^ 32
     padding_fits = omega (arith, whole_fits, end_fits (held refl))
 
     pub units_free : n ≤ f.free
-    units_free = omega (arith, had_free, enough, within 0)
+    units_free = omega (arith, had_free, whole_fits)
 
     -- with room for the blocks that it adds; the tables that are left
     module _ (k : ℕ) (room : length (shown f).blocks + k < f.limit) (some : 1 ≤ k) (two : (o : ℕ) → 1 ≤ padding_at o → 2 ≤ k) (d : Cells) (last count front rest : ℕ)
@@ -110,15 +111,15 @@ module _ {f : Fields} {needed class x : ℕ} (call : Call f needed class x) wher
       abbrev grant : Grant
       grant = record { name = x; offset = units p.before + padding }
 
-      split : (u : View) → SameSpace left_view u → Splits needed n padding_at v u grant
-      split u same = record {
+      split : (needed : ℕ) → IsFoundFrom (up needed) ls (Some class) → (u : View) → SameSpace left_view u → Splits needed n padding_at v u grant
+      split needed smallest u same = record {
         before = p.before;
         block = p.block;
         after = p.after;
         blocks = got.list_is;
         free = got.free;
-        fits = omega (arith, got.class, call.smallest.0);
-        smallest = λ c l m. call.smallest.3 c l (omega (arith, m, got.class));
+        fits = omega (arith, got.class, smallest.0);
+        smallest = λ c l m. smallest.3 c l (omega (arith, m, got.class));
         older = call.older;
         newest = ap (bin_at ls) got.class ∙ call.newest ∙ ap (λ y. y ∷ call.older) (sym got.name);
         padding = padding;
@@ -140,12 +141,13 @@ module _ {f : Fields} {needed class x : ℕ} (call : Call f needed class x) wher
           → bins_in f.max d.bins ≡ push_all (free_part front
           (padding_at (units got.place.before)) ++ (used_block x n ∷ free_part rest (got.place.block.size - (padding_at (units got.place.before) + n)))) (popped f class x)
           → AreSound (record f { cells = d; last = last; count = count; top = top; free = f.free - n; accesses = accesses })
-          × Splits needed n padding_at (shown f) (shown (record f { cells = d; last = last; count = count; top = top; free = f.free - n; accesses = accesses }))
-          (record { name = x; offset = units got.place.before + padding_at (units got.place.before) })
+          × ((needed : ℕ) → IsFoundFrom (up needed) (bins_in f.max f.cells.bins) (Some class)
+          → Splits needed n padding_at (shown f) (shown (record f { cells = d; last = last; count = count; top = top; free = f.free - n; accesses = accesses }))
+          (record { name = x; offset = units got.place.before + padding_at (units got.place.before) }))
       unfolding split
       granted {top} {accesses} bins lists =
           let flat : (p.before ++ free_part front padding) ++ (used_block p.block.name n ∷ (free_part rest left ++ p.after)) ≡ p.before ++ (parts ++ p.after) = simp append_assoc in
-          let well = well_split (split left_view refl) k w room (part_room front padding k some (two (units p.before))) in
+          let well = well_split (split (value class) (found_itself class call.classed (bin_at ls class) (λ e. absurd (let q = sym call.newest ∙ e in cc)) ls refl) left_view refl) k w room (part_room front padding k some (two (units p.before))) in
           let units_are = ap free_units flat ∙ free_units-append p.before (parts ++ p.after) in
           let parts_are = ap free_units (append_assoc (free_part front padding) (used_block p.block.name n ∷ free_part rest left) p.after) in
           let done = stepped f call.sound left_view d (f.free - n) accesses well refl there.chain flat bins (rw (removed, got.name) lists)
@@ -159,4 +161,15 @@ module _ {f : Fields} {needed class x : ℕ} (call : Call f needed class x) wher
             had_free,
             whole_fits,
           )) in
-          (done.0, split _ done.1)
+          (done.0, λ needed smallest. split needed smallest _ done.1)
+
+-- the padding and the units are within the units needed
+pub within : (n align o : ℕ) → 1 ≤ align → padding_to align o + n ≤ units_needed n align
+within n align o l = omega arith
+
+-- a block of a class that is large enough for them holds them
+pub first_holds : (v : View) → IsWellFormed v → (n align class : ℕ) → 1 ≤ align → up (units_needed n align) ≤ class → HoldsFirst class n align v
+first_holds v w n align class some l p older is newest =
+    let listed = listed_block class p.block.name p.before p.block p.after refl (omega (arith, w.distinct p.block.name, ap (count_named p.block.name) is))
+    (omega (arith, w.orders class p.block.name, ap (times p.block.name) newest, one-same p.block.name, ap (count_in_bin class p.block.name) is)) in
+    omega (arith, within n align (units p.before) some, fits_size (units_needed n align) p.block.size (le-leb (up (units_needed n align)) (down p.block.size) (omega (arith, listed.1, l))))

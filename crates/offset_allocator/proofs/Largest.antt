@@ -51,7 +51,7 @@ member_most f x (y ∷ xs) l = elim (hit_cases x y) [
   | inr h ↦ let ih = member_most f x xs (omega (arith, h.1)) in grind arith
 ]
 
-free_most : (fs : List Block) (b : Block) (cs : List Block) → b.used ≡ false → b.size ≤ greatest (free_sizes (fs ++ b ∷ cs))
+pub free_most : (fs : List Block) (b : Block) (cs : List Block) → b.used ≡ false → b.size ≤ greatest (free_sizes (fs ++ b ∷ cs))
 free_most [] b cs u = rw u (grind arith)
 free_most (a ∷ fs) b cs u = let ih = free_most fs b cs u in elim a.used as (λ f. b.size ≤ greatest (if f then free_sizes (fs ++ b ∷ cs) else a.size ∷ free_sizes (fs ++ b ∷ cs))) [ true ↦ ih | false ↦ grind arith ]
 
@@ -147,3 +147,11 @@ greatest_near (n ∷ ns) h =
     let low = value_down n in
     let near = near_best n (value (down n)) (omega (arith, s, h)) (omega (arith, s, h, low)) ((down_law (value (down n)) (down n) (omega (arith, s, h, low))).1 (omega arith)) in
     (omega (arith, ih.0, low), omega (arith, ih.1, near))
+
+-- the name that a walk is at is one of its list
+pub walk_at : {none : ℕ} {t : BinCells} {name : ℕ} {met whole : List ℕ} → IsWalked none t name met whole → name ≢ none → (rest : List ℕ) × (whole ≡ met ++ name ∷ rest)
+walk_at {none} {t} {name} {met} {whole} s ne = go s.rest s.is s.parts
+  where
+    go : (xs : List ℕ) → name ≡ first_of none xs → whole ≡ met ++ xs → (rest : List ℕ) × (whole ≡ met ++ name ∷ rest)
+    go [] e w = absurd (ne e)
+    go (x ∷ xs) e w = (xs, w ∙ ap (λ y. met ++ y ∷ xs) (sym e))

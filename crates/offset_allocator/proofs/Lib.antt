@@ -31,6 +31,7 @@ pub mod Ranges
 pub mod Readied
 pub mod Refusals
 pub mod Taken
+pub mod Holding
 pub mod Tallies
 pub mod Uses
 pub mod Released

@@ -15,4 +15,5 @@ pub mod Resizing
 pub mod Soundness
 pub mod Statistics
 pub mod Store
+pub mod Tight
 pub mod View

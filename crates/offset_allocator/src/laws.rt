@@ -12,6 +12,7 @@ ghost use Rattle.offset_allocator.specs.Ranges.{Range, range_of, AreDisjoint};
 ghost use Rattle.offset_allocator.specs.Relations.{IsAlignment, SameSpace, Allocates, Frees, IsFresh};
 ghost use Rattle.offset_allocator.specs.Requests.{CanGrant, HasRoomFor, IsReport, IsWhy};
 ghost use Rattle.offset_allocator.specs.Statistics.{AreStatistics};
+ghost use Rattle.offset_allocator.specs.Tight.{CanHold, IsWhyTight};
 ghost use Rattle.offset_allocator.specs.declared.reports.StorageReport.{StorageReport};
 ghost use Rattle.offset_allocator.specs.declared.statistics.Statistics.{Statistics};
 ghost use Rattle.offset_allocator.specs.declared.reports.Refusal.{Refusal};
@@ -28,6 +29,7 @@ pub use crate::reports::{
 pub use crate::statistics::{is_empty_counted, statistics_counted};
 use crate::store::Store;
 use crate::tables::Tables;
+pub use crate::tight::{refusal_tight_aligned_counted, refusal_tight_counted};
 
 /// Grants a request for `n` units and frees the grant at once. The blocks, their names and the bins are then as they
 /// were. It is `false` where the request was refused.
@@ -203,6 +205,19 @@ pub fn refusals_advise<T: Tables>(allocator: &AllocatorOf<T>)
         → IsWhy blocks units allocator.now s → r ≡ s }
     ensures none { (blocks units : ℕ) (r : Refusal) → IsWhy blocks units allocator.now r
         → CanGrant blocks units allocator.now → ⊥ }
+{
+    allocator.formed();
+}
+
+/// Of the tight requests that are refused though there is room for one more block, those without alignment are refused as
+/// `Fragmented` that would be granted after `compact`, and those as `TooLarge` that a fresh space of this size and limit
+/// would refuse.
+pub fn tight_refusals_advise<T: Tables>(allocator: &AllocatorOf<T>)
+    ensures compacted { (n : ℕ) (v : View) → HasRoomFor 1 allocator.now → Compacts allocator.now v
+        → (CanHold n 1 allocator.now → ⊥) → IsWhyTight n 1 allocator.now Fragmented ↔ CanHold n 1 v }
+    ensures fresh { (n : ℕ) (v : View) → HasRoomFor 1 allocator.now
+        → IsFresh allocator.now.size allocator.now.max_allocs v
+        → IsWhyTight n 1 allocator.now TooLarge ↔ (CanHold n 1 v → ⊥) }
 {
     allocator.formed();
 }

@@ -1,5 +1,5 @@
 //! The steps of the public calls. Each method leaves an allocator whose blocks and bins agree.
-ghost use Rattle.std.specs.Prelude.{◌≡◌, ◌↔◌, ◌+◌, ◌-◌, ◌*◌, ◌<◌, ◌≤◌, [], ◌∷◌, length, replicate, None, false, true};
+ghost use Rattle.std.specs.Prelude.{◌≡◌, ◌↔◌, ◌+◌, ◌-◌, ◌*◌, ◌<◌, ◌≤◌, ◌≢◌, ℕ, [], ◌∷◌, length, replicate, None, false, true};
 ghost use Rattle.std.specs.Prelude.{IsTrue, IsSome, IfSome, Some};
 ghost use Rattle.offset_allocator.specs.Accesses.{Costs};
 ghost use Rattle.offset_allocator.specs.Classes.{up, down};
@@ -7,7 +7,8 @@ ghost use Rattle.offset_allocator.specs.Cells.{IsBare};
 ghost use Rattle.offset_allocator.specs.Bins.{IsFoundFrom};
 ghost use Rattle.offset_allocator.specs.Store.{AreBinned, bins_of};
 ghost use Rattle.offset_allocator.specs.Ranges.{range_of, IsLive, KeepsAll, KeepsOthers};
-ghost use Rattle.offset_allocator.specs.View.{IsWellFormed, ends_used, padding_to, free_block, push, used_of};
+ghost use Rattle.offset_allocator.specs.Tight.{HoldsFirst};
+ghost use Rattle.offset_allocator.specs.View.{IsWellFormed, bin_at, ends_used, padding_to, free_block, push, used_of};
 ghost use Rattle.offset_allocator.specs.Relations.{Splits, Aligns, Frees, Adds, SameSpace, Resets};
 ghost use Rattle.offset_allocator.specs.Soundness.{IsSound, view_of};
 ghost use Rattle.offset_allocator.specs.Requests.{HasRoomFor, blocks_needed, units_needed};
@@ -110,14 +111,17 @@ impl<T: Tables> AllocatorOf<T> {
         self.store.spare_count > blocks || self.names_left() > blocks
     }
 
-    /// Grants `size` units of the newest block of a class, beginning at the first multiple of `align` in that block.
+    /// Grants `size` units of the newest block of a class, beginning at the first multiple of `align` in that block. The
+    /// block has to hold them.
     #[inline(always)]
     pub(crate) fn grant(&mut self, class: u32, size: u32, align: u32) -> Allocation<T::Index>
         requires some { 1 ≤ align }
-        requires fits { units_needed size align ≤ 4294967295 }
         requires enough { HasRoomFor (blocks_needed align) self.old }
-        requires smallest { IsFoundFrom (up (units_needed size align)) self.old.order (Some class) }
-        ensures step { Splits (units_needed size align) size (padding_to align) self.old self.new result }
+        requires classed { class < 256 }
+        requires filled { bin_at self.old.order class ≢ [] }
+        requires holds { HoldsFirst class size align self.old }
+        ensures step { (needed : ℕ) → IsFoundFrom (up needed) self.old.order (Some class)
+            → Splits needed size (padding_to align) self.old self.new result }
         ensures accesses { Costs 6 59 self.old.accesses self.new.accesses }
     {
         store::ensure_spares(

@@ -9,6 +9,7 @@ use Rattle.offset_allocator.specs.Ranges.{Range}
 use Rattle.offset_allocator.specs.Ranges as named
 use Rattle.offset_allocator.specs.Relations.{Aligns, Allocates}
 use Rattle.offset_allocator.specs.Requests.{CanGrant}
+use Rattle.offset_allocator.specs.Tight.{AlignsTight, CanHold}
 use Rattle.offset_allocator.proofs.Reading.{range_at}
 use Rattle.offset_allocator.proofs.Tallies.{hit_cases}
 use Rattle.offset_guarded.specs.declared.ticket.Ticket.{Ticket}
@@ -120,3 +121,12 @@ module _ (max n realm : ℕ) (v w : View) (t u : Table) (h : Grant) (is : IsGuar
 pub can_grant : (blocks units : ℕ) (g h : Guard) → g ≡ h → g.given < last_serial → CanGrant blocks units g.space
     → (true ≡ true → (h.given < last_serial) × CanGrant blocks units h.space) × ((h.given < last_serial) × CanGrant blocks units h.space → true ≡ true)
 can_grant blocks units g h shows left can = (λ e. subst (λ h. (h.given < last_serial) × CanGrant blocks units h.space) shows (left, can), λ h. refl)
+
+-- the same of a request for any free block that holds it
+pub can_hold : (n align : ℕ) (g h : Guard) → g ≡ h → g.given < last_serial → CanHold n align g.space
+    → (true ≡ true → (h.given < last_serial) × CanHold n align h.space) × ((h.given < last_serial) × CanHold n align h.space → true ≡ true)
+can_hold n align g h shows left can = (λ e. subst (λ h. (h.given < last_serial) × CanHold n align h.space) shows (left, can), λ h. refl)
+
+pub same_limit_tight : (n align : ℕ) (v w : View) (h : Grant) → AlignsTight n align v w (Some h) → w.max_allocs ≡ v.max_allocs
+same_limit_tight n align v w h (inl t) = same_limit n align v w h t
+same_limit_tight n align v w h (inr t) = ap (λ (z : View). z.max_allocs) t.1.1.3.view

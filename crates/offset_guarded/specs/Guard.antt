@@ -5,6 +5,7 @@ use Rattle.offset_allocator.specs.Ranges.{Range}
 use Rattle.offset_allocator.specs.Ranges as named
 use Rattle.offset_allocator.specs.Relations.{SameSpace}
 use Rattle.offset_allocator.specs.Requests as allocator
+use Rattle.offset_allocator.specs.Tight as tight
 use Rattle.offset_guarded.specs.declared.ticket.Ticket.{Ticket}
 use Rattle.offset_guarded.specs.declared.refusal.Refusal.{Refusal}
 use Rattle.offset_guarded.specs.declared.refusal.Refusal.TheVariants.{Serials, Allocator}
@@ -110,6 +111,11 @@ pub record Grants (n : ℕ) (g h : Guard) (t : Ticket) : Type 0 where
 abbrev pub IsWhy : ℕ → ℕ → Guard → Refusal → Type 0
 IsWhy blocks units g Serials = g.given ≡ last_serial
 IsWhy blocks units g (Allocator why) = HasSerialLeft g × allocator.IsWhy blocks units g.space why
+
+-- why a request for any free block that holds it is refused
+abbrev pub IsWhyTight : ℕ → ℕ → Guard → Refusal → Type 0
+IsWhyTight n align g Serials = g.given ≡ last_serial
+IsWhyTight n align g (Allocator why) = HasSerialLeft g × tight.IsWhyTight n align g.space why
 
 -- the text of a reason
 abbrev pub refusal_words : Refusal → List ℕ

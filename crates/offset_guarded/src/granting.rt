@@ -1,12 +1,15 @@
 //! Grants, each with the next serial, and why one is refused.
 
-ghost use Rattle.std.specs.Prelude.{ℕ, ◌≡◌, ◌↔◌, ◌+◌, ◌%◌, ◌<◌, ◌≤◌, None, Some, IsSome, IfSome, if◌then◌else◌, nat_eq};
-ghost use Rattle.std.specs.Prelude.{option_map};
+ghost use Rattle.std.specs.Prelude.{ℕ, ◌≡◌, ◌↔◌, ◌+◌, ◌*◌, ◌%◌, ◌<◌, ◌≤◌, None, Some, IsSome, IfSome, if◌then◌else◌};
+ghost use Rattle.std.specs.Prelude.{length, nat_eq, option_map};
 ghost use Rattle.offset_allocator.specs.Ranges as named;
-ghost use Rattle.offset_allocator.specs.View.{largest_free};
+ghost use Rattle.offset_allocator.specs.View.{bin_at, largest_free};
 ghost use Rattle.offset_allocator.specs.Relations.{Aligns, Allocates, IsAlignment};
 ghost use Rattle.offset_allocator.specs.Requests.{CanGrant, blocks_needed, units_needed};
-ghost use Rattle.offset_guarded.specs.Guard.{Grants, IsLive, IsSame, IsWhy, cell, grant_of, last_serial, HasSerialLeft};
+ghost use Rattle.offset_allocator.specs.Classes.{down};
+ghost use Rattle.offset_allocator.specs.Tight.{AlignsTight, CanHold, listed_from};
+ghost use Rattle.offset_guarded.specs.Guard.{Grants, IsLive, IsSame, IsWhy, IsWhyTight, cell, grant_of, last_serial};
+ghost use Rattle.offset_guarded.specs.Guard.{HasSerialLeft};
 
 use crate::GuardedOf;
 use crate::refusal::Refusal;
@@ -101,6 +104,54 @@ impl<T: Tables> GuardedOf<T> {
         }
     }
 
+    /// Grants `size` units of any free block that has them: the range that `Allocator::allocate_tight` grants, with the
+    /// next serial.
+    ///
+    /// `None` is returned where that call returns `None`, or where all serials are given; then all is as it was.
+    pub fn allocate_tight(&mut self, size: u32) -> Option<Ticket>
+        // It is granted exactly when a serial is left and there is room for one more block and a free block of `size`
+        // units.
+        ensures can_hold { IsSome result ↔ (HasSerialLeft self.old × CanHold size 1 self.old.space) }
+        ensures grants { IfSome result (Grants size self.old self.new) }
+        ensures same { result ≡ None → IsSame self.old self.new }
+        ensures step { HasSerialLeft self.old
+            → AlignsTight size 1 self.old.space self.new.space (option_map grant_of result) }
+        ensures accesses_max { self.new.space.accesses
+            ≤ self.old.space.accesses + 140 + 6 * length (bin_at self.old.space.order (down size)) }
+    {
+        if self.serials.is_spent() {
+            return None;
+        }
+        match self.space.allocate_tight(size) {
+            None => None,
+            Some(handle) => Some(ticket_for(&self.space, &mut self.serials, self.realm, handle)),
+        }
+    }
+
+    /// Grants `size` units that begin at a multiple of `align`, a power of two, of any free block that holds them: the range
+    /// that `Allocator::allocate_tight_aligned` grants, with the next serial.
+    ///
+    /// `None` is returned where that call returns `None`, or where all serials are given; then all is as it was.
+    pub fn allocate_tight_aligned(&mut self, size: u32, align: u32) -> Option<Ticket>
+        requires power { IsAlignment align }
+        ensures can_hold { IsSome result ↔ (HasSerialLeft self.old × CanHold size align self.old.space) }
+        ensures grants { IfSome result (Grants size self.old self.new) }
+        ensures aligned { IfSome result (λ t. t.offset % align ≡ 0) }
+        ensures same { result ≡ None → IsSame self.old self.new }
+        ensures step { HasSerialLeft self.old
+            → AlignsTight size align self.old.space self.new.space (option_map grant_of result) }
+        ensures accesses_max { self.new.space.accesses
+            ≤ self.old.space.accesses + 140 + 6 * length (listed_from (down size) self.old.space.order) }
+    {
+        if self.serials.is_spent() {
+            return None;
+        }
+        match self.space.allocate_tight_aligned(size, align) {
+            None => None,
+            Some(handle) => Some(ticket_for(&self.space, &mut self.serials, self.realm, handle)),
+        }
+    }
+
     /// Why `allocate(size)` would be refused now, or `None` exactly where it would be granted.
     pub fn refusal(&self, size: u32) -> Option<Refusal>
         ensures granted { result ≡ None ↔ (HasSerialLeft self.now × CanGrant 1 size self.now.space) }
@@ -126,6 +177,35 @@ impl<T: Tables> GuardedOf<T> {
             return Some(Refusal::Serials);
         }
         match self.space.refusal_aligned(size, align) {
+            None => None,
+            Some(why) => Some(Refusal::Allocator(why)),
+        }
+    }
+
+    /// Why `allocate_tight(size)` would be refused now, or `None` exactly where it would be granted.
+    pub fn refusal_tight(&self, size: u32) -> Option<Refusal>
+        ensures granted { result ≡ None ↔ (HasSerialLeft self.now × CanHold size 1 self.now.space) }
+        ensures why { IfSome result (IsWhyTight size 1 self.now) }
+    {
+        if self.serials.is_spent() {
+            return Some(Refusal::Serials);
+        }
+        match self.space.refusal_tight(size) {
+            None => None,
+            Some(why) => Some(Refusal::Allocator(why)),
+        }
+    }
+
+    /// Why `allocate_tight_aligned(size, align)` would be refused now, or `None` exactly where it would be granted.
+    pub fn refusal_tight_aligned(&self, size: u32, align: u32) -> Option<Refusal>
+        requires power { IsAlignment align }
+        ensures granted { result ≡ None ↔ (HasSerialLeft self.now × CanHold size align self.now.space) }
+        ensures why { IfSome result (IsWhyTight size align self.now) }
+    {
+        if self.serials.is_spent() {
+            return Some(Refusal::Serials);
+        }
+        match self.space.refusal_tight_aligned(size, align) {
             None => None,
             Some(why) => Some(Refusal::Allocator(why)),
         }

@@ -14,8 +14,11 @@ ghost use Rattle.offset_allocator.specs.Reports.{IsGoodRefusal};
 ghost use Rattle.offset_allocator.specs.Requests.{CanGrant, HasRoomFor, IsFullReport, IsReport, IsWhy, blocks_needed};
 ghost use Rattle.offset_allocator.specs.Requests.{units_needed};
 ghost use Rattle.offset_allocator.specs.Resizing.{CanGrow, CanShrink, Grows, HasUnits, Shrinks};
-ghost use Rattle.offset_allocator.specs.Statistics.{AreStatistics};
-ghost use Rattle.offset_allocator.specs.View.{count_named, free_sizes, is_full, largest_free, used_of, used_units};
+ghost use Rattle.offset_allocator.specs.Classes.{down};
+ghost use Rattle.offset_allocator.specs.Statistics.{AreStatistics, greatest};
+ghost use Rattle.offset_allocator.specs.Tight.{AlignsTight, CanHold, IsWhyTight, listed_from};
+ghost use Rattle.offset_allocator.specs.View.{bin_at, count_named, free_sizes, is_full, largest_free, used_of};
+ghost use Rattle.offset_allocator.specs.View.{used_units};
 
 use offset_allocator::{
     Allocation, AllocatorOf, BlocksOf, Move, Refusal, Statistics, StorageReport, StorageReportFull,
@@ -131,6 +134,67 @@ pub fn allocate<T: Tables>(space: &mut AllocatorOf<T>, size: u32) -> Option<Allo
     ensures step { Allocates size space.old space.new result }
 {
     space.allocate(size)
+}
+
+/// `allocate_tight`, with each clause of its contract.
+pub fn allocate_tight<T: Tables>(
+    space: &mut AllocatorOf<T>,
+    size: u32,
+) -> Option<Allocation<T::Index>>
+    ensures granted { 1 ≤ size
+        → (IsSome result ↔ (HasRoomFor 1 space.old × (size ≤ greatest (free_sizes space.old.blocks)))) }
+    ensures can_hold { IsSome result ↔ CanHold size 1 space.old }
+    ensures plain { CanGrant 1 size space.old → Allocates size space.old space.new result }
+    ensures grants { IfSome result (Grants size space.old space.new) }
+    ensures same { result ≡ None → SameSpace space.old space.new }
+    ensures accesses { Costs 0 (140 + 6 * length (bin_at space.old.order (down size)))
+        space.old.accesses space.new.accesses }
+    ensures accesses_min { IsSome result → space.old.accesses + 7 ≤ space.new.accesses }
+    ensures step { AlignsTight size 1 space.old space.new result }
+{
+    space.allocate_tight(size)
+}
+
+/// `allocate_tight_aligned`, with each clause of its contract.
+pub fn allocate_tight_aligned<T: Tables>(
+    space: &mut AllocatorOf<T>,
+    size: u32,
+    align: u32,
+) -> Option<Allocation<T::Index>>
+    requires power { IsAlignment align }
+    ensures can_hold { IsSome result ↔ CanHold size align space.old }
+    ensures plain { CanGrant (blocks_needed align) (units_needed size align) space.old
+        → Aligns size align space.old space.new result }
+    ensures grants { IfSome result (Grants size space.old space.new) }
+    ensures aligned { IfSome result (λ h. h.offset % align ≡ 0) }
+    ensures same { result ≡ None → SameSpace space.old space.new }
+    ensures accesses { Costs 0 (140 + 6 * length (listed_from (down size) space.old.order))
+        space.old.accesses space.new.accesses }
+    ensures accesses_min { IsSome result → space.old.accesses + 7 ≤ space.new.accesses }
+    ensures step { AlignsTight size align space.old space.new result }
+{
+    space.allocate_tight_aligned(size, align)
+}
+
+/// `refusal_tight`, with each clause of its contract.
+pub fn refusal_tight<T: Tables>(space: &AllocatorOf<T>, size: u32) -> Option<Refusal>
+    ensures granted { result ≡ None ↔ CanHold size 1 space.now }
+    ensures why { IfSome result (IsWhyTight size 1 space.now) }
+{
+    space.refusal_tight(size)
+}
+
+/// `refusal_tight_aligned`, with each clause of its contract.
+pub fn refusal_tight_aligned<T: Tables>(
+    space: &AllocatorOf<T>,
+    size: u32,
+    align: u32,
+) -> Option<Refusal>
+    requires power { IsAlignment align }
+    ensures granted { result ≡ None ↔ CanHold size align space.now }
+    ensures why { IfSome result (IsWhyTight size align space.now) }
+{
+    space.refusal_tight_aligned(size, align)
 }
 
 /// `free`, with each clause of its contract.

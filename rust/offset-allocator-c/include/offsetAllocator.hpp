@@ -248,6 +248,11 @@ public:
     Allocation allocate(uint32 size) { return detail::of(oa_allocate(space, size)); }
     Allocation allocateAligned(uint32 size, uint32 align) { return detail::of(oa_allocate_aligned(space, size, align)); }
 
+    Allocation allocateTight(uint32 size) { return detail::of(oa_allocate_tight(space, size)); }
+    Allocation allocateTightAligned(uint32 size, uint32 align) {
+        return detail::of(oa_allocate_tight_aligned(space, size, align));
+    }
+
     // Whether the allocation was live; if not, nothing changes.
     bool free(Allocation allocation) { return oa_free(space, detail::in(allocation)); }
 
@@ -292,6 +297,10 @@ public:
     StorageReportFull storageReportFull() const { return detail::of(oa_storage_report_full(space)); }
     Refusal refusal(uint32 size) const { return Refusal(oa_refusal(space, size)); }
     Refusal refusalAligned(uint32 size, uint32 align) const { return Refusal(oa_refusal_aligned(space, size, align)); }
+    Refusal refusalTight(uint32 size) const { return Refusal(oa_refusal_tight(space, size)); }
+    Refusal refusalTightAligned(uint32 size, uint32 align) const {
+        return Refusal(oa_refusal_tight_aligned(space, size, align));
+    }
 
 private:
     oa_allocator *space;
@@ -348,6 +357,9 @@ public:
     Ticket allocate(uint32 size) { return of(oag_allocate(space, size)); }
     Ticket allocateAligned(uint32 size, uint32 align) { return of(oag_allocate_aligned(space, size, align)); }
 
+    Ticket allocateTight(uint32 size) { return of(oag_allocate_tight(space, size)); }
+    Ticket allocateTightAligned(uint32 size, uint32 align) { return of(oag_allocate_tight_aligned(space, size, align)); }
+
     // Whether the ticket was live; if not, nothing changes.
     bool free(Ticket ticket) { return oag_free(space, in(ticket)); }
 
@@ -385,6 +397,10 @@ public:
     StorageReportFull storageReportFull() const { return detail::of(oag_storage_report_full(space)); }
     Refusal refusal(uint32 size) const { return Refusal(oag_refusal(space, size)); }
     Refusal refusalAligned(uint32 size, uint32 align) const { return Refusal(oag_refusal_aligned(space, size, align)); }
+    Refusal refusalTight(uint32 size) const { return Refusal(oag_refusal_tight(space, size)); }
+    Refusal refusalTightAligned(uint32 size, uint32 align) const {
+        return Refusal(oag_refusal_tight_aligned(space, size, align));
+    }
 
     bool isSpent() const { return oag_is_spent(space); }
     uint32 realm() const { return oag_realm(space); }

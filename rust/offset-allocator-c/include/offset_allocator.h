@@ -20,7 +20,7 @@
  * Threads. Calls with an oa_allocator * need it for themselves; calls with a const oa_allocator * may run at the same
  * time as each other.
  *
- * Cost. "Bounded" is at most 144 accesses to table cells, whatever the space holds.
+ * Cost. "Bounded" is at most 144 accesses to table cells, whatever the space holds. The calls named *_tight are not.
  */
 #ifndef OFFSET_ALLOCATOR_H
 #define OFFSET_ALLOCATOR_H
@@ -140,6 +140,16 @@ oa_allocation oa_allocate(oa_allocator *space, uint32_t size);
  * two. Where all requests have one alignment, count in units of it instead: then no padding is needed. Bounded. */
 oa_allocation oa_allocate_aligned(oa_allocator *space, uint32_t size, uint32_t align);
 
+/* Grants `size` units as oa_allocate does, and where that is refused, of the first free block of the class of `size` that
+ * has them. So it is refused only where no free block has `size` units, or no node is left: a heap that is nearly full is
+ * filled, and a fresh space grants all its units. Cost: at most 140 accesses, and 6 for each free block of the class. */
+oa_allocation oa_allocate_tight(oa_allocator *space, uint32_t size);
+
+/* The same at a multiple of align: as oa_allocate_aligned, and where that is refused, of the first free block, from the
+ * class of `size` on, that holds them where it begins. Above 1, it needs room for two more blocks.
+ * Cost: at most 140 accesses, and 6 for each free block of these classes. */
+oa_allocation oa_allocate_tight_aligned(oa_allocator *space, uint32_t size, uint32_t align);
+
 /* Frees a range. True if its handle is live; false, and nothing changes, if not or if the allocator is null. Bounded. */
 bool oa_free(oa_allocator *space, oa_allocation allocation);
 
@@ -207,6 +217,12 @@ oa_reason oa_refusal(const oa_allocator *space, uint32_t size);
 /* Why oa_allocate_aligned would be refused now. At most 8 accesses. */
 oa_reason oa_refusal_aligned(const oa_allocator *space, uint32_t size, uint32_t align);
 
+/* Why oa_allocate_tight and oa_allocate_tight_aligned would be refused now. OA_TOO_LARGE: the space has fewer units.
+ * OA_SPACE: so are all free units. OA_FRAGMENTED: they are enough, but no free block holds the request; after oa_compact a
+ * request without alignment is granted. Cost: 2 accesses, and 6 for each free block of the class of `size` or above. */
+oa_reason oa_refusal_tight(const oa_allocator *space, uint32_t size);
+oa_reason oa_refusal_tight_aligned(const oa_allocator *space, uint32_t size, uint32_t align);
+
 /* The smallest size of a fresh space that grants a request of this size; 0 above 4026531840, where none does. */
 uint32_t oa_min_allocator_size(uint32_t size);
 
@@ -268,6 +284,10 @@ oag_ticket oag_allocate(oag_allocator *space, uint32_t size);
 /* The same at a multiple of `align`. The serial is 0 also where that is no power of two. Bounded. */
 oag_ticket oag_allocate_aligned(oag_allocator *space, uint32_t size, uint32_t align);
 
+/* As oa_allocate_tight and oa_allocate_tight_aligned. The serial is 0 where they are refused. */
+oag_ticket oag_allocate_tight(oag_allocator *space, uint32_t size);
+oag_ticket oag_allocate_tight_aligned(oag_allocator *space, uint32_t size, uint32_t align);
+
 /* Frees the range of a ticket. True if it was live; else nothing changes. Bounded. */
 bool oag_free(oag_allocator *space, oag_ticket ticket);
 
@@ -311,6 +331,10 @@ uint32_t oag_realm(const oag_allocator *space);
 /* Why oag_allocate and oag_allocate_aligned would be refused now. */
 oa_reason oag_refusal(const oag_allocator *space, uint32_t size);
 oa_reason oag_refusal_aligned(const oag_allocator *space, uint32_t size, uint32_t align);
+
+/* Why oag_allocate_tight and oag_allocate_tight_aligned would be refused now. */
+oa_reason oag_refusal_tight(const oag_allocator *space, uint32_t size);
+oa_reason oag_refusal_tight_aligned(const oag_allocator *space, uint32_t size, uint32_t align);
 
 /* As oa_walk_start and oa_blocks_new, for oa_walk_next, oa_blocks_next and oa_blocks_drop. A block has a handle, which
  * oag_ticket_of makes a ticket. */

@@ -274,6 +274,12 @@ exports! {
         handle(if align.is_power_of_two() { space.allocate_aligned(size, align) } else { None })
     } else NOTHING;
 
+    fn oa_allocate_tight([space: &mut Space], size: u32) -> Handle { handle(space.allocate_tight(size)) } else NOTHING;
+
+    fn oa_allocate_tight_aligned([space: &mut Space], size: u32, align: u32) -> Handle {
+        handle(if align.is_power_of_two() { space.allocate_tight_aligned(size, align) } else { None })
+    } else NOTHING;
+
     fn oa_free([space: &mut Space], allocation: Handle) -> bool {
         match live(space, allocation) {
             None => false,
@@ -338,6 +344,12 @@ exports! {
         if align.is_power_of_two() { reason(space.refusal_aligned(size, align)) } else { Reason::BadCall }
     } else Reason::BadCall;
 
+    fn oa_refusal_tight([space: &Space], size: u32) -> Reason { reason(space.refusal_tight(size)) } else Reason::BadCall;
+
+    fn oa_refusal_tight_aligned([space: &Space], size: u32, align: u32) -> Reason {
+        if align.is_power_of_two() { reason(space.refusal_tight_aligned(size, align)) } else { Reason::BadCall }
+    } else Reason::BadCall;
+
     fn oa_min_allocator_size(size: u32) -> u32 {
         if size <= 4_026_531_840 { min_allocator_size(size) } else { 0 }
     } else 0;
@@ -379,6 +391,14 @@ exports! {
 
     fn oag_allocate_aligned([space: &mut GuardedSpace], size: u32, align: u32) -> Guard {
         guard(if align.is_power_of_two() { space.allocate_aligned(size, align) } else { None })
+    } else NO_TICKET;
+
+    fn oag_allocate_tight([space: &mut GuardedSpace], size: u32) -> Guard {
+        guard(space.allocate_tight(size))
+    } else NO_TICKET;
+
+    fn oag_allocate_tight_aligned([space: &mut GuardedSpace], size: u32, align: u32) -> Guard {
+        guard(if align.is_power_of_two() { space.allocate_tight_aligned(size, align) } else { None })
     } else NO_TICKET;
 
     fn oag_free([space: &mut GuardedSpace], allocation: Guard) -> bool { space.free(ticket(allocation)) } else false;
@@ -451,5 +471,13 @@ exports! {
 
     fn oag_refusal_aligned([space: &GuardedSpace], size: u32, align: u32) -> Reason {
         if align.is_power_of_two() { guarded_reason(space.refusal_aligned(size, align)) } else { Reason::BadCall }
+    } else Reason::BadCall;
+
+    fn oag_refusal_tight([space: &GuardedSpace], size: u32) -> Reason {
+        guarded_reason(space.refusal_tight(size))
+    } else Reason::BadCall;
+
+    fn oag_refusal_tight_aligned([space: &GuardedSpace], size: u32, align: u32) -> Reason {
+        if align.is_power_of_two() { guarded_reason(space.refusal_tight_aligned(size, align)) } else { Reason::BadCall }
     } else Reason::BadCall;
 }

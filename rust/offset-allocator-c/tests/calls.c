@@ -81,6 +81,27 @@ static void statistics(void) {
     oa_drop(space);
 }
 
+/* any free block serves that holds the request */
+static void tight(void) {
+    oa_allocator *space = oa_new(100, 16);
+    CHECK(is_nothing(oa_allocate(space, 97)) && oa_refusal_tight(space, 101) == OA_TOO_LARGE);
+    CHECK(oa_refusal_tight(space, 100) == OA_GRANTED);
+    oa_allocation all = oa_allocate_tight(space, 100);
+    CHECK(all.offset == 0 && oa_allocation_size(space, all) == 100 && oa_refusal_tight(space, 1) == OA_SPACE);
+    CHECK(is_nothing(oa_allocate_tight(space, 0)) && oa_free(space, all));
+    oa_allocation first = oa_allocate(space, 30);
+    oa_allocate_tight(space, 34);
+    oa_allocation last = oa_allocate_tight(space, 36);
+    CHECK(last.offset == 64 && oa_free(space, first) && oa_free(space, last));
+    /* 30 units from 0 on, and 36 from 64 on */
+    CHECK(oa_refusal_tight(space, 37) == OA_FRAGMENTED && oa_refusal_tight(space, 67) == OA_SPACE);
+    CHECK(is_nothing(oa_allocate_aligned(space, 36, 64)) && oa_refusal_tight_aligned(space, 36, 64) == OA_GRANTED);
+    CHECK(oa_allocate_tight_aligned(space, 36, 64).offset == 64);
+    CHECK(oa_refusal_tight_aligned(space, 31, 2) == OA_SPACE && oa_refusal_tight_aligned(space, 1, 3) == OA_BAD_CALL);
+    CHECK(is_nothing(oa_allocate_tight_aligned(space, 1, 0)) && oa_allocate_tight(space, 30).offset == 0);
+    oa_drop(space);
+}
+
 static void aligned(void) {
     oa_allocator *space = oa_new(1000, 16);
     oa_allocate(space, 3);
@@ -206,6 +227,8 @@ static void nulls(void) {
     oa_reset(NULL);
     oa_compact(NULL, copy, NULL);
     CHECK(is_nothing(oa_allocate(NULL, 1)) && is_nothing(oa_allocate_aligned(NULL, 1, 1)));
+    CHECK(is_nothing(oa_allocate_tight(NULL, 1)) && is_nothing(oa_allocate_tight_aligned(NULL, 1, 1)));
+    CHECK(oa_refusal_tight(NULL, 0) == OA_BAD_CALL && oa_refusal_tight_aligned(NULL, 0, 1) == OA_BAD_CALL);
     CHECK(!oa_free(NULL, a) && !oa_is_live(NULL, a) && !oa_allocation_size(NULL, a));
     CHECK(oa_allocation_offset(NULL, a) == OA_NO_SPACE && !oa_shrink(NULL, a, 0) && !oa_grow_in_place(NULL, a, 0));
     CHECK(!oa_extend(NULL, 0) && !oa_size(NULL) && !oa_max_allocs(NULL) && !oa_block_count(NULL) && oa_is_full(NULL));
@@ -234,7 +257,24 @@ static void garbage(void) {
             oa_allocation h = made(any(), any() % 3 ? any() % 64 : any());
             bool was = oa_is_live(space, h);
             CHECK(!was || h.metadata < limit);
-            switch (any() % 8) {
+            switch (any() % 10) {
+            case 8: {
+                uint32_t size = any() >> any() % 32;
+                bool fits = oa_refusal_tight(space, size) == OA_GRANTED;
+                bool is_there = !oa_is_full(space) && size <= oa_statistics(space).largest_free_block && (size || oa_statistics(space).free_blocks);
+                CHECK(fits == is_there);
+                CHECK((oa_allocate_tight(space, size).metadata != OA_NO_SPACE) == fits);
+                live += fits;
+                break;
+            }
+            case 9: {
+                uint32_t size = any() >> any() % 32, align = 1u << any() % 32;
+                bool fits = oa_refusal_tight_aligned(space, size, align) == OA_GRANTED;
+                oa_allocation made = oa_allocate_tight_aligned(space, size, align);
+                CHECK((made.metadata != OA_NO_SPACE) == fits && (!fits || made.offset % align == 0));
+                live += fits;
+                break;
+            }
             case 0: case 1: live += oa_allocate(space, any() >> any() % 32).metadata != OA_NO_SPACE; break;
             case 2: live += oa_allocate_aligned(space, any() >> any() % 32, any() % 2 ? 1u << any() % 32 : any()).metadata != OA_NO_SPACE; break;
             case 3: CHECK(oa_free(space, h) == was); live -= was; break;
@@ -282,6 +322,7 @@ int main(void) {
     constructors();
     grants();
     statistics();
+    tight();
     aligned();
     resizes();
     reasons();

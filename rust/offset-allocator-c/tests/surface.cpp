@@ -178,6 +178,10 @@ static void moves() {
 }
 
 static void beside() {
+    Allocator full(100, 16);
+    CHECK(full.allocate(100).offset == Allocation::NO_SPACE && full.refusalTight(100) == Refusal::granted);
+    CHECK(full.allocateTight(36).offset == 0 && full.refusalTightAligned(64, 4) == Refusal::granted);
+    CHECK(full.allocateTightAligned(64, 4).offset == 36 && full.freeUnits() == 0);
     Allocator a(100, 16);
     CHECK(a.allocateAligned(10, 3).offset == Allocation::NO_SPACE && a.refusalAligned(10, 3) == Refusal::badCall);
     std::vector<Allocation> live;
@@ -257,6 +261,10 @@ static void tickets() {
     CHECK(v && g.offsetOf(v) == 32 && !g.allocateAligned(1, 3) && g.refusalAligned(1, 3) == Refusal::badCall);
     CHECK(g.refusal(129) == Refusal::tooLarge && g.refusalAligned(8, 8) == Refusal::granted && g.maxAllocs() == 16);
     CHECK(g.blockCount() == 4 && !g.isFull() && g.storageReport().totalFreeSpace == 98);
+    // 20 units from 0 on, 12 free, 10 units from 32 on, and 86 free
+    CHECK(g.refusalTight(86) == Refusal::granted && g.refusalTightAligned(87, 2) == Refusal::fragmented && !g.allocateTight(87));
+    Ticket filled = g.allocateTightAligned(86, 2);
+    CHECK(filled && g.offsetOf(filled) == 42 && g.free(filled) && g.free(g.allocateTight(86)));
     Statistics sums = g.statistics();
     CHECK(sums.freeUnits == 98 && g.freeUnits() == 98 && sums.liveUnits == g.liveUnits() && !g.isEmpty());
     CHECK(sums.liveRanges + sums.freeBlocks == 4 && sums.unusedNodes + 4 == g.maxAllocs());

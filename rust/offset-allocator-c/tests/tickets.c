@@ -50,6 +50,21 @@ static void stale(void) {
     oag_drop(NULL);
 }
 
+/* any free block serves that holds the request */
+static void tight(void) {
+    oag_allocator *space = oag_new(100, 16, 9);
+    CHECK(!oag_allocate(space, 100).serial && oag_refusal_tight(space, 100) == OA_GRANTED);
+    oag_ticket all = oag_allocate_tight(space, 100);
+    CHECK(all.serial == 1 && oag_size_of(space, all) == 100 && oag_refusal_tight(space, 1) == OA_SPACE);
+    CHECK(!oag_allocate_tight(space, 1).serial && oag_free(space, all));
+    oag_allocate_tight(space, 32);
+    CHECK(oag_refusal_aligned(space, 68, 32) == OA_TOO_LARGE && oag_refusal_tight_aligned(space, 68, 32) == OA_GRANTED);
+    oag_ticket rest = oag_allocate_tight_aligned(space, 68, 32);
+    CHECK(oag_offset_of(space, rest) == 32 && !oag_allocate_tight_aligned(space, 1, 3).serial);
+    CHECK(oag_refusal_tight_aligned(space, 1, 3) == OA_BAD_CALL);
+    oag_drop(space);
+}
+
 /* what is read of the space, and blocks, whose handles become tickets */
 static void reads(void) {
     oag_allocator *space = oag_new(100, 7, 5);
@@ -92,6 +107,8 @@ static void nulls(void) {
     CHECK(oag_is_empty(NULL) && !oag_free_units(NULL) && !oag_live_units(NULL) && !oag_statistics(NULL).unused_nodes);
     oag_walk_start(NULL, &walk);
     CHECK(oa_walk_next(&walk).kind == OA_END);
+    CHECK(oag_refusal_tight(NULL, 1) == OA_BAD_CALL && oag_refusal_tight_aligned(NULL, 1, 1) == OA_BAD_CALL);
+    CHECK(!oag_allocate_tight(NULL, 1).serial && !oag_allocate_tight_aligned(NULL, 1, 1).serial);
     oag_ticket none = oag_allocate(NULL, 1);
     CHECK(none.serial == 0 && !oag_free(NULL, none) && !oag_is_live(NULL, none) && !oag_extend(NULL, 1));
     CHECK(oag_refusal(NULL, 1) == OA_BAD_CALL && oag_offset_of(NULL, none) == OA_NO_SPACE);
@@ -133,6 +150,7 @@ static void random_tickets(void) {
 
 int main(void) {
     stale();
+    tight();
     reads();
     nulls();
     random_tickets();

@@ -58,6 +58,36 @@ impl<T: Tables> GuardedOf<T> {
         }
     }
 
+    /// Grants `size` units of any free block that has them: the range that `Allocator::allocate_tight` grants, with the
+    /// next serial.
+    ///
+    /// `None` is returned where that call returns `None`, or where all serials are given; then all is as it was.
+    pub fn allocate_tight(&mut self, size: u32) -> Option<Ticket> {
+        if self.serials.is_spent() {
+            return None;
+        }
+        match self.space.allocate_tight(size) {
+            None => None,
+            Some(handle) => Some(ticket_for(&self.space, &mut self.serials, self.realm, handle)),
+        }
+    }
+
+    /// Grants `size` units that begin at a multiple of `align`, a power of two, of any free block that holds them: the range
+    /// that `Allocator::allocate_tight_aligned` grants, with the next serial.
+    ///
+    /// `None` is returned where that call returns `None`, or where all serials are given; then all is as it was.
+    #[track_caller]
+    pub fn allocate_tight_aligned(&mut self, size: u32, align: u32) -> Option<Ticket> {
+        assert!(align.is_power_of_two(), "align must be a power of two");
+        if self.serials.is_spent() {
+            return None;
+        }
+        match self.space.allocate_tight_aligned(size, align) {
+            None => None,
+            Some(handle) => Some(ticket_for(&self.space, &mut self.serials, self.realm, handle)),
+        }
+    }
+
     /// Why `allocate(size)` would be refused now, or `None` exactly where it would be granted.
     pub fn refusal(&self, size: u32) -> Option<Refusal> {
         if self.serials.is_spent() {
@@ -77,6 +107,30 @@ impl<T: Tables> GuardedOf<T> {
             return Some(Refusal::Serials);
         }
         match self.space.refusal_aligned(size, align) {
+            None => None,
+            Some(why) => Some(Refusal::Allocator(why)),
+        }
+    }
+
+    /// Why `allocate_tight(size)` would be refused now, or `None` exactly where it would be granted.
+    pub fn refusal_tight(&self, size: u32) -> Option<Refusal> {
+        if self.serials.is_spent() {
+            return Some(Refusal::Serials);
+        }
+        match self.space.refusal_tight(size) {
+            None => None,
+            Some(why) => Some(Refusal::Allocator(why)),
+        }
+    }
+
+    /// Why `allocate_tight_aligned(size, align)` would be refused now, or `None` exactly where it would be granted.
+    #[track_caller]
+    pub fn refusal_tight_aligned(&self, size: u32, align: u32) -> Option<Refusal> {
+        assert!(align.is_power_of_two(), "align must be a power of two");
+        if self.serials.is_spent() {
+            return Some(Refusal::Serials);
+        }
+        match self.space.refusal_tight_aligned(size, align) {
             None => None,
             Some(why) => Some(Refusal::Allocator(why)),
         }

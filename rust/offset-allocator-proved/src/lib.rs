@@ -58,6 +58,7 @@ mod statistics;
 mod steps;
 mod store;
 mod tables;
+mod tight;
 
 pub use accesses::Accesses;
 pub use blocks::{Block, BlocksOf};

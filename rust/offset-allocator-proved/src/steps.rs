@@ -64,7 +64,8 @@ impl<T: Tables> AllocatorOf<T> {
         self.store.spare_count > blocks || self.names_left() > blocks
     }
 
-    /// Grants `size` units of the newest block of a class, beginning at the first multiple of `align` in that block.
+    /// Grants `size` units of the newest block of a class, beginning at the first multiple of `align` in that block. The
+    /// block has to hold them.
     #[inline(always)]
     pub(crate) fn grant(&mut self, class: u32, size: u32, align: u32) -> Allocation<T::Index> {
         store::ensure_spares(

@@ -61,6 +61,30 @@ fn statistics_at_the_node_limit() {
 }
 
 #[test]
+fn any_free_block_serves_that_is_large_enough() {
+    let mut a = space(100, 16);
+    assert!(a.allocate(97).is_none());
+    assert_eq!((a.refusal_tight(101), a.refusal_tight(100)), (Some(Refusal::TooLarge), None));
+    let all = a.allocate_tight(100).unwrap();
+    assert_eq!((all.offset, a.refusal_tight(1)), (0, Some(Refusal::Space)));
+    a.free(all);
+    let first = a.allocate(30).unwrap();
+    a.allocate(34).unwrap();
+    let last = a.allocate_tight(36).unwrap();
+    a.free(first);
+    a.free(last);
+    // 30 units from 0 on, and 36 from 64 on
+    assert_eq!((a.refusal_tight(37), a.allocate_tight(37)), (Some(Refusal::Fragmented), None));
+    assert!(a.allocate_aligned(36, 64).is_none());
+    assert_eq!(a.refusal_tight_aligned(36, 64), None);
+    assert_eq!(a.allocate_tight_aligned(36, 64).unwrap().offset, 64);
+    let mut count = Accesses::new();
+    assert_eq!(laws::refusal_tight_counted(&a, 31, &mut count), Some(Refusal::Space));
+    assert_eq!(laws::refusal_tight_aligned_counted(&a, 30, 2, &mut count), None);
+    assert_eq!(a.allocate_tight(30).unwrap().offset, 0);
+}
+
+#[test]
 fn blocks_and_reports_are_compared_and_copied() {
     let mut a = space(100, 16);
     a.allocate(10).unwrap();

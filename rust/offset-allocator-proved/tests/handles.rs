@@ -176,6 +176,9 @@ fn a_panic_names_the_line_of_the_call_and_the_handle() {
     expect!(dead, a.grow_in_place(h, 30));
     expect!(align, a.allocate_aligned(1, 3));
     expect!(align, a.refusal_aligned(1, 0));
+    expect!(align, a.allocate_tight_aligned(1, 3));
+    expect!(align, a.refusal_tight_aligned(1, 0));
+    expect!(align, laws::refusal_tight_aligned_counted(&a, 1, 6, &mut Accesses::new()));
     expect!(align, laws::refusal_aligned_counted(&a, 1, 6, &mut Accesses::new()));
     expect!("max_allocs must be at least 2", Allocator::<u32>::with_max_allocs(Global, 1, 1));
     expect!("max_allocs must be at least 2", Allocator::<Three>::new(Global, 1));

@@ -5,6 +5,7 @@ mod classes;
 mod compacting;
 mod extension;
 mod fields;
+mod filling;
 mod grants;
 mod handles;
 mod original;

@@ -4,7 +4,8 @@ use crate::asserts::{assert_same_at, assert_that_at, text_of};
 use crate::layouts::{ALL, Expectation, check_each};
 use offset_allocator::laws::{
     allocation_offset_counted, is_empty_counted, next_block_counted, refusal_aligned_counted,
-    refusal_counted, statistics_counted, undo,
+    refusal_counted, refusal_tight_aligned_counted, refusal_tight_counted, statistics_counted,
+    undo,
 };
 use offset_allocator::{
     Accesses, Allocation, AllocatorOf, Block, Move, NodeIndex, Refusal, Statistics,
@@ -24,6 +25,14 @@ pub enum Step {
     Aligns(u32, u32, u32),
     /// A request of this size at a multiple of the second number is refused.
     RefusesAligned(u32, u32),
+    /// A tight request of this size is granted at this offset.
+    Fills(u32, u32),
+    /// A tight request of this size is refused for this reason.
+    FillsNot(u32, Refusal),
+    /// A tight request of this size at a multiple of the second number is granted at this offset.
+    FillsAligned(u32, u32, u32),
+    /// A tight request of this size at a multiple of the second number is refused for this reason.
+    FillsAlignedNot(u32, u32, Refusal),
     /// The grant of this number is live, is freed, and then is not live.
     Frees(usize),
     /// The same with a copy of the handle that has another offset.
@@ -210,6 +219,79 @@ fn request<T: Tables>(
 ) -> Option<Allocation<T::Index>> {
     assert_that_at(rt, at, align.is_power_of_two());
     allocator.allocate_aligned(size, align)
+}
+
+// Why a tight request is refused, and that it is. All calls that say so have to agree.
+fn refusal_tight<T: Tables>(
+    rt: &impl Abort,
+    at: &Place,
+    allocator: &AllocatorOf<T>,
+    size: u32,
+    align: u32,
+) -> Option<Refusal> {
+    assert_that_at(rt, at, align.is_power_of_two());
+    let why = allocator.refusal_tight_aligned(size, align);
+    let mut count = Accesses::new();
+    let counted = refusal_tight_aligned_counted(allocator, size, align, &mut count);
+    assert_same_at(rt, at, &counted, &why);
+    if align == 1 {
+        assert_same_at(rt, at, &allocator.refusal_tight(size), &why);
+        let counted = refusal_tight_counted(allocator, size, &mut count);
+        assert_same_at(rt, at, &counted, &why);
+    }
+    why
+}
+
+// Makes a tight request, by the plain call where the alignment is 1.
+fn fill<T: Tables>(
+    rt: &impl Abort,
+    at: &Place,
+    allocator: &mut AllocatorOf<T>,
+    size: u32,
+    align: u32,
+) -> Option<Allocation<T::Index>> {
+    assert_that_at(rt, at, align.is_power_of_two());
+    if align == 1 {
+        allocator.allocate_tight(size)
+    } else {
+        allocator.allocate_tight_aligned(size, align)
+    }
+}
+
+fn expect_filled<T: Tables>(
+    rt: &impl Abort,
+    at: &Place,
+    allocator: &mut AllocatorOf<T>,
+    handles: &mut Vec<Allocation<T::Index>>,
+    request: (u32, u32),
+    offset: u32,
+) {
+    let (size, align) = request;
+    assert_same_at(
+        rt,
+        at,
+        &refusal_tight(rt, at, allocator, size, align),
+        &None,
+    );
+    let granted = fill(rt, at, allocator, size, align);
+    keep(rt, at, allocator, handles, granted, size, offset);
+}
+
+fn expect_unfilled<T: Tables>(
+    rt: &impl Abort,
+    at: &Place,
+    allocator: &mut AllocatorOf<T>,
+    request: (u32, u32),
+    why: Refusal,
+) {
+    let (size, align) = request;
+    assert_same_at(
+        rt,
+        at,
+        &refusal_tight(rt, at, allocator, size, align),
+        &Some(why),
+    );
+    assert_that_at(rt, at, fill(rt, at, allocator, size, align).is_none());
 }
 
 // Why a request is refused. All calls that say so have to agree.
@@ -458,6 +540,16 @@ fn take<T: Tables>(
         Step::RefusesAligned(size, align) => {
             let granted = request(rt, at, allocator, *size, *align);
             assert_that_at(rt, at, granted.is_none());
+        }
+        Step::Fills(size, offset) => {
+            expect_filled(rt, at, allocator, handles, (*size, 1), *offset);
+        }
+        Step::FillsNot(size, why) => expect_unfilled(rt, at, allocator, (*size, 1), *why),
+        Step::FillsAligned(size, align, offset) => {
+            expect_filled(rt, at, allocator, handles, (*size, *align), *offset);
+        }
+        Step::FillsAlignedNot(size, align, why) => {
+            expect_unfilled(rt, at, allocator, (*size, *align), *why);
         }
         Step::Extends(more, grown) => {
             assert_same_at(rt, at, &allocator.extend(*more), grown);

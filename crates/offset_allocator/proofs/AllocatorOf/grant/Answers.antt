@@ -1,7 +1,8 @@
-use Rattle.offset_allocator.proofs.Common.{◌≡◌, ◌+◌, ◌-◌, ◌≤◌, ◌<◌, ◌^◌, ◌∙◌, ℕ, ap, arith, refl, subst, sym, up, Node, View, padding_to, IsFoundFrom, Some, HasRoomFor, blocks_needed, units_needed}
+use Rattle.offset_allocator.proofs.Common.{◌≡◌, ◌+◌, ◌-◌, ◌≤◌, ◌<◌, ◌^◌, ◌∙◌, ℕ, ap, arith, refl, subst, sym, up, Node, View, padding_to, IsFoundFrom, Some, HasRoomFor, blocks_needed, units, bin_at, ◌≢◌, [], ◌∷◌}
+use Rattle.offset_allocator.specs.Tight.{HoldsFirst}
 use Rattle.offset_allocator.proofs.Common.{Splits}
 use Rattle.offset_allocator.proofs.Sound.{shown, AreSound, Fields, fields_of}
-use Rattle.offset_allocator.proofs.Granting.{Call, held, unlisted, whole_fits, padding_fits, units_free, granted}
+use Rattle.offset_allocator.proofs.Granting.{Call, got, held, unlisted, padding_fits, units_free, granted}
 use Rattle.offset_allocator.proofs.{Places.at_place, Places.kept_place, Readied.made, Readied.made_shown, Readied.with_made, Tallies.one-same, Uses.removed_unlisted}
 use Rattle.offset_allocator.proofs.AllocatorOf.grant.Goals as goal
 use Rattle.offset_allocator.proofs.AllocatorOf.grant.{Goals.After-pop-name, Goals.After-size-whole, Goals.After-divide, Given.Over}
@@ -11,19 +12,21 @@ ensure_spares-requires-clause-memory g c = (_, _, _, c.self.invariant.space, ome
 
 -- what the contract asks of the view, said of the fields
 call : (g : Over) (c : After-pop-name g)
-    → Call (with_made (fields_of g.T.Tables.cells g.T.Index.NodeIndex.MAX c.self.inside) (g.T.Tables.cells c.ensure_spares.new.tables) c.ensure_spares.new.spare_count)
-    (units_needed c.args.size c.args.align) c.args.class c.pop-name.result
+    → Call (with_made (fields_of g.T.Tables.cells g.T.Index.NodeIndex.MAX c.self.inside) (g.T.Tables.cells c.ensure_spares.new.tables) c.ensure_spares.new.spare_count) c.args.class c.pop-name.result
 call g c = record {
   sound = made (fields_of g.T.Tables.cells g.T.Index.NodeIndex.MAX c.self.inside) c.self.invariant c.ensure_spares.ensures.readies;
-  smallest = subst (λ (u : View). IsFoundFrom (up (units_needed c.args.size c.args.align)) u.order (Some c.args.class))
-      (sym (made_shown (fields_of g.T.Tables.cells g.T.Index.NodeIndex.MAX c.self.inside) c.self.invariant c.ensure_spares.ensures.readies ∙ c.self.view_is)) c.requires.smallest;
+  classed = c.requires.classed;
   older = _;
   newest = c.pop-name.ensures.first;
 }
 
--- the padding and the units are within the units needed
-within : (n align o : ℕ) → 1 ≤ align → padding_to align o + n ≤ units_needed n align
-within n align o l = omega arith
+-- the block holds the padding and the units
+holding : (g : Over) (c : After-pop-name g)
+    → padding_to c.args.align (units (got (call g c)).place.before) + c.args.size ≤ (got (call g c)).place.block.size
+holding g c =
+    let p = call g c in
+    subst (HoldsFirst c.args.class c.args.size c.args.align) (sym (made_shown (fields_of g.T.Tables.cells g.T.Index.NodeIndex.MAX c.self.inside) c.self.invariant c.ensure_spares.ensures.readies ∙ c.self.view_is)) c.requires.holds
+    (got p).place p.older (got p).list_is (p.newest ∙ ap (λ y. y ∷ p.older) (sym (got p).name))
 
 two : (align o : ℕ) → 1 ≤ padding_to align o → 2 ≤ blocks_needed align
 two align o l = omega arith
@@ -32,9 +35,7 @@ pub pop-name-requires-clause-binned : goal.pop-name-requires-clause-binned
 pop-name-requires-clause-binned g c = (c.ensure_spares.ensures.readies.bins _ c.self.invariant.bins).0
 
 pub pop-name-requires-clause-some : goal.pop-name-requires-clause-some
-pop-name-requires-clause-some g c =
-    (subst (λ (u : View). IsFoundFrom (up (units_needed c.args.size c.args.align)) u.order (Some c.args.class))
-    (sym (made_shown (fields_of g.T.Tables.cells g.T.Index.NodeIndex.MAX c.self.inside) c.self.invariant c.ensure_spares.ensures.readies ∙ c.self.view_is)) c.requires.smallest).2
+pop-name-requires-clause-some g c = subst (λ (u : View). bin_at u.order c.args.class ≢ []) (sym (made_shown (fields_of g.T.Tables.cells g.T.Index.NodeIndex.MAX c.self.inside) c.self.invariant c.ensure_spares.ensures.readies ∙ c.self.view_is)) c.requires.filled
 
 pub offset-offset-requires : goal.offset-offset-requires
 offset-offset-requires g c = (kept_place c.pop-name.ensures.chain (held (call g (goal.at.offset-offset-requires g c).After-pop-name) refl)).below
@@ -42,15 +43,13 @@ offset-offset-requires g c = (kept_place c.pop-name.ensures.chain (held (call g 
 pub size-whole-requires : goal.size-whole-requires
 size-whole-requires g c = (kept_place c.pop-name.ensures.chain (held (call g (goal.at.size-whole-requires g c).After-pop-name) refl)).below
 
--- the block holds the padding and the units
-fits : (g : Over) (c : After-size-whole g)
-    → Call (with_made (fields_of g.T.Tables.cells g.T.Index.NodeIndex.MAX c.self.inside) (g.T.Tables.cells c.ensure_spares.new.tables) c.ensure_spares.new.spare_count)
-    (units_needed c.args.size c.args.align) c.args.class c.pop-name.result → padding_to c.args.align c.offset-offset.result + c.args.size ≤ c.size-whole.result
-fits g c p = rw (c.offset-offset.ensures.cell, c.size-whole.ensures.cell, at_place (kept_place c.pop-name.ensures.chain (held p refl)))
-    (whole_fits p c.args.size (padding_to c.args.align) (λ o. within c.args.size c.args.align o c.requires.some))
+fits : (g : Over) (c : After-size-whole g) (p : Call (with_made (fields_of g.T.Tables.cells g.T.Index.NodeIndex.MAX c.self.inside) (g.T.Tables.cells c.ensure_spares.new.tables) c.ensure_spares.new.spare_count) c.args.class c.pop-name.result)
+    → padding_to c.args.align (units (got p).place.before) + c.args.size ≤ (got p).place.block.size
+    → padding_to c.args.align c.offset-offset.result + c.args.size ≤ c.size-whole.result
+fits g c p h = rw (c.offset-offset.ensures.cell, c.size-whole.ensures.cell, at_place (kept_place c.pop-name.ensures.chain (held p refl))) h
 
 pub overflow_sub-parts : goal.overflow_sub-parts
-overflow_sub-parts g c = let at = goal.at.overflow_sub-parts g c in fits g at.After-size-whole (call g at.After-pop-name)
+overflow_sub-parts g c = let at = goal.at.overflow_sub-parts g c in fits g at.After-size-whole (call g at.After-pop-name) (holding g at.After-pop-name)
 
 pub divide-requires-clause-place : goal.divide-requires-clause-place
 divide-requires-clause-place g c =
@@ -58,12 +57,12 @@ divide-requires-clause-place g c =
     (_, _, kept_place c.pop-name.ensures.chain (held p refl), rw c.pop-name.ensures.lists (unlisted p))
 
 pub divide-requires-clause-whole : goal.divide-requires-clause-whole
-divide-requires-clause-whole g c = let at = goal.at.divide-requires-clause-whole g c in omega (arith, c.size-whole.ensures.cell, fits g at.After-size-whole (call g at.After-pop-name))
+divide-requires-clause-whole g c = let at = goal.at.divide-requires-clause-whole g c in omega (arith, c.size-whole.ensures.cell, fits g at.After-size-whole (call g at.After-pop-name) (holding g at.After-pop-name))
 
 pub divide-requires-clause-unlisted : goal.divide-requires-clause-unlisted
 divide-requires-clause-unlisted g c =
     let p = call g (goal.at.divide-requires-clause-unlisted g c).After-pop-name in
-    rw c.pop-name.ensures.lists (removed_unlisted p.sound.bins.linked c.args.class p.smallest.1 c.pop-name.result (rw p.newest (omega (arith, one-same c.pop-name.result))))
+    rw c.pop-name.ensures.lists (removed_unlisted p.sound.bins.linked c.args.class p.classed c.pop-name.result (rw p.newest (omega (arith, one-same c.pop-name.result))))
 
 pub divide-requires-clause-spare : goal.divide-requires-clause-spare
 divide-requires-clause-spare g c = omega (arith, c.min.ensures, c.requires.some, c.ensure_spares.ensures.enough)
@@ -72,20 +71,20 @@ pub divide-requires-clause-two : goal.divide-requires-clause-two
 divide-requires-clause-two g c l = omega (arith, c.min.ensures, two c.args.align c.offset-offset.result (omega (arith, l)), c.ensure_spares.ensures.enough)
 
 pub overflow_sub-self : goal.overflow_sub-self
-overflow_sub-self g c = units_free (call g (goal.at.overflow_sub-self g c).After-pop-name) c.args.size (padding_to c.args.align) (λ o. within c.args.size c.args.align o c.requires.some)
+overflow_sub-self g c = let at = goal.at.overflow_sub-self g c in units_free (call g at.After-pop-name) c.args.size (padding_to c.args.align) (holding g at.After-pop-name)
 
 pub overflow_add-start : goal.overflow_add-start
 overflow_add-start g c =
-    let p = call g (goal.at.overflow_add-start g c).After-pop-name in
+    let at = goal.at.overflow_add-start g c in
+    let p = call g at.After-pop-name in
     let small : c.offset-offset.result + padding_to c.args.align c.offset-offset.result < 2 ^ 32 =
     rw (c.offset-offset.ensures.cell, at_place (kept_place c.pop-name.ensures.chain (held p refl)))
-    (padding_fits p c.args.size (padding_to c.args.align) (λ o. within c.args.size c.args.align o c.requires.some)) in
+    (padding_fits p c.args.size (padding_to c.args.align) (holding g at.After-pop-name)) in
     omega (arith, small)
 
 -- the fields that are left, and what was split
-done : (g : Over) (c : After-divide g)
-    → Call (with_made (fields_of g.T.Tables.cells g.T.Index.NodeIndex.MAX c.self.inside) (g.T.Tables.cells c.ensure_spares.new.tables) c.ensure_spares.new.spare_count)
-    (units_needed c.args.size c.args.align) c.args.class c.pop-name.result → (k : ℕ) (f : Fields)
+done : (g : Over) (c : After-divide g) (p : Call (with_made (fields_of g.T.Tables.cells g.T.Index.NodeIndex.MAX c.self.inside) (g.T.Tables.cells c.ensure_spares.new.tables) c.ensure_spares.new.spare_count) c.args.class c.pop-name.result)
+    → padding_to c.args.align (units (got p).place.before) + c.args.size ≤ (got p).place.block.size → (k : ℕ) (f : Fields)
     → f ≡ record (fields_of g.T.Tables.cells g.T.Index.NodeIndex.MAX c.self.inside) {
       cells = (g.T.Tables.cells c.divide.new.store.tables);
       last = c.divide.new.store.last;
@@ -94,31 +93,32 @@ done : (g : Over) (c : After-divide g)
       free = c.self.inside.free_total - c.args.size;
       accesses = k;
     }
-    → AreSound f × Splits (units_needed c.args.size c.args.align) c.args.size (padding_to c.args.align)
-    (shown (with_made (fields_of g.T.Tables.cells g.T.Index.NodeIndex.MAX c.self.inside) (g.T.Tables.cells c.ensure_spares.new.tables) c.ensure_spares.new.spare_count)) (shown f)
-    (record { name = c.pop-name.result; offset = c.offset-offset.result + padding_to c.args.align c.offset-offset.result })
-done g c p k f e =
+    → AreSound f
+    × ((needed : ℕ) → IsFoundFrom (up needed) (shown (with_made (fields_of g.T.Tables.cells g.T.Index.NodeIndex.MAX c.self.inside) (g.T.Tables.cells c.ensure_spares.new.tables) c.ensure_spares.new.spare_count)).order (Some c.args.class)
+    → Splits needed c.args.size (padding_to c.args.align) (shown (with_made (fields_of g.T.Tables.cells g.T.Index.NodeIndex.MAX c.self.inside) (g.T.Tables.cells c.ensure_spares.new.tables) c.ensure_spares.new.spare_count)) (shown f)
+    (record { name = c.pop-name.result; offset = c.offset-offset.result + padding_to c.args.align c.offset-offset.result }))
+done g c p holds k f e =
     let h = kept_place c.pop-name.ensures.chain (held p refl) in
     let at = at_place h in
     let oe = c.offset-offset.ensures.cell ∙ ap (λ (v : Node). v.offset) at in
     let we = c.size-whole.ensures.cell ∙ ap (λ (v : Node). v.size) at in
     let place = c.divide.ensures.place _ _ h in
-    let room = subst (HasRoomFor (blocks_needed c.args.align)) (sym (made_shown (fields_of g.T.Tables.cells g.T.Index.NodeIndex.MAX c.self.inside) c.self.invariant c.ensure_spares.ensures.readies
-    ∙ c.self.view_is)) c.requires.enough in
-    rw (e, oe) (granted p c.args.size (padding_to c.args.align) (λ o. within c.args.size c.args.align o c.requires.some) (blocks_needed c.args.align) room (omega (arith, c.requires.some))
+    let room = subst (HasRoomFor (blocks_needed c.args.align)) (sym (made_shown (fields_of g.T.Tables.cells g.T.Index.NodeIndex.MAX c.self.inside) c.self.invariant c.ensure_spares.ensures.readies ∙ c.self.view_is)) c.requires.enough in
+    rw (e, oe) (granted p c.args.size (padding_to c.args.align) holds (blocks_needed c.args.align) room (omega (arith, c.requires.some))
     (two c.args.align) _ _ _ _ _ (rw (oe, we) at place) c.divide.ensures.binned (rw (oe, we, c.pop-name.ensures.lists) at c.divide.ensures.lists))
 
 pub invariant_of-self : goal.invariant_of-self
-invariant_of-self g c = let at = goal.at.invariant_of-self g c in (done g at.After-divide (call g at.After-pop-name) 0 _ refl).0
+invariant_of-self g c = let at = goal.at.invariant_of-self g c in (done g at.After-divide (call g at.After-pop-name) (holding g at.After-pop-name) 0 _ refl).0
 
 pub returns-clause-step : goal.returns-clause-step
-returns-clause-step g c =
+returns-clause-step g c needed found =
     let at = goal.at.returns-clause-step g c in
-    rw (c.handle_of.ensures, ← (made_shown (fields_of g.T.Tables.cells g.T.Index.NodeIndex.MAX c.self.inside) c.self.invariant c.ensure_spares.ensures.readies ∙ c.self.view_is))
-    (done g at.After-divide (call g at.After-pop-name) c.divide.new.store.accesses _ refl).1
+    let seen = (made_shown (fields_of g.T.Tables.cells g.T.Index.NodeIndex.MAX c.self.inside) c.self.invariant c.ensure_spares.ensures.readies ∙ c.self.view_is) in
+    rw (c.handle_of.ensures, ← seen)
+    ((done g at.After-divide (call g at.After-pop-name) (holding g at.After-pop-name) c.divide.new.store.accesses _ refl).1 needed (subst (λ (u : View). IsFoundFrom (up needed) u.order (Some c.args.class)) (sym seen) found))
 
 pub overflow_add-parts : goal.overflow_add-parts
-overflow_add-parts g c = let l = within c.args.size c.args.align c.offset-offset.result c.requires.some in omega (arith, l, c.requires.fits)
+overflow_add-parts g c = let at = goal.at.overflow_add-parts g c in omega (arith, fits g at.After-size-whole (call g at.After-pop-name) (holding g at.After-pop-name))
 
 pub divide-requires-clause-start : goal.divide-requires-clause-start
 divide-requires-clause-start g c = ap (λ o. o + padding_to c.args.align c.offset-offset.result) c.offset-offset.ensures.cell

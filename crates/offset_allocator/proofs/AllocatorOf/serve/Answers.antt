@@ -1,5 +1,5 @@
-use Rattle.offset_allocator.proofs.Common.{◌<◌, None, arith, refl, subst, View, max_size, units_needed, Aligns}
-use Rattle.offset_allocator.proofs.{Sound.Fields, Sound.shown, Sound.fields_of, Sound.known_sound, Classes.below_value_up, Served.aligns_counted, Served.past_refuses}
+use Rattle.offset_allocator.proofs.Common.{◌≡◌, ℕ, ◌+◌, ◌-◌, ◌<◌, ◌≤◌, ◌∙◌, None, Some, ap, arith, refl, subst, sym, up, View, max_size, units_needed, blocks_needed, HasRoomFor, Aligns}
+use Rattle.offset_allocator.proofs.{Sound.Fields, Sound.shown, Sound.fields_of, Sound.known_sound, Classes.below_value_up, Granting.first_holds, Served.aligns_counted, Served.past_refuses}
 use Rattle.offset_allocator.proofs.AllocatorOf.serve.Goals as goal
 
 pub returns-then-size-align-clause-step : goal.returns-then-size-align-clause-step
@@ -15,9 +15,26 @@ find_at_or_above-requires-clause-classed g c = grind (arith, below_value_up)
 pub returns-in-Some-clause-formed : goal.returns-in-Some-clause-formed
 returns-in-Some-clause-formed g c = (known_sound (fields_of g.T.Tables.cells g.T.Index.NodeIndex.MAX c.self.inside) c.self.invariant c.args.self.now c.self.view_is).0
 
+-- the class that is searched from is that of the units needed
+low : (n align k : ℕ) → 1 ≤ align → k ≡ up (n + (align - 1)) → k ≡ up (units_needed n align)
+low n align k l e = let same : n + (align - 1) ≡ units_needed n align = omega arith in e ∙ ap up same
+
 -- the search for a class counts, and changes nothing else of the view
 pub returns-in-Some-clause-step : goal.returns-in-Some-clause-step
-returns-in-Some-clause-step g c = grind (arith, aligns_counted)
+returns-in-Some-clause-step g c =
+    let f : Fields = fields_of g.T.Tables.cells g.T.Index.NodeIndex.MAX c.self.inside in
+    let P : View → Type 0 = λ u. Aligns c.args.size c.args.align u c.grant.new.self (Some c.grant.result) in
+    let from = low c.args.size c.args.align _ c.requires c.uint_to_float_round_up-smallest.ensures.is in
+    let room = c.has_room_for.ensures.0 c.if-not-has_room_for.false in
+    let enough : HasRoomFor (blocks_needed c.args.align) (shown f) = subst (HasRoomFor (blocks_needed c.args.align)) (sym c.self.view_is) (omega (arith, room, c.min.ensures)) in
+    subst P c.self.view_is (aligns_counted c.args.size c.args.align (shown f) c.grant.new.self c.find_at_or_above.new.count (Some c.grant.result)
+    (enough, c.grant.ensures.step (units_needed c.args.size c.args.align) (rw from at c.in-Some.ensures.smallest)))
+
+pub grant-requires-clause-holds : goal.grant-requires-clause-holds
+grant-requires-clause-holds g c =
+    let f : Fields = fields_of g.T.Tables.cells g.T.Index.NodeIndex.MAX c.self.inside in
+    let from = low c.args.size c.args.align _ c.requires c.uint_to_float_round_up-smallest.ensures.is in
+    first_holds (shown f) (known_sound f c.self.invariant (shown f) refl).0 c.args.size c.args.align c.in-Some.class c.requires (rw from at c.in-Some.ensures.smallest).0
 
 pub invariant_of-self : goal.invariant_of-self
 invariant_of-self g c = c.self.invariant

@@ -1,0 +1,32 @@
+use Rattle.offset_allocator.proofs.Common.{ℕ, Bool, ap, arith, sym, ◌∙◌, ◌++◌, ◌∷◌, [], length-append}
+use Rattle.offset_allocator.proofs.{Largest.walk_at, Largest.walk_ends, Largest.walk_next, Holding.find_past, Holding.find_first, Holding.find_later}
+use Rattle.offset_allocator.specs.Tight.{holds_in}
+use Rattle.std.specs.List.{find}
+use Rattle.offset_allocator.proofs.tight.first_of_bin.Goals as goal
+
+pub loop-name-preserved : goal.loop-name-preserved
+loop-name-preserved g c =
+    let i = c.loop-name.invariant in
+    let P : ℕ → Bool = holds_in (g.T.Tables.cells c.args.tables.now).chain c.args.size c.args.align in
+    let next = walk_next i.walked (λ e. c.loop-name-test.true (e ∙ sym c.MAX.ensures)) in
+    let no = rw (c.offset-offset.ensures.cell, c.size-whole.ensures.cell) at (sym c.holds.ensures ∙ c.if-holds.false) in
+    record {
+      met = i.met ++ c.loop-name.name ∷ [];
+      walked = rw (c.number-name.ensures.number, c.older.ensures.cell) next.2;
+      none = find_past P i.met (c.loop-name.name ∷ []) i.none ∙ find_later P c.loop-name.name [] no;
+      accesses = omega (arith, i.accesses, length-append i.met (c.loop-name.name ∷ []), c.offset-offset.ensures.accesses, c.size-whole.ensures.accesses, c.older.ensures.accesses);
+    }
+
+pub returns-clause-first : goal.returns-clause-first
+returns-clause-first g c =
+    let i = c.loop-name.invariant in
+    let P : ℕ → Bool = holds_in (g.T.Tables.cells c.args.tables.now).chain c.args.size c.args.align in
+    sym (ap (find P) (walk_ends c.requires.linked.names_small i.walked (c.loop-name-test.false ∙ c.MAX.ensures)) ∙ i.none)
+
+pub returns-then-holds-clause-first : goal.returns-then-holds-clause-first
+returns-then-holds-clause-first g c =
+    let i = c.loop-name.invariant in
+    let P : ℕ → Bool = holds_in (g.T.Tables.cells c.args.tables.now).chain c.args.size c.args.align in
+    let at = walk_at i.walked (λ e. c.loop-name-test.true (e ∙ sym c.MAX.ensures)) in
+    let yes = rw (c.offset-offset.ensures.cell, c.size-whole.ensures.cell) at (sym c.holds.ensures ∙ c.if-holds.true) in
+    sym (ap (find P) at.1 ∙ find_past P i.met (c.loop-name.name ∷ at.0) i.none ∙ find_first P c.loop-name.name at.0 yes)

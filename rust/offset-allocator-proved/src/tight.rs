@@ -1,0 +1,193 @@
+// Printed by rust/erase from crates/offset_allocator/src/tight.rt: change it there.
+
+//! Requests that take any free block that is large enough: where the first fit by classes finds none, the bins from the
+//! class of the request on are walked.
+
+use crate::accesses::Accesses;
+use crate::handle::Allocation;
+use crate::index::{NodeIndex, number};
+use crate::reports::Refusal;
+use crate::small_float::uint_to_float_round_down;
+use crate::tables::Tables;
+use crate::{AllocatorOf, bins};
+
+// Whether a block at this offset, of `whole` units, holds `size` units from a multiple of `align` on.
+fn holds(offset: u32, whole: u32, size: u32, align: u32) -> bool {
+    let padding = (align - offset % align) % align;
+    padding as u64 + size as u64 <= whole as u64
+}
+
+// The first name of a bin whose block holds `size` units from a multiple of `align` on.
+fn first_of_bin<T: Tables>(
+    tables: &T,
+    class: u32,
+    size: u32,
+    align: u32,
+    count: &mut Accesses,
+) -> Option<u32> {
+    tables.shape();
+    let mut name = tables.head(class, count);
+    while name != T::Index::MAX {
+        let offset = tables.offset(name, count);
+        let whole = tables.size(name, count);
+        if holds(offset, whole, size, align) {
+            return Some(name);
+        }
+        name = number(tables.older(name, count));
+    }
+    None
+}
+
+// The first name of the bins from the class of `size` units on whose block holds them from a multiple of `align` on.
+fn choose<T: Tables>(
+    tables: &T,
+    top_mask: u32,
+    size: u32,
+    align: u32,
+    count: &mut Accesses,
+) -> Option<u32> {
+    let mut class = uint_to_float_round_down(size);
+    while class < 256 {
+        match bins::find_at_or_above(tables, top_mask, class, count) {
+            None => return None,
+            Some(filled) => {
+                let first = first_of_bin(tables, filled, size, align, count);
+                if first.is_some() {
+                    return first;
+                }
+                class = filled + 1;
+            }
+        }
+    }
+    None
+}
+
+/// As `Allocator::refusal_tight_aligned`. The count grows by at most 2, and 6 for each free block of the class of `size`
+/// units or above.
+#[track_caller]
+pub fn refusal_tight_aligned_counted<T: Tables>(
+    allocator: &AllocatorOf<T>,
+    size: u32,
+    align: u32,
+    count: &mut Accesses,
+) -> Option<Refusal> {
+    assert!(align.is_power_of_two(), "align must be a power of two");
+    allocator.formed();
+    if allocator.names_left() <= align.min(2) {
+        return Some(Refusal::Nodes);
+    }
+    if size > allocator.size {
+        return Some(Refusal::TooLarge);
+    }
+    let store = &allocator.store;
+    match choose(&store.tables, store.top_mask, size, align, count) {
+        Some(_) => None,
+        None => {
+            if allocator.free_total < size.max(1) {
+                Some(Refusal::Space)
+            } else {
+                Some(Refusal::Fragmented)
+            }
+        }
+    }
+}
+
+/// As `Allocator::refusal_tight`. The count grows by at most 2, and 6 for each free block of the class of `size` units
+/// or above.
+pub fn refusal_tight_counted<T: Tables>(
+    allocator: &AllocatorOf<T>,
+    size: u32,
+    count: &mut Accesses,
+) -> Option<Refusal> {
+    refusal_tight_aligned_counted(allocator, size, 1, count)
+}
+
+impl<T: Tables> AllocatorOf<T> {
+    // Makes the block of a name, which is free, the newest of its bin, and returns its class.
+    fn bring_first(&mut self, name: u32) -> u32 {
+        let size = self.store.tables.size(name, &mut self.store.accesses);
+        let class = uint_to_float_round_down(size);
+        bins::remove(&mut self.store, name, size);
+        bins::push(&mut self.store, name, class);
+        class
+    }
+
+    // Grants `size` units of the first block that holds them.
+    fn grant_first(&mut self, name: u32, size: u32, align: u32) -> Allocation<T::Index> {
+        self.formed();
+        let class = self.bring_first(name);
+        self.grant(class, size, align)
+    }
+
+    // Grants `size` units of the first block that holds them, where there is one.
+    fn look_further(&mut self, size: u32, align: u32) -> Option<Allocation<T::Index>> {
+        match choose(
+            &self.store.tables,
+            self.store.top_mask,
+            size,
+            align,
+            &mut self.store.accesses,
+        ) {
+            None => None,
+            Some(name) => Some(self.grant_first(name, size, align)),
+        }
+    }
+
+    // A request as `serve` takes it, and where that finds no block, one for the first that holds it. It is out of line,
+    // so that nothing of it is in a program that calls `allocate` alone.
+    #[inline(never)]
+    fn serve_tight(&mut self, size: u32, align: u32) -> Option<Allocation<T::Index>> {
+        match self.serve(size, align) {
+            Some(handle) => Some(handle),
+            None => {
+                if self.has_room_for(align.min(2)) {
+                    self.look_further(size, align)
+                } else {
+                    None
+                }
+            }
+        }
+    }
+
+    /// Grants a range of `size` units, as `allocate` does, and where that is refused it looks further: it takes the first
+    /// block of at least `size` units of the class of `size`, the newest first. So a heap that is nearly full is filled.
+    ///
+    /// `None` is returned where `max_allocs - 1` blocks exist, or where no free block has `size` units; then the space is
+    /// as it was. A request of at least one unit is granted exactly when it is at most the `largest_free_block` of
+    /// `statistics` and there is room for one more block. It takes no memory, and makes at most 140 accesses to the
+    /// tables, and 6 for each free block of the class of `size`.
+    pub fn allocate_tight(&mut self, size: u32) -> Option<Allocation<T::Index>> {
+        self.formed();
+        self.serve_tight(size, 1)
+    }
+
+    /// Grants `size` units that begin at a multiple of `align`, a power of two, as `allocate_aligned` does, and where that
+    /// is refused it looks further: through the free blocks from the class of `size` on, class by class, in each the newest
+    /// first, for one that holds `size` units from a multiple of `align` on, at the offset that it has.
+    ///
+    /// `None` is returned where no free block holds them, or where there is no room for one more block, or for two more if
+    /// `align` is above 1; then the space is as it was. It takes no memory, and makes at most 140 accesses to the tables,
+    /// and 6 for each free block of the class of `size` or above.
+    #[track_caller]
+    pub fn allocate_tight_aligned(&mut self, size: u32, align: u32) -> Option<Allocation<T::Index>> {
+        assert!(align.is_power_of_two(), "align must be a power of two");
+        self.serve_tight(size, align)
+    }
+
+    /// Why `allocate_tight(size)` would be refused now, or `None` exactly where it would be granted. `TooLarge`: the space
+    /// has fewer units. `Space`: so are all free units together. `Fragmented`: they are enough, and after `compact` the
+    /// request is granted. It makes at most 2 accesses to the tables, and 6 for each free block of the class of `size` or
+    /// above.
+    pub fn refusal_tight(&self, size: u32) -> Option<Refusal> {
+        refusal_tight_counted(self, size, &mut Accesses::new())
+    }
+
+    /// Why `allocate_tight_aligned(size, align)` would be refused now, or `None` exactly where it would be granted.
+    /// `align` has to be a power of two. The reasons are those of `refusal_tight`; but after `compact` the request is
+    /// granted only if the free block, where it begins then, holds it.
+    #[track_caller]
+    pub fn refusal_tight_aligned(&self, size: u32, align: u32) -> Option<Refusal> {
+        assert!(align.is_power_of_two(), "align must be a power of two");
+        refusal_tight_aligned_counted(self, size, align, &mut Accesses::new())
+    }
+}
