@@ -2,7 +2,7 @@
 import pathlib, sys
 
 OUT, HERE = map(pathlib.Path, sys.argv[1:3])
-NAMES = {"ours": "ours", "original": "original", "c": "C", "vma": "VMA", "vma_min": "VMA, least memory", "u_mm": "u_mm",
+NAMES = {"ours": "ours", "tight": "ours, tight", "original": "original", "c": "C", "vma": "VMA", "vma_min": "VMA, least memory", "u_mm": "u_mm",
          "util_vma": "util_vma_heap", "best": "best fit"}
 MADE = ("ours", "original", "c")
 
@@ -50,7 +50,7 @@ def table(head, rows):
 traces = [Trace(path) for path in sorted(OUT.glob("*.txt")) if path.stem != "peers"]
 assert [t.name for t in traces] == sorted(path.stem for path in (HERE / "traces").glob("*.script"))
 sides = [side for side in NAMES if side in traces[0].least]
-peers = [side for side in sides if side not in (*MADE, "best")]
+peers = [side for side in sides if side not in (*MADE, "tight", "best")]
 
 
 def least_cells(trace):

@@ -57,6 +57,22 @@ impl Space for Ours {
     }
 }
 
+/// Ours with `allocate_tight`.
+pub struct Tight(Ours);
+
+impl Space for Tight {
+    type Range = offset_allocator_proved::Allocation;
+    fn make(size: u32, nodes: u32) -> Self {
+        Tight(Ours::make(size, nodes))
+    }
+    fn take(&mut self, size: u32) -> Option<(Self::Range, u32)> {
+        self.0.allocate_tight(size).map(|range| (range, range.offset))
+    }
+    fn put(&mut self, range: Self::Range) {
+        self.0.put(range);
+    }
+}
+
 /// The answers to the steps. Before each step `prepare` is called, with its number and size. What was refused is not released.
 fn play<S: Space>(size: u32, trace: &Trace, mut prepare: impl FnMut(&mut S, usize, u32)) -> Vec<u64> {
     let mut space = S::make(size, trace.nodes);
@@ -192,6 +208,7 @@ fn main() {
     let trace = traces::read(&name);
     let mut sides = vec![
         ("ours".to_string(), in_rust::<Ours>()),
+        ("tight".to_string(), in_rust::<Tight>()),
         ("original".to_string(), in_rust::<offset_allocator::Allocator>()),
         ("c".to_string(), in_c(tuned_answers_32)),
     ];

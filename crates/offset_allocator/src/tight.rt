@@ -1,6 +1,7 @@
 //! Requests that take any free block that is large enough: where the first fit by classes finds none, the bins from the
 //! class of the request on are walked.
-ghost use Rattle.std.specs.Prelude.{◌≡◌, ◌↔◌, ◌+◌, ◌*◌, ◌<◌, ◌≤◌, ◌%◌, ◌⊎◌, ◌++◌, ◌∷◌, ℕ, None, Some, false, length, nat_le, IsSome, IfSome};
+ghost use Rattle.std.specs.Prelude.{◌≡◌, ◌↔◌, ◌+◌, ◌*◌, ◌<◌, ◌≤◌, ◌%◌, ◌⊎◌, ◌++◌, ◌∷◌, ℕ, None, Some, false, length};
+ghost use Rattle.std.specs.Prelude.{nat_le, IsSome, IfSome};
 ghost use Rattle.std.specs.List.{find};
 ghost use Rattle.offset_allocator.specs.Accesses.{Costs};
 ghost use Rattle.offset_allocator.specs.Bins.{HasBins, IsBinned, bins_in};
