@@ -93,10 +93,12 @@ shown = [
     "The smallest space in which nothing is refused, in percent above the peak of live bytes. In bold: the smallest of a row, "
     "*best fit* left out.", "",
     *table([NAMES[s] for s in sides], [(t, least_cells(t)) for t in traces]),
+    f"- *{NAMES['tight']}* is ours with `allocate_tight` for each request: it needs less than ours for {less('tight')}.",
     *(f"- {NAMES[s]} needs less than ours for {less(s)}." for s in peers),
     "- Ours needs the least, or as little as any peer, for "
     f"{listed(t.name for t in traces if all(t.least['ours'] <= t.least[p] for p in peers))}.", "",
-    "Ours, as the original, rounds a request up to a size class, and takes no block of the class below; the peers try every "
+    "Ours, as the original, rounds a request up to a size class, and takes no block of the class below; the peers, and "
+    "`allocate_tight`, try every "
     f"free block before they refuse. Of the requests that ours refuses, a free block was large enough for {SHARES} above the peak. "
     "The rest is due to where ranges were placed before.", "",
     "A larger space may refuse what a smaller one grants. The largest of 1,000 sizes, up to half above the peak, in which "
