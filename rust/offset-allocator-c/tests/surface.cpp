@@ -106,6 +106,21 @@ static void zeroFragmentation() {
     allClean(a);
 }
 
+// What an engine keeps of its ranges, in a table by name, which compact does not change.
+static void sideTable() {
+    Allocator heap(100, 16);
+    std::vector<const char *> meshes(heap.maxAllocs());
+    Allocation rock = heap.allocate(10), tree = heap.allocate(10);
+    meshes[rock.metadata] = "rock";
+    meshes[tree.metadata] = "tree";
+    heap.free(rock);
+    meshes[rock.metadata] = nullptr;
+    heap.compact([](Move) {});
+    for (Block block : heap.blocks())
+        if (block.used) CHECK(block.offset == 0 && !std::strcmp(meshes[block.allocation.metadata], "tree"));
+    CHECK(std::count(meshes.begin(), meshes.end(), nullptr) == 15);
+}
+
 static void minSize() {
     for (uint32 needed : {0u, 1u, 7u, 8u, 9u, 100u, 118u, 1024u, 529445u, 1048575u, 4026531840u}) {
         uint32 size = minAllocatorSize(needed);
@@ -316,6 +331,7 @@ int main() {
     reuseComplex();
     zeroFragmentation();
     minSize();
+    sideTable();
     surface();
     moves();
     beside();
