@@ -1,5 +1,5 @@
-"""Puts the module and the traces into the page: page.py MODULE PAGE. Traces are deflated. The page ends with the sum of
-the sources that it is made of."""
+"""Puts the parts, the module and the traces into the page: page.py MODULE PAGE. Traces are deflated. The page ends with the
+sum of the sources that it is made of."""
 
 import base64
 import hashlib
@@ -9,6 +9,9 @@ import sys
 import zlib
 
 here = pathlib.Path(__file__).resolve().parent
+# in the order in which they come in the page
+PARTS = [here / "parts" / f"{name}.js" for name in
+         ("module", "work", "reading", "run", "reasons", "draw", "lists", "state", "compare", "show", "controls")]
 
 
 def base(data):
@@ -26,8 +29,9 @@ def traces():
 
 def sum_of_sources():
     """The sum of all that the page is made of, except the compiler and std."""
-    crates = [here / "../rust/offset-allocator-proved", here / "../rust/offset-script"]
-    files = [here / "source.html", here / "page.py", *sorted((here / "module").glob("*.*")), *traces()]
+    crates = [here / "../rust" / name for name in
+              ("offset-allocator-proved", "offset-allocator-guarded", "offset-script", "offset-allocator-recorded")]
+    files = [here / "source.html", here / "page.py", *PARTS, *sorted((here / "module").glob("*.*")), *traces()]
     for crate in crates:
         files += [crate / "Cargo.toml", *sorted(crate.glob("src/*.rs"))]
     found = hashlib.sha256()
@@ -45,7 +49,8 @@ def sum_within(page):
 
 def main(module, to):
     named = ",\n".join(f"  '{path.stem}': '{deflated(path)}'" for path in traces())
-    page = (here / "source.html").read_text().replace("@TRACES@", named)
+    page = (here / "source.html").read_text().replace("@SCRIPT@", "".join(path.read_text() for path in PARTS).rstrip("\n"))
+    page = page.replace("@TRACES@", named)
     page = page.replace("@MODULE@", base(pathlib.Path(module).read_bytes()))
     pathlib.Path(to).write_text(f"{page}<!-- made of {sum_of_sources()} -->\n")
 

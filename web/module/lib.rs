@@ -1,48 +1,51 @@
-//! What the page calls: a script is parsed, and its commands are played one by one.
+//! What the page calls: a recording is read and played in pieces.
 //!
 //! A call takes and returns numbers. Texts and lists pass through one list of bytes and one of numbers, whose places
 //! the page asks for. No pointer is followed here: the page reads and writes the module's memory.
 
-use offset_allocator::small_float::uint_to_float_round_up;
-use offset_allocator::{Allocation, NodeIndex};
-use offset_script::{parse, run, FromRead, IntoWrite, Answer, Command, Global, IndexWidth, Player, RunFault, Script};
-use std::collections::BTreeMap;
+use offset_allocator::{AllocatorOf, ByNode, NodeIndex, Refusal};
+use offset_allocator_recorded::{Answer, Call, Command, Header, IndexWidth, Line, Play, Reader, RunFault};
+use std::fmt::Write;
 use std::sync::Mutex;
 
-/// A command of a script, or one that only the page has.
-#[derive(Clone, Copy)]
-enum Step {
-    Script(Command),
-    Shrink(u32, u32),
-    Grow(u32, u32),
-    Compact,
+// The numbers of a call that was played: the kind of its answer, the number of the grant, its offset and its units, the
+// free units and the largest request of the report, the number of blocks, and why it was refused.
+type Row = [u32; 8];
+
+/// A space, and the number of the grant that had a node last, by the node.
+struct Space<NI: NodeIndex> {
+    play: Play<NI>,
+    grants: Vec<u32>,
 }
 
-/// A player, and the number of the grant of each live name.
-struct Play<NI: NodeIndex> {
-    player: Player<NI>,
-    grants: BTreeMap<u32, u32>,
-}
-
-enum Space {
+enum Held {
     None,
-    Narrow(Play<u16>),
-    Wide(Play<u32>),
+    Narrow(Space<u16>),
+    Wide(Space<u32>),
 }
 
 struct State {
     bytes: Vec<u8>,
     words: Vec<u32>,
-    space: Space,
+    reader: Reader,
+    name: Vec<u8>,
+    held: Held,
 }
 
-static STATE: Mutex<State> = Mutex::new(State { bytes: Vec::new(), words: Vec::new(), space: Space::None });
+static STATE: Mutex<Option<State>> = Mutex::new(None);
 
 fn with<T>(f: impl FnOnce(&mut State) -> T) -> T {
-    match STATE.lock() {
-        Ok(mut state) => f(&mut state),
-        Err(broken) => f(&mut broken.into_inner()),
-    }
+    let mut state = match STATE.lock() {
+        Ok(state) => state,
+        Err(broken) => broken.into_inner(),
+    };
+    f(state.get_or_insert_with(|| State {
+        bytes: Vec::new(),
+        words: Vec::new(),
+        reader: Reader::new(),
+        name: Vec::new(),
+        held: Held::None,
+    }))
 }
 
 /// Makes room for `len` bytes, and returns where they are.
@@ -79,234 +82,213 @@ pub extern "C" fn words_len() -> usize {
     with(|s| s.words.len())
 }
 
-fn kind(command: Command) -> [u32; 3] {
-    match command {
-        Command::Alloc(n) => [0, n, 0],
-        Command::Align(n, a) => [1, n, a],
-        Command::Free(k) => [2, k, 0],
-        Command::Size(k) => [3, k, 0],
-        Command::Report => [4, 0, 0],
-        Command::Full => [5, 0, 0],
-        Command::Reset => [6, 0, 0],
-        Command::Extend(n) => [7, n, 0],
+fn numbers(call: Call) -> [u32; 3] {
+    match call {
+        Call::Script(Command::Alloc(n)) => [0, n, 0],
+        Call::Script(Command::Align(n, a)) => [1, n, a],
+        Call::Script(Command::Free(k)) => [2, k, 0],
+        Call::Script(Command::Size(k)) => [3, k, 0],
+        Call::Script(Command::Report) => [4, 0, 0],
+        Call::Script(Command::Full) => [5, 0, 0],
+        Call::Script(Command::Reset) => [6, 0, 0],
+        Call::Script(Command::Extend(n)) => [7, n, 0],
+        Call::Shrink(k, n) => [8, k, n],
+        Call::Grow(k, n) => [9, k, n],
+        Call::Compact => [10, 0, 0],
     }
 }
 
-fn step_of(kind: u32, a: u32, b: u32) -> Step {
+fn call_of([kind, a, b]: [u32; 3]) -> Call {
     match kind {
-        0 => Step::Script(Command::Alloc(a)),
-        1 => Step::Script(Command::Align(a, b)),
-        2 => Step::Script(Command::Free(a)),
-        3 => Step::Script(Command::Size(a)),
-        4 => Step::Script(Command::Report),
-        5 => Step::Script(Command::Full),
-        6 => Step::Script(Command::Reset),
-        7 => Step::Script(Command::Extend(a)),
-        8 => Step::Shrink(a, b),
-        9 => Step::Grow(a, b),
-        _ => Step::Compact,
+        0 => Call::Script(Command::Alloc(a)),
+        1 => Call::Script(Command::Align(a, b)),
+        2 => Call::Script(Command::Free(a)),
+        3 => Call::Script(Command::Size(a)),
+        4 => Call::Script(Command::Report),
+        5 => Call::Script(Command::Full),
+        6 => Call::Script(Command::Reset),
+        7 => Call::Script(Command::Extend(a)),
+        8 => Call::Shrink(a, b),
+        9 => Call::Grow(a, b),
+        _ => Call::Compact,
     }
 }
 
-// The numbers are the size, the node limit, the bits, and three for each command.
-fn numbers_of(script: &Script) -> Vec<u32> {
-    let bits = match script.index {
-        IndexWidth::Bits16 => 16,
-        IndexWidth::Bits32 => 32,
-    };
-    let mut words = vec![script.size, script.max_allocs, bits];
-    for command in &script.commands {
-        words.extend_from_slice(&kind(*command));
-    }
-    words
+// The length of a piece of a text is below that of the memory of a wasm module.
+fn word(n: usize) -> u32 {
+    n as u32
 }
 
-/// Reads the bytes as a script. 0: the numbers are its header and its commands. Else they are as they were, and the
-/// bytes are the line of the fault, without its end.
+/// Reads the bytes as the next lines of a recording; `part` is 0 for its first piece, 1 for a later one. All pieces but
+/// the last end with a line end; with `last` 1 it is the last.
+///
+/// 0: the numbers are six for each line that is neither empty nor a comment: 11 and the size, node limit and bits, or a
+/// call as `play` takes it and 0; the number of the line; and the length of its name, the comment directly before it. The
+/// bytes are these names. 1: the line is faulty, and ends the reading: the numbers are its number, and where it begins and
+/// ends in the bytes that were given; the bytes are the fault.
 #[unsafe(no_mangle)]
-pub extern "C" fn read() -> u32 {
-    with(|s| match parse(Global, &s.bytes) {
-        Ok(script) => {
-            s.words = numbers_of(&script);
-            0
-        }
-        Err(fault) => {
-            s.bytes = RunFault::from(fault).to_string().into_bytes();
-            1
-        }
-    })
-}
-
-/// Runs the bytes as the program does: they are then what it writes to its output, or with 1 the line of its fault.
-#[unsafe(no_mangle)]
-pub extern "C" fn program() -> u32 {
+pub extern "C" fn read(part: u32, last: u32) -> u32 {
     with(|s| {
-        let mut output = IntoWrite::new(Vec::new());
-        let found = run(Global, &mut FromRead::new(s.bytes.as_slice()), &mut output);
-        s.bytes = match found {
-            Ok(()) => output.into_inner(),
-            Err(fault) => fault.to_string().into_bytes(),
-        };
-        found.is_err() as u32
+        let text = std::mem::take(&mut s.bytes);
+        s.words.clear();
+        if part == 0 {
+            s.reader = Reader::new();
+            s.name.clear();
+        }
+        let (mut at, mut is_whole) = (0, true);
+        while at < text.len() {
+            let end = text[at..].iter().position(|b| *b == b'\n').map_or(text.len(), |n| at + n);
+            is_whole = end < text.len();
+            let line = &text[at..end];
+            let row = match s.reader.take(line) {
+                Err(fault) => return s.fault(RunFault::from(fault), at, end),
+                Ok(Line::Other) => {
+                    s.name.clear();
+                    s.name.extend_from_slice(line.strip_prefix(b"#").unwrap_or(b"").trim_ascii());
+                    None
+                }
+                Ok(Line::Header(Header { size, max_allocs, index })) => {
+                    let bits = if index == IndexWidth::Bits16 { 16 } else { 32 };
+                    Some([11, size, max_allocs, bits])
+                }
+                Ok(Line::Call(call)) => {
+                    let [kind, a, b] = numbers(call);
+                    Some([kind, a, b, 0])
+                }
+            };
+            if let Some(row) = row {
+                s.words.extend_from_slice(&row);
+                s.words.extend_from_slice(&[s.reader.line(), word(s.name.len())]);
+                s.bytes.append(&mut s.name);
+            }
+            at = end + 1;
+        }
+        match s.reader.end(is_whole) {
+            Err(fault) if last == 1 => s.fault(RunFault::from(fault), text.len(), text.len()),
+            _ => 0,
+        }
     })
+}
+
+impl State {
+    fn fault(&mut self, fault: RunFault, from: usize, to: usize) -> u32 {
+        self.words = vec![fault.parts().0.unwrap_or(0), word(from), word(to)];
+        self.bytes = fault.to_string().into_bytes();
+        1
+    }
 }
 
 /// Makes a fresh space. 1: an allocation failed, the bytes are the line of that fault, and there is no space.
 #[unsafe(no_mangle)]
 pub extern "C" fn start(size: u32, max_allocs: u32, bits: u32) -> u32 {
     with(|s| {
-        s.space = Space::None;
+        s.held = Held::None;
         let made = match bits {
-            16 => Player::start(Global, size, max_allocs).map(|p| Space::Narrow(Play::of(p))),
-            _ => Player::start(Global, size, max_allocs).map(|p| Space::Wide(Play::of(p))),
+            16 => Space::start(size, max_allocs).map(Held::Narrow),
+            _ => Space::start(size, max_allocs).map(Held::Wide),
         };
         match made {
-            Ok(space) => {
-                s.space = space;
-                0
-            }
-            Err(_) => {
-                s.bytes = RunFault::Memory.to_string().into_bytes();
-                1
+            Some(held) => s.held = held,
+            None => {
+                s.fault(RunFault::Memory, 0, 0);
+                return 1;
             }
         }
+        0
     })
 }
 
-impl<NI: NodeIndex> Play<NI> {
-    fn of(player: Player<NI>) -> Self {
-        Play { player, grants: BTreeMap::new() }
+fn why<NI: NodeIndex>(space: &AllocatorOf<ByNode<NI>>, call: Call) -> Option<Refusal> {
+    match call {
+        Call::Script(Command::Alloc(n)) => space.refusal(n),
+        Call::Script(Command::Align(n, a)) => space.refusal_aligned(n, a),
+        _ => None,
+    }
+}
+
+impl<NI: NodeIndex> Space<NI> {
+    fn start(size: u32, max_allocs: u32) -> Option<Self> {
+        Some(Space { play: Play::start(size, max_allocs).ok()?, grants: Vec::new() })
     }
 
-    fn name(handle: Allocation<NI>) -> u32 {
-        handle.to_parts().1
-    }
-
-    // Where the search begins for a command: 256 for one that searches nothing.
-    fn searched(step: Step) -> u32 {
-        let units = match step {
-            Step::Script(Command::Alloc(n)) => Some(n),
-            Step::Script(Command::Align(n, a)) => n.checked_add(a - 1),
-            _ => None,
-        };
-        units.map_or(256, uint_to_float_round_up)
-    }
-
-    // The smallest class from this one on that has a free block, or 256.
-    fn found(&self, from: u32) -> u32 {
-        let full = self.player.space.storage_report_full();
-        (from..256).find(|c| full.free_regions[*c as usize].count > 0).unwrap_or(256)
-    }
-
-    // Plays a step, and returns its numbers: the kind of the answer (0 other, 1 grant, 2 refused, 3 freed, 4 resized,
-    // 5 compacted, 6 gone), the number of the grant, its offset and units, the class of the search, the class
-    // found, the free units, the largest region, the blocks, and the reason of a refusal.
-    fn play(&mut self, step: Step, is_quick: bool) -> Option<[u32; 10]> {
-        let mut out = [0; 10];
-        out[4] = Self::searched(step);
-        out[5] = 256;
-        if !is_quick && out[4] < 256 {
-            out[5] = self.found(out[4]);
-            let why = match step {
-                Step::Script(Command::Alloc(n)) => self.player.space.refusal(n),
-                Step::Script(Command::Align(n, a)) => self.player.space.refusal_aligned(n, a),
-                _ => None,
-            };
-            out[9] = why.map_or(0, |w| w as u32 + 1);
-        }
-        match step {
-            Step::Script(command) => self.script_step(command, &mut out)?,
-            Step::Shrink(k, n) => self.resize(k, n, false, &mut out),
-            Step::Grow(k, n) => self.resize(k, n, true, &mut out),
-            Step::Compact => {
-                self.player.space.compact(&mut |_| ());
-                out[0] = 5;
+    // Plays a call; `None` where an allocation fails.
+    fn play(&mut self, call: Call, text: Option<&mut String>) -> Option<Row> {
+        use offset_script::Answer as A;
+        let refusal = why(&self.play.player.space, call);
+        let answer = self.play.call(call).ok()?;
+        let space = &self.play.player.space;
+        let resized = |k| self.play.player.handle(k).and_then(|h| space.allocation_offset(h)).unwrap_or(0);
+        let [kind, number, offset, units] = match (&answer, call) {
+            (Answer::Script(A::Grant { number, offset }), _) => {
+                let handle = self.play.player.handle(*number as u32)?;
+                let name = handle.to_parts().1 as usize;
+                if name >= self.grants.len() {
+                    self.grants.resize(name + 1, 0);
+                }
+                self.grants[name] = *number as u32;
+                [1, *number as u32, *offset, space.allocation_size(handle)]
             }
-        }
-        let report = self.player.space.storage_report();
-        out[6] = report.total_free_space;
-        out[7] = report.largest_free_region;
-        out[8] = self.player.space.block_count();
-        Some(out)
-    }
-
-    fn script_step(&mut self, command: Command, out: &mut [u32; 10]) -> Option<()> {
-        let gone = match command {
-            Command::Free(k) => self.player.handle(k),
-            _ => None,
+            (Answer::Script(A::Refused), _) => [2, 0, 0, 0],
+            (Answer::Script(A::Freed), Call::Script(Command::Free(k))) => [3, k, 0, 0],
+            (Answer::Shrunk, Call::Shrink(k, n)) | (Answer::Grown, Call::Grow(k, n)) => [4, k, resized(k), n],
+            (Answer::Compacted, _) => [5, 0, 0, 0],
+            (Answer::Script(A::Gone), _) => [6, 0, 0, 0],
+            (Answer::Script(A::Reset), _) => [7, 0, 0, 0],
+            (Answer::Script(A::Extended), _) => [8, 0, 0, 0],
+            (Answer::Script(A::Full(rows)), _) => [9, 0, 0, word(rows.len())],
+            (Answer::Script(A::Size(n)), _) => [10, 0, 0, *n],
+            _ => [11, 0, 0, 0],
         };
-        if let Some(handle) = gone {
-            self.grants.remove(&Self::name(handle));
+        if let Some(text) = text {
+            writeln!(text, "{answer}").ok()?;
         }
-        let answer = self.player.call(Global, command).ok()?;
-        match answer {
-            Answer::Grant { number, offset } => {
-                let handle = self.player.handle(number as u32)?;
-                self.grants.insert(Self::name(handle), number as u32);
-                out[0] = 1;
-                out[1] = number as u32;
-                out[2] = offset;
-                out[3] = self.player.space.allocation_size(handle);
-            }
-            Answer::Refused => out[0] = 2,
-            Answer::Freed => out[0] = 3,
-            Answer::Reset => self.grants.clear(),
-            Answer::Gone => out[0] = 6,
-            Answer::Size(n) => out[3] = n,
-            _ => (),
-        }
-        Some(())
-    }
-
-    fn resize(&mut self, k: u32, n: u32, is_growth: bool, out: &mut [u32; 10]) {
-        let Some(handle) = self.player.handle(k) else {
-            out[0] = 6;
-            return;
-        };
-        let space = &mut self.player.space;
-        let is_done = if is_growth { space.grow_in_place(handle, n) } else { space.shrink(handle, n) };
-        if !is_done {
-            out[0] = 2;
-            return;
-        }
-        out[0] = 4;
-        out[1] = k;
-        out[2] = space.allocation_offset(handle).unwrap_or(0);
-        out[3] = n;
+        let report = space.storage_report();
+        let why = refusal.map_or(0, |w| w as u32 + 1);
+        Some([kind, number, offset, units, report.total_free_space, report.largest_free_region, space.block_count(), why])
     }
 
     // Three numbers for each block, from the end of the space: its offset, its units, and its grant's number, or 0.
     fn blocks(&self, words: &mut Vec<u32>) {
-        for block in self.player.space.blocks() {
-            let number = block.allocation.and_then(|a| self.grants.get(&Self::name(a)).copied());
+        for block in self.play.player.space.blocks() {
+            let number = block.allocation.and_then(|a| self.grants.get(a.to_parts().1 as usize).copied());
             words.extend_from_slice(&[block.offset, block.size, number.unwrap_or(0)]);
         }
     }
 
     // The number of the free blocks of each class.
     fn bins(&self, words: &mut Vec<u32>) {
-        words.extend(self.player.space.storage_report_full().free_regions.iter().map(|r| r.count));
+        words.extend(self.play.player.space.storage_report_full().free_regions.iter().map(|r| r.count));
     }
 }
 
-/// Plays one step: the numbers are what `play` says. With `quick` 1 the search is left out. 1: an allocation failed.
+/// Plays the calls in the bytes, three numbers of four bytes each, little-endian, and returns how many were played: all;
+/// or up to the first `compact`, with it; or fewer, where an allocation failed. The numbers are then eight for each. With
+/// `text` 1 the bytes are the lines of the answers.
 #[unsafe(no_mangle)]
-pub extern "C" fn step(kind: u32, a: u32, b: u32, quick: u32) -> u32 {
+pub extern "C" fn play(text: u32) -> u32 {
     with(|s| {
-        let step = step_of(kind, a, b);
-        let out = match &mut s.space {
-            Space::None => None,
-            Space::Narrow(play) => play.play(step, quick == 1),
-            Space::Wide(play) => play.play(step, quick == 1),
-        };
+        let given = std::mem::take(&mut s.bytes);
         s.words.clear();
-        match out {
-            Some(numbers) => {
-                s.words.extend_from_slice(&numbers);
-                0
+        let mut lines = String::new();
+        let mut count = 0;
+        for call in given.chunks_exact(12) {
+            let at = |i: usize| u32::from_le_bytes([call[i], call[i + 1], call[i + 2], call[i + 3]]);
+            let call = call_of([at(0), at(4), at(8)]);
+            let to = (text == 1).then_some(&mut lines);
+            let row = match &mut s.held {
+                Held::None => None,
+                Held::Narrow(space) => space.play(call, to),
+                Held::Wide(space) => space.play(call, to),
+            };
+            let Some(row) = row else { break };
+            s.words.extend_from_slice(&row);
+            count += 1;
+            if call == Call::Compact {
+                break;
             }
-            None => 1,
         }
+        s.bytes = lines.into_bytes();
+        count
     })
 }
 
@@ -315,15 +297,15 @@ pub extern "C" fn step(kind: u32, a: u32, b: u32, quick: u32) -> u32 {
 pub extern "C" fn view() {
     with(|s| {
         s.words.clear();
-        match &s.space {
-            Space::None => (),
-            Space::Narrow(play) => {
-                play.bins(&mut s.words);
-                play.blocks(&mut s.words);
+        match &s.held {
+            Held::None => (),
+            Held::Narrow(space) => {
+                space.bins(&mut s.words);
+                space.blocks(&mut s.words);
             }
-            Space::Wide(play) => {
-                play.bins(&mut s.words);
-                play.blocks(&mut s.words);
+            Held::Wide(space) => {
+                space.bins(&mut s.words);
+                space.blocks(&mut s.words);
             }
         }
     })

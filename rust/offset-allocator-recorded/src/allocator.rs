@@ -1,0 +1,77 @@
+//! The recorded calls of an allocator with handles.
+
+use crate::tape::Tape;
+use crate::Recorded;
+use offset_allocator_proved::{Allocation, AllocatorOf, Move, Tables};
+use std::io::{self, Write};
+
+impl<T: Tables, W: Write> Recorded<AllocatorOf<T>, W> {
+    /// Records an allocator that has no live range. An error is returned where it has one, or where the first line
+    /// cannot be written.
+    pub fn new(space: AllocatorOf<T>, out: W) -> io::Result<Self> {
+        Ok(Recorded { tape: Tape::start(&space, out)?, space })
+    }
+
+    // The number of the grant of a handle: 0, which no grant has, where the handle is not live.
+    fn number(&self, allocation: Allocation<T::Index>) -> u32 {
+        let live = self.space.is_live(allocation);
+        self.tape.number(live.then(|| allocation.to_parts().1))
+    }
+
+    /// `AllocatorOf::allocate`.
+    pub fn allocate(&mut self, size: u32) -> Option<Allocation<T::Index>> {
+        self.tape.write(format_args!("alloc {size}"));
+        let found = self.space.allocate(size)?;
+        self.tape.grant(found.to_parts().1);
+        Some(found)
+    }
+
+    /// `AllocatorOf::allocate_aligned`: `align` has to be a power of two. For another one it panics, and writes nothing.
+    #[track_caller]
+    pub fn allocate_aligned(&mut self, size: u32, align: u32) -> Option<Allocation<T::Index>> {
+        assert!(align.is_power_of_two(), "align must be a power of two");
+        self.tape.write(format_args!("align {size} {align}"));
+        let found = self.space.allocate_aligned(size, align)?;
+        self.tape.grant(found.to_parts().1);
+        Some(found)
+    }
+
+    /// `AllocatorOf::free`: for a handle that is not live, `free 0` is written, and it panics.
+    #[track_caller]
+    pub fn free(&mut self, allocation: Allocation<T::Index>) {
+        self.tape.write(format_args!("free {}", self.number(allocation)));
+        self.space.free(allocation);
+    }
+
+    /// `AllocatorOf::shrink`: for a handle that is not live, `shrink 0` is written, and it panics.
+    #[track_caller]
+    pub fn shrink(&mut self, allocation: Allocation<T::Index>, size: u32) -> bool {
+        self.tape.write(format_args!("shrink {} {size}", self.number(allocation)));
+        self.space.shrink(allocation, size)
+    }
+
+    /// `AllocatorOf::grow_in_place`: for a handle that is not live, `grow 0` is written, and it panics.
+    #[track_caller]
+    pub fn grow_in_place(&mut self, allocation: Allocation<T::Index>, size: u32) -> bool {
+        self.tape.write(format_args!("grow {} {size}", self.number(allocation)));
+        self.space.grow_in_place(allocation, size)
+    }
+
+    /// `AllocatorOf::extend`.
+    pub fn extend(&mut self, more: u32) -> bool {
+        self.tape.write(format_args!("extend {more}"));
+        self.space.extend(more)
+    }
+
+    /// `AllocatorOf::compact`.
+    pub fn compact<F: FnMut(Move<T::Index>)>(&mut self, moved: &mut F) {
+        self.tape.write(format_args!("compact"));
+        self.space.compact(moved);
+    }
+
+    /// `AllocatorOf::reset`.
+    pub fn reset(&mut self) {
+        self.tape.write(format_args!("reset"));
+        self.space.reset();
+    }
+}

@@ -1,0 +1,74 @@
+//! The recorded calls of an allocator with tickets.
+
+use crate::tape::Tape;
+use crate::Recorded;
+use offset_allocator_guarded::{GuardedOf, Ticket};
+use offset_allocator_proved::{Move, Tables};
+use std::io::{self, Write};
+
+impl<T: Tables, W: Write> Recorded<GuardedOf<T>, W> {
+    /// Records an allocator that has no live range. An error is returned where it has one, or where the first line
+    /// cannot be written.
+    pub fn guarded(space: GuardedOf<T>, out: W) -> io::Result<Self> {
+        Ok(Recorded { tape: Tape::start(space.allocator(), out)?, space })
+    }
+
+    // The number of the grant of a ticket: 0, which no grant has, where the ticket is not live.
+    fn number(&self, ticket: Ticket) -> u32 {
+        self.tape.number(self.space.is_live(ticket).then_some(ticket.name))
+    }
+
+    /// `GuardedOf::allocate`.
+    pub fn allocate(&mut self, size: u32) -> Option<Ticket> {
+        self.tape.write(format_args!("alloc {size}"));
+        let found = self.space.allocate(size)?;
+        self.tape.grant(found.name);
+        Some(found)
+    }
+
+    /// `GuardedOf::allocate_aligned`: `align` has to be a power of two. For another one it panics, and writes nothing.
+    #[track_caller]
+    pub fn allocate_aligned(&mut self, size: u32, align: u32) -> Option<Ticket> {
+        assert!(align.is_power_of_two(), "align must be a power of two");
+        self.tape.write(format_args!("align {size} {align}"));
+        let found = self.space.allocate_aligned(size, align)?;
+        self.tape.grant(found.name);
+        Some(found)
+    }
+
+    /// `GuardedOf::free`: for a ticket that is not live, `free 0` is written.
+    pub fn free(&mut self, ticket: Ticket) -> bool {
+        self.tape.write(format_args!("free {}", self.number(ticket)));
+        self.space.free(ticket)
+    }
+
+    /// `GuardedOf::shrink`: for a ticket that is not live, `shrink 0` is written.
+    pub fn shrink(&mut self, ticket: Ticket, size: u32) -> Option<bool> {
+        self.tape.write(format_args!("shrink {} {size}", self.number(ticket)));
+        self.space.shrink(ticket, size)
+    }
+
+    /// `GuardedOf::grow_in_place`: for a ticket that is not live, `grow 0` is written.
+    pub fn grow_in_place(&mut self, ticket: Ticket, size: u32) -> Option<bool> {
+        self.tape.write(format_args!("grow {} {size}", self.number(ticket)));
+        self.space.grow_in_place(ticket, size)
+    }
+
+    /// `GuardedOf::extend`.
+    pub fn extend(&mut self, more: u32) -> bool {
+        self.tape.write(format_args!("extend {more}"));
+        self.space.extend(more)
+    }
+
+    /// `GuardedOf::compact`.
+    pub fn compact<F: FnMut(Move<T::Index>)>(&mut self, moved: &mut F) {
+        self.tape.write(format_args!("compact"));
+        self.space.compact(moved);
+    }
+
+    /// `GuardedOf::reset`.
+    pub fn reset(&mut self) {
+        self.tape.write(format_args!("reset"));
+        self.space.reset();
+    }
+}

@@ -1,0 +1,60 @@
+//! Records the calls of an allocator as a text, line by line as they happen, and reads and plays such recordings.
+//!
+//! Written by hand, over the crates that are printed from proved sources: what a recording has is tested, not proved.
+#![doc = include_str!("../README.md")]
+#![forbid(unsafe_code)]
+#![warn(missing_docs)]
+
+mod allocator;
+mod guarded;
+mod playing;
+mod reading;
+mod tape;
+
+pub use offset_allocator_guarded::{GuardedOf, Ticket};
+pub use offset_allocator_proved::{AllocError, Allocation, AllocatorOf, Global, Tables};
+pub use offset_script::{Command, IndexWidth, RunFault};
+pub use playing::{Answer, Play, Playing, play};
+pub use reading::{Call, Header, Line, Lines, Reader, call, header};
+use std::io::{self, Write};
+use std::ops::Deref;
+use tape::Tape;
+
+/// An allocator, `AllocatorOf` or `GuardedOf`, whose calls are written to `out` as they happen.
+///
+/// The calls that change the space are methods here, with the arguments and the results of the allocator's own; its
+/// questions are reached as its own (`recorded.storage_report()`), and are not written. The line of a call is written
+/// and flushed before the call is made: so a crash, of the call too, keeps it. A file needs no buffer of its own.
+///
+/// The first failure of `out` ends the recording, and not the program: calls go on, `failure` has the error, and
+/// `finish` returns it.
+pub struct Recorded<A, W: Write> {
+    space: A,
+    tape: Tape<W>,
+}
+
+impl<A, W: Write> Recorded<A, W> {
+    /// The name of the next request, for who reads the recording: a `#` line before it. Line ends become spaces.
+    pub fn name(&mut self, name: &str) -> &mut Self {
+        self.tape.comment(name);
+        self
+    }
+
+    /// The error that ended the recording, if one did.
+    pub fn failure(&self) -> Option<&io::Error> {
+        self.tape.failure()
+    }
+
+    /// Ends the recording: the allocator goes on without, and what was written is flushed.
+    pub fn finish(self) -> (A, io::Result<W>) {
+        (self.space, self.tape.finish())
+    }
+}
+
+impl<A, W: Write> Deref for Recorded<A, W> {
+    type Target = A;
+
+    fn deref(&self) -> &A {
+        &self.space
+    }
+}

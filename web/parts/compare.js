@@ -1,0 +1,80 @@
+// Another run of the same calls: with other units, nodes, or space, or compacted where a request is refused.
+const COMPACT = ['never', 'where a request is refused'];
+// The calls of a run, played in another space: `of` is what B's grants are by A's numbers, `at` B's position by A's.
+async function another(run, [size, nodes, unit, compact], work) {
+  const b = new Run([Math.min(LARGEST, size), nodes, nodes > 65533 ? 32 : run.head[2]], new Uint32Array(0), new Map(), run.lines);
+  b.every = Math.ceil(Math.max(EVERY, run.count / MARKS) / 512) * 512;
+  b.m.start(b.head);
+  const at = new Uint32Array(run.count + 1), of = new Map(), scaled = n => Math.ceil(n / unit);
+  const one = (...call) => { b.calls.push(...call); b.step(1); return b.row(b.count - 1); };
+  let extra = 0;
+  for (let i = 0; i < run.count; i++) {
+    const [op, x, y] = run.call(i), r = run.row(i), grant = of.get(x) || 0;
+    const isRequest = op <= 1, name = run.names.get(i);
+    const call = op === 0 ? [0, scaled(x), 0] : op === 1 ? (y <= unit ? [0, scaled(x), 0] : [1, scaled(x), y / unit]) :
+      op === 2 || op === 3 ? [op, grant, 0] : op === 7 ? [7, Math.floor(x / unit), 0] : op === 8 || op === 9 ? [op, grant, scaled(y)] : [op, 0, 0];
+    if (name) b.names.set(b.count, name);
+    let found = one(...call);
+    if (compact && isRequest && found[0] === ANSWER.refused) { one(10, 0, 0); found = one(...call); }
+    if (isRequest && r[0] === ANSWER.grant) of.set(r[1], found[0] === ANSWER.grant ? found[1] : 0);
+    else if (isRequest && found[0] === ANSWER.grant) extra++;
+    at[i + 1] = b.count;
+    if (i % 64 === 0) await work.turn(i, run.count);
+  }
+  return { run: b, at, unit, extra };
+}
+// The rows where the two answer otherwise: a request is granted in one only, or another call succeeds in one only.
+const outcome = r => r[0] === ANSWER.refused ? 'refused' : r[0] === ANSWER.gone ? 'gone' : 'done';
+function differing(a, other) {
+  const rows = [];
+  for (let i = 0; i < a.count; i++) if (outcome(a.row(i)) !== outcome(other.run.row(other.at[i + 1] - 1))) rows.push(i + 1);
+  return rows;
+}
+const refusedRows = (a, other) => { let n = 0; for (let i = 0; i < a.count; i++) if (other.run.row(other.at[i + 1] - 1)[0] === ANSWER.refused) n++; return n; };
+const most = (run, f) => { let m = 0; for (let i = 0; i < run.count; i++) m = Math.max(m, f(i)); return m; };
+async function compare(as) {
+  const [size, nodes, unit, compact] = as;
+  if (nodes < 2 || nodes > LARGEST - 2 || !unit || compact > 1 || as.length !== 4) { say(`Compare: the node limit is 2 to ${whole(LARGEST - 2)}, the unit at least 1`, true); return; }
+  const found = await during('Comparing', work => another(S.run, as, work));
+  if (!found) return;
+  S.other = { ...found, as };
+  S.other.rows = differing(S.run, S.other);
+  const a = S.run, b = found.run;
+  S.other.whole = [
+    ['Refused calls', a.refusals.length, refusedRows(a, S.other)],
+    ['First refusal, row', a.refusals[0] || 0, firstOf(S.other)],
+    ['Most units in use', most(a, i => a.used.list[i]), most(b, i => b.used.list[i]) * unit],
+    ['Highest end of a range', a.top, b.top * unit],
+    ['Most blocks', most(a, i => a.row(i)[6]), most(b, i => b.row(i)[6])],
+    ['Units in use at the end', a.usedAt(a.count), b.usedAt(b.count) * unit]];
+  for (const [i, id] of ['xsize', 'xnodes', 'xunit', 'xcompact'].entries()) $(id).value = as[i];
+  $('compared').hidden = false;
+  showOther();
+}
+function firstOf(other) { for (let i = 1; i < other.at.length; i++) if (other.run.row(other.at[i] - 1)[0] === ANSWER.refused) return i; return 0; }
+function dropOther() {
+  S.other = null; $('compared').hidden = true;
+  $('xsize').value = S.run.head[0]; $('xnodes').value = S.run.head[1]; $('xunit').value = 1; $('xcompact').value = 0;
+}
+function showOther() {
+  if (!S.other) return;
+  const { run: b, at, unit, rows, extra } = S.other, a = S.run, p = S.p, q = at[p];
+  const va = a.view(p), vb = b.view(q), size = a.sizeAt(p), [from, to] = S.zoom || [0, size];
+  const free = (run, n) => run.sizeAt(n) - run.usedAt(n), largest = (run, n) => n ? run.row(n - 1)[5] : 0;
+  const table = [['At this row', '', ''], ['Answer', p ? answered(a, p - 1) : '', q ? answered(b, q - 1) : ''], ['Units in use', a.usedAt(p), b.usedAt(q) * unit],
+    ['Units free', free(a, p), free(b, q) * unit], ['Largest request granted', largest(a, p), largest(b, q) * unit],
+    ['Blocks', va.blocks.length, vb.blocks.length], ['Over all', '', ''], ...S.other.whole];
+  $('differences').replaceChildren(...table.map(([name, x, y]) => {
+    const row = document.createElement('tr'), isNumber = typeof x === 'number', th = document.createElement('th');
+    th.textContent = name; th.scope = 'row'; row.append(th);
+    for (const v of [x, y, isNumber && x !== y ? y - x : '']) row.insertCell().textContent = typeof v === 'number' ? whole(v) : v;
+    if (isNumber && x !== y) row.cells[3].textContent = (y > x ? '+' : '−') + whole(Math.abs(y - x));
+    return row;
+  }));
+  $('differ').textContent = rows.length ? `${counted(rows.length, 'row')} with another outcome, the first is row ${whole(rows[0])}.` : 'Each call has the same outcome in both.';
+  if (extra) $('differ').textContent += ` ${counted(extra, 'request')} that this run refuses ${extra === 1 ? 'is' : 'are'} granted in the other, and never freed there: the recording has no call for that.`;
+  $('xnext').disabled = !rows.some(r => r > p); $('xback').disabled = !rows.some(r => r < p);
+  drawSpace('spaceA', a, p, from, to, []);
+  drawSpace('spaceB', b, q, from / unit, to / unit, []);
+  drawLives('lifeA', a, p, showOther); drawLives('lifeB', b, q, showOther);
+}

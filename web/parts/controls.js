@@ -1,0 +1,117 @@
+// What the user does: buttons, keys, files, the pointer.
+let playing = false, due = 0, before = 0;
+function stop() { if (!playing) return; playing = false; $('play').textContent = 'Play'; draw(); }
+function frame(t) {
+  if (!playing) return;
+  due += (t - before) / 1000 * Number($('speed').value); before = t;
+  const n = Math.floor(due), end = S.run.count; due -= n;
+  if (S.p + n >= end) { playing = false; $('play').textContent = 'Play'; go(end); return; }
+  if (n) go(S.p + n);
+  requestAnimationFrame(frame);
+}
+function toggle() {
+  if (playing) return stop();
+  if (S.p >= S.run.count) go(0);
+  playing = true; $('play').textContent = 'Pause'; due = 0; before = performance.now(); requestAnimationFrame(frame);
+}
+const to = p => { stop(); go(p); };
+L.calls = new List('calls', drawCall, i => to(S.run.shown ? S.run.refusals[i] : i + 1));
+L.ranges = new List('ranges', drawRange, i => { const b = ranges[i]; pointer = null; chosenIs(b); to(S.run.born.list[b.k]); });
+for (const by of Object.keys(SORTS)) {
+  const b = document.createElement('button'); b.textContent = by; b.dataset.by = by;
+  b.onclick = () => { sorted = by; showRanges(S.run.view(S.p)); }; $('sorts').append(b); }
+for (const name of Object.keys(TAKES)) {
+  const b = document.createElement('button'); b.id = 'act-' + name; b.textContent = name; b.onclick = () => act(name); $('acts').append(b); }
+for (const name of Object.keys(TRACES)) $('trace').add(new Option(titleOf(name), name), $('trace').length - 1);
+$('first').onclick = () => to(0); $('last').onclick = () => to(S.run.count);
+$('back').onclick = () => to(S.p - 1); $('next').onclick = () => to(S.p + 1);
+$('rback').onclick = () => refusal(-1); $('rnext').onclick = () => refusal(1);
+$('play').onclick = toggle; $('at').oninput = () => to($('at').valueAsNumber);
+$('row').onchange = () => {
+  const p = $('row').valueAsNumber;
+  if (!Number.isInteger(p) || p < 0 || p > S.run.count) { say(`Row: a number from 0 to ${whole(S.run.count)}`, true); $('row').value = S.p; return; }
+  to(p); };
+$('link').onclick = link; $('keys').onclick = () => $('help').showModal(); $('closehelp').onclick = () => $('help').close();
+$('undo').onclick = () => undo(S.past, S.ahead); $('redo').onclick = () => undo(S.ahead, S.past); $('original').onclick = original;
+const fileName = end => S.title.replace(/\.[a-z]+$/, '').replace(/[^\w.-]+/g, '-') + end;
+$('export').onclick = async () => { const text = await during('Writing', w => writeText(S.run, w)); if (text !== null) save(new Blob([text]), fileName('.script')); };
+$('answers').onclick = async () => { const b = await during('Writing', w => S.run.answers(w)); if (b) save(b, fileName('.answers')); };
+$('picture').onclick = () => save(new Blob([pictured(S.run)], { type: 'image/svg+xml' }), fileName('.svg'));
+$('load').onclick = () => take(new TextEncoder().encode($('text').value));
+$('show').onclick = showText;
+$('text').oninput = () => { S.shown = false; $('textname').textContent = 'not played yet'; };
+$('trace').onchange = async () => { const n = $('trace').value; stop();
+  if (n === 'own' || n === S.name) { $('trace').value = S.name; return; }
+  if (await load(await inflated(TRACES[n]), n, titleOf(n))) go(n === 'every' ? 0 : S.run.count >> 2); };
+const takeFile = async f => f && take(new Uint8Array(await f.arrayBuffer()), f.name);
+$('file').onchange = async () => { await takeFile($('file').files[0]); $('file').value = ''; };
+addEventListener('dragover', event => event.preventDefault());
+addEventListener('drop', event => { event.preventDefault(); takeFile(event.dataTransfer.files[0]); });
+$('stop').onclick = stopWork; $('unsay').onclick = () => say('');
+$('only').onchange = draw;
+$('zin').onclick = () => zoom(1 / 4); $('zout').onclick = () => zoom(4); $('zall').onclick = () => { S.zoom = null; draw(); };
+$('zused').onclick = usedPart; $('zleft').onclick = () => pan(-0.5); $('zright').onclick = () => pan(0.5);
+$('compare').onclick = () => compare(['xsize', 'xnodes', 'xunit', 'xcompact'].map(id => { const v = $(id).value.trim(); return /^\d{1,10}$/.test(v) && v <= LARGEST ? Number(v) : -1; }));
+$('xback').onclick = () => to(S.other.rows.findLast(r => r < S.p)); $('xnext').onclick = () => to(S.other.rows.find(r => r > S.p));
+// The pointer.
+$('space').onpointermove = event => { pointer = event; draw(); };
+$('space').onpointerleave = () => { pointer = null; draw(); };
+$('space').onclick = event => { pointer = event; const b = chosenBlock(S.run.view(S.p)); if (b) chosenIs(b); };
+for (const id of ['life', 'lifeA']) {
+  $(id).onpointerdown = event => { stop(); $(id).setPointerCapture(event.pointerId); to(rowAt(event, id, S.run.count)); };
+  $(id).onpointermove = event => { if (event.buttons) to(rowAt(event, id, S.run.count)); };
+}
+$('bins').onpointermove = event => {
+  const c = binAt(event), n = c < 0 ? 0 : S.run.view(S.p).bins[c];
+  $('bin').textContent = c < 0 ? '' : c >= BINS ? `Bin ${c}: larger than any space.` : `Bin ${c}: blocks of ${sizesOf(c)} units; ${counted(n, 'free block')}.`; };
+// The keys, wherever the focus is, but in text. Each is [what it does, the call, the buttons it presses by itself].
+const KEYS = {
+  ArrowLeft: ['one row back', () => to(S.p - 1)], ArrowRight: ['one row on', () => to(S.p + 1)],
+  PageUp: ['100 rows back', () => to(S.p - 100)], PageDown: ['100 rows on', () => to(S.p + 100)],
+  Home: ['before the first row', () => to(0)], End: ['after the last row', () => to(S.run.count)],
+  ' ': ['play or pause, where no button has the focus', toggle], p: ['play or pause', toggle],
+  r: ['next refusal', () => refusal(1)], R: ['refusal before', () => refusal(-1)],
+  b: ['next block', () => chooseBlock(1)], B: ['block before', () => chooseBlock(-1)],
+  Enter: ['the row of the chosen block', () => { if (!$('goto').hidden) $('goto').click(); }],
+  '+': ['zoom in', () => zoom(1 / 4)], '-': ['zoom out', () => zoom(4)], '0': ['the whole space', () => $('zall').click()],
+  ',': ['left, in the zoom', () => pan(-0.5)], '.': ['right, in the zoom', () => pan(0.5)],
+  g: ['to the number of a row', () => { $('row').focus(); $('row').select(); }],
+  u: ['undo', () => $('undo').click()], U: ['redo', () => $('redo').click()], o: ['back to the original', original],
+  l: ['link to this state', link], Escape: ['stop work, close a message', () => { stopWork(); say(''); }],
+  '?': ['this list', () => $('help').showModal()],
+};
+const KEY_NAMES = { ' ': 'Space', ArrowLeft: '←', ArrowRight: '→', PageUp: 'Page Up', PageDown: 'Page Down' };
+for (const [key, [what]] of Object.entries(KEYS)) {
+  const dt = document.createElement('dt'), dd = document.createElement('dd');
+  dt.textContent = KEY_NAMES[key] || key; dd.textContent = what; $('keylist').append(dt, dd); }
+addEventListener('keydown', event => {
+  const at = event.target, key = event.key;
+  if (event.ctrlKey || event.metaKey || event.altKey || !S.run || !Object.hasOwn(KEYS, key) || $('help').open) return;
+  const isText = at.tagName === 'TEXTAREA' || (at.tagName === 'INPUT' && !['range', 'checkbox', 'file'].includes(at.type));
+  if (isText && key !== 'Escape') return;
+  if ([' ', 'Enter'].includes(key) && (/BUTTON|SELECT|SUMMARY|INPUT/.test(at.tagName) || at.getAttribute('role') === 'listbox')) return;
+  if (key.length === 1 && /[a-z]/i.test(key) && !$('letters').checked) return;
+  if (event.defaultPrevented) return;
+  event.preventDefault(); KEYS[key][1]();
+});
+let resizing = 0;
+addEventListener('resize', () => { cancelAnimationFrame(resizing); resizing = requestAnimationFrame(() => S.run && draw()); });
+matchMedia('(prefers-color-scheme: dark)').addEventListener('change', () => { C = null; if (S.run) draw(); });
+addEventListener('hashchange', restore);
+// The lives as a picture of their own, with a title on each refusal.
+function pictured(run) {
+  const w = 1000, h = 420, n = run.count + 1, c = colors(), escape = t => t.replace(/[&<>]/g, s => ({ '&': '&amp;', '<': '&lt;', '>': '&gt;' })[s]);
+  const x = p => (60 + p / n * (w - 70)).toFixed(1), y = o => (30 + (1 - o / run.top) * (h - 60)).toFixed(1), parts = c.ages.map(() => []);
+  for (let l = 0; l < run.lk.length; l++) {
+    const from = run.lf.list[l], to = Math.min(run.lt.list[l], n), o = run.lo.list[l], end = o + run.ln.list[l];
+    parts[ageOf(to - from)].push(`M${x(from)} ${y(end)}H${x(to)}V${y(o)}H${x(from)}z`); }
+  const ticks = run.refusals.map(p => `<path stroke='${c.mark}' stroke-width='2' d='M${x(p)} 30v12'><title>${escape(`row ${p}: ${said(...run.call(p - 1))}: ` +
+    (REASONS[run.row(p - 1)[7]] || 'refused'))}</title></path>`);
+  const label = (at, text, px, anchor) => `<text x='${px}' y='${at}' text-anchor='${anchor}'>${text}</text>`;
+  return `<svg xmlns='http://www.w3.org/2000/svg' viewBox='0 0 ${w} ${h}' font-family='sans-serif' font-size='13' fill='${c.fg}'>` +
+    `<rect width='${w}' height='${h}' fill='${c.bg}'/>` + label(18, `${escape(S.title)}: ${counted(run.count, 'call')}, ${counted(run.refusals.length, 'refusal')}`, 60, 'start') +
+    parts.map((p, i) => p.length ? `<path fill='${c.ages[i]}' d='${p.join('')}'/>` : '').join('') + ticks.join('') +
+    [1, 0.5, 0].map(f => label(Number(y(run.top * f)) + 4, short(Math.round(run.top * f)), 54, 'end')).join('') +
+    label(h - 12, 'row 0', 60, 'start') + label(h - 12, whole(run.count), w - 10, 'end') + '</svg>\n';
+}
+restore();

@@ -1,0 +1,107 @@
+// The canvases: the space, the lives, the bins, and the marks above the slider.
+const AGES = [10, 30, 100, 300, 1000, 3000, 10000];
+const ageOf = calls => { let a = 0; while (a < 7 && calls > AGES[a]) a++; return a; };
+const ROWS = 6, GUTTER = 54;
+const color = name => getComputedStyle(document.documentElement).getPropertyValue(name).trim();
+let C = null;
+const colors = () => C || (C = { ages: [1, 2, 3, 4, 5, 6, 7, 8].map(i => color('--age' + i)),
+  ...Object.fromEntries(['free', 'mark', 'fg', 'dim', 'line', 'bg'].map(n => [n, color('--' + n)])) });
+const short = n => n < 1e4 ? String(n) : n < 1e6 ? (n / 1e3).toFixed(n < 1e5 ? 1 : 0) + ' k' : n < 1e9 ? (n / 1e6).toFixed(n < 1e8 ? 1 : 0) + ' M' : (n / 1e9).toFixed(2) + ' G';
+function canvas(id) {
+  const c = $(id), d = devicePixelRatio || 1, w = c.clientWidth, h = c.clientHeight;
+  if (c.width !== Math.round(w * d)) c.width = Math.round(w * d);
+  if (c.height !== Math.round(h * d)) c.height = Math.round(h * d);
+  const g = c.getContext('2d');
+  g.setTransform(d, 0, 0, d, 0, 0);
+  g.clearRect(0, 0, w, h);
+  g.font = '11px system-ui, sans-serif'; g.textBaseline = 'middle'; g.fillStyle = colors().dim;
+  return [g, w, h, d];
+}
+// The blocks of a space, as lines of one text: `from` to `to` are the units that are shown.
+function drawSpace(id, run, p, from, to, marked) {
+  const [g, w0, h] = canvas(id), w = w0 - GUTTER, rh = h / ROWS, span = (to - from) / ROWS, c = colors(), v = run.view(p);
+  g.textAlign = 'right';
+  for (let y = 0; y < ROWS; y++) g.fillText(short(Math.round(from + y * span)), GUTTER - 4, y * rh + rh / 2);
+  g.fillStyle = c.free;
+  for (let y = 0; y < ROWS; y++) g.fillRect(GUTTER, y * rh + 1, w, rh - 2);
+  const strip = (o, n, f) => {
+    const end = Math.min(to, o + n), begin = Math.max(from, o);
+    for (let y = Math.floor((begin - from) / span); y < ROWS && from + y * span < end; y++) {
+      const x = Math.max(0, begin - from - y * span) / span * w, z = Math.min(span, end - from - y * span) / span * w;
+      f(GUTTER + x, y * rh, z - x); } };
+  let last = -1;
+  for (const b of v.blocks) {
+    if (b.o >= to) break;
+    if (!b.k || b.o + b.n <= from) continue;
+    // to set a colour takes longer than to draw
+    const age = ageOf(p - run.born.list[b.k]); if (age !== last) g.fillStyle = c.ages[last = age];
+    // a range of less than a pixel covers that part of it
+    strip(b.o, b.n, (x, y, z) => g.fillRect(x, y + 1, z > 3 ? z - 1 : z, rh - 2));
+  }
+  for (const [o, n, dash, stroke] of marked) {
+    g.setLineDash(dash); g.strokeStyle = stroke; g.lineWidth = 2;
+    strip(o, Math.max(n, 1e-9), (x, y, z) => g.strokeRect(x, y + 1, Math.max(3, z), rh - 2));
+  }
+  g.setLineDash([]);
+}
+// The unit at a point of the space's canvas.
+function unitAt(event, from, to) {
+  const b = $('space').getBoundingClientRect(), y = Math.min(ROWS - 1, Math.max(0, Math.floor((event.clientY - b.top) / b.height * ROWS)));
+  return from + (y + Math.max(0, Math.min(1, (event.clientX - b.left - GUTTER) / (b.width - GUTTER)))) * (to - from) / ROWS;
+}
+// The lives of all ranges, drawn once for each size of the window and scheme of colours, in turns: what is missing comes
+// with the next frame.
+function drawLives(id, run, p, again) {
+  const [g, w0, h0, d] = canvas(id), w = w0 - GUTTER, h = h0 - 16, c = colors(), n = run.count + 1;
+  const key = [w, h, d, c.bg, run.count].join();
+  if (!run.picture || run.picture.key !== key) {
+    const sheet = document.createElement('canvas'); sheet.width = Math.round(w * d); sheet.height = Math.round(h * d);
+    run.picture = { key, sheet, next: 0 };
+  }
+  const s = run.picture, q = s.sheet.getContext('2d');
+  for (const t = performance.now(); s.next < run.lk.length;) {
+    q.setTransform(d, 0, 0, d, 0, 0);
+    for (const end = Math.min(run.lk.length, s.next + 2000); s.next < end; s.next++) {
+      const l = s.next, from = run.lf.list[l], to = Math.min(run.lt.list[l], n), x = from / n * w, z = Math.max(1 / d, (to - from) / n * w);
+      q.fillStyle = c.ages[ageOf(to - from)];
+      q.fillRect(x, h - (run.lo.list[l] + run.ln.list[l]) / run.top * h, z, Math.max(1 / d, run.ln.list[l] / run.top * h));
+    }
+    if (performance.now() - t > 20) { requestAnimationFrame(again); break; }
+  }
+  const cx = Math.min(w, (p + 1) / n * w), part = (from, to) => to > from &&
+    g.drawImage(s.sheet, from * d, 0, (to - from) * d, h * d, GUTTER + from, 0, to - from, h);
+  part(0, cx); g.globalAlpha = 0.25; part(cx, w); g.globalAlpha = 1;
+  g.strokeStyle = c.mark; g.lineWidth = 1; g.beginPath();
+  for (const x of new Set(run.refusals.map(r => Math.round(r / n * w)))) { g.moveTo(GUTTER + x, 0); g.lineTo(GUTTER + x, 10); }
+  g.stroke();
+  g.fillStyle = c.mark; g.fillRect(GUTTER + Math.min(cx, w - 2), 0, 2, h);
+  g.fillStyle = c.dim; g.textAlign = 'right';
+  for (const [part0, at] of [[1, 7], [0.5, h / 2], [0, h - 6]]) g.fillText(short(Math.round(run.top * part0)), GUTTER - 4, at);
+  g.textAlign = 'left'; g.fillText('row 0', GUTTER, h + 9); g.textAlign = 'right'; g.fillText(whole(run.count), w0, h + 9);
+}
+const rowAt = (event, id, count) => {
+  const b = $(id).getBoundingClientRect();
+  return Math.round(Math.max(0, Math.min(1, (event.clientX - b.left - GUTTER) / (b.width - GUTTER))) * (count + 1)) - 1;
+};
+// The marks of refusals above the slider, whose thumb is 16 pixels wide.
+function drawMarks(run) {
+  const [g, w, h] = canvas('marks');
+  g.fillStyle = colors().mark;
+  for (const x of new Set(run.refusals.map(p => Math.round(8 + (w - 16) * p / Math.max(1, run.count))))) g.fillRect(x - 0.5, 0, 1.5, h);
+}
+// The bins: left the top mask, a bit for each word; right a bit for each bin that has a free block.
+function drawBins(bins, searched, taken) {
+  const [g, w, h] = canvas('bins'), cw = w / 67, ch = h / 4, c = colors();
+  for (let y = 0; y < 4; y++) {
+    g.fillStyle = bins.subarray(64 * y, 64 * y + 64).some(n => n) ? c.fg : c.free; g.fillRect(1, y * ch + 2, cw * 2 - 2, ch - 4);
+    for (let x = 0; x < 64; x++) { g.fillStyle = bins[64 * y + x] ? c.fg : c.free; g.fillRect((x + 3) * cw + 0.5, y * ch + 2, cw - 1, ch - 4); }
+  }
+  for (const [bin, dash] of [[searched, [3, 2]], [taken, []]]) if (bin < 256) {
+    g.setLineDash(dash); g.strokeStyle = c.mark; g.lineWidth = 2;
+    g.strokeRect((bin % 64 + 3) * cw, (bin >> 6) * ch + 1, cw, ch - 2); }
+  g.setLineDash([]);
+}
+const binAt = event => {
+  const b = $('bins').getBoundingClientRect(), x = Math.floor((event.clientX - b.left) / b.width * 67) - 3;
+  return x < 0 || x > 63 ? -1 : Math.min(3, Math.max(0, Math.floor((event.clientY - b.top) / b.height * 4))) * 64 + x;
+};

@@ -1,0 +1,102 @@
+// The lists: calls and answers, live ranges, sizes, bins. Only the rows that are visible are made.
+const LINE = 22, MOST_HEIGHT = 8e6;
+class List {
+  // draw(element, row) fills a row; pick(row) is called where one is chosen.
+  constructor(id, draw, pick) {
+    Object.assign(this, { box: $(id), draw, pick, count: 0, chosen: -1, first: 0 });
+    this.sheet = document.createElement('div'); this.sheet.className = 'sheet';
+    this.box.append(this.sheet);
+    this.box.tabIndex = 0; this.box.setAttribute('role', 'listbox');
+    this.box.onscroll = () => this.paint();
+    this.box.onclick = event => { const row = event.target.closest('[data-row]'); if (row) this.choose(Number(row.dataset.row), true); };
+    this.box.onkeydown = event => {
+      const step = { ArrowDown: 1, ArrowUp: -1 }[event.key];
+      if (step) { event.preventDefault(); this.choose(Math.max(0, Math.min(this.count - 1, this.chosen + step)), false); this.show(this.chosen); }
+      else if (event.key === 'Enter' && this.chosen >= 0) { event.preventDefault(); this.pick(this.chosen); }
+    };
+  }
+  get height() { return Math.min(MOST_HEIGHT, this.count * LINE); }
+  get visible() { return Math.ceil(this.box.clientHeight / LINE) + 1; }
+  // How many rows a pixel of scrolling is, where there are too many for one height.
+  get rate() { return (this.count * LINE - this.box.clientHeight) / Math.max(1, this.height - this.box.clientHeight); }
+  set(count) { this.count = count; this.sheet.style.height = this.height + 'px'; this.paint(); }
+  show(row) {
+    const h = this.box.clientHeight, at = row * LINE, top = this.box.scrollTop * this.rate;
+    if (at < top || at + LINE > top + h) this.box.scrollTop = Math.max(0, (at - h / 2) / Math.max(1, this.rate));
+    this.paint();
+  }
+  choose(row, go) { this.chosen = row; this.paint(); if (go && row >= 0) this.pick(row); }
+  paint() {
+    const first = Math.max(0, Math.min(this.count - 1, Math.floor(this.box.scrollTop * this.rate / LINE)));
+    const rows = [];
+    for (let i = first; i < Math.min(this.count, first + this.visible); i++) {
+      const row = document.createElement('div');
+      row.dataset.row = i; row.id = `${this.box.id}-${i}`; row.setAttribute('role', 'option');
+      row.setAttribute('aria-posinset', i + 1); row.setAttribute('aria-setsize', this.count);
+      row.setAttribute('aria-selected', i === this.chosen); row.className = i === this.chosen ? 'row now' : 'row';
+      this.draw(row, i); rows.push(row);
+    }
+    this.sheet.replaceChildren(...rows);
+    const base = this.box.scrollTop - (this.rate > 1 ? 0 : this.box.scrollTop - first * LINE);
+    for (const [i, row] of rows.entries()) row.style.top = base + i * LINE + 'px';
+    if (this.chosen >= 0) this.box.setAttribute('aria-activedescendant', `${this.box.id}-${this.chosen}`);
+  }
+}
+const cell = (row, text, name) => { const s = document.createElement('span'); s.textContent = text; if (name) s.className = name; row.append(s); };
+// A row of the calls: its number, the call, its answer, and its name.
+function drawCall(row, i) {
+  const run = S.run, p = run.shown ? run.refusals[i] - 1 : i, [op, a, b] = run.call(p), r = run.row(p);
+  cell(row, whole(p + 1), 'n'); cell(row, said(op, a, b), 'c');
+  cell(row, answered(run, p) + (r[7] ? `: ${REASONS[r[7]]}` : ''), r[0] === ANSWER.refused ? 'bad' : '');
+  const name = run.names.get(p) || (op === 2 || op === 3 || op === 8 || op === 9 ? run.nameOf(a) : '');
+  if (name) cell(row, name, 'dim');
+  if (p >= S.p) row.classList.add('later');
+}
+// The live ranges, sorted.
+const SORTS = { grant: (a, b) => a.k - b.k, offset: (a, b) => a.o - b.o, units: (a, b) => b.n - a.n || a.o - b.o,
+  since: (a, b) => S.run.born.list[a.k] - S.run.born.list[b.k],
+  name: (a, b) => S.run.nameOf(a.k).localeCompare(S.run.nameOf(b.k)) || a.k - b.k };
+let sorted = 'offset', ranges = [];
+function drawRange(row, i) {
+  const b = ranges[i];
+  cell(row, b.k, 'n'); cell(row, whole(b.o), 'u'); cell(row, whole(b.n), 'u'); cell(row, whole(S.run.born.list[b.k]), 'n');
+  cell(row, S.run.nameOf(b.k), 'dim');
+}
+function showRanges(v) {
+  ranges = v.blocks.filter(b => b.k).sort(SORTS[sorted]);
+  for (const b of document.querySelectorAll('#sorts button')) b.setAttribute('aria-pressed', b.dataset.by === sorted);
+  L.ranges.chosen = ranges.findIndex(b => b.k === S.grant);
+  L.ranges.set(ranges.length);
+  const run = S.run, end = [...run.live.values()], sum = end.reduce((s, l) => s + run.ln.list[l], 0);
+  $('rangesum').textContent = `Live now: ${counted(ranges.length, 'range')}, ${units(run.usedAt(S.p))}. ` +
+    `Still live at the end: ${counted(end.length, 'range')}, ${units(sum)}.`;
+  showSizes();
+}
+// How many live ranges are of which sizes: a bar for each power of two.
+function showSizes() {
+  const count = new Map();
+  for (const b of ranges) { const e = b.n ? 31 - Math.clz32(b.n) : -1, c = count.get(e) || [0, 0]; count.set(e, [c[0] + 1, c[1] + b.n]); }
+  const most = Math.max(1, ...[...count.values()].map(c => c[0]));
+  $('sizes').replaceChildren(...[...count].sort((a, b) => a[0] - b[0]).map(([e, [n, sum]]) => {
+    const row = document.createElement('div'); row.className = 'size';
+    cell(row, e < 0 ? '0' : e ? `${short(2 ** e)} to ${short(2 ** (e + 1) - 1)}` : '1', 'u');
+    const bar = document.createElement('span'); bar.className = 'bar2'; bar.style.setProperty('--part', n / most); row.append(bar);
+    cell(row, `${counted(n, 'range')}, ${short(sum)} units`);
+    return row;
+  }));
+}
+// The bins that have free blocks.
+function showBins(v, searched, taken) {
+  const list = [];
+  v.bins.forEach((n, c) => { if (n) list.push([c, n]); });
+  const sum = new Map();
+  for (const b of v.blocks) if (!b.k) { const c = classOf(b.n); sum.set(c, (sum.get(c) || 0) + b.n); }
+  $('binrows').replaceChildren(...list.map(([c, n]) => {
+    const row = document.createElement('tr');
+    row.id = `bin-${c}`; if (c === taken) row.className = 'now';
+    for (const text of [c, sizesOf(c), whole(n), whole(sum.get(c) || 0)]) row.insertCell().textContent = text;
+    return row;
+  }));
+  $('binsum').textContent = `${counted(v.blocks.length - v.blocks.filter(b => b.k).length, 'free block')} in ${counted(list.length, 'bin')}.` +
+    (searched < 256 ? ` Searched from bin ${searched}, ${sizesOf(searched)} units` + (taken < 256 ? `; took bin ${taken}.` : '.') : '');
+}

@@ -1,0 +1,82 @@
+// Why a call was refused, and what would have helped: each help is tried on a copy of the space as it was before the call.
+const LARGEST = 4294967295;
+const whole = n => n.toLocaleString('en');
+const counted = (n, one, more = one + 's') => `${whole(n)} ${n === 1 ? one : more}`;
+const units = n => counted(n, 'unit');
+const sizesOf = c => valueOf(c + 1) - 1 > valueOf(c) ? `${whole(valueOf(c))} to ${whole(Math.min(LARGEST, valueOf(c + 1) - 1))}` : whole(valueOf(c));
+const isRefusal = (run, p) => p > 0 && run.row(p - 1)[0] === ANSWER.refused;
+// A refused call, p the row after it: what it asked for, why it was refused, and what would have helped.
+function explain(run, p) {
+  const [op, a, b] = run.call(p - 1), before = run.view(p - 1), size = run.sizeAt(p - 1);
+  const said0 = { title: `Row ${whole(p)}: ${said(op, a, b)} is refused`, facts: [], helps: [] };
+  if (op <= 1) asked(said0, run, p, a, op ? b : 1, before, size);
+  else if (op === 7) extended(said0, run, p, a, before, size);
+  else resized(said0, run, p, op, a, b, before, size);
+  if (!said0.helps.length) said0.helps.push('nothing that was tried: a space that began larger, or other calls before');
+  return said0;
+}
+// Whether the last of these calls succeeds there. A module of much memory is not copied.
+const granted = (run, p, calls) => { if (run.m.size() > 1 << 28) return false; const r = run.tried(p - 1, calls); return [ANSWER.grant, ANSWER.resized, ANSWER.extended].includes(r.at(-1)[0]); };
+const largestFree = blocks => blocks.reduce((s, x) => x.k ? s : Math.max(s, x.n), 0);
+function asked(out, run, p, n, align, before, size) {
+  const need = n + align - 1, call = run.call(p - 1), limit = run.head[1], [, , , , free, largest, count, why] = run.row(p - 1);
+  const big = largestFree(before.blocks), all = before.blocks.reduce((s, x) => s + (x.k ? 0 : x.n), 0);
+  if (need > LARGEST) { out.facts.push(`${units(n)} at a multiple of ${whole(align)} need a block of ${whole(need)}: more than any space has`); return; }
+  const c = roundedUp(need), value = valueOf(c);
+  out.facts.push(REASONS[why]);
+  out.facts.push(`asked: ${units(n)}${align > 1 ? ` at a multiple of ${whole(align)}, so a block for ${whole(need)}` : ''}; rounded up to class ${c}: ` +
+    (c < BINS ? units(value) : 'more than any block has'));
+  out.facts.push(`largest free block: ${units(big)}; free in all: ${units(all)}; largest request granted now: ${units(largest)}`);
+  out.facts.push(`blocks: ${whole(count)} of at most ${whole(limit - 1)}`);
+  if (granted(run, p, [[10], call])) out.helps.push('compact: after it the request is granted');
+  const last = before.blocks.at(-1), more = value - (last && !last.k ? last.n : 0);
+  if (c < BINS && more > 0 && size + more <= LARGEST && granted(run, p, [[7, more], call]))
+    out.helps.push(`${units(more)} more space (extend ${more}): then it is granted`);
+  else if (c < BINS && value > all && size + value - all <= LARGEST && granted(run, p, [[10], [7, value - all], call]))
+    out.helps.push(`compact, and ${units(value - all)} more space (extend ${value - all}): then it is granted`);
+  if (why === 1 && big >= value) out.helps.push(`more nodes: a limit of ${whole(count + (align > 1 ? 3 : 2))} (it is ${whole(limit)}), where the calls before stay the same`);
+  if (why === 1 && big < value) out.helps.push('more nodes alone would not do: no free block is large enough');
+  if (align > 1 && why !== 1 && granted(run, p, [[0, n]])) out.helps.push('no alignment: alloc of the same units is granted. A unit as large as the alignment needs none');
+  if (largest > 0 && largest < n) out.helps.push(`a smaller request: at most ${units(largest)}`);
+}
+function extended(out, run, p, more, before, size) {
+  if (size + more > LARGEST) {
+    out.facts.push(`the space would have ${whole(size + more)} units, more than ${whole(LARGEST)}`);
+    if (size < LARGEST) out.helps.push(`at most ${units(LARGEST - size)} more`);
+    return;
+  }
+  const count = run.row(p - 1)[6], limit = run.head[1], last = before.blocks.at(-1);
+  out.facts.push(`its last block is used${last ? ` (${named(run, last.k)})` : ''}, and no further block may exist: ${whole(count)} of at most ${whole(limit - 1)}`);
+  out.helps.push(`more nodes: a limit of ${whole(limit + 1)}`);
+  if (granted(run, p, [[10], run.call(p - 1)])) out.helps.push('compact: after it the space can be extended');
+}
+function resized(out, run, p, op, k, n, before, size) {
+  const i = before.blocks.findIndex(x => x.k === k), block = before.blocks[i], next = before.blocks[i + 1];
+  if (!block) return;
+  const lack = n - block.n, room = next && !next.k ? next.n : 0;
+  out.facts.push(`${named(run, k)} has ${units(block.n)}, at ${whole(block.o)}`);
+  if (op === 8) {
+    if (n > block.n) { out.facts.push(`${whole(n)} is more: shrink makes no range larger`); out.helps.push(`grow ${k} ${n}`); return; }
+    out.facts.push(`no further block may exist for the units after it, and no free block is directly after it`);
+    out.helps.push(`more nodes: a limit of ${whole(run.head[1] + 1)}`);
+    return;
+  }
+  if (lack < 0) { out.facts.push(`${whole(n)} is fewer: grow makes no range smaller`); out.helps.push(`shrink ${k} ${n}`); return; }
+  if (!next) out.facts.push('it ends where the space ends');
+  else if (next.k) out.facts.push(`directly after it is ${named(run, next.k)}, with ${units(next.n)}`);
+  else out.facts.push(`directly after it ${units(next.n)} ${next.n === 1 ? 'is' : 'are'} free, and it lacks ${whole(lack)}`);
+  const isLast = !next || (!next.k && i + 2 === before.blocks.length);
+  if (isLast && granted(run, p, [[7, lack - room], run.call(p - 1)])) out.helps.push(`${units(lack - room)} more space (extend ${lack - room}): then it grows`);
+  if (granted(run, p, [[10], run.call(p - 1)])) out.helps.push('compact: after it the range can grow');
+  if (granted(run, p, [[0, n]])) out.helps.push(`another range: alloc ${n} is granted; copy, then free ${k}`);
+}
+// A grant as the page names it.
+const named = (run, k) => `grant ${k}${run.nameOf(k) ? ` “${run.nameOf(k)}”` : ''}`;
+// A call whose grant is not live: since when.
+function whyGone(run, p) {
+  const k = run.call(p - 1)[1];
+  if (k === 0 || k >= run.born.length || run.born.list[k] > p) return `no grant has the number ${whole(k)} there`;
+  for (let l = run.lk.length - 1; l >= 0; l--)
+    if (run.lk.list[l] === k && run.lt.list[l] < p) return `${named(run, k)} ended in row ${whole(run.lt.list[l])}: ${answered(run, run.lt.list[l] - 1)}`;
+  return '';
+}

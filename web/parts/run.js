@@ -1,0 +1,126 @@
+// A run: the calls of a text, played. It keeps eight numbers for each call, the life of each range, and copies of the
+// module's memory, from which a position is reached again.
+const EVERY = 2048, MARKS = 64, MOST_MARKED = 1 << 28;
+const ANSWER = { grant: 1, refused: 2, freed: 3, resized: 4, compacted: 5, gone: 6, reset: 7, extended: 8, full: 9, size: 10 };
+const REASONS = ['', 'too few nodes are left', 'the request is too large for the space', 'too few units are free',
+  'no free block is large enough until the space is compacted'];
+class Run {
+  constructor(head, calls, names, lines) {
+    Object.assign(this, { head, names, lines, count: 0, at: 0, held: null, m: new Module(), marks: [], kept: 0, edits: [] });
+    this.calls = new Growing(Uint32Array, 0);
+    this.calls.list = calls; this.calls.length = calls.length;
+    this.rows = new Growing(Uint32Array, 8 * calls.length / 3 + 8);
+    this.used = new Growing(Uint32Array, calls.length / 3 + 1);
+    // lives, one number each: grant, offset, units, first and last row, row of the grant
+    for (const c of ['lk', 'lo', 'ln', 'lf', 'lt', 'lb']) this[c] = new Growing(Uint32Array, 1024);
+    this.born = new Growing(Uint32Array, 1024); this.born.push(0);
+    this.live = new Map(); this.refusals = []; this.sizes = [[0, head[0]]]; this.top = 1; this.inUse = 0;
+    this.every = Math.ceil(Math.max(EVERY, calls.length / 3 / MARKS) / 512) * 512;
+  }
+  get all() { return this.calls.length / 3; }
+  // Plays all calls from the start.
+  async survey(work) {
+    this.m.start(this.head);
+    while (this.count < this.all) {
+      this.step(Math.min(512, this.all - this.count));
+      await work.turn(this.count, this.all);
+    }
+    return this;
+  }
+  // Plays the next calls.
+  step(n) {
+    const m = this.m, i = this.count;
+    if (i % this.every === 0 && !this.marks[i / this.every] && m.size() * MARKS <= MOST_MARKED * 4) this.marks[i / this.every] = m.saved();
+    const rows = m.play(this.calls.list.subarray(3 * i, 3 * Math.min(i + n, Math.ceil((i + 1) / this.every) * this.every)));
+    for (let r = 0; r < rows.length; r += 8) this.track(rows.subarray(r, r + 8));
+    this.at = this.count; this.held = null;
+  }
+  track(r) {
+    const i = this.count++, now = this.count, k = r[1], [op, a] = this.calls.list.subarray(3 * i, 3 * i + 2);
+    if (r[0] === ANSWER.grant) { while (this.born.length <= k) this.born.push(now); this.open(k, r[2], r[3], now, now); }
+    else if (r[0] === ANSWER.refused) this.refusals.push(now);
+    else if (r[0] === ANSWER.freed) this.close(k, now);
+    else if (r[0] === ANSWER.resized) { const born = this.born.list[k]; this.close(k, now); this.open(k, r[2], r[3], now, born); }
+    else if (r[0] === ANSWER.compacted) {
+      for (const b of this.m.view().blocks) if (b.k && this.lo.list[this.live.get(b.k)] !== b.o) {
+        this.close(b.k, now); this.open(b.k, b.o, b.n, now, this.born.list[b.k]); }
+    } else if (r[0] === ANSWER.reset) for (const k of [...this.live.keys()]) this.close(k, now);
+    else if (r[0] === ANSWER.extended && op === 7) this.sizes.push([now, this.sizes.at(-1)[1] + a]);
+    this.rows.push(...r); this.used.push(this.inUse);
+  }
+  open(k, o, n, from, born) {
+    this.live.set(k, this.lk.length);
+    this.lk.push(k); this.lo.push(o); this.ln.push(n); this.lf.push(from); this.lt.push(0xffffffff); this.lb.push(born);
+    this.inUse += n; this.top = Math.max(this.top, o + n);
+  }
+  close(k, now) {
+    const l = this.live.get(k);
+    if (l !== undefined) { this.lt.list[l] = now; this.inUse -= this.ln.list[l]; this.live.delete(k); }
+  }
+  call(i) { return this.calls.list.subarray(3 * i, 3 * i + 3); }
+  row(i) { return this.rows.list.subarray(8 * i, 8 * i + 8); }
+  // The units of the space after so many calls.
+  sizeAt(p) { let s = this.head[0]; for (const [at, size] of this.sizes) if (at <= p) s = size; return s; }
+  usedAt(p) { return p ? this.used.list[p - 1] : 0; }
+  nameOf(k) { return this.names.get(this.born.list[k] - 1) || ''; }
+  // Makes the module's space the one after so many calls.
+  seek(p) {
+    if (p < this.at) {
+      let mark = Math.floor(p / this.every);
+      while (mark > 0 && !this.marks[mark]) mark--;
+      if (this.marks[mark]) { this.m.restore(this.marks[mark]); this.at = mark * this.every; }
+      else { this.m.start(this.head); this.at = 0; }
+    }
+    while (this.at < p) this.at += this.m.play(this.calls.list.subarray(3 * this.at, 3 * Math.min(p, this.at + 4096))).length / 8;
+  }
+  // The blocks and bins after so many calls.
+  view(p) {
+    if (!this.held || this.held.p !== p) { this.seek(p); this.held = { p, ...this.m.view() }; }
+    return this.held;
+  }
+  // The rows of calls made after so many, in place of the next; all is as it was afterwards.
+  tried(p, calls) {
+    this.seek(p);
+    const saved = this.m.saved(), rows = [];
+    try {
+      for (const c of calls) rows.push(this.m.play(Uint32Array.from([c[0], c[1] || 0, c[2] || 0])).slice(0, 8));
+    } finally { this.m.restore(saved); }
+    return rows;
+  }
+  // This run, left after so many calls, and others from there on.
+  branch(kept, edits) {
+    const b = new Run(this.head, this.calls.list.slice(0, 3 * kept), new Map([...this.names].filter(([i]) => i < kept)), this.lines);
+    Object.assign(b, { kept, edits, count: kept, every: this.every, base: this.base || this });
+    b.rows = this.rows.copy(8 * kept); b.used = this.used.copy(kept); b.inUse = this.usedAt(kept);
+    b.refusals = this.refusals.filter(p => p <= kept); b.sizes = this.sizes.filter(([p]) => p <= kept);
+    b.marks = this.marks.filter((_, i) => i * this.every <= kept);
+    for (let l = 0; l < this.lk.length; l++) if (this.lf.list[l] <= kept) {
+      const to = this.lt.list[l] > kept ? 0xffffffff : this.lt.list[l];
+      if (to === 0xffffffff) b.live.set(this.lk.list[l], b.lk.length);
+      b.lk.push(this.lk.list[l]); b.lo.push(this.lo.list[l]); b.ln.push(this.ln.list[l]); b.lf.push(this.lf.list[l]);
+      b.lt.push(to); b.lb.push(this.lb.list[l]); b.top = Math.max(b.top, this.lo.list[l] + this.ln.list[l]);
+    }
+    b.born = new Growing(Uint32Array, 1024);
+    for (let k = 0; k < this.born.length && this.born.list[k] <= kept; k++) b.born.push(this.born.list[k]);
+    b.m.start(b.head); b.at = 0; b.seek(kept);
+    for (const e of edits) { b.calls.push(...e); b.step(1); }
+    return b;
+  }
+  // The answers of all calls, as the program writes them.
+  async answers(work) {
+    const m = new Module(), parts = [];
+    m.start(this.head);
+    for (let i = 0; i < this.count;) {
+      const [n, text] = m.play(this.calls.list.subarray(3 * i, 3 * Math.min(this.count, i + 256)), true);
+      parts.push(text); i += n;
+      await work.turn(i, this.count);
+    }
+    return new Blob(parts);
+  }
+}
+// The answer to a call, in one line.
+function answered(run, i) {
+  const r = run.row(i), op = run.call(i)[0];
+  return ['', `grant ${r[1]} at ${r[2]}`, 'none', 'freed', op === 9 ? 'grown' : 'shrunk', 'compacted', 'gone', 'reset', 'extended',
+    `full ${r[3]}`, `size ${r[3]}`, `free ${r[4]} largest ${r[5]}`][r[0]];
+}

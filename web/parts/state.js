@@ -1,0 +1,168 @@
+// What the page shows: a run, a position in it, and what was added to it. The original is kept until another is read.
+const S = { run: null, base: null, name: '', title: '', bytes: null, p: 0, past: [], ahead: [], grant: 0, zoom: null };
+const L = {}, OWN = 'Your script';
+// The message at the lower edge, always in sight: of a fault, or of what was done.
+function say(text, isFault = false, actions = []) {
+  $('say').hidden = !text; $('say').className = isFault ? 'bad' : '';
+  $(isFault ? 'fault' : 'told').textContent = text; $(isFault ? 'told' : 'fault').textContent = '';
+  $('sayacts').replaceChildren(...actions.map(([name, f]) => {
+    const b = document.createElement('button'); b.textContent = name; b.onclick = f; return b; }));
+}
+// Does long work, and says how it failed. Returns what it made, or null: then nothing has changed.
+async function during(what, f, bytes = null, file = '') {
+  const work = new Work(what);
+  try { return await f(work); } catch (fault) {
+    if (fault instanceof Stopped) say(`${what}: stopped. Nothing has changed.`);
+    else if (fault instanceof Fault && fault.line && bytes) showFault(fault, bytes, file);
+    else say(fault instanceof WebAssembly.RuntimeError || fault instanceof RangeError ? 'out of memory' : fault.message, true);
+    return null;
+  } finally { work.end(); }
+}
+function showFault(fault, bytes, file) {
+  const { text, canMend } = explained(fault, bytes), actions = [];
+  if (canMend) actions.push(['Read it without them', () => take(mended(bytes), file)]);
+  say((file ? file + ', ' : '') + text, true, actions);
+  if (bytes.length > 1 << 21) return;
+  const box = $('text'), value = new TextDecoder().decode(bytes);
+  if (!canMend || !box.value) box.value = value;
+  S.shown = false;
+  let at = 0;
+  for (let line = 1; line < fault.line && at >= 0; line++) at = box.value.indexOf('\n', at) + 1;
+  const end = box.value.indexOf('\n', at);
+  box.focus(); box.setSelectionRange(at, end < 0 ? box.value.length : end);
+  box.scrollTop = (fault.line - 4) * 19;
+}
+// Reads a text and plays it.
+async function load(bytes, name, title) {
+  const run = await during('Reading', async work => {
+    const t = await readText(bytes, work);
+    work.what = 'Playing';
+    return new Run(t.head, t.calls, t.names, t.lines).survey(work);
+  }, bytes, name === 'own' && title !== OWN ? title : '');
+  if (!run) { if (S.run) $('trace').value = S.name; return false; }
+  Object.assign(S, { run, base: run, name, title, bytes, past: [], ahead: [], grant: 0, zoom: null });
+  say('');
+  dropOther();
+  named0();
+  return true;
+}
+// Names of the run, where they are shown.
+function named0() {
+  const own = [...$('trace').options].find(o => o.value === 'own');
+  own.textContent = S.name === 'own' ? S.title : OWN;
+  for (const o of $('trace').options) o.textContent = o.textContent.replace(/ \(yours, from row .*\)$/, '');
+  $('trace').value = S.name;
+  const b = S.run !== S.base;
+  $('branch').hidden = !b;
+  if (b) {
+    const left = S.base.count - S.run.kept, o = $('trace').selectedOptions[0];
+    o.textContent += ` (yours, from row ${whole(S.run.kept)})`;
+    $('branched').textContent = `Yours, from row ${whole(S.run.kept)}: ${counted(S.run.edits.length, 'call')} of yours` +
+      (left ? `, in place of ${counted(left, 'later row')} of ${S.title}` : '') + '.';
+  }
+  $('undo').disabled = !S.past.length; $('redo').disabled = !S.ahead.length;
+  if (S.shown) showText();
+  $('row').max = $('at').max = S.run.count;
+  $('callhead').textContent = `${whole(S.run.count)} calls and their answers`;
+  L.calls.chosen = -1;
+}
+async function showText() {
+  const run = S.run;
+  let text = run === S.base && S.bytes.length < 1 << 22 ? new TextDecoder().decode(S.bytes) : null;
+  if (text === null) text = await during('Writing', work => writeText(run, work));
+  if (text !== null) { $('text').value = text; S.shown = true; $('textname').textContent = S.run === S.base ? S.title : `${S.title}, yours from row ${whole(S.run.kept)}`; }
+}
+async function take(bytes, title) {
+  stop();
+  if (await load(bytes, 'own', title || OWN)) { go(0); return true; }
+  return false;
+}
+function go(p) { S.p = Math.max(0, Math.min(S.run.count, Math.trunc(p) || 0)); draw(); }
+// A call of the user's: the run is left at the position, and the call is added. The original stays.
+const TAKES = { alloc: 'n', align: 'na', free: 'k', shrink: 'kn', grow: 'kn', compact: '', extend: 'n', reset: '' };
+const FIELDS = { n: 'Units', a: 'Alignment', k: 'Grant' };
+function act(name) {
+  const values = [];
+  for (const id of TAKES[name]) {
+    const v = $(id).value.trim() === '' ? NaN : Number($(id).value), isWrong = !Number.isInteger(v) || v < 0 || v > LARGEST;
+    if (isWrong || (id === 'a' && (!v || 2 ** Math.round(Math.log2(v)) !== v))) {
+      say(`${name}: ${FIELDS[id]} ${isWrong ? `has to be a number from 0 to ${whole(LARGEST)}` : 'has to be a power of two'}`, true);
+      $(id).focus(); return; }
+    values.push(v);
+  }
+  stop(); say('');
+  const { run, base, p } = S, kept = run === base ? p : Math.min(p, run.kept);
+  edit(kept, [...run.edits.slice(0, p - kept), [NAMES.indexOf(name), values[0] || 0, values[1] || 0]]);
+}
+function edit(kept, edits) {
+  S.past.push({ kept: S.run.kept, edits: S.run.edits, p: S.p, isBase: S.run === S.base }); S.ahead = [];
+  set({ kept, edits, p: kept + edits.length });
+}
+function set({ kept, edits, p, isBase }) {
+  try { S.run = isBase ? S.base : S.base.branch(kept, edits); } catch (fault) {
+    say(fault instanceof Fault ? fault.message : 'out of memory', true); return; }
+  named0(); dropOther(); go(p);
+}
+function undo(from, to) {
+  if (!from.length) return;
+  to.push({ kept: S.run.kept, edits: S.run.edits, p: S.p, isBase: S.run === S.base });
+  set(from.pop());
+}
+function original() { if (S.run !== S.base) { const p = Math.min(S.p, S.run.kept); S.past.push({ kept: S.run.kept, edits: S.run.edits, p: S.p }); set({ isBase: true, p }); } }
+// The next refusal after the position, or the one before it.
+function refusal(step) {
+  const list = S.run.refusals, p = step > 0 ? list.find(r => r > S.p) : list.findLast(r => r < S.p);
+  if (p) { stop(); go(p); } else say(list.length ? `No refusal ${step > 0 ? 'after' : 'before'} row ${whole(S.p)}.` : 'No call is refused.');
+}
+// Files for the user.
+function save(blob, name) {
+  const a = document.createElement('a');
+  a.href = URL.createObjectURL(blob); a.download = name; a.click();
+  setTimeout(() => URL.revokeObjectURL(a.href), 1000);
+  S.saved = blob;
+  say(`Saved: ${name}, ${counted(blob.size, 'byte')}.`);
+}
+// The state in the fragment: the text (deflated, or its name), the calls that were added and from where, the position.
+const b64 = a => { let s = ''; for (let i = 0; i < a.length; i += 32768) s += String.fromCharCode(...a.subarray(i, i + 32768));
+  return btoa(s).replace(/\+/g, '-').replace(/\//g, '_').replace(/=/g, ''); };
+const un64 = s => Uint8Array.from(atob(s.replace(/-/g, '+').replace(/_/g, '/')), c => c.charCodeAt(0));
+const through = async (bytes, stream) => new Uint8Array(await new Response(new Blob([bytes]).stream().pipeThrough(stream)).arrayBuffer());
+const inflated = s => through(un64(s), new DecompressionStream('deflate-raw'));
+async function link() {
+  const q = new URLSearchParams({ p: S.p });
+  if (S.name === 'own') q.set('s', b64(await through(S.bytes, new CompressionStream('deflate-raw')))); else q.set('t', S.name);
+  if (S.run !== S.base) { q.set('kept', S.run.kept); q.set('c', S.run.edits.flat().join('.')); }
+  if (S.other) q.set('x', S.other.as.join('.'));
+  history.replaceState(null, '', '#' + q);
+  const size = counted(location.href.length, 'character'), long = location.href.length > 30000 ? ' Some programs cut such a link: then send the file.' : '';
+  try { await navigator.clipboard.writeText(location.href); say(`The link to this state is copied: ${size}.${long}`); }
+  catch { say(`The link to this state is in the address bar: ${size}.${long}`); }
+}
+const numbersOf = text => text.split('.').map(x => { if (!/^\d{1,10}$/.test(x) || Number(x) > LARGEST) throw Error(); return Number(x); });
+const oneOf = text => { const n = numbersOf(text); if (n.length !== 1) throw Error(); return n[0]; };
+async function restore() {
+  stop();
+  const q = new URLSearchParams(location.hash.slice(1)), t = q.get('t');
+  let isFaulty = t !== null && !Object.hasOwn(TRACES, t), p = null;
+  try {
+    if (q.has('s')) { if (!await load(await inflated(q.get('s')), 'own', OWN)) throw null; }
+    else if (t !== null && !isFaulty) await load(await inflated(TRACES[t]), t, titleOf(t));
+    else await load(await inflated(TRACES[FIRST]), FIRST, titleOf(FIRST));
+    if (q.has('p')) p = oneOf(q.get('p'));
+    if (q.get('c')) {
+      const kept = oneOf(q.get('kept') || ''), c = numbersOf(q.get('c')), edits = [];
+      for (let i = 0; i < c.length; i += 3) {
+        if (i + 2 >= c.length || c[i] > 10 || (c[i] === 1 && (!c[i + 2] || 2 ** Math.round(Math.log2(c[i + 2])) !== c[i + 2]))) throw Error();
+        edits.push(c.slice(i, i + 3)); }
+      if (kept > S.base.count) throw Error();
+      S.run = S.base.branch(kept, edits); named0();
+    }
+    if (q.has('x')) await compare(numbersOf(q.get('x')));
+  } catch (fault) {
+    if (fault) isFaulty = true;
+    if (!S.run) { const told = $('fault').textContent; await load(await inflated(TRACES[FIRST]), FIRST, titleOf(FIRST)); say(told, true); }
+  }
+  if (isFaulty) say('The link is faulty: what it names is not there. This is the nearest state.', true);
+  go(p === null ? Math.min(4000, S.run.count) : p);
+}
+const titleOf = name => name === 'every' ? 'every command' : name.replace('-', ' ');
