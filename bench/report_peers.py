@@ -122,6 +122,24 @@ def short_table(rows, found):
         yield f"| {NAMES[side]} | {lowest:.2f} | {most_of(rows, side)} | {' to '.join(bounds)} |"
 
 
+def meets(points, left, right, b):
+    """Whether a line comes near a label of one line that is between two places, at the height b."""
+    for (x1, y1), (x2, y2) in zip(points, points[1:]):
+        steps = max(1, round(abs(x2 - x1) + abs(y2 - y1)))
+        for i in range(steps + 1):
+            if left - 12 < x1 + (x2 - x1) * i / steps < right + 12 and abs(y1 + (y2 - y1) * i / steps - b) < 12:
+                return True
+    return False
+
+
+def is_before(side, end, lines):
+    """Whether the name of a line that ends sooner than others is before its end: there, unless another line comes near."""
+    a, b = end
+    wide = 7 * len(NAMES[side])
+    near = lambda left: any(meets(points, left, left + wide, b) for other, points in lines.items() if other != side)
+    return not near(a - 10 - wide) or near(a + 10)
+
+
 def plot(growth):
     """A line for each side: nanoseconds a step over live ranges."""
     left, top, width, height = 76, 44, 520, 400
@@ -143,9 +161,9 @@ def plot(growth):
         yield f'<line x1="{x(live):.1f}" y1="{top}" x2="{x(live):.1f}" y2="{top + height}" stroke="#e5e5e5"/>'
         yield text(x(live), top + height + 18, f"{live:,}", "middle", 11)
     yield text(left + width / 2, top + height + 38, "live ranges", "middle", 12)
-    ends = {}
+    ends, lines = {}, {}
     for side in SIDES:
-        points = [(x(live), y(row[4][side][0])) for live, row in zip(lives, growth) if side in row[4]]
+        points = lines[side] = [(x(live), y(row[4][side][0])) for live, row in zip(lives, growth) if side in row[4]]
         drawn = " ".join(f"{a:.1f},{b:.1f}" for a, b in points)
         yield f'<polyline points="{drawn}" fill="none" stroke="{COLOURS[side]}" stroke-width="2"/>'
         for a, b in points:
@@ -153,9 +171,8 @@ def plot(growth):
         ends.setdefault(points[-1][0], []).append((side, points[-1][1]))
     for a, here in ends.items():
         for (side, _), b in zip(here, spread([b for _, b in here], 16)):
-            # where a line ends sooner than others, its name is on the side from which no other line comes; the outline
-            # parts the text from what crosses it
-            before = a < left + width
+            # the outline parts the text from what crosses it
+            before = a < left + width and is_before(side, (a, b), lines)
             paint = f'fill="{COLOURS[side]}" stroke="white" stroke-width="4" paint-order="stroke"'
             yield text(a - 10 if before else a + 10, b + 4, NAMES[side], "end" if before else "start").replace("<text", f"<text {paint}")
 
