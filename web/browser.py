@@ -67,7 +67,7 @@ class Browser:
         """A picture of what is seen, or of the whole page, as PNG."""
         found = self.command("Page.captureScreenshot", format="png", captureBeyondViewport=whole, **(
             {"clip": {"x": 0, "y": 0, **dict(zip(("width", "height"), self.run(
-                "return [document.documentElement.clientWidth, document.documentElement.scrollHeight]"))), "scale": 1}} if whole else {}))
+                "return [innerWidth, document.documentElement.scrollHeight]"))), "scale": 1}} if whole else {}))
         return base64.b64decode(found["data"])
 
     def element(self, selector):

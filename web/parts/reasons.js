@@ -59,6 +59,7 @@ function resized(out, run, p, op, k, n, before, size) {
     if (n > block.n) { out.facts.push(`${whole(n)} is more: shrink makes no range larger`); out.helps.push(`grow ${k} ${n}`); return; }
     out.facts.push(`no further block may exist for the units after it, and no free block is directly after it`);
     out.helps.push(`more nodes: a limit of ${whole(run.head[1] + 1)}`);
+    if (granted(run, p, [[10], run.call(p - 1)])) out.helps.push('compact: after it the range can shrink');
     return;
   }
   if (lack < 0) { out.facts.push(`${whole(n)} is fewer: grow makes no range smaller`); out.helps.push(`shrink ${k} ${n}`); return; }

@@ -1,0 +1,115 @@
+"""What is listed: answers, live ranges, their sizes, bins; and the ways to a row. All are compared with the answers of the
+program, and with a plain list of live ranges that is made of them here."""
+
+from .base import TRACES, holds, play, program, row, same, to, until
+
+
+def live_at(text, p):
+    """The live ranges after so many calls: grant, offset, units, row."""
+    lines = [line for line in text.splitlines() if line and line[0] != "#"][1:]
+    answers = program(text)[0].splitlines()
+    live, at = {}, 0
+    for i, line in enumerate(lines[:p]):
+        answer = answers[at].split()
+        at += 1 + (int(answer[1]) if answer[0] == "full" else 0)
+        name, *numbers = line.split()
+        if answer[0] == "grant":
+            live[int(answer[1])] = (int(answer[1]), int(answer[3]), int(numbers[0]), i + 1)
+        elif answer[0] == "freed":
+            del live[int(numbers[0])]
+        elif answer[0] == "reset":
+            live.clear()
+    return list(live.values())
+
+
+def answers_are_the_program_s(b):
+    b.open()
+    same(b.run("return [...$('trace').options].map(o => o.value)"), [*TRACES, "own"], "the choice of runs")
+    for name, path in TRACES.items():
+        b.run("$('trace').value = arguments[0]; return $('trace').onchange()", name)
+        found = b.run("S.saved = null; return $('answers').onclick().then(() => S.saved.text())")
+        same(found, program(path.read_text())[0], f"answers of {name}")
+        times = b.run("const t = []; for (let i = 0; i <= 100; i++) { go(Math.floor(S.run.count * i / 100)); t.push(frameTime); } return t.sort((a, b) => a - b)")
+        print(f"frames of {name}: median {times[50]:.1f} ms, largest {times[-1]:.1f} ms")
+        holds(times[50] < 60, "half the frames take less than 60 ms", times)
+
+
+ROWS = "return [...document.querySelectorAll(arguments[0] + ' .row')].map(r => [...r.children].map(c => c.textContent))"
+
+
+def ranges_are_listed(b):
+    text = TRACES["voxel-game"].read_text()
+    b.open("#t=voxel-game&p=9000")
+    model = live_at(text, 9000)
+    whole = lambda *numbers: [f"{n:,}" for n in numbers]
+    shown = lambda r: [str(r[0]), *whole(*r[1:])]
+    told = b.run("return $('rangesum').textContent")
+    same(told, f"Live now: {len(model):,} ranges, {sum(r[2] for r in model):,} units. Still live at the end: 0 ranges, 0 units.", "how many are live")
+    for name, key in (("offset", lambda r: r[1]), ("grant", lambda r: r[0]), ("units", lambda r: (-r[2], r[1])), ("since", lambda r: r[3])):
+        b.click(f"#sorts [data-by={name}]")
+        b.run("$('ranges').scrollTop = 0")
+        found = [r[:4] for r in b.run(ROWS, "#ranges")]
+        same(found[:8], [shown(r) for r in sorted(model, key=key)[:8]], f"ranges by {name}")
+    b.run("$('ranges').scrollTop = 1e9")
+    b.run("return new Promise(r => requestAnimationFrame(() => requestAnimationFrame(r)))")
+    same([r[:4] for r in b.run(ROWS, "#ranges")][-1], shown(sorted(model, key=lambda r: r[3])[-1]), "down to the last")
+    bars = {}
+    for r in model:
+        e = r[2].bit_length() - 1
+        bars[e] = bars.get(e, 0) + 1
+    found = b.run("return [...document.querySelectorAll('.size')].map(r => r.lastChild.textContent.split(' ranges')[0])")
+    same(found, [f"{bars[e]:,}" for e in sorted(bars)], "how many ranges are of which sizes")
+    b.click("#sorts [data-by=units]")
+    b.run("$('ranges').scrollTop = 0")
+    b.click("#ranges .row")
+    same(row(b), sorted(model, key=lambda r: (-r[2], r[1]))[0][3], "a click goes to the row of the grant")
+
+
+def bins_are_listed(b):
+    text = TRACES["arena-game"].read_text()
+    lines = [line for line in text.splitlines() if line and line[0] != "#"]
+    for p in (100, 5000):
+        b.open(f"#t=arena-game&p={p}")
+        full = [r.split() for r in program("\n".join([*lines[:p + 1], "full"]) + "\n")[0].split("full ")[-1].splitlines()[1:]]
+        found = b.run("return [...$('binrows').rows].map(r => [...r.cells].map(c => c.textContent))")
+        same([[r[0], r[1].split(" to ")[0].replace(",", ""), r[2]] for r in found], [[r[1], r[3], r[5]] for r in full], f"bins, sizes and counts after row {p}")
+        size = int(lines[0].split()[1])
+        free = size - sum(r[2] for r in live_at(text, p))
+        same(sum(int(r[3].replace(",", "")) for r in found), free, "the units of all bins are the free units")
+    c = int(full[0][1])
+    b.point("#bins", (c % 64 + 3.5) / 67, (c // 64 + 0.5) / 4)
+    told = b.run("return $('bin').textContent")
+    holds(told.startswith(f"Bin {c}: blocks of ") and f"; {full[0][5]} free block" in told, "the bin under the pointer", told)
+
+
+def ways_to_a_row(b):
+    b.open("#t=voxel-game&p=9000")
+    b.run("$('row').value = '4321'; $('row').onchange()")
+    same(row(b), 4321, "a number")
+    b.run("$('row').value = '14774'; $('row').onchange()")
+    same([row(b), b.run("return $('fault').textContent")], [4321, "Row: a number from 0 to 14,773"], "a number that is too large")
+    b.point("#life", 0.5, 0.5, press=True)
+    width = b.run("return $('life').clientWidth")
+    expected = (0.5 * width - 54) / (width - 54) * 14774 - 1
+    holds(abs(row(b) - expected) < 30, "a click in the lives", (row(b), expected))
+    at = row(b)
+    b.run("document.querySelectorAll('#calls .row')[1].click()")
+    moved = row(b)
+    holds(moved != at and abs(moved - at) < 12, "a click in the answers", (at, moved))
+    b.focus("#calls")
+    b.keys("Down", "Down", "Enter")
+    same(row(b), moved + 2, "keys in the answers")
+    play(b, FEW)
+    to(b, 3)
+    b.point("#space", 0.79, 0.1, press=True)
+    same(b.run("return $('block').textContent"), "Grant 2 “texture: rock_albedo” at 100: 90 units, class 35 (88 to 95), live since row 2.",
+         "the block under the pointer: name, size, class, since when")
+    same(b.run("return [$('k').value, $('goto').textContent]"), ["2", "Go to row 2"], "a click chooses it")
+    b.click("#goto")
+    same(row(b), 2, "and its row is reached")
+    same(b.run(ROWS, "#calls")[1], ["2", "alloc 90", "grant 2 at 100", "texture: rock_albedo"], "a call and its name")
+
+
+FEW = "space 1000 nodes 32 index 32\nalloc 100\n# texture: rock_albedo\nalloc 90\nreport\nfree 2\n"
+
+ALL = [answers_are_the_program_s, ranges_are_listed, bins_are_listed, ways_to_a_row]

@@ -1,0 +1,160 @@
+"""Refusals: that all are found, and that what would have helped does help. Each help is played by the program for
+recordings, with the call before the refused one or another header, and one less of it must not do."""
+
+import random
+import re
+
+from .base import TRACES, built, holds, play, program, recorded, row, same, to, until
+
+FRAGMENTED = "space 1000 nodes 32 index 32\n" + "alloc 100\n" * 9 + "free 1\nfree 3\nfree 5\nfree 7\nalloc 300\nalloc 2000\nreport\nalign 100 256\n"
+MANY = "space 4000000 nodes 100 index 32\n" + "alloc 10\n" * 98 + "alloc 11\n" + "report\n" * 500 + "alloc 12\n"
+
+
+def outcome(head, lines):
+    """What the last of these calls becomes, and whether the calls before have the answers they are to have."""
+    answers = recorded("\n".join([head, *lines]) + "\n")[0].splitlines()
+    return answers[-1].split()[0], answers[:-1]
+
+
+def is_done(head, lines):
+    return outcome(head, lines)[0] not in ("none", "gone")
+
+
+def tried(head, before, call, helps, what):
+    """Plays what helps, and what does not."""
+    said = " | ".join(helps)
+    name, *numbers = call.split()
+    space, nodes = (int(head.split()[i]) for i in (1, 3))
+    for n in re.findall(r"^(?:at most )?([\d,]+) units? more space \(extend \d+\)|\| ([\d,]+) units? more space", said):
+        n = int("".join(n).replace(",", ""))
+        assert is_done(head, [*before, f"extend {n}", call]), (what, n)
+        assert n == 1 or not is_done(head, [*before, f"extend {n - 1}", call]), (what, n - 1)
+    for n in re.findall(r"compact, and ([\d,]+) units?", said):
+        n = int(n.replace(",", ""))
+        assert is_done(head, [*before, "compact", f"extend {n}", call]), (what, n)
+        assert n == 1 or not is_done(head, [*before, "compact", f"extend {n - 1}", call]), (what, n - 1)
+    assert ("compact: after it" in said) == is_done(head, [*before, "compact", call]), (what, "compact")
+    for n in re.findall(r"more nodes: a limit of ([\d,]+)", said):
+        n = int(n.replace(",", ""))
+        more = head.replace(f"nodes {nodes} ", f"nodes {n} ")
+        if outcome(more, [*before, call])[1] == outcome(head, [*before, call])[1]:
+            assert is_done(more, [*before, call]), (what, n)
+            assert not is_done(head.replace(f"nodes {nodes} ", f"nodes {n - 1} "), [*before, call]), (what, n - 1)
+    for n in re.findall(r"a smaller request: at most ([\d,]+)", said):
+        n = int(n.replace(",", ""))
+        assert is_done(head, [*before, f"alloc {n}"]) and not is_done(head, [*before, f"alloc {n + 1}"]), (what, n)
+    for n in re.findall(r"another range: alloc (\d+) is granted", said):
+        assert is_done(head, [*before, f"alloc {n}"]), (what, n)
+    if "no alignment" in said:
+        assert is_done(head, [*before, f"alloc {numbers[0]}"]), what
+    if name == "extend":
+        for n in re.findall(r"^at most ([\d,]+) units? more", said):
+            n = int(n.replace(",", ""))
+            assert is_done(head, [*before, f"extend {n}"]) and not is_done(head, [*before, f"extend {n + 1}"]), what
+    assert space >= 0
+
+
+def explanations(b, text):
+    """For each refusal of a text its row, its facts and its helps."""
+    b.run("return take(new TextEncoder().encode(arguments[0]))", text)
+    return b.run("const out = []; for (const p of S.run.refusals) { go(p); const texts = id => [...$(id).children].map(e => e.textContent); "
+                 "out.push([p, $('whytitle').textContent, texts('facts'), texts('helps')]); } return out")
+
+
+def are_found(b):
+    b.open()
+    play(b, FRAGMENTED)
+    answers = program(FRAGMENTED)[0].splitlines()
+    rows = [i + 1 for i, answer in enumerate(answers) if answer == "none"]
+    same(b.run("return $('refusals').textContent"), f"{len(rows)} refusals", "how many")
+    found = []
+    b.run("document.activeElement.blur()")
+    for _ in rows:
+        b.keys("r")
+        found.append(row(b))
+    same(found, rows, "r goes to the next refusal")
+    b.keys("r")
+    told = b.run("return $('told').textContent")
+    same((row(b), told), (rows[-1], f"No refusal after row {rows[-1]}."), "after the last there is none")
+    b.keys("R")
+    same(row(b), rows[-2], "R goes to the one before")
+    to(b, 0)
+    b.click("#rnext")
+    same(row(b), rows[0], "so does a button")
+    same(b.run("return $('whytitle').textContent"), "Row 14: alloc 300 is refused", "the refusal")
+    same(b.run("return [...$('facts').children].map(e => e.textContent)"),
+         ["no free block is large enough until the space is compacted", "asked: 300 units; rounded up to class 50: 320 units",
+          "largest free block: 100 units; free in all: 500 units; largest request granted now: 96 units", "blocks: 10 of at most 31"],
+         "size, class, largest free block, and why")
+    same(b.run("return [...$('helps').children].map(e => e.textContent)"),
+         ["compact: after it the request is granted", "220 units more space (extend 220): then it is granted",
+          "a smaller request: at most 96 units"], "what would have helped")
+
+
+def are_marked(b):
+    b.open()
+    b.run("return take(new TextEncoder().encode(arguments[0]))", MANY)
+    to(b, 0)
+    same(b.run("return S.run.refusals"), [99, 600], "two refusals")
+    marks = """const c = $(arguments[0]), left = arguments[1], g = c.getContext('2d'), d = devicePixelRatio, found = [];
+      const w = c.width - left * d, a = g.getImageData(left * d, Math.round(2 * d), w, 1).data;
+      for (let x = 0; x < w; x++) if (a[4 * x] > 150 && a[4 * x + 1] < 120 && a[4 * x + 2] < 120 && a[4 * x + 3] > 100) found.push(x / w);
+      return found"""
+    for canvas, left in (("marks", 0), ("life", 54)):
+        found = b.run(marks, canvas, left)
+        near = [any(abs(x - p / 601) < 0.02 for x in found) for p in (99, 600)]
+        holds(all(near) and all(min(abs(x - p / 601) for p in (0, 99, 600)) < 0.02 for x in found), f"refusals are marked on {canvas}", found)
+    b.run("save(new Blob([pictured(S.run)]), 'picture.svg')")
+    titles = b.run("return S.saved.text().then(t => [...new DOMParser().parseFromString(t, 'image/svg+xml').querySelectorAll('title')].map(e => e.textContent))")
+    same(titles, ["row 99: alloc 11: too few nodes are left", "row 600: alloc 12: too few nodes are left"], "ticks of the saved picture have the reason as title")
+
+
+def random_text(seed):
+    r = random.Random(seed)
+    size, nodes = r.choice((1000, 5000, 100000)), r.choice((6, 12, 40))
+    lines, grants = [f"space {size} nodes {nodes} index 32"], 0
+    for _ in range(60):
+        kind = r.random()
+        if kind < 0.5:
+            lines.append(f"alloc {r.randrange(1, size // r.choice((2, 5, 12)))}")
+        elif kind < 0.62:
+            lines.append(f"align {r.randrange(1, size // 8)} {2 ** r.randrange(0, 9)}")
+        elif kind < 0.78:
+            lines.append(f"free {r.randrange(1, 30)}")
+        elif kind < 0.86:
+            lines.append(f"grow {r.randrange(1, 30)} {r.randrange(1, size // 4)}")
+        elif kind < 0.92:
+            lines.append(f"shrink {r.randrange(1, 30)} {r.randrange(1, size // 8)}")
+        elif kind < 0.95:
+            lines.append(r.choice(("compact", f"extend {r.choice((100, 4294967295))}")))
+        else:
+            lines.append("report")
+    return lines
+
+
+def helps_help(b):
+    b.open()
+    built("play-recording")
+    count, kinds = 0, set()
+    for seed in range(24):
+        lines = random_text(seed)
+        for p, title, facts, helps in explanations(b, "\n".join(lines) + "\n"):
+            call = lines[p]
+            assert title == f"Row {p}: {call} is refused", title
+            assert facts and helps, (seed, p)
+            tried(lines[0], lines[1:p], call, helps, f"seed {seed}, row {p}, {call}: {facts} {helps}")
+            count += 1
+            kinds |= {(call.split()[0], facts[0].split(" (")[0] if call[:2] == "al" else "") }
+    holds(count > 300 and {name for name, _ in kinds} >= {"alloc", "align", "grow", "shrink", "extend"}, f"what helps does help, at {count} refusals", kinds)
+
+
+def gone_is_told(b):
+    b.open()
+    play(b, "space 100 nodes 16 index 32\n# texture: rock\nalloc 10\nfree 1\nfree 1\nfree 7\n")
+    to(b, 3)
+    same(b.run("return [$('whytitle').textContent, $('facts').textContent]"), ["Row 3: free 1: gone", "grant 1 “texture: rock” ended in row 2: freed"], "a second free")
+    to(b, 4)
+    same(b.run("return $('facts').textContent"), "no grant has the number 7 there", "a number of no grant")
+
+
+ALL = [are_found, are_marked, helps_help, gone_is_told]
