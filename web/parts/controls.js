@@ -36,7 +36,7 @@ $('undo').onclick = () => undo(S.past, S.ahead); $('redo').onclick = () => undo(
 const fileName = end => S.title.replace(/\.[a-z]+$/, '').replace(/[^\w.-]+/g, '-') + end;
 $('export').onclick = async () => { const text = await during('Writing', w => writeText(S.run, w)); if (text !== null) save(new Blob([text]), fileName('.script')); };
 $('answers').onclick = async () => { const b = await during('Writing', w => S.run.answers(w)); if (b) save(b, fileName('.answers')); };
-$('picture').onclick = () => save(new Blob([pictured(S.run)], { type: 'image/svg+xml' }), fileName('.svg'));
+$('picture').onclick = () => save(new Blob([pictured(S.run, 1000, 560)], { type: 'image/svg+xml' }), fileName('.svg'));
 $('load').onclick = () => take(new TextEncoder().encode($('text').value));
 $('show').onclick = showText;
 $('text').oninput = () => { S.shown = false; $('textname').textContent = 'not played yet'; };
@@ -98,20 +98,4 @@ let resizing = 0;
 addEventListener('resize', () => { cancelAnimationFrame(resizing); resizing = requestAnimationFrame(() => S.run && draw()); });
 matchMedia('(prefers-color-scheme: dark)').addEventListener('change', () => { C = null; if (S.run) draw(); });
 addEventListener('hashchange', restore);
-// The lives as a picture of their own, with a title on each refusal.
-function pictured(run) {
-  const w = 1000, h = 420, n = run.count + 1, c = colors(), escape = t => t.replace(/[&<>]/g, s => ({ '&': '&amp;', '<': '&lt;', '>': '&gt;' })[s]);
-  const x = p => (60 + p / n * (w - 70)).toFixed(1), y = o => (30 + (1 - o / run.top) * (h - 60)).toFixed(1), parts = c.ages.map(() => []);
-  for (let l = 0; l < run.lk.length; l++) {
-    const from = run.lf.list[l], to = Math.min(run.lt.list[l], n), o = run.lo.list[l], end = o + run.ln.list[l];
-    parts[ageOf(to - from)].push(`M${x(from)} ${y(end)}H${x(to)}V${y(o)}H${x(from)}z`); }
-  const ticks = run.refusals.map(p => `<path stroke='${c.mark}' stroke-width='2' d='M${x(p)} 30v12'><title>${escape(`row ${p}: ${said(...run.call(p - 1))}: ` +
-    (REASONS[run.row(p - 1)[7]] || 'refused'))}</title></path>`);
-  const label = (at, text, px, anchor) => `<text x='${px}' y='${at}' text-anchor='${anchor}'>${text}</text>`;
-  return `<svg xmlns='http://www.w3.org/2000/svg' viewBox='0 0 ${w} ${h}' font-family='sans-serif' font-size='13' fill='${c.fg}'>` +
-    `<rect width='${w}' height='${h}' fill='${c.bg}'/>` + label(18, `${escape(S.title)}: ${counted(run.count, 'call')}, ${counted(run.refusals.length, 'refusal')}`, 60, 'start') +
-    parts.map((p, i) => p.length ? `<path fill='${c.ages[i]}' d='${p.join('')}'/>` : '').join('') + ticks.join('') +
-    [1, 0.5, 0].map(f => label(Number(y(run.top * f)) + 4, short(Math.round(run.top * f)), 54, 'end')).join('') +
-    label(h - 12, 'row 0', 60, 'start') + label(h - 12, whole(run.count), w - 10, 'end') + '</svg>\n';
-}
 restore();

@@ -1,0 +1,116 @@
+// What a recording has: recorded FOLDER. It also writes random recordings there, FOLDER/N.script, and what their calls gave,
+// FOLDER/N.answers, for play-recording.
+#include "offsetAllocatorRecorded.hpp"
+
+#include <cstdint>
+#include <cstdio>
+#include <cstdlib>
+#include <string>
+#include <vector>
+
+using namespace OffsetAllocator;
+
+static void check(bool holds, const char *what) {
+    if (!holds) {
+        std::fprintf(stderr, "does not hold: %s\n", what);
+        std::exit(1);
+    }
+}
+
+static std::string read(const std::string &path) {
+    std::string text;
+    std::FILE *file = std::fopen(path.c_str(), "rb");
+    check(file != nullptr, path.c_str());
+    for (int c; (c = std::fgetc(file)) != EOF;) text.push_back(char(c));
+    std::fclose(file);
+    return text;
+}
+
+static void byHand(const std::string &path) {
+    std::FILE *file = std::fopen(path.c_str(), "w");
+    {
+        Recorded<GuardedAllocator> heap(file, 1000u, 32u);
+        heap.name("texture: rock\nalbedo");
+        Ticket rock = heap.allocate(100);
+        Ticket other = heap.allocateAligned(50, 64);
+        check(heap->offsetOf(other) == 128, "the second range is aligned");
+        check(heap.shrink(rock, 40) && heap.growInPlace(rock, 60), "resized");
+        check(!heap.allocate(5000), "refused");
+        check(heap.free(rock) && !heap.free(rock), "freed once");
+        // each line is there before the file is closed
+        check(read(path) == "space 1000 nodes 32 index 32\n# texture: rock albedo\nalloc 100\nalign 50 64\nshrink 1 40\ngrow 1 60\nalloc 5000\nfree 1\nfree 0\n", "the lines");
+        check(!heap.allocateAligned(10, 3), "no power of two");
+        Recorded<GuardedAllocator> moved(std::move(heap));
+        check(heap.isFailed() && !heap.allocate(1), "what was moved from is empty, and writes nothing");
+        int moves = 0;
+        moved.compact([&](Move) { moves++; });
+        check(moves == 1 && moved->offsetOf(other) == 0 && moved.extend(24), "compacted");
+        moved.reset();
+        check(!moved.isFailed() && moved->size() == 1024, "reset");
+    }
+    std::fclose(file);
+    check(read(path) == "space 1000 nodes 32 index 32\n# texture: rock albedo\nalloc 100\nalign 50 64\nshrink 1 40\ngrow 1 60\nalloc 5000\nfree 1\nfree 0\ncompact\nextend 24\nreset\n", "all lines");
+    // no file, and a file that cannot be written
+    Recorded<Allocator> none(nullptr, 100u, 8u);
+    check(none.isFailed() && none.allocate(10).offset == 0, "without a file calls go on");
+    std::FILE *full = std::fopen("/dev/full", "w");
+    if (full) {
+        Recorded<Allocator> lost(full, 100u, 8u);
+        check(lost.isFailed() && lost.allocate(10).offset == 0, "on a full disk calls go on");
+        std::fclose(full);
+    }
+}
+
+static uint32_t below(uint64_t &state, uint32_t n) {
+    state = state * 6364136223846793005u + 1442695040888963407u;
+    return uint32_t((state >> 33) % n);
+}
+
+template <class A, class H> static void randomCalls(uint64_t seed, const std::string &path) {
+    uint64_t state = seed;
+    std::FILE *file = std::fopen((path + ".script").c_str(), "w"), *answers = std::fopen((path + ".answers").c_str(), "w");
+    uint32_t grants = 0;
+    std::vector<H> live;
+    {
+        Recorded<A> heap(file, 100 + below(state, 5000), 4 + below(state, 60));
+        for (int i = 0; i < 500; i++) {
+            uint32_t kind = below(state, 16);
+            if (kind < 8 || live.empty()) {
+                H found = kind < 2 ? heap.allocateAligned(below(state, 200), 1u << below(state, 7)) : heap.allocate(below(state, 300));
+                if (detail::isGranted(found)) {
+                    live.push_back(found);
+                    std::fprintf(answers, "grant %u at ", ++grants);
+                    for (Block block : heap->blocks())
+                        if (block.used && block.allocation.metadata == detail::nameOf(found)) std::fprintf(answers, "%u\n", block.offset);
+                } else std::fputs("none\n", answers);
+            } else if (kind == 15) {
+                heap.compact([](Move) {});
+                std::fputs("compacted\n", answers);
+            } else if (kind == 14) {
+                std::fputs(heap.extend(below(state, 20)) ? "extended\n" : "none\n", answers);
+            } else {
+                size_t at = below(state, uint32_t(live.size()));
+                if (kind < 12) {
+                    std::fputs(heap.free(live[at]) ? "freed\n" : "gone\n", answers);
+                    live.erase(live.begin() + long(at));
+                } else if (kind == 12) {
+                    std::fputs(heap.shrink(live[at], 0) ? "shrunk\n" : "none\n", answers);
+                } else {
+                    std::fputs(heap.growInPlace(live[at], 300 + below(state, 100)) ? "grown\n" : "none\n", answers);
+                }
+            }
+        }
+        check(!heap.isFailed(), "a recording to its end");
+    }
+    std::fclose(file);
+    std::fclose(answers);
+}
+
+int main(int, char **arguments) {
+    std::string folder = arguments[1];
+    byHand(folder + "/hand.script");
+    for (unsigned i = 0; i < 20; i++) {
+        if (i % 2) randomCalls<Allocator, Allocation>(i + 1, folder + "/" + std::to_string(i));
+        else randomCalls<GuardedAllocator, Ticket>(i + 1, folder + "/" + std::to_string(i));
+    }
+}

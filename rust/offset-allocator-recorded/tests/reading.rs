@@ -1,0 +1,106 @@
+//! That recordings without the three commands more are read and played as the proved program does with scripts.
+
+use offset_allocator_recorded::{play, Global, RunFault};
+use offset_script::{run, FromRead, IntoWrite};
+
+fn ours(text: &[u8]) -> Result<Vec<u8>, RunFault> {
+    let mut out = Vec::new();
+    play(text, &mut out).map(|()| out)
+}
+
+fn theirs(text: &[u8]) -> Result<Vec<u8>, RunFault> {
+    let mut out = IntoWrite::new(Vec::new());
+    run(Global, &mut FromRead::new(text), &mut out).map(|()| out.into_inner())
+}
+
+fn below(state: &mut u64, n: usize) -> usize {
+    *state = state.wrapping_mul(6_364_136_223_846_793_005).wrapping_add(1_442_695_040_888_963_407);
+    ((*state >> 33) % n as u64) as usize
+}
+
+#[test]
+fn stored_scripts() {
+    let folder = concat!(env!("CARGO_MANIFEST_DIR"), "/../../bench/traces");
+    let mut count = 0;
+    // a packaged crate has no traces beside it
+    for path in std::fs::read_dir(folder).into_iter().flatten().map(|entry| entry.unwrap().path()) {
+        if path.extension().is_some_and(|end| end == "script") {
+            let text = std::fs::read(&path).unwrap();
+            assert_eq!(ours(&text), theirs(&text), "{path:?}");
+            count += 1;
+        }
+    }
+    assert!(count == 8 || !std::path::Path::new(folder).exists());
+}
+
+#[test]
+fn random_texts() {
+    let heads = ["space 1000 nodes 32 index 32", "space 0 nodes 2 index 16", "space 9 nodes 1 index 16", "space 9 nodes 65534 index 16",
+        "space 9 nodes 65533 index 16", "space 4294967296 nodes 8 index 32", "space 9 nodes 8 index 8", "space 9  nodes 8 index 32", " space"];
+    let lines = ["alloc 10", "alloc 300", "alloc 0", "alloc", "alloc 1 2", "alloc x", "alloc -1", "alloc 00000000001", "alloc 4294967295",
+        "alloc 4294967296", "align 10 8", "align 10 3", "align 10 0", "align 10", "free 1", "free 2", "free 0", "size 1", "size 9", "report",
+        "report 1", "full", "reset", "extend 7", "extend 4294967295", "", "# a remark", "#", " alloc 1", "alloc 1 ", "alloc\t1", "alloc 1\r",
+        "Alloc 1", "shrin 1 2"];
+    let mut state = 1;
+    let (mut good, mut bad) = (0, 0);
+    for _ in 0..20_000 {
+        let mut text = String::new();
+        if below(&mut state, 4) == 0 {
+            text.push_str("# a remark\n\n");
+        }
+        text.push_str(heads[if below(&mut state, 3) > 0 { 0 } else { below(&mut state, heads.len()) }]);
+        for _ in 0..below(&mut state, 30) {
+            let faulty = below(&mut state, 40) == 0;
+            let line = loop {
+                let line = lines[below(&mut state, lines.len())];
+                if faulty || offset_allocator_recorded::call(line.as_bytes()).is_some() || line.is_empty() || line.starts_with('#') {
+                    break line;
+                }
+            };
+            text.push('\n');
+            text.push_str(line);
+        }
+        if below(&mut state, 2) == 0 {
+            text.push('\n');
+        }
+        let found = ours(text.as_bytes());
+        match &found {
+            Ok(_) => good += 1,
+            Err(_) => bad += 1,
+        }
+        // the program answers nothing where a later line is faulty; a recording has its answers up to there
+        assert_eq!(found, theirs(text.as_bytes()), "{text}");
+    }
+    assert!(good > 5000 && bad > 3000, "{good} {bad}");
+}
+
+#[test]
+fn no_header() {
+    for text in ["", "\n", "#", "# x\n", "\n\n", "\n#", "# x\n\n#"] {
+        assert_eq!(ours(text.as_bytes()), theirs(text.as_bytes()), "{text:?}");
+        assert!(ours(text.as_bytes()).is_err());
+    }
+}
+
+#[test]
+fn longer_than_a_script() {
+    let mut text = b"space 1000000 nodes 400000 index 32\n".to_vec();
+    for _ in 0..200_000 {
+        text.extend_from_slice(b"alloc 1\n");
+    }
+    assert!(text.len() > 1 << 20);
+    assert_eq!(theirs(&text).unwrap_err().to_string(), "too long");
+    let found = ours(&text).unwrap();
+    assert!(found.ends_with(b"grant 200000 at 199999\n"));
+}
+
+#[test]
+fn the_commands_that_scripts_lack() {
+    let text = b"space 100 nodes 16 index 32\nalloc 10\nalloc 20\nshrink 1 5\nshrink 1 6\ngrow 1 10\ngrow 1 11\nfree 1\ncompact\ngrow 2 100\nshrink 9 1\ngrow 1 1\n";
+    let expected = "grant 1 at 0\ngrant 2 at 10\nshrunk\nnone\ngrown\nnone\nfreed\ncompacted\ngrown\ngone\ngone\n";
+    assert_eq!(String::from_utf8(ours(text).unwrap()).unwrap(), expected);
+    for line in ["shrink 1", "grow 1", "compact 1", "shrink 1 2 3", "grow x 1", "shrink 1 4294967296", "shrink  1 2"] {
+        let text = format!("space 100 nodes 16 index 32\n{line}\n");
+        assert_eq!(ours(text.as_bytes()).unwrap_err().to_string(), "line 2: bad command", "{line}");
+    }
+}

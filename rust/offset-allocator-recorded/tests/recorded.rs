@@ -1,0 +1,286 @@
+//! What a recording has: each call, before it is made, flushed; and that playing it gives what the calls gave.
+
+use offset_allocator_guarded::{Guarded, GuardedOf};
+use offset_allocator_proved::{Allocator, AllocatorOf, ByField, ByNode, Global, Tables};
+use offset_allocator_recorded::{play, Recorded};
+use std::cell::RefCell;
+use std::io::{self, Write};
+use std::panic::{catch_unwind, AssertUnwindSafe};
+use std::rc::Rc;
+
+#[derive(Default)]
+struct Disk {
+    bytes: Vec<u8>,
+    flushed: usize,
+    limit: Option<usize>,
+}
+
+/// A writer that others can look at: what was written, and up to where it was flushed; it fails from `limit` bytes on.
+#[derive(Clone, Default)]
+struct Seen(Rc<RefCell<Disk>>);
+
+impl Seen {
+    fn text(&self) -> String {
+        String::from_utf8(self.0.borrow().bytes.clone()).unwrap()
+    }
+
+    fn is_flushed(&self) -> bool {
+        let seen = self.0.borrow();
+        seen.flushed == seen.bytes.len()
+    }
+}
+
+impl Write for Seen {
+    fn write(&mut self, bytes: &[u8]) -> io::Result<usize> {
+        let mut seen = self.0.borrow_mut();
+        if seen.limit.is_some_and(|limit| seen.bytes.len() + bytes.len() > limit) {
+            return Err(io::Error::other("the disk is full"));
+        }
+        seen.bytes.extend_from_slice(bytes);
+        Ok(bytes.len())
+    }
+
+    fn flush(&mut self) -> io::Result<()> {
+        let mut seen = self.0.borrow_mut();
+        seen.flushed = seen.bytes.len();
+        Ok(())
+    }
+}
+
+fn answers(text: &str) -> Vec<String> {
+    let mut out = Vec::new();
+    play(text.as_bytes(), &mut out).unwrap();
+    String::from_utf8(out).unwrap().lines().map(str::to_owned).collect()
+}
+
+#[test]
+fn each_call_is_a_line() {
+    let seen = Seen::default();
+    let space = Allocator::<u16>::with_max_allocs(Global, 1000, 32).unwrap();
+    let mut heap = Recorded::new(space, seen.clone()).unwrap();
+    assert_eq!(seen.text(), "space 1000 nodes 32 index 16\n");
+    let rock = heap.name("texture: rock_albedo").allocate(100).unwrap();
+    let other = heap.allocate_aligned(50, 64).unwrap();
+    assert!(heap.shrink(rock, 40));
+    assert!(heap.grow_in_place(rock, 60));
+    assert!(heap.allocate(5000).is_none());
+    heap.free(rock);
+    assert!(heap.extend(24));
+    let mut moves = 0;
+    heap.compact(&mut |_| moves += 1);
+    assert_eq!((moves, heap.allocation_offset(other)), (1, Some(0)));
+    let again = heap.name("two\nlines\r").allocate(1).unwrap();
+    heap.free(again);
+    heap.reset();
+    // questions are the allocator's own, and are not written
+    assert_eq!(heap.storage_report().total_free_space, 1024);
+    assert!(heap.failure().is_none());
+    let (space, out) = heap.finish();
+    assert_eq!(space.size(), 1024);
+    assert!(out.is_ok());
+    let expected = "space 1000 nodes 32 index 16\n# texture: rock_albedo\nalloc 100\nalign 50 64\nshrink 1 40\ngrow 1 60\n\
+        alloc 5000\nfree 1\nextend 24\ncompact\n# two lines \nalloc 1\nfree 3\nreset\n";
+    assert_eq!(seen.text(), expected);
+    assert_eq!(answers(expected), ["grant 1 at 0", "grant 2 at 128", "shrunk", "grown", "none", "freed", "extended", "compacted",
+        "grant 3 at 50", "freed", "reset"]);
+}
+
+#[test]
+fn tickets_that_are_not_live_have_no_number() {
+    let seen = Seen::default();
+    let mut heap = Recorded::guarded(Guarded::<u32>::with_max_allocs(Global, 1000, 32, 7).unwrap(), seen.clone()).unwrap();
+    let first = heap.allocate(10).unwrap();
+    assert!(heap.free(first));
+    let second = heap.allocate(10).unwrap();
+    // the same name
+    assert_eq!(first.name, second.name);
+    assert!(!heap.free(first));
+    assert_eq!(heap.shrink(first, 1), None);
+    assert_eq!(heap.grow_in_place(first, 20), None);
+    assert_eq!(heap.grow_in_place(second, 20), Some(true));
+    assert!(heap.free(second));
+    let text = "space 1000 nodes 32 index 32\nalloc 10\nfree 1\nalloc 10\nfree 0\nshrink 0 1\ngrow 0 20\ngrow 2 20\nfree 2\n";
+    assert_eq!(seen.text(), text);
+    assert_eq!(answers(text), ["grant 1 at 0", "freed", "grant 2 at 0", "gone", "gone", "gone", "grown", "freed"]);
+}
+
+#[test]
+fn a_line_is_flushed_before_its_call() {
+    let seen = Seen::default();
+    let mut heap = Recorded::new(Allocator::<u32>::with_max_allocs(Global, 100, 8).unwrap(), seen.clone()).unwrap();
+    let range = heap.allocate(10).unwrap();
+    assert!(seen.is_flushed());
+    let written = seen.clone();
+    heap.compact(&mut |_| ());
+    heap.free(range);
+    let found = catch_unwind(AssertUnwindSafe(|| heap.free(range)));
+    // the call panics, and its line is there
+    assert!(found.is_err());
+    assert!(written.text().ends_with("alloc 10\ncompact\nfree 1\nfree 0\n"));
+    assert!(written.is_flushed());
+    // a call that could not be read again is not written
+    assert!(catch_unwind(AssertUnwindSafe(|| heap.allocate_aligned(10, 3))).is_err());
+    assert!(written.text().ends_with("free 0\n"));
+}
+
+#[test]
+fn a_full_disk_ends_the_recording_alone() {
+    let seen = Seen::default();
+    let mut heap = Recorded::new(Allocator::<u32>::with_max_allocs(Global, 100, 8).unwrap(), seen.clone()).unwrap();
+    seen.0.borrow_mut().limit = Some("space 100 nodes 8 index 32\nalloc 10\n".len());
+    let first = heap.allocate(10).unwrap();
+    assert!(heap.failure().is_none());
+    let second = heap.allocate(20).unwrap();
+    assert_eq!(heap.failure().unwrap().to_string(), "the disk is full");
+    // nothing more, even where there is room again: a recording has no gaps
+    seen.0.borrow_mut().limit = None;
+    heap.free(first);
+    assert_eq!((second.offset, heap.allocation_size(second)), (10, 20));
+    assert_eq!(seen.text(), "space 100 nodes 8 index 32\nalloc 10\n");
+    let (space, out) = heap.finish();
+    assert_eq!(space.block_count(), 3);
+    assert_eq!(out.err().unwrap().to_string(), "the disk is full");
+    // the first line
+    seen.0.borrow_mut().limit = Some(0);
+    assert!(Recorded::new(Allocator::<u32>::new(Global, 100).unwrap(), seen).is_err());
+}
+
+#[test]
+fn a_recording_begins_with_an_empty_space() {
+    let mut space = Allocator::<u32>::with_max_allocs(Global, 100, 8).unwrap();
+    let range = space.allocate(10).unwrap();
+    let seen = Seen::default();
+    assert_eq!(Recorded::new(space, seen.clone()).err().unwrap().kind(), io::ErrorKind::InvalidInput);
+    assert_eq!(seen.text(), "");
+    let mut space = Allocator::<u32>::with_max_allocs(Global, 100, 8).unwrap();
+    assert_eq!(space.allocate(10), Some(range));
+    assert!(space.extend(11));
+    space.free(range);
+    assert!(Recorded::new(space, seen.clone()).is_ok());
+    assert_eq!(seen.text(), "space 111 nodes 8 index 32\n");
+}
+
+struct Random(u64);
+
+impl Random {
+    fn below(&mut self, n: u32) -> u32 {
+        self.0 = self.0.wrapping_mul(6_364_136_223_846_793_005).wrapping_add(1_442_695_040_888_963_407);
+        ((self.0 >> 33) % u64::from(n)) as u32
+    }
+}
+
+// Random calls, and what each gave, as the answers of a recording have it.
+fn random_calls<T: Tables>(seed: u64) {
+    let mut random = Random(seed);
+    let seen = Seen::default();
+    let (size, nodes) = (random.below(5000) + 100, random.below(60) + 4);
+    let mut heap = Recorded::new(AllocatorOf::<T>::with_max_allocs(Global, size, nodes).unwrap(), seen.clone()).unwrap();
+    let (mut live, mut grants, mut expected) = (Vec::new(), 0, Vec::new());
+    for _ in 0..300 {
+        let granted = |found: Option<offset_allocator_proved::Allocation<T::Index>>, live: &mut Vec<_>, grants: &mut u32| match found {
+            None => "none".to_owned(),
+            Some(handle) => {
+                *grants += 1;
+                live.push(handle);
+                format!("grant {grants} at {}", handle.offset)
+            }
+        };
+        expected.push(match random.below(20) {
+            0..=7 => granted(heap.allocate(random.below(size / 8)), &mut live, &mut grants),
+            8..=9 => granted(heap.allocate_aligned(random.below(size / 8), 1 << random.below(8)), &mut live, &mut grants),
+            10..=14 if !live.is_empty() => {
+                heap.free(live.swap_remove(random.below(live.len() as u32) as usize));
+                "freed".to_owned()
+            }
+            15..=16 if !live.is_empty() => {
+                let handle = live[random.below(live.len() as u32) as usize];
+                if heap.shrink(handle, random.below(heap.allocation_size(handle) + 2)) { "shrunk" } else { "none" }.to_owned()
+            }
+            17 if !live.is_empty() => {
+                let handle = live[random.below(live.len() as u32) as usize];
+                let size = heap.allocation_size(handle) + random.below(50);
+                if heap.grow_in_place(handle, size) { "grown" } else { "none" }.to_owned()
+            }
+            18 => {
+                heap.compact(&mut |_| ());
+                "compacted".to_owned()
+            }
+            19 if random.below(8) == 0 => {
+                heap.reset();
+                live.clear();
+                "reset".to_owned()
+            }
+            _ => if heap.extend(random.below(20)) { "extended" } else { "none" }.to_owned(),
+        });
+    }
+    assert_eq!(answers(&seen.text()), expected, "seed {seed}");
+}
+
+#[test]
+fn playing_gives_what_the_calls_gave() {
+    for seed in 0..200 {
+        random_calls::<ByNode<u32>>(seed);
+        random_calls::<ByField<u16>>(seed);
+    }
+}
+
+// The same with tickets, some of them not live.
+fn random_tickets<T: Tables>(seed: u64) {
+    let mut random = Random(seed);
+    let seen = Seen::default();
+    let mut heap = Recorded::guarded(GuardedOf::<T>::with_max_allocs(Global, 3000, 40, 1).unwrap(), seen.clone()).unwrap();
+    let (mut tickets, mut expected) = (Vec::new(), Vec::new());
+    for _ in 0..300 {
+        let of = |random: &mut Random, tickets: &Vec<_>| tickets.get(random.below(tickets.len() as u32 + 1) as usize).copied();
+        let done = |found: Option<bool>, word: &str| match found {
+            None => "gone".to_owned(),
+            Some(false) => "none".to_owned(),
+            Some(true) => word.to_owned(),
+        };
+        expected.push(match (random.below(5), of(&mut random, &tickets)) {
+            (0..=1, _) | (_, None) => match heap.allocate(random.below(400)) {
+                None => "none".to_owned(),
+                Some(ticket) => {
+                    tickets.push(ticket);
+                    format!("grant {} at {}", tickets.len(), ticket.offset)
+                }
+            },
+            (2, Some(ticket)) => if heap.free(ticket) { "freed" } else { "gone" }.to_owned(),
+            (3, Some(ticket)) => done(heap.shrink(ticket, random.below(300)), "shrunk"),
+            (_, Some(ticket)) => done(heap.grow_in_place(ticket, random.below(600)), "grown"),
+        });
+    }
+    assert_eq!(answers(&seen.text()), expected, "seed {seed}");
+}
+
+#[test]
+fn playing_gives_what_the_tickets_gave() {
+    for seed in 0..200 {
+        random_tickets::<ByNode<u16>>(seed);
+        random_tickets::<ByField<u32>>(seed);
+    }
+}
+
+// Writes a recording and is aborted, where the other test starts it so.
+#[test]
+fn aborted() {
+    let Ok(path) = std::env::var("RECORD_AND_ABORT") else { return };
+    let file = std::fs::File::create(path).unwrap();
+    let mut heap = Recorded::new(Allocator::<u32>::new(Global, 1 << 20).unwrap(), file).unwrap();
+    for size in 1..1000 {
+        heap.name("a name").allocate(size);
+    }
+    std::process::abort();
+}
+
+#[test]
+fn a_crash_keeps_what_was_done() {
+    let path = std::env::temp_dir().join(format!("recorded-{}.script", std::process::id()));
+    let mut child = std::process::Command::new(std::env::current_exe().unwrap());
+    let status = child.args(["--exact", "aborted"]).env("RECORD_AND_ABORT", &path).output().unwrap().status;
+    assert!(!status.success());
+    let text = std::fs::read_to_string(&path).unwrap();
+    std::fs::remove_file(&path).unwrap();
+    assert_eq!(text.lines().count(), 1 + 2 * 999);
+    assert!(text.ends_with("\n# a name\nalloc 999\n"));
+}

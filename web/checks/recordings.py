@@ -1,0 +1,110 @@
+"""Recordings: of any length, with names and the commands that scripts lack; and a task of a programmer, from a program of
+his own to a link that shows its first refusal."""
+
+import random
+import subprocess
+
+from .base import RUST, give, holds, program, recorded, row, same, until
+
+
+def saved_answers(b):
+    b.run("S.saved = null")
+    b.click("#answers")
+    until(b, "S.saved", "the answers", 60)
+    return b.run("return S.saved.text()")
+
+
+def long_ones(b):
+    r = random.Random(1)
+    lines, grants = ["space 50000000 nodes 200000 index 32"], 0
+    for i in range(120000):
+        kind = r.random()
+        if kind < 0.55:
+            if kind < 0.05:
+                lines.append(f"# mesh: number {i}")
+            lines.append(f"alloc {r.randrange(1, 2000)}")
+            grants += 1
+        elif kind < 0.93:
+            lines.append(f"free {r.randrange(1, grants + 2)}")
+        elif kind < 0.96:
+            lines.append(f"shrink {r.randrange(1, grants + 2)} {r.randrange(1, 900)}")
+        elif kind < 0.9999:
+            lines.append(f"grow {r.randrange(1, grants + 2)} {r.randrange(1, 2500)}")
+        else:
+            lines.append("compact")
+    text = "\n".join(lines) + "\n"
+    text += "report\n" * 20000
+    holds(len(text) > 1 << 20, "a recording of more than 1 MiB", len(text))
+    b.open()
+    give(b, text, "long.script")
+    count = sum(line[0] != "#" for line in text.splitlines()) - 1
+    same(b.run("return [S.run.count, $('fault').textContent]"), [count, ""], "is read")
+    same(saved_answers(b), recorded(text)[0], "and played as the program for recordings does")
+    for p in (count, 1000, count // 2):
+        b.run("go(arguments[0])", p)
+    same(row(b), count // 2, "each of its rows is reached")
+    # the blocks at a row, after going back and on: those of a fresh run up to there
+    fresh = "const r = new Run(S.run.head, S.run.calls.list.slice(0, 3 * S.p), new Map(), S.run.lines); return r.survey(new Work('x')).then(() => JSON.stringify(r.view(S.p).blocks) === JSON.stringify(S.run.view(S.p).blocks))"
+    same(b.run(fresh), True, "with the blocks of a run that ends there")
+
+
+def names_and_commands(b):
+    text = "# a heap\nspace 1000 nodes 32 index 16\n# texture: rock_albedo\nalloc 100\nalloc 50\n\n# not of this one\nfree 2\nshrink 1 60\ngrow 1 90\ngrow 1 2000\ncompact\nreset\n"
+    b.open()
+    give(b, text, "names.script")
+    same(saved_answers(b), recorded(text)[0], "the answers")
+    b.run("refusal(1)")
+    same([row(b), b.run("return $('whytitle').textContent")], [6, "Row 6: grow 1 2000 is refused"], "a refused growth")
+    same(b.run("return $('facts').children[0].textContent"), "grant 1 “texture: rock_albedo” has 90 units, at 0", "the name of a range")
+    b.run("$('ranges').scrollTop = 0")
+    same(b.run("return document.querySelector('#ranges .row').lastChild.textContent"), "texture: rock_albedo", "in the list too")
+    b.click("#show")
+    same(b.run("return $('text').value"), text, "its text")
+    b.run("go(2)")
+    b.click("#act-compact")
+    b.run("S.saved = null")
+    b.click("#export")
+    until(b, "S.saved", "the edited text")
+    same(b.run("return S.saved.text()"), "space 1000 nodes 32 index 16\n# texture: rock_albedo\nalloc 100\nalloc 50\ncompact\n", "an edited recording is exported with its names")
+    give(b, "space 9 nodes 8 index 32\ngrow 1\n", "bad.script")
+    same(b.run("return $('fault').textContent"), "bad.script, line 2: bad command: “grow 1”", "a faulty recording")
+
+
+def five_minutes(b):
+    """A program is recorded, its first refusal found and explained, and a link shows that state to another."""
+    text = subprocess.run(["cargo", "run", "--quiet", "--release", "--offline", "-j1", "-p", "offset-allocator-recorded", "--example", "record"],
+                          cwd=RUST, check=True, capture_output=True, text=True).stdout
+    same(program(text)[1], "", "the recording is a script too")
+    b.open()
+    give(b, text, "heap.script")
+    b.run("document.activeElement.blur()")
+    b.keys("r")
+    last = sum(line[0] != "#" for line in text.splitlines()) - 1
+    same(row(b), last, "the first refusal is the last call")
+    same(b.run("return [$('facts').children[0].textContent, $('helps').children[0].textContent]"),
+         ["no free block is large enough until the space is compacted", "compact: after it the request is granted"], "why, and what would have helped")
+    told = b.run("return $('now').textContent")
+    b.keys("l")
+    until(b, "$('told').textContent.startsWith('The link to this state is')", "the link")
+    fragment = b.run("return location.hash")
+    b.open(fragment)
+    same([row(b), b.run("return $('now').textContent"), b.run("return $('why').hidden")], [last, told, False], "the link shows that state")
+    holds("“texture: level " in told, "with its name", told)
+
+
+def links_keep_edits(b):
+    b.open("#t=voxel-game&p=9")
+    for name, k, n in (("alloc", 1, 1000), ("align", 1, 100), ("shrink", 2, 40), ("grow", 2, 50), ("compact", 1, 1), ("free", 1, 1), ("extend", 1, 60), ("reset", 1, 1)):
+        b.run("$('k').value = arguments[0]; $('n').value = arguments[1]; act(arguments[2])", k, n, name)
+    state = "return [S.p, S.run.count, S.run.kept, S.run.edits, S.run.view(S.p).blocks, [...Array(S.run.count).keys()].map(i => answered(S.run, i))]"
+    b.run("go(14)")
+    kept = b.run(state)
+    b.run("return link()")
+    b.open(b.run("return location.hash"))
+    same(b.run(state), kept, "a link keeps the calls that were added")
+    for bad in ("#t=voxel-game&p=3&kept=4&c=1.2.3", "#t=voxel-game&kept=4&c=11.2.3", "#t=voxel-game&kept=99999&c=0.2.0", "#t=nothing", "#s=abc", "#t=voxel-game&kept=4&c=0.2", "#t=voxel-game&x=1.1.1.1"):
+        b.open(bad)
+        same([b.run("return $('fault').textContent !== ''"), b.run("return S.run.count > 0 && $('now').textContent !== ''")], [True, True], f"a faulty link: {bad}")
+
+
+ALL = [long_ones, names_and_commands, five_minutes, links_keep_edits]

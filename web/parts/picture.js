@@ -1,0 +1,36 @@
+// A run as a picture of its own, SVG: the lives, with a title on each refusal; below them the free units, and the largest
+// request that is granted.
+function pictured(run, w, h) {
+  const n = run.count + 1, c = colors(), left = 52, top = 44, right = w - 8, middle = Math.round(h * 0.72), low = h - 22, high = middle + 34;
+  const safe = t => t.replace(/[&<>]/g, s => ({ '&': '&amp;', '<': '&lt;', '>': '&gt;' })[s]), fixed = v => String(Math.round(v * 10) / 10);
+  const x = p => fixed(left + p / n * (right - left)), y = o => fixed(top + (1 - o / run.top) * (middle - top));
+  const text = (at, px, anchor, words, more = '') => `<text x='${px}' y='${at}' text-anchor='${anchor}'${more}>${safe(words)}</text>`;
+  const lives = c.ages.map(() => []);
+  for (let l = 0; l < run.lk.length; l++) {
+    const from = run.lf.list[l], to = Math.min(run.lt.list[l], n), o = run.lo.list[l];
+    lives[ageOf(to - from)].push(`M${x(from)} ${y(o + run.ln.list[l])}H${x(to)}V${y(o)}H${x(from)}z`);
+  }
+  // for each point of the width the least of the calls there
+  const most = Math.max(1, ...run.sizes.map(s => s[1])), wide = Math.round(right - left), free = [], largest = [];
+  for (let i = 0; i < run.count; i++) {
+    const at = Math.floor((i + 1) / n * wide);
+    free[at] = Math.min(free[at] ?? most, run.sizeAt(i + 1) - run.used.list[i]); largest[at] = Math.min(largest[at] ?? most, run.row(i)[5]);
+  }
+  const area = list => 'M' + left + ' ' + low + list.map((v, i) => v === undefined ? '' : `L${left + i} ${fixed(low - v / most * (low - high))}`).join('') + `L${right} ${low}z`;
+  const ticks = run.refusals.map(p => `<path stroke='${c.mark}' stroke-width='2' d='M${x(p)} ${top}v10'><title>` +
+    safe(`row ${p}: ${said(...run.call(p - 1))}: ${REASONS[run.row(p - 1)[7]] || 'refused'}`) + '</title></path>');
+  const words = ['to 10', '30', '100', '300', '1,000', '3,000', '10,000', 'more'], narrow = w < 600, places = [left];
+  for (const t of words) places.push(places.at(-1) + (narrow ? 17 : 40) + 5.8 * t.length);
+  return `<svg xmlns='http://www.w3.org/2000/svg' width='${w}' height='${h}' viewBox='0 0 ${w} ${h}' font-family='system-ui, sans-serif' font-size='11' fill='${c.fg}'>` +
+    `<rect width='${w}' height='${h}' fill='${c.bg}'/>` +
+    text(14, left, 'start', `${S.title}: ${counted(run.count, 'call')}, ${counted(run.refusals.length, 'refusal')}`, " font-size='13'") +
+    text(34, left - 6, 'end', 'live for') +
+    words.map((t, i) => `<rect x='${fixed(places[i])}' y='25' width='${narrow ? 8 : 14}' height='10' fill='${c.ages[i]}'/>` +
+      text(34, fixed(places[i] + (narrow ? 10 : 18)), 'start', t, narrow ? " font-size='10'" : '')).join('') +
+    lives.map((d, i) => d.length ? `<path fill='${c.ages[i]}' d='${d.join('')}'/>` : '').join('') + ticks.join('') +
+    [1, 0.5, 0].map(f => text(Number(y(run.top * f)) + 4, left - 6, 'end', short(Math.round(run.top * f)))).join('') +
+    text(high - 8, left, 'start', 'free units, and in them the largest request that is granted') +
+    `<path fill='${c.ages[0]}' d='${area(free)}'/><path fill='${c.ages[6]}' d='${area(largest)}'/>` +
+    text(high + 8, left - 6, 'end', short(most)) + text(low, left - 6, 'end', '0') +
+    text(h - 8, left, 'start', 'call 1') + text(h - 8, right, 'end', whole(run.count)) + '</svg>\n';
+}
