@@ -1,0 +1,104 @@
+"""Two runs side by side: the other one is made here too, as a recording that the program plays."""
+
+from .base import TRACES, holds, recorded, row, same, to
+from .refusals import FRAGMENTED
+
+
+def other(text, size, nodes, unit, compact):
+    """For each call of a text what the other run's last answer to it is; and its refusals after that."""
+    lines = [line for line in text.splitlines() if line and line[0] != "#"][1:]
+    first = recorded(text)[0].splitlines()
+    made, of, places, grants = [f"space {size} nodes {nodes} index 32"], {}, [], 0
+    # the grants of the other run are known only as it is played: so again from the start where one is refused
+    up = lambda n: -(-int(n) // unit)
+    refused, answers = set(), []
+    while True:
+        made, of, places, grants = made[:1], {}, [], 0
+        for i, line in enumerate(lines):
+            name, *n = line.split()
+            call = {"alloc": lambda: f"alloc {up(n[0])}", "free": lambda: f"free {of.get(n[0], 0)}", "report": lambda: "report",
+                    "align": lambda: f"align {up(n[0])} {int(n[1]) // unit}" if int(n[1]) > unit else f"alloc {up(n[0])}",
+                    "extend": lambda: f"extend {int(n[0]) // unit}", "size": lambda: f"size {of.get(n[0], 0)}", "reset": lambda: "reset"}[name]()
+            made.append(call)
+            if name in ("alloc", "align"):
+                if i in refused and compact:
+                    made += ["compact", call]
+                is_granted = (i, "last") not in refused if i in refused and compact else i not in refused
+                grants += is_granted
+                if first[i].startswith("grant"):
+                    of[first[i].split()[1]] = grants if is_granted else 0
+            places.append(len(made) - 2)
+        answers = recorded("\n".join(made) + "\n")[0].splitlines()
+        wrong = None
+        for i, line in enumerate(lines):
+            begin = places[i - 1] + 1 if i else 0
+            if line[:2] != "al":
+                continue
+            if answers[begin] == "none" and i not in refused:
+                wrong = i
+            elif answers[places[i]] == "none" and compact and (i, "last") not in refused:
+                wrong = (i, "last")
+            if wrong is not None:
+                break
+        if wrong is None:
+            return [answers[p] for p in places]
+        refused.add(wrong)
+
+
+def outcome(answer):
+    return answer if answer in ("none", "gone") else "done"
+
+
+def compared(b, text, as_):
+    b.run("return take(new TextEncoder().encode(arguments[0]))", text)
+    for name, value in zip(("xsize", "xnodes", "xunit", "xcompact"), as_):
+        b.run("$(arguments[0]).value = arguments[1]", name, value)
+    b.run("return $('compare').onclick()")
+    mine, theirs = recorded(text)[0].splitlines(), other(text, *as_)
+    rows = [i + 1 for i, (x, y) in enumerate(zip(mine, theirs)) if outcome(x) != outcome(y)]
+    return mine, theirs, rows
+
+
+def table(b):
+    return dict(b.run("return [...$('differences').rows].map(r => [r.cells[0].textContent, [...r.cells].slice(1).map(c => c.textContent)])"))
+
+
+def two_runs(b):
+    b.open()
+    arena = TRACES["arena-game"].read_text().splitlines()
+    arena = "\n".join([line for line in arena if line and line[0] != "#"][:3000]) + "\n"
+    size, nodes = (int(arena.split()[i]) for i in (1, 3))
+    for what, text, as_ in (
+            ("compacted where a request is refused", FRAGMENTED, (1000, 32, 1, 1)),
+            ("more space", FRAGMENTED, (1400, 32, 1, 0)),
+            ("fewer nodes", FRAGMENTED, (1000, 9, 1, 0)),
+            ("a unit of 64", FRAGMENTED, (1000 // 64, 32, 64, 0)),
+            ("less space", arena, (50000000, nodes, 1, 0)),
+            ("a unit of 256", arena, (size // 256, nodes, 256, 0))):
+        mine, theirs, rows = compared(b, text, as_)
+        same(b.run("return S.other.rows"), rows, f"{what}: the rows that differ")
+        found = table(b)
+        refused = [mine.count("none"), theirs.count("none")]
+        same(found["Refused calls"][:2], [f"{n:,}" for n in refused], f"{what}: refused calls")
+        first = [answers.index("none") + 1 if "none" in answers else 0 for answers in (mine, theirs)]
+        same(found["First refusal, row"][:2], [f"{n:,}" for n in first], f"{what}: the first refusal")
+        for p in (rows[0] if rows else 1, len(mine)):
+            to(b, p)
+            same(table(b)["Answer"][:2], [mine[p - 1], theirs[p - 1]], f"{what}: answers at row {p}")
+    mine, theirs, rows = compared(b, FRAGMENTED, (1000, 32, 1, 1))
+    same(b.run("return $('differ').textContent.split('.')[0]"), f"{len(rows)} row with another outcome, the first is row {rows[0]}", "how many rows differ")
+    to(b, 0)
+    b.click("#xnext")
+    same(row(b), rows[0], "a button goes to the next difference")
+    found = table(b)
+    same([found["Units in use"], found["Blocks"]], [["500", "800", "+300"], ["10", "7", "−3"]], "what differs at that row")
+    b.run("return link()")
+    b.open(b.run("return location.hash"))
+    same([b.run("return S.other.rows"), table(b)], [rows, found], "a link keeps the comparison")
+    drawn = b.run("return ['spaceA', 'spaceB', 'lifeA', 'lifeB'].map(id => { const c = $(id), d = c.getContext('2d').getImageData(0, 0, c.width, c.height).data; return new Set(new Uint32Array(d.buffer)).size; })")
+    holds(min(drawn) > 3, "both are drawn", drawn)
+    b.run("$('xnodes').value = ''; return $('compare').onclick()")
+    same(b.run("return $('fault').textContent.startsWith('Compare: the node limit is 2 to')"), True, "an empty field is no number")
+
+
+ALL = [two_runs]

@@ -1,0 +1,140 @@
+"""What is drawn, at three widths and in both schemes of colours, compared with what is to be there by the answers of the
+program: colours of points within blocks and lives."""
+
+import bisect
+import random
+
+from .base import TRACES, holds, program, same, to
+from .lists import live_at
+
+WIDTHS = (320, 800, 1920)
+AGES = (10, 30, 100, 300, 1000, 3000, 10000)
+age = lambda calls: sum(calls > most for most in AGES)
+COLOURS = """const c = getComputedStyle(document.documentElement), of = n => c.getPropertyValue(n).trim(), hex = s => [1, 3, 5].map(i => parseInt(s.slice(i, i + 2), 16));
+  return [[1, 2, 3, 4, 5, 6, 7, 8].map(i => hex(of('--age' + i))), hex(of('--free'))]"""
+PIXELS = """const c = $(arguments[0]), g = c.getContext('2d'), d = devicePixelRatio, a = g.getImageData(0, 0, c.width, c.height).data;
+  return arguments[1].map(([x, y]) => { const i = 4 * (Math.floor(y * d) * c.width + Math.floor(x * d)); return [a[i], a[i + 1], a[i + 2], a[i + 3]]; })"""
+
+
+def lives_of(text):
+    """The lives of all ranges of a script without resets: offset, units, first and last row."""
+    lines = [line for line in text.splitlines() if line and line[0] != "#"][1:]
+    answers, open_, lives = program(text)[0].splitlines(), {}, []
+    for i, line in enumerate(lines):
+        answer = answers[i].split()
+        if answer[0] == "grant":
+            open_[answer[1]] = (int(answer[3]), int(line.split()[1]), i + 1)
+        elif answer[0] == "freed":
+            lives.append((*open_.pop(line.split()[1]), i + 1))
+    return [*lives, *((*life, len(lines) + 1) for life in open_.values())], len(lines)
+
+
+def space_points(b, blocks, start, end, p, colours, free):
+    """Points within the drawn blocks, and their colours."""
+    width, height = b.run("return [$('space').clientWidth, $('space').clientHeight]")
+    r, points, expected = random.Random(width), [], []
+    span, w = (end - start) / 6, width - 54
+    starts = [block[0] for block in blocks]
+    while len(points) < 150:
+        unit = start + r.random() * (end - start)
+        at = bisect.bisect_right(starts, unit) - 1
+        o, n, since = blocks[at]
+        y, x = divmod(unit - start, span)
+        near = 2.5 * span / w
+        if o + near < unit < o + n - near and near < x < span - near:
+            points.append([54 + x / span * w, (y + 0.5) * height / 6])
+            expected.append(free if since is None else colours[age(p - since)])
+    return points, expected
+
+
+def blocks_at(text, p):
+    """The blocks after so many calls, used and free: offset, units, and the row of the grant or none."""
+    size, at, blocks = int(text.split("space ")[1].split()[0]), 0, []
+    for _, o, n, since in sorted(live_at(text, p), key=lambda r: r[1]):
+        if o > at:
+            blocks.append((at, o - at, None))
+        blocks.append((o, n, since))
+        at = o + n
+    return [*blocks, (at, size - at, None)]
+
+
+def few_ranges():
+    """A script of some ranges that live for very different numbers of calls."""
+    r, lines, live, grants = random.Random(3), ["space 100000 nodes 200 index 32"], [], 0
+    for _ in range(60):
+        lines.append(f"alloc {r.randrange(1500, 6000)}")
+        grants += 1
+        live.append(grants)
+        lines += ["report"] * r.choice((3, 20, 60, 200, 700))
+        while len(live) > r.randrange(4, 14):
+            lines.append(f"free {live.pop(r.choice((0, -1)))}")
+    return "\n".join(lines) + "\n"
+
+
+def drawings_are_right(b):
+    text, few = TRACES["modeller"].read_text(), few_ranges()
+    lives, count = lives_of(few)
+    top = max(o + n for o, n, *_ in lives)
+    for width in WIDTHS:
+        for scheme, scale in (("light", 1), ("dark", 2)):
+            b.size(width, 900, scale, scheme)
+            b.open("#t=modeller&p=9000")
+            colours, free = b.run(COLOURS)
+            blocks = blocks_at(text, 9000)
+            for zoomed in ("zall", "zused"):
+                b.run("$(arguments[0]).click(); pointer = null; draw()", zoomed)
+                end = blocks[-1][0] if zoomed == "zused" else sum(blocks[-1][:2])
+                points, expected = space_points(b, blocks, 0, end, 9000, colours, free)
+                found = b.run(PIXELS, "space", points)
+                wrong = sum(f[:3] != e for f, e in zip(found, expected))
+                # the range of the last call is outlined
+                holds(wrong <= 3, f"the space, {width} pixels, {scheme}, {zoomed}: 150 points", (wrong, found[:5], expected[:5]))
+            b.run("return take(new TextEncoder().encode(arguments[0]))", few)
+            to(b, count)
+            b.run("return new Promise(r => { const f = () => S.run.picture.next < S.run.lk.length ? setTimeout(f, 20) : r(0); f(); })")
+            b.run("draw()")
+            w, h = b.run("return [$('life').clientWidth - 54, $('life').clientHeight - 16]")
+            points, expected = [], []
+            for o, n, begin, end in lives:
+                x1, x2, y1, y2 = begin / (count + 1) * w, end / (count + 1) * w, h - (o + n) / top * h, h - o / top * h
+                if x2 - x1 > 2.5 and y2 - y1 > 2.5 and x2 < w - 6:
+                    points.append([54 + (x1 + x2) / 2, (y1 + y2) / 2])
+                    expected.append([*colours[age(end - begin)], 255])
+            found = b.run(PIXELS, "life", points)
+            wrong = [(f, e) for f, e in zip(found, expected) if f != e]
+            holds(len(points) > 20 and len(wrong) <= len(points) // 10, f"lives, {width} pixels, {scheme}: {len(points)} points", wrong)
+
+
+def nothing_is_cut(b):
+    for width in (*WIDTHS, 390):
+        b.size(width, 900)
+        b.open("#t=arena-game&p=4000")
+        b.run("act('alloc'); return compare([100000000, 5000, 2, 1])")
+        b.run("$('help').showModal()")
+        same(b.run("return document.documentElement.scrollWidth - document.documentElement.clientWidth"), 0, f"no overflow at {width} pixels")
+        cut = b.run("return [...document.querySelectorAll('button, label, p, h1, h2, dt, dd, #why li')].filter(e => e.getClientRects().length && "
+                    "(e.scrollWidth > e.clientWidth + 1 && getComputedStyle(e).display !== 'inline' || e.getBoundingClientRect().right > innerWidth + 1)).map(e => e.tagName + e.id + e.textContent.slice(0, 30))")
+        same(cut, [], f"no text is cut at {width} pixels")
+
+
+def readme_s_picture(b):
+    data = (TRACES["voxel-game"].parent / "../../docs/voxel-game.png").read_bytes()
+    same([int.from_bytes(data[i:i + 4], "big") for i in (16, 20)], [780, 660], "the first picture has two pixels for each of 390 points")
+    holds(len(data) < 150_000, "and less than 150 KB", len(data))
+    b.open("#t=voxel-game")
+    sizes = b.run("const s = new DOMParser().parseFromString(pictured(S.run, 390, 330), 'image/svg+xml'); return [...s.querySelectorAll('text')].map(t => Number(t.getAttribute('font-size') || 11))")
+    holds(min(sizes) >= 10, "its words have 10 points or more", sizes)
+    right = b.run("document.body.innerHTML = pictured(S.run, 390, 330); return Math.max(...[...document.querySelectorAll('text')].map(t => t.getBBox().x + t.getBBox().width))")
+    holds(right <= 390, "and none is cut", right)
+
+
+def shots(b, folder):
+    folder.mkdir(parents=True, exist_ok=True)
+    for scheme in ("light", "dark"):
+        for width in (320, 390, 800, 1920):
+            b.size(width, 900, 1, scheme)
+            b.open("#t=voxel-game&p=9000")
+            (folder / f"{scheme}-{width}.png").write_bytes(b.picture(whole=True))
+
+
+ALL = [drawings_are_right, nothing_is_cut, readme_s_picture]
