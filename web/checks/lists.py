@@ -59,6 +59,13 @@ def ranges_are_listed(b):
         bars[e] = bars.get(e, 0) + 1
     found = b.run("return [...document.querySelectorAll('.size')].map(r => r.lastChild.textContent.split(' ranges')[0])")
     same(found, [f"{bars[e]:,}" for e in sorted(bars)], "how many ranges are of which sizes")
+    b.run("go(14000); $('atend').click()")
+    same(b.run(ROWS, "#ranges"), [], "none is live at the end of this run")
+    few = "space 1000 nodes 32 index 32\nalloc 10\nalloc 20\n# kept\nalloc 30\nfree 1\nfree 2\nreport\n"
+    play(b, few)
+    same([b.run(ROWS, "#ranges"), b.run("return $('rangesum').textContent")],
+         [[["3", "30", "30", "3", "kept"]], "Live now: 0 ranges, 0 units. Still live at the end: 1 range, 30 units."], "what is still live at the end")
+    b.open("#t=voxel-game&p=9000")
     b.click("#sorts [data-by=units]")
     b.run("$('ranges').scrollTop = 0")
     b.click("#ranges .row")

@@ -124,7 +124,8 @@ def readme_s_picture(b):
     b.open("#t=voxel-game")
     sizes = b.run("const s = new DOMParser().parseFromString(pictured(S.run, 390, 330), 'image/svg+xml'); return [...s.querySelectorAll('text')].map(t => Number(t.getAttribute('font-size') || 11))")
     holds(min(sizes) >= 10, "its words have 10 points or more", sizes)
-    right = b.run("document.body.innerHTML = pictured(S.run, 390, 330); return Math.max(...[...document.querySelectorAll('text')].map(t => t.getBBox().x + t.getBBox().width))")
+    long = "S.title = 'a title that is as long as the name of a file that nobody has shortened yet'; "
+    right = b.run(long + "document.body.innerHTML = pictured(S.run, 390, 330); return Math.max(...[...document.querySelectorAll('text')].map(t => t.getBBox().x + t.getBBox().width))")
     holds(right <= 390, "and none is cut", right)
 
 

@@ -23,35 +23,37 @@ async function another(run, [size, nodes, unit, compact], work) {
   }
   return { run: b, at, unit, extra };
 }
-// The rows where the two answer otherwise: a request is granted in one only, or another call succeeds in one only.
-const outcome = r => r[0] === ANSWER.refused ? 'refused' : r[0] === ANSWER.gone ? 'gone' : 'done';
-function differing(a, other) {
-  const rows = [];
-  for (let i = 0; i < a.count; i++) if (outcome(a.row(i)) !== outcome(other.run.row(other.at[i + 1] - 1))) rows.push(i + 1);
-  return rows;
+// The rows where the two answer otherwise: a request is granted in one only, or another call succeeds in one only. And the
+// rows that the other refuses.
+const outcome = kind => kind === ANSWER.refused || kind === ANSWER.gone ? kind : 0;
+function differing(a, { run: b, at }) {
+  const rows = [], refused = [], x = a.rows.list, y = b.rows.list;
+  for (let i = 0; i < a.count; i++) {
+    const other = outcome(y[8 * (at[i + 1] - 1)]);
+    if (outcome(x[8 * i]) !== other) rows.push(i + 1);
+    if (other === ANSWER.refused) refused.push(i + 1);
+  }
+  return { rows, refused };
 }
-const refusedRows = (a, other) => { let n = 0; for (let i = 0; i < a.count; i++) if (other.run.row(other.at[i + 1] - 1)[0] === ANSWER.refused) n++; return n; };
-const most = (run, f) => { let m = 0; for (let i = 0; i < run.count; i++) m = Math.max(m, f(i)); return m; };
+const most = (list, count, step, at) => { let m = 0; for (let i = 0; i < count; i++) m = Math.max(m, list[step * i + at]); return m; };
 async function compare(as) {
   const [size, nodes, unit, compact] = as;
   if (nodes < 2 || nodes > LARGEST - 2 || !unit || compact > 1 || as.length !== 4) { say(`Compare: the node limit is 2 to ${whole(LARGEST - 2)}, the unit at least 1`, true); return; }
   const found = await during('Comparing', work => another(S.run, as, work));
   if (!found) return;
-  S.other = { ...found, as };
-  S.other.rows = differing(S.run, S.other);
   const a = S.run, b = found.run;
+  S.other = { ...found, as, ...differing(a, found) };
   S.other.whole = [
-    ['Refused calls', a.refusals.length, refusedRows(a, S.other)],
-    ['First refusal, row', a.refusals[0] || 0, firstOf(S.other)],
-    ['Most units in use', most(a, i => a.used.list[i]), most(b, i => b.used.list[i]) * unit],
+    ['Refused calls', a.refusals.length, S.other.refused.length],
+    ['First refusal, row', a.refusals[0] || 0, S.other.refused[0] || 0],
+    ['Most units in use', most(a.used.list, a.count, 1, 0), most(b.used.list, b.count, 1, 0) * unit],
     ['Highest end of a range', a.top, b.top * unit],
-    ['Most blocks', most(a, i => a.row(i)[6]), most(b, i => b.row(i)[6])],
+    ['Most blocks', most(a.rows.list, a.count, 8, 6), most(b.rows.list, b.count, 8, 6)],
     ['Units in use at the end', a.usedAt(a.count), b.usedAt(b.count) * unit]];
   for (const [i, id] of ['xsize', 'xnodes', 'xunit', 'xcompact'].entries()) $(id).value = as[i];
   $('compared').hidden = false;
   showOther();
 }
-function firstOf(other) { for (let i = 1; i < other.at.length; i++) if (other.run.row(other.at[i] - 1)[0] === ANSWER.refused) return i; return 0; }
 function dropOther() {
   S.other = null; $('compared').hidden = true;
   $('xsize').value = S.run.head[0]; $('xnodes').value = S.run.head[1]; $('xunit').value = 1; $('xcompact').value = 0;

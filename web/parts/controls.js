@@ -48,7 +48,7 @@ $('file').onchange = async () => { await takeFile($('file').files[0]); $('file')
 addEventListener('dragover', event => event.preventDefault());
 addEventListener('drop', event => { event.preventDefault(); takeFile(event.dataTransfer.files[0]); });
 $('stop').onclick = stopWork; $('unsay').onclick = () => say('');
-$('only').onchange = draw;
+$('only').onchange = $('atend').onchange = draw;
 $('zin').onclick = () => zoom(1 / 4); $('zout').onclick = () => zoom(4); $('zall').onclick = () => { S.zoom = null; draw(); };
 $('zused').onclick = usedPart; $('zleft').onclick = () => pan(-0.5); $('zright').onclick = () => pan(0.5);
 $('compare').onclick = () => compare(['xsize', 'xnodes', 'xunit', 'xcompact'].map(id => { const v = $(id).value.trim(); return /^\d{1,10}$/.test(v) && v <= LARGEST ? Number(v) : -1; }));

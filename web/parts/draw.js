@@ -49,6 +49,13 @@ function unitAt(event, from, to) {
   const b = $('space').getBoundingClientRect(), y = Math.min(ROWS - 1, Math.max(0, Math.floor((event.clientY - b.top) / b.height * ROWS)));
   return from + (y + Math.max(0, Math.min(1, (event.clientX - b.left - GUTTER) / (b.width - GUTTER)))) * (to - from) / ROWS;
 }
+// Where refusals are marked on a width of so many calls; kept, as there may be very many.
+function ticks(run, n, w) {
+  run.ticks = run.ticks || new Map();
+  const key = `${n} ${w}`;
+  if (!run.ticks.has(key)) run.ticks.set(key, new Set(run.refusals.map(p => Math.round(p / n * w))));
+  return run.ticks.get(key);
+}
 // The lives of all ranges, drawn once for each size of the window and scheme of colours, in turns: what is missing comes
 // with the next frame.
 function drawLives(id, run, p, again) {
@@ -72,7 +79,7 @@ function drawLives(id, run, p, again) {
     g.drawImage(s.sheet, from * d, 0, (to - from) * d, h * d, GUTTER + from, 0, to - from, h);
   part(0, cx); g.globalAlpha = 0.25; part(cx, w); g.globalAlpha = 1;
   g.strokeStyle = c.mark; g.lineWidth = 1; g.beginPath();
-  for (const x of new Set(run.refusals.map(r => Math.round(r / n * w)))) { g.moveTo(GUTTER + x, 0); g.lineTo(GUTTER + x, 10); }
+  for (const x of ticks(run, n, w)) { g.moveTo(GUTTER + x, 0); g.lineTo(GUTTER + x, 10); }
   g.stroke();
   g.fillStyle = c.mark; g.fillRect(GUTTER + Math.min(cx, w - 2), 0, 2, h);
   g.fillStyle = c.dim; g.textAlign = 'right';
@@ -87,7 +94,7 @@ const rowAt = (event, id, count) => {
 function drawMarks(run) {
   const [g, w, h] = canvas('marks');
   g.fillStyle = colors().mark;
-  for (const x of new Set(run.refusals.map(p => Math.round(8 + (w - 16) * p / Math.max(1, run.count))))) g.fillRect(x - 0.5, 0, 1.5, h);
+  for (const x of ticks(run, Math.max(1, run.count), w - 16)) g.fillRect(8 + x - 0.5, 0, 1.5, h);
 }
 // The bins: left the top mask, a bit for each word; right a bit for each bin that has a free block.
 function drawBins(bins, searched, taken) {

@@ -63,13 +63,13 @@ function drawRange(row, i) {
   cell(row, S.run.nameOf(b.k), 'dim');
 }
 function showRanges(v) {
-  ranges = v.blocks.filter(b => b.k).sort(SORTS[sorted]);
+  const run = S.run, end = [...run.live.values()].map(l => ({ k: run.lk.list[l], o: run.lo.list[l], n: run.ln.list[l] }));
+  ranges = ($('atend').checked ? end : v.blocks.filter(b => b.k)).sort(SORTS[sorted]);
   for (const b of document.querySelectorAll('#sorts button')) b.setAttribute('aria-pressed', b.dataset.by === sorted);
   L.ranges.chosen = ranges.findIndex(b => b.k === S.grant);
   L.ranges.set(ranges.length);
-  const run = S.run, end = [...run.live.values()], sum = end.reduce((s, l) => s + run.ln.list[l], 0);
-  $('rangesum').textContent = `Live now: ${counted(ranges.length, 'range')}, ${units(run.usedAt(S.p))}. ` +
-    `Still live at the end: ${counted(end.length, 'range')}, ${units(sum)}.`;
+  $('rangesum').textContent = `Live now: ${counted(v.blocks.filter(b => b.k).length, 'range')}, ${units(run.usedAt(S.p))}. ` +
+    `Still live at the end: ${counted(end.length, 'range')}, ${units(end.reduce((s, b) => s + b.n, 0))}.`;
   showSizes();
 }
 // How many live ranges are of which sizes: a bar for each power of two.

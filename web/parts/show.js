@@ -31,7 +31,7 @@ function draw() {
   $('at').value = p; $('row').value = p; $('at').setAttribute('aria-valuetext', p ? `row ${p}: ${said(...op)}, ${answered(run, p - 1)}` : 'before the first row');
   $('place').textContent = `of ${whole(run.count)}`;
   $('refusals').textContent = run.refusals.length ? `${counted(run.refusals.length, 'refusal')}` : 'no refusals';
-  $('rback').disabled = !run.refusals.some(x => x < p); $('rnext').disabled = !(run.refusals.at(-1) > p);
+  $('rback').disabled = !(run.refusals[0] < p); $('rnext').disabled = !(run.refusals.at(-1) > p);
   $('now').textContent = p ? `Row ${whole(p)}: ${said(...op)}: ${answered(run, p - 1)}` +
     (taken ? `, from the free block at ${whole(taken.o)} of ${units(taken.n)}` : '') + (run.names.get(p - 1) ? ` “${run.names.get(p - 1)}”` : '') : 'Before the first row.';
   describe(v);
