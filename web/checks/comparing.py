@@ -72,7 +72,7 @@ def two_runs(b):
             ("compacted where a request is refused", FRAGMENTED, (1000, 32, 1, 1)),
             ("more space", FRAGMENTED, (1400, 32, 1, 0)),
             ("fewer nodes", FRAGMENTED, (1000, 9, 1, 0)),
-            ("a unit of 64", FRAGMENTED, (1000 // 64, 32, 64, 0)),
+            ("a unit of 64", FRAGMENTED + "extend 100\nextend 30\nalloc 260\n", (1000 // 64, 32, 64, 0)),
             ("less space", arena, (50000000, nodes, 1, 0)),
             ("a unit of 256", arena, (size // 256, nodes, 256, 0))):
         mine, theirs, rows = compared(b, text, as_)

@@ -46,6 +46,13 @@ def long_ones(b):
     # the blocks at a row, after going back and on: those of a fresh run up to there
     fresh = "const r = new Run(S.run.head, S.run.calls.list.slice(0, 3 * S.p), new Map(), S.run.lines); return r.survey(new Work('x')).then(() => JSON.stringify(r.view(S.p).blocks) === JSON.stringify(S.run.view(S.p).blocks))"
     same(b.run(fresh), True, "with the blocks of a run that ends there")
+    b.run("let x = 1; for (let i = 0; i < 400; i++) { x = x * 48271 % 2147483647; S.run.view(x % (S.run.count + 1)); }")
+    same(b.run(fresh), True, "again after many seeks")
+    size = b.run("return S.run.m.size()")
+    holds(size < 64 << 20, "which take no more memory each", size)
+    live = "return JSON.stringify([...S.run.live].map(([k, l]) => [S.run.lo.list[l], S.run.ln.list[l], k]).sort((a, b) => a[0] - b[0])) === " \
+        "JSON.stringify(S.run.view(S.run.count).blocks.filter(b => b.k).map(b => [b.o, b.n, b.k]))"
+    same(b.run(live), True, "the lives at the end are those of its blocks, after compact too")
 
 
 def names_and_commands(b):
@@ -93,6 +100,11 @@ def five_minutes(b):
 
 
 def links_keep_edits(b):
+    b.open("#t=voxel-game&p=2046")
+    for n in (5000, 600, 70, 8):
+        b.run("$('n').value = arguments[0]; act('alloc')", n)
+    blocks = b.run("S.run.view(0); return S.run.view(2049).blocks")
+    same(b.run("S.run.view(2050); return S.run.view(2049).blocks"), blocks, "an edited run is reached again, where the original had a copy too")
     b.open("#t=voxel-game&p=9")
     for name, k, n in (("alloc", 1, 1000), ("align", 1, 100), ("shrink", 2, 40), ("grow", 2, 50), ("compact", 1, 1), ("free", 1, 1), ("extend", 1, 60), ("reset", 1, 1)):
         b.run("$('k').value = arguments[0]; $('n').value = arguments[1]; act(arguments[2])", k, n, name)

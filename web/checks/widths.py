@@ -72,24 +72,28 @@ def few_ranges():
 
 
 def drawings_are_right(b):
-    text, few = TRACES["modeller"].read_text(), few_ranges()
+    few = few_ranges()
     lives, count = lives_of(few)
+    kinds = lambda p: {age(p - begin) for _, _, begin, end in lives if begin <= p < end}
+    at = max(range(0, count, 40), key=lambda p: len(kinds(p)))
+    assert len(kinds(at)) > 4, kinds(at)
     top = max(o + n for o, n, *_ in lives)
     for width in WIDTHS:
         for scheme, scale in (("light", 1), ("dark", 2)):
             b.size(width, 900, scale, scheme)
-            b.open("#t=modeller&p=9000")
+            b.open()
+            b.run("return take(new TextEncoder().encode(arguments[0]))", few)
+            to(b, at)
             colours, free = b.run(COLOURS)
-            blocks = blocks_at(text, 9000)
+            blocks = blocks_at(few, at)
             for zoomed in ("zall", "zused"):
                 b.run("$(arguments[0]).click(); pointer = null; draw()", zoomed)
                 end = blocks[-1][0] if zoomed == "zused" else sum(blocks[-1][:2])
-                points, expected = space_points(b, blocks, 0, end, 9000, colours, free)
+                points, expected = space_points(b, blocks, 0, end, at, colours, free)
                 found = b.run(PIXELS, "space", points)
                 wrong = sum(f[:3] != e for f, e in zip(found, expected))
                 # the range of the last call is outlined
                 holds(wrong <= 3, f"the space, {width} pixels, {scheme}, {zoomed}: 150 points", (wrong, found[:5], expected[:5]))
-            b.run("return take(new TextEncoder().encode(arguments[0]))", few)
             to(b, count)
             b.run("return new Promise(r => { const f = () => S.run.picture.next < S.run.lk.length ? setTimeout(f, 20) : r(0); f(); })")
             b.run("draw()")

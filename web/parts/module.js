@@ -37,10 +37,13 @@ class Module {
   }
   size() { return this.e.memory.buffer.byteLength; }
   saved() { return new Uint8Array(this.e.memory.buffer).slice(); }
+  // The memory never becomes smaller, and what was taken since is not known there: from time to time it begins anew.
   restore(saved) {
-    const memory = new Uint8Array(this.e.memory.buffer);
-    memory.set(saved);
-    memory.fill(0, saved.length);
+    if (this.size() > 2 * saved.length + (1 << 24)) {
+      this.e = new WebAssembly.Instance(compiled, {}).exports;
+      this.e.memory.grow((saved.length - this.size()) / 65536);
+    }
+    new Uint8Array(this.e.memory.buffer).set(saved);
   }
 }
 // Size classes: 8 for each power of two, from 8 on. The class of the largest value that is at most n; the value of a
