@@ -70,6 +70,11 @@ def difference(one, other):
     return math.sqrt(dl * dl + dc * dc + dh * dh + rt * dc * dh)
 
 
+# pairs of the paper by Sharma, Wu and Dalal, with their differences
+KNOWN = (((50, 2.6772, -79.7751), (50, 0, -82.7485), 2.0425), ((50, 2.5, 0), (73, 25, -18), 27.1492), ((50, 2.5, 0), (61, -5, 29), 22.8977),
+         ((22.7233, 20.0904, -46.6940), (23.0331, 14.9730, -42.5619), 2.0373), ((2.0776, 0.0795, -1.1350), (0.9033, -0.0636, -0.5514), 0.9082))
+
+
 def scales(text, pattern):
     """The scales of a text: those before and after the words that begin the dark scheme."""
     parts = text.split("prefers-color-scheme", 1)
@@ -102,7 +107,7 @@ def measure(name, colors):
 
 def main():
     here = pathlib.Path(__file__).resolve().parent
-    wrong = []
+    wrong = [f"the formula gives {difference(a, b):.4f}, not {d}" for a, b, d in KNOWN if abs(difference(a, b) - d) > 0.0001]
     for name, path, pattern in (("page", here / "source.html", r"--age(\d): (#\w+)"),
                                 ("pictures", here / "../crates/offset_lives/src/style.rt", r"\.age(\d)\{fill:(#\w+)\}")):
         if sys.argv[1:] not in ([], [name]):
