@@ -8,7 +8,7 @@ def other(text, size, nodes, unit, compact):
     """For each call of a text what the other run's last answer to it is; and its refusals after that."""
     lines = [line for line in text.splitlines() if line and line[0] != "#"][1:]
     first = recorded(text)[0].splitlines()
-    made, of, places, grants = [f"space {size} nodes {nodes} index 32"], {}, [], 0
+    made, of, places, grants = [f"space {size // unit} nodes {nodes} index 32"], {}, [], 0
     # the grants of the other run are known only as it is played: so again from the start where one is refused
     up = lambda n: -(-int(n) // unit)
     refused, answers = set(), []
@@ -18,12 +18,14 @@ def other(text, size, nodes, unit, compact):
             name, *n = line.split()
             call = {"alloc": lambda: f"alloc {up(n[0])}", "free": lambda: f"free {of.get(n[0], 0)}", "report": lambda: "report",
                     "align": lambda: f"align {up(n[0])} {int(n[1]) // unit}" if int(n[1]) > unit else f"alloc {up(n[0])}",
-                    "extend": lambda: f"extend {int(n[0]) // unit}", "size": lambda: f"size {of.get(n[0], 0)}", "reset": lambda: "reset"}[name]()
+                    "extend": lambda: f"extend {int(n[0]) // unit}", "size": lambda: f"size {of.get(n[0], 0)}", "reset": lambda: "reset",
+                    "shrink": lambda: f"shrink {of.get(n[0], 0)} {up(n[1])}", "grow": lambda: f"grow {of.get(n[0], 0)} {up(n[1])}",
+                    "compact": lambda: "report" if compact == 2 else "compact"}[name]()
             made.append(call)
             if name in ("alloc", "align"):
-                if i in refused and compact:
+                if i in refused and compact == 1:
                     made += ["compact", call]
-                is_granted = (i, "last") not in refused if i in refused and compact else i not in refused
+                is_granted = (i, "last") not in refused if i in refused and compact == 1 else i not in refused
                 grants += is_granted
                 if first[i].startswith("grant"):
                     of[first[i].split()[1]] = grants if is_granted else 0
@@ -36,13 +38,16 @@ def other(text, size, nodes, unit, compact):
                 continue
             if answers[begin] == "none" and i not in refused:
                 wrong = i
-            elif answers[places[i]] == "none" and compact and (i, "last") not in refused:
+            elif answers[places[i]] == "none" and compact == 1 and (i, "last") not in refused:
                 wrong = (i, "last")
             if wrong is not None:
                 break
         if wrong is None:
             return [answers[p] for p in places]
         refused.add(wrong)
+
+
+OFTEN = FRAGMENTED.replace("alloc 300", "shrink 2 50\ncompact\nalloc 300\ngrow 10 350\nshrink 4 60\ncompact\ngrow 10 360")
 
 
 def outcome(answer):
@@ -72,9 +77,11 @@ def two_runs(b):
             ("compacted where a request is refused", FRAGMENTED, (1000, 32, 1, 1)),
             ("more space", FRAGMENTED, (1400, 32, 1, 0)),
             ("fewer nodes", FRAGMENTED, (1000, 9, 1, 0)),
-            ("a unit of 64", FRAGMENTED + "extend 100\nextend 30\nalloc 260\n", (1000 // 64, 32, 64, 0)),
+            ("a unit of 64", FRAGMENTED + "extend 100\nextend 30\nalloc 260\n", (1000, 32, 64, 0)),
+            ("never compacted", OFTEN, (1000, 32, 1, 2)),
+            ("a unit of 8, never compacted", OFTEN, (1000, 32, 8, 2)),
             ("less space", arena, (50000000, nodes, 1, 0)),
-            ("a unit of 256", arena, (size // 256, nodes, 256, 0))):
+            ("a unit of 256", arena, (size, nodes, 256, 0))):
         mine, theirs, rows = compared(b, text, as_)
         same(b.run("return S.other.rows"), rows, f"{what}: the rows that differ")
         found = table(b)

@@ -1,8 +1,10 @@
-// Another run of the same calls: with other units, nodes, or space, or compacted where a request is refused.
-const COMPACT = ['never', 'where a request is refused'];
-// The calls of a run, played in another space: `of` is what B's grants are by A's numbers, `at` B's position by A's.
+// Another run of the same calls: in another space, with other nodes or a larger unit, compacted where a request is refused,
+// or never.
+const COMPACT = { asIs: 0, whereRefused: 1, never: 2 };
+// The calls of a run, played in another space, of `size` units of this one: `of` is what B's grants are by A's numbers, `at`
+// B's position by A's.
 async function another(run, [size, nodes, unit, compact], work) {
-  const b = new Run([Math.min(LARGEST, size), nodes, nodes > 65533 ? 32 : run.head[2]], new Uint32Array(0), new Map(), run.lines);
+  const b = new Run([Math.floor(size / unit), nodes, nodes > 65533 ? 32 : run.head[2]], new Uint32Array(0), new Map(), run.lines);
   b.every = Math.ceil(Math.max(EVERY, run.count / MARKS) / 512) * 512;
   b.m.start(b.head);
   const at = new Uint32Array(run.count + 1), of = new Map(), scaled = n => Math.ceil(n / unit);
@@ -12,10 +14,12 @@ async function another(run, [size, nodes, unit, compact], work) {
     const [op, x, y] = run.call(i), r = run.row(i), grant = of.get(x) || 0;
     const isRequest = op <= 1, name = run.names.get(i);
     const call = op === 0 ? [0, scaled(x), 0] : op === 1 ? (y <= unit ? [0, scaled(x), 0] : [1, scaled(x), y / unit]) :
-      op === 2 || op === 3 ? [op, grant, 0] : op === 7 ? [7, Math.floor(x / unit), 0] : op === 8 || op === 9 ? [op, grant, scaled(y)] : [op, 0, 0];
+      op === 2 || op === 3 ? [op, grant, 0] : op === 7 ? [7, Math.floor(x / unit), 0] : op === 8 || op === 9 ? [op, grant, scaled(y)] :
+      // a report changes nothing
+      op === 10 && compact === COMPACT.never ? [4, 0, 0] : [op, 0, 0];
     if (name) b.names.set(b.count, name);
     let found = one(...call);
-    if (compact && isRequest && found[0] === ANSWER.refused) { one(10, 0, 0); found = one(...call); }
+    if (compact === COMPACT.whereRefused && isRequest && found[0] === ANSWER.refused) { one(10, 0, 0); found = one(...call); }
     if (isRequest && r[0] === ANSWER.grant) of.set(r[1], found[0] === ANSWER.grant ? found[1] : 0);
     else if (isRequest && found[0] === ANSWER.grant) extra++;
     at[i + 1] = b.count;
@@ -38,7 +42,7 @@ function differing(a, { run: b, at }) {
 const most = (list, count, step, at) => { let m = 0; for (let i = 0; i < count; i++) m = Math.max(m, list[step * i + at]); return m; };
 async function compare(as) {
   const [size, nodes, unit, compact] = as;
-  if (nodes < 2 || nodes > LARGEST - 2 || !unit || compact > 1 || as.length !== 4) { say(`Compare: the node limit is 2 to ${whole(LARGEST - 2)}, the unit at least 1`, true); return; }
+  if (nodes < 2 || nodes > LARGEST - 2 || !unit || compact > 2 || as.length !== 4) { say(`Compare: the node limit is 2 to ${whole(LARGEST - 2)}, the unit at least 1`, true); return; }
   const found = await during('Comparing', work => another(S.run, as, work));
   if (!found) return;
   const a = S.run, b = found.run;

@@ -123,6 +123,7 @@ function save(blob, name) {
   say(`Saved: ${name}, ${counted(blob.size, 'byte')}.`);
 }
 // The state in the fragment: the text (deflated, or its name), the calls that were added and from where, the position.
+const MOST_LINK = 2e6;
 const b64 = a => { let s = ''; for (let i = 0; i < a.length; i += 32768) s += String.fromCharCode(...a.subarray(i, i + 32768));
   return btoa(s).replace(/\+/g, '-').replace(/\//g, '_').replace(/=/g, ''); };
 const un64 = s => Uint8Array.from(atob(s.replace(/-/g, '+').replace(/_/g, '/')), c => c.charCodeAt(0));
@@ -133,6 +134,7 @@ async function link() {
   if (S.name === 'own') q.set('s', b64(await through(S.bytes, new CompressionStream('deflate-raw')))); else q.set('t', S.name);
   if (S.run !== S.base) { q.set('kept', S.run.kept); q.set('c', S.run.edits.flat().join('.')); }
   if (S.other) q.set('x', S.other.as.join('.'));
+  if (String(q).length > MOST_LINK) { say(`This run is too large for a link (${counted(String(q).length, 'character')}): send its file, and the number of the row.`, true); return; }
   history.replaceState(null, '', '#' + q);
   const size = counted(location.href.length, 'character'), long = location.href.length > 30000 ? ' Some programs cut such a link: then send the file.' : '';
   try { await navigator.clipboard.writeText(location.href); say(`The link to this state is copied: ${size}.${long}`); }
