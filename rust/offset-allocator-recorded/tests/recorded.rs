@@ -152,6 +152,10 @@ fn a_recording_begins_with_an_empty_space() {
     let seen = Seen::default();
     assert_eq!(Recorded::new(space, seen.clone()).err().unwrap().kind(), io::ErrorKind::InvalidInput);
     assert_eq!(seen.text(), "");
+    // one block, and that is used
+    let mut space = Allocator::<u32>::with_max_allocs(Global, 96, 8).unwrap();
+    assert!(space.allocate(96).is_some() && space.block_count() == 1);
+    assert!(Recorded::new(space, seen.clone()).is_err());
     let mut space = Allocator::<u32>::with_max_allocs(Global, 100, 8).unwrap();
     assert_eq!(space.allocate(10), Some(range));
     assert!(space.extend(11));
