@@ -45,10 +45,10 @@ def until(b, condition, what, seconds=20):
     assert found, f"not reached: {what}"
 
 
-def give(b, data, name="yours.script", waits=True):
-    """Gives a file to the page, as the user does by its control."""
+def give(b, data, name="yours.script", waits=True, before=""):
+    """Gives a file to the page, as the user does by its control; just before that a script is run."""
     b.run("const f = new File([Uint8Array.from(atob(arguments[0]), c => c.charCodeAt(0))], arguments[1]), t = new DataTransfer(); "
-          "t.items.add(f); $('file').files = t.files; const done = $('file').onchange(); return arguments[2] ? done : 0",
+          "t.items.add(f); $('file').files = t.files; " + before + "; const done = $('file').onchange(); return arguments[2] ? done : 0",
           base64.b64encode(data if isinstance(data, bytes) else data.encode()).decode(), name, waits)
 
 

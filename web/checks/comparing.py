@@ -87,8 +87,8 @@ def two_runs(b):
         found = table(b)
         refused = [mine.count("none"), theirs.count("none")]
         same(found["Refused calls"][:2], [f"{n:,}" for n in refused], f"{what}: refused calls")
-        first = [answers.index("none") + 1 if "none" in answers else 0 for answers in (mine, theirs)]
-        same(found["First refusal, row"][:2], [f"{n:,}" for n in first], f"{what}: the first refusal")
+        first = [f"{answers.index('none') + 1:,}" if "none" in answers else "none" for answers in (mine, theirs)]
+        same(found["First refusal, row"][:2], first, f"{what}: the first refusal")
         for p in (rows[0] if rows else 1, len(mine)):
             to(b, p)
             same(table(b)["Answer"][:2], [mine[p - 1], theirs[p - 1]], f"{what}: answers at row {p}")

@@ -216,10 +216,10 @@ def work_is_in_slices(b):
     text = "space 1000000 nodes 4096 index 32\n" + "full\n" * 190000
     watched = """let last = performance.now(); window.most = 0;
       window.watch = setInterval(() => { const t = performance.now(); window.most = Math.max(window.most, t - last); last = t; }, 5)"""
-    b.run(watched)
-    give(b, text, waits=False)
+    give(b, text, waits=False, before=watched)
     until(b, "$('at').max === '190000'", "all is played", 60)
     most = b.run("clearInterval(watch); return window.most")
+    print(f"190,000 full reports: the page is blocked for {most:.0f} ms at most")
     holds(most < 500, "190,000 full reports never block the page for half a second", most)
     b.open()
     give(b, text, waits=False)

@@ -49,7 +49,7 @@ async function compare(as) {
   S.other = { ...found, as, ...differing(a, found) };
   S.other.whole = [
     ['Refused calls', a.refusals.length, S.other.refused.length],
-    ['First refusal, row', a.refusals[0] || 0, S.other.refused[0] || 0],
+    ['First refusal, row', a.refusals[0] || 'none', S.other.refused[0] || 'none'],
     ['Most units in use', most(a.used.list, a.count, 1, 0), most(b.used.list, b.count, 1, 0) * unit],
     ['Highest end of a range', a.top, b.top * unit],
     ['Most blocks', most(a.rows.list, a.count, 8, 6), most(b.rows.list, b.count, 8, 6)],
@@ -71,8 +71,8 @@ function showOther() {
     ['Units free', free(a, p), free(b, q) * unit], ['Largest request granted', largest(a, p), largest(b, q) * unit],
     ['Blocks', va.blocks.length, vb.blocks.length], ['Over all', '', ''], ...S.other.whole];
   $('differences').replaceChildren(...table.map(([name, x, y]) => {
-    const row = document.createElement('tr'), isNumber = typeof x === 'number', th = document.createElement('th');
-    th.textContent = name; th.scope = 'row'; row.append(th);
+    const row = document.createElement('tr'), isNumber = typeof x === 'number' && typeof y === 'number', th = document.createElement('th');
+    th.textContent = name; th.scope = 'row'; row.append(th); if (x === '' && y === '') row.className = 'part';
     for (const v of [x, y, isNumber && x !== y ? y - x : '']) row.insertCell().textContent = typeof v === 'number' ? whole(v) : v;
     if (isNumber && x !== y) row.cells[3].textContent = (y > x ? '+' : '−') + whole(Math.abs(y - x));
     return row;

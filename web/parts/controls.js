@@ -64,35 +64,35 @@ for (const id of ['life', 'lifeA']) {
 $('bins').onpointermove = event => {
   const c = binAt(event), n = c < 0 ? 0 : S.run.view(S.p).bins[c];
   $('bin').textContent = c < 0 ? '' : c >= BINS ? `Bin ${c}: larger than any space.` : `Bin ${c}: blocks of ${sizesOf(c)} units; ${counted(n, 'free block')}.`; };
-// The keys, wherever the focus is, but in text. Each is [what it does, the call, the buttons it presses by itself].
-const KEYS = {
-  ArrowLeft: ['one row back', () => to(S.p - 1)], ArrowRight: ['one row on', () => to(S.p + 1)],
-  PageUp: ['100 rows back', () => to(S.p - 100)], PageDown: ['100 rows on', () => to(S.p + 100)],
-  Home: ['before the first row', () => to(0)], End: ['after the last row', () => to(S.run.count)],
-  ' ': ['play or pause, where no button has the focus', toggle], p: ['play or pause', toggle],
-  r: ['next refusal', () => refusal(1)], R: ['refusal before', () => refusal(-1)],
-  b: ['next block', () => chooseBlock(1)], B: ['block before', () => chooseBlock(-1)],
-  Enter: ['the row of the chosen block', () => { if (!$('goto').hidden) $('goto').click(); }],
-  '+': ['zoom in', () => zoom(1 / 4)], '-': ['zoom out', () => zoom(4)], '0': ['the whole space', () => $('zall').click()],
-  ',': ['left, in the zoom', () => pan(-0.5)], '.': ['right, in the zoom', () => pan(0.5)],
-  g: ['to the number of a row', () => { $('row').focus(); $('row').select(); }],
-  u: ['undo', () => $('undo').click()], U: ['redo', () => $('redo').click()], o: ['back to the original', original],
-  l: ['link to this state', link], Escape: ['stop work, close a message', () => { stopWork(); say(''); }],
-  '?': ['this list', () => $('help').showModal()],
-};
+// The keys, wherever the focus is, but in text: what each does.
+const KEYS = new Map([
+  ['ArrowLeft', 'one row back', () => to(S.p - 1)], ['ArrowRight', 'one row on', () => to(S.p + 1)],
+  ['PageUp', '100 rows back', () => to(S.p - 100)], ['PageDown', '100 rows on', () => to(S.p + 100)],
+  ['Home', 'before the first row', () => to(0)], ['End', 'after the last row', () => to(S.run.count)],
+  [' ', 'play or pause, where no button has the focus', toggle], ['p', 'play or pause', toggle],
+  ['r', 'next refusal', () => refusal(1)], ['R', 'refusal before', () => refusal(-1)],
+  ['b', 'next block', () => chooseBlock(1)], ['B', 'block before', () => chooseBlock(-1)],
+  ['Enter', 'the row of the chosen block', () => { if (!$('goto').hidden) $('goto').click(); }],
+  ['+', 'zoom in', () => zoom(1 / 4)], ['-', 'zoom out', () => zoom(4)], ['0', 'the whole space', () => $('zall').click()],
+  [',', 'left, in the zoom', () => pan(-0.5)], ['.', 'right, in the zoom', () => pan(0.5)],
+  ['g', 'to the number of a row', () => { $('row').focus(); $('row').select(); }],
+  ['u', 'undo', () => $('undo').click()], ['U', 'redo', () => $('redo').click()], ['o', 'back to the original', original],
+  ['l', 'link to this state', link], ['Escape', 'stop work, close a message', () => { stopWork(); say(''); }],
+  ['?', 'this list', () => $('help').showModal()],
+].map(([key, what, f]) => [key, { what, f }]));
 const KEY_NAMES = { ' ': 'Space', ArrowLeft: '←', ArrowRight: '→', PageUp: 'Page Up', PageDown: 'Page Down' };
-for (const [key, [what]] of Object.entries(KEYS)) {
+for (const [key, { what }] of KEYS) {
   const dt = document.createElement('dt'), dd = document.createElement('dd');
   dt.textContent = KEY_NAMES[key] || key; dd.textContent = what; $('keylist').append(dt, dd); }
 addEventListener('keydown', event => {
   const at = event.target, key = event.key;
-  if (event.ctrlKey || event.metaKey || event.altKey || !S.run || !Object.hasOwn(KEYS, key) || $('help').open) return;
+  if (event.ctrlKey || event.metaKey || event.altKey || !S.run || !KEYS.has(key) || $('help').open) return;
   const isText = at.tagName === 'TEXTAREA' || (at.tagName === 'INPUT' && !['range', 'checkbox', 'file'].includes(at.type));
   if (isText && key !== 'Escape') return;
   if ([' ', 'Enter'].includes(key) && (/BUTTON|SELECT|SUMMARY|INPUT/.test(at.tagName) || at.getAttribute('role') === 'listbox')) return;
   if (key.length === 1 && /[a-z]/i.test(key) && !$('letters').checked) return;
   if (event.defaultPrevented) return;
-  event.preventDefault(); KEYS[key][1]();
+  event.preventDefault(); KEYS.get(key).f();
 });
 let resizing = 0;
 addEventListener('resize', () => { cancelAnimationFrame(resizing); resizing = requestAnimationFrame(() => S.run && draw()); });

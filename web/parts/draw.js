@@ -22,13 +22,13 @@ function drawSpace(id, run, p, from, to, marked) {
   const [g, w0, h] = canvas(id), w = w0 - GUTTER, rh = h / ROWS, span = (to - from) / ROWS, c = colors(), v = run.view(p);
   g.textAlign = 'right';
   for (let y = 0; y < ROWS; y++) g.fillText(short(Math.round(from + y * span)), GUTTER - 4, y * rh + rh / 2);
-  g.fillStyle = c.free;
-  for (let y = 0; y < ROWS; y++) g.fillRect(GUTTER, y * rh + 1, w, rh - 2);
   const strip = (o, n, f) => {
     const end = Math.min(to, o + n), begin = Math.max(from, o);
     for (let y = Math.floor((begin - from) / span); y < ROWS && from + y * span < end; y++) {
       const x = Math.max(0, begin - from - y * span) / span * w, z = Math.min(span, end - from - y * span) / span * w;
       f(GUTTER + x, y * rh, z - x); } };
+  // what is not in the space is not free
+  g.fillStyle = c.free; strip(0, run.sizeAt(p), (x, y, z) => g.fillRect(x, y + 1, z, rh - 2));
   let last = -1;
   for (const b of v.blocks) {
     if (b.o >= to) break;

@@ -25,7 +25,7 @@ function showFault(fault, bytes, file) {
   if (bytes.length > 1 << 21) return;
   const box = $('text'), value = new TextDecoder().decode(bytes);
   if (!canMend || !box.value) box.value = value;
-  S.shown = false;
+  S.shown = false; $('textname').textContent = `${file || 'a text'}, with a fault in line ${whole(fault.line)}`;
   let at = 0;
   for (let line = 1; line < fault.line && at >= 0; line++) at = box.value.indexOf('\n', at) + 1;
   const end = box.value.indexOf('\n', at);
