@@ -10,8 +10,10 @@ ghost use Rattle.offset_allocator.specs.Relations.{Aligns, Allocates, CanExtend,
 ghost use Rattle.offset_allocator.specs.Relations.{IsFresh, Resets};
 ghost use Rattle.offset_allocator.specs.Requests.{CanGrant, blocks_needed, units_needed};
 ghost use Rattle.offset_allocator.specs.Resizing.{CanGrow, CanShrink, Grows, Shrinks};
-ghost use Rattle.offset_allocator.specs.View.{largest_free, used_of};
-ghost use Rattle.offset_guarded.specs.Guard.{Grants, HasSerialLeft, HasUnits, IsLive, IsSame, IsWhy, KeepsAll};
+ghost use Rattle.offset_allocator.specs.Classes.{down};
+ghost use Rattle.offset_allocator.specs.Tight.{AlignsTight, CanHold, listed_from};
+ghost use Rattle.offset_allocator.specs.View.{bin_at, largest_free, used_of};
+ghost use Rattle.offset_guarded.specs.Guard.{Grants, HasSerialLeft, HasUnits, IsLive, IsSame, IsWhy, IsWhyTight, KeepsAll};
 ghost use Rattle.offset_guarded.specs.Guard.{KeepsLive, KeepsOthers, KeepsSerials, KeepsSizes, grant_of, last_serial};
 ghost use Rattle.offset_guarded.specs.Guard.{range_of, serial_of};
 ghost use Rattle.offset_allocator.specs.Ranges as named;
@@ -174,6 +176,59 @@ pub fn refusal_aligned<T: Tables>(space: &GuardedOf<T>, size: u32, align: u32) -
     ensures why { IfSome result (IsWhy (blocks_needed align) (units_needed size align) space.now) }
 {
     space.refusal_aligned(size, align)
+}
+
+/// `allocate_tight`, with each clause of its contract.
+pub fn allocate_tight<T: Tables>(space: &mut GuardedOf<T>, size: u32) -> Option<Ticket>
+    ensures can_hold { IsSome result ↔ (HasSerialLeft space.old × CanHold size 1 space.old.space) }
+    ensures grants { IfSome result (Grants size space.old space.new) }
+    ensures same { result ≡ None → IsSame space.old space.new }
+    ensures step { HasSerialLeft space.old
+        → AlignsTight size 1 space.old.space space.new.space (option_map grant_of result) }
+    ensures accesses_max { space.new.space.accesses
+        ≤ space.old.space.accesses + 140 + 6 * length (bin_at space.old.space.order (down size)) }
+{
+    space.allocate_tight(size)
+}
+
+/// `allocate_tight_aligned`, with each clause of its contract.
+pub fn allocate_tight_aligned<T: Tables>(
+    space: &mut GuardedOf<T>,
+    size: u32,
+    align: u32,
+) -> Option<Ticket>
+    requires power { IsAlignment align }
+    ensures can_hold { IsSome result ↔ (HasSerialLeft space.old × CanHold size align space.old.space) }
+    ensures grants { IfSome result (Grants size space.old space.new) }
+    ensures aligned { IfSome result (λ t. t.offset % align ≡ 0) }
+    ensures same { result ≡ None → IsSame space.old space.new }
+    ensures step { HasSerialLeft space.old
+        → AlignsTight size align space.old.space space.new.space (option_map grant_of result) }
+    ensures accesses_max { space.new.space.accesses
+        ≤ space.old.space.accesses + 140 + 6 * length (listed_from (down size) space.old.space.order) }
+{
+    space.allocate_tight_aligned(size, align)
+}
+
+/// `refusal_tight`, with each clause of its contract.
+pub fn refusal_tight<T: Tables>(space: &GuardedOf<T>, size: u32) -> Option<Refusal>
+    ensures granted { result ≡ None ↔ (HasSerialLeft space.now × CanHold size 1 space.now.space) }
+    ensures why { IfSome result (IsWhyTight size 1 space.now) }
+{
+    space.refusal_tight(size)
+}
+
+/// `refusal_tight_aligned`, with each clause of its contract.
+pub fn refusal_tight_aligned<T: Tables>(
+    space: &GuardedOf<T>,
+    size: u32,
+    align: u32,
+) -> Option<Refusal>
+    requires power { IsAlignment align }
+    ensures granted { result ≡ None ↔ (HasSerialLeft space.now × CanHold size align space.now.space) }
+    ensures why { IfSome result (IsWhyTight size align space.now) }
+{
+    space.refusal_tight_aligned(size, align)
 }
 
 /// `shrink`, with each clause of its contract.
