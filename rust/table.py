@@ -80,7 +80,7 @@ IMPORTS = {
 }
 
 # Names that need no import in Rattle, and here come from the hand-written module.
-PRELUDE = {"Vec": "crate::memory::Vec"}
+PRELUDE = {"Vec": "crate::memory::Vec", "String": "crate::memory::String"}
 
 # Exact replacements: the text of the source, the text here, and the reason.
 PAIRS = [

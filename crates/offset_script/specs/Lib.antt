@@ -1,4 +1,5 @@
 pub mod Devices
+pub mod Dumping
 pub mod Faults
 pub mod Grammar
 pub mod Heads

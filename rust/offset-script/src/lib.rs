@@ -11,6 +11,7 @@ pub use memory::{AllocError, Global, String, Vec};
 mod answers;
 mod devices;
 mod direct;
+mod dumping;
 mod faults;
 pub mod laws;
 mod line;
@@ -26,6 +27,7 @@ mod writing;
 
 pub use answers::{Answer, FullRow};
 pub use devices::{FromRead, IntoWrite, Sink, Source};
+pub use dumping::{json_of, vma_json_of};
 pub use faults::{RunFault, ScriptFault};
 pub use playing::{Player, PlayerOf, full_answer, play, play_of, play_script};
 pub use program::run_program;

@@ -102,3 +102,9 @@ impl Deref for String {
         &self.0
     }
 }
+
+impl From<String> for std::string::String {
+    fn from(text: String) -> Self {
+        text.0
+    }
+}

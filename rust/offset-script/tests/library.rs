@@ -1,5 +1,8 @@
 //! The library's calls, and their conditions in `table.py`.
-use offset_script::{parse, play, run, Answer, Command, FromRead, Global, IndexWidth, IntoWrite, RunFault, ScriptFault, Sink};
+use offset_allocator::Allocator;
+use offset_script::{
+    json_of, parse, play, run, vma_json_of, Answer, Command, FromRead, Global, IndexWidth, IntoWrite, RunFault, ScriptFault, Sink,
+};
 
 #[test]
 fn reads_and_plays() {
@@ -9,6 +12,25 @@ fn reads_and_plays() {
     let answers = play::<u32>(Global, script.size, script.max_allocs, &script.commands).unwrap();
     assert!(matches!(answers[..], [Answer::Grant { number: 1, offset: 0 }, Answer::Freed]));
     assert_eq!(parse(Global, b"space 1\n").err(), Some(ScriptFault::BadHeader(1)));
+}
+
+#[test]
+fn spaces_as_json() {
+    let mut space = Allocator::<u32>::with_max_allocs(Global, 100, 16).unwrap();
+    let first = space.allocate(16).unwrap();
+    let name = space.allocate(8).unwrap().name();
+    space.free(first);
+    let wanted = format!(
+        "{{\"size\":100,\"max_allocs\":16,\"live_ranges\":1,\"live_units\":8,\"free_blocks\":2,\"free_units\":92,\
+         \"largest_free_block\":76,\"largest_free_region\":72,\"blocks\":[{{\"offset\":0,\"size\":16}},\
+         {{\"offset\":16,\"size\":8,\"name\":{name}}},{{\"offset\":24,\"size\":76}}]}}"
+    );
+    assert_eq!(String::from(json_of(&space, Global).unwrap()), wanted);
+    let wanted = "{\"General\":{\"API\":\"Vulkan\"},\"DefaultPools\":{\"Type 0\":{\"PreferredBlockSize\":100,\"Blocks\":{\"0\":{\
+                  \"TotalBytes\":100,\"UnusedBytes\":92,\"Allocations\":1,\"UnusedRanges\":2,\"Suballocations\":[\
+                  {\"Offset\":0,\"Type\":\"FREE\",\"Size\":16},{\"Offset\":16,\"Type\":\"UNKNOWN\",\"Size\":8},\
+                  {\"Offset\":24,\"Type\":\"FREE\",\"Size\":76}]}}}}}";
+    assert_eq!(&*vma_json_of(&space, Global).unwrap(), wanted);
 }
 
 #[test]

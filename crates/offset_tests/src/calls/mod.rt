@@ -3,6 +3,7 @@
 mod alignment;
 mod classes;
 mod compacting;
+mod dumps;
 mod extension;
 mod fields;
 mod filling;
