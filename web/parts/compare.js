@@ -5,8 +5,7 @@ const COMPACT = { asIs: 0, whereRefused: 1, never: 2 };
 // B's position by A's.
 async function another(run, [size, nodes, unit, compact], work) {
   const b = new Run([Math.floor(size / unit), nodes, nodes > 65533 ? 32 : run.head[2]], new Uint32Array(0), new Map(), run.lines);
-  b.every = Math.ceil(Math.max(EVERY, run.count / MARKS) / 512) * 512;
-  b.m.start(b.head);
+  b.start(run.count);
   const at = new Uint32Array(run.count + 1), of = new Map(), scaled = n => Math.ceil(n / unit);
   const one = (...call) => { b.calls.push(...call); b.step(1); return b.row(b.count - 1); };
   let extra = 0;

@@ -8,12 +8,12 @@ const isRefusal = (run, p) => p > 0 && run.row(p - 1)[0] === ANSWER.refused;
 // A refused call, p the row after it: what it asked for, why it was refused, and what would have helped.
 function explain(run, p) {
   const [op, a, b] = run.call(p - 1), before = run.view(p - 1), size = run.sizeAt(p - 1);
-  const said0 = { title: `Row ${whole(p)}: ${said(op, a, b)} is refused`, facts: [], helps: [] };
-  if (op <= 1) asked(said0, run, p, a, op ? b : 1, before, size);
-  else if (op === 7) extended(said0, run, p, a, before, size);
-  else resized(said0, run, p, op, a, b, before, size);
-  if (!said0.helps.length) said0.helps.push('nothing that was tried: a space that began larger, or other calls before');
-  return said0;
+  const out = { title: `Row ${whole(p)}: ${said(op, a, b)} is refused`, facts: [], helps: [] };
+  if (op <= 1) asked(out, run, p, a, op ? b : 1, before, size);
+  else if (op === 7) extended(out, run, p, a, before, size);
+  else resized(out, run, p, op, a, b, before, size);
+  if (!out.helps.length) out.helps.push('nothing that was tried: a space that began larger, or other calls before');
+  return out;
 }
 // Whether the last of these calls succeeds there. A module of much memory is not copied.
 const granted = (run, p, calls) => { if (run.m.size() > 1 << 28) return false; const r = run.tried(p - 1, calls); return [ANSWER.grant, ANSWER.resized, ANSWER.extended].includes(r.at(-1)[0]); };

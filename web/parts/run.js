@@ -1,6 +1,6 @@
 // A run: the calls of a text, played. It keeps eight numbers for each call, the life of each range, and copies of the
 // module's memory, from which a position is reached again.
-const EVERY = 2048, MARKS = 64, MOST_MARKED = 1 << 28;
+const EVERY = 2048, MARKED = 1 << 29;
 const ANSWER = { grant: 1, refused: 2, freed: 3, resized: 4, compacted: 5, gone: 6, reset: 7, extended: 8, full: 9, size: 10 };
 const REASONS = ['', 'too few nodes are left', 'the request is too large for the space', 'too few units are free',
   'no free block is large enough until the space is compacted'];
@@ -15,22 +15,27 @@ class Run {
     for (const c of ['lk', 'lo', 'ln', 'lf', 'lt', 'lb']) this[c] = new Growing(Uint32Array, 1024);
     this.born = new Growing(Uint32Array, 1024); this.born.push(0);
     this.live = new Map(); this.refusals = []; this.sizes = [[0, head[0]]]; this.top = 1; this.inUse = 0;
-    this.every = Math.ceil(Math.max(EVERY, calls.length / 3 / MARKS) / 512) * 512;
   }
   get all() { return this.calls.length / 3; }
   // Plays all calls from the start.
   async survey(work) {
-    this.m.start(this.head);
+    this.start(this.all);
     while (this.count < this.all) {
       this.step(Math.min(512, this.all - this.count));
       await work.turn(this.count, this.all);
     }
     return this;
   }
+  // Makes the space, for so many calls: all copies of its memory are to fit into `MARKED` bytes.
+  start(count) {
+    this.m.start(this.head);
+    this.every = Math.ceil(Math.max(EVERY, 2 * count * this.m.size() / MARKED) / 512) * 512;
+    this.left = this.m.size() > MARKED / 4 ? 0 : MARKED;
+  }
   // Plays the next calls.
   step(n) {
-    const m = this.m, i = this.count;
-    if (i % this.every === 0 && !this.marks[i / this.every] && m.size() * MARKS <= MOST_MARKED * 4) this.marks[i / this.every] = m.saved();
+    const m = this.m, i = this.count, mark = i / this.every;
+    if (i % this.every === 0 && !this.marks[mark] && this.left >= m.size()) { this.marks[mark] = m.saved(); this.left -= m.size(); }
     const rows = m.play(this.calls.list.subarray(3 * i, 3 * Math.min(i + n, Math.ceil((i + 1) / this.every) * this.every)));
     for (let r = 0; r < rows.length; r += 8) this.track(rows.subarray(r, r + 8));
     this.at = this.count; this.held = null;
@@ -102,7 +107,7 @@ class Run {
     }
     b.born = new Growing(Uint32Array, 1024);
     for (let k = 0; k < this.born.length && this.born.list[k] <= kept; k++) b.born.push(this.born.list[k]);
-    b.m.start(b.head); b.at = 0; b.seek(kept);
+    b.m.start(b.head); b.at = 0; b.left = MARKED; b.seek(kept);
     for (const e of edits) { b.calls.push(...e); b.step(1); }
     return b;
   }

@@ -43,11 +43,11 @@ async function load(bytes, name, title) {
   Object.assign(S, { run, base: run, name, title, bytes, past: [], ahead: [], grant: 0, zoom: null });
   say('');
   dropOther();
-  named0();
+  showNames();
   return true;
 }
 // Names of the run, where they are shown.
-function named0() {
+function showNames() {
   const own = [...$('trace').options].find(o => o.value === 'own');
   own.textContent = S.name === 'own' ? S.title : OWN;
   for (const o of $('trace').options) o.textContent = o.textContent.replace(/ \(yours, from row .*\)$/, '');
@@ -66,8 +66,10 @@ function named0() {
   $('callhead').textContent = `${whole(S.run.count)} calls and their answers`;
   L.calls.chosen = -1;
 }
+const MOST_SHOWN = 200000;
 async function showText() {
   const run = S.run;
+  if (run.count > MOST_SHOWN) { say(`The text is too long to be shown: ${counted(run.count, 'call')}. It can be saved.`); return; }
   let text = run === S.base && S.bytes.length < 1 << 22 ? new TextDecoder().decode(S.bytes) : null;
   if (text === null) text = await during('Writing', work => writeText(run, work));
   if (text !== null) { $('text').value = text; S.shown = true; $('textname').textContent = S.run === S.base ? S.title : `${S.title}, yours from row ${whole(S.run.kept)}`; }
@@ -101,7 +103,7 @@ function edit(kept, edits) {
 function set({ kept, edits, p, isBase }) {
   try { S.run = isBase ? S.base : S.base.branch(kept, edits); } catch (fault) {
     say(fault instanceof Fault ? fault.message : 'out of memory', true); return; }
-  named0(); dropOther(); go(p);
+  showNames(); dropOther(); go(p);
 }
 function undo(from, to) {
   if (!from.length) return;
@@ -157,7 +159,7 @@ async function restore() {
         if (i + 2 >= c.length || c[i] > 10 || (c[i] === 1 && (!c[i + 2] || 2 ** Math.round(Math.log2(c[i + 2])) !== c[i + 2]))) throw Error();
         edits.push(c.slice(i, i + 3)); }
       if (kept > S.base.count) throw Error();
-      S.run = S.base.branch(kept, edits); named0();
+      S.run = S.base.branch(kept, edits); showNames();
     }
     if (q.has('x')) await compare(numbersOf(q.get('x')));
   } catch (fault) {
