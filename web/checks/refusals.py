@@ -45,6 +45,12 @@ def tried(head, before, call, helps, what):
         assert is_done(head, [*before, f"alloc {n}"]) and not is_done(head, [*before, f"alloc {n + 1}"]), (what, n)
     for n in re.findall(r"another range: alloc (\d+) is granted", said):
         assert is_done(head, [*before, f"alloc {n}"]), (what, n)
+    for other in re.findall(r"((?:grow|shrink) \d+ \d+) in its place", said):
+        assert is_done(head, [*before, other]), (what, other)
+    for kind in ("grow", "shrink"):
+        if name == kind and "in its place" not in said and ("is more" in what or "is fewer" in what):
+            other = {"grow": "shrink", "shrink": "grow"}[kind]
+            assert not is_done(head, [*before, f"{other} {numbers[0]} {numbers[1]}"]), what
     if "no alignment" in said:
         assert is_done(head, [*before, f"alloc {numbers[0]}"]), what
     if name == "extend":

@@ -56,13 +56,17 @@ function resized(out, run, p, op, k, n, before, size) {
   const lack = n - block.n, room = next && !next.k ? next.n : 0;
   out.facts.push(`${named(run, k)} has ${units(block.n)}, at ${whole(block.o)}`);
   if (op === 8) {
-    if (n > block.n) { out.facts.push(`${whole(n)} is more: shrink makes no range larger`); out.helps.push(`grow ${k} ${n}`); return; }
+    if (n > block.n) { out.facts.push(`${whole(n)} is more: shrink makes no range larger`);
+      if (granted(run, p, [[9, k, n]])) out.helps.push(`grow ${k} ${n} in its place`);
+      return; }
     out.facts.push(`no further block may exist for the units after it, and no free block is directly after it`);
     out.helps.push(`more nodes: a limit of ${whole(run.head[1] + 1)}`);
     if (granted(run, p, [[10], run.call(p - 1)])) out.helps.push('compact: after it the range can shrink');
     return;
   }
-  if (lack < 0) { out.facts.push(`${whole(n)} is fewer: grow makes no range smaller`); out.helps.push(`shrink ${k} ${n}`); return; }
+  if (lack < 0) { out.facts.push(`${whole(n)} is fewer: grow makes no range smaller`);
+    if (granted(run, p, [[8, k, n]])) out.helps.push(`shrink ${k} ${n} in its place`);
+    return; }
   if (!next) out.facts.push('it ends where the space ends');
   else if (next.k) out.facts.push(`directly after it is ${named(run, next.k)}, with ${units(next.n)}`);
   else out.facts.push(`directly after it ${units(next.n)} ${next.n === 1 ? 'is' : 'are'} free, and it lacks ${whole(lack)}`);
