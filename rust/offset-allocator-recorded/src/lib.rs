@@ -27,7 +27,7 @@ use tape::Tape;
 /// and flushed before the call is made: so a crash, of the call too, keeps it. A file needs no buffer of its own.
 ///
 /// The first failure of `out` ends the recording, and not the program: calls go on, `failure` has the error, and
-/// `finish` returns it.
+/// `finish` returns it. A recording takes 4 to 8 bytes of memory for each node that was granted, and those of a line.
 pub struct Recorded<A, W: Write> {
     space: A,
     tape: Tape<W>,

@@ -47,10 +47,17 @@ impl<W: Write> Tape<W> {
         self.write(format_args!("# {}", text.replace(['\n', '\r'], " ")));
     }
 
-    /// The next grant has this name.
+    /// The next grant has this name. Where memory is out the recording ends, and not the program.
     pub(crate) fn grant(&mut self, name: u32) {
+        if self.failure.is_some() {
+            return;
+        }
         let place = name as usize;
         if place >= self.numbers.len() {
+            if self.numbers.try_reserve(place + 1 - self.numbers.len()).is_err() {
+                self.failure = Some(io::ErrorKind::OutOfMemory.into());
+                return;
+            }
             self.numbers.resize(place + 1, 0);
         }
         self.grants = self.grants.saturating_add(1);
