@@ -6,9 +6,10 @@ use Rattle.offset_lives.specs.declared.axes.Axis.{Axis}
 use Rattle.offset_lives.specs.declared.living.Life.{Life}
 use Rattle.offset_lives.specs.declared.plots.Plot.{Plot}
 use Rattle.offset_lives.specs.declared.shapes.Shape.{Shape}
-use Rattle.offset_lives.specs.Lives.{AreApart, IsOrdered, life_view}
+use Rattle.offset_lives.specs.Lives as plain
+use Rattle.offset_lives.specs.Lives.{IsOrdered, life_view}
 use Rattle.offset_lives.specs.Merging.{drawn, is_tiny, round_out}
-use Rattle.offset_lives.specs.Overlaps.{AreDrawnApart, AreRoundedApart, IsAbove, IsLeftOf, RectanglesAreApart}
+use Rattle.offset_lives.specs.Overlaps.{AreApart, AreDrawnApart, AreNearlyApart, IsAbove, IsLeftOf, RectanglesAreApart}
 use Rattle.offset_lives.specs.Places.{frame_of, right_of, shape_of, up_of}
 use Rattle.offset_lives.proofs.Apart.{apart_law}
 use Rattle.offset_lives.proofs.Lined.{along_grows, along_within}
@@ -37,21 +38,30 @@ above s t x y o p l = either (cases_lt (t.bottom - t.top) 30)
     either (inl z) = inr (omega arith, omega arith)
     either (inr z) = inl (omega arith)
 
-lower : (p : Plot) → 30 ≤ p.units.start → (a b : Life) → b.offset + b.size ≤ a.offset → IsAbove (frame_of (shape_of p a)) (frame_of (shape_of p b))
-lower p low a b l =
-    let x = up_from p.units a.offset in
-    let y = up_from p.units b.offset in
-    above (shape_of p a) (shape_of p b) (omega arith) (omega arith) (up_falls p.units a.offset (a.offset + a.size) (omega arith)) (up_falls p.units b.offset (b.offset + b.size) (omega arith))
-    (up_falls p.units (b.offset + b.size) a.offset l)
+-- a shape does not end before it begins, and lies a little below the upper end of the picture
+record IsUpright (s : Shape) : Type 0 where
+  across : s.left ≤ s.right
+  down : s.top ≤ s.bottom
+  low : 30 ≤ s.bottom
 
-drawn_apart : (p : Plot) (a b : Life) → 30 ≤ p.units.start → a.first ≤ a.last → b.first ≤ b.last → AreApart (life_view a) (life_view b)
-    → AreDrawnApart (frame_of (shape_of p a)) (frame_of (shape_of p b))
-drawn_apart p a b low o q (inl l) =
-    inl (left_of (shape_of p a) (shape_of p b) (right_grows p.calls (a.first + 1) (a.last + 1) (omega arith)) (right_grows p.calls (a.last + 1) (b.first + 1) (omega arith)))
-drawn_apart p a b low o q (inr (inl l)) =
-    inr (inl (left_of (shape_of p b) (shape_of p a) (right_grows p.calls (b.first + 1) (b.last + 1) (omega arith)) (right_grows p.calls (b.last + 1) (a.first + 1) (omega arith))))
-drawn_apart p a b low o q (inr (inr (inl l))) = inr (inr (inr (lower p low b a l)))
-drawn_apart p a b low o q (inr (inr (inr l))) = inr (inr (inl (lower p low a b l)))
+is_upright : (p : Plot) (l : Life) → 30 ≤ p.units.start → l.first ≤ l.last → IsUpright (shape_of p l)
+is_upright p l low o = record {
+  across = right_grows p.calls (l.first + 1) (l.last + 1) (omega arith);
+  down = up_falls p.units l.offset (l.offset + l.size) (omega arith);
+  low = omega (arith, up_from p.units l.offset);
+}
+
+shapes_apart : (p : Plot) (a b : Life) → plain.AreApart (life_view a) (life_view b) → AreApart (shape_of p a) (shape_of p b)
+shapes_apart p a b (inl l) = inl (right_grows p.calls (a.last + 1) (b.first + 1) (omega arith))
+shapes_apart p a b (inr (inl l)) = inr (inl (right_grows p.calls (b.last + 1) (a.first + 1) (omega arith)))
+shapes_apart p a b (inr (inr (inl l))) = inr (inr (inr (up_falls p.units (a.offset + a.size) b.offset l)))
+shapes_apart p a b (inr (inr (inr l))) = inr (inr (inl (up_falls p.units (b.offset + b.size) a.offset l)))
+
+drawn_apart : (s t : Shape) → IsUpright s → IsUpright t → AreApart s t → AreDrawnApart (frame_of s) (frame_of t)
+drawn_apart s t x y (inl l) = inl (left_of s t x.across l)
+drawn_apart s t x y (inr (inl l)) = inr (inl (left_of t s y.across l))
+drawn_apart s t x y (inr (inr (inl l))) = inr (inr (inl (above s t x.low y.low x.down y.down l)))
+drawn_apart s t x y (inr (inr (inr l))) = inr (inr (inr (above t s y.low x.low y.down x.down l)))
 
 -- ---- rectangles whose edges are rounded outwards, where they are tiny
 
@@ -72,11 +82,11 @@ beside s t l = let x = near (is_tiny s) s in let y = near (is_tiny t) t in omega
 beneath : (s t : Shape) → s.bottom ≤ t.top → (drawn s).bottom ≤ (drawn t).top + 10
 beneath s t l = let x = near (is_tiny s) s in let y = near (is_tiny t) t in omega (arith, x.bottom, y.top)
 
-rounded_apart : (p : Plot) (a b : Life) → AreApart (life_view a) (life_view b) → AreRoundedApart (drawn (shape_of p a)) (drawn (shape_of p b))
-rounded_apart p a b (inl l) = inl (beside (shape_of p a) (shape_of p b) (right_grows p.calls (a.last + 1) (b.first + 1) (omega arith)))
-rounded_apart p a b (inr (inl l)) = inr (inl (beside (shape_of p b) (shape_of p a) (right_grows p.calls (b.last + 1) (a.first + 1) (omega arith))))
-rounded_apart p a b (inr (inr (inl l))) = inr (inr (inr (beneath (shape_of p b) (shape_of p a) (up_falls p.units (a.offset + a.size) b.offset l))))
-rounded_apart p a b (inr (inr (inr l))) = inr (inr (inl (beneath (shape_of p a) (shape_of p b) (up_falls p.units (b.offset + b.size) a.offset l))))
+rounded_apart : (s t : Shape) → AreApart s t → AreNearlyApart (drawn s) (drawn t)
+rounded_apart s t (inl l) = inl (beside s t l)
+rounded_apart s t (inr (inl l)) = inr (inl (beside t s l))
+rounded_apart s t (inr (inr (inl l))) = inr (inr (inl (beneath s t l)))
+rounded_apart s t (inr (inr (inr l))) = inr (inr (inr (beneath t s l)))
 
 -- ---- the lives of a script
 
@@ -84,13 +94,19 @@ pub rectangles_apart : RectanglesAreApart
 rectangles_apart size limit h cs count last p lives is_plot are i j d l m =
     let a = get_or lives i d in
     let b = get_or lives j d in
-    let apart : AllPairs AreApart (map life_view lives) = subst (λ ls. AllPairs AreApart ls) (sym are) (apart_law size limit h cs) in
+    let apart : AllPairs plain.AreApart (map life_view lives) = subst (λ ls. AllPairs plain.AreApart ls) (sym are) (apart_law size limit h cs) in
     let ordered : All IsOrdered (map life_view lives) = subst (λ ls. All IsOrdered ls) (sym are) (lives_are_ordered size limit cs) in
     let x = get_or-map life_view lives i d in
     let y = get_or-map life_view lives j d in
     let len = length-map lives life_view in
-    let both : AreApart (life_view a) (life_view b) =
-    subst (λ v. AreApart (life_view a) v) y (subst (λ u. AreApart u (get_or (map life_view lives) j (life_view d))) x (apart i j (life_view d) l (omega (arith, len)))) in
+    let both : plain.AreApart (life_view a) (life_view b) =
+    subst (λ v. plain.AreApart (life_view a) v) y (subst (λ u. plain.AreApart u (get_or (map life_view lives) j (life_view d))) x (apart i j (life_view d) l (omega (arith, len)))) in
     let one : a.first ≤ a.last = subst IsOrdered x (ordered i (life_view d) (omega (arith, len))) in
     let two : b.first ≤ b.last = subst IsOrdered y (ordered j (life_view d) (omega (arith, len))) in
-    (drawn_apart p a b (omega (arith, is_plot.units.0)) one two both, rounded_apart p a b both)
+    let low : 30 ≤ p.units.start = omega (arith, is_plot.units.0) in
+    let exact = shapes_apart p a b both in
+    record {
+      exact = exact;
+      thicker = drawn_apart (shape_of p a) (shape_of p b) (is_upright p a low one) (is_upright p b low two) exact;
+      rounded = rounded_apart (shape_of p a) (shape_of p b) exact;
+    }

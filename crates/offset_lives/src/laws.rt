@@ -34,7 +34,7 @@ pub fn each_life_has_a_rectangle()
     ensures { EachLifeHasARectangle }
 {}
 
-/// No two rectangles of lives overlap, but by the 0.3 pixels that thin ones are drawn with.
+/// The rectangles of two lives do not overlap, but by the 0.3 pixels that thin ones are drawn with.
 pub fn rectangles_never_overlap()
     ensures { RectanglesAreApart }
 {}
