@@ -273,9 +273,9 @@ impl<T: Tables> AllocatorOf<T> {
     }
 
     /// Why `allocate_tight(size)` would be refused now, or `None` exactly where it would be granted. `TooLarge`: the space
-    /// has fewer units. `Space`: so are all free units together. `Fragmented`: they are enough, and after `compact` the
-    /// request is granted. It makes at most 2 accesses to the tables, and 6 for each free block of the class of `size` or
-    /// above.
+    /// has fewer units. `Space`: so are all free units together, or there are none. `Fragmented`: they are enough, and
+    /// after `compact` the request is granted. It makes at most 2 accesses to the tables, and 6 for each free block of the
+    /// class of `size` or above.
     pub fn refusal_tight(&self, size: u32) -> Option<Refusal>
         ensures granted { result ≡ None ↔ CanHold size 1 self.now }
         ensures why { IfSome result (IsWhyTight size 1 self.now) }

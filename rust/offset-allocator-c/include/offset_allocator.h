@@ -218,8 +218,9 @@ oa_reason oa_refusal(const oa_allocator *space, uint32_t size);
 oa_reason oa_refusal_aligned(const oa_allocator *space, uint32_t size, uint32_t align);
 
 /* Why oa_allocate_tight and oa_allocate_tight_aligned would be refused now. OA_TOO_LARGE: the space has fewer units.
- * OA_SPACE: so are all free units. OA_FRAGMENTED: they are enough, but no free block holds the request; after oa_compact a
- * request without alignment is granted. Cost: 2 accesses, and 6 for each free block of the class of `size` or above. */
+ * OA_SPACE: so are all free units, or there are none. OA_FRAGMENTED: they are enough, but no free block holds the request;
+ * after oa_compact a request without alignment is granted. Cost: 2 accesses, and 6 for each free block of the class of
+ * `size` or above. */
 oa_reason oa_refusal_tight(const oa_allocator *space, uint32_t size);
 oa_reason oa_refusal_tight_aligned(const oa_allocator *space, uint32_t size, uint32_t align);
 

@@ -1,7 +1,7 @@
 //! 40,000 random histories of the calls that change a space, over a million calls, on an allocator of each layout and index
 //! type, with handles and with tickets, and on a plain list of blocks that is written for this test, from the words of the
-//! documents alone. They have to agree in every result, in every move of `compact`, in both reports, and in what is live
-//! and free after each call. A buffer has a pattern for each live range, and is copied as the moves say.
+//! documents alone. They have to agree in every result, in every move of `compact`, in both reports and the statistics, and
+//! in what is live and free after each call. A buffer has a pattern for each live range, and is copied as the moves say.
 
 use offset_allocator::{Allocation, AllocatorOf, ByField, ByNode, Global, Refusal, Tables};
 use offset_allocator_guarded::{self as guarded, GuardedOf, Ticket};
@@ -72,6 +72,8 @@ trait Space {
     fn allocator(&self) -> &AllocatorOf<Self::Layout>;
     fn refusal(&self, size: u32, align: u32) -> Option<Refusal>;
     fn allocate(&mut self, size: u32, align: u32) -> Option<Self::Grant>;
+    fn refusal_tight(&self, size: u32, align: u32) -> Option<Refusal>;
+    fn allocate_tight(&mut self, size: u32, align: u32) -> Option<Self::Grant>;
     fn free(&mut self, grant: Self::Grant);
     fn shrink(&mut self, grant: Self::Grant, size: u32) -> bool;
     fn grow_in_place(&mut self, grant: Self::Grant, size: u32) -> bool;
@@ -115,6 +117,21 @@ impl<T: Tables> Space for AllocatorOf<T> {
             self.allocate(size)
         } else {
             self.allocate_aligned(size, align)
+        }
+    }
+
+    fn refusal_tight(&self, size: u32, align: u32) -> Option<Refusal> {
+        if align == 1 {
+            assert_eq!(self.refusal_tight(size), self.refusal_tight_aligned(size, 1));
+        }
+        self.refusal_tight_aligned(size, align)
+    }
+
+    fn allocate_tight(&mut self, size: u32, align: u32) -> Option<Self::Grant> {
+        if align == 1 {
+            self.allocate_tight(size)
+        } else {
+            self.allocate_tight_aligned(size, align)
         }
     }
 
@@ -166,6 +183,13 @@ impl<T: Tables> Space for AllocatorOf<T> {
     }
 }
 
+fn of_allocator(why: guarded::Refusal) -> Refusal {
+    match why {
+        guarded::Refusal::Allocator(why) => why,
+        guarded::Refusal::Serials => panic!("some serials are left"),
+    }
+}
+
 impl<T: Tables> Space for GuardedOf<T> {
     type Layout = T;
     type Grant = Ticket;
@@ -184,11 +208,7 @@ impl<T: Tables> Space for GuardedOf<T> {
         if align == 1 {
             assert_eq!(self.refusal(size), why);
         }
-        match why {
-            None => None,
-            Some(guarded::Refusal::Allocator(why)) => Some(why),
-            Some(guarded::Refusal::Serials) => panic!("some serials are left"),
-        }
+        why.map(of_allocator)
     }
 
     fn allocate(&mut self, size: u32, align: u32) -> Option<Ticket> {
@@ -196,6 +216,22 @@ impl<T: Tables> Space for GuardedOf<T> {
             self.allocate(size)
         } else {
             self.allocate_aligned(size, align)
+        }
+    }
+
+    fn refusal_tight(&self, size: u32, align: u32) -> Option<Refusal> {
+        let why = self.refusal_tight_aligned(size, align);
+        if align == 1 {
+            assert_eq!(self.refusal_tight(size), why);
+        }
+        why.map(of_allocator)
+    }
+
+    fn allocate_tight(&mut self, size: u32, align: u32) -> Option<Ticket> {
+        if align == 1 {
+            self.allocate_tight(size)
+        } else {
+            self.allocate_tight_aligned(size, align)
         }
     }
 
@@ -307,8 +343,38 @@ impl<G: Copy> Model<G> {
         }
         let is_fitting = |block: &Block<G>| block.live.is_none() && class_for(needed) <= class_of(block.size);
         let fitting = (0..self.blocks.len()).filter(|place| is_fitting(&self.blocks[*place]));
-        let place = fitting.min_by_key(|place| (class_of(self.blocks[*place].size), u64::MAX - self.blocks[*place].stamp))?;
-        let padding = self.offset(place).wrapping_neg() % align;
+        let place = fitting.min_by_key(|place| self.rank(*place))?;
+        Some(self.split(place, size, align))
+    }
+
+    /// The same for a tight request.
+    fn request_tight(&mut self, size: u32, align: u32) -> Option<usize> {
+        if let Some(place) = self.request(size, align) {
+            return Some(place);
+        }
+        if !self.has_room_for(align.min(2)) {
+            return None;
+        }
+        let is_fitting = |place: &usize| {
+            let block = &self.blocks[*place];
+            block.live.is_none() && u64::from(self.padding(*place, align)) + u64::from(size) <= u64::from(block.size)
+        };
+        let place = (0..self.blocks.len()).filter(is_fitting).min_by_key(|place| self.rank(*place))?;
+        Some(self.split(place, size, align))
+    }
+
+    /// The free block of the least rank is taken.
+    fn rank(&self, place: usize) -> (usize, u64) {
+        (class_of(self.blocks[place].size), u64::MAX - self.blocks[place].stamp)
+    }
+
+    fn padding(&self, place: usize, align: u32) -> u32 {
+        self.offset(place).wrapping_neg() % align
+    }
+
+    /// Splits a free block, and returns the place of the one of `size` units.
+    fn split(&mut self, place: usize, size: u32, align: u32) -> usize {
+        let padding = self.padding(place, align);
         let rest = self.blocks[place].size - padding - size;
         let padding_block = self.free_block(padding);
         let rest_block = self.free_block(rest);
@@ -319,7 +385,7 @@ impl<G: Copy> Model<G> {
         if padding > 0 {
             self.blocks.insert(place, padding_block);
         }
-        Some(place + usize::from(padding > 0))
+        place + usize::from(padding > 0)
     }
 
     fn free(&mut self, place: usize) {
@@ -406,13 +472,44 @@ impl<G: Copy> Model<G> {
         }
     }
 
+    /// Why a tight request is refused.
+    fn refusal_tight(&self, size: u32, align: u32) -> Option<Refusal> {
+        if !self.has_room_for(align.min(2)) {
+            return Some(Refusal::Nodes);
+        }
+        let (mut fresh, mut compacted) = (self.clone(), self.clone());
+        fresh.reset();
+        compacted.compact();
+        if self.clone().request_tight(size, align).is_some() {
+            None
+        } else if fresh.request_tight(size, align).is_none() {
+            Some(Refusal::TooLarge)
+        } else if self.free_units() < size.max(1) {
+            Some(Refusal::Space)
+        } else {
+            // after a move the free block begins elsewhere, perhaps with more units before a multiple of `align`
+            assert!(compacted.request_tight(size, 1).is_some());
+            Some(Refusal::Fragmented)
+        }
+    }
+
     /// The free units and the value of the largest class with a free block, as `storage_report` has them.
     fn report(&self) -> (u32, u32) {
         if !self.has_room_for(1) {
             return (0, 0);
         }
-        let free = || self.blocks.iter().filter(|block| block.live.is_none()).map(|block| block.size);
-        (free().sum(), free().map(|size| VALUES[class_of(size)]).max().unwrap_or(0))
+        let free = self.blocks.iter().filter(|block| block.live.is_none());
+        (self.free_units(), free.map(|block| VALUES[class_of(block.size)]).max().unwrap_or(0))
+    }
+
+    fn free_units(&self) -> u32 {
+        self.blocks.iter().filter(|block| block.live.is_none()).map(|block| block.size).sum()
+    }
+
+    /// The size of a block, or a little less.
+    fn any_size(&self, random: &mut Random) -> u32 {
+        let block = &self.blocks[random.below(self.blocks.len() as u32) as usize];
+        block.size.saturating_sub(random.below(4))
     }
 
     /// The places of the live ranges.
@@ -433,9 +530,11 @@ struct Met {
     /// Tickets that were tried after their end.
     stale: u64,
     grants: u64,
+    /// Grants of tight requests that a plain one would not have had.
+    tight_grants: u64,
     refusals: u64,
-    /// By the four reasons.
-    reasons: [u64; 4],
+    /// By the four reasons, of plain requests and of tight ones.
+    reasons: [[u64; 4]; 2],
     moves: u64,
     overlapping_moves: u64,
     compacted_at_the_limit: u64,
@@ -464,15 +563,19 @@ impl<S: Space> Pair<S> {
         }
     }
 
-    fn allocate(&mut self, size: u32, align: u32, met: &mut Met) {
-        let why = self.space.refusal(size, align);
-        assert_eq!(why, self.model.refusal(size, align));
-        let found = self.space.allocate(size, align);
+    fn allocate(&mut self, size: u32, align: u32, is_tight: bool, met: &mut Met) {
+        let plain = self.space.refusal(size, align);
+        assert_eq!(plain, self.model.refusal(size, align));
+        let tight = self.space.refusal_tight(size, align);
+        assert_eq!(tight, self.model.refusal_tight(size, align));
+        let why = if is_tight { tight } else { plain };
+        let found = if is_tight { self.space.allocate_tight(size, align) } else { self.space.allocate(size, align) };
         assert_eq!(found.is_none(), why.is_some());
+        met.tight_grants += u64::from(found.is_some() && plain.is_some());
         if let Some(why) = why {
-            met.reasons[why as usize] += 1;
+            met.reasons[usize::from(is_tight)][why as usize] += 1;
         }
-        let expected = self.model.request(size, align);
+        let expected = if is_tight { self.model.request_tight(size, align) } else { self.model.request(size, align) };
         let (Some(grant), Some(place)) = (found, expected) else {
             assert!(found.is_none() && expected.is_none());
             met.refusals += 1;
@@ -588,6 +691,20 @@ impl<S: Space> Pair<S> {
             let value = if class < 8 { class as u64 } else { (8 + class as u64 % 8) << (class / 8 - 1) };
             assert_eq!((region.size, region.count), (value as u32, counts[class]));
         }
+        self.check_statistics();
+    }
+
+    /// They are exact at the node limit too.
+    fn check_statistics(&self) {
+        let found = self.space.allocator().statistics();
+        let live: Vec<u32> = self.model.live().iter().map(|place| self.model.blocks[*place].size).collect();
+        let free: Vec<u32> = self.model.blocks.iter().filter(|block| block.live.is_none()).map(|block| block.size).collect();
+        assert_eq!((found.live_ranges as usize, found.free_blocks as usize), (live.len(), free.len()));
+        assert_eq!((found.live_units, found.free_units), (live.iter().sum(), free.iter().sum()));
+        let largest = free.iter().max().copied().unwrap_or(0);
+        assert_eq!((found.largest_free_block, found.largest_free_region), (largest, VALUES[class_of(largest)]));
+        assert_eq!(found.unused_nodes as usize, self.model.limit - self.model.blocks.len());
+        assert_eq!(self.space.allocator().is_empty(), live.is_empty());
     }
 
     fn check(&self) {
@@ -614,10 +731,16 @@ impl<S: Space> Pair<S> {
         let live = self.model.live();
         let size = random.units(self.model.size());
         match random.below(36) {
-            0..=11 => self.allocate(size, 1, met),
+            0..=11 => {
+                let is_tight = random.below(4) == 0;
+                let size = if is_tight && random.below(2) == 0 { self.model.any_size(random) } else { size };
+                self.allocate(size, 1, is_tight, met);
+            }
             12..=15 => {
                 let align = if random.below(8) == 0 { 1 << random.below(32) } else { 1 << random.below(5) };
-                self.allocate(size, align, met);
+                let is_tight = random.below(3) == 0;
+                let size = if is_tight && random.below(2) == 0 { self.model.any_size(random) } else { size };
+                self.allocate(size, align, is_tight, met);
             }
             16..=26 if !live.is_empty() => self.free(live[random.below(live.len() as u32) as usize]),
             27..=28 => self.extend(if random.below(16) == 0 { random.next() as u32 } else { random.below(40) }),
@@ -685,8 +808,9 @@ fn each_space_and_a_list_of_blocks_agree() {
         let count = HISTORIES / THREADS;
         assert!(met.calls > 20 * count && met.stale > 5 * count, "{met:?}");
         assert!(met.grants > 10 * count && met.refusals > count, "{met:?}");
-        assert!(met.reasons.iter().all(|n| *n > count / 50), "{met:?}");
-        assert!(met.moves > 3 * count && met.overlapping_moves > count, "{met:?}");
+        assert!(met.tight_grants > count / 8, "{met:?}");
+        assert!(met.reasons.iter().flatten().all(|n| *n > count / 50), "{met:?}");
+        assert!(met.moves > 2 * count && met.overlapping_moves > count, "{met:?}");
         assert!(met.compacted_at_the_limit > count / 50, "{met:?}");
         assert!(met.shrunk > count / 2 && met.grown > count / 4, "{met:?}");
     };

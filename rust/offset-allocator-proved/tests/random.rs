@@ -91,6 +91,10 @@ impl<NI: NodeIndex> Pair<NI> {
         let held: u32 = self.live.iter().map(|(_, size)| size).sum();
         let report = self.space.storage_report();
         assert!([0, self.size - held].contains(&report.total_free_space));
+        assert_eq!((self.space.live_units(), self.space.free_units()), (held, self.size - held));
+        let found = self.space.statistics();
+        assert_eq!((found.live_units, found.free_units, found.live_ranges as usize), (held, self.size - held, self.live.len()));
+        assert_eq!(self.space.is_empty(), self.live.is_empty());
         assert!(report.largest_free_region <= report.total_free_space);
         assert_eq!(self.space.size(), self.size);
         assert_eq!(self.space.is_full(), self.space.block_count() + 1 == self.space.max_allocs());
@@ -98,7 +102,7 @@ impl<NI: NodeIndex> Pair<NI> {
 
     fn call(&mut self, random: &mut Random, handles: &mut Vec<Allocation<NI>>) {
         let mut count = Accesses::new();
-        match random.below(16) {
+        match random.below(18) {
             0..=3 => {
                 let size = if random.below(2) == 0 { random.any() } else { random.below(self.size / 8 + 2) };
                 let most = self.space.storage_report().largest_free_region;
@@ -191,6 +195,28 @@ impl<NI: NodeIndex> Pair<NI> {
                 laws::storage_report_counted(&self.space, &mut count);
                 assert!(!format!("{:?} {report:?}", self.space).is_empty());
             }
+            15..=16 => {
+                let size = if random.below(2) == 0 { random.any() } else { random.below(self.size / 4 + 2) };
+                let align = if random.below(3) == 0 { random.any() } else { 1 << random.below(32) };
+                let (is_power, message) = (align.count_ones() == 1, "align must be a power of two");
+                let refusal = expect(result(|| self.space.refusal_tight_aligned(size, align)), is_power, message);
+                let counted = result(|| laws::refusal_tight_aligned_counted(&self.space, size, align, &mut count));
+                assert_eq!(expect(counted, is_power, message), refusal);
+                let found = result(|| self.space.allocate_tight_aligned(size, align));
+                if let Some(found) = expect(found, is_power, message) {
+                    assert_eq!(found.is_none(), refusal.unwrap().is_some());
+                    handles.extend(found);
+                    self.grant(found, size, align);
+                }
+                let (has_room, most) = (!self.space.is_full(), self.space.statistics().largest_free_block);
+                let refusal = result(|| self.space.refusal_tight(size)).unwrap();
+                assert_eq!(laws::refusal_tight_counted(&self.space, size, &mut count), refusal);
+                let found = result(|| self.space.allocate_tight(size)).unwrap();
+                assert_eq!(found.is_none(), refusal.is_some());
+                assert!(size == 0 || found.is_some() == (has_room && size <= most));
+                handles.extend(found);
+                self.grant(found, size, 1);
+            }
             14 if random.below(20) == 0 => {
                 result(|| self.space.reset()).unwrap();
                 self.live.clear();
@@ -204,6 +230,8 @@ impl<NI: NodeIndex> Pair<NI> {
                 laws::a_full_space_refuses(&self.space);
                 laws::a_compacted_space_grants(&self.space);
                 laws::moves_are_safe();
+                laws::statistics_belong_together(&self.space);
+                laws::tight_refusals_advise(&self.space);
             }
         }
         self.check();
