@@ -41,7 +41,10 @@ function differing(a, { run: b, at }) {
 const most = (list, count, step, at) => { let m = 0; for (let i = 0; i < count; i++) m = Math.max(m, list[step * i + at]); return m; };
 async function compare(as) {
   const [size, nodes, unit, compact] = as;
-  if (nodes < 2 || nodes > LARGEST - 2 || !unit || compact > 2 || as.length !== 4) { say(`Compare: the node limit is 2 to ${whole(LARGEST - 2)}, the unit at least 1`, true); return; }
+  if (as.length !== 4 || size < 0 || nodes < 2 || nodes > LARGEST - 2 || unit < 1 || compact > 2) {
+    say(`Compare: the node limit is 2 to ${whole(LARGEST - 2)}, the unit at least 1, the space a number`, true);
+    return;
+  }
   const found = await during('Comparing', work => another(S.run, as, work));
   if (!found) return;
   const a = S.run, b = found.run;
@@ -66,18 +69,23 @@ function showOther() {
   const { run: b, at, unit, rows, extra } = S.other, a = S.run, p = S.p, q = at[p];
   const va = a.view(p), vb = b.view(q), size = a.sizeAt(p), [from, to] = S.zoom || [0, size];
   const free = (run, n) => run.sizeAt(n) - run.usedAt(n), largest = (run, n) => n ? run.row(n - 1)[5] : 0;
-  const table = [['At this row', '', ''], ['Answer', p ? answered(a, p - 1) : '', q ? answered(b, q - 1) : ''], ['Units in use', a.usedAt(p), b.usedAt(q) * unit],
+  const table = [['At this row', '', ''], ['Answer', p ? answered(a, p - 1) : '', q ? answered(b, q - 1) : ''],
+    ['Units in use', a.usedAt(p), b.usedAt(q) * unit],
     ['Units free', free(a, p), free(b, q) * unit], ['Largest request granted', largest(a, p), largest(b, q) * unit],
     ['Blocks', va.blocks.length, vb.blocks.length], ['Over all', '', ''], ...S.other.whole];
   $('differences').replaceChildren(...table.map(([name, x, y]) => {
-    const row = document.createElement('tr'), isNumber = typeof x === 'number' && typeof y === 'number', th = document.createElement('th');
-    th.textContent = name; th.scope = 'row'; row.append(th); if (x === '' && y === '') row.className = 'part';
+    const row = document.createElement('tr'), th = document.createElement('th');
+    const isNumber = typeof x === 'number' && typeof y === 'number';
+    th.textContent = name; th.scope = 'row'; row.append(th);
+    if (x === '' && y === '') row.className = 'part';
     for (const v of [x, y, isNumber && x !== y ? y - x : '']) row.insertCell().textContent = typeof v === 'number' ? whole(v) : v;
     if (isNumber && x !== y) row.cells[3].textContent = (y > x ? '+' : '−') + whole(Math.abs(y - x));
     return row;
   }));
-  $('differ').textContent = rows.length ? `${counted(rows.length, 'row')} with another outcome, the first is row ${whole(rows[0])}.` : 'Each call has the same outcome in both.';
-  if (extra) $('differ').textContent += ` ${counted(extra, 'request')} that this run refuses ${extra === 1 ? 'is' : 'are'} granted in the other, and never freed there: the recording has no call for that.`;
+  $('differ').textContent = (rows.length ? `${counted(rows.length, 'row')} with another outcome, the first is row ${whole(rows[0])}.` :
+    'Each call has the same outcome in both.') +
+    (extra ? ` ${counted(extra, 'request')} that this run refuses ${extra === 1 ? 'is' : 'are'} granted in the other, and never freed there: ` +
+      'the recording has no call for that.' : '');
   $('xnext').disabled = !rows.some(r => r > p); $('xback').disabled = !rows.some(r => r < p);
   drawSpace('spaceA', a, p, from, to, []);
   drawSpace('spaceB', b, q, from / unit, to / unit, []);

@@ -29,12 +29,14 @@ $('rback').onclick = () => refusal(-1); $('rnext').onclick = () => refusal(1);
 $('play').onclick = toggle; $('at').oninput = () => to($('at').valueAsNumber);
 $('row').onchange = () => {
   const p = $('row').valueAsNumber;
-  if (!Number.isInteger(p) || p < 0 || p > S.run.count) { say(`Row: a number from 0 to ${whole(S.run.count)}`, true); $('row').value = S.p; return; }
-  to(p); };
+  if (Number.isInteger(p) && p >= 0 && p <= S.run.count) return to(p);
+  say(`Row: a number from 0 to ${whole(S.run.count)}`, true); $('row').value = S.p; };
 $('link').onclick = link; $('keys').onclick = () => $('help').showModal(); $('closehelp').onclick = () => $('help').close();
 $('undo').onclick = () => undo(S.past, S.ahead); $('redo').onclick = () => undo(S.ahead, S.past); $('original').onclick = original;
 const fileName = end => S.title.replace(/\.[a-z]+$/, '').replace(/[^\w.-]+/g, '-') + end;
-$('export').onclick = async () => { const text = await during('Writing', w => writeText(S.run, w)); if (text !== null) save(new Blob([text]), fileName('.script')); };
+$('export').onclick = async () => {
+  const text = await during('Writing', w => writeText(S.run, w));
+  if (text !== null) save(new Blob([text]), fileName('.script')); };
 $('answers').onclick = async () => { const b = await during('Writing', w => S.run.answers(w)); if (b) save(b, fileName('.answers')); };
 $('picture').onclick = () => save(new Blob([pictured(S.run, 1000, 560)], { type: 'image/svg+xml' }), fileName('.svg'));
 $('load').onclick = () => take(new TextEncoder().encode($('text').value));
@@ -51,7 +53,8 @@ $('stop').onclick = stopWork; $('unsay').onclick = () => say('');
 $('only').onchange = $('atend').onchange = draw;
 $('zin').onclick = () => zoom(1 / 4); $('zout').onclick = () => zoom(4); $('zall').onclick = () => { S.zoom = null; draw(); };
 $('zused').onclick = usedPart; $('zleft').onclick = () => pan(-0.5); $('zright').onclick = () => pan(0.5);
-$('compare').onclick = () => compare(['xsize', 'xnodes', 'xunit', 'xcompact'].map(id => { const v = $(id).value.trim(); return /^\d{1,10}$/.test(v) && v <= LARGEST ? Number(v) : -1; }));
+$('compare').onclick = () => compare(['xsize', 'xnodes', 'xunit', 'xcompact'].map(id => {
+  const v = $(id).value.trim(); return /^\d{1,10}$/.test(v) && v <= LARGEST ? Number(v) : -1; }));
 $('xback').onclick = () => to(S.other.rows.findLast(r => r < S.p)); $('xnext').onclick = () => to(S.other.rows.find(r => r > S.p));
 // The pointer.
 $('space').onpointermove = event => { pointer = event; draw(); };
@@ -63,7 +66,8 @@ for (const id of ['life', 'lifeA']) {
 }
 $('bins').onpointermove = event => {
   const c = binAt(event), n = c < 0 ? 0 : S.run.view(S.p).bins[c];
-  $('bin').textContent = c < 0 ? '' : c >= BINS ? `Bin ${c}: larger than any space.` : `Bin ${c}: blocks of ${sizesOf(c)} units; ${counted(n, 'free block')}.`; };
+  $('bin').textContent = c < 0 ? '' : c >= BINS ? `Bin ${c}: larger than any space.` :
+    `Bin ${c}: blocks of ${sizesOf(c)} units; ${counted(n, 'free block')}.`; };
 // The keys, wherever the focus is, but in text: what each does.
 const KEYS = new Map([
   ['ArrowLeft', 'one row back', () => to(S.p - 1)], ['ArrowRight', 'one row on', () => to(S.p + 1)],

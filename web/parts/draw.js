@@ -6,7 +6,8 @@ const color = name => getComputedStyle(document.documentElement).getPropertyValu
 let C = null;
 const colors = () => C || (C = { ages: [1, 2, 3, 4, 5, 6, 7, 8].map(i => color('--age' + i)),
   ...Object.fromEntries(['free', 'mark', 'fg', 'dim', 'line', 'bg'].map(n => [n, color('--' + n)])) });
-const short = n => n < 1e4 ? String(n) : n < 1e6 ? (n / 1e3).toFixed(n < 1e5 ? 1 : 0) + ' k' : n < 1e9 ? (n / 1e6).toFixed(n < 1e8 ? 1 : 0) + ' M' : (n / 1e9).toFixed(2) + ' G';
+const short = n => n < 1e4 ? String(n) : n < 1e6 ? (n / 1e3).toFixed(n < 1e5 ? 1 : 0) + ' k' :
+  n < 1e9 ? (n / 1e6).toFixed(n < 1e8 ? 1 : 0) + ' M' : (n / 1e9).toFixed(2) + ' G';
 function canvas(id) {
   const c = $(id), d = devicePixelRatio || 1, w = c.clientWidth, h = c.clientHeight;
   if (c.width !== Math.round(w * d)) c.width = Math.round(w * d);
@@ -46,8 +47,9 @@ function drawSpace(id, run, p, from, to, marked) {
 }
 // The unit at a point of the space's canvas.
 function unitAt(event, from, to) {
-  const b = $('space').getBoundingClientRect(), y = Math.min(ROWS - 1, Math.max(0, Math.floor((event.clientY - b.top) / b.height * ROWS)));
-  return from + (y + Math.max(0, Math.min(1, (event.clientX - b.left - GUTTER) / (b.width - GUTTER)))) * (to - from) / ROWS;
+  const b = $('space').getBoundingClientRect(), part = (at, all, most) => Math.max(0, Math.min(most, at / all));
+  const y = Math.floor(part(ROWS * (event.clientY - b.top), b.height, ROWS - 1)), x = part(event.clientX - b.left - GUTTER, b.width - GUTTER, 1);
+  return from + (y + x) * (to - from) / ROWS;
 }
 // Where refusals are marked on a width of so many calls; kept, as there may be very many.
 function ticks(run, n, w) {
@@ -69,7 +71,8 @@ function drawLives(id, run, p, again) {
   for (const t = performance.now(); s.next < run.lk.length;) {
     q.setTransform(d, 0, 0, d, 0, 0);
     for (const end = Math.min(run.lk.length, s.next + 2000); s.next < end; s.next++) {
-      const l = s.next, from = run.lf.list[l], to = Math.min(run.lt.list[l], n), x = from / n * w, z = Math.max(1 / d, (to - from) / n * w);
+      const l = s.next, from = run.lf.list[l], to = Math.min(run.lt.list[l], n);
+      const x = from / n * w, z = Math.max(1 / d, (to - from) / n * w);
       q.fillStyle = c.ages[ageOf(to - from)];
       q.fillRect(x, h - (run.lo.list[l] + run.ln.list[l]) / run.top * h, z, Math.max(1 / d, run.ln.list[l] / run.top * h));
     }

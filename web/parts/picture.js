@@ -14,15 +14,18 @@ function pictured(run, w, h) {
   const most = Math.max(1, ...run.sizes.map(s => s[1])), wide = Math.round(right - left), free = [], largest = [];
   for (let i = 0; i < run.count; i++) {
     const at = Math.floor((i + 1) / n * wide);
-    free[at] = Math.min(free[at] ?? most, run.sizeAt(i + 1) - run.used.list[i]); largest[at] = Math.min(largest[at] ?? most, run.row(i)[5]);
+    free[at] = Math.min(free[at] ?? most, run.sizeAt(i + 1) - run.used.list[i]);
+    largest[at] = Math.min(largest[at] ?? most, run.row(i)[5]);
   }
-  const area = list => 'M' + left + ' ' + low + list.map((v, i) => v === undefined ? '' : `L${left + i} ${fixed(low - v / most * (low - high))}`).join('') + `L${right} ${low}z`;
+  const area = list => `M${left} ${low}` +
+    list.map((v, i) => v === undefined ? '' : `L${left + i} ${fixed(low - v / most * (low - high))}`).join('') + `L${right} ${low}z`;
   const ticks = run.refusals.map(p => `<path stroke='${c.mark}' stroke-width='2' d='M${x(p)} ${top}v10'><title>` +
     safe(`row ${p}: ${said(...run.call(p - 1))}: ${REASONS[run.row(p - 1)[7]] || 'refused'}`) + '</title></path>');
   const title = `${S.title}: ${counted(run.count, 'call')}, ${counted(run.refusals.length, 'refusal')}`;
   const words = ['to 10', '30', '100', '300', '1,000', '3,000', '10,000', 'more'], narrow = w < 600, places = [left];
   for (const t of words) places.push(places.at(-1) + (narrow ? 17 : 40) + 5.8 * t.length);
-  return `<svg xmlns='http://www.w3.org/2000/svg' width='${w}' height='${h}' viewBox='0 0 ${w} ${h}' font-family='system-ui, sans-serif' font-size='11' fill='${c.fg}'>` +
+  return `<svg xmlns='http://www.w3.org/2000/svg' width='${w}' height='${h}' viewBox='0 0 ${w} ${h}' ` +
+    `font-family='system-ui, sans-serif' font-size='11' fill='${c.fg}'>` +
     `<rect width='${w}' height='${h}' fill='${c.bg}'/>` +
     text(14, left, 'start', title, ` font-size='${fixed(Math.min(13, (right - left) / (0.62 * title.length)))}'`) +
     text(34, left - 6, 'end', 'live for') +

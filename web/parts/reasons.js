@@ -3,7 +3,10 @@ const LARGEST = 4294967295;
 const whole = n => n.toLocaleString('en');
 const counted = (n, one, more = one + 's') => `${whole(n)} ${n === 1 ? one : more}`;
 const units = n => counted(n, 'unit');
-const sizesOf = c => valueOf(c + 1) - 1 > valueOf(c) ? `${whole(valueOf(c))} to ${whole(Math.min(LARGEST, valueOf(c + 1) - 1))}` : whole(valueOf(c));
+const sizesOf = c => {
+  const [least, most] = [valueOf(c), Math.min(LARGEST, valueOf(c + 1) - 1)];
+  return most > least ? `${whole(least)} to ${whole(most)}` : whole(least);
+};
 const isRefusal = (run, p) => p > 0 && run.row(p - 1)[0] === ANSWER.refused;
 // A refused call, p the row after it: what it asked for, why it was refused, and what would have helped.
 function explain(run, p) {
@@ -16,15 +19,21 @@ function explain(run, p) {
   return out;
 }
 // Whether the last of these calls succeeds there. A module of much memory is not copied.
-const granted = (run, p, calls) => { if (run.m.size() > 1 << 28) return false; const r = run.tried(p - 1, calls); return [ANSWER.grant, ANSWER.resized, ANSWER.extended].includes(r.at(-1)[0]); };
+function granted(run, p, calls) {
+  return run.m.size() <= 1 << 28 && [ANSWER.grant, ANSWER.resized, ANSWER.extended].includes(run.tried(p - 1, calls).at(-1)[0]);
+}
 const largestFree = blocks => blocks.reduce((s, x) => x.k ? s : Math.max(s, x.n), 0);
 function asked(out, run, p, n, align, before, size) {
   const need = n + align - 1, call = run.call(p - 1), limit = run.head[1], [, , , , free, largest, count, why] = run.row(p - 1);
   const big = largestFree(before.blocks), all = before.blocks.reduce((s, x) => s + (x.k ? 0 : x.n), 0);
-  if (need > LARGEST) { out.facts.push(`${units(n)} at a multiple of ${whole(align)} need a block of ${whole(need)}: more than any space has`); return; }
+  if (need > LARGEST) {
+    out.facts.push(`${units(n)} at a multiple of ${whole(align)} need a block of ${whole(need)}: more than any space has`);
+    return;
+  }
   const c = roundedUp(need), value = valueOf(c);
   out.facts.push(REASONS[why]);
-  out.facts.push(`asked: ${units(n)}${align > 1 ? ` at a multiple of ${whole(align)}, so a block for ${whole(need)}` : ''}; rounded up to class ${c}: ` +
+  const aligned = align > 1 ? ` at a multiple of ${whole(align)}, so a block for ${whole(need)}` : '';
+  out.facts.push(`asked: ${units(n)}${aligned}; rounded up to class ${c}: ` +
     (c < BINS ? units(value) : 'more than any block has'));
   out.facts.push(`largest free block: ${units(big)}; free in all: ${units(all)}; largest request granted now: ${units(largest)}`);
   out.facts.push(`blocks: ${whole(count)} of at most ${whole(limit - 1)}`);
@@ -34,9 +43,11 @@ function asked(out, run, p, n, align, before, size) {
     out.helps.push(`${units(more)} more space (extend ${more}): then it is granted`);
   else if (c < BINS && value > all && size + value - all <= LARGEST && granted(run, p, [[10], [7, value - all], call]))
     out.helps.push(`compact, and ${units(value - all)} more space (extend ${value - all}): then it is granted`);
-  if (why === 1 && big >= value) out.helps.push(`more nodes: a limit of ${whole(count + (align > 1 ? 3 : 2))} (it is ${whole(limit)}), where the calls before stay the same`);
+  if (why === 1 && big >= value)
+    out.helps.push(`more nodes: a limit of ${whole(count + (align > 1 ? 3 : 2))} (it is ${whole(limit)}), where the calls before stay the same`);
   if (why === 1 && big < value) out.helps.push('more nodes alone would not do: no free block is large enough');
-  if (align > 1 && why !== 1 && granted(run, p, [[0, n]])) out.helps.push('no alignment: alloc of the same units is granted. A unit as large as the alignment needs none');
+  if (align > 1 && why !== 1 && granted(run, p, [[0, n]]))
+    out.helps.push('no alignment: alloc of the same units is granted. A unit as large as the alignment needs none');
   if (largest > 0 && largest < n) out.helps.push(`a smaller request: at most ${units(largest)}`);
 }
 function extended(out, run, p, more, before, size) {
@@ -46,7 +57,8 @@ function extended(out, run, p, more, before, size) {
     return;
   }
   const count = run.row(p - 1)[6], limit = run.head[1], last = before.blocks.at(-1);
-  out.facts.push(`its last block is used${last ? ` (${named(run, last.k)})` : ''}, and no further block may exist: ${whole(count)} of at most ${whole(limit - 1)}`);
+  out.facts.push(`its last block is used${last ? ` (${named(run, last.k)})` : ''}, and no further block may exist: ` +
+    `${whole(count)} of at most ${whole(limit - 1)}`);
   out.helps.push(`more nodes: a limit of ${whole(limit + 1)}`);
   if (granted(run, p, [[10], run.call(p - 1)])) out.helps.push('compact: after it the space can be extended');
 }
@@ -71,7 +83,8 @@ function resized(out, run, p, op, k, n, before, size) {
   else if (next.k) out.facts.push(`directly after it is ${named(run, next.k)}, with ${units(next.n)}`);
   else out.facts.push(`directly after it ${units(next.n)} ${next.n === 1 ? 'is' : 'are'} free, and it lacks ${whole(lack)}`);
   const isLast = !next || (!next.k && i + 2 === before.blocks.length);
-  if (isLast && granted(run, p, [[7, lack - room], run.call(p - 1)])) out.helps.push(`${units(lack - room)} more space (extend ${lack - room}): then it grows`);
+  if (isLast && granted(run, p, [[7, lack - room], run.call(p - 1)]))
+    out.helps.push(`${units(lack - room)} more space (extend ${lack - room}): then it grows`);
   if (granted(run, p, [[10], run.call(p - 1)])) out.helps.push('compact: after it the range can grow');
   if (granted(run, p, [[0, n]])) out.helps.push(`another range: alloc ${n} is granted; copy, then free ${k}`);
 }
@@ -82,6 +95,7 @@ function whyGone(run, p) {
   const k = run.call(p - 1)[1];
   if (k === 0 || k >= run.born.length || run.born.list[k] > p) return `no grant has the number ${whole(k)} there`;
   for (let l = run.lk.length - 1; l >= 0; l--)
-    if (run.lk.list[l] === k && run.lt.list[l] < p) return `${named(run, k)} ended in row ${whole(run.lt.list[l])}: ${answered(run, run.lt.list[l] - 1)}`;
+    if (run.lk.list[l] === k && run.lt.list[l] < p)
+      return `${named(run, k)} ended in row ${whole(run.lt.list[l])}: ${answered(run, run.lt.list[l] - 1)}`;
   return '';
 }

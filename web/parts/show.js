@@ -22,18 +22,24 @@ function draw() {
   drawBins(v.bins, searched, bin);
   const free = size - run.usedAt(p), big = largestFree(v.blocks), kept = free ? 1 - valueOf(classOf(big)) / valueOf(classOf(free)) : 0;
   const full = v.blocks.length >= run.head[1] - 1;
-  $('reports').textContent = `${units(size)}: ${whole(run.usedAt(p))} used (${(100 * run.usedAt(p) / Math.max(1, size)).toFixed(1)}%), ${whole(free)} free. ` +
-    (r ? `Largest request that is granted: ${whole(r[5])}. ` : '') + `${counted(v.blocks.length, 'block')}${full ? ', as many as the node limit admits' : ''}. ` +
+  const share = (100 * run.usedAt(p) / Math.max(1, size)).toFixed(1);
+  $('reports').textContent = `${units(size)}: ${whole(run.usedAt(p))} used (${share}%), ${whole(free)} free. ` +
+    (r ? `Largest request that is granted: ${whole(r[5])}. ` : '') +
+    `${counted(v.blocks.length, 'block')}${full ? ', as many as the node limit admits' : ''}. ` +
     `Fragmentation ${(kept * 100).toFixed(1)}% (of the largest request, were all free units one block).`;
   $('shown').textContent = `Shown: units ${whole(Math.floor(from))} to ${whole(Math.floor(to))}` +
-    (S.zoom ? `, ${((to - from) / Math.max(1, size) * 100).toPrecision(2)}% of the space` : ', all of the space') + `; a line is ${units(Math.ceil((to - from) / ROWS))}.`;
-  $('lives').textContent = `Up to ${whole(run.top)}, the highest end of a range, of ${units(run.sizes.at(-1)[1])}. The line is the position; ticks are refusals.`;
-  $('at').value = p; $('row').value = p; $('at').setAttribute('aria-valuetext', p ? `row ${p}: ${said(...op)}, ${answered(run, p - 1)}` : 'before the first row');
+    (S.zoom ? `, ${((to - from) / Math.max(1, size) * 100).toPrecision(2)}% of the space` : ', all of the space') +
+    `; a line is ${units(Math.ceil((to - from) / ROWS))}.`;
+  $('lives').textContent = `Up to ${whole(run.top)}, the highest end of a range, of ${units(run.sizes.at(-1)[1])}. ` +
+    'The line is the position; ticks are refusals.';
+  $('at').value = p; $('row').value = p;
+  $('at').setAttribute('aria-valuetext', p ? `row ${p}: ${said(...op)}, ${answered(run, p - 1)}` : 'before the first row');
   $('place').textContent = `of ${whole(run.count)}`;
   $('refusals').textContent = run.refusals.length ? `${counted(run.refusals.length, 'refusal')}` : 'no refusals';
   $('rback').disabled = !(run.refusals[0] < p); $('rnext').disabled = !(run.refusals.at(-1) > p);
   $('now').textContent = p ? `Row ${whole(p)}: ${said(...op)}: ${answered(run, p - 1)}` +
-    (taken ? `, from the free block at ${whole(taken.o)} of ${units(taken.n)}` : '') + (run.names.get(p - 1) ? ` “${run.names.get(p - 1)}”` : '') : 'Before the first row.';
+    (taken ? `, from the free block at ${whole(taken.o)} of ${units(taken.n)}` : '') +
+    (run.names.get(p - 1) ? ` “${run.names.get(p - 1)}”` : '') : 'Before the first row.';
   describe(v);
   // while the run plays, the lists follow a few times a second
   if (!playing || t0 - isListing > 250) { isListing = t0; lists(v, searched, bin); }
@@ -64,9 +70,11 @@ function why(run, p) {
 }
 // The block that is chosen: by the pointer, by keys or by a click.
 function chosenBlock(v) {
-  if (pointer) { const o = unitAt(pointer, ...(S.zoom || [0, Math.max(1, S.run.sizeAt(S.p))])); return v.blocks.find(b => b.o <= o && o < b.o + b.n) || null; }
+  const at = o => v.blocks.find(b => b.o <= o && o < b.o + b.n) || null;
+  if (pointer) return at(unitAt(pointer, ...(S.zoom || [0, Math.max(1, S.run.sizeAt(S.p))])));
   if (S.grant) return v.blocks.find(b => b.k === S.grant) || null;
-  return S.free === undefined ? null : v.blocks.find(b => !b.k && b.o <= S.free && S.free < b.o + b.n) || null;
+  const b = S.free === undefined ? null : at(S.free);
+  return b && !b.k ? b : null;
 }
 function describe(v) {
   const b = chosenBlock(v), run = S.run;
@@ -91,7 +99,8 @@ function chosenIs(b) {
 }
 // The part of the space that is shown.
 function zoomAt(center, width) {
-  const size = Math.max(1, S.run.sizeAt(S.p)), w = Math.max(ROWS, Math.min(size, width)), from = Math.round(Math.max(0, Math.min(size - w, center - w / 2)));
+  const size = Math.max(1, S.run.sizeAt(S.p)), w = Math.max(ROWS, Math.min(size, width));
+  const from = Math.round(Math.max(0, Math.min(size - w, center - w / 2)));
   S.zoom = w >= size ? null : [from, from + w];
 }
 function zoom(by) {
@@ -100,4 +109,7 @@ function zoom(by) {
   zoomAt(center, (to - from) * by); draw();
 }
 function pan(by) { if (S.zoom) { const w = S.zoom[1] - S.zoom[0]; zoomAt((S.zoom[0] + S.zoom[1]) / 2 + by * w, w); draw(); } }
-function usedPart() { const v = S.run.view(S.p), last = v.blocks.findLast(b => b.k); const end = last ? last.o + last.n : S.run.sizeAt(S.p); zoomAt(end / 2, end); draw(); }
+function usedPart() {
+  const last = S.run.view(S.p).blocks.findLast(b => b.k), end = last ? last.o + last.n : S.run.sizeAt(S.p);
+  zoomAt(end / 2, end); draw();
+}

@@ -72,7 +72,9 @@ async function showText() {
   if (run.count > MOST_SHOWN) { say(`The text is too long to be shown: ${counted(run.count, 'call')}. It can be saved.`); return; }
   let text = run === S.base && S.bytes.length < 1 << 22 ? new TextDecoder().decode(S.bytes) : null;
   if (text === null) text = await during('Writing', work => writeText(run, work));
-  if (text !== null) { $('text').value = text; S.shown = true; $('textname').textContent = S.run === S.base ? S.title : `${S.title}, yours from row ${whole(S.run.kept)}`; }
+  if (text === null) return;
+  $('text').value = text; S.shown = true;
+  $('textname').textContent = S.run === S.base ? S.title : `${S.title}, yours from row ${whole(S.run.kept)}`;
 }
 async function take(bytes, title) {
   stop();
@@ -82,12 +84,13 @@ async function take(bytes, title) {
 function go(p) { S.p = Math.max(0, Math.min(S.run.count, Math.trunc(p) || 0)); draw(); }
 // A call of the user's: the run is left at the position, and the call is added. The original stays.
 const TAKES = { alloc: 'n', align: 'na', free: 'k', shrink: 'kn', grow: 'kn', compact: '', extend: 'n', reset: '' };
+const isPower = n => n > 0 && 2 ** Math.round(Math.log2(n)) === n;
 const FIELDS = { n: 'Units', a: 'Alignment', k: 'Grant' };
 function act(name) {
   const values = [];
   for (const id of TAKES[name]) {
     const v = $(id).value.trim() === '' ? NaN : Number($(id).value), isWrong = !Number.isInteger(v) || v < 0 || v > LARGEST;
-    if (isWrong || (id === 'a' && (!v || 2 ** Math.round(Math.log2(v)) !== v))) {
+    if (isWrong || (id === 'a' && !isPower(v))) {
       say(`${name}: ${FIELDS[id]} ${isWrong ? `has to be a number from 0 to ${whole(LARGEST)}` : 'has to be a power of two'}`, true);
       $(id).focus(); return; }
     values.push(v);
@@ -110,7 +113,11 @@ function undo(from, to) {
   to.push({ kept: S.run.kept, edits: S.run.edits, p: S.p, isBase: S.run === S.base });
   set(from.pop());
 }
-function original() { if (S.run !== S.base) { const p = Math.min(S.p, S.run.kept); S.past.push({ kept: S.run.kept, edits: S.run.edits, p: S.p }); set({ isBase: true, p }); } }
+function original() {
+  if (S.run === S.base) return;
+  const p = Math.min(S.p, S.run.kept);
+  S.past.push({ kept: S.run.kept, edits: S.run.edits, p: S.p }); set({ isBase: true, p });
+}
 // The next refusal after the position, or the one before it.
 function refusal(step) {
   const list = S.run.refusals, p = step > 0 ? list.find(r => r > S.p) : list.findLast(r => r < S.p);
@@ -136,9 +143,13 @@ async function link() {
   if (S.name === 'own') q.set('s', b64(await through(S.bytes, new CompressionStream('deflate-raw')))); else q.set('t', S.name);
   if (S.run !== S.base) { q.set('kept', S.run.kept); q.set('c', S.run.edits.flat().join('.')); }
   if (S.other) q.set('x', S.other.as.join('.'));
-  if (String(q).length > MOST_LINK) { say(`This run is too large for a link (${counted(String(q).length, 'character')}): send its file, and the number of the row.`, true); return; }
+  if (String(q).length > MOST_LINK) {
+    say(`This run is too large for a link (${counted(String(q).length, 'character')}): send its file, and the number of the row.`, true);
+    return;
+  }
   history.replaceState(null, '', '#' + q);
-  const size = counted(location.href.length, 'character'), long = location.href.length > 30000 ? ' Some programs cut such a link: then send the file.' : '';
+  const size = counted(location.href.length, 'character');
+  const long = location.href.length > 30000 ? ' Some programs cut such a link: then send the file.' : '';
   try { await navigator.clipboard.writeText(location.href); say(`The link to this state is copied: ${size}.${long}`); }
   catch { say(`The link to this state is in the address bar: ${size}.${long}`); }
 }
@@ -156,7 +167,7 @@ async function restore() {
     if (q.get('c')) {
       const kept = oneOf(q.get('kept') || ''), c = numbersOf(q.get('c')), edits = [];
       for (let i = 0; i < c.length; i += 3) {
-        if (i + 2 >= c.length || c[i] > 10 || (c[i] === 1 && (!c[i + 2] || 2 ** Math.round(Math.log2(c[i + 2])) !== c[i + 2]))) throw Error();
+        if (i + 2 >= c.length || c[i] > 10 || (c[i] === 1 && !isPower(c[i + 2]))) throw Error();
         edits.push(c.slice(i, i + 3)); }
       if (kept > S.base.count) throw Error();
       S.run = S.base.branch(kept, edits); showNames();
@@ -164,7 +175,10 @@ async function restore() {
     if (q.has('x')) await compare(numbersOf(q.get('x')));
   } catch (fault) {
     if (fault) isFaulty = true;
-    if (!S.run) { const told = $('fault').textContent; await load(await inflated(TRACES[FIRST]), FIRST, titleOf(FIRST)); say(told, true); }
+    if (!S.run) {
+      const told = $('fault').textContent;
+      await load(await inflated(TRACES[FIRST]), FIRST, titleOf(FIRST)); say(told, true);
+    }
   }
   if (isFaulty) say('The link is faulty: what it names is not there. This is the nearest state.', true);
   go(p === null ? Math.min(4000, S.run.count) : p);
