@@ -12,8 +12,8 @@ text{font:14px sans-serif;fill:#1f2328}
 .back{fill:#fff}.out{fill:#d8dee4}.grid{stroke:#d8dee4}.tick{stroke:#57606a}.refusal{stroke:#b00020;stroke-width:2}
 .edge{stroke:#fff;stroke-width:.7}
 .free{fill:#e3dfd2;stroke:#6e6a5c}.joined{fill:#f4c27a;stroke:#b35900}.most{fill:#cfe3f7;stroke:#1f5fae}
-.age1{fill:#2f5fd0}.age2{fill:#2f95e0}.age3{fill:#1fb0ad}.age4{fill:#35a552}
-.age5{fill:#93b021}.age6{fill:#dba40f}.age7{fill:#e5742a}.age8{fill:#c93a48}
+.age1{fill:#f2d9bc}.age2{fill:#f0b87e}.age3{fill:#f0898c}.age4{fill:#b98298}
+.age5{fill:#b05c8f}.age6{fill:#635abf}.age7{fill:#0f5c80}.age8{fill:#044247}
 @media (prefers-color-scheme:dark){
 text{fill:#e6edf3}
 .back{fill:#0d1117}.out{fill:#30363d}.grid{stroke:#30363d}.tick{stroke:#8b949e}.refusal{stroke:#ff7b80}
