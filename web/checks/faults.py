@@ -163,7 +163,7 @@ def keys_work_everywhere(b):
 
 
 def ages_differ(b):
-    found = subprocess.run([sys.executable, WEB / "colours.py", "page"], capture_output=True, text=True)
+    found = subprocess.run([sys.executable, WEB / "colours.py"], capture_output=True, text=True)
     holds(found.returncode == 0, "neighbours of the ages differ by 10 under each simulation", found.stdout + found.stderr)
 
 
