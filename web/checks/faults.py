@@ -101,7 +101,14 @@ def edits_can_be_undone(b):
     same((row(b), b.run("return $('at').max")), (4002, "4002"), "redo")
     b.click("#original")
     same((row(b), b.run("return $('at').max")), (4000, "14773"), "the original comes back by one click")
-    same(b.run("return [$('branch').hidden, $('trace').selectedOptions[0].textContent]"), [True, "voxel game"], "and is named")
+    same(b.run("return [$('branched').textContent, $('trace').selectedOptions[0].textContent]"),
+         ["The original of voxel game. Your calls come back by Undo.", "voxel game"], "and is named")
+    b.click("#undo")
+    same((row(b), b.run("return $('at').max")), (4002, "4002"), "going back to the original can be undone")
+    play(b, "space 100 nodes 8 index 32\nalloc 1\n")
+    same((b.run("return $('told').textContent"), b.run("return $('at').max")), ("Your calls in voxel game are left.", "1"), "another run says what it leaves")
+    b.click("#sayacts button")
+    same((row(b), b.run("return [$('at').max, $('trace').value, $('branch').hidden]")), (4002, ["4002", "voxel-game", False]), "and a click brings it back")
 
 
 def faults_are_seen(b):

@@ -40,8 +40,12 @@ async function load(bytes, name, title) {
     return new Run(t.head, t.calls, t.names, t.lines).survey(work);
   }, bytes, name === 'own' && title !== OWN ? title : '');
   if (!run) { if (S.run) $('trace').value = S.name; return false; }
+  const before = { ...S };
   Object.assign(S, { run, base: run, name, title, bytes, past: [], ahead: [], grant: 0, zoom: null });
   say('');
+  // another run takes nothing away: calls that were added come back by a click
+  if (before.run !== before.base) say(`Your calls in ${before.title} are left.`, false, [['Back to them', () => {
+    Object.assign(S, before, { other: null }); say(''); showNames(); dropOther(); go(before.p); }]]);
   dropOther();
   showNames();
   return true;
@@ -53,8 +57,10 @@ function showNames() {
   for (const o of $('trace').options) o.textContent = o.textContent.replace(/ \(yours, from row .*\)$/, '');
   $('trace').value = S.name;
   const b = S.run !== S.base;
-  $('branch').hidden = !b;
-  if (b) {
+  $('branch').hidden = !b && !S.past.length && !S.ahead.length;
+  $('original').disabled = !b;
+  if (!b) $('branched').textContent = `The original of ${S.title}. Your calls come back by ${S.past.length ? 'Undo' : 'Redo'}.`;
+  else {
     const left = S.base.count - S.run.kept, o = $('trace').selectedOptions[0];
     o.textContent += ` (yours, from row ${whole(S.run.kept)})`;
     $('branched').textContent = `Yours, from row ${whole(S.run.kept)}: ${counted(S.run.edits.length, 'call')} of yours` +
