@@ -71,7 +71,7 @@ def table(b):
 def two_runs(b):
     b.open()
     arena = TRACES["arena-game"].read_text().splitlines()
-    arena = "\n".join([line for line in arena if line and line[0] != "#"][:3000]) + "\n"
+    arena = "\n".join([line for line in arena if line and line[0] != "#"][:1600]) + "\n"
     size, nodes = (int(arena.split()[i]) for i in (1, 3))
     for what, text, as_ in (
             ("compacted where a request is refused", FRAGMENTED, (1000, 32, 1, 1)),
@@ -80,7 +80,7 @@ def two_runs(b):
             ("a unit of 64", FRAGMENTED + "extend 100\nextend 30\nalloc 260\n", (1000, 32, 64, 0)),
             ("never compacted", OFTEN, (1000, 32, 1, 2)),
             ("a unit of 8, never compacted", OFTEN, (1000, 32, 8, 2)),
-            ("less space", arena, (50000000, nodes, 1, 0)),
+            ("less space", arena, (100000000, nodes, 1, 0)),
             ("a unit of 256", arena, (size, nodes, 256, 0))):
         mine, theirs, rows = compared(b, text, as_)
         same(b.run("return S.other.rows"), rows, f"{what}: the rows that differ")

