@@ -31,7 +31,8 @@ $('row').onchange = () => {
   const p = $('row').valueAsNumber;
   if (Number.isInteger(p) && p >= 0 && p <= S.run.count) return to(p);
   say(`Row: a number from 0 to ${whole(S.run.count)}`, true); $('row').value = S.p; };
-$('link').onclick = link; $('keys').onclick = () => $('help').showModal(); $('closehelp').onclick = () => $('help').close();
+$('link').onclick = link; const help = () => { $('help').showModal(); $('closehelp').focus(); };
+$('keys').onclick = help; $('closehelp').onclick = () => $('help').close();
 $('undo').onclick = () => undo(S.past, S.ahead); $('redo').onclick = () => undo(S.ahead, S.past); $('original').onclick = original;
 const fileName = end => S.title.replace(/\.[a-z]+$/, '').replace(/[^\w.-]+/g, '-') + end;
 $('export').onclick = async () => {
@@ -82,7 +83,7 @@ const KEYS = new Map([
   ['g', 'to the number of a row', () => { $('row').focus(); $('row').select(); }],
   ['u', 'undo', () => $('undo').click()], ['U', 'redo', () => $('redo').click()], ['o', 'back to the original', original],
   ['l', 'link to this state', link], ['Escape', 'stop work, close a message', () => { stopWork(); say(''); }],
-  ['?', 'this list', () => $('help').showModal()],
+  ['?', 'this list', help],
 ].map(([key, what, f]) => [key, { what, f }]));
 const KEY_NAMES = { ' ': 'Space', ArrowLeft: '←', ArrowRight: '→', PageUp: 'Page Up', PageDown: 'Page Down' };
 for (const [key, { what }] of KEYS) {

@@ -31,7 +31,7 @@ function asked(out, run, p, n, align, before, size) {
     return;
   }
   const c = roundedUp(need), value = valueOf(c);
-  out.facts.push(REASONS[why]);
+  out.facts.push(why === 1 ? REASONS[why] : `${REASONS[why]}: with the request rounded up`);
   const aligned = align > 1 ? ` at a multiple of ${whole(align)}, so a block for ${whole(need)}` : '';
   out.facts.push(`asked: ${units(n)}${aligned}; rounded up to class ${c}: ` +
     (c < BINS ? units(value) : 'more than any block has'));
@@ -46,6 +46,8 @@ function asked(out, run, p, n, align, before, size) {
   if (why === 1 && big >= value)
     out.helps.push(`more nodes: a limit of ${whole(count + (align > 1 ? 3 : 2))} (it is ${whole(limit)}), where the calls before stay the same`);
   if (why === 1 && big < value) out.helps.push('more nodes alone would not do: no free block is large enough');
+  if (align === 1 && why !== 1 && n > 0 && big >= n)
+    out.helps.push(`allocate_tight, a call that recordings lack: a free block has the ${units(n)}, but not the rounded ones`);
   if (align > 1 && why !== 1 && granted(run, p, [[0, n]]))
     out.helps.push('no alignment: alloc of the same units is granted. A unit as large as the alignment needs none');
   if (largest > 0 && largest < n) out.helps.push(`a smaller request: at most ${units(largest)}`);
