@@ -19,6 +19,8 @@ fn call<T: Tables>(
         None => {
             *kept = match kind % 4 {
                 0 => space.allocate_aligned(number, 8),
+                1 => space.allocate_tight(number),
+                2 => space.allocate_tight_aligned(number, 8),
                 _ => space.allocate(number),
             };
             match kept {

@@ -45,7 +45,10 @@ pub fn living_calls<T: Tables>(
 ) -> u32 {
     let is_granted = allocator.refusal(size).is_none();
     let is_aligned = allocator.refusal_aligned(size, 8).is_none();
-    let sum = u32::from(is_granted) * 2 + u32::from(is_aligned);
+    let is_held = allocator.refusal_tight(size).is_none();
+    let is_held_aligned = allocator.refusal_tight_aligned(size, 8).is_none();
+    let sum = u32::from(is_granted) * 8 + u32::from(is_aligned) * 4;
+    let sum = sum + u32::from(is_held) * 2 + u32::from(is_held_aligned);
     let sum = match handle {
         None => sum,
         Some(handle) => {

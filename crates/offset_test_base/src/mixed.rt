@@ -38,10 +38,11 @@ fn grant_or_release<T: Tables>(
             release(allocator, handle)
         }
         None => {
-            *kept = if kind % 2 == 0 {
-                allocator.allocate(size)
-            } else {
-                allocator.allocate_aligned(size, 8)
+            *kept = match kind % 4 {
+                0 => allocator.allocate(size),
+                1 => allocator.allocate_aligned(size, 8),
+                2 => allocator.allocate_tight(size),
+                _ => allocator.allocate_tight_aligned(size, 8),
             };
             match *kept {
                 None => NONE,
@@ -49,6 +50,19 @@ fn grant_or_release<T: Tables>(
             }
         }
     }
+}
+
+// The numbers of the statistics as one.
+fn fold_statistics<T: Tables>(allocator: &AllocatorOf<T>) -> u32 {
+    let found = allocator.statistics();
+    let sum = found
+        .live_units
+        .wrapping_mul(31)
+        .wrapping_add(found.live_ranges);
+    let sum = sum.wrapping_mul(31).wrapping_add(found.free_blocks);
+    let sum = sum.wrapping_mul(31).wrapping_add(found.largest_free_block);
+    sum.wrapping_mul(31)
+        .wrapping_add(u32::from(allocator.is_empty()))
 }
 
 // Both reports as one number.
@@ -95,7 +109,7 @@ fn call<T: Tables>(
     match kind {
         0..=9 => grant_or_release(allocator, kept, kind, number % 100),
         10 => living_calls(allocator, *kept, number % 100),
-        11 => report(allocator, number as usize),
+        11 => report(allocator, number as usize).wrapping_add(fold_statistics(allocator)),
         12 => report_counted(allocator, *kept, number as usize),
         13 => u32::from(undo(allocator, number % 500)),
         14 => u32::from(allocator.extend(number % 10)),
