@@ -31,7 +31,7 @@ function asked(out, run, p, n, align, before, size) {
     return;
   }
   const c = roundedUp(need), value = valueOf(c);
-  out.facts.push(why === 1 ? REASONS[why] : `${REASONS[why]}: with the request rounded up`);
+  out.facts.push(why !== 1 && align === 1 && n > 0 && big >= n ? `${REASONS[why]}: for the request rounded up` : REASONS[why]);
   const aligned = align > 1 ? ` at a multiple of ${whole(align)}, so a block for ${whole(need)}` : '';
   out.facts.push(`asked: ${units(n)}${aligned}; rounded up to class ${c}: ` +
     (c < BINS ? units(value) : 'more than any block has'));
