@@ -97,6 +97,18 @@ def are_found(b):
           "a smaller request: at most 96 units"], "what would have helped")
 
 
+def tight_is_named(b):
+    b.open()
+    # a fresh space of 100 refuses 100, since 100 is rounded up to 104
+    play(b, "space 100 nodes 4 index 32\nalloc 100\n")
+    b.run("document.activeElement.blur()")
+    b.keys("r")
+    same(b.run("return [...$('helps').children].map(e => e.textContent)"),
+         ["4 units more space (extend 4): then it is granted",
+          "allocate_tight, a call that recordings lack: a free block has the 100 units, but not the rounded ones",
+          "a smaller request: at most 96 units"], "a tight request is named where a free block has the units")
+
+
 def are_marked(b):
     b.open()
     b.run("return take(new TextEncoder().encode(arguments[0]))", MANY)
@@ -163,4 +175,4 @@ def gone_is_told(b):
     same(b.run("return $('facts').textContent"), "no grant has the number 7 there", "a number of no grant")
 
 
-ALL = [are_found, are_marked, helps_help, gone_is_told]
+ALL = [are_found, are_marked, helps_help, tight_is_named, gone_is_told]
