@@ -135,7 +135,7 @@ def reached(graph, names):
 def folders():
     """The folders that may have edits, each with its crate and whether the gate tries them."""
     for crate in sorted(it for it in (TOP / "crates").iterdir() if it.is_dir()):
-        yield crate.name, crate / "must-fail", True
+        yield crate.name, TOP / "mutants" / "gate" / crate.name, True
         yield crate.name, TOP / "mutants" / crate.name, False
 
 
@@ -173,7 +173,8 @@ def problems(edits):
     """What is wrong with the edits, or with the tables of the document."""
     found = [problem for it in edits for problem in it.problems()]
     known = {folder for _, folder, _ in folders()}
-    for folder in [*known, *(it for it in (TOP / "mutants").iterdir() if it.is_dir() and it.name != "__pycache__")]:
+    there = [it for top in ("mutants", "mutants/gate") for it in (TOP / top).iterdir() if it.is_dir()]
+    for folder in [*known, *(it for it in there if it.name not in ("__pycache__", "gate"))]:
         if folder not in known:
             found.append(f"{folder.relative_to(TOP)}: there is no crate of this name")
         for it in folder.iterdir() if folder.is_dir() else []:

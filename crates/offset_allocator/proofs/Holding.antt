@@ -208,6 +208,30 @@ brought f s c x l there d last count top k chain lasts counts bins lists =
 pub first_is : (v : View) → IsWellFormed v → (c x : ℕ) → c < 256 → bin_at (with_first c x v).order c ≡ x ∷ bin_at (remove c x v.order) c
 first_is v w c x l = names_same (remove c x v.order) c (x ∷ bin_at (remove c x v.order) c) (length_remove c x v.order ∙ w.classes) l
 
+-- what is split is the block that was brought to the front, and the class is its own
+pub record IsBrought (c x : ℕ) (b : Block) : Type 0 where
+  pub small : c < 256
+  pub class : down b.size ≡ c
+  pub name : b.name ≡ x
+
+pub at_first : (v : View) → IsWellFormed v → (c n x : ℕ) (padding_at : ℕ → ℕ) {w : View} {g : Grant} (s : Splits (value c) n padding_at (with_first c x v) w g) → IsBrought c x s.block
+at_first v known c n x padding_at s =
+    let order : List (List ℕ) = (with_first c x v).order in
+    let again = up_reached (value c) (omega (arith, s.fits, down_small s.block.size)) in
+    let small : c < 256 = elim (cases_lt (up (value c)) c) [
+      | inl l ↦ absurd (omega (arith, again, value_rises (up (value c)) c l))
+      | inr l ↦ omega (arith, l, s.fits, down_small s.block.size)
+    ] in
+    let first = first_is v known c x small in
+    let itself = (value_clauses c (value c % 2 ^ 32) small refl).up_again in
+    let same : down s.block.size ≡ c = elim (cases_lt c (down s.block.size)) [
+      | inl m ↦ absurd (let q = sym first ∙ s.smallest c (omega (arith, itself)) m in cc)
+      | inr m ↦ omega (arith, m, s.fits, itself)
+    ] in
+    let lists : x ∷ bin_at (remove c x v.order) c ≡ s.block.name ∷ s.older = sym first ∙ sym (ap (bin_at order) same) ∙ s.newest in
+    let named : s.block.name ≡ x = cc in
+    record { small = small; class = same; name = named }
+
 -- ---- what contracts say of a request, from the relation that says it all
 -- what was counted before changes nothing
 pub fills_counted : (n align : ℕ) (v w : View) (k : ℕ) (r : Option Grant) → FillsFirst n align (record v { accesses = k }) w r → FillsFirst n align v w r
@@ -244,30 +268,12 @@ module _ (n align : ℕ) (v w : View) (known : IsWellFormed v) (some : 1 ≤ ali
       let x = a.1.1.1 in
       let s = a.1.1.3 in
       let h = holder v known n align x a.1.1.2 in
-      let at = at_first c x s in
-      let first = well_first v known c x at.0 at.1 in
+      let at = at_first v known c n x (padding_to align) s in
+      let listed = block_listed v known (record { before = s.before; block = s.block; after = s.after }) s.blocks s.free in
+      let there = subst (λ d. 1 ≤ times x (bin_at v.order d)) at.class (subst (λ y. 1 ≤ times y (bin_at v.order (down s.block.size))) at.name listed) in
+      let first = well_first v known c x at.small there in
       let k = split_grants s first (well_split s (blocks_needed align) first a.1.0 (part_room s.padding_name s.padding (blocks_needed align) (omega arith) (λ l. omega (arith, l, s.padded)))) in
       record { not_live = k.not_live; range = k.range; within = k.within; disjoint = k.disjoint; others = k.others }
-    where
-      -- the class is that of the block
-      at_first : (c x : ℕ) {g : Grant} → Splits (value c) n (padding_to align) (with_first c x v) w g → (c < 256) × (1 ≤ times x (bin_at v.order c))
-      at_first c x s =
-          let order : List (List ℕ) = (with_first c x v).order in
-          let again = up_reached (value c) (omega (arith, s.fits, down_small s.block.size)) in
-          let small : c < 256 = elim (cases_lt (up (value c)) c) [
-            | inl l ↦ absurd (omega (arith, again, value_rises (up (value c)) c l))
-            | inr l ↦ omega (arith, l, s.fits, down_small s.block.size)
-          ] in
-          let first = first_is v known c x small in
-          let itself = (value_clauses c (value c % 2 ^ 32) small refl).up_again in
-          let same : down s.block.size ≡ c = elim (cases_lt c (down s.block.size)) [
-            | inl m ↦ absurd (let q = sym first ∙ s.smallest c (omega (arith, itself)) m in cc)
-            | inr m ↦ omega (arith, m, s.fits, itself)
-          ] in
-          let lists : x ∷ bin_at (remove c x v.order) c ≡ s.block.name ∷ s.older = sym first ∙ sym (ap (bin_at order) same) ∙ s.newest in
-          let named : s.block.name ≡ x = cc in
-          let listed = block_listed v known (record { before = s.before; block = s.block; after = s.after }) s.blocks s.free in
-          (small, subst (λ d. 1 ≤ times x (bin_at v.order d)) same (subst (λ y. 1 ≤ times y (bin_at v.order (down s.block.size))) named listed))
 
   pub aligned_tight : (r : Option Grant) → AlignsTight n align v w r → IfSome r (λ h. h.offset % align ≡ 0)
   aligned_tight None a = tt

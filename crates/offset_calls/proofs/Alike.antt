@@ -9,8 +9,20 @@ use Rattle.offset_script.proofs.Alike.{IsAlike, IsMatched, IsFreshKind, alike_st
 use Rattle.offset_script.proofs.Pairs.{Kind, Lives, Frees, Pair, pair, left_tag, right_tag, left, right, lefts, rights, AreAgreed, IsSameOrder, IsSamePlace, neither, both, same_free, same_total}
 use Rattle.offset_script.proofs.Pairs.{same_units, same_short, same_free_sizes, same_chosen, pair_free_block, lefts_free_block, rights_free_block, in_free_block}
 use Rattle.offset_script.proofs.{Members.IsIn, Members.in_append, Members.in_left, Members.in_right, Tests.if_same, Found.found_at}
+use Rattle.std.specs.Option.{option_or}
+use Rattle.offset_allocator.specs.{Classes.down, View.padding_to}
+use Rattle.offset_script.proofs.Alike.{IsSameOutcome, same_granted}
+use Rattle.offset_script.proofs.Pairs.{AreAllAgreed, same_tests}
+use Rattle.offset_script.proofs.Tests.{same_and}
+use Rattle.offset_script.specs.Machine.{is_taken_before}
+use Rattle.offset_calls.specs.Calls.{answered}
+use Rattle.offset_calls.specs.Tight.{holds, better, holding_place, request_tight, allocate_tight, lack, reason_held}
+use Rattle.offset_calls.proofs.Common.{Some, Nodes, and_parts, is_short_of, total}
 use Rattle.offset_script.specs.Machine as machine
 use Rattle.offset_calls.specs.declared.calls.Call.TheVariants as call
+
+same_holds : (n align o : ℕ) (q : Pair) → holds n align o (left q) ≡ holds n align o (right q)
+same_holds n align o q = ap (λ b. b && nat_le (padding_to align o + n) q.size) (same_free q.kind)
 
 -- the same reply, except for numbers, and states that are alike again
 pub record AreSame (r : ℕ → ℕ) (g d : ℕ) (o p : Outcome) : Type 0 where
@@ -216,6 +228,56 @@ module _ (r : ℕ → ℕ) (g d : ℕ) (back : (k : ℕ) → r (number_with g d 
       (same_chosen n a.pairs a.agree)) in
       search (arith, some, same_short, same_units, same_free_sizes, sum)
 
+  -- a request that takes any free block which holds it
+  same_held_step : (n align o : ℕ) (q : Pair) (ps : List Pair) (x y : Option machine.Place) → AreAllAgreed (q ∷ ps) → IsSamePlace (λ q. is_free (left_tag q.kind) ≡ true) ps x y
+      → IsSamePlace (λ q. is_free (left_tag q.kind) ≡ true) (q ∷ ps) (better (holds n align o (left q)) (left q) (lefts ps) x) (better (holds n align o (right q)) (right q) (rights ps) y)
+  same_held_step n align o q ps None None agree neither = if_same (IsSamePlace _ (q ∷ ps)) _ _ _ _ _ _ (same_holds n align o q) (λ e. both [] q ps refl (and_parts _ _ e).0) neither
+  same_held_step n align o q ps x y agree (both xs z ys e f) = if_same (IsSamePlace (λ q. is_free (left_tag q.kind) ≡ true) (q ∷ ps)) _ _ _ _ _ _
+      (same_and (holds n align o (left q)) _ _ (λ g. same_tests (down q.size) (down z.size) q.kind z.kind (and_parts _ _ g).0 f (agree z q (inr (subst (IsIn z) (sym e) (in_right z xs (z ∷ ys) (inl refl)))) (inl refl)))
+      ∙ ap (λ b. b && is_taken_before (right q) (right z)) (same_holds n align o q))
+      (λ h. both [] q ps refl (and_parts _ _ (and_parts _ _ h).0).0) (both (q ∷ xs) z ys (ap (λ l. q ∷ l) e) f)
+
+  same_held : (n align o : ℕ) (ps : List Pair) → AreAllAgreed ps → IsSamePlace (λ q. is_free (left_tag q.kind) ≡ true) ps (holding_place n align o (lefts ps)) (holding_place n align o (rights ps))
+  same_held n align o [] agree = neither
+  same_held n align o (q ∷ ps) agree = same_held_step n align o q ps _ _ agree (same_held n align (o + q.size) ps (λ a b x y. agree a b (inr x) (inr y)))
+
+  any_place : (P : Pair → Type 0) (ps : List Pair) (x y : Option machine.Place) → IsSamePlace P ps x y → IsSamePlace (λ q. Unit {0}) ps x y
+  any_place P ps None None neither = neither
+  any_place P ps x y (both xs q ys e f) = both xs q ys e tt
+
+  same_either : (ps : List Pair) (x y x' y' : Option machine.Place) → IsSamePlace (λ q. Unit {0}) ps x y → IsSamePlace (λ q. Unit {0}) ps x' y' → IsSamePlace (λ q. Unit {0}) ps (option_or x x') (option_or y y')
+  same_either ps None None x' y' neither h = h
+  same_either ps x y x' y' (both xs q ys e f) h = both xs q ys e f
+
+  held_places : (n align : ℕ) → IsSamePlace (λ q. Unit {0}) a.pairs (holding_place n align 0 s.blocks) (holding_place n align 0 t.blocks)
+  held_places n align = subst₂ (λ x y. IsSamePlace (λ q. Unit {0}) a.pairs (holding_place n align 0 x) (holding_place n align 0 y)) (sym a.left_blocks) (sym a.right_blocks)
+      (any_place _ a.pairs _ _ (same_held n align 0 a.pairs a.agree))
+
+  chosen_places : (n : ℕ) → IsSamePlace (λ q. Unit {0}) a.pairs (chosen_place n s.blocks) (chosen_place n t.blocks)
+  chosen_places n = subst₂ (λ x y. IsSamePlace (λ q. Unit {0}) a.pairs (chosen_place n x) (chosen_place n y)) (sym a.left_blocks) (sym a.right_blocks)
+      (any_place _ a.pairs _ _ (same_chosen n a.pairs a.agree))
+
+  request_same : (spare needed n align : ℕ) → IsSameOutcome r d (request_tight s spare needed n align) (request_tight t spare needed n align)
+  request_same spare needed n align = if_same (IsSameOutcome r d) _ _ _ _ _ _ (same_short s t a.pairs a.limit a.left_blocks a.right_blocks spare) (λ e. same_quiet r d s t a _ _ refl)
+      (same_granted r d s t a n (λ q. Unit {0}) (padding_to align) _ _ (same_either a.pairs _ _ _ _ (chosen_places needed) (held_places n align)))
+
+  tight_same : (n align : ℕ) → AreSame r g d (answered (allocate_tight n align s)) (answered (allocate_tight n align t))
+  tight_same n align =
+      let o = if_same (IsSameOutcome r d) (nat_le align 1) (nat_le align 1) _ _ _ _ refl (λ e. request_same 1 n n align) (request_same 2 (n + align - 1) n align) in
+      record { reply = ap Answer o.answer; state = o.state }
+
+  some_place : (x y : Option machine.Place) → IsSamePlace (λ q. Unit {0}) a.pairs x y → is_some x ≡ is_some y
+  some_place None None neither = refl
+  some_place x y (both xs q ys e f) = refl
+
+  held_reason : (k n align : ℕ) → reason_held k n align s ≡ reason_held k n align t
+  held_reason k n align =
+      let units = same_units s t a.pairs a.limit a.left_blocks a.right_blocks in
+      let free = ap sum (same_free_sizes s t a.pairs a.limit a.left_blocks a.right_blocks) in
+      ap₂ (λ b h. if b then Some Nodes else if h then None else Some (lack n (total s.blocks) (sum (free_sizes s.blocks)))) (same_short s t a.pairs a.limit a.left_blocks a.right_blocks k)
+      (some_place _ _ (held_places n align))
+      ∙ ap₂ (λ m f. if is_short_of k t then Some Nodes else if is_some (holding_place n align 0 t.blocks) then None else Some (lack n m f)) units free
+
   pub same_call : (c : Call) → AreSame r g d (step c s) (step (renumber r c) t)
   same_call (call.Command c) = let o = alike_step r d c s t a in record { reply = ap Answer o.answer; state = o.state }
   same_call (call.Shrink k n) = resize_same k n _ _ _ _ refl (same_placed r d s t a k)
@@ -224,6 +286,10 @@ module _ (r : ℕ → ℕ) (g d : ℕ) (back : (k : ℕ) → r (number_with g d 
   same_call call.Compact = compact_same
   same_call (call.Offset k) = quiet _ _ (offset_same _ _ (same_placed r d s t a k))
   same_call (call.Refusal n) = quiet _ _ (ap Refused_for (reason_same 1 n))
+  same_call (call.Tight n) = tight_same n 1
+  same_call (call.TightAligned n align) = tight_same n align
+  same_call (call.RefusalTight n) = quiet _ _ (ap Refused_for (held_reason 1 n 1))
+  same_call (call.RefusalTightAligned n align) = quiet _ _ (ap Refused_for (held_reason (if nat_le align 1 then 1 else 2) n align))
   same_call (call.RefusalAligned n align) = quiet _ _ (ap₂ (λ x y. Refused_for (if nat_le align 1 then x else y)) (reason_same 1 n) (reason_same 2 (n + align - 1)))
 
 -- alike states give the same replies to any calls

@@ -1,5 +1,5 @@
 -- The steps of calls are those of the plain machine.
-use Rattle.offset_calls.proofs.Common.{◌≡◌, ◌≢◌, ◌⊎◌, ℕ, ◌+◌, ◌-◌, ◌≤◌, Bool, true, false, not, ◌&&◌, List, [], ◌∷◌, length, sum, Option, Some, None, is_some, IfSome, IsTrue, option_map}
+use Rattle.offset_calls.proofs.Common.{◌≡◌, ◌≢◌, ◌⊎◌, ℕ, zero, suc, ◌+◌, ◌-◌, ◌<◌, ◌≤◌, leb-false, Bool, true, false, not, ◌&&◌, List, [], ◌∷◌, length, sum, Option, Some, None, is_some, IfSome, IsTrue, option_map}
 use Rattle.offset_calls.proofs.Common.{option_and_then, nat_eq, nat_lt, nat_le, if◌then◌else◌, refl, sym, ap, ap₂, subst, ◌∙◌, inl, inr, arith, eq-eqb, ne_eqb, le-leb, leb-true, lt-ltb, le-ltb}
 use Rattle.offset_calls.proofs.Common.{cases_eq, cases_lt, true≢false, false≢true, and_parts, lt-leb, Nodes, TooLarge, Space, Fragmented, View, Grant, times, count_in_bin, bin_at, units, IsWellFormed}
 use Rattle.offset_calls.proofs.Common.{HasRoomFor, IsWhy, size_needed, blocks_needed, units_needed, Range, size_of, SameSpace, kept_name, IfNamed, Stays, State, is_free, free_sizes, total}
@@ -10,6 +10,15 @@ use Rattle.offset_allocator.specs.{declared.reports.Refusal.Refusal, Classes.val
 use Rattle.offset_script.proofs.Agreed.{agrees_but, agrees_quiet, has_room, labelled, none_there, same_length, same_units}
 use Rattle.offset_script.proofs.{Agreement.Label, Agreement.by_tag, Agreement.IsAtState, Chosen.none_chosen, Chosen.plain_place, Ends.free_sizes_labels, Ends.total_units, Labels.names, Members.IsIn}
 use Rattle.offset_script.proofs.{Members.in_map, Found.not_chosen, Well.IsWell, Well.well_quiet, Well.well_step}
+use Rattle.std.specs.Prelude.{max}
+use Rattle.std.proofs.lemmas.Bool.{cond_both}
+use Rattle.std.specs.Option.{option_or}
+use Rattle.offset_allocator.specs.{View.padding_to, Tight.CanHold, Tight.IsWhyTight}
+use Rattle.offset_script.proofs.{Chosen.named_place, Found.chosen_at, Lists.whole, Tests.same_some, Well.free_part, Well.well_grant}
+use Rattle.offset_calls.specs.Steps.{IsReasonTight, TakesTight}
+use Rattle.offset_calls.specs.Tight.{holding_place, request_tight, allocate_tight, lack, reason_held, reason_tight}
+use Rattle.offset_calls.specs.Calls.{answered}
+use Rattle.offset_calls.proofs.{Held.held_at, Filled.held_spot, Filled.held_there, Filled.there, Filled.tight_agrees}
 use Rattle.offset_calls.proofs.Compacted.{well_compact, compact_agrees, moves_are}
 use Rattle.offset_calls.proofs.Resized.{well_resized, found, spot, size_found, can_shrink_is, shrink_can, can_grow_is, grow_can, resized_agrees}
 use Rattle.offset_allocator.specs.View as named
@@ -65,11 +74,48 @@ shrink_fits s n p d c = search (arith, nat_le, not, false≢true)
 grow_fits : (s : State) (n : ℕ) (p : machine.Place) → n ≢ p.block.size → can_grow n p ≡ true → (starts_free p.after ≡ true) ⊎ (is_short_of 1 s ≡ false)
 grow_fits s n p d c = search (arith, nat_le, and_parts, leb-true)
 
+-- a request that takes any free block which holds it
+module _ (s : State) (w : IsWell s) (spare needed n align : ℕ) (enough : (o x : ℕ) → length (machine.free_block (padding_to align o) x) + 1 ≤ spare) where
+  -- a place that it takes is that of a free block
+  tight_place : (c h : Option machine.Place) → chosen_place needed s.blocks ≡ c → holding_place n align 0 s.blocks ≡ h → (p : machine.Place) → option_or c h ≡ Some p
+      → (s.blocks ≡ whole p) × (is_free p.block.tag ≡ true)
+  tight_place (Some q) h e f p is =
+      let at = chosen_at needed s.blocks q e in
+      subst (λ (q : machine.Place). (s.blocks ≡ whole q) × (is_free q.block.tag ≡ true)) (same_some q p is) (at.0, (and_parts _ _ at.1).0)
+  tight_place None (Some q) e f p is =
+      let at = held_at n align s.blocks q f in
+      subst (λ (q : machine.Place). (s.blocks ≡ whole q) × (is_free q.block.tag ≡ true)) (same_some q p is) (at.0, (and_parts _ _ at.1).0)
+  tight_place None None e f p is = absurd (cc)
+
+  well_granted : length s.blocks + spare < s.limit → (o : Option machine.Place) → option_or (chosen_place needed s.blocks) (holding_place n align 0 s.blocks) ≡ o
+      → IsWell (machine.grant_or_refuse s n (padding_to align) o).state
+  well_granted room None e = well_quiet s w machine.Refused
+  well_granted room (Some p) e =
+      let at = tight_place _ _ refl refl p e in
+      well_grant s w n (padding_to align (total p.before)) p at.0 at.1 spare room (enough _ _)
+
+  well_request : IsWell (request_tight s spare needed n align).state
+  well_request = cond_both (is_short_of spare s) _ _ (λ (o : machine.Outcome). IsWell o.state) (λ e. well_quiet s w machine.Refused)
+      (λ e. well_granted (leb-false s.limit (length s.blocks + spare) e) _ refl)
+
+well_tight : (s : State) → IsWell s → (n align : ℕ) → IsWell (allocate_tight n align s).state
+well_tight s w n align = cond_both (nat_le align 1) _ _ (λ (o : machine.Outcome). IsWell o.state)
+    (λ e. well_request s w 1 n n align (λ o x. subst (λ m. length (machine.free_block m x) + 1 ≤ 1) (sym (no_padding align o (leb-true align 1 e))) (omega arith)))
+    (λ e. well_request s w 2 (n + align - 1) n align (λ o x. let h = (free_part (padding_to align o) x).3 in omega arith))
+  where
+    -- an alignment of at most 1 asks for no padding
+    no_padding : (align o : ℕ) → align ≤ 1 → padding_to align o ≡ 0
+    no_padding zero o l = omega arith
+    no_padding (suc zero) o l = omega arith
+    no_padding (suc (suc k)) o l = absurd (omega arith)
+
 pub well_call : (c : Call) (s : State) → IsWell s → IsWell (step c s).state
 well_call (call.Command c) s w = well_step c s w
 well_call (call.Shrink k n) s w = well_resize s w k n (can_shrink n s) (λ p d c. shrink_fits s n p d c) (machine.place_of k s.blocks) refl
 well_call (call.Grow k n) s w = well_resize s w k n (can_grow n) (λ p d c. grow_fits s n p d c) (machine.place_of k s.blocks) refl
 well_call call.Compact s w = well_compact s w
+well_call (call.Tight n) s w = well_tight s w n 1
+well_call (call.TightAligned n align) s w = well_tight s w n align
 well_call other s w = well_quiet s w machine.Gone
 
 pub well_calls : (cs : List Call) (s : State) → IsWell s → IsWell (after cs s)
@@ -222,6 +268,81 @@ module _ (v w : View) (hs left : List (Option Grant)) (r : Reply) (s : State) (f
           (le-ltb (total s.blocks) (value (up n)) (let f = size_is in let m = h.1 in omega arith))
           (le-ltb (sum (free_sizes s.blocks)) (size_needed n) (let f = same_free in let m = h.1 in omega arith)))
 
+  -- why a request is refused that takes any free block which holds it
+  held_can : (n align : ℕ) (q : machine.Place) → holding_place n align 0 s.blocks ≡ Some q → HasRoomFor (blocks_needed align) v → CanHold n align v
+  held_can n align q e room =
+      let r = held_spot v p.formed p.agrees.labels (labelled v (kept_name hs) s p.formed ws p.agrees) n align q (sym (ap (holding_place n align 0) p.agrees.state) ∙ e) in
+      (room, (named_place r.0, there v p.formed p.agrees.labels (labelled v (kept_name hs) s p.formed ws p.agrees) n align r.0 r.1, ap not r.3, r.4))
+
+  none_found : (n align : ℕ) → (CanHold n align v → ⊥) → HasRoomFor (blocks_needed align) v → (o : Option machine.Place) → holding_place n align 0 s.blocks ≡ o → is_some o ≡ false
+  none_found n align none room None e = refl
+  none_found n align none room (Some q) e = absurd (none (held_can n align q e room))
+
+  tight_reason_is : (n align : ℕ) (why : Option Refusal) → IsReasonTight n align v why → why ≡ reason_held (blocks_needed align) n align s
+  tight_reason_is n align why t = go why refl
+    where
+      here : Refusal
+      here = lack n (total s.blocks) (sum (free_sizes s.blocks))
+
+      size_is : total s.blocks ≡ v.size
+      size_is = sym (same_units v (kept_name hs) s p.formed ws p.agrees) ∙ p.formed.whole
+
+      is_why : (x : Refusal) → why ≡ Some x → IsWhyTight n align v x
+      is_why x e = subst (λ o. IfSome o (IsWhyTight n align v)) e t.1
+
+      refuses : (x : Refusal) → why ≡ Some x → CanHold n align v → ⊥
+      refuses x e c = let f : Some x ≡ None = sym e ∙ t.0.1 c in cc
+
+      lacks : (x : Refusal) → why ≡ Some x → HasRoomFor (blocks_needed align) v → here ≡ x → why ≡ reason_held (blocks_needed align) n align s
+      lacks x e room is =
+          e ∙ sym (ap (λ a. reason_of a (is_some (holding_place n align 0 s.blocks)) here) (has_room v (kept_name hs) s p.formed ws p.agrees (blocks_needed align) room)
+          ∙ ap₂ (reason_of false) (none_found n align (refuses x e) room _ refl) is)
+
+      -- a block that holds it is found
+      some_found : CanHold n align v → is_some (holding_place n align 0 s.blocks) ≡ true
+      some_found c = other (holding_place n align 0 s.blocks) refl
+        where
+          other : (o : Option machine.Place) → holding_place n align 0 s.blocks ≡ o → is_some o ≡ true
+          other (Some q) e = refl
+          other None e = absurd (true≢false (sym (held_there v p.formed p.agrees.labels (labelled v (kept_name hs) s p.formed ws p.agrees) n align c.1.0 c.1.1 c.1.2 c.1.3)
+              ∙ ap is_some (sym (ap (holding_place n align 0) p.agrees.state) ∙ e)))
+
+      go : (o : Option Refusal) → why ≡ o → why ≡ reason_held (blocks_needed align) n align s
+      go None e =
+          let c = t.0.0 e in
+          e ∙ sym (ap₂ (λ a b. reason_of a b here) (has_room v (kept_name hs) s p.formed ws p.agrees (blocks_needed align) c.0) (some_found c))
+      go (Some Nodes) e = e ∙ sym (ap (λ a. reason_of a (is_some (holding_place n align 0 s.blocks)) here) (short (blocks_needed align) (is_why Nodes e)))
+      go (Some TooLarge) e =
+          let h = is_why TooLarge e in
+          lacks TooLarge e h.0 (ap (λ b. if b then TooLarge else if nat_lt (sum (free_sizes s.blocks)) (max 1 n) then Space else Fragmented)
+          (lt-ltb (total s.blocks) n (let f = size_is in let l = h.1 in omega arith)))
+      go (Some Space) e =
+          let h = is_why Space e in
+          lacks Space e h.0 (ap₂ (λ a b. if a then TooLarge else if b then Space else Fragmented)
+          (le-ltb (total s.blocks) n (let f = size_is in let l = h.1 in omega arith))
+          (lt-ltb (sum (free_sizes s.blocks)) (max 1 n) (let f = same_free in let l = h.2 in omega arith)))
+      go (Some Fragmented) e =
+          let h = is_why Fragmented e in
+          let l = free_within v p.formed in
+          lacks Fragmented e h.0 (ap₂ (λ a b. if a then TooLarge else if b then Space else Fragmented)
+          (le-ltb (total s.blocks) n (let f = size_is in let m = h.1 in omega arith))
+          (le-ltb (sum (free_sizes s.blocks)) (max 1 n) (let f = same_free in let m = h.1 in omega arith)))
+
+  spare_is : (n align : ℕ) → 1 ≤ align → reason_held (blocks_needed align) n align s ≡ reason_tight n align s
+  spare_is n align some = elim (cases_lt 1 align) [
+    | inl l ↦ ap (λ k. reason_held k n align s) (let e : blocks_needed align ≡ 2 = omega arith in e ∙ sym (ap (λ b. if b then 1 else 2) (lt-leb align 1 l)))
+    | inr l ↦ ap (λ k. reason_held k n align s) (let e : blocks_needed align ≡ 1 = omega arith in e ∙ sym (ap (λ b. if b then 1 else 2) (le-leb align 1 l)))
+  ]
+
+  tight_step : (n align : ℕ) → 1 ≤ align → TakesTight n align v hs w left r → Follows (answered (allocate_tight n align s)) w left r
+  tight_step n align some t =
+      let m = tight_agrees v (kept_name hs) s p.formed ws p.agrees n align some w formed t.0 t.2 in
+      let f = script.requested v w hs left t.1 s formed ws p (allocate_tight n align s) t.0 m t.3 in
+      (t.4 ∙ ap Answer f.0, f.1)
+
+  tight_reason_step : (n align : ℕ) → 1 ≤ align → (why : Option Refusal) → IsReasonTight n align v why → r ≡ Refused_for why → r ≡ Refused_for (reason_tight n align s)
+  tight_reason_step n align some why t e = e ∙ ap Refused_for (tight_reason_is n align why t ∙ spare_is n align some)
+
   aligned_reason : (n align : ℕ) → 1 ≤ align → reason (blocks_needed align) (units_needed n align) s ≡ (if nat_le align 1 then reason 1 n s else reason 2 (n + align - 1) s)
   aligned_reason n align some = elim (cases_lt 1 align) [
     | inl l ↦ ap (λ k. reason k (units_needed n align) s) (let e : blocks_needed align ≡ 2 = omega arith in e)
@@ -243,3 +364,7 @@ module _ (v w : View) (hs left : List (Option Grant)) (r : Reply) (s : State) (f
   follows (call.Refusal n) valid t = quiet _ _ refl t.0 (t.1.2 ∙ ap Refused_for (reason_is 1 n t.1.0 t.1.1))
   follows (call.RefusalAligned n align) valid t = quiet _ _ refl t.0
       (t.1.2 ∙ ap Refused_for (reason_is (blocks_needed align) (units_needed n align) t.1.0 t.1.1 ∙ aligned_reason n align (not_zero align (inr (inl valid)))))
+  follows (call.Tight n) valid t = tight_step n 1 (omega arith) t
+  follows (call.TightAligned n align) valid t = tight_step n align (not_zero align (inr (inl valid))) t
+  follows (call.RefusalTight n) valid t = quiet _ _ refl t.0 (tight_reason_step n 1 (omega arith) t.1.0 t.1.1 t.1.2)
+  follows (call.RefusalTightAligned n align) valid t = quiet _ _ refl t.0 (tight_reason_step n align (not_zero align (inr (inl valid))) t.1.0 t.1.1 t.1.2)

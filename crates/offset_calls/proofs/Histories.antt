@@ -54,6 +54,8 @@ counts_only (call.Command other) s h = absurd h
 counts_only (call.Offset k) s h = refl
 counts_only (call.Refusal n) s h = refl
 counts_only (call.RefusalAligned n align) s h = refl
+counts_only (call.RefusalTight n) s h = refl
+counts_only (call.RefusalTightAligned n align) s h = refl
 counts_only other s h = absurd h
 
 pub question_law : (size limit : ℕ) → 2 ≤ limit → (before : List Call) (q : Call) (rest : List Call) → IsQuestion q

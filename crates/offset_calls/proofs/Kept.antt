@@ -1,11 +1,12 @@
 -- The numbers of grants by their names, from one call to the next.
 use Rattle.offset_calls.proofs.Common.{◌≡◌, ℕ, zero, suc, ◌+◌, ◌-◌, ◌<◌, ◌≤◌, ◌⊎◌, List, [], ◌∷◌, ◌++◌, length, Option, Some, None, nat_eq, if◌then◌else◌, sym, ap, subst, ◌∙◌, inl, inr, arith}
 use Rattle.offset_calls.proofs.Common.{slice_set, option_map, eq-eqb, ne_eqb, cases_eq, cases_lt, length-append, add-one, get_or, get_or_past, Grant, View, IsWellFormed, kept_name, IfNamed, IsKept, Call, Reply, Takes}
-use Rattle.offset_calls.proofs.Common.{Command}
+use Rattle.offset_calls.proofs.Common.{Command, IsTrue, is_valid}
 use Rattle.std.specs.List.{slice_index}
 use Rattle.std.proofs.lemmas.List.{get_or_default, get_or-set_other, get_or-set_same, set_past, length-set}
 use Rattle.offset_allocator.specs.{Relations.Splits, Relations.Allocates, Relations.Aligns}
-use Rattle.offset_allocator.proofs.Ranges.{split_grants}
+use Rattle.offset_allocator.specs.Tight.{AlignsTight}
+use Rattle.offset_allocator.proofs.{Holding.grants_tight, Powers.not_zero, Ranges.split_grants}
 use Rattle.offset_script.specs.Steps.{AreLive}
 use Rattle.offset_script.proofs.Simulation.{kept_push}
 use Rattle.offset_calls.specs.Steps.{AreNumbers}
@@ -107,6 +108,10 @@ module _ (v w : View) (hs left : List (Option Grant)) (before : IsWellFormed v) 
   next_aligned n align a None t k = next_same hs left k.0
   next_aligned n align a (Some h) t k = next_granted _ _ _ h t.1 k.0
 
+  next_tight : (n align : ℕ) → 1 ≤ align → (a : machine.Answer) (r : Option Grant) → AlignsTight n align v w r → IsKept r hs left a → IsNext hs left
+  next_tight n align some a None t k = next_same hs left k.0
+  next_tight n align some a (Some h) t k = inr (h, k.0, λ j e. let none = (grants_tight n align v w before some (Some h) t).not_live in let kept = live j h.name e in cc)
+
   -- what is so where a name is kept, and where none is
   either : (o : Option ℕ) (P : ℕ → Type 0) (Q A : Type 0) → ((x : ℕ) → P x → A) → (Q → A) → IfNamed o P Q → A
   either None P Q A f g t = g t
@@ -122,14 +127,18 @@ module _ (v w : View) (hs left : List (Option Grant)) (before : IsWellFormed v) 
   next_command (command.Align n align) a t = next_aligned n align a t.0 t.1 t.2
   next_command (command.Extend more) a t = next_same hs left t.2
 
-  pub next_call : (c : Call) (r : Reply) → Takes c v hs w left r → IsNext hs left
-  next_call (call.Command c) r t = next_command c t.0 t.1
-  next_call (call.Shrink k n) r t = either (kept_name hs k) _ _ _ (λ x u. next_same hs left u.2) (λ u. next_same hs left u.0.1) t
-  next_call (call.Grow k n) r t = either (kept_name hs k) _ _ _ (λ x u. next_same hs left u.2) (λ u. next_same hs left u.0.1) t
-  next_call call.Compact r t = next_same hs left t.1
-  next_call (call.Offset k) r t = next_same hs left t.0.1
-  next_call (call.Refusal n) r t = next_same hs left t.0.1
-  next_call (call.RefusalAligned n align) r t = next_same hs left t.0.1
+  pub next_call : (c : Call) (r : Reply) → IsTrue (is_valid c) → Takes c v hs w left r → IsNext hs left
+  next_call (call.Command c) r valid t = next_command c t.0 t.1
+  next_call (call.Shrink k n) r valid t = either (kept_name hs k) _ _ _ (λ x u. next_same hs left u.2) (λ u. next_same hs left u.0.1) t
+  next_call (call.Grow k n) r valid t = either (kept_name hs k) _ _ _ (λ x u. next_same hs left u.2) (λ u. next_same hs left u.0.1) t
+  next_call call.Compact r valid t = next_same hs left t.1
+  next_call (call.Offset k) r valid t = next_same hs left t.0.1
+  next_call (call.Refusal n) r valid t = next_same hs left t.0.1
+  next_call (call.RefusalAligned n align) r valid t = next_same hs left t.0.1
+  next_call (call.Tight n) r valid t = next_tight n 1 (omega arith) t.1 t.0 t.2 t.3
+  next_call (call.TightAligned n align) r valid t = next_tight n align (not_zero align (inr (inl valid))) t.1 t.0 t.2 t.3
+  next_call (call.RefusalTight n) r valid t = next_same hs left t.0.1
+  next_call (call.RefusalTightAligned n align) r valid t = next_same hs left t.0.1
 
 -- the numbers that were read stay right
 pub numbers_next : (hs left : List (Option Grant)) (read : ℕ) (numbers : List ℕ) → IsNext hs left → AreNumbers hs read numbers → AreNumbers left read numbers

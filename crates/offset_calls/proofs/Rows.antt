@@ -7,6 +7,13 @@ use Rattle.offset_script.proofs.Pairs.{Kind, Lives, Frees, Pair, left_tag, right
 use Rattle.offset_script.proofs.Pairs.{same_free_sizes, same_place_of}
 use Rattle.offset_script.proofs.{Members.IsIn, Similar.HasSameNumber, Similar.paired, Tests.if_same, Well.well_start}
 use Rattle.offset_calls.proofs.{Alike.same_starts, Alike.same_free_start, Followed.well_calls}
+use Rattle.offset_allocator.specs.View.{padding_to}
+use Rattle.std.specs.Option.{option_or}
+use Rattle.offset_script.proofs.Commute.{same_granted}
+use Rattle.offset_calls.specs.Calls.{answered}
+use Rattle.offset_calls.specs.Tight.{holds, better, holding_place, request_tight, allocate_tight, lack, reason_held}
+use Rattle.offset_calls.proofs.Common.{Some, is_some, true≢false, false≢true, Nodes, total, free_sizes, chosen_place}
+use Rattle.offset_script.specs.Histories as script
 use Rattle.offset_script.specs.Machine as machine
 use Rattle.offset_calls.specs.declared.calls.Call.TheVariants as call
 
@@ -20,6 +27,10 @@ same_moves from to (q ∷ ps) h =
     let stay = same_moves (from + q.size) to ps (λ x i. h x (inr i)) in
     let move = same_moves (from + q.size) (to + q.size) ps (λ x i. h x (inr i)) in
     search (arith, stay, move, same_free, (same_moved q.kind (h q (inl refl))))
+
+some_better : (x : Bool) (b : machine.Block) (bs : List machine.Block) (o : Option machine.Place) → is_some (better x b bs o) ≡ (x || is_some o)
+some_better x b bs None = search (arith, is_some)
+some_better x b bs (Some p) = search (arith, is_some)
 
 module _ (s t : State) (a : IsSameSpace s t) where
   short : (k : ℕ) → is_short_of k s ≡ is_short_of k t
@@ -43,6 +54,41 @@ module _ (s t : State) (a : IsSameSpace s t) where
   reason_reply : (k n : ℕ) → reason k n s ≡ reason k n t
   reason_reply k n = search (arith, short, some_same, same_units, same_free_sizes, sum)
 
+  -- a request that takes any free block which holds it
+  held_some : (n align o : ℕ) (ps : List Pair) → is_some (holding_place n align o (lefts ps)) ≡ is_some (holding_place n align o (rights ps))
+  held_some n align o [] = refl
+  held_some n align o (q ∷ ps) =
+      some_better (holds n align o (left q)) (left q) (lefts ps) (holding_place n align (o + q.size) (lefts ps))
+      ∙ ap₂ (λ x y. (x && nat_le (padding_to align o + n) q.size) || y) (same_free q.kind) (held_some n align (o + q.size) ps)
+      ∙ sym (some_better (holds n align o (right q)) (right q) (rights ps) (holding_place n align (o + q.size) (rights ps)))
+
+  some_either : (o p o' p' : Option machine.Place) → is_some o ≡ is_some o' → is_some p ≡ is_some p' → is_some (option_or o p) ≡ is_some (option_or o' p')
+  some_either None p None p' e f = f
+  some_either (Some x) p (Some x') p' e f = refl
+  some_either None p (Some x') p' e f = absurd (false≢true e)
+  some_either (Some x) p None p' e f = absurd (true≢false e)
+
+  held_same : (n align : ℕ) → is_some (holding_place n align 0 s.blocks) ≡ is_some (holding_place n align 0 t.blocks)
+  held_same n align = ap (λ bs. is_some (holding_place n align 0 bs)) a.blocks.left_blocks ∙ held_some n align 0 a.blocks.pairs ∙ sym (ap (λ bs. is_some (holding_place n align 0 bs)) a.blocks.right_blocks)
+
+  chosen_same : (n : ℕ) → is_some (chosen_place n s.blocks) ≡ is_some (chosen_place n t.blocks)
+  chosen_same n = ap (λ bs. is_some (chosen_place n bs)) a.blocks.left_blocks ∙ some_same n a.blocks.pairs ∙ sym (ap (λ bs. is_some (chosen_place n bs)) a.blocks.right_blocks)
+
+  request_reply : (spare needed n align : ℕ) → script.without_offset (request_tight s spare needed n align).answer ≡ script.without_offset (request_tight t spare needed n align).answer
+  request_reply spare needed n align = if_same (λ (x y : machine.Outcome). script.without_offset x.answer ≡ script.without_offset y.answer) _ _ _ _ _ _ (short spare) (λ e. refl)
+      (same_granted s t a.grants n (padding_to align) _ _ (some_either _ _ _ _ (chosen_same needed) (held_same n align)))
+
+  tight_reply : (n align : ℕ) → without_offset (answered (allocate_tight n align s)).reply ≡ without_offset (answered (allocate_tight n align t)).reply
+  tight_reply n align = ap Answer (if_same (λ (x y : machine.Outcome). script.without_offset x.answer ≡ script.without_offset y.answer) (nat_le align 1) (nat_le align 1) _ _ _ _ refl
+      (λ e. request_reply 1 n n align) (request_reply 2 (n + align - 1) n align))
+
+  held_reason : (k n align : ℕ) → reason_held k n align s ≡ reason_held k n align t
+  held_reason k n align =
+      let units = same_units s t a.blocks.pairs a.limit a.blocks.left_blocks a.blocks.right_blocks in
+      let free = ap sum (same_free_sizes s t a.blocks.pairs a.limit a.blocks.left_blocks a.blocks.right_blocks) in
+      ap₂ (λ b h. if b then Some Nodes else if h then None else Some (lack n (total s.blocks) (sum (free_sizes s.blocks)))) (short k) (held_same n align)
+      ∙ ap₂ (λ m f. if is_short_of k t then Some Nodes else if is_some (holding_place n align 0 t.blocks) then None else Some (lack n m f)) units free
+
   next_reply : (c : Call) → without_offset (step c s).reply ≡ without_offset (step c t).reply
   next_reply (call.Command c) = ap Answer (same_next s t a c)
   next_reply (call.Shrink k n) = resize_reply n _ _ _ _ (placed k) (λ xs q ys. ap₂ (λ x y. nat_le n q.size && (x || not y)) (same_starts ys) (short 1))
@@ -50,6 +96,10 @@ module _ (s t : State) (a : IsSameSpace s t) where
   next_reply call.Compact = ap Compacted (ap (moves 0 0) a.blocks.left_blocks ∙ same_moves 0 0 a.blocks.pairs a.blocks.numbers ∙ ap (moves 0 0) (sym a.blocks.right_blocks))
   next_reply (call.Offset k) = ap without_offset (offset_reply _ _ (placed k))
   next_reply (call.Refusal n) = ap Refused_for (reason_reply 1 n)
+  next_reply (call.Tight n) = tight_reply n 1
+  next_reply (call.TightAligned n align) = tight_reply n align
+  next_reply (call.RefusalTight n) = ap Refused_for (held_reason 1 n 1)
+  next_reply (call.RefusalTightAligned n align) = ap Refused_for (held_reason (if nat_le align 1 then 1 else 2) n align)
   next_reply (call.RefusalAligned n align) = ap₂ (λ x y. Refused_for (if nat_le align 1 then x else y)) (reason_reply 1 n) (reason_reply 2 (n + align - 1))
 
 pub rows_space : (size limit : ℕ) → 2 ≤ limit → (cs : List Call) (ks : List ℕ) → let s = after cs (start size limit) in

@@ -10,6 +10,7 @@ use Rattle.offset_script.proofs.Simulation.{if_some}
 use Rattle.offset_allocator.specs.Ranges as named
 use Rattle.offset_script.specs.declared.scripts.Command.TheVariants as command
 use Rattle.offset_script.specs.Histories as script
+use Rattle.offset_calls.specs.Steps.{IsReasonTight}
 use Rattle.offset_script.specs.Machine as machine
 use Rattle.offset_calls.specs.declared.calls.Call.TheVariants as call
 
@@ -165,6 +166,24 @@ pub refusal_aligned_serves : (g : Guard) (ts : List Ticket) (c : Call) (k n alig
     → Serves (renumber (λ j. k) c) g ts g ts (Refused_for why)
 refusal_aligned_serves g ts c k n align v why is e f r = subst (λ c. Serves (renumber (λ j. k) c) g ts g ts (Refused_for why)) (sym e) (record {
   takes = ((refl, refl), (why, subst (λ v. IsReason (blocks_needed align) (units_needed n align) v why) f r, refl));
+  ledger = is;
+  grown = inl refl;
+  realm = refl;
+})
+
+pub refusal_tight_serves : (g : Guard) (ts : List Ticket) (c : Call) (k n : ℕ) (v : View) (why : Option Refusal) → IsLedger g ts → c ≡ call.RefusalTight n → v ≡ g.space → IsReasonTight n 1 v why
+    → Serves (renumber (λ j. k) c) g ts g ts (Refused_for why)
+refusal_tight_serves g ts c k n v why is e f r = subst (λ c. Serves (renumber (λ j. k) c) g ts g ts (Refused_for why)) (sym e) (record {
+  takes = ((refl, refl), (why, subst (λ v. IsReasonTight n 1 v why) f r, refl));
+  ledger = is;
+  grown = inl refl;
+  realm = refl;
+})
+
+pub refusal_tight_aligned_serves : (g : Guard) (ts : List Ticket) (c : Call) (k n align : ℕ) (v : View) (why : Option Refusal) → IsLedger g ts → c ≡ call.RefusalTightAligned n align → v ≡ g.space
+    → IsReasonTight n align v why → Serves (renumber (λ j. k) c) g ts g ts (Refused_for why)
+refusal_tight_aligned_serves g ts c k n align v why is e f r = subst (λ c. Serves (renumber (λ j. k) c) g ts g ts (Refused_for why)) (sym e) (record {
+  takes = ((refl, refl), (why, subst (λ v. IsReasonTight n align v why) f r, refl));
   ledger = is;
   grown = inl refl;
   realm = refl;

@@ -1,5 +1,6 @@
 -- The plain stamped machine over every call: beside the commands of a script, the calls that resize a range, compact
--- the space, and ask for an offset or for the reason of a refusal. States and stamps are those of the script's machine.
+-- the space, take any free block that is large enough, and ask for an offset or for the reason of a refusal. States and
+-- stamps are those of the script's machine.
 use Rattle.std.specs.Prelude.{ℕ, ◌+◌, ◌-◌, max, Bool, true, false, not, ◌&&◌, ◌||◌, List, [], ◌∷◌, ◌++◌, map, sum, Option, Some, None, is_some, nat_eq, nat_lt, nat_le, if◌then◌else◌}
 use Rattle.std.specs.Int.{is_power_of_two}
 use Rattle.offset_allocator.specs.declared.reports.Refusal.{Refusal}
@@ -13,6 +14,7 @@ use Rattle.offset_script.specs.Totals.{live}
 use Rattle.offset_calls.specs.declared.calls.Call.{Call}
 use Rattle.offset_calls.specs.declared.calls.Call.TheVariants as call
 use Rattle.offset_calls.specs.declared.calls.Moved.{Moved}
+use Rattle.offset_calls.specs.Tight.{allocate_tight, reason_tight}
 use Rattle.offset_calls.specs.declared.calls.Reply as program
 use Rattle.offset_calls.specs.declared.calls.Reply.TheVariants as program_reply
 
@@ -143,6 +145,10 @@ step (call.Offset k) s = replies_only s (offset_at (place_of k s.blocks))
 step (call.Refusal n) s = replies_only s (Refused_for (reason 1 n s))
 step (call.RefusalAligned n align) s =
     replies_only s (Refused_for (if nat_le align 1 then reason 1 n s else reason 2 (n + align - 1) s))
+step (call.Tight n) s = answered (allocate_tight n 1 s)
+step (call.TightAligned n align) s = answered (allocate_tight n align s)
+step (call.RefusalTight n) s = replies_only s (Refused_for (reason_tight n 1 s))
+step (call.RefusalTightAligned n align) s = replies_only s (Refused_for (reason_tight n align s))
 
 -- the replies to calls in order
 abbrev pub replies : List Call → State → List Reply
@@ -158,6 +164,8 @@ after (c ∷ cs) s = after cs (step c s).state
 abbrev pub is_valid : Call → Bool
 is_valid (call.Command c) = has_valid_alignment c
 is_valid (call.RefusalAligned n align) = is_power_of_two align
+is_valid (call.TightAligned n align) = is_power_of_two align
+is_valid (call.RefusalTightAligned n align) = is_power_of_two align
 is_valid other = true
 
 -- ---- the replies of the program

@@ -40,6 +40,8 @@ IsQuestion (call.Command c) = script.IsQuestion c
 IsQuestion (call.Offset k) = Unit {0}
 IsQuestion (call.Refusal n) = Unit {0}
 IsQuestion (call.RefusalAligned n align) = Unit {0}
+IsQuestion (call.RefusalTight n) = Unit {0}
+IsQuestion (call.RefusalTightAligned n align) = Unit {0}
 IsQuestion other = ⊥
 
 -- a reply without the offset of a new grant

@@ -3,3 +3,4 @@ pub mod Histories
 pub mod Playing
 pub mod Steps
 pub mod Tickets
+pub mod Tight

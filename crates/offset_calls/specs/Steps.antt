@@ -8,7 +8,8 @@ use Rattle.offset_allocator.specs.Requests.{CanGrant, IsWhy, blocks_needed, unit
 use Rattle.offset_allocator.specs.Resizing.{Shrinks, Grows}
 use Rattle.offset_allocator.specs.Compacting.{Compacts, moves}
 use Rattle.offset_allocator.specs.Compacting as named
-use Rattle.offset_script.specs.Steps.{kept_name, IfNamed, Stays}
+use Rattle.offset_allocator.specs.Tight.{AlignsTight, CanHold, IsWhyTight}
+use Rattle.offset_script.specs.Steps.{kept_name, IfNamed, IsKept, Stays}
 use Rattle.offset_script.specs.Machine as machine
 use Rattle.offset_script.specs.Steps as script
 use Rattle.offset_calls.specs.declared.calls.Call.{Call}
@@ -38,6 +39,15 @@ AreNumbered handles ms rs = ⊥
 abbrev pub IsReason : ℕ → ℕ → View → Option Refusal → Type 0
 IsReason blocks units v r = (r ≡ None ↔ CanGrant blocks units v) × IfSome r (IsWhy blocks units v)
 
+-- the same of a request that takes any free block that holds it
+abbrev pub IsReasonTight : ℕ → ℕ → View → Option Refusal → Type 0
+IsReasonTight n align v r = (r ≡ None ↔ CanHold n align v) × IfSome r (IsWhyTight n align v)
+
+-- such a request, whose grant is kept, with this reply
+abbrev pub TakesTight : ℕ → ℕ → View → List (Option Grant) → View → List (Option Grant) → Reply → Type 0
+TakesTight n align v handles w left r = (g : Option Grant) × (a : machine.Answer) × AlignsTight n align v w g
+    × IsKept g handles left a × (r ≡ Answer a)
+
 -- the step of a call from the view v to the view w, with this reply: the handles of the grants so far are those in
 -- `handles` before it, and in `left` after it, that of grant k at k - 1 while the grant is live
 abbrev pub Takes : Call → View → List (Option Grant) → View → List (Option Grant) → Reply → Type 0
@@ -59,6 +69,12 @@ Takes (call.Refusal n) v handles w left r = Stays v handles w left
     × ((why : Option Refusal) × IsReason 1 n v why × (r ≡ Refused_for why))
 Takes (call.RefusalAligned n align) v handles w left r = Stays v handles w left
     × ((why : Option Refusal) × IsReason (blocks_needed align) (units_needed n align) v why × (r ≡ Refused_for why))
+Takes (call.Tight n) v handles w left r = TakesTight n 1 v handles w left r
+Takes (call.TightAligned n align) v handles w left r = TakesTight n align v handles w left r
+Takes (call.RefusalTight n) v handles w left r = Stays v handles w left
+    × ((why : Option Refusal) × IsReasonTight n 1 v why × (r ≡ Refused_for why))
+Takes (call.RefusalTightAligned n align) v handles w left r = Stays v handles w left
+    × ((why : Option Refusal) × IsReasonTight n align v why × (r ≡ Refused_for why))
 
 -- each used block has a handle that is kept
 abbrev pub AreKept : View → List (Option Grant) → Type 0

@@ -24,6 +24,15 @@ pub enum Call {
     Refusal(u32),
     /// Asks the same of a request for this many units from a multiple of the second number on, which is a power of two.
     RefusalAligned(u32, u32),
+    /// Requests this many units of any free block that has them.
+    Tight(u32),
+    /// Requests this many units from a multiple of the second number on, which is a power of two, of any free block that
+    /// holds them.
+    TightAligned(u32, u32),
+    /// Asks why `Tight` of this many units would be refused now.
+    RefusalTight(u32),
+    /// Asks why `TightAligned` of these numbers would be refused now.
+    RefusalTightAligned(u32, u32),
 }
 
 impl Call {
@@ -34,6 +43,8 @@ impl Call {
         match self {
             Call::Command(Command::Align(_, align)) => align.is_power_of_two(),
             Call::RefusalAligned(_, align) => align.is_power_of_two(),
+            Call::TightAligned(_, align) => align.is_power_of_two(),
+            Call::RefusalTightAligned(_, align) => align.is_power_of_two(),
             _ => true,
         }
     }

@@ -70,6 +70,33 @@ fn allocate_aligned<T: Tables>(
     keep(&mut desk.tickets, granted)
 }
 
+// The reply to `Tight`.
+fn allocate_tight<T: Tables>(desk: &mut Desk<T>, size: u32) -> Result<Reply, AllocError>
+    requires ledger { IsLedger desk.old.space desk.old.tickets.items }
+    requires left { HasSerialLeft desk.old.space }
+    ensures { IfOk result (λ r. Serves (Call.Tight size)
+        desk.old.space desk.old.tickets.items desk.new.space desk.new.tickets.items (reply_view r)) }
+{
+    let granted = desk.space.allocate_tight(size);
+    Ok(Reply::Answer(keep(&mut desk.tickets, granted)?))
+}
+
+// The reply to `TightAligned`.
+fn allocate_tight_aligned<T: Tables>(
+    desk: &mut Desk<T>,
+    size: u32,
+    align: u32,
+) -> Result<Reply, AllocError>
+    requires ledger { IsLedger desk.old.space desk.old.tickets.items }
+    requires left { HasSerialLeft desk.old.space }
+    requires valid { IsTrue (is_valid (Call.TightAligned size align)) }
+    ensures { IfOk result (λ r. Serves (Call.TightAligned size align)
+        desk.old.space desk.old.tickets.items desk.new.space desk.new.tickets.items (reply_view r)) }
+{
+    let granted = desk.space.allocate_tight_aligned(size, align);
+    Ok(Reply::Answer(keep(&mut desk.tickets, granted)?))
+}
+
 // The answer to `free`.
 fn release<T: Tables>(space: &mut GuardedOf<T>, ticket: Option<Ticket>) -> Answer
     ensures { (ts : List Ticket) (k : ℕ) → IsLedger space.old ts → IsNumberOf k ticket space.old ts
@@ -266,6 +293,12 @@ pub(crate) fn reply<T: Tables>(
         Call::Refusal(size) => Ok(Reply::Refusal(desk.space.allocator().refusal(size))),
         Call::RefusalAligned(size, align) => Ok(Reply::Refusal(
             desk.space.allocator().refusal_aligned(size, align),
+        )),
+        Call::Tight(size) => allocate_tight(desk, size),
+        Call::TightAligned(size, align) => allocate_tight_aligned(desk, size, align),
+        Call::RefusalTight(size) => Ok(Reply::Refusal(desk.space.allocator().refusal_tight(size))),
+        Call::RefusalTightAligned(size, align) => Ok(Reply::Refusal(
+            desk.space.allocator().refusal_tight_aligned(size, align),
         )),
     }
 }

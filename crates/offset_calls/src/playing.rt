@@ -203,6 +203,18 @@ fn reply<T: Tables>(
         Call::RefusalAligned(size, align) => Ok(Reply::Refusal(
             player.space.refusal_aligned(size, align),
         )),
+        Call::Tight(size) => {
+            let granted = player.space.allocate_tight(size);
+            Ok(Reply::Answer(player.keep(granted)?))
+        }
+        Call::TightAligned(size, align) => {
+            let granted = player.space.allocate_tight_aligned(size, align);
+            Ok(Reply::Answer(player.keep(granted)?))
+        }
+        Call::RefusalTight(size) => Ok(Reply::Refusal(player.space.refusal_tight(size))),
+        Call::RefusalTightAligned(size, align) => Ok(Reply::Refusal(
+            player.space.refusal_tight_aligned(size, align),
+        )),
     }
 }
 

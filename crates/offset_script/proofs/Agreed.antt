@@ -128,7 +128,7 @@ module _ (v : View) (kept_name : ℕ → Option ℕ) (s : State) (w : IsWellForm
         record { labels = before ++ (new ++ after); view = view; state = state; limit = limit; newest = newest; handles = handles }
 
     -- a grant
-    grant_agrees : (n padding remainder front rest : ℕ) (sp : Spot) → g.labels ≡ whole sp → is_free sp.label.tag ≡ true → padding + n + remainder ≡ sp.label.size
+    pub grant_agrees : (n padding remainder front rest : ℕ) (sp : Spot) → g.labels ≡ whole sp → is_free sp.label.tag ≡ true → padding + n + remainder ≡ sp.label.size
         → SameSpace (replace v (names sp.before) (by_name sp.label ∷ []) (free_part front padding ++ used_block sp.label.name n ∷ free_part rest remainder) (names sp.after)) u
         → HasBlocksOf u (with_name (s.grants + 1) sp.label.name kept_name) (machine.grant s n padding (plain_place sp)).state
     grant_agrees n padding remainder front rest sp e f fill same =

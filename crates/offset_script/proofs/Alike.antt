@@ -118,10 +118,10 @@ same_grant r d s t a n padding xs q ys e =
     (sym (rights_granted xs q ys n padding _ _ _ _ _ _)) kept (omega arith) (omega arith) (omega (arith, a.grants)) in
     record { answer = answer; state = state }
 
-same_granted : (r : ℕ → ℕ) (d : ℕ) (s t : State) (a : IsAlike r d s t) (n needed : ℕ) (padding_at : ℕ → ℕ) (o o' : Option Place) → IsSamePlace (λ x. fits needed (left x) ≡ true) a.pairs o o'
+pub same_granted : (r : ℕ → ℕ) (d : ℕ) (s t : State) (a : IsAlike r d s t) (n : ℕ) (P : Pair → Type 0) (padding_at : ℕ → ℕ) (o o' : Option Place) → IsSamePlace P a.pairs o o'
     → IsSameOutcome r d (grant_or_refuse s n padding_at o) (grant_or_refuse t n padding_at o')
-same_granted r d s t a n needed padding_at None None neither = same_quiet r d s t a _ _ refl
-same_granted r d s t a n needed padding_at o o' (both xs q ys e f) =
+same_granted r d s t a n P padding_at None None neither = same_quiet r d s t a _ _ refl
+same_granted r d s t a n P padding_at o o' (both xs q ys e f) =
     subst (λ x. IsSameOutcome r d (grant s n (padding_at (total (lefts xs))) (record { before = lefts xs; block = left q; after = lefts ys }))
     (grant t n (padding_at x) (record { before = rights xs; block = right q; after = rights ys }))) (same_total xs)
     (same_grant r d s t a n (padding_at (total (lefts xs))) xs q ys e)
@@ -130,7 +130,7 @@ same_request : (r : ℕ → ℕ) (d : ℕ) (s t : State) (a : IsAlike r d s t) (
     → IsSameOutcome r d (request s spare needed n padding_at) (request t spare needed n padding_at)
 same_request r d s t a spare needed n padding_at = if_same (IsSameOutcome r d) _ _ _ _ _ _ (same_short s t a.pairs a.limit a.left_blocks a.right_blocks spare) (λ e. same_quiet r d s t a _ _ refl)
     (subst₂ (λ x y. IsSameOutcome r d (grant_or_refuse s n padding_at (chosen_place needed x)) (grant_or_refuse t n padding_at (chosen_place needed y))) (sym a.left_blocks) (sym a.right_blocks)
-    (same_granted r d s t a n needed padding_at _ _ (same_chosen needed a.pairs a.agree)))
+    (same_granted r d s t a n (λ x. fits needed (left x) ≡ true) padding_at _ _ (same_chosen needed a.pairs a.agree)))
 
 -- the place of a grant
 same_number : (r : ℕ → ℕ) (x y k : ℕ) (q : Kind) → IsMatched r x y q → has_number k (left_tag q) ≡ has_number (r k) (right_tag q)

@@ -70,15 +70,15 @@ pub place_of_spot : (v : View) → IsWellFormed v → (s : Spot) → v.blocks �
 place_of_spot v w s e = ap (place_of s.label.name) (e ∙ names_whole s) ∙ place_here s.label.name (names s.before) (by_name s.label) (names s.after) (alone_before v w s e) refl
 
 -- a free block is listed in its class
-listed_spot : (v : View) → IsWellFormed v → (s : Spot) → v.blocks ≡ names (whole s) → is_free s.label.tag ≡ true → 1 ≤ times s.label.name (bin_at v.order (down s.label.size))
+pub listed_spot : (v : View) → IsWellFormed v → (s : Spot) → v.blocks ≡ names (whole s) → is_free s.label.tag ≡ true → 1 ≤ times s.label.name (bin_at v.order (down s.label.size))
 listed_spot v w s e f = search (arith, names_whole, tally_append, not, nat_eq, names, by_name, eq-eqb)
 
 -- the stamp of the name at a spot
-spot_stamp : (v : View) → IsWellFormed v → (s : Spot) → v.blocks ≡ names (whole s) → stamp_of s.label.name (whole s) ≡ stamp s.label.tag
+pub spot_stamp : (v : View) → IsWellFormed v → (s : Spot) → v.blocks ≡ names (whole s) → stamp_of s.label.name (whole s) ≡ stamp s.label.tag
 spot_stamp v w s e = (gives_parts (λ x. stamp_of x (whole s)) s.before (s.label ∷ s.after) (gives_all (whole s) (λ x. let d = w.distinct x in let n = ap (count_named x) e in omega arith))).1.0
 
 -- of two blocks of a class the newer is chosen
-newer_before : (a b : Label) → down a.size ≡ down b.size → stamp b.tag < stamp a.tag → is_taken_before (by_tag a) (by_tag b) ≡ true
+pub newer_before : (a b : Label) → down a.size ≡ down b.size → stamp b.tag < stamp a.tag → is_taken_before (by_tag a) (by_tag b) ≡ true
 newer_before a b e l = rw (eq-eqb (down a.size) (down b.size) e, lt-ltb (stamp b.tag) (stamp a.tag) l) (or_right (nat_lt (down a.size) (down b.size)) true refl)
 
 module _ (v : View) (w : IsWellFormed v) (ls : List Label) (a : IsLabelled v ls) (n : ℕ) where

@@ -141,7 +141,7 @@ pub some_same : (n : ℕ) (p : List Pair) → is_some (chosen_place n (lefts p))
 some_same n [] = refl
 some_same n (q ∷ p) = search (arith, (some_same n p), some_chosen, left, lefts, nat_le, same_free, right, rights)
 
-same_granted : (s t : State) → s.grants ≡ t.grants → (n : ℕ) (padding_at : ℕ → ℕ) (o p : Option Place) → is_some o ≡ is_some p
+pub same_granted : (s t : State) → s.grants ≡ t.grants → (n : ℕ) (padding_at : ℕ → ℕ) (o p : Option Place) → is_some o ≡ is_some p
     → without_offset (grant_or_refuse s n padding_at o).answer ≡ without_offset (grant_or_refuse t n padding_at p).answer
 same_granted s t g n padding_at None None e = refl
 same_granted s t g n padding_at None (Some p) e = absurd (false≢true e)

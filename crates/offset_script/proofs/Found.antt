@@ -51,7 +51,7 @@ order_transitive : (x y z s t u : ℕ) → (nat_lt x y || (nat_eq x y && nat_lt 
     → (nat_lt x z || (nat_eq x z && nat_lt u s)) ≡ false
 order_transitive x y z s t u f g = grind (arith, nat_tests)
 
-taken_transitive : (a b c : Block) → is_taken_before a b ≡ false → is_taken_before c b ≡ true → is_taken_before a c ≡ false
+pub taken_transitive : (a b c : Block) → is_taken_before a b ≡ false → is_taken_before c b ≡ true → is_taken_before a c ≡ false
 taken_transitive a b c f g = order_transitive (down a.size) (down b.size) (down c.size) (stamp a.tag) (stamp b.tag) (stamp c.tag) f g
 
 chosen_here : (n : ℕ) (b : Block) (bs : List Block) → fits n b ≡ true → ((c : Block) → IsIn c bs → fits n c ≡ true → is_taken_before c b ≡ false) → IsBest n (b ∷ bs) b

@@ -167,7 +167,7 @@ AreAllAgreed p = (a b : Pair) → IsIn a p → IsIn b p → AreAgreed a b
 same_fits : (n : ℕ) (q : Pair) → fits n (left q) ≡ fits n (right q)
 same_fits n q = ap (λ b. b && nat_le (up n) (down q.size)) (same_free q.kind)
 
-same_tests : (x y : ℕ) (k l : Kind) → is_free (left_tag k) ≡ true → is_free (left_tag l) ≡ true → (nat_eq y x ≡ true → IsSameOrder l k)
+pub same_tests : (x y : ℕ) (k l : Kind) → is_free (left_tag k) ≡ true → is_free (left_tag l) ≡ true → (nat_eq y x ≡ true → IsSameOrder l k)
     → (nat_lt x y || (nat_eq x y && nat_lt (stamp (left_tag l)) (stamp (left_tag k)))) ≡ (nat_lt x y || (nat_eq x y && nat_lt (stamp (right_tag l)) (stamp (right_tag k))))
 same_tests x y (Frees s u) (Frees t v) f g h = ap (λ b. nat_lt x y || b) (same_and (nat_eq x y) _ _ (λ e. h (eq-eqb y x (sym (eqb-true x y e)))))
 same_tests x y k l f g h = absurd cc

@@ -74,9 +74,9 @@ Follows c s w left a = (a ≡ (step c s).answer) × IsAtState w left (step c s).
 
 module _ (v w : View) (hs left : List (Option Grant)) (a : Answer) (s : State) (formed : IsWellFormed w) (ws : IsWell s) (p : IsAtState v hs s) where
   -- a request, whose grant is kept
-  requested : (c : Command) (r : Option Grant) → IsMatch w (kept_name hs) s.grants r (step c s) → IsKept r hs left a → Follows c s w left a
-  requested c None m k = search (arith, agrees_kept, length)
-  requested c (Some h) m k = search (arith, length, length-append, agrees_kept, with_name, kept_push)
+  pub requested : (o : machine.Outcome) (r : Option Grant) → IsMatch w (kept_name hs) s.grants r o → IsKept r hs left a → (a ≡ o.answer) × IsAtState w left o.state
+  requested o None m k = search (arith, agrees_kept, length)
+  requested o (Some h) m k = search (arith, length, length-append, agrees_kept, with_name, kept_push)
 
   -- a question leaves all as it is
   asked : (c : Command) → (step c s).state ≡ record s { calls = s.calls + 1 } → Stays v hs w left → a ≡ (step c s).answer → Follows c s w left a
@@ -117,7 +117,7 @@ module _ (v w : View) (hs left : List (Option Grant)) (a : Answer) (s : State) (
 
   -- the plain machine follows each command
   pub follows : (c : Command) → IsTrue (has_valid_alignment c) → Takes c v hs w left a → Follows c s w left a
-  follows (command.Alloc n) power t = requested (command.Alloc n) t.0 (serve_agrees v (kept_name hs) s p.formed ws p.agrees 1 n n (λ offset. 0) w formed t.0 (plain_serves n v w t.0 t.1)) t.2
+  follows (command.Alloc n) power t = requested (step (command.Alloc n) s) t.0 (serve_agrees v (kept_name hs) s p.formed ws p.agrees 1 n n (λ offset. 0) w formed t.0 (plain_serves n v w t.0 t.1)) t.2
   follows (command.Free k) power t = release_step k (kept_name hs k) refl t
   follows (command.Size k) power t = asked (command.Size k) refl t.0 (size_found k (kept_name hs k) refl t.1)
   follows command.Report power t = asked command.Report refl t.0 (t.1 ∙ sym (report_agrees v (kept_name hs) s p.formed ws p.agrees))
@@ -128,7 +128,7 @@ module _ (v w : View) (hs left : List (Option Grant)) (a : Answer) (s : State) (
       (p.agrees.limit ∙ sym (ap (λ (u : View). u.max_allocs) t.0.view)) blocks t.2 in
       (t.3, record { formed = formed; agrees = agrees; grants = t.1 ∙ p.grants })
   follows (command.Align n align) power t =
-      requested (command.Align n align) t.0 (aligned_agrees v (kept_name hs) s p.formed ws p.agrees n align (not_zero align (inr (inl power))) w formed t.0 (aligned_serves n align v w t.0 t.1))
+      requested (step (command.Align n align) s) t.0 (aligned_agrees v (kept_name hs) s p.formed ws p.agrees n align (not_zero align (inr (inl power))) w formed t.0 (aligned_serves n align v w t.0 t.1))
       t.2
   follows (command.Extend more) power t = extended more t.0 t.1 t.2 t.3
 

@@ -77,7 +77,7 @@ apart_granted p n padding front k rest f a =
     apart_append p.before _ parts.0 (apart_free_block padding front _ (refl, apart_free_block _ rest p.after parts.1.1 beginning) refl) (and_left _ _ end)
 
 -- a grant
-well_grant : (s : State) → IsWell s → (n padding : ℕ) (p : Place) → s.blocks ≡ whole p → is_free p.block.tag ≡ true → (spare : ℕ) → length s.blocks + spare < s.limit
+pub well_grant : (s : State) → IsWell s → (n padding : ℕ) (p : Place) → s.blocks ≡ whole p → is_free p.block.tag ≡ true → (spare : ℕ) → length s.blocks + spare < s.limit
     → length (free_block padding (stamp_of_padding s)) + 1 ≤ spare → IsWell (grant s n padding p).state
 well_grant s w n padding p e f spare room enough = search (arith, well_next, count_granted, length, length-append, free_part, apart_granted, hit_cases)
 

@@ -82,8 +82,9 @@ impl<T: Tables> PlayerOf<T> {
         }
     }
 
-    // The answer to a request with this result. The handle of a grant is kept under the next number.
-    fn keep(&mut self, granted: Option<Allocation<T::Index>>) -> Result<Answer, AllocError>
+    /// The answer to a request with this result. The handle of a grant is kept under the next number. It fails only where
+    /// an allocation fails.
+    pub fn keep(&mut self, granted: Option<Allocation<T::Index>>) -> Result<Answer, AllocError>
         ensures handle { IfOk result (λ a. IsKept granted self.old.handles.items
             self.new.handles.items (answer_view a)) }
         ensures space { self.new.space ≡ self.old.space }

@@ -97,6 +97,8 @@ const AT_THE_LIMIT: List = List {
         ),
         // three blocks, so no further one
         (Call::Refusal(1), "Refusal(Some(Nodes))"),
+        (Call::RefusalTight(1), "Refusal(Some(Nodes))"),
+        (Call::Tight(1), "Answer(Refused)"),
         (Call::Shrink(1, 4), "Answer(Refused)"),
         (Call::Shrink(1, 5), "Resized"),
         (Call::Shrink(2, 4), "Resized"),
@@ -104,6 +106,8 @@ const AT_THE_LIMIT: List = List {
         (Call::Grow(2, 10), "Resized"),
         // two blocks
         (Call::RefusalAligned(1, 2), "Refusal(Some(Nodes))"),
+        (Call::RefusalTightAligned(1, 2), "Refusal(Some(Nodes))"),
+        (Call::RefusalTight(1), "Refusal(Some(Space))"),
         (Call::Refusal(1), "Refusal(Some(Space))"),
         (Call::Shrink(1, 4), "Resized"),
         (Call::Shrink(2, 9), "Answer(Refused)"),
@@ -144,6 +148,73 @@ const OF_NO_UNITS: List = List {
     ],
 };
 
+// Requests for any free block that is large enough.
+const TIGHT: List = List {
+    size: 100,
+    limit: 16,
+    rows: &[
+        (Call::RefusalTight(100), "Refusal(None)"),
+        (Call::Refusal(100), "Refusal(Some(TooLarge))"),
+        (Call::RefusalTight(101), "Refusal(Some(TooLarge))"),
+        (Call::Tight(101), "Answer(Refused)"),
+        // the class of the whole space has the value 96
+        (Call::Tight(100), "Answer(Grant { number: 1, offset: 0 })"),
+        (Call::RefusalTight(0), "Refusal(Some(Space))"),
+        (Call::Tight(0), "Answer(Refused)"),
+        (Call::Command(Command::Free(1)), "Answer(Freed)"),
+        (
+            Call::Command(Command::Alloc(41)),
+            "Answer(Grant { number: 2, offset: 0 })",
+        ),
+        (
+            Call::Command(Command::Alloc(1)),
+            "Answer(Grant { number: 3, offset: 41 })",
+        ),
+        (
+            Call::Command(Command::Alloc(43)),
+            "Answer(Grant { number: 4, offset: 42 })",
+        ),
+        (
+            Call::Command(Command::Alloc(1)),
+            "Answer(Grant { number: 5, offset: 85 })",
+        ),
+        (Call::Command(Command::Free(2)), "Answer(Freed)"),
+        (Call::Command(Command::Free(4)), "Answer(Freed)"),
+        // free: 41 units and, newer, 43 of one class, and 14 at the end
+        (Call::Refusal(42), "Refusal(Some(Fragmented))"),
+        (Call::RefusalTight(44), "Refusal(Some(Fragmented))"),
+        (Call::RefusalTight(98), "Refusal(Some(Fragmented))"),
+        (Call::RefusalTight(99), "Refusal(Some(Space))"),
+        (Call::RefusalTight(43), "Refusal(None)"),
+        (Call::Tight(42), "Answer(Grant { number: 6, offset: 42 })"),
+        (Call::Tight(41), "Answer(Grant { number: 7, offset: 0 })"),
+        // of the 14 units at 86, as `Align` takes them
+        (
+            Call::TightAligned(5, 8),
+            "Answer(Grant { number: 8, offset: 88 })",
+        ),
+        (
+            Call::TightAligned(7, 1),
+            "Answer(Grant { number: 9, offset: 93 })",
+        ),
+        // free: one unit at 84, two at 86
+        (
+            Call::RefusalTightAligned(1, 64),
+            "Refusal(Some(Fragmented))",
+        ),
+        (Call::TightAligned(1, 64), "Answer(Refused)"),
+        (Call::RefusalTightAligned(2, 2), "Refusal(None)"),
+        (Call::RefusalAligned(2, 2), "Refusal(Some(Fragmented))"),
+        (
+            Call::TightAligned(2, 2),
+            "Answer(Grant { number: 10, offset: 86 })",
+        ),
+        (Call::RefusalTightAligned(2, 2), "Refusal(Some(Space))"),
+        (Call::Tight(1), "Answer(Grant { number: 11, offset: 84 })"),
+        (Call::Compact, "Compacted([])"),
+    ],
+};
+
 fn calls_of(rt: &impl Abort, alloc: Global, list: &List) -> Vec<Call> {
     let mut calls = Vec::new(alloc);
     for (call, _) in list.rows {
@@ -176,7 +247,7 @@ pub fn expect_replies<T: Tables>(rt: &impl Abort, alloc: Global, list: &List) {
 
 #[test]
 fn resizes_and_compacts(rt: HostRuntime) {
-    for list in [RESIZES, AT_THE_LIMIT, OF_NO_UNITS] {
+    for list in [RESIZES, AT_THE_LIMIT, OF_NO_UNITS, TIGHT] {
         expect_of_each(&rt, rt.alloc(), Trial::Replies(&list));
     }
 }

@@ -21,6 +21,10 @@ fn call_at(place: u32) -> Call {
         19 => Call::Command(Command::Align(5, 1u32.wrapping_shl(place / 32 % 32))),
         21 => Call::Command(Command::Extend(1)),
         23 => Call::Command(Command::Free(number)),
+        25 => Call::Tight(place % 5),
+        27 => Call::TightAligned(3, 1u32.wrapping_shl(place / 32 % 32)),
+        29 => Call::RefusalTight(place),
+        31 => Call::RefusalTightAligned(place, 16),
         _ => Call::Command(Command::Alloc(place % 7)),
     }
 }

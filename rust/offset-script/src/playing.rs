@@ -65,8 +65,9 @@ impl<T: Tables> PlayerOf<T> {
         }
     }
 
-    // The answer to a request with this result. The handle of a grant is kept under the next number.
-    fn keep(&mut self, granted: Option<Allocation<T::Index>>) -> Result<Answer, AllocError> {
+    /// The answer to a request with this result. The handle of a grant is kept under the next number. It fails only where
+    /// an allocation fails.
+    pub fn keep(&mut self, granted: Option<Allocation<T::Index>>) -> Result<Answer, AllocError> {
         match granted {
             None => Ok(Answer::Refused),
             Some(handle) => {

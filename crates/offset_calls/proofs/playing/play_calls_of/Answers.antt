@@ -51,7 +51,7 @@ loop-call-preserved g c =
     let next = follows _ _ _ _ _ state c.is_well_formed-in-loop-call.ensures well c.loop-call.invariant.represents _ valid c.in_ok-reply.ensures.takes in
     record {
       numbers = numbers_next c.loop-call.player.handles.items _ _ _
-          (next_call _ _ _ _ c.loop-call.invariant.represents.formed c.is_well_formed-in-loop-call.ensures live _ _ c.in_ok-reply.ensures.takes) c.in_ok-reply.ensures.numbers;
+          (next_call _ _ _ _ c.loop-call.invariant.represents.formed c.is_well_formed-in-loop-call.ensures live _ _ valid c.in_ok-reply.ensures.takes) c.in_ok-reply.ensures.numbers;
       represents = subst (IsAtState c.reply.new.player.space c.reply.new.player.handles.items) (sym (after_more cs s i _ within)) next.1;
       run = run_goes_on Takes _ _ _ _ _ _ _ _ _ _ _ _ c.loop-call.invariant.run c.in_ok-reply.ensures.takes c.is_well_formed-in-loop-call.ensures (take_more cs i _ within)
           (ap (map reply_view) c.in_ok-push.ensures.items ∙ map-append reply_view c.loop-call.found.items _);
