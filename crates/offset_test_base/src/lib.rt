@@ -4,6 +4,7 @@
 pub mod devices;
 pub mod flat;
 pub mod groups;
+pub mod layouts;
 mod living;
 pub mod mixed;
 pub mod tiny;

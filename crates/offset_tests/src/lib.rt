@@ -1,11 +1,7 @@
-//! Tests of `offset_allocator`, and of functions that use it.
+//! Tests of `offset_allocator`.
 #![tactic(auto)]
 
 #[cfg(test)]
 mod asserts;
 #[cfg(test)]
 mod calls;
-#[cfg(test)]
-mod layouts;
-#[cfg(test)]
-mod uses;

@@ -1,0 +1,7 @@
+//! Tests of `offset_uses`.
+#![tactic(auto)]
+
+#[cfg(test)]
+mod asserts;
+#[cfg(test)]
+mod uses;
