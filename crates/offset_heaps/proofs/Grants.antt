@@ -1,0 +1,105 @@
+-- Grants: of a heap that was there, and of a new one.
+use Rattle.std.proofs.Common.{◌≡◌, ℕ, ◌+◌, ◌<◌, ◌≤◌, ◌⊎◌, true, false, length, List, Option, Some, None, slice_set, nat_eq, refl, sym, ap, ◌∙◌, subst, inl, inr, arith}
+use Rattle.offset_allocator.specs.Ranges.{Range}
+use Rattle.offset_allocator.specs.Requests.{units_needed}
+use Rattle.offset_guarded.specs.Guard.{Guard}
+use Rattle.offset_guarded.specs.Guard as guarded
+use Rattle.offset_guarded.specs.declared.ticket.Ticket.{Ticket}
+use Rattle.offset_heaps.specs.declared.limits.Limits.{Limits}
+use Rattle.offset_heaps.specs.declared.place.Place.{Place}
+use Rattle.offset_heaps.specs.declared.place.Granted.{Granted}
+use Rattle.offset_heaps.specs.Heaps.{Heaps, Adds, Grants, IsBefore, IsNew, IsSame, IsSpareLarger, IsSpareUsual, IsUsual, KeepsOthers, heap_at, larger_limit, range_in, range_of, slot}
+use Rattle.offset_heaps.specs.Slots.{Changes, KeepsOthersIn, Serves, ServesTight}
+use Rattle.offset_heaps.proofs.Numbers.{slot_same}
+use Rattle.offset_heaps.proofs.Places.{none_if, put_here, put_keeps, same_realm, shown}
+use Rattle.offset_heaps.proofs.Rooms.{fresh_none, some_same}
+
+-- a grant at a number
+abbrev pub grant_at : ℕ → ℕ → Ticket → Granted
+grant_at number realm ticket = record { place = record { heap = number; realm = realm; ticket = ticket }; is_new = false }
+
+pub granted_at : (slots now : List (Option Guard)) (limits : Limits) (made realm before after number size align : ℕ) (ticket : Ticket) → number < length slots
+    → Changes number (λ o p. Serves size align o p ticket) slots now
+    → Grants size align (shown slots limits made realm before) (shown now limits made realm after) (grant_at number realm ticket)
+granted_at slots now limits made realm before after number size align ticket there change =
+    let by = change.by in
+    record {
+      before = by.before;
+      after = by.after;
+      heap = inl (refl, by.was);
+      step = inl by.step;
+      grants = by.grants;
+      realm = refl;
+      number = there;
+      heaps = ap (λ s. shown s limits made realm after) (change.slots ∙ ap (slice_set slots number) by.is);
+    }
+
+module _ (hs ks : Heaps) (number size align : ℕ) (o : Option Guard) (ticket : Ticket) (there : number < length hs.slots) (adds : Adds number o hs ks) where
+  -- a grant of a new heap
+  abbrev grant : Granted
+  grant = record { place = record { heap = number; realm = hs.realm; ticket = ticket }; is_new = true }
+
+  pub granted_usual : (g : Guard) → IsSpareUsual number hs → IsUsual (units_needed size align) hs → IsNew hs.limits.size hs.limits.max_allocs (hs.made + 1) g
+      → Serves size align (Some g) o ticket → Grants size align hs ks grant
+  granted_usual g spare usual new by =
+      record {
+        before = by.before;
+        after = by.after;
+        heap = inr (refl, spare.1, inl (usual, subst (IsNew hs.limits.size hs.limits.max_allocs (hs.made + 1)) (some_same g by.before by.was) new));
+        step = inl by.step;
+        grants = by.grants;
+        realm = refl;
+        number = there;
+        heaps = subst (λ o. Adds number o hs ks) by.is adds;
+      }
+
+  pub granted_larger : (g : Guard) → IsSpareLarger number hs → (IsUsual (units_needed size align) hs → ⊥) → IsNew size larger_limit (hs.made + 1) g
+      → ServesTight size (Some g) o ticket → Grants size align hs ks grant
+  granted_larger g spare unusual new by =
+      record {
+        before = by.before;
+        after = by.after;
+        heap = inr (refl, spare.2, inr (unusual, subst (IsNew size larger_limit (hs.made + 1)) (some_same g by.before by.was) new));
+        step = inr (refl, by.step);
+        grants = by.grants;
+        realm = refl;
+        number = there;
+        heaps = subst (λ o. Adds number o hs ks) by.is adds;
+      }
+
+-- a count of accesses changes nothing of a grant
+pub granted_since : (size align : ℕ) (hs ks ls : Heaps) (grant : Granted) → IsSame hs ks → Grants size align ks ls grant → Grants size align hs ls grant
+granted_since size align hs ks ls grant same g =
+    let h : Grants size align (record hs { accesses = ks.accesses }) ls grant = subst (λ (k : Heaps). Grants size align k ls grant) same g in
+    record { before = h.before; after = h.after; heap = h.heap; step = h.step; grants = h.grants; realm = h.realm; number = h.number; heaps = h.heaps }
+
+module _ (size align : ℕ) (hs ks : Heaps) (grant : Granted) (g : Grants size align hs ks grant) where
+  slots : ks.slots ≡ slice_set hs.slots grant.place.heap (Some g.after)
+  slots = ap (λ (h : Heaps). h.slots) g.heaps
+
+  realms : ks.realm ≡ hs.realm
+  realms = ap (λ (h : Heaps). h.realm) g.heaps
+
+  pub range_granted : range_of grant.place ks ≡ Some (record { offset = grant.place.ticket.offset; size = size })
+  range_granted = same_realm grant.place ks (g.realm ∙ sym realms)
+      ∙ ap (range_in grant.place.ticket) (ap (slot grant.place.heap) slots ∙ slot_same hs.slots grant.place.heap (Some g.after) g.number)
+      ∙ g.grants.range
+
+  pub not_live_before : range_of grant.place hs ≡ None
+  not_live_before = none_if (nat_eq grant.place.realm hs.realm) (range_in grant.place.ticket (heap_at grant.place.heap hs)) (none g.heap)
+    where
+      none : IsBefore size align hs grant g.before → range_in grant.place.ticket (heap_at grant.place.heap hs) ≡ None
+      none (inl old) = ap (range_in grant.place.ticket) old.1 ∙ g.grants.not_live
+      none (inr new) = ap (range_in grant.place.ticket) new.1
+
+  pub others_kept : KeepsOthers grant.place hs ks
+  others_kept = put_keeps hs ks grant.place.heap (Some g.after) slots realms g.number grant.place refl g.realm (kept g.heap)
+    where
+      fresh : (t : Ticket) → ((IsUsual (units_needed size align) hs × IsNew hs.limits.size hs.limits.max_allocs (hs.made + 1) g.before)
+          ⊎ ((IsUsual (units_needed size align) hs → ⊥) × IsNew size larger_limit (hs.made + 1) g.before)) → guarded.range_of t g.before ≡ None
+      fresh t (inl usual) = fresh_none hs.limits.size hs.limits.max_allocs (hs.made + 1) g.before t usual.1
+      fresh t (inr larger) = fresh_none size larger_limit (hs.made + 1) g.before t larger.1
+
+      kept : IsBefore size align hs grant g.before → KeepsOthersIn grant.place.ticket (slot grant.place.heap hs.slots) (Some g.after)
+      kept (inl old) u apart = g.grants.others u apart ∙ sym (ap (range_in u) old.1)
+      kept (inr new) u apart = g.grants.others u apart ∙ fresh u new.2 ∙ sym (ap (range_in u) new.1)

@@ -1,0 +1,15 @@
+use Rattle.std.proofs.Common.{ℕ, ◌≡◌, ◌+◌, ◌≤◌, ◌<◌, length, ap, arith, subst}
+use Rattle.offset_heaps.specs.Heaps.{Heaps, IsNew}
+use Rattle.offset_heaps.proofs.Grants.{granted_usual}
+use Rattle.offset_heaps.proofs.HeapsOf.grant_usual.Goals as goal
+
+pub returns-in-Ok-clause-grants : goal.returns-in-Ok-clause-grants
+returns-in-Ok-clause-grants g c =
+    let w = c.in-Ok.ensures in
+    let spare = c.requires.spare.0 in
+    let all = c.self.invariant.numbers in
+    let same = ap (λ (h : Heaps). length h.slots) c.self.view_is in
+    let most = ap (λ (h : Heaps). h.limits.most) c.self.view_is in
+    let there : c.args.number < length c.args.self.now.slots = omega arith in
+    let new = subst (λ (h : Heaps). IsNew h.limits.size h.limits.max_allocs (h.made + 1) w.0) c.self.view_is w.1 in
+    rw c.add.ensures.granted (granted_usual c.args.self.now c.add.new.self c.args.number c.args.size c.args.align c.in-Ok.slot c.in-Ok.ticket there c.add.ensures.heaps w.0 c.requires.spare c.requires.usual new w.2)

@@ -1,0 +1,22 @@
+use Rattle.std.proofs.Common.{ℕ, ◌≡◌, ◌≤◌, ◌<◌, ◌+◌, ◌^◌, ap, ◌∙◌, arith, length, replicate, None, inl, inr, refl, ⊎_elim}
+use Rattle.std.proofs.lemmas.Bool.{cases_eq}
+use Rattle.std.proofs.lemmas.List.{length-replicate}
+use Rattle.offset_heaps.proofs.Sound.{noted_past, started, noted_more}
+use Rattle.offset_heaps.proofs.HeapsOf.new.Goals as goal
+
+pub loop-number-init : goal.loop-number-init
+loop-number-init g c =
+    let begun = started c.args.limits (c.args.limits.most + c.args.limits.most_larger) (2 ^ c.in_ok-index.index.one.height) c.in_ok-slots.slots.items c.in_ok-index.index c.in_ok-slots.ensures refl
+        c.in_ok-index.ensures.room c.in_ok-index.ensures.one c.in_ok-index.ensures.two c.in_ok-index.ensures.spare in
+    record {
+      wide = begun.0;
+      noted = λ k within. elim within [ | inl l ↦ absurd (omega arith) | inr past ↦ begun.1 k past ];
+      levels = refl;
+    }
+
+pub loop-number-preserved : goal.loop-number-preserved
+loop-number-preserved g c = record {
+  wide = c.note.ensures.wide;
+  noted = noted_more c.args.limits c.in_ok-slots.slots.items c.loop-number.index c.note.new.self c.loop-number.number (c.args.limits.most + c.args.limits.most_larger) c.note.ensures.here c.note.ensures.others c.loop-number.invariant.noted;
+  levels = c.note.ensures.levels ∙ c.loop-number.invariant.levels;
+}

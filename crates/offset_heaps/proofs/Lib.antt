@@ -1,0 +1,7 @@
+pub mod Finding
+pub mod Grants
+pub mod Numbers
+pub mod Places
+pub mod Rooms
+pub mod Sound
+pub mod Trees

@@ -1,0 +1,15 @@
+use Rattle.std.proofs.Common.{subst, arith}
+use Rattle.std.proofs.lemmas.Bool.{false≢true}
+use Rattle.offset_allocator.specs.View.{IsWellFormed}
+use Rattle.offset_allocator.specs.Requests.{blocks_needed, units_needed}
+use Rattle.offset_heaps.proofs.Rooms.{can}
+use Rattle.offset_heaps.proofs.slots.grant_in.Goals as goal
+
+pub unreachable-requires : goal.unreachable-requires
+unreachable-requires g c =
+    let known = subst IsWellFormed c.allocator.ensures c.is_well_formed.ensures in
+    let room = rw c.in-Some.is at c.requires.room in
+    false≢true (c.in-None-allocate_aligned.ensures.can_grant.1 (can (blocks_needed c.args.align) (units_needed c.args.size c.args.align) c.in-Some.heap known c.requires.some room))
+
+pub unreachable-requires-in-None : goal.unreachable-requires-in-None
+unreachable-requires-in-None g c = let room = rw c.in-None.is at c.requires.room in let some = c.requires.some in absurd (omega arith)

@@ -1,0 +1,207 @@
+-- What contracts see of many heaps, and what each call leaves of them.
+use Rattle.std.specs.Prelude.{codes, ◌≡◌, ℕ, ◌+◌, ◌*◌, ◌^◌, ◌%◌, ◌<◌, ◌≤◌, ◌⊎◌, Bool, true, false, not, ◌&&◌, List, [], ◌∷◌, Option, Some, None, IsSome, IfSome, length, nat_eq, nat_lt, slice_index_or, slice_set, if◌then◌else◌}
+use Rattle.offset_allocator.specs.Classes.{value, down}
+use Rattle.offset_allocator.specs.Ranges.{Range}
+use Rattle.offset_allocator.specs.Relations.{Aligns, Frees, IsFresh, Resets}
+use Rattle.offset_allocator.specs.Reports.{largest}
+use Rattle.offset_allocator.specs.Requests.{blocks_needed, units_needed}
+use Rattle.offset_allocator.specs.Tight.{AlignsTight}
+use Rattle.offset_allocator.specs.View.{View, Grant, free_sizes, tally, used_of, used_units}
+use Rattle.offset_guarded.specs.Guard.{Guard, grant_of, last_serial}
+use Rattle.offset_guarded.specs.Guard as guarded
+use Rattle.offset_guarded.specs.declared.ticket.Ticket.{Ticket}
+use Rattle.offset_heaps.specs.declared.place.Place.{Place}
+use Rattle.offset_heaps.specs.declared.place.Granted.{Granted}
+use Rattle.offset_heaps.specs.declared.limits.Limits.{Limits}
+use Rattle.offset_heaps.specs.declared.refusal.Refusal.{Refusal}
+use Rattle.offset_heaps.specs.declared.refusal.Refusal.TheVariants.{Empty, TooLarge, Full, Memory}
+
+-- the last realm: the largest number of 32 bits
+abbrev pub last_realm : ℕ
+last_realm = 4294967295
+
+-- how many blocks may exist in a larger heap, and one more
+abbrev pub larger_limit : ℕ
+larger_limit = 4
+
+-- what contracts see of many heaps
+pub record Heaps : Type 0 where
+  -- the heap that has each number, where there is one: those of the usual size, then the larger ones
+  pub slots : List (Option Guard)
+  pub limits : Limits
+  -- how many heaps were made so far: their realms are 1, 2, ..
+  pub made : ℕ
+  pub realm : ℕ
+  -- how often slots and the cells of the index were read or written
+  pub accesses : ℕ
+
+-- how many numbers there are
+abbrev pub numbers : Heaps → ℕ
+numbers hs = hs.limits.most + hs.limits.most_larger
+
+-- few slots and cells of the index were read or written: some for each bit of the numbers
+abbrev pub TakesFewSteps : Heaps → Heaps → Type 0
+TakesFewSteps hs ks = (bits : ℕ) → numbers hs ≤ 2 ^ bits → ks.accesses ≤ hs.accesses + 16 * bits + 32
+
+-- the heap of a number
+abbrev pub slot : ℕ → List (Option Guard) → Option Guard
+slot k slots = slice_index_or slots k None
+
+abbrev pub heap_at : ℕ → Heaps → Option Guard
+heap_at k hs = slot k hs.slots
+
+-- the largest request that a heap grants where it may add this many blocks, or 0 where it grants none: for one block what
+-- its report has
+abbrev pub room : ℕ → Guard → ℕ
+room blocks g = if nat_lt g.given last_serial && nat_lt (length g.space.blocks + blocks) g.space.max_allocs then largest (free_sizes g.space.blocks) else 0
+
+abbrev pub room_of : ℕ → Option Guard → ℕ
+room_of blocks None = 0
+room_of blocks (Some g) = room blocks g
+
+-- no heap has room for the blocks and units
+abbrev pub NoneFits : ℕ → ℕ → Heaps → Type 0
+NoneFits blocks units hs = (k : ℕ) → room_of blocks (heap_at k hs) < units
+
+-- this heap is the first that has
+abbrev pub IsFirstFit : ℕ → ℕ → ℕ → Heaps → Type 0
+IsFirstFit blocks units k hs = (units ≤ room_of blocks (heap_at k hs)) × ((j : ℕ) → j < k → room_of blocks (heap_at j hs) < units)
+
+-- a fresh heap of the usual size grants that many units
+abbrev pub IsUsual : ℕ → Heaps → Type 0
+IsUsual units hs = units ≤ value (down hs.limits.size)
+
+-- a number that no heap has: one below most for a heap of the usual size, and one of the others for a larger heap
+abbrev pub IsSpareUsual : ℕ → Heaps → Type 0
+IsSpareUsual k hs = (k < hs.limits.most) × (heap_at k hs ≡ None)
+
+abbrev pub IsSpareLarger : ℕ → Heaps → Type 0
+IsSpareLarger k hs = (hs.limits.most ≤ k) × (k < numbers hs) × (heap_at k hs ≡ None)
+
+-- the number of a new heap for a request: the first spare one of its kind, while realms are left
+abbrev pub IsNext : ℕ → ℕ → Heaps → Type 0
+IsNext units k hs = (hs.made < last_realm)
+    × ((IsUsual units hs × IsSpareUsual k hs × ((j : ℕ) → j < k → IsSpareUsual j hs → ⊥))
+    ⊎ ((IsUsual units hs → ⊥) × IsSpareLarger k hs × ((j : ℕ) → j < k → IsSpareLarger j hs → ⊥)))
+
+-- why a request is refused. Empty: it is for no unit. TooLarge: no heap may ever be large enough. Full: no heap has room,
+-- and no other may be made for it. Memory: one may be made, but its memory was refused
+abbrev pub IsWhy : ℕ → ℕ → Heaps → Refusal → Type 0
+IsWhy size align hs Empty = size ≡ 0
+IsWhy size align hs TooLarge = NoneFits (blocks_needed align) (units_needed size align) hs × (IsUsual (units_needed size align) hs → ⊥) × (hs.limits.most_larger ≡ 0)
+IsWhy size align hs Full = NoneFits (blocks_needed align) (units_needed size align) hs × ((k : ℕ) → IsNext (units_needed size align) k hs → ⊥)
+IsWhy size align hs Memory = NoneFits (blocks_needed align) (units_needed size align) hs × ((k : ℕ) × IsNext (units_needed size align) k hs)
+
+-- why no heap is made at a spare number
+abbrev pub IsWhyNotMade : Heaps → Refusal → Type 0
+IsWhyNotMade hs Full = hs.made ≡ last_realm
+IsWhyNotMade hs Memory = hs.made < last_realm
+IsWhyNotMade hs why = ⊥
+
+-- the heap that a new one is at first
+pub record IsNew (size max_allocs number : ℕ) (g : Guard) : Type 0 where
+  pub space : IsFresh size max_allocs g.space
+  pub serials : (g.given ≡ 0) × (g.serials ≡ [])
+  pub realm : g.realm ≡ number
+
+-- the heap of a grant, as it was before: one that was there, a new one of the usual size, or one of the request's own size
+abbrev pub IsBefore : ℕ → ℕ → Heaps → Granted → Guard → Type 0
+IsBefore size align hs grant g = ((grant.is_new ≡ false) × (heap_at grant.place.heap hs ≡ Some g))
+    ⊎ ((grant.is_new ≡ true) × (heap_at grant.place.heap hs ≡ None)
+    × ((IsUsual (units_needed size align) hs × IsNew hs.limits.size hs.limits.max_allocs (hs.made + 1) g)
+    ⊎ ((IsUsual (units_needed size align) hs → ⊥) × IsNew size larger_limit (hs.made + 1) g)))
+
+-- a grant: a step of one heap, which all others do not see
+pub record Grants (size align : ℕ) (hs ks : Heaps) (grant : Granted) : Type 0 where
+  pub before : Guard
+  pub after : Guard
+  pub heap : IsBefore size align hs grant before
+  pub step : Aligns size align before.space after.space (Some (grant_of grant.place.ticket))
+      ⊎ ((grant.is_new ≡ true) × AlignsTight size 1 before.space after.space (Some (grant_of grant.place.ticket)))
+  pub grants : guarded.Grants size before after grant.place.ticket
+  pub realm : grant.place.realm ≡ hs.realm
+  pub number : grant.place.heap < length hs.slots
+  pub heaps : ks ≡ record hs {
+    slots = slice_set hs.slots grant.place.heap (Some after);
+    made = (if grant.is_new then hs.made + 1 else hs.made);
+    accesses = ks.accesses;
+  }
+
+-- the text of a reason
+abbrev pub refusal_words : Refusal → List ℕ
+refusal_words Empty = codes "the request is for no unit"
+refusal_words TooLarge = codes "the request is larger than any heap may be"
+refusal_words Full = codes "no heap has room, and no other may be made"
+refusal_words Memory = codes "no memory is left for another heap"
+
+-- the range of a ticket in a heap, where there is one
+abbrev pub range_in : Ticket → Option Guard → Option Range
+range_in t None = None
+range_in t (Some g) = guarded.range_of t g
+
+-- the range of a place: that of its ticket in its heap, where the place is of these heaps
+abbrev pub range_of : Place → Heaps → Option Range
+range_of p hs = if nat_eq p.realm hs.realm then range_in p.ticket (heap_at p.heap hs) else None
+
+-- a place is live while it has a range
+abbrev pub IsLive : Place → Heaps → Type 0
+IsLive p hs = IsSome (range_of p hs)
+
+-- two places are of one grant, whatever the offsets of their tickets
+abbrev pub AreAlike : Place → Place → Type 0
+AreAlike p q = (p.heap ≡ q.heap) × (p.realm ≡ q.realm) × guarded.AreAlike p.ticket q.ticket
+
+-- every place has the range that it had
+abbrev pub KeepsAll : Heaps → Heaps → Type 0
+KeepsAll hs ks = (p : Place) → range_of p ks ≡ range_of p hs
+
+-- every other place has the range that it had
+abbrev pub KeepsOthers : Place → Heaps → Heaps → Type 0
+KeepsOthers p hs ks = (q : Place) → (AreAlike q p → ⊥) → range_of q ks ≡ range_of q hs
+
+-- every place in another heap has the range that it had
+abbrev pub KeepsOtherHeaps : ℕ → Heaps → Heaps → Type 0
+KeepsOtherHeaps k hs ks = (q : Place) → (q.heap ≡ k → ⊥) → range_of q ks ≡ range_of q hs
+
+-- all is as it was, however many accesses are counted
+abbrev pub IsSame : Heaps → Heaps → Type 0
+IsSame hs ks = ks ≡ record hs { accesses = ks.accesses }
+
+-- one number has another heap, or none
+abbrev pub Puts : ℕ → Option Guard → Heaps → Heaps → Type 0
+Puts k o hs ks = ks ≡ record hs { slots = slice_set hs.slots k o; accesses = ks.accesses }
+
+-- a heap that was made gets a number
+abbrev pub Adds : ℕ → Option Guard → Heaps → Heaps → Type 0
+Adds k o hs ks = ks ≡ record hs { slots = slice_set hs.slots k o; made = hs.made + 1; accesses = ks.accesses }
+
+-- the range of a place is freed: a step of its heap
+pub record FreesIn (p : Place) (hs ks : Heaps) : Type 0 where
+  pub before : Guard
+  pub after : Guard
+  pub heap : heap_at p.heap hs ≡ Some before
+  pub step : Frees p.ticket.name before.space after.space
+  pub serials : after ≡ record before { space = after.space }
+  pub heaps : Puts p.heap (Some after) hs ks
+
+-- whether a heap has no live range, not even one of no units
+abbrev pub is_empty : Option Guard → Bool
+is_empty None = false
+is_empty (Some g) = nat_eq (used_of g.space.blocks) 0
+
+-- how many of some slots have an empty heap
+abbrev pub empties : List (Option Guard) → ℕ
+empties [] = 0
+empties (o ∷ slots) = (if is_empty o then 1 else 0) + empties slots
+
+-- how many of some slots have a heap
+abbrev pub heap_count : List (Option Guard) → ℕ
+heap_count [] = 0
+heap_count (None ∷ slots) = heap_count slots
+heap_count (Some g ∷ slots) = 1 + heap_count slots
+
+-- a number of each heap, added up
+abbrev pub total : (Guard → ℕ) → List (Option Guard) → ℕ
+total f [] = 0
+total f (None ∷ slots) = total f slots
+total f (Some g ∷ slots) = f g + total f slots

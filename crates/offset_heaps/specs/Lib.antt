@@ -1,0 +1,4 @@
+pub mod Heaps
+pub mod Maxima
+pub mod Slots
+pub mod Soundness

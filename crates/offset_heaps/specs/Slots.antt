@@ -1,0 +1,62 @@
+-- What a call leaves of the heap of one number.
+use Rattle.std.specs.Prelude.{◌≡◌, ℕ, ◌%◌, ◌<◌, ◌≤◌, ◌⊎◌, List, Option, Some, None, slice_set}
+use Rattle.offset_allocator.specs.Ranges.{Range}
+use Rattle.offset_allocator.specs.Relations.{Aligns, Frees, Resets}
+use Rattle.offset_allocator.specs.Tight.{AlignsTight, CanHold}
+use Rattle.offset_guarded.specs.Guard.{Guard, HasSerialLeft, grant_of}
+use Rattle.offset_guarded.specs.Guard as guarded
+use Rattle.offset_guarded.specs.declared.ticket.Ticket.{Ticket}
+use Rattle.offset_heaps.specs.Heaps.{slot, range_in}
+
+-- a heap grants a request
+pub record Serves (size align : ℕ) (old new : Option Guard) (t : Ticket) : Type 0 where
+  pub before : Guard
+  pub after : Guard
+  pub was : old ≡ Some before
+  pub is : new ≡ Some after
+  pub step : Aligns size align before.space after.space (Some (grant_of t))
+  pub grants : guarded.Grants size before after t
+  pub aligned : t.offset % align ≡ 0
+
+-- a heap has a free block for a request
+abbrev pub CanHoldIn : ℕ → Option Guard → Type 0
+CanHoldIn size None = ⊥
+CanHoldIn size (Some g) = HasSerialLeft g × CanHold size 1 g.space
+
+-- such a block is granted
+pub record ServesTight (size : ℕ) (old new : Option Guard) (t : Ticket) : Type 0 where
+  pub before : Guard
+  pub after : Guard
+  pub was : old ≡ Some before
+  pub is : new ≡ Some after
+  pub step : AlignsTight size 1 before.space after.space (Some (grant_of t))
+  pub grants : guarded.Grants size before after t
+
+-- every other ticket has the range that it had
+abbrev pub KeepsOthersIn : Ticket → Option Guard → Option Guard → Type 0
+KeepsOthersIn t old new = (u : Ticket) → (guarded.AreAlike u t → ⊥) → range_in u new ≡ range_in u old
+
+-- the range of a ticket is freed
+pub record FreesIn (t : Ticket) (old new : Option Guard) : Type 0 where
+  pub before : Guard
+  pub after : Guard
+  pub was : old ≡ Some before
+  pub is : new ≡ Some after
+  pub step : Frees t.name before.space after.space
+  pub serials : after ≡ record before { space = after.space }
+
+-- the space is one free block again
+abbrev pub ResetsIn : Option Guard → Option Guard → Type 0
+ResetsIn None new = new ≡ None
+ResetsIn (Some before) new = (after : Guard) × (new ≡ Some after) × Resets before.space after.space × (after ≡ record before { space = after.space })
+
+-- the heap of one number is changed
+pub record Changes (k : ℕ) (P : Option Guard → Option Guard → Type 0) (old new : List (Option Guard)) : Type 0 where
+  pub now : Option Guard
+  pub slots : new ≡ slice_set old k now
+  pub by : P (slot k old) now
+
+-- a number is kept, where it is below a limit
+abbrev pub IsBelow : ℕ → Option ℕ → Option ℕ → Type 0
+IsBelow limit None kept = kept ≡ None
+IsBelow limit (Some k) kept = ((k < limit) × (kept ≡ Some k)) ⊎ ((limit ≤ k) × (kept ≡ None))

@@ -1,0 +1,39 @@
+-- The index says what the heaps are.
+use Rattle.std.specs.Prelude.{◌≡◌, ℕ, ◌+◌, ◌^◌, ◌<◌, ◌≤◌, List, Option, Some, None, IfSome, length, nat_lt, if◌then◌else◌}
+use Rattle.offset_guarded.specs.Guard.{Guard}
+use Rattle.offset_heaps.specs.declared.limits.Limits.{Limits}
+use Rattle.offset_heaps.specs.declared.index.Index.{Index}
+use Rattle.offset_heaps.specs.Heaps.{room_of, slot}
+use Rattle.offset_heaps.specs.Maxima.{Row, cell}
+
+-- the key of a number that no heap has: 1 for a heap of the usual size, 2 for a larger one
+abbrev pub spare_of : Limits → ℕ → Option Guard → ℕ
+spare_of limits k None = if nat_lt k limits.most then 1 else (if nat_lt k (limits.most + limits.most_larger) then 2 else 0)
+spare_of limits k (Some g) = 0
+
+-- what the index has of a number
+pub record IsNoted (limits : Limits) (slots : List (Option Guard)) (index : Index) (k : ℕ) : Type 0 where
+  pub one : cell k index.one.keys ≡ room_of 1 (slot k slots)
+  pub two : cell k index.two.keys ≡ room_of 2 (slot k slots)
+  pub spare : cell k index.spare.keys ≡ spare_of limits k (slot k slots)
+
+-- there is a key for each number, and the three rows have as many levels
+pub record IsWide (slots : List (Option Guard)) (index : Index) : Type 0 where
+  pub one : length slots ≤ length index.one.keys
+  pub two : length slots ≤ length index.two.keys
+  pub spare : length slots ≤ length index.spare.keys
+  pub level_two : index.two.height ≡ index.one.height
+  pub level_spare : index.spare.height ≡ index.one.height
+
+-- what is true of the fields between two calls
+pub record IsSound (max : ℕ) (slots : List (Option Guard)) (limits : Limits) (made : ℕ) (index : Index) : Type 0 where
+  pub wide : IsWide slots index
+  pub noted : (k : ℕ) → IsNoted limits slots index k
+  pub numbers : length slots ≡ limits.most + limits.most_larger
+  pub few : length slots < 4294967296
+  -- the index has no more levels than it needs
+  pub low : (bits : ℕ) → length slots ≤ 2 ^ bits → index.one.height ≤ bits
+  pub limit_min : 4 ≤ limits.max_allocs
+  pub limit_max : limits.max_allocs + 1 < max
+  -- the realm of a heap is not that of one that is made later
+  pub realms : (k : ℕ) → IfSome (slot k slots) (λ g. g.realm ≤ made)

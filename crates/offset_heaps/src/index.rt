@@ -1,0 +1,121 @@
+//! Which heaps have room, and which numbers have no heap. It touches its own rows alone, and reads one slot.
+ghost use Rattle.std.specs.Prelude.{ℕ, ◌≡◌, ◌↔◌, ◌+◌, ◌*◌, ◌^◌, ◌<◌, ◌≤◌, IfOk, IsTrue, length, max};
+ghost use Rattle.std.specs.Prelude.{option_copied, replicate};
+ghost use Rattle.offset_allocator.specs.Accesses.{Costs};
+ghost use Rattle.offset_guarded.specs.Guard.{HasSerialLeft};
+ghost use Rattle.offset_heaps.specs.Heaps.{room_of, slot};
+ghost use Rattle.offset_heaps.specs.Soundness.{spare_of};
+ghost use Rattle.offset_heaps.specs.Maxima.{IsFirst};
+
+use crate::limits::Limits;
+use crate::maxima::{Maxima, levels_for};
+use crate::slots::{self, Slots};
+use offset_allocator::laws::unused_names;
+use offset_allocator::{Accesses, Tables};
+use offset_guarded::{GuardedOf, Refusal};
+use std::alloc::{AllocError, Global};
+
+/// Three keys of each number: the largest requests that its heap grants where it may add one and two blocks, or 0, and
+/// whether it has no heap.
+#[derive(Drop)]
+pub struct Index {
+    pub(crate) one: Maxima,
+    pub(crate) two: Maxima,
+    pub(crate) spare: Maxima,
+}
+
+// Whether a serial is left for one more grant.
+fn has_serial_left<T: Tables>(heap: &GuardedOf<T>) -> bool
+    ensures { IsTrue result ↔ HasSerialLeft heap.now }
+{
+    match heap.refusal(0) {
+        Some(Refusal::Serials) => false,
+        Some(Refusal::Allocator(_)) => true,
+        None => true,
+    }
+}
+
+// The largest request that a heap grants where it may add this many blocks, or 0.
+fn room<T: Tables>(heap: Option<&GuardedOf<T>>, blocks: u32) -> u32
+    requires { 1 ≤ blocks }
+    ensures { result ≡ room_of blocks (option_copied heap.entry) }
+{
+    let Some(heap) = heap else { return 0 };
+    let space = heap.allocator();
+    if !has_serial_left(heap) || unused_names(space) <= blocks {
+        return 0;
+    }
+    space.storage_report().largest_free_region
+}
+
+// The key of a number that has no heap, or 0 where it has one.
+fn spare<T: Tables>(heap: Option<&GuardedOf<T>>, number: u32, limits: Limits) -> u32
+    ensures { result ≡ spare_of limits number (option_copied heap.entry) }
+{
+    if heap.is_some() {
+        0
+    } else if number < limits.most {
+        1
+    } else if (number as u64) < limits.most as u64 + limits.most_larger as u64 {
+        2
+    } else {
+        0
+    }
+}
+
+impl Index {
+    ghost use Rattle.offset_heaps.specs.Soundness.{IsNoted, IsWide};
+
+    /// Keys for `count` numbers, each 0.
+    pub(crate) fn with_room(alloc: Global, count: u32) -> Result<Self, AllocError>
+        ensures one { IfOk result (λ i. i.one.keys ≡ replicate (2 ^ i.one.height) 0) }
+        ensures two { IfOk result (λ i. (i.two.keys ≡ i.one.keys) × (i.two.height ≡ i.one.height)) }
+        ensures spare { IfOk result (λ i. (i.spare.keys ≡ i.one.keys) × (i.spare.height ≡ i.one.height)) }
+        ensures room { IfOk result (λ i. count ≤ 2 ^ i.one.height) }
+        ensures least { IfOk result (λ i. (bits : ℕ) → count ≤ 2 ^ bits → i.one.height ≤ bits) }
+    {
+        let (height, places) = levels_for(count);
+        Ok(Index {
+            one: Maxima::with_height(alloc, height, places)?,
+            two: Maxima::with_height(alloc, height, places)?,
+            spare: Maxima::with_height(alloc, height, places)?,
+        })
+    }
+
+    /// Notes what the heap of a number is.
+    pub(crate) fn note<T: Tables>(
+        &mut self,
+        slots: &Slots<T>,
+        number: u32,
+        limits: Limits,
+        count: &mut Accesses,
+    )
+        requires there { number < length slots.now.items }
+        requires wide { IsWide slots.now.items self.old }
+        ensures here { IsNoted limits slots.now.items self.new number }
+        ensures others { (k : ℕ) → (k ≡ number → ⊥) → IsNoted limits slots.now.items self.old k
+            → IsNoted limits slots.now.items self.new k }
+        ensures wide { IsWide slots.now.items self.new }
+        ensures levels { self.new.one.height ≡ self.old.one.height }
+        ensures accesses { Costs 4 (12 * self.old.one.height + 7) count.old count.new }
+    {
+        let heap = slots::at(slots, number, count);
+        self.one.set(number, room(heap, 1), count);
+        self.two.set(number, room(heap, 2), count);
+        self.spare.set(number, spare(heap, number, limits), count);
+    }
+
+    /// The first number whose heap has room for a request of these units at a multiple of `align`.
+    pub(crate) fn first_fit(&self, units: u64, align: u32, count: &mut Accesses) -> Option<u32>
+        requires { 1 ≤ units }
+        ensures one { align ≡ 1 → IsFirst units self.now.one.keys result }
+        ensures two { (align ≡ 1 → ⊥) → IsFirst units self.now.two.keys result }
+        ensures accesses { Costs 1 (1 + max self.now.one.height self.now.two.height) count.old count.new }
+    {
+        if align == 1 {
+            self.one.first_at_least(units, count)
+        } else {
+            self.two.first_at_least(units, count)
+        }
+    }
+}

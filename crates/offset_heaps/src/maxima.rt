@@ -1,0 +1,136 @@
+//! A row of numbers, of which the first that is large enough is found in few steps: a tree of maxima. It touches its own
+//! cells alone, and counts each access.
+ghost use Rattle.std.specs.Prelude.{ℕ, ◌≡◌, ◌+◌, ◌*◌, ◌^◌, ◌<◌, ◌≤◌, IfOk, length, max, replicate, slice_set};
+ghost use Rattle.offset_allocator.specs.Accesses.{Costs};
+ghost use Rattle.offset_heaps.specs.Maxima.{AreBelow, IsFirst, cell};
+
+use offset_allocator::Accesses;
+use std::alloc::{AllocError, Global};
+use std::marker::Model;
+
+/// Numbers at places from 0 on.
+#[derive(Drop)]
+pub struct Maxima {
+    // the numbers are the second half; before them, from place 1 on, each cell has the larger one of two
+    cells: Vec<u32>,
+    height: u32,
+}
+
+impl Model for Maxima {
+    ghost use Rattle.std.specs.Prelude.{drop, ◌^◌};
+    ghost use Rattle.offset_heaps.specs.Maxima.{Row, IsTree};
+
+    ghost Value = { Row };
+
+    ghost view = { λ m. record { keys = drop (2 ^ m.height) m.cells.items; height = m.height } };
+
+    ghost invariant = { λ m. IsTree m.height m.cells.items };
+}
+
+// Reads a cell.
+#[inline(always)]
+fn read(cells: &Vec<u32>, place: usize, count: &mut Accesses) -> u32
+    requires { place < length cells.now.items }
+    ensures cell { result ≡ cell place cells.now.items }
+    ensures accesses { count.new ≡ count.old + 1 }
+{
+    count.tick();
+    cells[place]
+}
+
+// The larger one of the two numbers below a cell.
+#[inline(always)]
+fn larger_below(cells: &Vec<u32>, place: usize, count: &mut Accesses) -> u32
+    requires { 2 * place + 1 < length cells.now.items }
+    ensures larger { result ≡ max (cell (2 * place) cells.now.items) (cell (2 * place + 1) cells.now.items) }
+    ensures accesses { count.new ≡ count.old + 2 }
+{
+    let left = read(cells, 2 * place, count);
+    let right = read(cells, 2 * place + 1, count);
+    left.max(right)
+}
+
+// Writes a cell.
+#[inline(always)]
+fn write(cells: &mut Vec<u32>, place: usize, key: u32, count: &mut Accesses)
+    requires { place < length cells.old.items }
+    ensures cells { cells.new.items ≡ slice_set cells.old.items place key }
+    ensures accesses { count.new ≡ count.old + 1 }
+{
+    count.tick();
+    cells[place] = key;
+}
+
+/// The levels that a row of `count` numbers needs, and two to the power of them.
+pub(crate) fn levels_for(count: u32) -> (u32, usize)
+    ensures low { result.0 ≤ 32 }
+    ensures power { result.1 ≡ 2 ^ result.0 }
+    ensures room { count ≤ result.1 }
+    ensures least { (bits : ℕ) → count ≤ 2 ^ bits → result.0 ≤ bits }
+{
+    let mut height = 0u32;
+    let mut places = 1usize;
+    while height < 32 && places < count as usize {
+        places *= 2;
+        height += 1;
+    }
+    (height, places)
+}
+
+impl Maxima {
+    /// Two to the power of `height` places, each with 0.
+    pub(crate) fn with_height(
+        alloc: Global,
+        height: u32,
+        places: usize,
+    ) -> Result<Self, AllocError>
+        requires low { height ≤ 32 }
+        requires power { places ≡ 2 ^ height }
+        ensures keys { IfOk result (λ m. m.keys ≡ replicate places 0) }
+        ensures height { IfOk result (λ m. m.height ≡ height) }
+    {
+        let cells = vec![in alloc; 0u32; 2 * places]?;
+        Ok(Maxima { cells, height })
+    }
+
+    /// The first place whose number is at least `least`, or `None` where there is none.
+    pub(crate) fn first_at_least(&self, least: u64, count: &mut Accesses) -> Option<u32>
+        requires { 1 ≤ least }
+        ensures first { IsFirst least self.now.keys result }
+        ensures accesses { Costs 1 (self.now.height + 1) count.old count.new }
+    {
+        if (read(&self.cells, 1, count) as u64) < least {
+            return None;
+        }
+        let mut place = 1;
+        for _level in 0..self.height {
+            place *= 2;
+            if (read(&self.cells, place, count) as u64) < least {
+                place += 1;
+            }
+        }
+        Some((place - self.cells.len() / 2) as u32)
+    }
+
+    /// Writes the number at a place.
+    pub(crate) fn set(&mut self, at: u32, key: u32, count: &mut Accesses)
+        requires { at < length self.old.keys }
+        ensures keys { self.new.keys ≡ slice_set self.old.keys at key }
+        ensures height { self.new.height ≡ self.old.height }
+        ensures accesses { Costs 1 (4 * self.old.height + 2) count.old count.new }
+    {
+        let mut place = self.cells.len() / 2 + at as usize;
+        if read(&self.cells, place, count) == key {
+            return;
+        }
+        write(&mut self.cells, place, key, count);
+        for _level in 0..self.height {
+            place /= 2;
+            let larger = larger_below(&self.cells, place, count);
+            if read(&self.cells, place, count) == larger {
+                return;
+            }
+            write(&mut self.cells, place, larger, count);
+        }
+    }
+}

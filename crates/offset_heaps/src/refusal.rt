@@ -1,0 +1,34 @@
+//! Why a request is refused.
+
+use std::fmt;
+
+/// Why a request is refused: the first of these that applies.
+#[derive(Clone, Copy, Debug, PartialEq)]
+pub enum Refusal {
+    /// It is for no unit.
+    Empty,
+    /// No heap has room, a fresh one of the usual size would not have it either, and there may be no larger ones.
+    TooLarge,
+    /// No heap has room, and no other may be made for it: each number of its kind has a heap, or all 4294967295 realms are
+    /// given. Free ranges, or drop empty heaps of that kind.
+    Full,
+    /// No heap has room. Another one may be made, but its memory was refused.
+    Memory,
+}
+
+impl fmt::Display for Refusal {
+    ghost use Rattle.std.specs.Prelude.{Some};
+    ghost use Rattle.offset_heaps.specs.Heaps.{refusal_words};
+
+    ghost output = { λ why. Some (refusal_words why) };
+
+    fn fmt<W: fmt::Write>(&self, f: &mut fmt::Formatter<W>) -> fmt::Result {
+        let words = match self {
+            Refusal::Empty => "the request is for no unit",
+            Refusal::TooLarge => "the request is larger than any heap may be",
+            Refusal::Full => "no heap has room, and no other may be made",
+            Refusal::Memory => "no memory is left for another heap",
+        };
+        write!(f, "{words}")
+    }
+}

@@ -1,0 +1,194 @@
+//! The heaps by their numbers: no other module reads or writes them. Each function counts the slots that it touches.
+ghost use Rattle.std.specs.Prelude.{◌≡◌, ◌↔◌, ◌+◌, ◌<◌, ◌≤◌, IsTrue, IsSome, None, Some, false, length};
+ghost use Rattle.std.specs.Prelude.{IfOk, is_some, option_copied, replicate, slice_set, true};
+ghost use Rattle.offset_allocator.specs.Relations.{IsAlignment};
+ghost use Rattle.offset_allocator.specs.Requests.{blocks_needed, units_needed};
+ghost use Rattle.offset_allocator.specs.Tight.{CanHold};
+ghost use Rattle.offset_guarded.specs.Guard.{Guard, HasSerialLeft};
+ghost use Rattle.offset_heaps.specs.Heaps.{is_empty, range_in, room_of, slot};
+ghost use Rattle.offset_heaps.specs.Slots.{CanHoldIn, Changes, FreesIn, KeepsOthersIn, ResetsIn, Serves, ServesTight};
+
+
+use offset_allocator::laws::is_well_formed;
+use offset_allocator::{Accesses, Tables};
+use offset_guarded::{GuardedOf, Ticket};
+use std::alloc::{AllocError, Global};
+
+/// The heap of each number, where there is one.
+pub type Slots<T> = Vec<Option<GuardedOf<T>>>;
+
+/// Memory for `count` numbers, none of which has a heap.
+pub(crate) fn none<T: Tables>(alloc: Global, count: u32) -> Result<Slots<T>, AllocError>
+    ensures { IfOk result (λ s. s.items ≡ replicate count None) }
+{
+    let mut slots = Vec::with_capacity(alloc, count as usize)?;
+    for _number in 0..count {
+        slots.push(None)?;
+    }
+    Ok(slots)
+}
+
+/// The heap of a number.
+pub(crate) fn at<'a, T: Tables>(
+    slots: &'a Slots<T>,
+    number: u32,
+    count: &mut Accesses,
+) -> Option<&'a GuardedOf<T>>
+    ensures heap { option_copied result ≡ slot number slots.now.items }
+    ensures accesses { count.new ≡ count.old + 1 }
+{
+    count.tick();
+    match slots.get(number as usize) {
+        Some(Some(heap)) => Some(heap),
+        _ => None,
+    }
+}
+
+/// Whether a number has a heap.
+pub(crate) fn has<T: Tables>(slots: &Slots<T>, number: u32, count: &mut Accesses) -> bool
+    ensures has { result ≡ is_some (slot number slots.now.items) }
+    ensures there { result ≡ true → number < length slots.now.items }
+    ensures accesses { count.new ≡ count.old + 1 }
+{
+    match at(slots, number, count) {
+        Some(_) => true,
+        None => false,
+    }
+}
+
+/// Puts a heap at a number, or none.
+pub(crate) fn put<T: Tables>(
+    slots: &mut Slots<T>,
+    number: u32,
+    heap: Option<GuardedOf<T>>,
+    count: &mut Accesses,
+)
+    requires { number < length slots.old.items }
+    ensures heaps { slots.new.items ≡ slice_set slots.old.items number heap }
+    ensures accesses { count.new ≡ count.old + 1 }
+{
+    count.tick();
+    slots[number as usize] = heap;
+}
+
+/// Grants a request in a heap that has room for it.
+pub(crate) fn grant_in<T: Tables>(
+    slot: &mut Option<GuardedOf<T>>,
+    size: u32,
+    align: u32,
+) -> Ticket
+    requires some { 1 ≤ units_needed size align }
+    requires power { IsAlignment align }
+    requires room { units_needed size align ≤ room_of (blocks_needed align) slot.old }
+    ensures { Serves size align slot.old slot.new result }
+{
+    match slot {
+        Some(heap) => {
+            is_well_formed(heap.allocator());
+            match heap.allocate_aligned(size, align) {
+                Some(ticket) => ticket,
+                None => unreachable!(),
+            }
+        }
+        None => unreachable!(),
+    }
+}
+
+/// Grants a request in a heap that has a free block for it.
+pub(crate) fn grant_tight_in<T: Tables>(slot: &mut Option<GuardedOf<T>>, size: u32) -> Ticket
+    requires { CanHoldIn size slot.old }
+    ensures { ServesTight size slot.old slot.new result }
+{
+    match slot {
+        Some(heap) => match heap.allocate_tight(size) {
+            Some(ticket) => ticket,
+            None => unreachable!(),
+        },
+        None => unreachable!(),
+    }
+}
+
+/// Grants a request in the heap of a number, which has room for it.
+pub(crate) fn grant<T: Tables>(
+    slots: &mut Slots<T>,
+    number: u32,
+    size: u32,
+    align: u32,
+    count: &mut Accesses,
+) -> Ticket
+    requires there { number < length slots.old.items }
+    requires some { 1 ≤ units_needed size align }
+    requires power { IsAlignment align }
+    requires room { units_needed size align ≤ room_of (blocks_needed align) (slot number slots.old.items) }
+    ensures grants { Changes number (λ o p. Serves size align o p result) slots.old.items slots.new.items }
+    ensures accesses { count.new ≡ count.old + 1 }
+{
+    count.tick();
+    grant_in(&mut slots[number as usize], size, align)
+}
+
+// Frees the range of a ticket, where it is live.
+fn free_in<T: Tables>(slot: &mut Option<GuardedOf<T>>, ticket: Ticket) -> bool
+    ensures done { IsTrue result ↔ IsSome (range_in ticket slot.old) }
+    ensures gone { range_in ticket slot.new ≡ None }
+    ensures others { KeepsOthersIn ticket slot.old slot.new }
+    ensures same { result ≡ false → slot.new ≡ slot.old }
+    ensures step { result ≡ true → FreesIn ticket slot.old slot.new }
+{
+    match slot {
+        Some(heap) => heap.free(ticket),
+        None => false,
+    }
+}
+
+/// Frees the range of a ticket in the heap of a number, where it is live.
+pub(crate) fn free<T: Tables>(
+    slots: &mut Slots<T>,
+    number: u32,
+    ticket: Ticket,
+    count: &mut Accesses,
+) -> bool
+    ensures done { IsTrue result ↔ IsSome (range_in ticket (slot number slots.old.items)) }
+    ensures there { result ≡ true → number < length slots.old.items }
+    ensures change { result ≡ true → Changes number (λ o p. (range_in ticket p ≡ None) × KeepsOthersIn ticket o p
+        × FreesIn ticket o p) slots.old.items slots.new.items }
+    ensures same { result ≡ false → slots.new.items ≡ slots.old.items }
+    ensures accesses { count.new ≡ count.old + 1 }
+{
+    count.tick();
+    if number as usize >= slots.len() {
+        return false;
+    }
+    free_in(&mut slots[number as usize], ticket)
+}
+
+// Makes the space of a heap one free block again.
+fn reset_in<T: Tables>(slot: &mut Option<GuardedOf<T>>)
+    ensures { ResetsIn slot.old slot.new }
+{
+    match slot {
+        Some(heap) => heap.reset(),
+        None => {}
+    }
+}
+
+/// Makes the space of the heap of a number one free block again.
+pub(crate) fn reset<T: Tables>(slots: &mut Slots<T>, number: u32, count: &mut Accesses)
+    requires { number < length slots.old.items }
+    ensures change { Changes number ResetsIn slots.old.items slots.new.items }
+    ensures accesses { count.new ≡ count.old + 1 }
+{
+    count.tick();
+    reset_in(&mut slots[number as usize]);
+}
+
+/// Whether the heap of a number has no live range.
+pub(crate) fn is_empty_at<T: Tables>(slots: &Slots<T>, number: u32, count: &mut Accesses) -> bool
+    ensures empty { result ≡ is_empty (slot number slots.now.items) }
+    ensures accesses { count.new ≡ count.old + 1 }
+{
+    match at(slots, number, count) {
+        None => false,
+        Some(heap) => heap.allocator().is_empty(),
+    }
+}
