@@ -1,14 +1,17 @@
 -- Grants: of a heap that was there, and of a new one.
-use Rattle.std.proofs.Common.{◌≡◌, ℕ, ◌+◌, ◌<◌, ◌≤◌, ◌⊎◌, true, false, length, List, Option, Some, None, slice_set, nat_eq, refl, sym, ap, ◌∙◌, subst, inl, inr, arith}
+use Rattle.std.proofs.Common.{◌≡◌, ◌↔◌, ℕ, ◌+◌, ◌<◌, ◌≤◌, ◌⊎◌, true, false, Result, Ok, Err, IfOk, IfErr, length, List, Option, Some, None, slice_set, nat_eq, refl, sym, ap, ◌∙◌, subst, inl, inr, arith}
 use Rattle.offset_allocator.specs.Ranges.{Range}
-use Rattle.offset_allocator.specs.Requests.{units_needed}
+use Rattle.std.proofs.lemmas.Bool.{cases_Bool, cases_eq}
+use Rattle.offset_allocator.specs.Requests.{blocks_needed, units_needed}
 use Rattle.offset_guarded.specs.Guard.{Guard}
 use Rattle.offset_guarded.specs.Guard as guarded
 use Rattle.offset_guarded.specs.declared.ticket.Ticket.{Ticket}
 use Rattle.offset_heaps.specs.declared.limits.Limits.{Limits}
 use Rattle.offset_heaps.specs.declared.place.Place.{Place}
 use Rattle.offset_heaps.specs.declared.place.Granted.{Granted}
-use Rattle.offset_heaps.specs.Heaps.{Heaps, Adds, Grants, IsBefore, IsNew, IsSame, IsSpareLarger, IsSpareUsual, IsUsual, KeepsOthers, heap_at, larger_limit, range_in, range_of, slot}
+use Rattle.offset_heaps.specs.declared.refusal.Refusal.{Refusal}
+use Rattle.offset_heaps.specs.declared.refusal.Refusal.TheVariants.{Empty, TooLarge, Full, Memory}
+use Rattle.offset_heaps.specs.Heaps.{Heaps, Adds, Grants, IsBefore, IsFirstFit, IsForRoom, IsNext, IsWhy, NoneFits, IsNew, IsSame, IsSpareLarger, IsSpareUsual, IsUsual, KeepsOthers, heap_at, larger_limit, range_in, range_of, slot}
 use Rattle.offset_heaps.specs.Slots.{Changes, KeepsOthersIn, Serves, ServesTight}
 use Rattle.offset_heaps.proofs.Numbers.{slot_same}
 use Rattle.offset_heaps.proofs.Places.{none_if, put_here, put_keeps, same_realm, shown}
@@ -27,7 +30,7 @@ granted_at slots now limits made realm before after number size align ticket the
       before = by.before;
       after = by.after;
       heap = inl (refl, by.was);
-      step = inl by.step;
+      step = inl (by.step, by.accesses);
       grants = by.grants;
       realm = refl;
       number = there;
@@ -46,7 +49,7 @@ module _ (hs ks : Heaps) (number size align : ℕ) (o : Option Guard) (ticket : 
         before = by.before;
         after = by.after;
         heap = inr (refl, spare.1, inl (usual, subst (IsNew hs.limits.size hs.limits.max_allocs (hs.made + 1)) (some_same g by.before by.was) new));
-        step = inl by.step;
+        step = inl (by.step, by.accesses);
         grants = by.grants;
         realm = refl;
         number = there;
@@ -103,3 +106,51 @@ module _ (size align : ℕ) (hs ks : Heaps) (grant : Granted) (g : Grants size a
       kept : IsBefore size align hs grant g.before → KeepsOthersIn grant.place.ticket (slot grant.place.heap hs.slots) (Some g.after)
       kept (inl old) u apart = g.grants.others u apart ∙ sym (ap (range_in u) old.1)
       kept (inr new) u apart = g.grants.others u apart ∙ fresh u new.2 ∙ sym (ap (range_in u) new.1)
+
+-- a new heap for a request that is too large needs a number for a larger one
+too_large : (units k : ℕ) (hs : Heaps) → (IsUsual units hs → ⊥) → hs.limits.most_larger ≡ 0 → IsNext units k hs → ⊥
+too_large units k hs unusual none next = elim next.1 [
+  | inl usual ↦ unusual usual.0
+  | inr larger ↦ let from = larger.1.0 in let to = larger.1.1 in absurd (omega arith)
+]
+
+pub no_room : (size align : ℕ) (hs : Heaps) (r : Result Granted Refusal) → (size ≡ 0 → r ≡ Err Empty) → IfErr r (IsWhy size align hs)
+    → IfOk r (λ g. g.is_new ≡ false → IsFirstFit (blocks_needed align) (units_needed size align) g.place.heap hs)
+    → IfOk r (λ g. g.is_new ≡ true → NoneFits (blocks_needed align) (units_needed size align) hs × IsNext (units_needed size align) g.place.heap hs)
+    → IsForRoom r ↔ ((1 ≤ size) × NoneFits (blocks_needed align) (units_needed size align) hs × ((k : ℕ) → IsNext (units_needed size align) k hs → ⊥))
+no_room size align hs r empty why found made = (refused r empty why, kept r why found made)
+  where
+    some : (r : Result Granted Refusal) → (r ≡ Err Empty → ⊥) → (size ≡ 0 → r ≡ Err Empty) → 1 ≤ size
+    some r other empty = elim (cases_eq size 0) [ | inl e ↦ absurd (other (empty e)) | inr n ↦ omega arith ]
+
+    refused : (r : Result Granted Refusal) → (size ≡ 0 → r ≡ Err Empty) → IfErr r (IsWhy size align hs) → IsForRoom r
+        → (1 ≤ size) × NoneFits (blocks_needed align) (units_needed size align) hs × ((k : ℕ) → IsNext (units_needed size align) k hs → ⊥)
+    refused (Ok g) empty why (inl e) = absurd (cc)
+    refused (Ok g) empty why (inr e) = absurd (cc)
+    refused (Err Empty) empty why (inl e) = absurd (cc)
+    refused (Err Empty) empty why (inr e) = absurd (cc)
+    refused (Err Memory) empty why (inl e) = absurd (cc)
+    refused (Err Memory) empty why (inr e) = absurd (cc)
+    refused (Err Full) empty why e = (some (Err Full) (λ same. cc) empty, why.0, why.1)
+    refused (Err TooLarge) empty why e = (some (Err TooLarge) (λ same. cc) empty, why.0, λ k. too_large (units_needed size align) k hs why.1 why.2)
+
+    kept : (r : Result Granted Refusal) → IfErr r (IsWhy size align hs)
+        → IfOk r (λ g. g.is_new ≡ false → IsFirstFit (blocks_needed align) (units_needed size align) g.place.heap hs)
+        → IfOk r (λ g. g.is_new ≡ true → NoneFits (blocks_needed align) (units_needed size align) hs × IsNext (units_needed size align) g.place.heap hs)
+        → (1 ≤ size) × NoneFits (blocks_needed align) (units_needed size align) hs × ((k : ℕ) → IsNext (units_needed size align) k hs → ⊥) → IsForRoom r
+    kept (Err Full) why found made h = inl refl
+    kept (Err TooLarge) why found made h = inr refl
+    kept (Err Empty) why found made h = let some = h.0 in absurd (omega (arith, why))
+    kept (Err Memory) why found made h = absurd (h.2 why.1.0 why.1.1)
+    kept (Ok g) why found made h = elim (cases_Bool g.is_new) [
+      | inl e ↦ absurd (h.2 g.place.heap (made e).1)
+      | inr e ↦ absurd (let fit = (found e).0 in let less = h.1 g.place.heap in omega arith)
+    ]
+
+-- with no alignment the units needed are those of the request
+pub plain : (size : ℕ) → units_needed size 1 ≡ size
+plain size = omega arith
+
+pub others_if : (size align : ℕ) (hs ks : Heaps) (r : Result Granted Refusal) → IfOk r (Grants size align hs ks) → IfOk r (λ g. KeepsOthers g.place hs ks)
+others_if size align hs ks (Ok grant) g = others_kept size align hs ks grant g
+others_if size align hs ks (Err why) g = tt

@@ -4,4 +4,5 @@ pub mod Numbers
 pub mod Places
 pub mod Rooms
 pub mod Sound
+pub mod Sums
 pub mod Trees

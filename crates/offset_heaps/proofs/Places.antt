@@ -81,6 +81,7 @@ module _ (p : Place) (hs ks : Heaps) (l : p.heap < length hs.slots) (change : Ch
     heap = by.was;
     step = by.step;
     serials = by.serials;
+    accesses = by.accesses;
     heaps = subst (λ o. Puts p.heap o hs ks) by.is puts;
   }
 

@@ -1,5 +1,5 @@
 -- What contracts see of many heaps, and what each call leaves of them.
-use Rattle.std.specs.Prelude.{codes, ◌≡◌, ℕ, ◌+◌, ◌*◌, ◌^◌, ◌%◌, ◌<◌, ◌≤◌, ◌⊎◌, Bool, true, false, not, ◌&&◌, List, [], ◌∷◌, Option, Some, None, IsSome, IfSome, length, nat_eq, nat_lt, slice_index_or, slice_set, if◌then◌else◌}
+use Rattle.std.specs.Prelude.{codes, ◌≡◌, ℕ, ◌+◌, ◌*◌, ◌^◌, ◌%◌, ◌<◌, ◌≤◌, ◌⊎◌, Bool, true, false, not, ◌&&◌, List, [], ◌∷◌, Option, Some, None, IsSome, IfSome, Result, Err, length, nat_eq, nat_lt, slice_index_or, slice_set, max, sum, if◌then◌else◌}
 use Rattle.offset_allocator.specs.Classes.{value, down}
 use Rattle.offset_allocator.specs.Ranges.{Range}
 use Rattle.offset_allocator.specs.Relations.{Aligns, Frees, IsFresh, Resets}
@@ -13,6 +13,7 @@ use Rattle.offset_guarded.specs.declared.ticket.Ticket.{Ticket}
 use Rattle.offset_heaps.specs.declared.place.Place.{Place}
 use Rattle.offset_heaps.specs.declared.place.Granted.{Granted}
 use Rattle.offset_heaps.specs.declared.limits.Limits.{Limits}
+use Rattle.offset_heaps.specs.declared.totals.Totals.{Totals}
 use Rattle.offset_heaps.specs.declared.refusal.Refusal.{Refusal}
 use Rattle.offset_heaps.specs.declared.refusal.Refusal.TheVariants.{Empty, TooLarge, Full, Memory}
 
@@ -92,6 +93,10 @@ IsWhy size align hs TooLarge = NoneFits (blocks_needed align) (units_needed size
 IsWhy size align hs Full = NoneFits (blocks_needed align) (units_needed size align) hs × ((k : ℕ) → IsNext (units_needed size align) k hs → ⊥)
 IsWhy size align hs Memory = NoneFits (blocks_needed align) (units_needed size align) hs × ((k : ℕ) × IsNext (units_needed size align) k hs)
 
+-- a refusal for room
+abbrev pub IsForRoom : Result Granted Refusal → Type 0
+IsForRoom r = (r ≡ Err Full) ⊎ (r ≡ Err TooLarge)
+
 -- why no heap is made at a spare number
 abbrev pub IsWhyNotMade : Heaps → Refusal → Type 0
 IsWhyNotMade hs Full = hs.made ≡ last_realm
@@ -116,7 +121,8 @@ pub record Grants (size align : ℕ) (hs ks : Heaps) (grant : Granted) : Type 0 
   pub before : Guard
   pub after : Guard
   pub heap : IsBefore size align hs grant before
-  pub step : Aligns size align before.space after.space (Some (grant_of grant.place.ticket))
+  pub step : (Aligns size align before.space after.space (Some (grant_of grant.place.ticket))
+      × (after.space.accesses ≤ before.space.accesses + 128))
       ⊎ ((grant.is_new ≡ true) × AlignsTight size 1 before.space after.space (Some (grant_of grant.place.ticket)))
   pub grants : guarded.Grants size before after grant.place.ticket
   pub realm : grant.place.realm ≡ hs.realm
@@ -182,6 +188,7 @@ pub record FreesIn (p : Place) (hs ks : Heaps) : Type 0 where
   pub heap : heap_at p.heap hs ≡ Some before
   pub step : Frees p.ticket.name before.space after.space
   pub serials : after ≡ record before { space = after.space }
+  pub accesses : after.space.accesses ≤ before.space.accesses + 128
   pub heaps : Puts p.heap (Some after) hs ks
 
 -- whether a heap has no live range, not even one of no units
@@ -189,19 +196,43 @@ abbrev pub is_empty : Option Guard → Bool
 is_empty None = false
 is_empty (Some g) = nat_eq (used_of g.space.blocks) 0
 
--- how many of some slots have an empty heap
-abbrev pub empties : List (Option Guard) → ℕ
-empties [] = 0
-empties (o ∷ slots) = (if is_empty o then 1 else 0) + empties slots
+-- the largest request for which some heap has room, where it may add one block, or 0
+abbrev pub largest_room : List (Option Guard) → ℕ
+largest_room [] = 0
+largest_room (o ∷ slots) = max (room_of 1 o) (largest_room slots)
 
--- how many of some slots have a heap
-abbrev pub heap_count : List (Option Guard) → ℕ
-heap_count [] = 0
-heap_count (None ∷ slots) = heap_count slots
-heap_count (Some g ∷ slots) = 1 + heap_count slots
+-- the units of a heap, and those that are live and free
+abbrev pub size_of : Guard → ℕ
+size_of g = g.space.size
+
+abbrev pub live_of : Guard → ℕ
+live_of g = used_units g.space.blocks
+
+abbrev pub free_of : Guard → ℕ
+free_of g = sum (free_sizes g.space.blocks)
+
+-- a number of a heap, or 0 where there is none
+abbrev pub part : (Guard → ℕ) → Option Guard → ℕ
+part f None = 0
+part f (Some g) = f g
 
 -- a number of each heap, added up
 abbrev pub total : (Guard → ℕ) → List (Option Guard) → ℕ
 total f [] = 0
-total f (None ∷ slots) = total f slots
-total f (Some g ∷ slots) = f g + total f slots
+total f (o ∷ slots) = part f o + total f slots
+
+-- how many heaps there are
+abbrev pub heap_count : List (Option Guard) → ℕ
+heap_count slots = total (λ g. 1) slots
+
+-- how many of them are empty
+abbrev pub empties : List (Option Guard) → ℕ
+empties slots = total (λ g. if nat_eq (used_of g.space.blocks) 0 then 1 else 0) slots
+
+-- the numbers of all heaps
+pub record AreTotals (t : Totals) (slots : List (Option Guard)) : Type 0 where
+  pub heaps : t.heaps ≡ heap_count slots
+  pub units : t.units ≡ total size_of slots
+  pub live_units : t.live_units ≡ total live_of slots
+  pub free_units : t.free_units ≡ total free_of slots
+  pub largest : t.largest_free_region ≡ largest_room slots

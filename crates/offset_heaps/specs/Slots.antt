@@ -1,12 +1,12 @@
 -- What a call leaves of the heap of one number.
-use Rattle.std.specs.Prelude.{◌≡◌, ℕ, ◌%◌, ◌<◌, ◌≤◌, ◌⊎◌, List, Option, Some, None, slice_set}
+use Rattle.std.specs.Prelude.{◌≡◌, ℕ, ◌+◌, ◌%◌, ◌<◌, ◌≤◌, ◌⊎◌, List, Option, Some, None, true, false, take, slice_set}
 use Rattle.offset_allocator.specs.Ranges.{Range}
 use Rattle.offset_allocator.specs.Relations.{Aligns, Frees, Resets}
 use Rattle.offset_allocator.specs.Tight.{AlignsTight, CanHold}
 use Rattle.offset_guarded.specs.Guard.{Guard, HasSerialLeft, grant_of}
 use Rattle.offset_guarded.specs.Guard as guarded
 use Rattle.offset_guarded.specs.declared.ticket.Ticket.{Ticket}
-use Rattle.offset_heaps.specs.Heaps.{slot, range_in}
+use Rattle.offset_heaps.specs.Heaps.{empties, is_empty, slot, range_in}
 
 -- a heap grants a request
 pub record Serves (size align : ℕ) (old new : Option Guard) (t : Ticket) : Type 0 where
@@ -16,6 +16,7 @@ pub record Serves (size align : ℕ) (old new : Option Guard) (t : Ticket) : Typ
   pub is : new ≡ Some after
   pub step : Aligns size align before.space after.space (Some (grant_of t))
   pub grants : guarded.Grants size before after t
+  pub accesses : after.space.accesses ≤ before.space.accesses + 128
   pub aligned : t.offset % align ≡ 0
 
 -- a heap has a free block for a request
@@ -44,6 +45,7 @@ pub record FreesIn (t : Ticket) (old new : Option Guard) : Type 0 where
   pub is : new ≡ Some after
   pub step : Frees t.name before.space after.space
   pub serials : after ≡ record before { space = after.space }
+  pub accesses : after.space.accesses ≤ before.space.accesses + 128
 
 -- the space is one free block again
 abbrev pub ResetsIn : Option Guard → Option Guard → Type 0
@@ -60,3 +62,9 @@ pub record Changes (k : ℕ) (P : Option Guard → Option Guard → Type 0) (old
 abbrev pub IsBelow : ℕ → Option ℕ → Option ℕ → Type 0
 IsBelow limit None kept = kept ≡ None
 IsBelow limit (Some k) kept = ((k < limit) × (kept ≡ Some k)) ⊎ ((limit ≤ k) × (kept ≡ None))
+
+-- of the first n numbers, so many have an empty heap, and this is the last of them
+pub record HasEmpty (n found at : ℕ) (slots : List (Option Guard)) : Type 0 where
+  pub count : found ≡ empties (take n slots)
+  pub few : found ≤ n
+  pub last : 1 ≤ found → (at < n) × (is_empty (slot at slots) ≡ true) × ((j : ℕ) → at < j → j < n → is_empty (slot j slots) ≡ false)

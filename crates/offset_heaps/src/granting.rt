@@ -32,7 +32,7 @@ fn below(found: Option<u32>, limit: u32) -> Option<u32>
 impl<T: Tables> HeapsOf<T> {
     ghost use Rattle.offset_heaps.specs.Heaps.{heap_at, range_of, KeepsOthers, Grants, IsFirstFit, IsNext, IsSame};
     ghost use Rattle.offset_heaps.specs.Heaps.{IsSpareLarger, IsSpareUsual, IsUsual, IsWhy, NoneFits, TakesFewSteps};
-    ghost use Rattle.offset_heaps.specs.Heaps.{Adds, IsWhyNotMade, last_realm, numbers, room_of};
+    ghost use Rattle.offset_heaps.specs.Heaps.{Adds, IsForRoom, IsWhyNotMade, last_realm, numbers, room_of};
 
     // The first heap that has room for a request.
     fn first_fit(&mut self, units: u64, align: u32) -> Option<u32>
@@ -207,8 +207,8 @@ impl<T: Tables> HeapsOf<T> {
         }
     }
 
-    /// Grants `size` units of one heap that begin at a multiple of `align`, a power of two, in the heap.
-    pub fn allocate_aligned(&mut self, size: u32, align: u32) -> Result<Granted, Refusal>
+    // A request as `allocate_aligned` has it.
+    fn request(&mut self, size: u32, align: u32) -> Result<Granted, Refusal>
         requires power { IsAlignment align }
         ensures empty { size ≡ 0 → result ≡ Err Refusal.Empty }
         ensures why { IfErr result (IsWhy size align self.old) }
@@ -230,5 +230,61 @@ impl<T: Tables> HeapsOf<T> {
             Some(number) => Ok(self.grant_at(number, size, align)),
             None => self.grant_new(size, align, units),
         }
+    }
+
+    /// Grants `size` units of one heap: what `allocate_aligned(size, 1)` grants.
+    pub fn allocate(&mut self, size: u32) -> Result<Granted, Refusal>
+        ensures no_room { IsForRoom result
+            ↔ ((1 ≤ size) × NoneFits 1 size self.old × ((k : ℕ) → IsNext size k self.old → ⊥)) }
+        ensures empty { size ≡ 0 → result ≡ Err Refusal.Empty }
+        ensures why { IfErr result (IsWhy size 1 self.old) }
+        ensures same { OnErr result (IsSame self.old self.new) }
+        ensures found { IfOk result (λ g. g.is_new ≡ false → IsFirstFit 1 size g.place.heap self.old) }
+        ensures made { IfOk result (λ g. g.is_new ≡ true
+            → NoneFits 1 size self.old × IsNext size g.place.heap self.old) }
+        ensures not_live { IfOk result (λ g. range_of g.place self.old ≡ None) }
+        ensures range { IfOk result (λ g. range_of g.place self.new
+            ≡ Some (record { offset = g.place.ticket.offset; size = size })) }
+        ensures others { IfOk result (λ g. KeepsOthers g.place self.old self.new) }
+        ensures grants { IfOk result (Grants size 1 self.old self.new) }
+        ensures steps { TakesFewSteps self.old self.new }
+    {
+        self.allocate_aligned(size, 1)
+    }
+
+    /// Grants `size` units of one heap that begin at a multiple of `align`, a power of two, in that heap.
+    ///
+    /// The heap is the first one, by number, that has room: what `GuardedOf::allocate_aligned` grants there, as it grants
+    /// it. Where none has, another heap is made. If a fresh heap of the usual size has room, it is such a heap, with the
+    /// first number below `most` that no heap has; else a larger heap of exactly `size` units, all of which are granted,
+    /// with the first number from `most` on that no heap has. Only then memory is requested.
+    ///
+    /// Where the request is refused, all is as it was, and the `Refusal` says why.
+    pub fn allocate_aligned(&mut self, size: u32, align: u32) -> Result<Granted, Refusal>
+        requires power { IsAlignment align }
+        // It is refused for room exactly when no heap has room, and no other may be made for it.
+        ensures no_room { IsForRoom result ↔ ((1 ≤ size) × NoneFits (blocks_needed align) (units_needed size align) self.old
+            × ((k : ℕ) → IsNext (units_needed size align) k self.old → ⊥)) }
+        ensures empty { size ≡ 0 → result ≡ Err Refusal.Empty }
+        ensures why { IfErr result (IsWhy size align self.old) }
+        ensures same { OnErr result (IsSame self.old self.new) }
+        // Its heap is the first that has room, or a new one with the next number where none has.
+        ensures found { IfOk result (λ g. g.is_new ≡ false
+            → IsFirstFit (blocks_needed align) (units_needed size align) g.place.heap self.old) }
+        ensures made { IfOk result (λ g. g.is_new ≡ true
+            → NoneFits (blocks_needed align) (units_needed size align) self.old
+            × IsNext (units_needed size align) g.place.heap self.old) }
+        // The place was not live. It has exactly `size` units, from a multiple of `align` on, and every other place keeps
+        // its range, if it has one.
+        ensures not_live { IfOk result (λ g. range_of g.place self.old ≡ None) }
+        ensures range { IfOk result (λ g. range_of g.place self.new
+            ≡ Some (record { offset = g.place.ticket.offset; size = size })) }
+        ensures aligned { IfOk result (λ g. g.place.ticket.offset % align ≡ 0) }
+        ensures others { IfOk result (λ g. KeepsOthers g.place self.old self.new) }
+        // The step of that heap. All other heaps are as they were.
+        ensures grants { IfOk result (Grants size align self.old self.new) }
+        ensures steps { TakesFewSteps self.old self.new }
+    {
+        self.request(size, align)
     }
 }

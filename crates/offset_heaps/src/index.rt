@@ -36,7 +36,7 @@ fn has_serial_left<T: Tables>(heap: &GuardedOf<T>) -> bool
 }
 
 // The largest request that a heap grants where it may add this many blocks, or 0.
-fn room<T: Tables>(heap: Option<&GuardedOf<T>>, blocks: u32) -> u32
+pub(crate) fn room<T: Tables>(heap: Option<&GuardedOf<T>>, blocks: u32) -> u32
     requires { 1 ≤ blocks }
     ensures { result ≡ room_of blocks (option_copied heap.entry) }
 {

@@ -6,20 +6,24 @@ ghost use Rattle.std.specs.Prelude.{IsTrue, IsSome, IfOk, IfErr, OnErr, Ok, Err,
 
 ghost use Rattle.offset_allocator.specs.Ranges.{Range};
 
+mod dropping;
 mod granting;
 mod index;
+pub mod laws;
 mod limits;
 mod making;
 mod maxima;
 mod place;
 mod refusal;
 mod slots;
+mod totals;
 
 pub use index::Index;
 pub use limits::Limits;
 pub use maxima::Maxima;
 pub use place::{Granted, Place};
 pub use refusal::Refusal;
+pub use totals::Totals;
 
 use slots::Slots;
 use offset_allocator::{Accesses, ByNode, Tables};
@@ -137,41 +141,5 @@ impl<T: Tables> HeapsOf<T> {
             None => None,
             Some(heap) => heap.offset_of(place.ticket),
         }
-    }
-
-    /// Takes back the heap of a number, with all that it granted, and returns whether there was one.
-    pub fn give_up(&mut self, number: u32) -> bool
-        ensures done { IsTrue result ↔ IsSome (heap_at number self.old) }
-        ensures heaps { result ≡ true → Puts number None self.old self.new }
-        ensures same { result ≡ false → IsSame self.old self.new }
-        ensures gone { heap_at number self.new ≡ None }
-        ensures others { KeepsOtherHeaps number self.old self.new }
-        ensures steps { TakesFewSteps self.old self.new }
-    {
-        if !slots::has(&self.slots, number, &mut self.accesses) {
-            return false;
-        }
-        slots::put(&mut self.slots, number, None, &mut self.accesses);
-        self.index.note(&self.slots, number, self.limits, &mut self.accesses);
-        true
-    }
-
-    /// Frees the range of a place, and returns `true`; or `false` where the place is not live, and then nothing changes.
-    pub fn free(&mut self, place: Place) -> bool
-        ensures done { IsTrue result ↔ IsLive place self.old }
-        ensures gone { range_of place self.new ≡ None }
-        ensures others { KeepsOthers place self.old self.new }
-        ensures same { result ≡ false → IsSame self.old self.new }
-        ensures step { result ≡ true → FreesIn place self.old self.new }
-        ensures steps { TakesFewSteps self.old self.new }
-    {
-        if place.realm != self.realm {
-            return false;
-        }
-        if !slots::free(&mut self.slots, place.heap, place.ticket, &mut self.accesses) {
-            return false;
-        }
-        self.index.note(&self.slots, place.heap, self.limits, &mut self.accesses);
-        true
     }
 }

@@ -1,0 +1,109 @@
+//! Heaps that are given back: empty ones, those of a number, and what all of them granted.
+ghost use Rattle.std.specs.Prelude.{ℕ, ◌≡◌, ◌↔◌, ◌+◌, ◌*◌, ◌^◌, ◌<◌, ◌≤◌, None, Some, IsSome, IsTrue, IfSome, false};
+ghost use Rattle.std.specs.Prelude.{true, if◌then◌else◌};
+
+use crate::HeapsOf;
+use crate::place::Place;
+use crate::slots;
+use offset_allocator::Tables;
+
+// The empty heaps that were seen, how many and the last, with one more heap.
+fn with_number(seen: (u32, u32), number: u32, empty: bool) -> (u32, u32)
+    requires { seen.0 + 1 < 2 ^ 32 }
+    ensures { result ≡ (if empty then record { 0 = seen.0 + 1; 1 = number } else seen) }
+{
+    if empty { (seen.0 + 1, number) } else { seen }
+}
+
+impl<T: Tables> HeapsOf<T> {
+    ghost use Rattle.offset_heaps.specs.Heaps.{heap_at, is_empty, numbers, range_of, empties};
+    ghost use Rattle.offset_heaps.specs.Heaps.{FreesIn, IsLive, IsSame, KeepsAll, KeepsOthers, KeepsOtherHeaps, Puts, TakesFewSteps};
+    ghost use Rattle.offset_heaps.specs.Slots.{HasEmpty, ResetsIn};
+
+    // The empty heaps: how many, and the last of them.
+    fn last_empty(&mut self) -> (u32, u32)
+        ensures empty { HasEmpty (numbers self.old) result.0 result.1 self.old.slots }
+        ensures same { IsSame self.old self.new }
+        ensures accesses { self.new.accesses ≡ self.old.accesses + numbers self.old }
+    {
+        let mut seen = (0, 0);
+        for number in 0..self.limits.most + self.limits.most_larger {
+            let empty = slots::is_empty_at(&self.slots, number, &mut self.accesses);
+            seen = with_number(seen, number, empty);
+        }
+        seen
+    }
+
+    /// Drops the last empty heap, by number, if more than `keep` heaps are empty, and returns its number: drop its buffer.
+    /// `None` is returned where at most `keep` are empty; then nothing changes. Call it until it returns `None`.
+    ///
+    /// No place loses its range, and a place that the heap granted is never live again. It reads each number once.
+    pub fn drop_empty(&mut self, keep: u32) -> Option<u32>
+        ensures kept { result ≡ None ↔ (empties self.old.slots ≤ keep) }
+        ensures same { result ≡ None → IsSame self.old self.new }
+        // It is empty, and no heap behind it is.
+        ensures empty { IfSome result (λ k. is_empty (heap_at k self.old) ≡ true) }
+        ensures last { IfSome result (λ k. (j : ℕ) → k < j → is_empty (heap_at j self.old) ≡ false) }
+        // All other heaps stay, and every place keeps its range.
+        ensures heaps { IfSome result (λ k. Puts k None self.old self.new) }
+        ensures places { KeepsAll self.old self.new }
+        ensures steps { (bits : ℕ) → numbers self.old ≤ 2 ^ bits
+            → self.new.accesses ≤ self.old.accesses + numbers self.old + 16 * bits + 32 }
+    {
+        let (count, last) = self.last_empty();
+        if count <= keep {
+            return None;
+        }
+        self.give_up(last);
+        Some(last)
+    }
+
+    /// Takes back the heap of a number, with all that it granted, and returns whether there was one.
+    pub fn give_up(&mut self, number: u32) -> bool
+        ensures done { IsTrue result ↔ IsSome (heap_at number self.old) }
+        ensures heaps { result ≡ true → Puts number None self.old self.new }
+        ensures same { result ≡ false → IsSame self.old self.new }
+        ensures gone { heap_at number self.new ≡ None }
+        ensures others { KeepsOtherHeaps number self.old self.new }
+        ensures steps { TakesFewSteps self.old self.new }
+    {
+        if !slots::has(&self.slots, number, &mut self.accesses) {
+            return false;
+        }
+        slots::put(&mut self.slots, number, None, &mut self.accesses);
+        self.index.note(&self.slots, number, self.limits, &mut self.accesses);
+        true
+    }
+
+    /// Frees the range of a place, and returns `true`; or `false` where the place is not live, and then nothing changes.
+    pub fn free(&mut self, place: Place) -> bool
+        ensures done { IsTrue result ↔ IsLive place self.old }
+        ensures gone { range_of place self.new ≡ None }
+        ensures others { KeepsOthers place self.old self.new }
+        ensures same { result ≡ false → IsSame self.old self.new }
+        ensures step { result ≡ true → FreesIn place self.old self.new }
+        ensures steps { TakesFewSteps self.old self.new }
+    {
+        if place.realm != self.realm {
+            return false;
+        }
+        if !slots::free(&mut self.slots, place.heap, place.ticket, &mut self.accesses) {
+            return false;
+        }
+        self.index.note(&self.slots, place.heap, self.limits, &mut self.accesses);
+        true
+    }
+
+    /// Makes the space of each heap one free block again. No earlier place is ever live again. All heaps stay, for
+    /// `drop_empty`.
+    pub fn reset(&mut self)
+        ensures gone { (p : Place) → range_of p self.new ≡ None }
+        ensures heaps { (k : ℕ) → ResetsIn (heap_at k self.old) (heap_at k self.new) }
+        ensures rest { self.new ≡ record self.old { slots = self.new.slots; accesses = self.new.accesses } }
+    {
+        for number in 0..self.limits.most + self.limits.most_larger {
+            slots::reset(&mut self.slots, number, &mut self.accesses);
+            self.index.note(&self.slots, number, self.limits, &mut self.accesses);
+        }
+    }
+}

@@ -1,0 +1,37 @@
+//! Laws: what holds of all heaps. Its functions do nothing.
+ghost use Rattle.std.specs.Prelude.{ℕ, ◌≡◌, ◌≤◌, Some, IfSome, length};
+ghost use Rattle.offset_allocator.specs.Ranges.{AreDisjoint, Range};
+ghost use Rattle.offset_allocator.specs.Requests.{IsReport};
+ghost use Rattle.offset_allocator.specs.declared.reports.StorageReport.{StorageReport};
+ghost use Rattle.offset_guarded.specs.Guard.{Guard, HasSerialLeft};
+ghost use Rattle.offset_heaps.specs.Heaps.{room, AreAlike, heap_at, numbers, range_of};
+ghost use Rattle.offset_heaps.specs.declared.place.Place.{Place};
+
+use crate::HeapsOf;
+use offset_allocator::Tables;
+use offset_allocator::laws::ranges_are_disjoint;
+
+/// Two live places in the heap of this number, of two grants, have no unit in common. So live places are apart: they are
+/// in two heaps, or share no unit of one.
+pub fn places_are_apart<T: Tables>(heaps: &HeapsOf<T>, number: u32)
+    ensures { (p q : Place) (r s : Range) → p.heap ≡ number → q.heap ≡ number → (AreAlike p q → ⊥)
+        → range_of p heaps.now ≡ Some r → range_of q heaps.now ≡ Some s → AreDisjoint r s }
+{
+    if let Some(heap) = heaps.heap(number) {
+        ranges_are_disjoint(heap.allocator());
+    }
+}
+
+/// While it has a serial left, a heap has room for one more block and exactly the units that its report has.
+pub fn room_is_reported()
+    ensures { (g : Guard) (r : StorageReport) → HasSerialLeft g → IsReport r g.space
+        → room 1 g ≡ r.largest_free_region }
+{}
+
+/// There is a slot for each number, and no heap has a realm that a later one will have: theirs are above `made`.
+pub fn realms_are_given<T: Tables>(heaps: &HeapsOf<T>)
+    ensures numbers { length heaps.now.slots ≡ numbers heaps.now }
+    ensures realms { (k : ℕ) → IfSome (heap_at k heaps.now) (λ g. g.realm ≤ heaps.now.made) }
+{
+    let _ = &heaps.made;
+}
