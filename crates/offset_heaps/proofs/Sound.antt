@@ -5,7 +5,9 @@ use Rattle.std.proofs.lemmas.List.{get_or-replicate, get_or_past, length-replica
 use Rattle.offset_guarded.specs.Guard.{Guard}
 use Rattle.offset_heaps.specs.declared.limits.Limits.{Limits}
 use Rattle.offset_heaps.specs.declared.index.Index.{Index}
-use Rattle.offset_heaps.specs.Heaps.{slot, room_of}
+use Rattle.offset_guarded.specs.declared.ticket.Ticket.{Ticket}
+use Rattle.offset_heaps.specs.Heaps.{range_in, slot, room_of}
+use Rattle.offset_heaps.specs.Slots.{Changes, ResetsIn}
 use Rattle.offset_heaps.specs.Soundness.{IsNoted, IsSound, IsWide, spare_of}
 use Rattle.offset_heaps.specs.Maxima.{cell}
 use Rattle.offset_heaps.proofs.Numbers.{slot_other, slot_same}
@@ -18,7 +20,7 @@ wide_put slots index k o w =
     let spare = w.spare in
     record { one = omega arith; two = omega arith; spare = omega arith; level_two = w.level_two; level_spare = w.level_spare }
 
-noted_other : (limits : Limits) (slots : List (Option Guard)) (index : Index) (k j : ℕ) (o : Option Guard) → j ≢ k → IsNoted limits slots index j
+pub noted_other : (limits : Limits) (slots : List (Option Guard)) (index : Index) (k j : ℕ) (o : Option Guard) → j ≢ k → IsNoted limits slots index j
     → IsNoted limits (slice_set slots k o) index j
 noted_other limits slots index k j o n is =
     let e = sym (slot_other slots k j o n) in
@@ -117,3 +119,32 @@ started limits n p slots index none count room one two spare =
 pub realm_new : (made : ℕ) (o : Option Guard) → IfSome o (λ g. g.realm ≡ made) → IfSome o (λ g. g.realm ≤ made)
 realm_new made None h = tt
 realm_new made (Some g) h = omega (arith, h)
+
+-- one more heap is reset
+pub resets_more : (first slots now : List (Option Guard)) (n : ℕ) → n < length slots → Changes n ResetsIn slots now → ((k : ℕ) → k < n → ResetsIn (slot k first) (slot k slots))
+    → ((k : ℕ) → n ≤ k → slot k slots ≡ slot k first)
+    → ((k : ℕ) → k < n + 1 → ResetsIn (slot k first) (slot k now)) × ((k : ℕ) → n + 1 ≤ k → slot k now ≡ slot k first)
+resets_more first slots now n l change done left = (
+  λ k below. elim (cases_eq k n) [
+    | inl e ↦ rw (e, change.slots, slot_same slots n change.now l) (subst (λ o. ResetsIn o change.now) (left n (omega arith)) change.by)
+    | inr d ↦ rw (change.slots, slot_other slots n k change.now d) (done k (omega arith))
+  ],
+  λ k past. rw change.slots (slot_other slots n k change.now (λ e. omega arith) ∙ left k (omega arith)),
+)
+
+pub noted_reset : (limits : Limits) (slots now : List (Option Guard)) (n : ℕ) (old new : Index) → Changes n ResetsIn slots now → ((k : ℕ) → IsNoted limits slots old k)
+    → IsNoted limits now new n → ((k : ℕ) → (k ≡ n → ⊥) → IsNoted limits now old k → IsNoted limits now new k) → (k : ℕ) → IsNoted limits now new k
+noted_reset limits slots now n old new change noted here others k = elim (cases_eq k n) [
+  | inl e ↦ rw e here
+  | inr d ↦ others k d (rw change.slots (noted_other limits slots old n k change.now d (noted k)))
+]
+
+-- what is reset has its realm
+pub realm_reset : (made : ℕ) (old new : Option Guard) → ResetsIn old new → IfSome old (λ g. g.realm ≤ made) → IfSome new (λ g. g.realm ≤ made)
+realm_reset made None new e h = rw e tt
+realm_reset made (Some before) new r h = rw r.1 (let same : r.0.realm ≡ before.realm = ap (λ (g : Guard). g.realm) r.3 in omega (arith, same, h))
+
+-- no ticket of it is live
+pub range_reset : (t : Ticket) (old new : Option Guard) → ResetsIn old new → range_in t new ≡ None
+range_reset t None new e = ap (range_in t) e
+range_reset t (Some before) new r = ap (range_in t) r.1 ∙ r.4 t

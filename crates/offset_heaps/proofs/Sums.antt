@@ -1,10 +1,11 @@
 -- Sums over heaps, number by number.
-use Rattle.std.proofs.Common.{◌≡◌, ℕ, zero, suc, ◌+◌, ◌<◌, ◌≤◌, max, true, false, length, List, [], ◌∷◌, Option, Some, None, take, if◌then◌else◌, nat_eq, refl, sym, ap, ◌∙◌, subst, inl, inr, arith, add-one}
+use Rattle.std.proofs.Common.{◌≡◌, ℕ, zero, suc, ◌+◌, ◌<◌, ◌≤◌, max, true, false, length, List, [], ◌∷◌, Option, Some, None, take, if◌then◌else◌, nat_eq, refl, sym, ap, ap₂, ◌∙◌, subst, inl, inr, arith, add-one}
 use Rattle.std.proofs.lemmas.Bool.{cases_eq, cases_lt, cases_Bool}
 use Rattle.std.proofs.lemmas.List.{length-take-le}
 use Rattle.offset_allocator.specs.View.{used_of}
 use Rattle.offset_guarded.specs.Guard.{Guard}
-use Rattle.offset_heaps.specs.Heaps.{empties, is_empty, largest_room, part, room_of, slot, total}
+use Rattle.offset_heaps.specs.declared.totals.Totals.{Totals}
+use Rattle.offset_heaps.specs.Heaps.{AreTotals, empties, free_of, is_empty, largest_room, live_of, part, room_of, size_of, slot, total}
 use Rattle.offset_heaps.specs.Slots.{HasEmpty}
 use Rattle.offset_heaps.proofs.Numbers.{slot_past}
 
@@ -72,3 +73,18 @@ last_of_all n found at slots all h some j after = elim (cases_lt j n) [
   | inl before ↦ (h.last some).2 j after before
   | inr past ↦ ap is_empty (slot_past slots j (omega arith))
 ]
+
+pub found_all : (n found at : ℕ) (slots : List (Option Guard)) → n ≡ length slots → HasEmpty n found at slots → found ≡ empties slots
+found_all n found at slots all h = h.count ∙ ap empties (take_all slots n all)
+
+-- the numbers of one more heap
+pub totals_more : (slots : List (Option Guard)) (n : ℕ) (t u : Totals) (o : Option Guard) → o ≡ slot n slots → n < length slots → AreTotals t (take n slots)
+    → u.heaps ≡ t.heaps + part (λ g. 1) o → u.units ≡ t.units + part size_of o → u.live_units ≡ t.live_units + part live_of o → u.free_units ≡ t.free_units + part free_of o
+    → u.largest_free_region ≡ max t.largest_free_region (room_of 1 o) → AreTotals u (take (n + 1) slots)
+totals_more slots n t u o e l was heaps units live free largest = record {
+  heaps = heaps ∙ ap₂ (λ a b. a + b) was.heaps (ap (part (λ g. 1)) e) ∙ sym (total_more (λ g. 1) slots n l);
+  units = units ∙ ap₂ (λ a b. a + b) was.units (ap (part size_of) e) ∙ sym (total_more size_of slots n l);
+  live_units = live ∙ ap₂ (λ a b. a + b) was.live_units (ap (part live_of) e) ∙ sym (total_more live_of slots n l);
+  free_units = free ∙ ap₂ (λ a b. a + b) was.free_units (ap (part free_of) e) ∙ sym (total_more free_of slots n l);
+  largest = largest ∙ ap₂ max was.largest (ap (room_of 1) e) ∙ sym (largest_more slots n l);
+}

@@ -50,7 +50,8 @@ pub record FreesIn (t : Ticket) (old new : Option Guard) : Type 0 where
 -- the space is one free block again
 abbrev pub ResetsIn : Option Guard → Option Guard → Type 0
 ResetsIn None new = new ≡ None
-ResetsIn (Some before) new = (after : Guard) × (new ≡ Some after) × Resets before.space after.space × (after ≡ record before { space = after.space })
+ResetsIn (Some before) new = (after : Guard) × (new ≡ Some after) × Resets before.space after.space
+    × (after ≡ record before { space = after.space }) × ((t : Ticket) → guarded.range_of t after ≡ None)
 
 -- the heap of one number is changed
 pub record Changes (k : ℕ) (P : Option Guard → Option Guard → Type 0) (old new : List (Option Guard)) : Type 0 where

@@ -1,38 +1,43 @@
 //! Heaps that are given back: empty ones, those of a number, and what all of them granted.
 ghost use Rattle.std.specs.Prelude.{ℕ, ◌≡◌, ◌↔◌, ◌+◌, ◌*◌, ◌^◌, ◌<◌, ◌≤◌, None, Some, IsSome, IsTrue, IfSome, false};
-ghost use Rattle.std.specs.Prelude.{true, if◌then◌else◌};
+ghost use Rattle.std.specs.Prelude.{length, true};
+ghost use Rattle.offset_heaps.specs.Heaps.{slot};
+ghost use Rattle.offset_heaps.specs.Slots.{ResetsIn};
+ghost use Rattle.offset_heaps.specs.Soundness.{IsNoted, IsWide};
 
 use crate::HeapsOf;
+use crate::index::Index;
+use crate::limits::Limits;
 use crate::place::Place;
-use crate::slots;
-use offset_allocator::Tables;
+use crate::slots::{self, Slots};
+use offset_allocator::{Accesses, Tables};
 
-// The empty heaps that were seen, how many and the last, with one more heap.
-fn with_number(seen: (u32, u32), number: u32, empty: bool) -> (u32, u32)
-    requires { seen.0 + 1 < 2 ^ 32 }
-    ensures { result ≡ (if empty then record { 0 = seen.0 + 1; 1 = number } else seen) }
+// Makes the space of each heap one free block again.
+fn reset_all<T: Tables>(
+    slots: &mut Slots<T>,
+    index: &mut Index,
+    limits: Limits,
+    count: &mut Accesses,
+)
+    requires numbers { length slots.old.items ≡ limits.most + limits.most_larger }
+    requires few { length slots.old.items < 2 ^ 32 }
+    requires wide { IsWide slots.old.items index.old }
+    requires noted { (k : ℕ) → IsNoted limits slots.old.items index.old k }
+    ensures done { (k : ℕ) → ResetsIn (slot k slots.old.items) (slot k slots.new.items) }
+    ensures len { length slots.new.items ≡ length slots.old.items }
+    ensures wide { IsWide slots.new.items index.new }
+    ensures noted { (k : ℕ) → IsNoted limits slots.new.items index.new k }
+    ensures levels { index.new.one.height ≡ index.old.one.height }
 {
-    if empty { (seen.0 + 1, number) } else { seen }
+    for number in 0..limits.most + limits.most_larger {
+        slots::reset(slots, number, count);
+        index.note(slots, number, limits, count);
+    }
 }
 
 impl<T: Tables> HeapsOf<T> {
     ghost use Rattle.offset_heaps.specs.Heaps.{heap_at, is_empty, numbers, range_of, empties};
     ghost use Rattle.offset_heaps.specs.Heaps.{FreesIn, IsLive, IsSame, KeepsAll, KeepsOthers, KeepsOtherHeaps, Puts, TakesFewSteps};
-    ghost use Rattle.offset_heaps.specs.Slots.{HasEmpty, ResetsIn};
-
-    // The empty heaps: how many, and the last of them.
-    fn last_empty(&mut self) -> (u32, u32)
-        ensures empty { HasEmpty (numbers self.old) result.0 result.1 self.old.slots }
-        ensures same { IsSame self.old self.new }
-        ensures accesses { self.new.accesses ≡ self.old.accesses + numbers self.old }
-    {
-        let mut seen = (0, 0);
-        for number in 0..self.limits.most + self.limits.most_larger {
-            let empty = slots::is_empty_at(&self.slots, number, &mut self.accesses);
-            seen = with_number(seen, number, empty);
-        }
-        seen
-    }
 
     /// Drops the last empty heap, by number, if more than `keep` heaps are empty, and returns its number: drop its buffer.
     /// `None` is returned where at most `keep` are empty; then nothing changes. Call it until it returns `None`.
@@ -50,7 +55,8 @@ impl<T: Tables> HeapsOf<T> {
         ensures steps { (bits : ℕ) → numbers self.old ≤ 2 ^ bits
             → self.new.accesses ≤ self.old.accesses + numbers self.old + 16 * bits + 32 }
     {
-        let (count, last) = self.last_empty();
+        let numbers = self.limits.most + self.limits.most_larger;
+        let (count, last) = slots::last_empty(&self.slots, numbers, &mut self.accesses);
         if count <= keep {
             return None;
         }
@@ -101,9 +107,11 @@ impl<T: Tables> HeapsOf<T> {
         ensures heaps { (k : ℕ) → ResetsIn (heap_at k self.old) (heap_at k self.new) }
         ensures rest { self.new ≡ record self.old { slots = self.new.slots; accesses = self.new.accesses } }
     {
-        for number in 0..self.limits.most + self.limits.most_larger {
-            slots::reset(&mut self.slots, number, &mut self.accesses);
-            self.index.note(&self.slots, number, self.limits, &mut self.accesses);
-        }
+        reset_all(
+            &mut self.slots,
+            &mut self.index,
+            self.limits,
+            &mut self.accesses,
+        );
     }
 }

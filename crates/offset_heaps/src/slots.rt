@@ -1,12 +1,12 @@
 //! The heaps by their numbers: no other module reads or writes them. Each function counts the slots that it touches.
-ghost use Rattle.std.specs.Prelude.{◌≡◌, ◌↔◌, ◌+◌, ◌<◌, ◌≤◌, IsTrue, IsSome, None, Some, false, length};
-ghost use Rattle.std.specs.Prelude.{IfOk, is_some, option_copied, replicate, slice_set, true};
+ghost use Rattle.std.specs.Prelude.{◌≡◌, ◌↔◌, ◌+◌, ◌^◌, ◌<◌, ◌≤◌, IsTrue, IsSome, None, Some, false, length};
+ghost use Rattle.std.specs.Prelude.{IfOk, is_some, option_copied, replicate, slice_set, true, if◌then◌else◌};
 ghost use Rattle.offset_allocator.specs.Relations.{IsAlignment};
 ghost use Rattle.offset_allocator.specs.Requests.{blocks_needed, units_needed};
 ghost use Rattle.offset_allocator.specs.Tight.{CanHold};
 ghost use Rattle.offset_guarded.specs.Guard.{Guard, HasSerialLeft};
 ghost use Rattle.offset_heaps.specs.Heaps.{is_empty, range_in, room_of, slot};
-ghost use Rattle.offset_heaps.specs.Slots.{CanHoldIn, Changes, FreesIn, KeepsOthersIn, ResetsIn, Serves, ServesTight};
+ghost use Rattle.offset_heaps.specs.Slots.{CanHoldIn, Changes, FreesIn, HasEmpty, KeepsOthersIn, ResetsIn, Serves, ServesTight};
 
 
 use offset_allocator::laws::is_well_formed;
@@ -191,4 +191,34 @@ pub(crate) fn is_empty_at<T: Tables>(slots: &Slots<T>, number: u32, count: &mut 
         None => false,
         Some(heap) => heap.allocator().is_empty(),
     }
+}
+
+// The empty heaps that were seen, how many and the last, with one more heap.
+fn with_number(seen: (u32, u32), number: u32, empty: bool) -> (u32, u32)
+    requires { seen.0 + 1 < 2 ^ 32 }
+    ensures { result ≡ (if empty then record { 0 = seen.0 + 1; 1 = number } else seen) }
+{
+    if empty {
+        (seen.0 + 1, number)
+    } else {
+        seen
+    }
+}
+
+/// The empty heaps of the first `numbers` numbers: how many, and the last of them.
+pub(crate) fn last_empty<T: Tables>(
+    slots: &Slots<T>,
+    numbers: u32,
+    count: &mut Accesses,
+) -> (u32, u32)
+    requires { numbers ≤ length slots.now.items }
+    ensures empty { HasEmpty numbers result.0 result.1 slots.now.items }
+    ensures accesses { count.new ≡ count.old + numbers }
+{
+    let mut seen = (0, 0);
+    for number in 0..numbers {
+        let empty = is_empty_at(slots, number, count);
+        seen = with_number(seen, number, empty);
+    }
+    seen
 }

@@ -1,0 +1,22 @@
+use Rattle.std.proofs.Common.{ℕ, ◌≤◌, ◌^◌, ◌∙◌, subst, sym}
+use Rattle.offset_heaps.specs.Heaps.{slot}
+use Rattle.offset_heaps.proofs.Sound.{realm_reset}
+use Rattle.offset_heaps.proofs.HeapsOf.reset.Goals as goal
+
+pub invariant_of-self : goal.invariant_of-self
+invariant_of-self g c =
+    let all = c.reset_all.ensures in
+    let is = c.self.invariant in
+    record {
+      wide = all.wide;
+      noted = all.noted;
+      numbers = all.len ∙ is.numbers;
+      few = rw all.len is.few;
+      low = λ bits enough. rw all.levels (is.low bits (subst (λ n. n ≤ 2 ^ bits) all.len enough));
+      limit_min = is.limit_min;
+      limit_max = is.limit_max;
+      realms = λ k. realm_reset c.self.inside.made (slot k c.self.inside.slots.items) (slot k c.reset_all.new.slots.items) (all.done k) (is.realms k);
+    }
+
+pub returns-clause-heaps : goal.returns-clause-heaps
+returns-clause-heaps g c k = rw (← c.self.view_is) (c.reset_all.ensures.done k)
