@@ -8,6 +8,7 @@ An entry that is not used by the sources stops `erase`, so that none outlives it
 CRATES = [
     ("offset_allocator", "offset-allocator-proved", {"accesses", "memory", "nonmax", "traits"}),
     ("offset_guarded", "offset-allocator-guarded", {"memory", "traits"}),
+    ("offset_heaps", "offset-allocator-heaps", {"memory", "traits"}),
     ("offset_script", "offset-script", {"memory"}),
 ]
 
@@ -40,6 +41,20 @@ mod traits;
 
 pub use memory::{AllocError, Global};
 """,
+    "offset_heaps": """#![doc = include_str!("../README.md")]
+#![no_std]
+#![forbid(unsafe_code)]
+#![warn(missing_docs)]
+#![expect(LINTS)]
+
+extern crate alloc;
+
+mod memory;
+mod traits;
+
+pub use memory::{AllocError, Global};
+pub use offset_guarded::Ticket;
+""",
     "offset_script": """#![doc = include_str!("../README.md")]
 #![forbid(unsafe_code)]
 #![expect(LINTS)]
@@ -61,6 +76,10 @@ LINTS = {
     },
     "offset_guarded": {
         "clippy::manual_map": "a `match` needs no closure, whose calls would need a proof",
+    },
+    "offset_heaps": {
+        "clippy::manual_map": "a `match` needs no closure, whose calls would need a proof",
+        "unused_variables": "a parameter may be there for a contract only",
     },
     "offset_script": {},
 }
@@ -117,6 +136,9 @@ REQUIRES = [
     ("2 ≤ max_allocs", "2 <= max_allocs", "max_allocs must be at least 2"),
     ("max_allocs + 1 < NI.MAX", "max_allocs < NI::MAX - 1", "max_allocs must be at most NI::MAX - 2"),
     ("max_allocs + 1 < T.Index.MAX", "max_allocs < T::Index::MAX - 1", "max_allocs must be at most NI::MAX - 2"),
+    ("4 ≤ limits.max_allocs", "4 <= limits.max_allocs", "max_allocs must be at least 4"),
+    ("limits.max_allocs + 1 < T.Index.MAX", "limits.max_allocs < <T::Index as offset_allocator::NodeIndex>::MAX - 1", "max_allocs must be at most NI::MAX - 2"),
+    ("limits.most + limits.most_larger < 2 ^ 32", "limits.most.checked_add(limits.most_larger).is_some()", "there may be at most 4294967295 heaps"),
     ("IsLive allocation.name self.old", "self.is_live(allocation)", "the handle must be live: {:?}", "{ allocation }"),
     ("IsAlignment align", "align.is_power_of_two()", "align must be a power of two"),
     ("needed_object_size ≤ 4026531840", "needed_object_size <= 4026531840", "needed_object_size must be at most 4026531840"),
@@ -162,8 +184,12 @@ EXAMPLES = {
         ["use offset_allocator_guarded::*;", "let alloc = Global;"],
         ["# Ok::<(), AllocError>(())"],
     ),
+    "offset_heaps": (
+        ["use offset_allocator_heaps::*;", "let alloc = Global;"],
+        ["# Ok::<(), AllocError>(())"],
+    ),
 }
 
 # Attributes and macros that are printed as they are. Any other stops `erase`.
 ATTRIBUTES = {"cold", "inline", "track_caller"}
-MACROS = {"write"}
+MACROS = {"unreachable", "write"}

@@ -1,13 +1,13 @@
 -- What the index finds.
-use Rattle.std.proofs.Common.{◌≡◌, ◌≢◌, ℕ, ◌+◌, ◌^◌, ◌<◌, ◌≤◌, min, Option, Some, None, List, MatchOption, IfSome, length, refl, sym, ap, ◌∙◌, subst, inl, inr, arith}
+use Rattle.std.proofs.Common.{◌≡◌, ℕ, ◌+◌, ◌^◌, ◌<◌, ◌≤◌, min, Option, Some, None, List, MatchOption, IfSome, length, refl, sym, ap, ◌∙◌, subst, inl, inr, arith}
 use Rattle.std.proofs.lemmas.Bool.{cases_eq, cases_lt, lt-ltb, le-ltb}
 use Rattle.offset_guarded.specs.Guard.{Guard}
 use Rattle.offset_heaps.specs.declared.index.Index.{Index}
 use Rattle.offset_heaps.specs.declared.limits.Limits.{Limits}
-use Rattle.offset_heaps.specs.Heaps.{Heaps, IsFirstFit, IsSpareLarger, IsSpareUsual, NoneFits, heap_at, numbers, room_of, slot}
+use Rattle.offset_heaps.specs.Heaps.{Heaps, IsFirstFit, IsSpareLarger, IsSpareUsual, NoneFits, numbers, room_of, slot}
 use Rattle.offset_heaps.specs.Maxima.{IsFirst, cell}
 use Rattle.offset_heaps.specs.Slots.{IsBelow}
-use Rattle.offset_heaps.specs.Soundness.{IsNoted, IsSound, spare_of}
+use Rattle.offset_heaps.specs.Soundness.{IsSound, spare_of}
 use Rattle.offset_heaps.proofs.Numbers.{room_there}
 use Rattle.offset_heaps.proofs.Places.{shown}
 

@@ -1,20 +1,18 @@
 -- Grants: of a heap that was there, and of a new one.
 use Rattle.std.proofs.Common.{◌≡◌, ◌↔◌, ℕ, ◌+◌, ◌<◌, ◌≤◌, ◌⊎◌, true, false, Result, Ok, Err, IfOk, IfErr, length, List, Option, Some, None, slice_set, nat_eq, refl, sym, ap, ◌∙◌, subst, inl, inr, arith}
-use Rattle.offset_allocator.specs.Ranges.{Range}
 use Rattle.std.proofs.lemmas.Bool.{cases_Bool, cases_eq}
 use Rattle.offset_allocator.specs.Requests.{blocks_needed, units_needed}
 use Rattle.offset_guarded.specs.Guard.{Guard}
 use Rattle.offset_guarded.specs.Guard as guarded
 use Rattle.offset_guarded.specs.declared.ticket.Ticket.{Ticket}
 use Rattle.offset_heaps.specs.declared.limits.Limits.{Limits}
-use Rattle.offset_heaps.specs.declared.place.Place.{Place}
 use Rattle.offset_heaps.specs.declared.place.Granted.{Granted}
 use Rattle.offset_heaps.specs.declared.refusal.Refusal.{Refusal}
 use Rattle.offset_heaps.specs.declared.refusal.Refusal.TheVariants.{Empty, TooLarge, Full, Memory}
 use Rattle.offset_heaps.specs.Heaps.{Heaps, Adds, Grants, IsBefore, IsFirstFit, IsForRoom, IsNext, IsWhy, NoneFits, IsNew, IsSame, IsSpareLarger, IsSpareUsual, IsUsual, KeepsOthers, heap_at, larger_limit, range_in, range_of, slot}
 use Rattle.offset_heaps.specs.Slots.{Changes, KeepsOthersIn, Serves, ServesTight}
 use Rattle.offset_heaps.proofs.Numbers.{slot_same}
-use Rattle.offset_heaps.proofs.Places.{none_if, put_here, put_keeps, same_realm, shown}
+use Rattle.offset_heaps.proofs.Places.{none_if, put_keeps, same_realm, shown}
 use Rattle.offset_heaps.proofs.Rooms.{fresh_none, some_same}
 
 -- a grant at a number
@@ -121,7 +119,7 @@ pub no_room : (size align : ℕ) (hs : Heaps) (r : Result Granted Refusal) → (
 no_room size align hs r empty why found made = (refused r empty why, kept r why found made)
   where
     some : (r : Result Granted Refusal) → (r ≡ Err Empty → ⊥) → (size ≡ 0 → r ≡ Err Empty) → 1 ≤ size
-    some r other empty = elim (cases_eq size 0) [ | inl e ↦ absurd (other (empty e)) | inr n ↦ omega arith ]
+    some r other empty = elim (cases_eq size 0) [ inl e ↦ absurd (other (empty e)) | inr n ↦ omega arith ]
 
     refused : (r : Result Granted Refusal) → (size ≡ 0 → r ≡ Err Empty) → IfErr r (IsWhy size align hs) → IsForRoom r
         → (1 ≤ size) × NoneFits (blocks_needed align) (units_needed size align) hs × ((k : ℕ) → IsNext (units_needed size align) k hs → ⊥)

@@ -56,8 +56,8 @@ module _ (hs ks : Heaps) (k : ℕ) (o : Option Guard) (put_slots : ks.slots ≡ 
     | inr n ↦ put_others q n
     | inl here ↦ elim (cases_eq q.realm hs.realm) [
       | inl same ↦
-        put_here l q here
-        ∙ ap (range_if (nat_eq q.realm hs.realm)) (keeps q.ticket (λ alike. apart (here ∙ sym e, same ∙ sym r, alike))
+          put_here l q here
+          ∙ ap (range_if (nat_eq q.realm hs.realm)) (keeps q.ticket (λ alike. apart (here ∙ sym e, same ∙ sym r, alike))
           ∙ sym (ap (λ j. range_in q.ticket (slot j hs.slots)) here))
       | inr other ↦ ap (λ b. range_if b (range_in q.ticket (heap_at q.heap ks))) (ne_eqb q.realm ks.realm (λ e. other (e ∙ put_realm))) ∙ sym (other_realm q hs other)
     ]
@@ -135,8 +135,8 @@ pub dropped_keeps : (hs ks : Heaps) (k : ℕ) → is_empty (heap_at k hs) ≡ tr
 dropped_keeps hs ks k empty gone realm others p = elim (cases_eq p.heap k) [
   | inr n ↦ others p n
   | inl e ↦
-    none_if (nat_eq p.realm ks.realm) (range_in p.ticket (heap_at p.heap ks)) (rw (e, gone) refl)
-    ∙ sym (none_if (nat_eq p.realm hs.realm) (range_in p.ticket (heap_at p.heap hs)) (rw e (empty_range p.ticket (heap_at k hs) empty)))
+      none_if (nat_eq p.realm ks.realm) (range_in p.ticket (heap_at p.heap ks)) (rw (e, gone) refl)
+      ∙ sym (none_if (nat_eq p.realm hs.realm) (range_in p.ticket (heap_at p.heap hs)) (rw e (empty_range p.ticket (heap_at k hs) empty)))
 ]
 
 -- live places of one heap are apart

@@ -1,10 +1,10 @@
 -- What a heap has room for.
-use Rattle.std.proofs.Common.{◌≡◌, ℕ, ◌+◌, ◌^◌, ◌<◌, ◌≤◌, Bool, true, false, ◌&&◌, List, [], ◌∷◌, Option, Some, None, length, if◌then◌else◌, refl, sym, ap, ap₂, ◌∙◌, subst, inl, inr, arith, eq-eqb, ne_eqb}
+use Rattle.std.proofs.Common.{◌≡◌, ℕ, ◌+◌, ◌<◌, ◌≤◌, Bool, true, false, ◌&&◌, [], ◌∷◌, Option, Some, None, length, if◌then◌else◌, refl, ap, ◌∙◌, inl, inr, arith, eq-eqb, ne_eqb}
 use Rattle.std.proofs.lemmas.Bool.{cases_eq, cases_lt, lt-ltb, le-ltb}
 use Rattle.offset_allocator.specs.Reports.{largest}
 use Rattle.offset_allocator.specs.Requests.{CanGrant, HasRoomFor, IsReport}
 use Rattle.offset_allocator.specs.Relations.{IsFresh}
-use Rattle.offset_allocator.specs.View.{View, IsWellFormed, free_block, free_sizes, largest_free}
+use Rattle.offset_allocator.specs.View.{View, IsWellFormed, free_block, free_sizes}
 use Rattle.offset_allocator.specs.declared.reports.StorageReport.{StorageReport}
 use Rattle.offset_allocator.proofs.ViewFits.{fits_exactly, largest_small}
 use Rattle.offset_allocator.specs.Ranges.{Range}
@@ -58,3 +58,11 @@ fresh_none size max number g t new = none_if (guarded.fits t g) (named.range_of 
 -- a fresh heap of the usual size
 pub some_same : (g h : Guard) → Some g ≡ Some h → g ≡ h
 some_same g h e = cc
+
+-- without room for the blocks there is none
+pub full_room : (blocks left : ℕ) (g : Guard) → left + length g.space.blocks ≡ g.space.max_allocs → left ≤ blocks → 0 ≡ room blocks g
+full_room blocks left g all full = grind (arith, le-ltb, and_none)
+  where
+    and_none : (b : Bool) → (b && false) ≡ false
+    and_none true = refl
+    and_none false = refl

@@ -1,5 +1,5 @@
 -- The index stays right when the heap of one number changes.
-use Rattle.std.proofs.Common.{◌≡◌, ◌≢◌, ℕ, ◌+◌, ◌^◌, ◌<◌, ◌≤◌, ◌⊎◌, length, List, Option, Some, None, IfSome, replicate, slice_set, refl, sym, ap, ◌∙◌, subst, inl, inr, arith}
+use Rattle.std.proofs.Common.{◌≡◌, ◌≢◌, ℕ, ◌+◌, ◌^◌, ◌<◌, ◌≤◌, ◌⊎◌, length, List, Option, Some, None, IfSome, replicate, slice_set, sym, ap, ◌∙◌, subst, inl, inr, arith}
 use Rattle.std.proofs.lemmas.Bool.{cases_eq, cases_lt, le-ltb}
 use Rattle.std.proofs.lemmas.List.{get_or-replicate, get_or_past, length-replicate, length-set}
 use Rattle.offset_guarded.specs.Guard.{Guard}
@@ -109,8 +109,7 @@ started limits n p slots index none count room one two spare =
     let few : length slots ≡ n = ap length none ∙ length-replicate {A = Option Guard} n None in
     let wide : length index.one.keys ≡ p = ap length one ∙ length-replicate {A = ℕ} p 0 in
     let wide_two : length index.two.keys ≡ length index.one.keys = ap length two.0 in
-    let wide_spare : length index.spare.keys ≡ length index.one.keys = ap length spare.0 in
-    (
+    let wide_spare : length index.spare.keys ≡ length index.one.keys = ap length spare.0 in (
       record { one = omega arith; two = omega arith; spare = omega arith; level_two = two.1; level_spare = spare.1 },
       λ k past. rw none (noted_past limits n p k index one two.0 spare.0 (omega arith)),
     )

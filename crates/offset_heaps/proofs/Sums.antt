@@ -1,7 +1,6 @@
 -- Sums over heaps, number by number.
-use Rattle.std.proofs.Common.{◌≡◌, ℕ, zero, suc, ◌+◌, ◌<◌, ◌≤◌, max, true, false, length, List, [], ◌∷◌, Option, Some, None, take, if◌then◌else◌, nat_eq, refl, sym, ap, ap₂, ◌∙◌, subst, inl, inr, arith, add-one}
-use Rattle.std.proofs.lemmas.Bool.{cases_eq, cases_lt, cases_Bool}
-use Rattle.std.proofs.lemmas.List.{length-take-le}
+use Rattle.std.proofs.Common.{◌≡◌, ℕ, zero, suc, ◌+◌, ◌<◌, ◌≤◌, max, true, false, length, List, [], ◌∷◌, Option, Some, None, take, if◌then◌else◌, nat_eq, refl, sym, ap, ap₂, ◌∙◌, inl, inr, arith, add-one}
+use Rattle.std.proofs.lemmas.Bool.{cases_eq, cases_lt}
 use Rattle.offset_allocator.specs.View.{used_of}
 use Rattle.offset_guarded.specs.Guard.{Guard}
 use Rattle.offset_heaps.specs.declared.totals.Totals.{Totals}
@@ -61,10 +60,14 @@ one_more_other n found at slots l h e =
     record {
       count = omega arith;
       few = omega arith;
-      last = λ some. let was = h.last some in (let low = was.0 in omega arith, was.1, λ j after before. elim (cases_eq j n) [
-        | inl here ↦ rw here e
-        | inr d ↦ was.2 j after (omega arith)
-      ]);
+      last = λ some. let was = h.last some in (
+        let low = was.0 in omega arith,
+        was.1,
+        λ j after before. elim (cases_eq j n) [
+          | inl here ↦ rw here e
+          | inr d ↦ was.2 j after (omega arith)
+        ],
+      );
     }
 
 -- behind the last number no heap is empty

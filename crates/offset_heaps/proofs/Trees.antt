@@ -1,5 +1,5 @@
 -- Trees of maxima: a search from the top, and a change from below.
-use Rattle.std.proofs.Common.{◌≡◌, ◌≢◌, ℕ, zero, suc, ◌+◌, ◌-◌, ◌*◌, ◌^◌, ◌/◌, ◌%◌, ◌<◌, ◌≤◌, ◌⊎◌, max, length, List, [], ◌∷◌, drop, slice_set, refl, sym, ap, ◌∙◌, subst, inl, inr, arith}
+use Rattle.std.proofs.Common.{◌≡◌, ◌≢◌, ℕ, zero, suc, ◌+◌, ◌-◌, ◌*◌, ◌^◌, ◌/◌, ◌<◌, ◌≤◌, max, length, List, [], ◌∷◌, drop, slice_set, refl, ap, ◌∙◌, subst, inl, inr, arith}
 use Rattle.std.proofs.lemmas.Bool.{cases_eq, cases_lt}
 use Rattle.std.proofs.lemmas.List.{get_or-set_same, get_or-set_other, get_or-drop, get_or_past, length-drop, length-set}
 use Rattle.std.proofs.lemmas.Grind.{pow_more}
@@ -18,13 +18,13 @@ below_top height zero k cells t f some small = absurd (omega arith)
 below_top height (suc fuel) k cells t f some small = elim (cases_eq k 1) [
   | inl e ↦ rw e (omega arith)
   | inr n ↦
-    let p = k / 2 in
-    let up : cell p cells ≤ cell 1 cells = below_top height fuel (k / 2) cells t (omega arith) (omega arith) (omega arith) in
-    let top : cell p cells ≡ max (cell (2 * p) cells) (cell (2 * p + 1) cells) = t.over p (omega arith) (omega arith) in
-    elim (cases_eq k (2 * p)) [
-      | inl e ↦ rw e (omega arith)
-      | inr m ↦ let e : k ≡ 2 * p + 1 = omega arith in rw e (omega arith)
-    ]
+      let p = k / 2 in
+      let up : cell p cells ≤ cell 1 cells = below_top height fuel (k / 2) cells t (omega arith) (omega arith) (omega arith) in
+      let top : cell p cells ≡ max (cell (2 * p) cells) (cell (2 * p + 1) cells) = t.over p (omega arith) (omega arith) in
+      elim (cases_eq k (2 * p)) [
+        | inl e ↦ rw e (omega arith)
+        | inr m ↦ let e : k ≡ 2 * p + 1 = omega arith in rw e (omega arith)
+      ]
 ]
 
 pub started : (height q key : ℕ) (cells : List ℕ) → IsTree height cells → 2 ^ height ≤ q → IsTreeBut q height (slice_set cells q key)
@@ -32,7 +32,7 @@ started height q key cells t above = record {
   wide = length-set cells q key ∙ t.wide;
   low = t.low;
   over = λ k some small l r.
-    rw (cell_other cells q k key (λ e. omega arith), cell_other cells q (2 * k) key l, cell_other cells q (2 * k + 1) key r) (t.over k some small);
+      rw (cell_other cells q k key (λ e. omega arith), cell_other cells q (2 * k) key l, cell_other cells q (2 * k + 1) key r) (t.over k some small);
 }
 
 pub raised : (height place p v : ℕ) (cells : List ℕ) → IsTreeBut place height cells → p ≡ place / 2 → 1 ≤ p → p < 2 ^ height
@@ -132,10 +132,10 @@ step_right height level least place cells t low is less =
 pub none_leads : (height least : ℕ) (cells : List ℕ) → IsTree height cells → 1 ≤ least → cell 1 cells < least → AreBelow least (drop (2 ^ height) cells)
 none_leads height least cells t some low i = rw (get_or-drop (2 ^ height) cells i 0) (elim (cases_lt (2 ^ height + i) (length cells)) [
   | inl l ↦
-    let wide = t.wide in
-    let one : 1 ≤ 2 ^ height = pow_mono {i = 0} (omega arith) in
-    let most = below_top height (2 ^ height + i) (2 ^ height + i) cells t (omega arith) (omega arith) (omega arith) in
-    omega arith
+      let wide = t.wide in
+      let one : 1 ≤ 2 ^ height = pow_mono {i = 0} (omega arith) in
+      let most = below_top height (2 ^ height + i) (2 ^ height + i) cells t (omega arith) (omega arith) (omega arith) in
+      omega arith
   | inr past ↦ rw (get_or_past cells (2 ^ height + i) 0 past) (omega arith)
 ])
 

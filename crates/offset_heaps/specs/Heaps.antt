@@ -1,12 +1,12 @@
 -- What contracts see of many heaps, and what each call leaves of them.
-use Rattle.std.specs.Prelude.{codes, ◌≡◌, ℕ, ◌+◌, ◌*◌, ◌^◌, ◌%◌, ◌<◌, ◌≤◌, ◌⊎◌, Bool, true, false, not, ◌&&◌, List, [], ◌∷◌, Option, Some, None, IsSome, IfSome, Result, Err, length, nat_eq, nat_lt, slice_index_or, slice_set, max, sum, if◌then◌else◌}
+use Rattle.std.specs.Prelude.{codes, ◌≡◌, ℕ, ◌+◌, ◌*◌, ◌^◌, ◌<◌, ◌≤◌, ◌⊎◌, Bool, true, false, ◌&&◌, List, [], ◌∷◌, Option, Some, None, IsSome, Result, Err, length, nat_eq, nat_lt, slice_index_or, slice_set, max, sum, if◌then◌else◌}
 use Rattle.offset_allocator.specs.Classes.{value, down}
 use Rattle.offset_allocator.specs.Ranges.{Range}
-use Rattle.offset_allocator.specs.Relations.{Aligns, Frees, IsFresh, Resets}
+use Rattle.offset_allocator.specs.Relations.{Aligns, Frees, IsFresh}
 use Rattle.offset_allocator.specs.Reports.{largest}
 use Rattle.offset_allocator.specs.Requests.{blocks_needed, units_needed}
 use Rattle.offset_allocator.specs.Tight.{AlignsTight}
-use Rattle.offset_allocator.specs.View.{View, Grant, free_sizes, tally, used_of, used_units}
+use Rattle.offset_allocator.specs.View.{free_sizes, used_of, used_units}
 use Rattle.offset_guarded.specs.Guard.{Guard, grant_of, last_serial}
 use Rattle.offset_guarded.specs.Guard as guarded
 use Rattle.offset_guarded.specs.declared.ticket.Ticket.{Ticket}

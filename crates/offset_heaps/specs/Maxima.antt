@@ -1,5 +1,5 @@
 -- Numbers in a row, of which the first that is large enough is found in few steps.
-use Rattle.std.specs.Prelude.{◌≡◌, ℕ, ◌+◌, ◌-◌, ◌*◌, ◌^◌, ◌<◌, ◌≤◌, max, List, length, Option, Some, None, slice_index_or, drop}
+use Rattle.std.specs.Prelude.{◌≡◌, ℕ, ◌+◌, ◌-◌, ◌*◌, ◌^◌, ◌<◌, ◌≤◌, max, List, length, Option, Some, None, slice_index_or}
 
 -- the numbers, and how many levels of maxima are above them
 pub record Row : Type 0 where

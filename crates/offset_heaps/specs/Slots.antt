@@ -1,6 +1,5 @@
 -- What a call leaves of the heap of one number.
 use Rattle.std.specs.Prelude.{◌≡◌, ℕ, ◌+◌, ◌%◌, ◌<◌, ◌≤◌, ◌⊎◌, List, Option, Some, None, true, false, take, slice_set}
-use Rattle.offset_allocator.specs.Ranges.{Range}
 use Rattle.offset_allocator.specs.Relations.{Aligns, Frees, Resets}
 use Rattle.offset_allocator.specs.Tight.{AlignsTight, CanHold}
 use Rattle.offset_guarded.specs.Guard.{Guard, HasSerialLeft, grant_of}

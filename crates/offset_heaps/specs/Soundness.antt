@@ -4,7 +4,7 @@ use Rattle.offset_guarded.specs.Guard.{Guard}
 use Rattle.offset_heaps.specs.declared.limits.Limits.{Limits}
 use Rattle.offset_heaps.specs.declared.index.Index.{Index}
 use Rattle.offset_heaps.specs.Heaps.{room_of, slot}
-use Rattle.offset_heaps.specs.Maxima.{Row, cell}
+use Rattle.offset_heaps.specs.Maxima.{cell}
 
 -- the key of a number that no heap has: 1 for a heap of the usual size, 2 for a larger one
 abbrev pub spare_of : Limits → ℕ → Option Guard → ℕ

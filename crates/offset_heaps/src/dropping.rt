@@ -42,7 +42,8 @@ impl<T: Tables> HeapsOf<T> {
     /// Drops the last empty heap, by number, if more than `keep` heaps are empty, and returns its number: drop its buffer.
     /// `None` is returned where at most `keep` are empty; then nothing changes. Call it until it returns `None`.
     ///
-    /// No place loses its range, and a place that the heap granted is never live again. It reads each number once.
+    /// No place loses its range, and a place that the heap granted is never live again, though a later heap may have its
+    /// number. It reads the slot of each number once.
     pub fn drop_empty(&mut self, keep: u32) -> Option<u32>
         ensures kept { result ≡ None ↔ (empties self.old.slots ≤ keep) }
         ensures same { result ≡ None → IsSame self.old self.new }
@@ -64,9 +65,11 @@ impl<T: Tables> HeapsOf<T> {
         Some(last)
     }
 
-    /// Takes back the heap of a number, with all that it granted, and returns whether there was one.
+    /// Takes back the heap of a number, with all that it granted, and returns whether there was one: where the buffer of a
+    /// new heap can't be made, or is lost. No place of it is ever live again, and all other heaps stay.
     pub fn give_up(&mut self, number: u32) -> bool
         ensures done { IsTrue result ↔ IsSome (heap_at number self.old) }
+        // Then its number has no heap, and all else stays.
         ensures heaps { result ≡ true → Puts number None self.old self.new }
         ensures same { result ≡ false → IsSame self.old self.new }
         ensures gone { heap_at number self.new ≡ None }
@@ -77,26 +80,37 @@ impl<T: Tables> HeapsOf<T> {
             return false;
         }
         slots::put(&mut self.slots, number, None, &mut self.accesses);
-        self.index.note(&self.slots, number, self.limits, &mut self.accesses);
+        self.index
+            .note(&self.slots, number, self.limits, &mut self.accesses);
         true
     }
 
-    /// Frees the range of a place, and returns `true`; or `false` where the place is not live, and then nothing changes.
+    /// Frees the range of a place, as `GuardedOf::free` does in its heap, and returns `true`; or `false` where the place is
+    /// not live, and then nothing changes. The heap stays, also where it is empty then: `drop_empty` drops it.
     pub fn free(&mut self, place: Place) -> bool
+        // It is done exactly when the place is live.
         ensures done { IsTrue result ↔ IsLive place self.old }
+        // After it the place is not live. Every other place keeps its range, if it has one.
         ensures gone { range_of place self.new ≡ None }
         ensures others { KeepsOthers place self.old self.new }
         ensures same { result ≡ false → IsSame self.old self.new }
+        // The step of its heap. All other heaps are as they were.
         ensures step { result ≡ true → FreesIn place self.old self.new }
         ensures steps { TakesFewSteps self.old self.new }
     {
         if place.realm != self.realm {
             return false;
         }
-        if !slots::free(&mut self.slots, place.heap, place.ticket, &mut self.accesses) {
+        if !slots::free(
+            &mut self.slots,
+            place.heap,
+            place.ticket,
+            &mut self.accesses,
+        ) {
             return false;
         }
-        self.index.note(&self.slots, place.heap, self.limits, &mut self.accesses);
+        self.index
+            .note(&self.slots, place.heap, self.limits, &mut self.accesses);
         true
     }
 

@@ -5,11 +5,9 @@ ghost use Rattle.offset_allocator.specs.Relations.{IsAlignment};
 ghost use Rattle.offset_allocator.specs.Requests.{blocks_needed, units_needed};
 ghost use Rattle.offset_heaps.specs.Slots.{IsBelow};
 
-use crate::HeapsOf;
-use crate::making;
 use crate::place::{Granted, Place};
 use crate::refusal::Refusal;
-use crate::slots;
+use crate::{HeapsOf, making, slots};
 use offset_allocator::Tables;
 use offset_allocator::small_float::{uint_to_float_round_down, uint_to_float_round_up};
 use offset_guarded::{GuardedOf, Ticket};
@@ -94,7 +92,8 @@ impl<T: Tables> HeapsOf<T> {
             → self.new.accesses ≤ self.old.accesses + 12 * bits + 8 }
     {
         let ticket = slots::grant(&mut self.slots, number, size, align, &mut self.accesses);
-        self.index.note(&self.slots, number, self.limits, &mut self.accesses);
+        self.index
+            .note(&self.slots, number, self.limits, &mut self.accesses);
         Granted {
             place: Place {
                 heap: number,
@@ -120,7 +119,8 @@ impl<T: Tables> HeapsOf<T> {
     {
         slots::put(&mut self.slots, number, slot, &mut self.accesses);
         self.made += 1;
-        self.index.note(&self.slots, number, self.limits, &mut self.accesses);
+        self.index
+            .note(&self.slots, number, self.limits, &mut self.accesses);
         Granted {
             place: Place {
                 heap: number,
@@ -233,6 +233,9 @@ impl<T: Tables> HeapsOf<T> {
     }
 
     /// Grants `size` units of one heap: what `allocate_aligned(size, 1)` grants.
+    ///
+    /// A heap has room exactly for requests up to the `largest_free_region` of its report, while it has a serial left: see
+    /// `laws::room_is_reported`.
     pub fn allocate(&mut self, size: u32) -> Result<Granted, Refusal>
         ensures no_room { IsForRoom result
             ↔ ((1 ≤ size) × NoneFits 1 size self.old × ((k : ℕ) → IsNext size k self.old → ⊥)) }

@@ -18,7 +18,7 @@ use std::alloc::{AllocError, Global};
 /// Three keys of each number: the largest requests that its heap grants where it may add one and two blocks, or 0, and
 /// whether it has no heap.
 #[derive(Drop)]
-pub struct Index {
+pub(crate) struct Index {
     pub(crate) one: Maxima,
     pub(crate) two: Maxima,
     pub(crate) spare: Maxima,
@@ -35,17 +35,22 @@ fn has_serial_left<T: Tables>(heap: &GuardedOf<T>) -> bool
     }
 }
 
-// The largest request that a heap grants where it may add this many blocks, or 0.
-pub(crate) fn room<T: Tables>(heap: Option<&GuardedOf<T>>, blocks: u32) -> u32
-    requires { 1 ≤ blocks }
-    ensures { result ≡ room_of blocks (option_copied heap.entry) }
+/// The largest requests that a heap grants where it may add one block, and two, or 0.
+pub(crate) fn rooms<T: Tables>(heap: Option<&GuardedOf<T>>) -> (u32, u32)
+    ensures one { result.0 ≡ room_of 1 (option_copied heap.entry) }
+    ensures two { result.1 ≡ room_of 2 (option_copied heap.entry) }
 {
-    let Some(heap) = heap else { return 0 };
+    let Some(heap) = heap else { return (0, 0) };
     let space = heap.allocator();
-    if !has_serial_left(heap) || unused_names(space) <= blocks {
-        return 0;
+    let left = unused_names(space);
+    if !has_serial_left(heap) || left <= 1 {
+        return (0, 0);
     }
-    space.storage_report().largest_free_region
+    let largest = space.storage_report().largest_free_region;
+    if left == 2 {
+        return (largest, 0);
+    }
+    (largest, largest)
 }
 
 // The key of a number that has no heap, or 0 where it has one.
@@ -100,8 +105,9 @@ impl Index {
         ensures accesses { Costs 4 (12 * self.old.one.height + 7) count.old count.new }
     {
         let heap = slots::at(slots, number, count);
-        self.one.set(number, room(heap, 1), count);
-        self.two.set(number, room(heap, 2), count);
+        let (one, two) = rooms(heap);
+        self.one.set(number, one, count);
+        self.two.set(number, two, count);
         self.spare.set(number, spare(heap, number, limits), count);
     }
 

@@ -1,9 +1,25 @@
-//! Many heaps as one: ranges of as many buffers as are needed, each with a heap of its own.
+//! Ranges of as many buffers as are needed, each with a heap of its own.
+//!
+//! A `Heaps` holds heaps by number, each a `GuardedOf`: those of the usual size, and larger ones, each of the size of the
+//! request that it was made for. Nothing is known of the buffers: the caller makes the buffer of a number when he is told
+//! that its heap is new, and drops it when he is told that the heap was dropped. A `Place` is the number of a heap and a
+//! ticket there. Every call takes any place, and one that is not live changes nothing.
+//!
+//! ```
+//! let limits = Limits { size: 1 << 24, max_allocs: 4096, most: 64, most_larger: 16 };
+//! let mut heaps = Heaps::<u32>::new(alloc, limits, 1)?;
+//! if let Ok(granted) = heaps.allocate(3000) {
+//!     // granted.is_new: make the buffer of number granted.place.heap
+//!     assert!(heaps.free(granted.place));
+//! }
+//! while let Some(number) = heaps.drop_empty(1) {
+//!     // drop the buffer of this number
+//! }
+//! ```
 #![tactic(auto)]
 
-ghost use Rattle.std.specs.Prelude.{ℕ, ◌≡◌, ◌↔◌, ◌+◌, ◌*◌, ◌^◌, ◌<◌, ◌≤◌, ◌%◌, ◌⊎◌, None, Some, false, true, length};
-ghost use Rattle.std.specs.Prelude.{IsTrue, IsSome, IfOk, IfErr, OnErr, Ok, Err, option_copied, option_map, replicate};
-
+ghost use Rattle.std.specs.Prelude.{◌≡◌, ◌↔◌, ◌+◌, ◌^◌, ◌<◌, ◌≤◌, None, IsTrue, IfOk, option_copied, option_map};
+ghost use Rattle.std.specs.Prelude.{replicate};
 ghost use Rattle.offset_allocator.specs.Ranges.{Range};
 
 mod dropping;
@@ -18,23 +34,25 @@ mod refusal;
 mod slots;
 mod totals;
 
-pub use index::Index;
+use index::Index;
 pub use limits::Limits;
-pub use maxima::Maxima;
-pub use place::{Granted, Place};
-pub use refusal::Refusal;
-pub use totals::Totals;
-
-use slots::Slots;
 use offset_allocator::{Accesses, ByNode, Tables};
 use offset_guarded::GuardedOf;
+pub use place::{Granted, Place};
+pub use refusal::Refusal;
+use slots::Slots;
 use std::alloc::{AllocError, Global};
+use std::fmt;
 use std::marker::Model;
+pub use totals::Totals;
 
 /// Many heaps as one, each with one table of nodes.
 pub type Heaps<NI = u32> = HeapsOf<ByNode<NI>>;
 
 /// Many heaps as one.
+///
+/// It holds a slot for each number, and an index of them: the work of a call is some steps for each bit of the numbers,
+/// and that of one heap.
 #[derive(Drop)]
 pub struct HeapsOf<T: Tables> {
     alloc: Global,
@@ -66,11 +84,12 @@ impl<T: Tables> Model for HeapsOf<T> {
 }
 
 impl<T: Tables> HeapsOf<T> {
-    ghost use Rattle.offset_heaps.specs.Heaps.{heap_at, is_empty, range_of, range_in};
-    ghost use Rattle.offset_heaps.specs.Heaps.{KeepsOtherHeaps, KeepsAll, KeepsOthers, IsLive, IsSame, Puts, FreesIn};
-    ghost use Rattle.offset_heaps.specs.Heaps.{TakesFewSteps};
+    ghost use Rattle.offset_heaps.specs.Heaps.{IsLive, heap_at, range_in, range_of};
 
-    /// No heap, and memory for the numbers of those that may be made.
+    /// No heap, and memory for the numbers of all that may be made: some 1.2 KB each. A heap is made by the first request
+    /// that none has room for. The realm is kept in places: a place of another realm is never live here.
+    ///
+    /// An error is returned only where an allocation failed; then nothing is made.
     pub fn new(alloc: Global, limits: Limits, realm: u32) -> Result<Self, AllocError>
         requires limit_min { 4 ≤ limits.max_allocs }
         requires limit_max { limits.max_allocs + 1 < T.Index.MAX }
@@ -96,7 +115,22 @@ impl<T: Tables> HeapsOf<T> {
         })
     }
 
-    /// The heap of a number, to read.
+    /// The limits.
+    pub fn limits(&self) -> Limits
+        ensures { result ≡ self.now.limits }
+    {
+        self.limits
+    }
+
+    /// The realm of its places.
+    pub fn realm(&self) -> u32
+        ensures { result ≡ self.now.realm }
+    {
+        self.realm
+    }
+
+    /// The heap of a number, to read: its reports, its statistics, its blocks. `None` is returned where the number has no
+    /// heap.
     pub fn heap(&self, number: u32) -> Option<&GuardedOf<T>>
         ensures { option_copied result ≡ heap_at number self.now }
     {
@@ -113,7 +147,8 @@ impl<T: Tables> HeapsOf<T> {
         self.heap(place.heap)
     }
 
-    /// Whether a place is live here.
+    /// Whether a place is live here: it has the realm, and its range was not freed, its heap not given up and nothing was
+    /// reset since.
     pub fn is_live(&self, place: Place) -> bool
         ensures { IsTrue result ↔ IsLive place self.now }
     {
@@ -141,5 +176,17 @@ impl<T: Tables> HeapsOf<T> {
             None => None,
             Some(heap) => heap.offset_of(place.ticket),
         }
+    }
+}
+
+/// The text is that of a struct with the realm, the limits, the number of heaps that were made, and the totals.
+impl<T: Tables> fmt::Debug for HeapsOf<T> {
+    fn fmt<W: fmt::Write>(&self, f: &mut fmt::Formatter<W>) -> fmt::Result {
+        f.debug_struct("Heaps")
+            .field("realm", &self.realm)
+            .field("limits", &self.limits)
+            .field("made", &self.made)
+            .field("totals", &self.totals())
+            .finish()
     }
 }

@@ -32,12 +32,7 @@ pub(crate) fn usual<T: Tables>(
     ensures { IfOk result (λ r. (g : Guard) × IsNew limits.size limits.max_allocs realm g
         × Serves size align (Some g) r.0 r.1) }
 {
-    let mut slot = Some(GuardedOf::with_max_allocs(
-        alloc,
-        limits.size,
-        limits.max_allocs,
-        realm,
-    )?);
+    let mut slot = Some(GuardedOf::with_max_allocs(alloc, limits.size, limits.max_allocs, realm)?);
     let ticket = slots::grant_in(&mut slot, size, align);
     Ok((slot, ticket))
 }

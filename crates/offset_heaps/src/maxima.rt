@@ -10,7 +10,7 @@ use std::marker::Model;
 
 /// Numbers at places from 0 on.
 #[derive(Drop)]
-pub struct Maxima {
+pub(crate) struct Maxima {
     // the numbers are the second half; before them, from place 1 on, each cell has the larger one of two
     cells: Vec<u32>,
     height: u32,
@@ -79,17 +79,16 @@ pub(crate) fn levels_for(count: u32) -> (u32, usize)
 
 impl Maxima {
     /// Two to the power of `height` places, each with 0.
-    pub(crate) fn with_height(
-        alloc: Global,
-        height: u32,
-        places: usize,
-    ) -> Result<Self, AllocError>
+    pub(crate) fn with_height(alloc: Global, height: u32, places: usize) -> Result<Self, AllocError>
         requires low { height ≤ 32 }
         requires power { places ≡ 2 ^ height }
         ensures keys { IfOk result (λ m. m.keys ≡ replicate places 0) }
         ensures height { IfOk result (λ m. m.height ≡ height) }
     {
-        let cells = vec![in alloc; 0u32; 2 * places]?;
+        let mut cells = Vec::with_capacity(alloc, 2 * places)?;
+        for _place in 0..2 * places {
+            cells.push(0)?;
+        }
         Ok(Maxima { cells, height })
     }
 

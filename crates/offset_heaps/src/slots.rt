@@ -8,14 +8,13 @@ ghost use Rattle.offset_guarded.specs.Guard.{Guard, HasSerialLeft};
 ghost use Rattle.offset_heaps.specs.Heaps.{is_empty, range_in, room_of, slot};
 ghost use Rattle.offset_heaps.specs.Slots.{CanHoldIn, Changes, FreesIn, HasEmpty, KeepsOthersIn, ResetsIn, Serves, ServesTight};
 
-
 use offset_allocator::laws::is_well_formed;
 use offset_allocator::{Accesses, Tables};
 use offset_guarded::{GuardedOf, Ticket};
 use std::alloc::{AllocError, Global};
 
 /// The heap of each number, where there is one.
-pub type Slots<T> = Vec<Option<GuardedOf<T>>>;
+pub(crate) type Slots<T> = Vec<Option<GuardedOf<T>>>;
 
 /// Memory for `count` numbers, none of which has a heap.
 pub(crate) fn none<T: Tables>(alloc: Global, count: u32) -> Result<Slots<T>, AllocError>
@@ -72,11 +71,7 @@ pub(crate) fn put<T: Tables>(
 }
 
 /// Grants a request in a heap that has room for it.
-pub(crate) fn grant_in<T: Tables>(
-    slot: &mut Option<GuardedOf<T>>,
-    size: u32,
-    align: u32,
-) -> Ticket
+pub(crate) fn grant_in<T: Tables>(slot: &mut Option<GuardedOf<T>>, size: u32, align: u32) -> Ticket
     requires some { 1 ≤ units_needed size align }
     requires power { IsAlignment align }
     requires room { units_needed size align ≤ room_of (blocks_needed align) slot.old }
@@ -198,11 +193,7 @@ fn with_number(seen: (u32, u32), number: u32, empty: bool) -> (u32, u32)
     requires { seen.0 + 1 < 2 ^ 32 }
     ensures { result ≡ (if empty then record { 0 = seen.0 + 1; 1 = number } else seen) }
 {
-    if empty {
-        (seen.0 + 1, number)
-    } else {
-        seen
-    }
+    if empty { (seen.0 + 1, number) } else { seen }
 }
 
 /// The empty heaps of the first `numbers` numbers: how many, and the last of them.

@@ -2,9 +2,8 @@
 ghost use Rattle.std.specs.Prelude.{◌≡◌, ◌+◌, ◌^◌, ◌<◌, ◌≤◌, max, option_copied};
 ghost use Rattle.offset_heaps.specs.Heaps.{free_of, live_of, part, room_of, size_of};
 
-use crate::HeapsOf;
-use crate::index::room;
-use crate::slots;
+use crate::index::rooms;
+use crate::{HeapsOf, slots};
 use offset_allocator::laws::sizes_add_up;
 use offset_allocator::{Accesses, Tables};
 use offset_guarded::GuardedOf;
@@ -51,7 +50,8 @@ fn with_heap<T: Tables>(totals: Totals, heap: Option<&GuardedOf<T>>) -> Totals
     ensures small { result.units < totals.units + 2 ^ 32 }
     ensures add_up { result.live_units + result.free_units ≡ result.units }
 {
-    let largest = totals.largest_free_region.max(room(heap, 1));
+    let (one, _) = rooms(heap);
+    let largest = totals.largest_free_region.max(one);
     match heap {
         None => Totals {
             heaps: totals.heaps,

@@ -1,4 +1,4 @@
-use Rattle.std.proofs.Common.{ℕ, ◌≡◌, ◌+◌, ◌^◌, ◌≤◌, true, inl, inr, ap, arith, refl, sym}
+use Rattle.std.proofs.Common.{◌≡◌, ◌≤◌, inl, inr, ap, arith, sym}
 use Rattle.std.proofs.lemmas.Bool.{cases_Bool}
 use Rattle.offset_heaps.specs.Heaps.{Heaps, numbers}
 use Rattle.offset_heaps.proofs.Places.{dropped_keeps, shown}

@@ -1,7 +1,6 @@
-use Rattle.std.proofs.Common.{ℕ, ◌≡◌, ◌^◌, ◌≤◌, ap, arith, length, subst, min, MatchOption}
-use Rattle.offset_heaps.specs.Heaps.{Heaps, IsFirstFit, NoneFits}
+use Rattle.std.proofs.Common.{ap, arith, min}
+use Rattle.offset_heaps.specs.Heaps.{Heaps}
 use Rattle.offset_heaps.proofs.Finding.{first_fits, fit_there, levels}
-use Rattle.offset_heaps.proofs.Places.{shown}
 use Rattle.offset_heaps.proofs.HeapsOf.first_fit.Goals as goal
 
 pub returns-clause-first : goal.returns-clause-first

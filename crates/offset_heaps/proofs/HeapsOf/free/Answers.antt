@@ -1,7 +1,7 @@
-use Rattle.std.proofs.Common.{refl, ℕ, ◌≤◌, arith, true, None, Option, Some, IsSome, IsTrue, is_some, sym, subst, ap, ◌∙◌}
+use Rattle.std.proofs.Common.{refl, arith, sym, subst, ap, ◌∙◌}
 use Rattle.std.proofs.lemmas.Bool.{false≢true}
 use Rattle.offset_guarded.specs.Guard.{Guard}
-use Rattle.offset_heaps.specs.Heaps.{Heaps, heap_at, IsLive, KeepsOthers, FreesIn, range_of}
+use Rattle.offset_heaps.specs.Heaps.{Heaps, IsLive}
 use Rattle.offset_heaps.proofs.Places.{freed_gone, freed_others, freed_step, live_place, live_ticket, not_live_elsewhere, other_realm, same_slots, shown}
 use Rattle.offset_heaps.proofs.Sound.{realm_kept, sound_put, wide_put}
 use Rattle.offset_heaps.proofs.HeapsOf.free.Goals as goal
@@ -20,7 +20,7 @@ pub returns-then-not-free-clause-done : goal.returns-then-not-free-clause-done
 returns-then-not-free-clause-done g c = (
   λ h. absurd (false≢true h),
   λ live. absurd (false≢true (sym c.if-not-free.true
-    ∙ c.free.ensures.done.1 (live_ticket c.args.place (shown c.self.inside.slots.items c.self.inside.limits c.self.inside.made c.self.inside.realm c.self.inside.accesses) c.if-place-self.false (subst (λ (hs : Heaps). IsLive c.args.place hs) (sym c.self.view_is) live)))),
+      ∙ c.free.ensures.done.1 (live_ticket c.args.place (shown c.self.inside.slots.items c.self.inside.limits c.self.inside.made c.self.inside.realm c.self.inside.accesses) c.if-place-self.false (subst (λ (hs : Heaps). IsLive c.args.place hs) (sym c.self.view_is) live)))),
 )
 
 pub returns-then-not-free-clause-others : goal.returns-then-not-free-clause-others

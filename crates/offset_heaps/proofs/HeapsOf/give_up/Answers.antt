@@ -1,8 +1,7 @@
-use Rattle.std.proofs.Common.{refl, ◌≤◌, arith, true, None, Option, Some, IsSome, is_some, sym, subst, ap, ◌∙◌}
-use Rattle.offset_guarded.specs.Guard.{Guard}
+use Rattle.std.proofs.Common.{refl, arith, None, IsSome, sym, subst, ◌∙◌}
 use Rattle.offset_heaps.specs.Heaps.{Heaps, heap_at}
 use Rattle.offset_heaps.proofs.Numbers.{slot_same}
-use Rattle.offset_heaps.proofs.Sound.{sound_put, wide_put}
+use Rattle.offset_heaps.proofs.Sound.{sound_put}
 use Rattle.offset_heaps.proofs.HeapsOf.give_up.Goals as goal
 
 pub invariant_of-self-2 : goal.invariant_of-self-2

@@ -1,5 +1,4 @@
-use Rattle.std.proofs.Common.{ℕ, ◌≡◌, ◌^◌, ◌≤◌, ◌<◌, length, ap, arith}
-use Rattle.offset_guarded.specs.Guard.{Guard}
+use Rattle.std.proofs.Common.{◌<◌, length, ap, arith}
 use Rattle.offset_heaps.specs.Heaps.{Heaps, slot}
 use Rattle.offset_heaps.proofs.Finding.{levels}
 use Rattle.offset_heaps.proofs.Grants.{granted_at}

@@ -1,4 +1,4 @@
-use Rattle.std.proofs.Common.{ℕ, ◌≡◌, ◌+◌, ◌≤◌, ◌<◌, length, ap, arith, subst}
+use Rattle.std.proofs.Common.{◌+◌, ◌<◌, length, ap, arith, subst}
 use Rattle.offset_heaps.specs.Heaps.{Heaps, IsNew}
 use Rattle.offset_heaps.proofs.Grants.{granted_usual}
 use Rattle.offset_heaps.proofs.HeapsOf.grant_usual.Goals as goal

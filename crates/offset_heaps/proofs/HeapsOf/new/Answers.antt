@@ -1,16 +1,14 @@
-use Rattle.std.proofs.Common.{ℕ, ◌≡◌, ◌≤◌, ◌<◌, ◌+◌, ◌^◌, ap, ◌∙◌, arith, length, replicate, None, inl, inr, refl, ⊎_elim}
-use Rattle.std.proofs.lemmas.Bool.{cases_eq}
-use Rattle.std.proofs.lemmas.List.{length-replicate}
-use Rattle.offset_heaps.proofs.Sound.{noted_past, started, noted_more}
+use Rattle.std.proofs.Common.{◌+◌, ◌^◌, ◌∙◌, arith, inl, inr, refl}
+use Rattle.offset_heaps.proofs.Sound.{started, noted_more}
 use Rattle.offset_heaps.proofs.HeapsOf.new.Goals as goal
 
 pub loop-number-init : goal.loop-number-init
 loop-number-init g c =
     let begun = started c.args.limits (c.args.limits.most + c.args.limits.most_larger) (2 ^ c.in_ok-index.index.one.height) c.in_ok-slots.slots.items c.in_ok-index.index c.in_ok-slots.ensures refl
-        c.in_ok-index.ensures.room c.in_ok-index.ensures.one c.in_ok-index.ensures.two c.in_ok-index.ensures.spare in
+    c.in_ok-index.ensures.room c.in_ok-index.ensures.one c.in_ok-index.ensures.two c.in_ok-index.ensures.spare in
     record {
       wide = begun.0;
-      noted = λ k within. elim within [ | inl l ↦ absurd (omega arith) | inr past ↦ begun.1 k past ];
+      noted = λ k within. elim within [ inl l ↦ absurd (omega arith) | inr past ↦ begun.1 k past ];
       levels = refl;
     }
 

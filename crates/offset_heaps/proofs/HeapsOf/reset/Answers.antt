@@ -1,4 +1,4 @@
-use Rattle.std.proofs.Common.{ℕ, ◌≤◌, ◌^◌, ◌∙◌, subst, sym}
+use Rattle.std.proofs.Common.{◌≤◌, ◌^◌, ◌∙◌, subst}
 use Rattle.offset_heaps.specs.Heaps.{slot}
 use Rattle.offset_heaps.proofs.Sound.{realm_reset}
 use Rattle.offset_heaps.proofs.HeapsOf.reset.Goals as goal

@@ -1,4 +1,4 @@
-use Rattle.std.proofs.Common.{ℕ, ◌≡◌, ◌^◌, ◌≤◌, ap, arith}
+use Rattle.std.proofs.Common.{ap, arith}
 use Rattle.offset_heaps.specs.Heaps.{Heaps}
 use Rattle.offset_heaps.proofs.Finding.{larger_first, levels}
 use Rattle.offset_heaps.proofs.HeapsOf.spare_larger.Goals as goal

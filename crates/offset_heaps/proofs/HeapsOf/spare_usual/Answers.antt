@@ -1,4 +1,4 @@
-use Rattle.std.proofs.Common.{ℕ, ◌≡◌, ◌^◌, ◌≤◌, ap, arith}
+use Rattle.std.proofs.Common.{ap, arith}
 use Rattle.offset_heaps.specs.Heaps.{Heaps}
 use Rattle.offset_heaps.proofs.Finding.{levels, usual_first}
 use Rattle.offset_heaps.proofs.HeapsOf.spare_usual.Goals as goal

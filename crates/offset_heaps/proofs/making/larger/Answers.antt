@@ -1,4 +1,3 @@
-use Rattle.std.proofs.Common.{refl}
 use Rattle.offset_heaps.proofs.Rooms.{new_holds}
 use Rattle.offset_heaps.proofs.making.larger.Goals as goal
 

@@ -1,6 +1,6 @@
-use Rattle.std.proofs.Common.{rules, ℕ, ◌≡◌, ◌+◌, ◌*◌, ◌^◌, ◌/◌, ◌<◌, ◌≤◌, length, arith, ◌∙◌, refl, sym, subst, ap, drop, slice_set}
+use Rattle.std.proofs.Common.{rules, ◌≡◌, ◌^◌, ◌/◌, ◌<◌, arith, ◌∙◌, refl, sym, subst, ap, drop, slice_set}
 use Rattle.std.proofs.lemmas.List.{drop-set-lt}
-use Rattle.offset_heaps.specs.Maxima.{IsTreeBut, Row, cell}
+use Rattle.offset_heaps.specs.Maxima.{Row}
 use Rattle.offset_heaps.proofs.Trees.{climbs, climbs_within, kept, place_within, raised}
 use Rattle.offset_heaps.proofs.maxima.Maxima.set.Goals as goal
 

@@ -1,0 +1,92 @@
+// Printed by rust/erase from crates/offset_heaps/src/index.rt: change it there.
+
+//! Which heaps have room, and which numbers have no heap. It touches its own rows alone, and reads one slot.
+
+use crate::limits::Limits;
+use crate::maxima::{Maxima, levels_for};
+use crate::slots::{self, Slots};
+use offset_allocator::laws::unused_names;
+use offset_allocator::{Accesses, Tables};
+use offset_guarded::{GuardedOf, Refusal};
+use crate::memory::{AllocError, Global};
+
+/// Three keys of each number: the largest requests that its heap grants where it may add one and two blocks, or 0, and
+/// whether it has no heap.
+pub(crate) struct Index {
+    pub(crate) one: Maxima,
+    pub(crate) two: Maxima,
+    pub(crate) spare: Maxima,
+}
+
+// Whether a serial is left for one more grant.
+fn has_serial_left<T: Tables>(heap: &GuardedOf<T>) -> bool {
+    match heap.refusal(0) {
+        Some(Refusal::Serials) => false,
+        Some(Refusal::Allocator(_)) => true,
+        None => true,
+    }
+}
+
+/// The largest requests that a heap grants where it may add one block, and two, or 0.
+pub(crate) fn rooms<T: Tables>(heap: Option<&GuardedOf<T>>) -> (u32, u32) {
+    let Some(heap) = heap else { return (0, 0) };
+    let space = heap.allocator();
+    let left = unused_names(space);
+    if !has_serial_left(heap) || left <= 1 {
+        return (0, 0);
+    }
+    let largest = space.storage_report().largest_free_region;
+    if left == 2 {
+        return (largest, 0);
+    }
+    (largest, largest)
+}
+
+// The key of a number that has no heap, or 0 where it has one.
+fn spare<T: Tables>(heap: Option<&GuardedOf<T>>, number: u32, limits: Limits) -> u32 {
+    if heap.is_some() {
+        0
+    } else if number < limits.most {
+        1
+    } else if (number as u64) < limits.most as u64 + limits.most_larger as u64 {
+        2
+    } else {
+        0
+    }
+}
+
+impl Index {
+    /// Keys for `count` numbers, each 0.
+    pub(crate) fn with_room(alloc: Global, count: u32) -> Result<Self, AllocError> {
+        let (height, places) = levels_for(count);
+        Ok(Index {
+            one: Maxima::with_height(alloc, height, places)?,
+            two: Maxima::with_height(alloc, height, places)?,
+            spare: Maxima::with_height(alloc, height, places)?,
+        })
+    }
+
+    /// Notes what the heap of a number is.
+    pub(crate) fn note<T: Tables>(
+        &mut self,
+        slots: &Slots<T>,
+        number: u32,
+        limits: Limits,
+        count: &mut Accesses,
+    ) {
+        let heap = slots::at(slots, number, count);
+        let (one, two) = rooms(heap);
+        self.one.set(number, one, count);
+        self.two.set(number, two, count);
+        self.spare.set(number, spare(heap, number, limits), count);
+    }
+
+    /// The first number whose heap has room for a request of these units at a multiple of `align`.
+    pub(crate) fn first_fit(&self, units: u64, align: u32, count: &mut Accesses) -> Option<u32> {
+        if align == 1 {
+            self.one.first_at_least(units, count)
+        } else {
+            self.two.first_at_least(units, count)
+        }
+    }
+}

@@ -1,0 +1,167 @@
+// Printed by rust/erase from crates/offset_heaps/src/lib.rt: change it there.
+
+//! Ranges of as many buffers as are needed, each with a heap of its own.
+//!
+//! A `Heaps` holds heaps by number, each a `GuardedOf`: those of the usual size, and larger ones, each of the size of the
+//! request that it was made for. Nothing is known of the buffers: the caller makes the buffer of a number when he is told
+//! that its heap is new, and drops it when he is told that the heap was dropped. A `Place` is the number of a heap and a
+//! ticket there. Every call takes any place, and one that is not live changes nothing.
+//!
+//! ```
+//! use offset_allocator_heaps::*;
+//! let alloc = Global;
+//! let limits = Limits { size: 1 << 24, max_allocs: 4096, most: 64, most_larger: 16 };
+//! let mut heaps = Heaps::<u32>::new(alloc, limits, 1)?;
+//! if let Ok(granted) = heaps.allocate(3000) {
+//!     // granted.is_new: make the buffer of number granted.place.heap
+//!     assert!(heaps.free(granted.place));
+//! }
+//! while let Some(number) = heaps.drop_empty(1) {
+//!     // drop the buffer of this number
+//! }
+//! # Ok::<(), AllocError>(())
+//! ```
+#![doc = include_str!("../README.md")]
+#![no_std]
+#![forbid(unsafe_code)]
+#![warn(missing_docs)]
+#![expect(clippy::manual_map)] // a `match` needs no closure, whose calls would need a proof
+#![expect(unused_variables)] // a parameter may be there for a contract only
+
+extern crate alloc;
+
+mod memory;
+mod traits;
+
+pub use memory::{AllocError, Global};
+pub use offset_guarded::Ticket;
+
+mod dropping;
+mod granting;
+mod index;
+pub mod laws;
+mod limits;
+mod making;
+mod maxima;
+mod place;
+mod refusal;
+mod slots;
+mod totals;
+
+use index::Index;
+pub use limits::Limits;
+use offset_allocator::{Accesses, ByNode, Tables};
+use offset_guarded::GuardedOf;
+pub use place::{Granted, Place};
+pub use refusal::Refusal;
+use slots::Slots;
+use core::fmt;
+pub use totals::Totals;
+
+/// Many heaps as one, each with one table of nodes.
+pub type Heaps<NI = u32> = HeapsOf<ByNode<NI>>;
+
+/// Many heaps as one.
+///
+/// It holds a slot for each number, and an index of them: the work of a call is some steps for each bit of the numbers,
+/// and that of one heap.
+pub struct HeapsOf<T: Tables> {
+    alloc: Global,
+    slots: Slots<T>,
+    index: Index,
+    limits: Limits,
+    // how many heaps were made
+    made: u32,
+    realm: u32,
+    accesses: Accesses,
+}
+
+impl<T: Tables> HeapsOf<T> {
+    /// No heap, and memory for the numbers of all that may be made: some 1.2 KB each. A heap is made by the first request
+    /// that none has room for. The realm is kept in places: a place of another realm is never live here.
+    ///
+    /// An error is returned only where an allocation failed; then nothing is made.
+    #[track_caller]
+    pub fn new(alloc: Global, limits: Limits, realm: u32) -> Result<Self, AllocError> {
+        assert!(4 <= limits.max_allocs, "max_allocs must be at least 4");
+        assert!(limits.max_allocs < <T::Index as offset_allocator::NodeIndex>::MAX - 1, "max_allocs must be at most NI::MAX - 2");
+        assert!(limits.most.checked_add(limits.most_larger).is_some(), "there may be at most 4294967295 heaps");
+        let count = limits.most + limits.most_larger;
+        let slots = slots::none(alloc, count)?;
+        let mut index = Index::with_room(alloc, count)?;
+        let mut accesses = Accesses::new();
+        for number in 0..count {
+            index.note(&slots, number, limits, &mut accesses);
+        }
+        Ok(HeapsOf {
+            alloc,
+            slots,
+            index,
+            limits,
+            made: 0,
+            realm,
+            accesses: Accesses::new(),
+        })
+    }
+
+    /// The limits.
+    pub fn limits(&self) -> Limits {
+        self.limits
+    }
+
+    /// The realm of its places.
+    pub fn realm(&self) -> u32 {
+        self.realm
+    }
+
+    /// The heap of a number, to read: its reports, its statistics, its blocks. `None` is returned where the number has no
+    /// heap.
+    pub fn heap(&self, number: u32) -> Option<&GuardedOf<T>> {
+        slots::at(&self.slots, number, &mut Accesses::new())
+    }
+
+    // The heap of a place.
+    fn heap_of(&self, place: Place) -> Option<&GuardedOf<T>> {
+        if place.realm != self.realm {
+            return None;
+        }
+        self.heap(place.heap)
+    }
+
+    /// Whether a place is live here: it has the realm, and its range was not freed, its heap not given up and nothing was
+    /// reset since.
+    pub fn is_live(&self, place: Place) -> bool {
+        match self.heap_of(place) {
+            None => false,
+            Some(heap) => heap.is_live(place.ticket),
+        }
+    }
+
+    /// The units of the range of a place, or `None` where it is not live.
+    pub fn size_of(&self, place: Place) -> Option<u32> {
+        match self.heap_of(place) {
+            None => None,
+            Some(heap) => heap.size_of(place.ticket),
+        }
+    }
+
+    /// Where the range of a place begins, in units from the start of its heap, or `None` where it is not live.
+    pub fn offset_of(&self, place: Place) -> Option<u32> {
+        match self.heap_of(place) {
+            None => None,
+            Some(heap) => heap.offset_of(place.ticket),
+        }
+    }
+}
+
+/// The text is that of a struct with the realm, the limits, the number of heaps that were made, and the totals.
+impl<T: Tables> fmt::Debug for HeapsOf<T> {
+    fn fmt(&self, f: &mut fmt::Formatter<'_>) -> fmt::Result {
+        f.debug_struct("Heaps")
+            .field("realm", &self.realm)
+            .field("limits", &self.limits)
+            .field("made", &self.made)
+            .field("totals", &self.totals())
+            .finish()
+    }
+}

@@ -1,0 +1,17 @@
+// Printed by rust/erase from crates/offset_heaps/src/limits.rt: change it there.
+
+//! How many heaps there may be, and how large.
+
+/// What the heaps of a `Heaps` are, and how many there may be.
+#[derive(Clone, Copy, PartialEq, Eq, Debug)]
+pub struct Limits {
+    /// The units of a heap of the usual size.
+    pub size: u32,
+    /// The node limit of such a heap: at least 4, and at most `T::Index::MAX - 2`.
+    pub max_allocs: u32,
+    /// How many heaps of the usual size there may be at a time: they have the numbers below this one.
+    pub most: u32,
+    /// How many larger heaps there may be at a time, each of the size of the request that it was made for: they have the
+    /// numbers from `most` on. Together there are at most 4294967295.
+    pub most_larger: u32,
+}

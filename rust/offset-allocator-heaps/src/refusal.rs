@@ -1,0 +1,31 @@
+// Printed by rust/erase from crates/offset_heaps/src/refusal.rt: change it there.
+
+//! Why a request is refused.
+
+use core::fmt;
+
+/// Why a request is refused: the first of these that applies.
+#[derive(Clone, Copy, Debug, PartialEq)]
+pub enum Refusal {
+    /// It is for no unit.
+    Empty,
+    /// No heap has room, a fresh one of the usual size would not have it either, and there may be no larger ones.
+    TooLarge,
+    /// No heap has room, and no other may be made for it: each number of its kind has a heap, or all 4294967295 realms are
+    /// given. Free ranges, or drop empty heaps of that kind.
+    Full,
+    /// No heap has room. Another one may be made, but its memory was refused.
+    Memory,
+}
+
+impl fmt::Display for Refusal {
+    fn fmt(&self, f: &mut fmt::Formatter<'_>) -> fmt::Result {
+        let words = match self {
+            Refusal::Empty => "the request is for no unit",
+            Refusal::TooLarge => "the request is larger than any heap may be",
+            Refusal::Full => "no heap has room, and no other may be made",
+            Refusal::Memory => "no memory is left for another heap",
+        };
+        write!(f, "{words}")
+    }
+}

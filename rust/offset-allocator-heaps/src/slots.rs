@@ -1,0 +1,153 @@
+// Printed by rust/erase from crates/offset_heaps/src/slots.rt: change it there.
+
+//! The heaps by their numbers: no other module reads or writes them. Each function counts the slots that it touches.
+
+use crate::memory::Vec;
+use offset_allocator::laws::is_well_formed;
+use offset_allocator::{Accesses, Tables};
+use offset_guarded::{GuardedOf, Ticket};
+use crate::memory::{AllocError, Global};
+
+/// The heap of each number, where there is one.
+pub(crate) type Slots<T> = Vec<Option<GuardedOf<T>>>;
+
+/// Memory for `count` numbers, none of which has a heap.
+pub(crate) fn none<T: Tables>(alloc: Global, count: u32) -> Result<Slots<T>, AllocError> {
+    let mut slots = Vec::with_capacity(alloc, count as usize)?;
+    for _number in 0..count {
+        slots.push(None)?;
+    }
+    Ok(slots)
+}
+
+/// The heap of a number.
+pub(crate) fn at<'a, T: Tables>(
+    slots: &'a Slots<T>,
+    number: u32,
+    count: &mut Accesses,
+) -> Option<&'a GuardedOf<T>> {
+    count.tick();
+    match slots.get(number as usize) {
+        Some(Some(heap)) => Some(heap),
+        _ => None,
+    }
+}
+
+/// Whether a number has a heap.
+pub(crate) fn has<T: Tables>(slots: &Slots<T>, number: u32, count: &mut Accesses) -> bool {
+    match at(slots, number, count) {
+        Some(_) => true,
+        None => false,
+    }
+}
+
+/// Puts a heap at a number, or none.
+pub(crate) fn put<T: Tables>(
+    slots: &mut Slots<T>,
+    number: u32,
+    heap: Option<GuardedOf<T>>,
+    count: &mut Accesses,
+) {
+    count.tick();
+    slots[number as usize] = heap;
+}
+
+/// Grants a request in a heap that has room for it.
+pub(crate) fn grant_in<T: Tables>(slot: &mut Option<GuardedOf<T>>, size: u32, align: u32) -> Ticket {
+    match slot {
+        Some(heap) => {
+            is_well_formed(heap.allocator());
+            match heap.allocate_aligned(size, align) {
+                Some(ticket) => ticket,
+                None => unreachable!(),
+            }
+        }
+        None => unreachable!(),
+    }
+}
+
+/// Grants a request in a heap that has a free block for it.
+pub(crate) fn grant_tight_in<T: Tables>(slot: &mut Option<GuardedOf<T>>, size: u32) -> Ticket {
+    match slot {
+        Some(heap) => match heap.allocate_tight(size) {
+            Some(ticket) => ticket,
+            None => unreachable!(),
+        },
+        None => unreachable!(),
+    }
+}
+
+/// Grants a request in the heap of a number, which has room for it.
+pub(crate) fn grant<T: Tables>(
+    slots: &mut Slots<T>,
+    number: u32,
+    size: u32,
+    align: u32,
+    count: &mut Accesses,
+) -> Ticket {
+    count.tick();
+    grant_in(&mut slots[number as usize], size, align)
+}
+
+// Frees the range of a ticket, where it is live.
+fn free_in<T: Tables>(slot: &mut Option<GuardedOf<T>>, ticket: Ticket) -> bool {
+    match slot {
+        Some(heap) => heap.free(ticket),
+        None => false,
+    }
+}
+
+/// Frees the range of a ticket in the heap of a number, where it is live.
+pub(crate) fn free<T: Tables>(
+    slots: &mut Slots<T>,
+    number: u32,
+    ticket: Ticket,
+    count: &mut Accesses,
+) -> bool {
+    count.tick();
+    if number as usize >= slots.len() {
+        return false;
+    }
+    free_in(&mut slots[number as usize], ticket)
+}
+
+// Makes the space of a heap one free block again.
+fn reset_in<T: Tables>(slot: &mut Option<GuardedOf<T>>) {
+    match slot {
+        Some(heap) => heap.reset(),
+        None => {}
+    }
+}
+
+/// Makes the space of the heap of a number one free block again.
+pub(crate) fn reset<T: Tables>(slots: &mut Slots<T>, number: u32, count: &mut Accesses) {
+    count.tick();
+    reset_in(&mut slots[number as usize]);
+}
+
+/// Whether the heap of a number has no live range.
+pub(crate) fn is_empty_at<T: Tables>(slots: &Slots<T>, number: u32, count: &mut Accesses) -> bool {
+    match at(slots, number, count) {
+        None => false,
+        Some(heap) => heap.allocator().is_empty(),
+    }
+}
+
+// The empty heaps that were seen, how many and the last, with one more heap.
+fn with_number(seen: (u32, u32), number: u32, empty: bool) -> (u32, u32) {
+    if empty { (seen.0 + 1, number) } else { seen }
+}
+
+/// The empty heaps of the first `numbers` numbers: how many, and the last of them.
+pub(crate) fn last_empty<T: Tables>(
+    slots: &Slots<T>,
+    numbers: u32,
+    count: &mut Accesses,
+) -> (u32, u32) {
+    let mut seen = (0, 0);
+    for number in 0..numbers {
+        let empty = is_empty_at(slots, number, count);
+        seen = with_number(seen, number, empty);
+    }
+    seen
+}

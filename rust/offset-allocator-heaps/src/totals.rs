@@ -1,0 +1,75 @@
+// Printed by rust/erase from crates/offset_heaps/src/totals.rt: change it there.
+
+//! What is live and what is free in all heaps together. It reads each slot once, and changes nothing.
+
+use crate::index::rooms;
+use crate::{HeapsOf, slots};
+use offset_allocator::laws::sizes_add_up;
+use offset_allocator::{Accesses, Tables};
+use offset_guarded::GuardedOf;
+
+/// What is live and what is free, in all heaps together.
+#[derive(Clone, Copy, PartialEq, Eq, Debug)]
+pub struct Totals {
+    /// The number of heaps.
+    pub heaps: u32,
+    /// Their units.
+    pub units: u64,
+    /// The units of all live ranges.
+    pub live_units: u64,
+    /// The units of all free blocks.
+    pub free_units: u64,
+    /// The largest `largest_free_region` of a heap, or 0 where there is none: a request of at least one unit is granted by a
+    /// heap that is there exactly when it is at most this.
+    pub largest_free_region: u32,
+}
+
+// The units of a heap: live ones, free ones and all.
+fn units_of<T: Tables>(heap: &GuardedOf<T>) -> (u32, u32, u32) {
+    let space = heap.allocator();
+    sizes_add_up(space);
+    (space.live_units(), space.free_units(), space.size())
+}
+
+// The numbers of some heaps, with those of one more.
+fn with_heap<T: Tables>(totals: Totals, heap: Option<&GuardedOf<T>>) -> Totals {
+    let (one, _) = rooms(heap);
+    let largest = totals.largest_free_region.max(one);
+    match heap {
+        None => Totals {
+            heaps: totals.heaps,
+            units: totals.units,
+            live_units: totals.live_units,
+            free_units: totals.free_units,
+            largest_free_region: largest,
+        },
+        Some(heap) => {
+            let (live, free, all) = units_of(heap);
+            Totals {
+                heaps: totals.heaps + 1,
+                units: totals.units + all as u64,
+                live_units: totals.live_units + live as u64,
+                free_units: totals.free_units + free as u64,
+                largest_free_region: largest,
+            }
+        }
+    }
+}
+
+impl<T: Tables> HeapsOf<T> {
+    /// What is live and what is free, in all heaps together.
+    pub fn totals(&self) -> Totals {
+        let mut totals = Totals {
+            heaps: 0,
+            units: 0,
+            live_units: 0,
+            free_units: 0,
+            largest_free_region: 0,
+        };
+        for number in 0..self.limits.most + self.limits.most_larger {
+            let heap = slots::at(&self.slots, number, &mut Accesses::new());
+            totals = with_heap(totals, heap);
+        }
+        totals
+    }
+}

@@ -1,0 +1,357 @@
+//! Random calls against a plain list of the live ranges of each heap.
+//!
+//! `cargo test` makes 200,000 with each index type and layout. Two million, with and without overflow checks:
+//!
+//!     cargo test --offline -p offset-allocator-heaps -- --ignored
+//!     cargo test --offline --release -p offset-allocator-heaps -- --ignored
+
+use offset_allocator::{ByField, ByNode, Tables};
+use offset_allocator_heaps::{Global, Granted, HeapsOf, Limits, Place, Refusal};
+use std::collections::{BTreeMap, HashMap};
+
+const REALM: u32 = 7;
+
+struct Numbers(u64);
+
+impl Numbers {
+    fn next(&mut self) -> u64 {
+        self.0 ^= self.0 << 13;
+        self.0 ^= self.0 >> 7;
+        self.0 ^= self.0 << 17;
+        self.0
+    }
+
+    fn below(&mut self, limit: u64) -> u64 {
+        (self.next() >> 11) % limit
+    }
+}
+
+// The largest size below which a block of this many units is filed: every size up to 15 is one, and above that each
+// power of two has eight.
+fn class_value(units: u32) -> u32 {
+    let mut value = units.min(15);
+    let mut step = 2;
+    let mut start = 16;
+    while start <= units {
+        for k in 0..8 {
+            if start + k * step <= units {
+                value = start + k * step;
+            }
+        }
+        start *= 2;
+        step *= 2;
+    }
+    value
+}
+
+// What distinguishes places: the offsets of their tickets do not.
+type Key = (u32, u32, u32, u64, u32);
+
+fn key(p: Place) -> Key {
+    (p.heap, p.realm, p.ticket.name, p.ticket.serial, p.ticket.realm)
+}
+
+// A heap: its units, and its live ranges by offset. Those of one offset, all but one of no units, do not occur: no
+// request is for 0 units.
+struct Heap {
+    units: u32,
+    ranges: BTreeMap<u32, u32>,
+}
+
+struct Run<T: Tables> {
+    heaps: HeapsOf<T>,
+    limits: Limits,
+    model: Vec<Option<Heap>>,
+    live: HashMap<Key, (u32, u32)>,
+    places: HashMap<Key, Place>,
+    // the last places that were given
+    given: Vec<Place>,
+    made: u32,
+    counts: [u64; 8],
+    numbers: Numbers,
+}
+
+impl<T: Tables> Run<T> {
+    fn new(limits: Limits, state: u64) -> Self {
+        let count = (limits.most + limits.most_larger) as usize;
+        let nowhere = Place { heap: 0, realm: 0, ticket: offset_allocator_heaps::Ticket { offset: 0, name: 0, serial: 0, realm: 0 } };
+        Run {
+            heaps: HeapsOf::new(Global, limits, REALM).unwrap(),
+            limits,
+            model: (0..count).map(|_| None).collect(),
+            live: HashMap::new(),
+            places: HashMap::new(),
+            given: vec![nowhere; 64],
+            made: 0,
+            counts: [0; 8],
+            numbers: Numbers(state),
+        }
+    }
+
+    // What a heap's own report says of a request.
+    fn fits(&self, number: usize, units: u64, align: u32) -> bool {
+        let Some(heap) = self.heaps.heap(number as u32) else { return false };
+        let space = heap.allocator();
+        let blocks = align.min(2);
+        space.block_count() + blocks < space.max_allocs() && units <= space.storage_report().largest_free_region as u64
+    }
+
+    fn expected(&self, size: u32, align: u32) -> Result<(usize, bool), Refusal> {
+        if size == 0 {
+            return Err(Refusal::Empty);
+        }
+        let units = size as u64 + align as u64 - 1;
+        if let Some(number) = (0..self.model.len()).find(|&n| self.fits(n, units, align)) {
+            return Ok((number, false));
+        }
+        let most = self.limits.most as usize;
+        if units <= class_value(self.limits.size) as u64 {
+            return self.model[..most].iter().position(|h| h.is_none()).map(|n| (n, true)).ok_or(Refusal::Full);
+        }
+        if self.limits.most_larger == 0 {
+            return Err(Refusal::TooLarge);
+        }
+        self.model[most..].iter().position(|h| h.is_none()).map(|n| (n + most, true)).ok_or(Refusal::Full)
+    }
+
+    fn allocate(&mut self, size: u32, align: u32) {
+        let expected = self.expected(size, align);
+        let result = if align == 1 { self.heaps.allocate(size) } else { self.heaps.allocate_aligned(size, align) };
+        match (expected, result) {
+            (Err(why), Err(said)) => {
+                assert_eq!(why, said);
+                self.counts[0] += 1;
+            }
+            (Ok((number, is_new)), Ok(Granted { place, is_new: said })) => {
+                assert_eq!((number, is_new), (place.heap as usize, said));
+                assert_eq!(place.realm, REALM);
+                if is_new {
+                    self.made += 1;
+                    let usual = number < self.limits.most as usize;
+                    let units = if usual { self.limits.size } else { size };
+                    self.model[number] = Some(Heap { units, ranges: BTreeMap::new() });
+                    assert_eq!(place.ticket.realm, self.made);
+                    self.counts[1 + !usual as usize] += 1;
+                }
+                let heap = self.model[number].as_mut().unwrap();
+                let offset = place.ticket.offset;
+                assert!(offset as u64 + size as u64 <= heap.units as u64);
+                assert_eq!(offset % align, 0);
+                if let Some((&from, &units)) = heap.ranges.range(..=offset).next_back() {
+                    assert!(from + units <= offset);
+                }
+                if let Some((&from, _)) = heap.ranges.range(offset..).next() {
+                    assert!(offset + size <= from);
+                }
+                heap.ranges.insert(offset, size);
+                assert!(self.live.insert(key(place), (offset, size)).is_none());
+                self.places.insert(key(place), place);
+                let at = self.numbers.below(64) as usize;
+                self.given[at] = place;
+                self.counts[3] += 1;
+            }
+            (expected, result) => panic!("{expected:?} expected of {size} at {align}: {result:?}"),
+        }
+    }
+
+    // A place that was given, at times with a part changed.
+    fn place(&mut self) -> Place {
+        let at = self.numbers.below(64) as usize;
+        let mut place = self.given[at];
+        match self.numbers.below(24) {
+            0 => place.heap = self.numbers.below(self.model.len() as u64 + 2) as u32,
+            1 => place.realm = self.numbers.below(9) as u32,
+            2 => place.ticket.name = self.numbers.below(14) as u32,
+            3 => place.ticket.serial = self.numbers.below(40),
+            4 => place.ticket.realm = self.numbers.below(self.made as u64 + 2) as u32,
+            5 => place.ticket.offset = self.numbers.next() as u32,
+            6 => place.heap = u32::MAX,
+            _ => {}
+        }
+        place
+    }
+
+    // Frees all ranges of a heap.
+    fn empty(&mut self) {
+        let number = self.numbers.below(self.model.len() as u64) as u32;
+        let mut places: Vec<Place> = self.live.keys().filter(|k| k.0 == number).map(|k| self.places[k]).collect();
+        places.sort_by_key(|p| p.ticket.serial);
+        places.into_iter().for_each(|place| self.free_place(place));
+    }
+
+    fn free(&mut self) {
+        let place = self.place();
+        self.free_place(place);
+    }
+
+    fn free_place(&mut self, place: Place) {
+        self.ask(place);
+        let live = self.live.remove(&key(place));
+        assert_eq!(self.heaps.free(place), live.is_some());
+        if let Some((offset, size)) = live {
+            let heap = self.model[place.heap as usize].as_mut().unwrap();
+            assert_eq!(heap.ranges.remove(&offset), Some(size));
+            self.counts[4] += 1;
+        }
+        self.ask(place);
+    }
+
+    fn ask(&self, place: Place) {
+        let live = self.live.get(&key(place));
+        assert_eq!(self.heaps.is_live(place), live.is_some());
+        assert_eq!(self.heaps.offset_of(place), live.map(|r| r.0));
+        assert_eq!(self.heaps.size_of(place), live.map(|r| r.1));
+    }
+
+    fn forget(&mut self, number: usize) {
+        self.model[number] = None;
+        self.live.retain(|key, _| key.0 as usize != number);
+    }
+
+    fn drop_empty(&mut self) {
+        let keep = self.numbers.below(3) as usize;
+        let empty: Vec<usize> = (0..self.model.len()).filter(|&n| self.model[n].as_ref().is_some_and(|h| h.ranges.is_empty())).collect();
+        let expected = if empty.len() > keep { empty.last().copied() } else { None };
+        assert_eq!(self.heaps.drop_empty(keep as u32), expected.map(|n| n as u32));
+        if let Some(number) = expected {
+            self.forget(number);
+            self.counts[5] += 1;
+        }
+    }
+
+    fn give_up(&mut self) {
+        let number = self.numbers.below(self.model.len() as u64 + 2) as usize;
+        let there = number < self.model.len() && self.model[number].is_some();
+        assert_eq!(self.heaps.give_up(number as u32), there);
+        if there {
+            self.forget(number);
+            self.counts[6] += 1;
+        }
+    }
+
+    fn totals(&self) {
+        let totals = self.heaps.totals();
+        let heaps = || self.model.iter().flatten();
+        let live: u64 = self.live.values().map(|r| r.1 as u64).sum();
+        let units: u64 = heaps().map(|h| h.units as u64).sum();
+        assert_eq!(totals.heaps as usize, heaps().count());
+        assert_eq!((totals.units, totals.live_units, totals.free_units), (units, live, units - live));
+        let largest = (0..self.model.len()).filter_map(|n| self.heaps.heap(n as u32)).map(|h| h.allocator().storage_report().largest_free_region);
+        assert_eq!(totals.largest_free_region, largest.max().unwrap_or(0));
+        for (number, heap) in self.model.iter().enumerate() {
+            let there = self.heaps.heap(number as u32).map(|h| h.allocator().live_units() as u64);
+            assert_eq!(there, heap.as_ref().map(|h| h.ranges.values().map(|&n| n as u64).sum()));
+        }
+    }
+
+    fn run(&mut self, calls: u64) {
+        for call in 0..calls {
+            match self.numbers.below(100) {
+                0..=39 => {
+                    let size = match self.numbers.below(40) {
+                        0 => 0,
+                        1 => self.numbers.next() as u32,
+                        2..=4 => self.limits.size / 2 + self.numbers.below(self.limits.size as u64) as u32,
+                        _ => 1 + self.numbers.below(self.limits.size as u64 / 4) as u32,
+                    };
+                    let align = if self.numbers.below(3) == 0 { 1 << self.numbers.below(8) } else { 1 };
+                    self.allocate(size, align);
+                }
+                40..=89 => self.free(),
+                90..=94 => self.drop_empty(),
+                95 => self.give_up(),
+                96 => self.empty(),
+                97 if self.numbers.below(200) == 0 => {
+                    self.heaps.reset();
+                    self.live.clear();
+                    self.model.iter_mut().flatten().for_each(|h| h.ranges.clear());
+                    self.counts[7] += 1;
+                }
+                _ => self.totals(),
+            }
+            if call % 64 == 0 {
+                for place in self.given.clone() {
+                    self.ask(place);
+                }
+            }
+        }
+    }
+}
+
+fn runs<T: Tables>(calls: u64) {
+    let limits = |size, max_allocs, most, most_larger| Limits { size, max_allocs, most, most_larger };
+    // few nodes, so that heaps are full with one and with two blocks left; many heaps; no larger ones; none at all
+    for (limits, state) in [(limits(1_000, 8, 5, 3), 1), (limits(64, 4, 37, 11), 2), (limits(4_096, 60, 3, 0), 3), (limits(500, 20, 0, 4), 4)] {
+        let mut run = Run::<T>::new(limits, 0x9E37_79B9_7F4A_7C15 + state);
+        run.run(calls / 4);
+        println!("{limits:?}: {:?} refused, new, larger, granted, freed, dropped, given up, reset", run.counts);
+        assert!(run.counts[0] > 0 && run.counts[3] > 0 && run.counts[4] > 0 && run.counts[6] > 0 && run.counts[7] > 0);
+        assert!(run.counts[5] > 0, "an empty heap is dropped");
+        assert_eq!(run.counts[1] > 0, limits.most > 0);
+        assert_eq!(run.counts[2] > 0, limits.most_larger > 0);
+    }
+}
+
+#[test]
+fn random_calls() {
+    runs::<ByNode<u32>>(200_000);
+    runs::<ByNode<u16>>(200_000);
+    runs::<ByField<u32>>(200_000);
+}
+
+#[test]
+#[ignore = "takes longer"]
+fn two_million_random_calls() {
+    runs::<ByNode<u32>>(2_000_000);
+    runs::<ByNode<u16>>(2_000_000);
+}
+
+// No heap may be made.
+#[test]
+fn no_heap() {
+    let limits = Limits { size: 100, max_allocs: 4, most: 0, most_larger: 0 };
+    let mut heaps = HeapsOf::<ByNode<u32>>::new(Global, limits, 0).unwrap();
+    assert_eq!(heaps.allocate(1), Err(Refusal::Full));
+    assert_eq!(heaps.allocate(101), Err(Refusal::TooLarge));
+    assert_eq!(heaps.allocate(0), Err(Refusal::Empty));
+    assert_eq!(heaps.drop_empty(0), None);
+    assert!(!heaps.give_up(0));
+    heaps.reset();
+    assert_eq!(heaps.totals().units, 0);
+}
+
+// A larger heap is exactly as large as its request, and all of it is granted.
+#[test]
+fn larger_heaps() {
+    let limits = Limits { size: 1_000, max_allocs: 4, most: 1, most_larger: 2 };
+    let mut heaps = HeapsOf::<ByNode<u32>>::new(Global, limits, 3).unwrap();
+    // 960 is the largest size of a class below 1,000
+    let page = heaps.allocate(960).unwrap();
+    assert_eq!((page.place.heap, page.is_new), (0, true));
+    let large = heaps.allocate(961).unwrap();
+    assert_eq!((large.place.heap, large.is_new, large.place.ticket.offset), (1, true, 0));
+    let all = heaps.allocate_aligned(u32::MAX, 1 << 31).unwrap();
+    assert_eq!((all.place.heap, all.is_new, all.place.ticket.offset), (2, true, 0));
+    assert_eq!(heaps.allocate(2_000), Err(Refusal::Full));
+    assert_eq!(heaps.totals().free_units, 40);
+    assert!(heaps.free(large.place));
+    assert_eq!(heaps.drop_empty(0), Some(1));
+    // its number is used again, and the old place is not live
+    let next = heaps.allocate(2_000).unwrap();
+    assert_eq!((next.place.heap, next.place.ticket.realm), (1, 4));
+    assert!(!heaps.is_live(large.place));
+    assert!(!heaps.free(large.place));
+    assert!(heaps.is_live(next.place));
+}
+
+#[test]
+#[should_panic(expected = "max_allocs must be at least 4")]
+fn too_few_nodes() {
+    let _ = HeapsOf::<ByNode<u32>>::new(Global, Limits { size: 1, max_allocs: 3, most: 1, most_larger: 0 }, 0);
+}
+
+#[test]
+#[should_panic(expected = "there may be at most 4294967295 heaps")]
+fn too_many_heaps() {
+    let _ = HeapsOf::<ByNode<u32>>::new(Global, Limits { size: 1, max_allocs: 4, most: u32::MAX, most_larger: 1 }, 0);
+}
