@@ -1,5 +1,5 @@
 //! The C interface of `offset-allocator-proved` and `offset-allocator-guarded`. `include/offset_allocator.h` documents
-//! each function.
+//! each function. That of `offset-allocator-heaps` is in `heaps.rs`.
 //!
 //! No pointer is read here by hand: an allocator is a box that C holds, a call borrows it, a walk is written into what C
 //! lends, and all else goes by value. Each call tests what the library requires of its caller, so that no argument panics.
@@ -254,6 +254,8 @@ macro_rules! exports { ($(
         $($body)*
     }
 )* } }
+
+mod heaps;
 
 exports! {
     fn oa_new(size: u32, max_allocs: u32) -> Option<Box<Space>> {

@@ -1,0 +1,129 @@
+// Many heaps as one, over offset_allocator_heaps.h:
+//
+//     OffsetAllocator::Heaps heaps({1 << 24, 4096, 64, 16});
+//     OffsetAllocator::Granted mesh = heaps.allocate(3000);
+//     if (mesh && mesh.isNew) ...    // make the buffer of number mesh.place.heap, or heaps.giveUp
+//     heaps.free(mesh.place);
+//     heaps.dropEmpty(1, [](OffsetAllocator::uint32 number) { ... });    // drop the buffer of this number
+//
+// That header says of each call what it does, its errors and its cost. No call throws. C++11 or later.
+#pragma once
+
+#include "offsetAllocator.hpp"
+#include "offset_allocator_heaps.h"
+
+namespace OffsetAllocator {
+
+struct HeapLimits {
+    uint32 size;
+    uint32 maxAllocs;
+    uint32 most;
+    uint32 mostLarger;
+};
+
+// A granted range, for as long as the grant lives.
+struct Place {
+    Ticket ticket;
+    uint32 heap = Allocation::NO_SPACE;
+    uint32 realm = 0;
+};
+
+inline bool operator==(const Place &a, const Place &b) { return a.ticket == b.ticket && a.heap == b.heap && a.realm == b.realm; }
+inline bool operator!=(const Place &a, const Place &b) { return !(a == b); }
+
+enum class HeapRefusal { granted, empty, tooLarge, full, memory, badCall };
+
+struct Granted {
+    Place place;
+    bool isNew = false;
+    HeapRefusal refusal = HeapRefusal::badCall;
+
+    // Whether the request was granted.
+    explicit operator bool() const { return refusal == HeapRefusal::granted; }
+};
+
+struct HeapTotals {
+    uint32 heaps;
+    uint32 largestFreeRegion;
+    uint64_t units;
+    uint64_t liveUnits;
+    uint64_t freeUnits;
+};
+
+class Heaps {
+public:
+    // Where memory is out, or a limit is out of range, it has none: every request is refused.
+    explicit Heaps(const HeapLimits &limits, uint32 realm = 0) noexcept
+        : heaps(oah_new({limits.size, limits.maxAllocs, limits.most, limits.mostLarger}, realm)) {}
+
+    // What is moved from has none; a move to itself changes nothing.
+    Heaps(Heaps &&other) noexcept : heaps(other.heaps) { other.heaps = nullptr; }
+    Heaps &operator=(Heaps &&other) noexcept {
+        if (this != &other) {
+            oah_drop(heaps);
+            heaps = other.heaps;
+            other.heaps = nullptr;
+        }
+        return *this;
+    }
+    void swap(Heaps &other) noexcept {
+        oah_heaps *mine = heaps;
+        heaps = other.heaps;
+        other.heaps = mine;
+    }
+    Heaps(const Heaps &) = delete;
+    Heaps &operator=(const Heaps &) = delete;
+    ~Heaps() { oah_drop(heaps); }
+
+    explicit operator bool() const noexcept { return heaps != nullptr; }
+
+    void reset() { oah_reset(heaps); }
+
+    // Where it is refused, it converts to false.
+    Granted allocate(uint32 size) { return of(oah_allocate(heaps, size)); }
+    Granted allocateAligned(uint32 size, uint32 align) { return of(oah_allocate_aligned(heaps, size, align)); }
+
+    // Whether the place was live; if not, nothing changes.
+    bool free(const Place &place) { return oah_free(heaps, in(place)); }
+
+    bool isLive(const Place &place) const { return oah_is_live(heaps, in(place)); }
+    uint32 sizeOf(const Place &place) const { return oah_size_of(heaps, in(place)); }
+    uint32 offsetOf(const Place &place) const { return oah_offset_of(heaps, in(place)); }
+
+    bool giveUp(uint32 number) { return oah_give_up(heaps, number); }
+
+    // Drops empty heaps, the last first, until at most `keep` are empty, and calls dropped(number) for each.
+    template <class F> void dropEmpty(uint32 keep, F &&dropped) {
+        for (uint32 number; (number = oah_drop_empty(heaps, keep)) != OA_NO_SPACE;) dropped(number);
+    }
+
+    bool has(uint32 number) const { return oah_has(heaps, number); }
+    StorageReport storageReport(uint32 number) const { return detail::of(oah_storage_report(heaps, number)); }
+    Statistics statistics(uint32 number) const { return detail::of(oah_statistics(heaps, number)); }
+    HeapTotals totals() const {
+        oah_all all = oah_totals(heaps);
+        return {all.heaps, all.largest_free_region, all.units, all.live_units, all.free_units};
+    }
+
+private:
+    static oah_place in(const Place &place) {
+        return {{place.ticket.serial, place.ticket.name, place.ticket.realm}, place.heap, place.realm};
+    }
+    static Granted of(const oah_granted &from) {
+        Granted granted;
+        granted.place.ticket.serial = from.place.ticket.serial;
+        granted.place.ticket.name = from.place.ticket.name;
+        granted.place.ticket.realm = from.place.ticket.realm;
+        granted.place.heap = from.place.heap;
+        granted.place.realm = from.place.realm;
+        granted.isNew = from.is_new;
+        granted.refusal = HeapRefusal(from.refusal);
+        return granted;
+    }
+
+    oah_heaps *heaps;
+};
+
+inline void swap(Heaps &a, Heaps &b) noexcept { a.swap(b); }
+
+} // namespace OffsetAllocator

@@ -1,0 +1,124 @@
+/* Many heaps as one: ranges of as many buffers as are needed, each with a heap of its own.
+ *
+ *     oah_limits limits = {1 << 24, 4096, 64, 16};
+ *     oah_heaps *heaps = oah_new(limits, 1);
+ *     oah_granted mesh = oah_allocate(heaps, 3000);
+ *     if (mesh.is_new) ...                  // make the buffer of number mesh.place.heap, or oah_give_up
+ *     oah_offset_of(heaps, mesh.place);     // where the range begins in it
+ *     oah_free(heaps, mesh.place);
+ *     for (uint32_t n; (n = oah_drop_empty(heaps, 1)) != OA_NO_SPACE;) ...    // drop the buffer of number n
+ *
+ * Heaps of the usual size have the numbers below most, larger ones those from most on. Nothing is known of the buffers.
+ * Every call takes any place: one that is stale, altered, made up, or of other heaps with another realm is refused by the
+ * result, and nothing changes. No call takes memory but oah_new and a request that makes a heap. Any pointer to heaps may
+ * be null. Several threads may read at a time; none may read or write while another writes. */
+#ifndef OFFSET_ALLOCATOR_HEAPS_H
+#define OFFSET_ALLOCATOR_HEAPS_H
+
+#include "offset_allocator.h"
+
+#ifdef __cplusplus
+extern "C" {
+#endif
+
+/* Many heaps. */
+typedef struct oah_heaps oah_heaps;
+
+/* size: the units of a heap of the usual size. max_allocs: its node limit, 4 to 4294967293 (a larger heap has 4). most: how
+ * many such heaps there may be at a time. most_larger: how many larger ones, each of the size of the request that it was
+ * made for. */
+typedef struct oah_limits {
+    uint32_t size;
+    uint32_t max_allocs;
+    uint32_t most;
+    uint32_t most_larger;
+} oah_limits;
+
+/* A granted range, of 24 bytes. ticket: its ticket in its heap, whose serial is 0 for a refused request. heap: the number of
+ * its heap. realm: that of the heaps. */
+typedef struct oah_place {
+    oag_ticket ticket;
+    uint32_t heap;
+    uint32_t realm;
+} oah_place;
+
+/* Why a request is refused: the first of these that applies. */
+typedef enum oah_refusal {
+    OAH_GRANTED = 0,   /* It is granted. */
+    OAH_EMPTY = 1,     /* It is for no unit. */
+    OAH_TOO_LARGE = 2, /* No heap has room, a fresh one would not have it, and there may be no larger ones. */
+    OAH_FULL = 3,      /* No heap has room, and no other may be made for it. Free ranges, or drop empty heaps. */
+    OAH_MEMORY = 4,    /* No heap has room. Another one may be made, but its memory was refused. */
+    OAH_BAD_CALL = 5   /* The heaps are null, or the alignment is no power of two. */
+} oah_refusal;
+
+/* What a request gets. is_new: its heap was made for it: make the buffer of that number before the range is used, or take the
+ * heap back by oah_give_up. */
+typedef struct oah_granted {
+    oah_place place;
+    bool is_new;
+    oah_refusal refusal;
+} oah_granted;
+
+/* What is live and what is free in all heaps. A request of at least 1 unit, without alignment, is granted by a heap that is
+ * there exactly when it is at most largest_free_region. */
+typedef struct oah_all {
+    uint32_t heaps;
+    uint32_t largest_free_region;
+    uint64_t units;
+    uint64_t live_units;
+    uint64_t free_units;
+} oah_all;
+
+/* No heap, and memory for the numbers of all that may be made, some 1.2 KB each. `realm` is kept in places. Null where a
+ * limit is out of range, there may be more than 4294967295 heaps, or memory is out. */
+oah_heaps *oah_new(oah_limits limits, uint32_t realm);
+
+/* Frees the memory of all heaps. A null pointer is allowed. */
+void oah_drop(oah_heaps *heaps);
+
+/* Makes the space of each heap free. No earlier place is live then. All heaps stay, for oah_drop_empty. */
+void oah_reset(oah_heaps *heaps);
+
+/* Grants `size` units of the first heap, by number, that has room; where none has, of a new heap: of the usual size if a
+ * fresh one has room, else of exactly `size` units. Where it is refused, nothing changes.
+ * Cost: that of oag_allocate, and some steps for each bit of the numbers. */
+oah_granted oah_allocate(oah_heaps *heaps, uint32_t size);
+
+/* The same at a multiple of align, a power of two, in the heap: it takes room for size + align - 1 units. */
+oah_granted oah_allocate_aligned(oah_heaps *heaps, uint32_t size, uint32_t align);
+
+/* Frees the range of a place. True if it was live; else nothing changes. Its heap stays, for oah_drop_empty. */
+bool oah_free(oah_heaps *heaps, oah_place place);
+
+/* Whether the range of a place was not freed, its heap not given up, and nothing reset since. */
+bool oah_is_live(const oah_heaps *heaps, oah_place place);
+
+/* The units of the range of a place; 0 where it is not live. */
+uint32_t oah_size_of(const oah_heaps *heaps, oah_place place);
+
+/* Where the range of a place begins in its heap; OA_NO_SPACE where it is not live. */
+uint32_t oah_offset_of(const oah_heaps *heaps, oah_place place);
+
+/* Takes back the heap of a number, with all that it granted. True if there was one. No place of it is ever live again. */
+bool oah_give_up(oah_heaps *heaps, uint32_t number);
+
+/* Drops the last empty heap, by number, if more than `keep` are empty, and returns its number: drop its buffer. OA_NO_SPACE
+ * where at most `keep` are empty, or for null. No place loses its range. Cost: each number is read once. */
+uint32_t oah_drop_empty(oah_heaps *heaps, uint32_t keep);
+
+/* Whether a number has a heap. */
+bool oah_has(const oah_heaps *heaps, uint32_t number);
+
+/* As oa_storage_report and oa_statistics, of the heap of a number; all 0 where it has none. */
+oa_report oah_storage_report(const oah_heaps *heaps, uint32_t number);
+oa_totals oah_statistics(const oah_heaps *heaps, uint32_t number);
+
+/* What is live and what is free in all heaps; all 0 for null. Cost: each number is read once. */
+oah_all oah_totals(const oah_heaps *heaps);
+
+#ifdef __cplusplus
+}
+#endif
+
+#endif

@@ -1,0 +1,137 @@
+//! The C interface of `offset-allocator-heaps`. `include/offset_allocator_heaps.h` documents each function.
+
+use offset_allocator_heaps::{Granted, Heaps, Limits, Place, Refusal, Ticket};
+
+use crate::{boxed, short, totals, Guard, Report, Totals, NO_REPORT, NO_SPACE, NO_TICKET};
+
+/// Many heaps, as C holds them.
+pub type ManyHeaps = [Heaps; 1];
+
+/// What the heaps are, and how many there may be.
+#[repr(C)]
+#[derive(Clone, Copy)]
+pub struct HeapLimits {
+    size: u32,
+    max_allocs: u32,
+    most: u32,
+    most_larger: u32,
+}
+
+/// A granted range: its ticket, the number of its heap, and the realm.
+#[repr(C)]
+#[derive(Clone, Copy)]
+pub struct At {
+    ticket: Guard,
+    heap: u32,
+    realm: u32,
+}
+
+/// Why a request is refused.
+#[repr(C)]
+#[derive(Clone, Copy)]
+pub enum Why {
+    Granted,
+    Empty,
+    TooLarge,
+    Full,
+    Memory,
+    BadCall,
+}
+
+/// What a request gets.
+#[repr(C)]
+#[derive(Clone, Copy)]
+pub struct Answer {
+    place: At,
+    is_new: bool,
+    refusal: Why,
+}
+
+/// What is live and what is free in all heaps.
+#[repr(C)]
+#[derive(Clone, Copy)]
+pub struct All {
+    heaps: u32,
+    largest_free_region: u32,
+    units: u64,
+    live_units: u64,
+    free_units: u64,
+}
+
+const NOWHERE: At = At { ticket: NO_TICKET, heap: NO_SPACE, realm: 0 };
+
+const BAD_CALL: Answer = Answer { place: NOWHERE, is_new: false, refusal: Why::BadCall };
+
+const NOTHING_AT_ALL: All = All { heaps: 0, largest_free_region: 0, units: 0, live_units: 0, free_units: 0 };
+
+fn answer(result: Result<Granted, Refusal>) -> Answer {
+    let refusal = match result {
+        Ok(Granted { place: Place { heap, realm, ticket }, is_new }) => {
+            let ticket = Guard { serial: ticket.serial, name: ticket.name, realm: ticket.realm };
+            return Answer { place: At { ticket, heap, realm }, is_new, refusal: Why::Granted };
+        }
+        Err(Refusal::Empty) => Why::Empty,
+        Err(Refusal::TooLarge) => Why::TooLarge,
+        Err(Refusal::Full) => Why::Full,
+        Err(Refusal::Memory) => Why::Memory,
+    };
+    Answer { place: NOWHERE, is_new: false, refusal }
+}
+
+// No call reads the offset of a ticket.
+fn place(at: At) -> Place {
+    let Guard { serial, name, realm } = at.ticket;
+    Place { heap: at.heap, realm: at.realm, ticket: Ticket { offset: 0, name, serial, realm } }
+}
+
+exports! {
+    fn oah_new(limits: HeapLimits, realm: u32) -> Option<Box<ManyHeaps>> {
+        let HeapLimits { size, max_allocs, most, most_larger } = limits;
+        // the limits that the library admits
+        if !(4..=u32::MAX - 2).contains(&max_allocs) || most.checked_add(most_larger).is_none() {
+            return None;
+        }
+        boxed(Heaps::new(offset_allocator_heaps::Global, Limits { size, max_allocs, most, most_larger }, realm).ok()?)
+    } else ();
+
+    fn oah_drop(heaps: Option<Box<ManyHeaps>>) -> () { drop(heaps) } else ();
+
+    fn oah_reset([heaps: &mut ManyHeaps],) -> () { heaps.reset() } else ();
+
+    fn oah_allocate([heaps: &mut ManyHeaps], size: u32) -> Answer { answer(heaps.allocate(size)) } else BAD_CALL;
+
+    fn oah_allocate_aligned([heaps: &mut ManyHeaps], size: u32, align: u32) -> Answer {
+        if align.is_power_of_two() { answer(heaps.allocate_aligned(size, align)) } else { BAD_CALL }
+    } else BAD_CALL;
+
+    fn oah_free([heaps: &mut ManyHeaps], at: At) -> bool { heaps.free(place(at)) } else false;
+
+    fn oah_is_live([heaps: &ManyHeaps], at: At) -> bool { heaps.is_live(place(at)) } else false;
+
+    fn oah_size_of([heaps: &ManyHeaps], at: At) -> u32 { heaps.size_of(place(at)).unwrap_or(0) } else 0;
+
+    fn oah_offset_of([heaps: &ManyHeaps], at: At) -> u32 {
+        heaps.offset_of(place(at)).unwrap_or(NO_SPACE)
+    } else NO_SPACE;
+
+    fn oah_give_up([heaps: &mut ManyHeaps], number: u32) -> bool { heaps.give_up(number) } else false;
+
+    fn oah_drop_empty([heaps: &mut ManyHeaps], keep: u32) -> u32 {
+        heaps.drop_empty(keep).unwrap_or(NO_SPACE)
+    } else NO_SPACE;
+
+    fn oah_has([heaps: &ManyHeaps], number: u32) -> bool { heaps.heap(number).is_some() } else false;
+
+    fn oah_storage_report([heaps: &ManyHeaps], number: u32) -> Report {
+        heaps.heap(number).map_or(NO_REPORT, |heap| short(heap.allocator()))
+    } else NO_REPORT;
+
+    fn oah_statistics([heaps: &ManyHeaps], number: u32) -> Totals {
+        heaps.heap(number).map_or(Totals::default(), |heap| totals(heap.allocator()))
+    } else Totals::default();
+
+    fn oah_totals([heaps: &ManyHeaps],) -> All {
+        let offset_allocator_heaps::Totals { heaps, units, live_units, free_units, largest_free_region } = heaps.totals();
+        All { heaps, largest_free_region, units, live_units, free_units }
+    } else NOTHING_AT_ALL;
+}

@@ -1,0 +1,55 @@
+// The calls of offsetAllocatorHeaps.hpp: a store of buffers that grows, has one of its own for what is large, and shrinks.
+#include "offsetAllocatorHeaps.hpp"
+
+#include <cstdio>
+#include <cstdlib>
+#include <map>
+#include <type_traits>
+#include <utility>
+#include <vector>
+
+using namespace OffsetAllocator;
+
+static int checks;
+#define CHECK(x) do { checks++; if (!(x)) { std::fprintf(stderr, "%s:%d: not so: %s\n", __FILE__, __LINE__, #x); std::exit(1); } } while (0)
+
+static_assert(!std::is_copy_constructible<Heaps>::value, "heaps are not copied");
+static_assert(std::is_nothrow_move_constructible<Heaps>::value && std::is_nothrow_move_assignable<Heaps>::value, "they are moved");
+static_assert(sizeof(Place) == 24, "a place is as in C");
+
+int main() {
+    Heaps heaps({1024, 64, 4, 2}, 5);
+    CHECK(heaps);
+    std::map<uint32, std::vector<char>> buffers;
+    std::vector<Place> places;
+    // each range is filled with a letter of its own, and none writes into another
+    for (int i = 0; i < 26; i++) {
+        Granted granted = heaps.allocateAligned(100, 4);
+        CHECK(granted);
+        if (granted.isNew) buffers[granted.place.heap].resize(1024);
+        CHECK(heaps.offsetOf(granted.place) % 4 == 0 && heaps.sizeOf(granted.place) == 100);
+        for (uint32 k = 0; k < 100; k++) buffers[granted.place.heap][heaps.offsetOf(granted.place) + k] = char('a' + i);
+        places.push_back(granted.place);
+    }
+    for (int i = 0; i < 26; i++)
+        for (uint32 k = 0; k < 100; k++) CHECK(buffers[places[i].heap][heaps.offsetOf(places[i]) + k] == 'a' + i);
+    CHECK(buffers.size() == 3 && heaps.totals().heaps == 3 && heaps.totals().liveUnits == 2600);
+    Granted large = heaps.allocate(5000);
+    CHECK(large && large.isNew && large.place.heap == 4 && heaps.storageReport(4).totalFreeSpace == 0);
+    // its buffer can't be made
+    CHECK(heaps.giveUp(large.place.heap) && !heaps.isLive(large.place));
+    CHECK(heaps.allocate(0).refusal == HeapRefusal::empty && !heaps.allocate(0));
+    CHECK(heaps.allocateAligned(1, 3).refusal == HeapRefusal::badCall);
+    for (const Place &place : places) CHECK(heaps.free(place) && !heaps.free(place));
+    std::vector<uint32> dropped;
+    heaps.dropEmpty(1, [&](uint32 number) { dropped.push_back(number); });
+    CHECK((dropped == std::vector<uint32>{2, 1}) && heaps.has(0) && !heaps.has(1));
+    Heaps moved(std::move(heaps));
+    CHECK(!heaps && moved && moved.totals().heaps == 1 && heaps.totals().heaps == 0);
+    swap(heaps, moved);
+    CHECK(heaps && !moved && !moved.allocate(1));
+    heaps.reset();
+    CHECK(heaps.statistics(0).liveRanges == 0 && heaps.statistics(0).freeUnits == 1024);
+    CHECK(!Heaps({1, 3, 1, 1}));
+    std::printf("C++: %d checks of heaps pass\n", checks);
+}
