@@ -24,11 +24,11 @@ pub(crate) struct Index {
     pub(crate) spare: Maxima,
 }
 
-// Whether a serial is left for one more grant.
+// Whether a serial is left for one more grant. A request that is larger than the space costs the least to refuse.
 fn has_serial_left<T: Tables>(heap: &GuardedOf<T>) -> bool
     ensures { IsTrue result ↔ HasSerialLeft heap.now }
 {
-    match heap.refusal(0) {
+    match heap.refusal(u32::MAX) {
         Some(Refusal::Serials) => false,
         Some(Refusal::Allocator(_)) => true,
         None => true,

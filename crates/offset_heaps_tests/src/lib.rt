@@ -1,0 +1,7 @@
+//! Tests of many heaps.
+#![tactic(auto)]
+
+#[cfg(test)]
+mod asserts;
+#[cfg(test)]
+mod heaps;
