@@ -6,6 +6,7 @@ pub mod Always
 pub mod Binned
 pub mod Classes
 pub mod Compacting
+pub mod Alike
 pub mod Counting
 pub mod Emptied
 pub mod Ends

@@ -13,15 +13,15 @@ blank_at (n ∷ ns) zero = refl
 blank_at (n ∷ ns) (suc x) = blank_at ns x
 
 module _ (c : ChainCells) (i : ℕ) where
-  node-with_node : (x : ℕ) → node (with_node c i) x ≡ node c x
+  pub node-with_node : (x : ℕ) → node (with_node c i) x ≡ node c x
   unfolding node with_node
   node-with_node x = blank_at c.nodes x
 
-  length-with_node : length (with_node c i).nodes ≡ length c.nodes + 1
+  pub length-with_node : length (with_node c i).nodes ≡ length c.nodes + 1
   unfolding with_node
   length-with_node = length-append c.nodes (blank ∷ [])
 
-  reserved-with_node : (with_node c i).reserved ≡ c.reserved
+  pub reserved-with_node : (with_node c i).reserved ≡ c.reserved
   unfolding with_node
   reserved-with_node = refl
 

@@ -4,6 +4,7 @@ pub mod Cells
 pub mod Chain
 pub mod Classes
 pub mod Compacting
+pub mod Copying
 pub mod Layouts
 pub mod Listing
 pub mod Ranges

@@ -35,6 +35,7 @@ mod by_field;
 mod by_node;
 mod chain;
 mod compact;
+mod copying;
 pub mod ext;
 mod fills;
 mod handle;
