@@ -130,3 +130,12 @@ can_hold n align g h shows left can = (λ e. subst (λ h. (h.given < last_serial
 pub same_limit_tight : (n align : ℕ) (v w : View) (h : Grant) → AlignsTight n align v w (Some h) → w.max_allocs ≡ v.max_allocs
 same_limit_tight n align v w h (inl t) = same_limit n align v w h t
 same_limit_tight n align v w h (inr t) = ap (λ (z : View). z.max_allocs) t.1.1.3.view
+
+-- a copy of the space, and of the serials
+pub copied : {max : ℕ} {v w : View} {t u : Table} → IsGuarded max v t → w ≡ record v { accesses = 0 } → u.cells ≡ t.cells → u.given ≡ t.given → v.max_allocs ≤ u.room → IsGuarded max w u
+copied {max} {v} {w} {t} {u} h e cells given room = record {
+  live = λ x l. rw cells (h.live x (subst (λ (k : View). named.IsLive x k) e l));
+  given = λ x. rw (cells, given) (h.given x);
+  memory = rw e room;
+  admitted = rw e h.admitted;
+}

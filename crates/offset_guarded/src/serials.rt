@@ -25,13 +25,13 @@ impl Model for Serials {
 // Adds a cell at the end of a table that has room for it. `insert`, unlike `push`, promises that the memory stays the
 // same. It is out of line, since each cell is made once.
 #[inline(never)]
-fn push_within(cells: &mut Vec<u64>)
+fn push_within(cells: &mut Vec<u64>, serial: u64)
     requires { vec_len cells.old < vec_capacity cells.old }
-    ensures items { cells.new.items ≡ cells.old.items ++ 0 ∷ [] }
+    ensures items { cells.new.items ≡ cells.old.items ++ serial ∷ [] }
     ensures len { vec_len cells.new ≡ vec_len cells.old + 1 }
     ensures memory { vec_capacity cells.new ≡ vec_capacity cells.old }
 {
-    let _ = cells.insert(cells.len(), 0);
+    let _ = cells.insert(cells.len(), serial);
 }
 
 impl Serials {
@@ -45,6 +45,22 @@ impl Serials {
         })
     }
 
+    /// A copy, with memory for at least this many names.
+    pub(crate) fn try_clone(&self, alloc: Global, names: u32) -> Result<Self, AllocError>
+        ensures cells { IfOk result (λ s. s.cells ≡ self.now.cells) }
+        ensures given { IfOk result (λ s. s.given ≡ self.now.given) }
+        ensures room { IfOk result (λ s. names ≤ s.room) }
+    {
+        let mut cells = Vec::with_capacity(alloc, self.cells.len().max(names as usize))?;
+        for serial in &self.cells {
+            push_within(&mut cells, *serial);
+        }
+        Ok(Serials {
+            cells,
+            given: self.given,
+        })
+    }
+
     /// Makes the cells of all names below a number.
     #[inline]
     pub(crate) fn cover(&mut self, names: u32)
@@ -55,7 +71,7 @@ impl Serials {
         ensures room { self.new.room ≡ self.old.room }
     {
         while self.cells.len() < names as usize {
-            push_within(&mut self.cells);
+            push_within(&mut self.cells, 0);
         }
     }
 
