@@ -10,6 +10,10 @@ use Rattle.offset_allocator.specs.View.{View, Block, Grant, Place, units, bin_at
 abbrev pub SameSpace : View → View → Type 0
 SameSpace v w = w ≡ record v { accesses = w.accesses }
 
+-- the same space, which has counted no access
+abbrev pub IsCopy : View → View → Type 0
+IsCopy v w = w ≡ record v { accesses = 0 }
+
 -- one free block of size units, alone in its bin
 pub record IsFresh (size max_allocs : ℕ) (w : View) : Type 0 where
   pub name : ℕ

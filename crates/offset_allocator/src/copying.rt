@@ -2,6 +2,7 @@
 ghost use Rattle.std.specs.Prelude.{◌≡◌, ◌<◌, ◌≤◌, ℕ, false, length, IfOk};
 ghost use Rattle.offset_allocator.specs.Cells.{node};
 ghost use Rattle.offset_allocator.specs.Copying.{IsAlikeAt, IsFilled, IsRoomFor, KeepsOtherNames};
+ghost use Rattle.offset_allocator.specs.Relations.{IsCopy};
 
 use crate::AllocatorOf;
 use crate::accesses::Accesses;
@@ -10,7 +11,12 @@ use crate::tables::Tables;
 use std::alloc::{AllocError, Global};
 
 // Tables with as many nodes as others have, none of them used, and no name in a bin.
-fn with_nodes<T: Tables>(alloc: Global, from: &T, limit: u32, count: &mut Accesses) -> Result<T, AllocError>
+fn with_nodes<T: Tables>(
+    alloc: Global,
+    from: &T,
+    limit: u32,
+    count: &mut Accesses,
+) -> Result<T, AllocError>
     requires memory { limit ≡ (T.cells from.now).chain.reserved }
     requires some { 0 < length (T.cells from.now).chain.nodes }
     ensures room { IfOk result (λ into. IsRoomFor (T.cells from.now) (T.cells into)) }
@@ -85,7 +91,12 @@ fn copy_bins<T: Tables>(from: &T, into: &mut T, count: &mut Accesses)
 }
 
 // Tables with the same cells.
-fn copied<T: Tables>(alloc: Global, from: &T, limit: u32, count: &mut Accesses) -> Result<T, AllocError>
+fn copied<T: Tables>(
+    alloc: Global,
+    from: &T,
+    limit: u32,
+    count: &mut Accesses,
+) -> Result<T, AllocError>
     requires memory { limit ≡ (T.cells from.now).chain.reserved }
     requires some { 0 < length (T.cells from.now).chain.nodes }
     ensures cells { IfOk result (λ into. T.cells into ≡ T.cells from.now) }
@@ -108,8 +119,7 @@ impl<T: Tables> AllocatorOf<T> {
     /// It reserves what `with_max_allocs` does, and takes time for the nodes that were made, which `node_count` counts,
     /// and not for the node limit. An error is returned only where an allocation failed; then nothing is made.
     pub fn try_clone(&self, alloc: Global) -> Result<Self, AllocError>
-        // The whole view, with no access counted so far.
-        ensures { IfOk result (λ copy. copy ≡ record self.now { accesses = 0 }) }
+        ensures { IfOk result (IsCopy self.now) }
     {
         let mut count = Accesses::new();
         let store = &self.store;

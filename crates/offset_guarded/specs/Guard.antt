@@ -85,6 +85,10 @@ pub record KeepsSerials (g h : Guard) : Type 0 where
 abbrev pub IsSame : Guard → Guard → Type 0
 IsSame g h = SameSpace g.space h.space × KeepsSerials g h
 
+-- the same, of a space that has counted no access
+abbrev pub IsCopy : Guard → Guard → Type 0
+IsCopy g h = h ≡ record g { space = record g.space { accesses = 0 } }
+
 -- the handle of a ticket
 abbrev pub grant_of : Ticket → Grant
 grant_of t = record { name = t.name; offset = t.offset }

@@ -20,7 +20,7 @@ ghost use Rattle.offset_allocator.specs.Ranges.{Range};
 ghost use Rattle.offset_allocator.specs.Ranges as named;
 ghost use Rattle.offset_allocator.specs.View.{used_of};
 ghost use Rattle.offset_allocator.specs.Relations.{Frees, IsFresh, Resets};
-ghost use Rattle.offset_guarded.specs.Guard.{IsLive, KeepsOthers, last_serial, range_of, serial_of};
+ghost use Rattle.offset_guarded.specs.Guard.{IsCopy, IsLive, KeepsOthers, last_serial, range_of, serial_of};
 
 mod changing;
 mod granting;
@@ -111,10 +111,7 @@ impl<T: Tables> GuardedOf<T> {
     ///
     /// An error is returned only where an allocation failed; then nothing is made.
     pub fn try_clone(&self, alloc: Global) -> Result<Self, AllocError>
-        // All of it, with no access counted so far.
-        ensures { IfOk result (λ copy. copy ≡ record self.now {
-          space = record self.now.space { accesses = 0 };
-        }) }
+        ensures { IfOk result (IsCopy self.now) }
     {
         let serials = self.serials.try_clone(alloc, self.space.max_allocs())?;
         let space = self.space.try_clone(alloc)?;

@@ -52,8 +52,8 @@ impl Serials {
         ensures room { IfOk result (λ s. names ≤ s.room) }
     {
         let mut cells = Vec::with_capacity(alloc, self.cells.len().max(names as usize))?;
-        for serial in &self.cells {
-            push_within(&mut cells, *serial);
+        for name in 0..self.cells.len() {
+            push_within(&mut cells, self.cells[name]);
         }
         Ok(Serials {
             cells,
