@@ -1,6 +1,6 @@
 -- Tables that are filled with the cells of others.
-use Rattle.offset_allocator.proofs.Common.{◌≡◌, ◌≢◌, ℕ, ◌<◌, ◌≤◌, ◌+◌, ◌-◌, true, false, Bool, Option, List, length, get_or, get_or-set_same, get_or-set_other, length-set, set, refl, sym, ap, ◌∙◌, arith, ext_get_or}
-use Rattle.offset_allocator.proofs.Common.{slice_index, eqb, nat_tests, Cells, ChainCells, Node, blank, node, put, with_spare, AreShaped, mark_of, common_steps}
+use Rattle.offset_allocator.proofs.Common.{◌≡◌, ℕ, ◌<◌, ◌-◌, true, Bool, Option, List, length, get_or, get_or-set_same, get_or-set_other, set, refl, sym, ap, ◌∙◌, arith, ext_get_or}
+use Rattle.offset_allocator.proofs.Common.{slice_index, nat_tests, Cells, ChainCells, Node, blank, node, put, with_spare, AreShaped, mark_of}
 use Rattle.offset_allocator.proofs.{Nodes.node-put, Nodes.node-put_other, Nodes.length-put, Nodes.spare-put, Nodes.reserved-put, Nodes.nodes-with_spare, Nodes.reserved-with_spare}
 use Rattle.offset_allocator.specs.Copying.{IsAlikeAt, IsFilled, KeepsOtherNames}
 

@@ -1,5 +1,5 @@
 -- Tables that are filled with the cells of others.
-use Rattle.std.specs.Prelude.{◌≡◌, ◌≢◌, ℕ, ◌<◌, false, length, slice_index}
+use Rattle.std.specs.Prelude.{◌≡◌, ◌≢◌, ℕ, false, length, slice_index}
 use Rattle.offset_allocator.specs.Cells.{Cells, node}
 
 -- tables with as many nodes and as much memory; none of their nodes is used

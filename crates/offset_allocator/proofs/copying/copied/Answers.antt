@@ -1,4 +1,4 @@
-use Rattle.offset_allocator.proofs.Common.{◌≡◌, ap, ◌∙◌, length, arith, Cells}
+use Rattle.offset_allocator.proofs.Common.{ap, ◌∙◌, length, arith, Cells}
 use Rattle.offset_allocator.proofs.Alike.{same_cells}
 use Rattle.offset_allocator.proofs.copying.copied.Goals as goal
 

@@ -1,4 +1,4 @@
-use Rattle.offset_allocator.proofs.Common.{◌≡◌, ap, ◌∙◌, sym, length, arith, Cells, Node, node}
+use Rattle.offset_allocator.proofs.Common.{ap, ◌∙◌, sym, arith, Cells, Node, node}
 use Rattle.offset_allocator.proofs.{Alike.used_filled, Alike.idle_filled, Alike.node_is, Alike.marked, Nodes.node-put}
 use Rattle.offset_allocator.proofs.copying.copy_node.Goals as goal
 

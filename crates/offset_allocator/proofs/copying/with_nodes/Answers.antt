@@ -1,4 +1,4 @@
-use Rattle.offset_allocator.proofs.Common.{◌≡◌, ◌∙◌, ap, sym, length, node, Node, ChainCells, arith}
+use Rattle.offset_allocator.proofs.Common.{◌∙◌, ap, length, node, Node, ChainCells, arith}
 use Rattle.offset_allocator.proofs.{Fresh.bare_length, Fresh.bare_idle, Readied.node-with_node, Readied.length-with_node, Readied.reserved-with_node}
 use Rattle.offset_allocator.proofs.copying.with_nodes.Goals as goal
 
