@@ -23,11 +23,11 @@ module _ {x max : ℕ} {f c d : Cells} (n : Node) (o : ℕ) (s : AreShaped max c
   idle_filled {k} w q is newer =
       grind (arith, get_or-set_same, get_or-set_other, node-put, node-put_other, length-put, spare-put, reserved-put)
 
-spare-with_spare : (c : ChainCells) (i v : ℕ) → (with_spare c i v).spare ≡ set c.spare i v
+pub spare-with_spare : (c : ChainCells) (i v : ℕ) → (with_spare c i v).spare ≡ set c.spare i v
 unfolding with_spare
 spare-with_spare c i v = refl
 
-node-with_spare : (c : ChainCells) (i v y : ℕ) → node (with_spare c i v) y ≡ node c y
+pub node-with_spare : (c : ChainCells) (i v y : ℕ) → node (with_spare c i v) y ≡ node c y
 unfolding node with_spare
 node-with_spare c i v y = refl
 

@@ -14,7 +14,7 @@ drop_one x (y ∷ ys) l = elim (hit_cases x y) [
 ]
 
 -- m names are below m
-length_below : (m : ℕ) (xs : List ℕ) → ((x : ℕ) → times x xs ≤ 1) → ((x : ℕ) → IsAmong x xs → x < m) → length xs ≤ m
+pub length_below : (m : ℕ) (xs : List ℕ) → ((x : ℕ) → times x xs ≤ 1) → ((x : ℕ) → IsAmong x xs → x < m) → length xs ≤ m
 length_below zero [] o l = omega arith
 length_below zero (x ∷ xs) o l = absurd (omega (arith, l x (omega (arith, one-same x))))
 length_below (suc m) xs o l = elim (cases_eq (times m xs) 0) [

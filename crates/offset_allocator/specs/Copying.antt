@@ -1,12 +1,13 @@
 -- Tables that are filled with the cells of others.
 use Rattle.std.specs.Prelude.{◌≡◌, ◌≢◌, ℕ, false, length, slice_index}
-use Rattle.offset_allocator.specs.Cells.{Cells, node}
+use Rattle.offset_allocator.specs.Cells.{Cells, AreEmpty, node}
 
--- tables with as many nodes and as much memory; none of their nodes is used
-pub record IsRoomFor (c d : Cells) : Type 0 where
-  pub nodes : length d.chain.nodes ≡ length c.chain.nodes
-  pub reserved : d.chain.reserved ≡ c.chain.reserved
+-- tables with n nodes, none of them used, memory for m, and no name in a bin
+pub record IsIdle (max n m : ℕ) (d : Cells) : Type 0 where
+  pub nodes : length d.chain.nodes ≡ n
+  pub reserved : d.chain.reserved ≡ m
   pub idle : (x : ℕ) → (node d.chain x).used ≡ false
+  pub empty : AreEmpty max d.bins
 
 -- a name has the same node, the same links in its bin and the same entry of the stack
 pub record IsAlikeAt (x : ℕ) (c d : Cells) : Type 0 where

@@ -1,5 +1,6 @@
 pub mod Accesses
 pub mod Bins
+pub mod Building
 pub mod Cells
 pub mod Chain
 pub mod Classes
@@ -14,6 +15,7 @@ pub mod Reports
 pub mod Requests
 pub mod Resizing
 pub mod Soundness
+pub mod State
 pub mod Statistics
 pub mod Store
 pub mod Tight

@@ -1,7 +1,7 @@
 //! A copy of a space, cell by cell: it makes tables, and reads those of the space.
 ghost use Rattle.std.specs.Prelude.{◌≡◌, ◌<◌, ◌≤◌, ℕ, false, length, IfOk};
 ghost use Rattle.offset_allocator.specs.Cells.{node};
-ghost use Rattle.offset_allocator.specs.Copying.{IsAlikeAt, IsFilled, IsRoomFor, KeepsOtherNames};
+ghost use Rattle.offset_allocator.specs.Copying.{IsAlikeAt, IsFilled, IsIdle, KeepsOtherNames};
 ghost use Rattle.offset_allocator.specs.Relations.{IsCopy};
 
 use crate::AllocatorOf;
@@ -10,23 +10,23 @@ use crate::store::Store;
 use crate::tables::Tables;
 use std::alloc::{AllocError, Global};
 
-// Tables with as many nodes as others have, none of them used, and no name in a bin.
-fn with_nodes<T: Tables>(
+/// Tables with some nodes, none of them used, memory for `limit`, and no name in a bin.
+pub(crate) fn with_nodes<T: Tables>(
     alloc: Global,
-    from: &T,
     limit: u32,
+    nodes: u32,
     count: &mut Accesses,
 ) -> Result<T, AllocError>
-    requires memory { limit ≡ (T.cells from.now).chain.reserved }
-    requires some { 0 < length (T.cells from.now).chain.nodes }
-    ensures room { IfOk result (λ into. IsRoomFor (T.cells from.now) (T.cells into)) }
+    requires some { 1 ≤ nodes }
+    requires within { nodes ≤ limit }
+    requires limit { limit < T.Index.MAX }
+    ensures { IfOk result (λ tables. IsIdle T.Index.MAX nodes limit (T.cells tables)) }
 {
-    from.shape();
-    let mut into = T::with_capacity(alloc, limit)?;
-    for made in 1..from.len() {
-        into.add(made, count);
+    let mut tables = T::with_capacity(alloc, limit)?;
+    for made in 1..nodes {
+        tables.add(made, count);
     }
-    Ok(into)
+    Ok(tables)
 }
 
 // Copies the node of a name, and its links in its bin.
@@ -102,7 +102,7 @@ fn copied<T: Tables>(
     ensures cells { IfOk result (λ into. T.cells into ≡ T.cells from.now) }
 {
     from.shape();
-    let mut into = with_nodes(alloc, from, limit, count)?;
+    let mut into = with_nodes(alloc, limit, from.len(), count)?;
     for name in 0..from.len() {
         copy_name(from, &mut into, name, count);
     }

@@ -11,6 +11,7 @@ ghost use Rattle.offset_allocator.specs.View.{largest_free, padding_to, used_of,
 ghost use Rattle.offset_allocator.specs.Ranges.{Range, range_of, AreDisjoint};
 ghost use Rattle.offset_allocator.specs.Relations.{IsAlignment, SameSpace, Allocates, Frees, IsFresh};
 ghost use Rattle.offset_allocator.specs.Requests.{CanGrant, HasRoomFor, IsReport, IsWhy};
+ghost use Rattle.offset_allocator.specs.State.{IsStateOf};
 ghost use Rattle.offset_allocator.specs.Statistics.{AreStatistics};
 ghost use Rattle.offset_allocator.specs.Tight.{CanHold, IsWhyTight};
 ghost use Rattle.offset_allocator.specs.declared.reports.StorageReport.{StorageReport};
@@ -226,3 +227,15 @@ pub fn tight_refusals_advise<T: Tables>(allocator: &AllocatorOf<T>)
 pub fn moves_are_safe()
     ensures { (bs : List Block) → AreSafe (moves 0 0 bs) }
 {}
+
+/// Bytes are those of a state of one view at most, however many accesses were counted; and those of this allocator are
+/// refused by no `read_state` that admits its node limit. So `read_state` of what `write_state` returned is the same space.
+pub fn a_state_is_read_back<T: Tables>(allocator: &AllocatorOf<T>)
+    ensures one { (v w : View) (bytes : List ℕ) → IsStateOf v bytes → IsStateOf w bytes → SameSpace v w }
+    ensures formed { IsWellFormed allocator.now }
+    ensures admitted { allocator.now.max_allocs + 1 < T.Index.MAX }
+{
+    allocator.formed();
+    // a look at a field recalls the invariant
+    let _ = &allocator.size;
+}

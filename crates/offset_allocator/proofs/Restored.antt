@@ -1,0 +1,148 @@
+-- The words of a state and its parts, and the view of what is built of them.
+use Rattle.offset_allocator.proofs.Common.{◌≡◌, ℕ, suc, ◌+◌, ◌-◌, ◌*◌, ◌<◌, ◌≤◌, List, [], ◌∷◌, ◌++◌, length, take, drop, get_or, refl, sym, ap, ap₂, ◌∙◌, arith, append_assoc, nat_lt, if◌then◌else◌}
+use Rattle.offset_allocator.proofs.Common.{length-append, length-take-le, take-append-drop, Block, View, IsWellFormed, IsApart, units, count_named, times, used_of, max_size}
+use Rattle.std.proofs.Math.Seq.{drop-append_seam, take-append_seam, get_or-append_seam, take-add, drop-cons}
+use Rattle.std.proofs.lemmas.List.{length-drop}
+use Rattle.offset_allocator.proofs.{Freed.length-filed, Freed.orders_agree, Freed.filed-freed, Laying.each_small, Laying.each_far, StateWords.length-words, StateWords.count-freed, StateWords.units-freed, StateWords.length-freed, StateWords.freed_again, StateWords.freed_same}
+use Rattle.offset_allocator.specs.Building.{AreEach, IsHeader}
+use Rattle.offset_allocator.specs.Relations.{SameSpace}
+use Rattle.offset_allocator.specs.declared.restoring.Header.{Header}
+use Rattle.offset_allocator.specs.State.{AreNamesOf, IsTextOf, block_words, checksum_from, filed, freed, state_words}
+
+cut : (f m r : List ℕ) (i j : ℕ) → length f ≡ i → length m ≡ j → take j (drop i (f ++ (m ++ r))) ≡ m
+cut f m r i j e l =
+    ap (λ n. take j (drop n (f ++ (m ++ r)))) (sym e) ∙ ap (take j) (drop-append_seam f (m ++ r)) ∙ ap (λ n. take n (m ++ r)) (sym l) ∙ take-append_seam m r
+
+-- three lists behind seven numbers, and one number behind them
+pub record AreParts (ws xs ys zs : List ℕ) (s a b : ℕ) : Type 0 where
+  pub last : get_or ws (length ws - 1) 0 ≡ s
+  pub numbers : take (length ws - 1) ws ≡ take 7 ws ++ (xs ++ (ys ++ zs))
+  pub first : take (7 + a - 7) (drop 7 ws) ≡ xs
+  pub second : take (7 + a + b - (7 + a)) (drop (7 + a) ws) ≡ ys
+  pub third : take (length ws - 1 - (7 + a + b)) (drop (7 + a + b) ws) ≡ zs
+
+pub parted : (ws h xs ys zs : List ℕ) (s a b : ℕ) → ws ≡ h ++ ((xs ++ (ys ++ zs)) ++ s ∷ []) → length h ≡ 7 → length xs ≡ a → length ys ≡ b → AreParts ws xs ys zs s a b
+parted ws h xs ys zs s a b e seven la lb =
+    let body : List ℕ = xs ++ (ys ++ zs) in
+    let all : ws ≡ (h ++ body) ++ s ∷ [] = e ∙ sym (append_assoc h body (s ∷ [])) in
+    let one : ws ≡ h ++ (xs ++ ((ys ++ zs) ++ s ∷ [])) = e ∙ ap (λ l. h ++ l) (append_assoc xs (ys ++ zs) (s ∷ [])) in
+    let two : ws ≡ (h ++ xs) ++ (ys ++ (zs ++ s ∷ [])) = one ∙ sym (append_assoc h xs ((ys ++ zs) ++ s ∷ [])) ∙ ap (λ l. (h ++ xs) ++ l) (append_assoc ys zs (s ∷ [])) in
+    let three : ws ≡ ((h ++ xs) ++ ys) ++ (zs ++ s ∷ []) = two ∙ sym (append_assoc (h ++ xs) ys (zs ++ s ∷ [])) in
+    let long : length ws ≡ length (h ++ body) + 1 = ap length all ∙ length-append (h ++ body) (s ∷ []) in
+    let size : length (h ++ body) ≡ length ws - 1 = omega (arith, long) in
+    let lx : length (h ++ xs) ≡ 7 + a = omega (arith, length-append h xs, seven, la) in
+    let ly : length ((h ++ xs) ++ ys) ≡ 7 + a + b = omega (arith, length-append (h ++ xs) ys, lx, lb) in
+    let lz : length zs ≡ length ws - 1 - (7 + a + b) = omega (arith, size, length-append h body, length-append xs (ys ++ zs), length-append ys zs, seven, la, lb) in
+    let head : take 7 ws ≡ h = ap (λ n. take n ws) (sym seven) ∙ ap (take (length h)) e ∙ take-append_seam h (body ++ s ∷ []) in
+    record {
+      last = ap (λ n. get_or ws n 0) (sym size) ∙ ap (λ l. get_or l (length (h ++ body)) 0) all ∙ get_or-append_seam (h ++ body) s [] 0;
+      numbers = ap (λ n. take n ws) (sym size) ∙ ap (take (length (h ++ body))) all ∙ take-append_seam (h ++ body) (s ∷ []) ∙ ap (λ l. l ++ body) (sym head);
+      first = ap (λ l. take (7 + a - 7) (drop 7 l)) one ∙ cut h xs ((ys ++ zs) ++ s ∷ []) 7 (7 + a - 7) seven (omega (arith, la));
+      second = ap (λ l. take (7 + a + b - (7 + a)) (drop (7 + a) l)) two ∙ cut (h ++ xs) ys (zs ++ s ∷ []) (7 + a) (7 + a + b - (7 + a)) lx (omega (arith, lb));
+      third = ap (λ l. take (length ws - 1 - (7 + a + b)) (drop (7 + a + b) l)) three ∙ cut ((h ++ xs) ++ ys) zs (s ∷ []) (7 + a + b) (length ws - 1 - (7 + a + b)) ly lz;
+    }
+
+none_left : (l : List ℕ) → length l ≡ 0 → l ≡ []
+none_left [] e = refl
+none_left (x ∷ l) e = absurd (omega (arith, e))
+
+-- as many numbers, in parts
+pub joined : (ws : List ℕ) (a b c : ℕ) → length ws ≡ 8 + a + b + c
+    → (ws ≡ take (length ws - 1) ws ++ get_or ws (length ws - 1) 0 ∷ [])
+    × (take (length ws - 1) ws ≡ take 7 ws ++ (take (7 + a - 7) (drop 7 ws) ++ (take (7 + a + b - (7 + a)) (drop (7 + a) ws) ++ take (length ws - 1 - (7 + a + b)) (drop (7 + a + b) ws))))
+joined ws a b c e =
+    let n : ℕ = length ws - 1 in
+    let l : n < length ws = omega (arith, e) in
+    let end : drop (suc n) ws ≡ [] = none_left (drop (suc n) ws) (omega (arith, length-drop (suc n) ws, l)) in
+    let x : List ℕ = take (7 + a - 7) (drop 7 ws) in
+    let y : List ℕ = take (7 + a + b - (7 + a)) (drop (7 + a) ws) in
+    let z : List ℕ = take (n - (7 + a + b)) (drop (7 + a + b) ws) in
+    let e₁ : take (7 + a) ws ≡ take 7 ws ++ x = take-add 7 a ws ∙ ap (λ k. take 7 ws ++ take k (drop 7 ws)) (omega arith) in
+    let e₂ : take (7 + a + b) ws ≡ take (7 + a) ws ++ y = take-add (7 + a) b ws ∙ ap (λ k. take (7 + a) ws ++ take k (drop (7 + a) ws)) (omega arith) in
+    let e₃ : take n ws ≡ take (7 + a + b) ws ++ z = ap (λ k. take k ws) (omega (arith, e)) ∙ take-add (7 + a + b) (n - (7 + a + b)) ws in (
+      sym (take-append-drop n ws) ∙ ap (λ k. take n ws ++ k) (drop-cons ws n 0 l ∙ ap (λ k. get_or ws n 0 ∷ k) end),
+      e₃ ∙ ap (λ k. k ++ z) (e₂ ∙ ap (λ k. k ++ y) e₁) ∙ ap (λ k. k ++ z) (append_assoc (take 7 ws) x y) ∙ append_assoc (take 7 ws) (x ++ y) z
+          ∙ ap (λ k. take 7 ws ++ k) (append_assoc x y z),
+    )
+
+-- the view of what is built
+pub well_built : (size limit count : ℕ) (bs : List Block) (free unused : List ℕ) → 1 ≤ length bs → units bs ≡ size → size ≤ max_size → AreEach bs unused → length bs + length unused ≤ limit → length bs + 1 ≤ limit
+    → ((x : ℕ) → times x free ≤ count_named x bs) → IsApart (freed free bs) → used_of (freed free bs) + 2 ≤ limit
+    → IsWellFormed (record { size = size; max_allocs = limit; blocks = freed free bs; order = filed bs free; accesses = count })
+well_built size limit count bs free unused some whole fits each made room once apart spare = record {
+  some = omega (arith, some, length-freed free bs);
+  distinct = λ x. omega (arith, count-freed x free bs, each_small bs unused each x);
+  below = λ x l. omega (arith, count-freed x free bs, each_far bs unused each x (omega (arith, l, made)));
+  whole = units-freed free bs ∙ whole;
+  fits = fits;
+  apart = apart;
+  classes = length-filed bs free;
+  orders = orders_agree bs free (λ x. omega (arith, each_small bs unused each x)) once;
+  room = omega (arith, room, length-freed free bs);
+  spare = spare;
+}
+
+pub names_built : (size limit count : ℕ) (bs : List Block) (free unused : List ℕ) → AreEach bs unused → length bs + length unused ≤ limit → ((x : ℕ) → times x free ≤ count_named x bs)
+    → AreNamesOf (record { size = size; max_allocs = limit; blocks = freed free bs; order = filed bs free; accesses = count }) free unused
+names_built size limit count bs free unused each made once = record {
+  free = freed_again free free bs;
+  once = λ x. omega (arith, once x, count-freed x free bs);
+  order = filed-freed free bs free;
+  each = λ x. ap (λ n. n + times x unused) (count-freed x free bs) ∙ each x ∙ ap (λ n. if nat_lt x (n + length unused) then 1 else 0) (sym (length-freed free bs));
+  made = omega (arith, made, length-freed free bs);
+}
+
+-- the words of blocks do not say which are free
+pub words-freed : (xs : List ℕ) (bs : List Block) → block_words (freed xs bs) ≡ block_words bs
+words-freed xs [] = refl
+words-freed xs (b ∷ bs) = ap (λ l. l ++ b.name ∷ b.size ∷ []) (words-freed xs bs)
+
+-- they are the words of that view
+pub text_built : {max most : ℕ} (ws : List ℕ) (h : Header) (count : ℕ) (bs : List Block) (x y z : List ℕ) → IsHeader max most ws h → x ≡ take (7 + 2 * h.blocks - 7) (drop 7 ws)
+    → y ≡ take (7 + 2 * h.blocks + h.free - (7 + 2 * h.blocks)) (drop (7 + 2 * h.blocks) ws) → z ≡ take (length ws - 1 - (7 + 2 * h.blocks + h.free)) (drop (7 + 2 * h.blocks + h.free) ws)
+    → block_words bs ≡ x → AreEach bs z → ((k : ℕ) → times k y ≤ count_named k bs) → checksum_from 0 (take (length ws - 1) ws) ≡ get_or ws (length ws - 1) 0
+    → IsTextOf (record { size = h.size; max_allocs = h.max_allocs; blocks = freed y bs; order = filed bs y; accesses = count }) ws
+text_built ws h count bs x y z hd ex ey ez words each once check =
+    let v : View = record { size = h.size; max_allocs = h.max_allocs; blocks = freed y bs; order = filed bs y; accesses = count } in
+    let n : ℕ = length ws - 1 in
+    let j = joined ws (2 * h.blocks) h.free h.unused (omega (arith, hd.long)) in
+    let lx : length x ≡ 2 * h.blocks = ap length ex ∙ length-take-le (7 + 2 * h.blocks - 7) (drop 7 ws) (omega (arith, hd.long, length-drop 7 ws)) ∙ omega arith in
+    let ly : length y ≡ h.free =
+    ap length ey ∙ length-take-le (7 + 2 * h.blocks + h.free - (7 + 2 * h.blocks)) (drop (7 + 2 * h.blocks) ws) (omega (arith, hd.long, length-drop (7 + 2 * h.blocks) ws)) ∙ omega arith in
+    let lz : length z ≡ h.unused =
+    ap length ez ∙ length-take-le (n - (7 + 2 * h.blocks + h.free)) (drop (7 + 2 * h.blocks + h.free) ws) (omega (arith, hd.long, length-drop (7 + 2 * h.blocks + h.free) ws)) ∙ omega (arith, hd.long) in
+    let lb : length (freed y bs) ≡ h.blocks = omega (arith, length-freed y bs, length-words bs, ap length words, lx) in
+    let heads : take 7 ws ≡ 1414742351 ∷ 1 ∷ h.size ∷ h.max_allocs ∷ length (freed y bs) ∷ length y ∷ length z ∷ [] = let e = ap (take 7) hd.words in cc in
+    let body : take (7 + 2 * h.blocks - 7) (drop 7 ws) ≡ block_words (freed y bs) = sym ex ∙ sym words ∙ sym (words-freed y bs) in
+    let numbers : take n ws ≡ state_words v y z =
+    j.1 ∙ ap₂ (λ (p q : List ℕ). p ++ q) heads (ap₂ (λ (p q : List ℕ). p ++ q) body (ap₂ (λ (p q : List ℕ). p ++ q) (sym ey) (sym ez))) in
+    record {
+      names = y;
+      unused = z;
+      are = names_built h.size h.max_allocs count bs y z each (omega (arith, hd.within, lb, length-freed y bs, lz)) once;
+      words = j.0 ∙ ap₂ (λ (p : List ℕ) (s : ℕ). p ++ s ∷ []) numbers (sym check ∙ ap (checksum_from 0) numbers);
+    }
+
+-- bytes are of one view
+text_parts : {ws : List ℕ} {v : View} (t : IsTextOf v ws) (a b : ℕ) → length v.blocks ≡ a → length t.names ≡ b
+    → AreParts ws (block_words v.blocks) t.names t.unused (checksum_from 0 (state_words v t.names t.unused)) (2 * a) b
+text_parts {ws} {v} t a b ea eb =
+    parted ws (1414742351 ∷ 1 ∷ v.size ∷ v.max_allocs ∷ length v.blocks ∷ length t.names ∷ length t.unused ∷ []) (block_words v.blocks) t.names t.unused _ (2 * a) b t.words refl
+    (omega (arith, length-words v.blocks, ea)) eb
+
+view_parts : (v w : View) → w.size ≡ v.size → w.max_allocs ≡ v.max_allocs → w.blocks ≡ v.blocks → w.order ≡ v.order → SameSpace v w
+view_parts v w s m b o =
+    ap (λ (n : ℕ). record w { size = n }) s ∙ ap (λ (n : ℕ). record w { size = v.size; max_allocs = n }) m ∙ ap (λ (l : List Block). record w { size = v.size; max_allocs = v.max_allocs; blocks = l }) b
+    ∙ ap (λ (l : List (List ℕ)). record v { order = l; accesses = w.accesses }) o
+
+pub one_view : (v w : View) (ws : List ℕ) → IsTextOf v ws → IsTextOf w ws → SameSpace v w
+one_view v w ws t u =
+    let blocks : length w.blocks ≡ length v.blocks = ap (λ l. get_or l 4 0) (sym u.words ∙ t.words) in
+    let names : length u.names ≡ length t.names = ap (λ l. get_or l 5 0) (sym u.words ∙ t.words) in
+    let p = text_parts t (length v.blocks) (length t.names) refl refl in
+    let q = text_parts u (length v.blocks) (length t.names) blocks names in
+    let same_names : u.names ≡ t.names = sym q.second ∙ p.second in
+    let same_words : block_words w.blocks ≡ block_words v.blocks = sym q.first ∙ p.first in
+    let same_blocks : w.blocks ≡ v.blocks = sym u.are.free ∙ ap (λ l. freed l w.blocks) same_names ∙ freed_same t.names w.blocks v.blocks same_words ∙ t.are.free in
+    let same_order : w.order ≡ v.order = sym u.are.order ∙ ap₂ filed same_blocks same_names ∙ t.are.order in
+    view_parts v w (ap (λ l. get_or l 2 0) (sym u.words ∙ t.words)) (ap (λ l. get_or l 3 0) (sym u.words ∙ t.words)) same_blocks same_order

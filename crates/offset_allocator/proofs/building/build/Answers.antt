@@ -1,0 +1,50 @@
+use Rattle.offset_allocator.proofs.Common.{◌∙◌, ap, refl, sym, subst, length, arith, IsApart, take}
+use Rattle.offset_allocator.proofs.{StateWords.length-words, StateWords.same_counts, StateWords.freed_same, StateWords.length-freed, Views.blocks-chain, Views.space-chain}
+use Rattle.offset_allocator.proofs.building.build.Goals as goal
+
+pub returns-in-Some-clause-wrong : goal.returns-in-Some-clause-wrong
+returns-in-Some-clause-wrong g c _ bs words whole each once apart =
+    let l = rw c.in-Ok.is at c.in_ok-wrong.ensures.out in
+    c.in-Some.ensures.wrong refl c.args.limit l.all l.used l.chain (λ x. omega (arith, once x, same_counts x bs l.all (words ∙ sym l.words)))
+
+pub look_over-requires-clause-space : goal.look_over-requires-clause-space
+look_over-requires-clause-space g c =
+    let l = rw c.in-Ok.is at c.in_ok-wrong.ensures.out in
+    let f = c.in_default.ensures.chain refl c.args.limit l.all l.used l.chain in
+    (c.free_names.new.store.spare_count, space-chain (g.T.Tables.cells c.free_names.new.store.tables).chain c.args.limit _ _ _ f.0)
+
+pub look_over-requires-clause-all : goal.look_over-requires-clause-all
+look_over-requires-clause-all g c =
+    let l = rw c.in-Ok.is at c.in_ok-wrong.ensures.out in
+    let f = c.in_default.ensures.chain refl c.args.limit l.all l.used l.chain in
+    omega (arith, ap length (blocks-chain (g.T.Tables.cells c.free_names.new.store.tables).chain c.args.limit _ _ _ f.0), length-freed c.args.free.now l.all, ap length l.words, length-words l.all)
+
+pub returns-in-Err-look_over-clause-wrong : goal.returns-in-Err-look_over-clause-wrong
+returns-in-Err-look_over-clause-wrong g c _ bs words whole each once apart =
+    let l = rw c.in-Ok.is at c.in_ok-wrong.ensures.out in
+    let f = c.in_default.ensures.chain refl c.args.limit l.all l.used l.chain in
+    c.in-Err-look_over.ensures.wrong refl
+    (subst IsApart (freed_same c.args.free.now bs l.all (words ∙ sym l.words) ∙ sym (blocks-chain (g.T.Tables.cells c.free_names.new.store.tables).chain c.args.limit _ _ _ f.0)) apart)
+
+pub returns-in-Ok-look_over-clause-built : goal.returns-in-Ok-look_over-clause-built
+returns-in-Ok-look_over-clause-built g c =
+    let l = rw c.in-Ok.is at c.in_ok-wrong.ensures.out in
+    let f = c.in_default.ensures.chain refl c.args.limit l.all l.used l.chain in
+    let o = c.in-Ok-look_over.ensures.found in
+    let same = c.in_default.ensures.same in (
+      record {
+        all = l.all;
+        words = l.words;
+        whole = l.whole;
+        each = l.each;
+        chain = f.0;
+        count = same.1 ∙ l.count;
+        spare = ap (λ k. take (length c.args.unused.now) k) same.2 ∙ l.spare;
+        binned = c.in_default.ensures.binned;
+        order = f.1;
+        once = f.2;
+        apart = subst IsApart (blocks-chain (g.T.Tables.cells c.free_names.new.store.tables).chain c.args.limit _ _ _ f.0) o.0;
+      },
+      o.1,
+      o.2,
+    )

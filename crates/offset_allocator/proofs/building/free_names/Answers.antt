@@ -1,0 +1,67 @@
+use Rattle.offset_allocator.proofs.Common.{◌≡◌, ◌∙◌, ◌+◌, ◌-◌, ◌≤◌, ap, ap₂, sym, subst, length, get_or, drop, arith, ℕ, List, push, down, bin_at, count_named, times, IsAmong, cases_eq, inl, inr}
+use Rattle.offset_allocator.proofs.{Exchange.each-le, Exchange.there-below, Freed.drop_at, Freed.times_drop, Freed.times-filed, Freed.used_now, Freed.unused_now, Tallies.one-same, Tallies.one-eq, Tallies.one-other}
+use Rattle.offset_allocator.specs.State.{filed}
+use Rattle.offset_allocator.proofs.building.free_names.Goals as goal
+use Rattle.offset_allocator.proofs.building.free_names.Goals.{then-name-nodes-via-then-name-nodes, then-name-nodes-via-else-name-nodes+then-not-used}
+
+pub returns-then-name-nodes-clause-wrong : goal.returns-then-name-nodes-clause-wrong
+returns-then-name-nodes-clause-wrong g c _ m bs plain h once =
+    let i = c.loop-i.invariant in
+    let ws : List ℕ = c.args.words.now in
+    let at : ℕ = length ws - 1 - c.loop-i.i in
+    let name : ℕ = get_or ws at 0 in
+    let from = drop_at ws c.loop-i.i at (omega (arith, c.loop-i-test.true)) in
+    let now = i.chain m bs plain h in
+    let some : times name (drop (length ws - c.loop-i.i) ws) + 1 ≤ count_named name bs =
+    omega (arith, ap (times name) from, times_drop name (length ws - (c.loop-i.i + 1)) ws, once name, one-same name) in
+    elim c.then-name-nodes.branch [
+      | then-name-nodes-via-then-name-nodes w ↦ omega (arith, some, there-below _ m _ _ name bs h (omega (arith, some)), w.if-name-nodes.true, c.len-nodes.ensures)
+      | then-name-nodes-via-else-name-nodes+then-not-used w ↦
+          let listed = unused_now name (drop (length ws - c.loop-i.i) ws) bs now.0 (sym w.used.ensures.cell ∙ w.if-not-used.true) (omega (arith, some)) in
+          omega (arith, some, listed, each-le _ m _ _ bs h name)
+    ]
+
+pub free_name-requires-clause-unlisted : goal.free_name-requires-clause-unlisted
+free_name-requires-clause-unlisted g c k small there =
+    let ws : List ℕ = c.args.words.now in
+    let name : ℕ = get_or ws (length ws - 1 - c.loop-i.i) 0 in
+    let xs : List ℕ = drop (length ws - c.loop-i.i) ws in
+    let r = c.requires.chain in
+    let now = c.loop-i.invariant.chain r.0 r.1 r.2 r.3 in
+    let used = used_now name xs r.1 now.0 (sym c.used.ensures.cell ∙ c.if-not-used.false) in
+    omega (arith, subst (λ (ls : List (List ℕ)). IsAmong name (bin_at ls k)) now.1 there, times-filed name k r.1 xs small, used.1)
+
+pub loop-i-preserved : goal.loop-i-preserved
+loop-i-preserved g c =
+    let i = c.loop-i.invariant in
+    let ws : List ℕ = c.args.words.now in
+    let at : ℕ = length ws - 1 - c.loop-i.i in
+    let name : ℕ = get_or ws at 0 in
+    let xs : List ℕ = drop (length ws - c.loop-i.i) ws in
+    let from = drop_at ws c.loop-i.i at (omega (arith, c.loop-i-test.true)) in
+    let f = c.free_name.ensures in
+    record {
+      chain = λ m bs plain h.
+          let now = i.chain m bs plain h in
+          let used = used_now name xs bs now.0 (sym c.used.ensures.cell ∙ c.if-not-used.false) in (
+            rw from (f.chain m xs bs now.0 used.0),
+            f.lists ∙ ap₂ (λ (n : ℕ) (ls : List (List ℕ)). push (down n) name ls) used.2 now.1 ∙ ap (filed bs) (sym from),
+            λ x. elim (cases_eq x name) [
+              | inl e ↦ omega (arith, ap (times x) from, one-eq x name (sym e), ap (λ y. times y xs) e, used.1, ap (λ y. count_named y bs) e, used.0)
+              | inr ne ↦ omega (arith, ap (times x) from, one-other x name ne, now.2 x)
+            ],
+          );
+      binned = f.binned;
+      nodes = f.nodes ∙ i.nodes;
+      last = f.same.0 ∙ i.last;
+      count = f.same.1 ∙ i.count;
+      spare = f.same.2 ∙ i.spare;
+    }
+
+pub returns-clause-chain : goal.returns-clause-chain
+returns-clause-chain g c _ m bs plain h =
+    let ws : List ℕ = c.args.words.now in
+    let none : length ws - c.loop-i.i ≡ 0 = omega (arith, c.loop-i-test.false) in
+    let now = c.loop-i.invariant.chain m bs plain h in
+    let all : drop (length ws - c.loop-i.i) ws ≡ ws = ap (λ n. drop n ws) none in
+    (rw all at now.0, now.1 ∙ ap (filed bs) all, λ x. rw all at (now.2 x))

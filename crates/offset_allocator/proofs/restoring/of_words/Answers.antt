@@ -1,0 +1,82 @@
+use Rattle.offset_allocator.proofs.Common.{◌+◌, ◌*◌, ◌-◌, ◌≤◌, ◌++◌, ◌∷◌, [], ◌≡◌, ◌∙◌, ap, ap₂, refl, sym, subst, take, drop, get_or, length, arith, ℕ, List, Block, View, IsApart, used_of, count_named, times}
+use Rattle.offset_allocator.proofs.Restored.{AreParts, parted, well_built, text_built}
+use Rattle.offset_allocator.proofs.{StateWords.freed_same, StateWords.length-words, StateWords.length-freed, Views.blocks-chain, Views.space-chain}
+use Rattle.offset_allocator.specs.Building.{AreEach, IsHeader}
+use Rattle.offset_allocator.specs.declared.restoring.Header.{Header}
+use Rattle.offset_allocator.specs.State.{IsTextOf, block_words, checksum_from, freed, state_words}
+use Rattle.std.proofs.lemmas.List.{length-drop}
+use Rattle.offset_allocator.proofs.Common.{IsWellFormed, length-take-le}
+use Rattle.offset_allocator.proofs.{StateWords.units-freed}
+use Rattle.offset_allocator.proofs.restoring.of_words.Goals as goal
+
+-- the parts of the words of a view, where the header is read
+module _ {max most : ℕ} {ws : List ℕ} {h : Header} {v : View} (hd : IsHeader max most ws h) (t : IsTextOf v ws) where
+  blocks_count : h.blocks ≡ length v.blocks
+  blocks_count = sym (ap (λ l. get_or l 4 0) hd.words) ∙ ap (λ l. get_or l 4 0) t.words
+
+  free_count : h.free ≡ length t.names
+  free_count = sym (ap (λ l. get_or l 5 0) hd.words) ∙ ap (λ l. get_or l 5 0) t.words
+
+  same_size : h.size ≡ v.size
+  same_size = sym (ap (λ l. get_or l 2 0) hd.words) ∙ ap (λ l. get_or l 2 0) t.words
+
+  same_limit : h.max_allocs ≡ v.max_allocs
+  same_limit = sym (ap (λ l. get_or l 3 0) hd.words) ∙ ap (λ l. get_or l 3 0) t.words
+
+  parts : AreParts ws (block_words v.blocks) t.names t.unused (checksum_from 0 (state_words v t.names t.unused)) (2 * h.blocks) h.free
+  parts = parted ws (1414742351 ∷ 1 ∷ v.size ∷ v.max_allocs ∷ length v.blocks ∷ length t.names ∷ length t.unused ∷ []) (block_words v.blocks) t.names t.unused _ (2 * h.blocks) h.free t.words refl
+      (omega (arith, length-words v.blocks, blocks_count)) (sym free_count)
+
+  summed : checksum_from 0 (take (length ws - 1) ws) ≡ get_or ws (length ws - 1) 0
+  summed = ap (checksum_from 0) (parts.numbers ∙ ap (λ k. k ++ (block_words v.blocks ++ (t.names ++ t.unused))) (ap (take 7) t.words)) ∙ sym parts.last
+
+pub returns-then-checksum-words-clause-refused : goal.returns-then-checksum-words-clause-refused
+returns-then-checksum-words-clause-refused g c _ v w admitted asked t = c.if-checksum-words.true (c.checksum.ensures ∙ summed c.in-Ok.ensures.header t)
+
+pub returns-in-Err-2-clause-refused : goal.returns-in-Err-2-clause-refused
+returns-in-Err-2-clause-refused g c _ v w admitted asked t =
+    let hd = c.in-Ok.ensures.header in
+    let p = parts hd t in
+    let b = rw c.in-Err-2.is at c.in_ok-wrong.ensures.wrong in
+    b refl v.blocks (sym p.first) (w.whole ∙ sym (same_size hd t)) (subst (AreEach v.blocks) (sym p.third) t.are.each) (λ x. subst (λ l. times x l ≤ count_named x v.blocks) (sym p.second) (t.are.once x))
+    (subst IsApart (sym t.are.free ∙ ap (λ l. freed l v.blocks) (sym p.second)) w.apart)
+
+pub returns-then-found-header-clause-refused : goal.returns-then-found-header-clause-refused
+returns-then-found-header-clause-refused g c _ v w admitted asked t =
+    let hd = c.in-Ok.ensures.header in
+    let p = parts hd t in
+    let b = rw c.in-Ok-2.is at c.in_ok-wrong.ensures.built in
+    let same = blocks-chain _ _ _ _ _ b.0.chain ∙ freed_same _ b.0.all v.blocks (b.0.words ∙ p.first) ∙ ap (λ l. freed l v.blocks) p.second ∙ t.are.free in
+    omega (arith, c.if-found-header.true, b.2, ap used_of same, w.spare, same_limit hd t)
+
+pub invariant_of-result : goal.invariant_of-result
+invariant_of-result g c =
+    let hd = c.in-Ok.ensures.header in
+    let b = rw c.in-Ok-2.is at c.in_ok-wrong.ensures.built in
+    let same = blocks-chain _ _ _ _ _ b.0.chain in
+    let count : length b.0.all ≡ c.in-Ok.header.blocks =
+    omega (arith, ap length b.0.words, length-words b.0.all, length-take-le (7 + 2 * c.in-Ok.header.blocks - 7) (drop 7 c.args.words.now) (omega (arith, hd.long, length-drop 7 c.args.words.now))) in
+    record {
+      memory = b.0.chain.memory;
+      admitted = omega (arith, hd.admitted, c.MAX.ensures);
+      space = space-chain _ _ _ _ _ b.0.chain;
+      bins = b.0.binned;
+      well = subst IsWellFormed
+          (sym (ap₂ (λ (bs : List Block) (o : List (List ℕ)). let u : View = record { size = c.in-Ok.header.size; max_allocs = c.in-Ok.header.max_allocs; blocks = bs; order = o; accesses = 0 } in u) same b.0.order))
+          (well_built c.in-Ok.header.size c.in-Ok.header.max_allocs 0 b.0.all _ _ (omega (arith, hd.some, count))
+          b.0.whole (omega (arith, b.0.chain.fits, units-freed (take (7 + 2 * c.in-Ok.header.blocks + c.in-Ok.header.free - (7 + 2 * c.in-Ok.header.blocks)) (drop (7 + 2 * c.in-Ok.header.blocks) c.args.words.now)) b.0.all, b.0.whole)) b.0.each
+          (omega (arith, b.0.chain.full, b.0.chain.within, b.0.count, length-freed (take (7 + 2 * c.in-Ok.header.blocks + c.in-Ok.header.free - (7 + 2 * c.in-Ok.header.blocks)) (drop (7 + 2 * c.in-Ok.header.blocks) c.args.words.now)) b.0.all)) (omega (arith, hd.room, count)) b.0.once b.0.apart (omega (arith, c.if-found-header.false, b.2, ap used_of same)));
+      total = sym b.1;
+    }
+
+pub returns-clause-read : goal.returns-clause-read
+returns-clause-read g c =
+    let hd = c.in-Ok.ensures.header in
+    let b = rw c.in-Ok-2.is at c.in_ok-wrong.ensures.built in
+    let same = blocks-chain _ _ _ _ _ b.0.chain in (
+      subst (λ v. IsTextOf v c.args.words.now)
+          (sym (ap₂ (λ (bs : List Block) (o : List (List ℕ)). let u : View = record { size = c.in-Ok.header.size; max_allocs = c.in-Ok.header.max_allocs; blocks = bs; order = o; accesses = c.new.result } in u) same b.0.order))
+          (text_built c.args.words.now c.in-Ok.header c.new.result b.0.all _ _ _ hd refl refl refl b.0.words b.0.each b.0.once (sym c.checksum.ensures ∙ c.if-checksum-words.false)),
+      c.new.ensures,
+      hd.asked,
+    )

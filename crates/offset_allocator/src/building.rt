@@ -1,0 +1,343 @@
+//! The tables of a state that is read, made block by block from the end of the space, then name by name.
+ghost use Rattle.std.specs.Prelude.{◌≡◌, ◌+◌, ◌-◌, ◌*◌, ◌/◌, ◌%◌, ◌<◌, ◌≤◌, ◌∷◌, ◌++◌, [], ℕ, List, Option, None, Some, false};
+ghost use Rattle.std.specs.Prelude.{length, replicate, sum, take, IfOk, IsErr, IsSome};
+ghost use Rattle.offset_allocator.specs.Bins.{IsUnlisted};
+ghost use Rattle.offset_allocator.specs.Building.{AreEach, HasBack, IsBuilt, IsLaidOut, IsMade};
+ghost use Rattle.offset_allocator.specs.Cells.{link_of, node};
+ghost use Rattle.offset_allocator.specs.Chain.{IsChain, IsSpace, first_or, last_or};
+ghost use Rattle.offset_allocator.specs.Chain.{blocks as blocks_in};
+ghost use Rattle.offset_allocator.specs.Classes.{down};
+ghost use Rattle.offset_allocator.specs.State.{block_words, filed, freed};
+ghost use Rattle.offset_allocator.specs.Store.{AreBinned, bins_of};
+ghost use Rattle.offset_allocator.specs.View.{Block, IsApart, count_named, free_sizes, push, times, used_block, used_of};
+ghost use Rattle.offset_allocator.specs.View.{units};
+
+use crate::accesses::Accesses;
+use crate::bins;
+use crate::chain::point_back;
+use crate::copying::with_nodes;
+use crate::index::{link_to, linked, no_link};
+use crate::small_float::uint_to_float_round_down;
+use crate::store::Store;
+use crate::tables::Tables;
+use std::alloc::{AllocError, Global};
+
+// Puts a used block before those that are there, the first of which `next` links to. It ends at their offset.
+#[tactic(auto, using(crate::proofs::Nodes::lengths))]
+fn prepend<T: Tables>(
+    tables: &mut T,
+    last: &mut u32,
+    next: T::Index,
+    name: u32,
+    offset: u32,
+    size: u32,
+    count: &mut Accesses,
+)
+    requires named { name < length (T.cells tables.old).chain.nodes }
+    requires idle { (node (T.cells tables.old).chain name).used ≡ false }
+    requires there { (o : ℕ) × (bs : List Block) × HasBack (T.cells tables.old) o bs []
+        × (first_or None bs ≡ link_of T.Index.MAX (T.Index.number next)) }
+    ensures back { (o : ℕ) (bs : List Block) → HasBack (T.cells tables.old) o bs []
+        → first_or None bs ≡ link_of T.Index.MAX (T.Index.number next) → o ≡ offset + size
+        → HasBack (T.cells tables.new) offset (used_block name size ∷ bs) [] }
+    ensures last { (bs : List Block) → first_or None bs ≡ link_of T.Index.MAX (T.Index.number next)
+        → (bs ≡ [] → ⊥) → last_or None bs ≡ Some last.old → last_or None (used_block name size ∷ bs) ≡ Some last.new }
+    ensures only { link_of T.Index.MAX (T.Index.number next) ≡ None → last.new ≡ name }
+    ensures made { (n m : ℕ) → IsMade T.Index.MAX n m (T.cells tables.old) → IsMade T.Index.MAX n m (T.cells tables.new) }
+    ensures nodes { length (T.cells tables.new).chain.nodes ≡ length (T.cells tables.old).chain.nodes }
+{
+    tables.set_block(name, offset, size, no_link(), next, count);
+    tables.set_used(name, true, count);
+    point_back(tables, last, next, name, count);
+}
+
+/// Writes the blocks of these words, all of them used: name and size of each, from the end of the space to its start.
+/// Returns the name of the last one, or the place of the word that is wrong.
+pub(crate) fn place_blocks<T: Tables>(
+    tables: &mut T,
+    words: &[u32],
+    size: u32,
+    count: &mut Accesses,
+) -> Result<u32, usize>
+    requires even { length words.now % 2 ≡ 0 }
+    requires some { 2 ≤ length words.now }
+    requires idle { (x : ℕ) → (node (T.cells tables.old).chain x).used ≡ false }
+    ensures placed { IfOk result (λ last. (bs : List Block) × HasBack (T.cells tables.new) 0 bs []
+        × (block_words bs ≡ words.now) × (units bs ≡ size) × (last_or None bs ≡ Some last)) }
+    ensures wrong { IsErr result → (bs : List Block) → block_words bs ≡ words.now → units bs ≡ size
+        → ((x : ℕ) → count_named x bs ≤ 1)
+        → ((x : ℕ) → length (T.cells tables.old).chain.nodes ≤ x → count_named x bs ≡ 0) → ⊥ }
+    ensures made { (n m : ℕ) → IsMade T.Index.MAX n m (T.cells tables.old) → IsMade T.Index.MAX n m (T.cells tables.new) }
+{
+    let nodes = tables.len();
+    let mut left = size;
+    let mut next = no_link();
+    let mut last = 0;
+    for i in 0..words.len() / 2 {
+        let name = words[2 * i];
+        let units = words[2 * i + 1];
+        if name >= nodes || tables.used(name, count) {
+            return Err(2 * i);
+        }
+        if units > left {
+            return Err(2 * i + 1);
+        }
+        left -= units;
+        prepend(tables, &mut last, next, name, left, units, count);
+        next = tables.link_to(name);
+    }
+    if left != 0 {
+        return Err(words.len() - 1);
+    }
+    Ok(last)
+}
+
+// Writes an unused name onto the stack, and marks its node as used.
+#[tactic(auto, using(crate::proofs::Nodes::lengths))]
+fn put_unused<T: Tables>(tables: &mut T, place: u32, name: u32, count: &mut Accesses)
+    requires named { name < length (T.cells tables.old).chain.nodes }
+    requires place { place < length (T.cells tables.old).chain.nodes }
+    requires idle { (node (T.cells tables.old).chain name).used ≡ false }
+    ensures back { (o : ℕ) (bs : List Block) (xs : List ℕ) → HasBack (T.cells tables.old) o bs xs
+        → take place (T.cells tables.old).chain.spare ≡ xs
+        → HasBack (T.cells tables.new) o bs (xs ++ name ∷ [])
+        × (take (place + 1) (T.cells tables.new).chain.spare ≡ xs ++ name ∷ []) }
+    ensures made { (n m : ℕ) → IsMade T.Index.MAX n m (T.cells tables.old) → IsMade T.Index.MAX n m (T.cells tables.new) }
+    ensures nodes { length (T.cells tables.new).chain.nodes ≡ length (T.cells tables.old).chain.nodes }
+{
+    tables.shape();
+    tables.set_spare(place, link_to(name), count);
+    tables.set_used(name, true, count);
+}
+
+/// Writes the unused names, and marks their nodes as used. Returns the place of the word that is wrong, if one is.
+pub(crate) fn place_unused<T: Tables>(
+    tables: &mut T,
+    words: &[u32],
+    count: &mut Accesses,
+) -> Option<usize>
+    requires few { length words.now ≤ length (T.cells tables.old).chain.nodes }
+    requires back { (o : ℕ) × (bs : List Block) × HasBack (T.cells tables.old) o bs [] }
+    ensures placed { result ≡ None → (o : ℕ) (bs : List Block) → HasBack (T.cells tables.old) o bs []
+        → HasBack (T.cells tables.new) o bs words.now
+        × (take (length words.now) (T.cells tables.new).chain.spare ≡ words.now) }
+    ensures wrong { IsSome result → (o : ℕ) (bs : List Block) → HasBack (T.cells tables.old) o bs []
+        → ((x : ℕ) → count_named x bs + times x words.now ≤ 1)
+        → ((x : ℕ) → length (T.cells tables.old).chain.nodes ≤ x → times x words.now ≡ 0) → ⊥ }
+    ensures made { (n m : ℕ) → IsMade T.Index.MAX n m (T.cells tables.old) → IsMade T.Index.MAX n m (T.cells tables.new) }
+    ensures nodes { length (T.cells tables.new).chain.nodes ≡ length (T.cells tables.old).chain.nodes }
+{
+    tables.shape();
+    let nodes = tables.len();
+    for i in 0..words.len() {
+        let name = words[i];
+        if name >= nodes || tables.used(name, count) {
+            return Some(i);
+        }
+        put_unused(tables, i as u32, name, count);
+    }
+    None
+}
+
+/// Takes the marks of the unused names away.
+pub(crate) fn clear_marks<T: Tables>(tables: &mut T, words: &[u32], count: &mut Accesses)
+    requires named { (x : ℕ) → 1 ≤ times x words.now → x < length (T.cells tables.old).chain.nodes }
+    ensures back { (o : ℕ) (bs : List Block) → HasBack (T.cells tables.old) o bs words.now
+        → HasBack (T.cells tables.new) o bs [] }
+    ensures spare { (T.cells tables.new).chain.spare ≡ (T.cells tables.old).chain.spare }
+    ensures made { (n m : ℕ) → IsMade T.Index.MAX n m (T.cells tables.old) → IsMade T.Index.MAX n m (T.cells tables.new) }
+{
+    for i in 0..words.len() {
+        tables.set_used(words[i], false, count);
+    }
+}
+
+// Makes a used block free, and the newest of its bin.
+#[tactic(auto, using(crate::proofs::Nodes::lengths))]
+fn free_name<T: Tables>(store: &mut Store<T>, name: u32)
+    requires binned { AreBinned T.cells T.Index.MAX store.old }
+    requires named { name < length (T.cells store.old.tables).chain.nodes }
+    requires unlisted { IsUnlisted name (bins_of T.cells T.Index.MAX store.old) }
+    ensures chain { (m : ℕ) (xs : List ℕ) (bs : List Block)
+        → IsChain (T.cells store.old.tables).chain m store.old.last store.old.spare_count (freed xs bs)
+        → count_named name bs ≡ 1
+        → IsChain (T.cells store.new.tables).chain m store.new.last store.new.spare_count (freed (name ∷ xs) bs) }
+    ensures binned { AreBinned T.cells T.Index.MAX store.new }
+    ensures lists { bins_of T.cells T.Index.MAX store.new
+        ≡ push (down (node (T.cells store.old.tables).chain name).size) name (bins_of T.cells T.Index.MAX store.old) }
+    ensures nodes { length (T.cells store.new.tables).chain.nodes ≡ length (T.cells store.old.tables).chain.nodes }
+    ensures same { (store.new.last ≡ store.old.last) × (store.new.spare_count ≡ store.old.spare_count)
+        × ((T.cells store.new.tables).chain.spare ≡ (T.cells store.old.tables).chain.spare) }
+{
+    store.tables.set_used(name, false, &mut store.accesses);
+    let size = store.tables.size(name, &mut store.accesses);
+    bins::push(store, name, uint_to_float_round_down(size));
+}
+
+/// Frees the blocks of these names, the last one first. Returns the place of the word that is wrong, if one is.
+pub(crate) fn free_names<T: Tables>(store: &mut Store<T>, words: &[u32]) -> Option<usize>
+    requires binned { AreBinned T.cells T.Index.MAX store.old }
+    requires empty { bins_of T.cells T.Index.MAX store.old ≡ replicate 256 [] }
+    requires chain { (m : ℕ) × (bs : List Block) × (freed [] bs ≡ bs)
+        × IsChain (T.cells store.old.tables).chain m store.old.last store.old.spare_count bs }
+    ensures chain { result ≡ None → (m : ℕ) (bs : List Block) → freed [] bs ≡ bs
+        → IsChain (T.cells store.old.tables).chain m store.old.last store.old.spare_count bs
+        → IsChain (T.cells store.new.tables).chain m store.new.last store.new.spare_count (freed words.now bs)
+        × (bins_of T.cells T.Index.MAX store.new ≡ filed bs words.now)
+        × ((x : ℕ) → times x words.now ≤ count_named x bs) }
+    ensures binned { AreBinned T.cells T.Index.MAX store.new }
+    ensures wrong { IsSome result → (m : ℕ) (bs : List Block) → freed [] bs ≡ bs
+        → IsChain (T.cells store.old.tables).chain m store.old.last store.old.spare_count bs
+        → ((x : ℕ) → times x words.now ≤ count_named x bs) → ⊥ }
+    ensures same { (store.new.last ≡ store.old.last) × (store.new.spare_count ≡ store.old.spare_count)
+        × ((T.cells store.new.tables).chain.spare ≡ (T.cells store.old.tables).chain.spare) }
+{
+    let nodes = store.tables.len();
+    for i in 0..words.len() {
+        let at = words.len() - 1 - i;
+        let name = words[at];
+        if name >= nodes || !store.tables.used(name, &mut store.accesses) {
+            return Some(at);
+        }
+        free_name(store, name);
+    }
+    None
+}
+
+/// What a walk over the blocks finds.
+#[derive(Drop)]
+pub(crate) struct Overview {
+    /// The units of the free blocks.
+    pub(crate) free_units: u32,
+    /// The number of used blocks.
+    pub(crate) used: u32,
+}
+
+/// Walks over the blocks, from the end of the space to its start. Returns how many it passed where it meets two
+/// neighbours that are both free.
+pub(crate) fn look_over<T: Tables>(
+    tables: &T,
+    last: u32,
+    blocks: u32,
+    count: &mut Accesses,
+) -> Result<Overview, usize>
+    requires space { (spare_count : ℕ) × IsSpace (T.cells tables.now).chain last spare_count }
+    requires all { length (blocks_in (T.cells tables.now).chain last) ≡ blocks }
+    ensures found { IfOk result (λ s. IsApart (blocks_in (T.cells tables.now).chain last)
+        × (s.free_units ≡ sum (free_sizes (blocks_in (T.cells tables.now).chain last)))
+        × (s.used ≡ used_of (blocks_in (T.cells tables.now).chain last))) }
+    ensures wrong { IsErr result → IsApart (blocks_in (T.cells tables.now).chain last) → ⊥ }
+{
+    let mut found = Overview {
+        free_units: 0,
+        used: 0,
+    };
+    let mut name = last;
+    let mut is_free_after = false;
+    tables.shape();
+    for i in 0..blocks {
+        let is_free = !tables.used(name, count);
+        if is_free && is_free_after {
+            return Err(i as usize);
+        }
+        if is_free {
+            found.free_units += tables.size(name, count);
+        } else {
+            found.used += 1;
+        }
+        is_free_after = is_free;
+        if let Some(before) = linked(tables.before(name, count)) {
+            name = before;
+        }
+    }
+    Ok(found)
+}
+
+/// What is wrong with the words of a state, and the place of the word in its list.
+#[derive(Drop)]
+pub(crate) enum Wrong {
+    /// A block: its name is that of no node or of another block, or the sizes are not that of the space.
+    Block(usize),
+    /// An unused name: it is that of no node or of a block, or listed twice.
+    Unused(usize),
+    /// The name of a free block: it is that of no block, or listed twice.
+    Free(usize),
+    /// A block and the one after it are both free.
+    Neighbours(usize),
+}
+
+// The blocks, all used, and the unused names.
+fn lay_out<T: Tables>(
+    alloc: Global,
+    size: u32,
+    limit: u32,
+    blocks: &[u32],
+    unused: &[u32],
+) -> Result<Result<Store<T>, Wrong>, AllocError>
+    requires even { length blocks.now % 2 ≡ 0 }
+    requires some { 2 ≤ length blocks.now }
+    requires within { length blocks.now / 2 + length unused.now ≤ limit }
+    requires limit { limit < T.Index.MAX }
+    ensures out { IfOk result (λ r. IfOk r (IsLaidOut T.cells T.Index.MAX size limit blocks.now unused.now)) }
+    ensures wrong { IfOk result (λ r. IsErr r → (bs : List Block) → block_words bs ≡ blocks.now → units bs ≡ size
+        → AreEach bs unused.now → ⊥) }
+{
+    let mut count = Accesses::new();
+    let nodes = (blocks.len() / 2 + unused.len()) as u32;
+    let mut tables: T = with_nodes(alloc, limit, nodes, &mut count)?;
+    let last = match place_blocks(&mut tables, blocks, size, &mut count) {
+        Err(at) => return Ok(Err(Wrong::Block(at))),
+        Ok(last) => last,
+    };
+    if let Some(at) = place_unused(&mut tables, unused, &mut count) {
+        return Ok(Err(Wrong::Unused(at)));
+    }
+    clear_marks(&mut tables, unused, &mut count);
+    tables.shape();
+    let top_mask = bins::empty_mask(&tables);
+    Ok(Ok(Store {
+        tables,
+        top_mask,
+        last,
+        spare_count: unused.len() as u32,
+        accesses: Accesses::new(),
+    }))
+}
+
+/// The store of a space with these blocks, of which those with the names in `free` are free, and these unused names.
+pub(crate) fn build<T: Tables>(
+    alloc: Global,
+    size: u32,
+    limit: u32,
+    blocks: &[u32],
+    free: &[u32],
+    unused: &[u32],
+) -> Result<Result<(Store<T>, Overview), Wrong>, AllocError>
+    requires even { length blocks.now % 2 ≡ 0 }
+    requires some { 2 ≤ length blocks.now }
+    requires within { length blocks.now / 2 + length unused.now ≤ limit }
+    requires limit { limit < T.Index.MAX }
+    ensures built { IfOk result (λ r. IfOk r (λ p. IsBuilt T.cells T.Index.MAX size limit blocks.now free.now unused.now p.0
+        × (p.1.free_units ≡ sum (free_sizes (blocks_in (T.cells p.0.tables).chain p.0.last)))
+        × (p.1.used ≡ used_of (blocks_in (T.cells p.0.tables).chain p.0.last)))) }
+    ensures wrong { IfOk result (λ r. IsErr r → (bs : List Block) → block_words bs ≡ blocks.now → units bs ≡ size
+        → AreEach bs unused.now → ((x : ℕ) → times x free.now ≤ count_named x bs) → IsApart (freed free.now bs) → ⊥) }
+{
+    let mut store = match lay_out(alloc, size, limit, blocks, unused)? {
+        Err(wrong) => return Ok(Err(wrong)),
+        Ok(store) => store,
+    };
+    if let Some(at) = free_names(&mut store, free) {
+        return Ok(Err(Wrong::Free(at)));
+    }
+    let mut count = Accesses::new();
+    match look_over(
+        &store.tables,
+        store.last,
+        (blocks.len() / 2) as u32,
+        &mut count,
+    ) {
+        Err(at) => Ok(Err(Wrong::Neighbours(at))),
+        Ok(found) => Ok(Ok((store, found))),
+    }
+}
