@@ -89,6 +89,22 @@ impl<T: Tables> GuardedOf<T> {
         })
     }
 
+    /// A copy, with memory of its own, as `Allocator::try_clone` makes it, with the same realm and serials: each ticket
+    /// that is live here is live there. Serials go on from the same number in both, so a later grant of one may have a
+    /// ticket that is live in the other, for another range: use one copy in place of the other, as a snapshot, and not
+    /// beside it.
+    ///
+    /// An error is returned only where an allocation failed; then nothing is made.
+    pub fn try_clone(&self, alloc: Global) -> Result<Self, AllocError> {
+        let serials = self.serials.try_clone(alloc, self.space.max_allocs())?;
+        let space = self.space.try_clone(alloc)?;
+        Ok(GuardedOf {
+            space,
+            serials,
+            realm: self.realm,
+        })
+    }
+
     /// The allocator, to read: its reports and statistics, whether nothing is live, its blocks, its sizes, and why it
     /// refuses a request.
     pub fn allocator(&self) -> &AllocatorOf<T> {

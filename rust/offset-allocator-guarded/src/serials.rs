@@ -14,8 +14,8 @@ pub(crate) struct Serials {
 // Adds a cell at the end of a table that has room for it. `insert`, unlike `push`, promises that the memory stays the
 // same. It is out of line, since each cell is made once.
 #[inline(never)]
-fn push_within(cells: &mut Vec<u64>) {
-    let _ = cells.insert(cells.len(), 0);
+fn push_within(cells: &mut Vec<u64>, serial: u64) {
+    let _ = cells.insert(cells.len(), serial);
 }
 
 impl Serials {
@@ -27,11 +27,23 @@ impl Serials {
         })
     }
 
+    /// A copy, with memory for at least this many names.
+    pub(crate) fn try_clone(&self, alloc: Global, names: u32) -> Result<Self, AllocError> {
+        let mut cells = Vec::with_capacity(alloc, self.cells.len().max(names as usize))?;
+        for name in 0..self.cells.len() {
+            push_within(&mut cells, self.cells[name]);
+        }
+        Ok(Serials {
+            cells,
+            given: self.given,
+        })
+    }
+
     /// Makes the cells of all names below a number.
     #[inline]
     pub(crate) fn cover(&mut self, names: u32) {
         while self.cells.len() < names as usize {
-            push_within(&mut self.cells);
+            push_within(&mut self.cells, 0);
         }
     }
 

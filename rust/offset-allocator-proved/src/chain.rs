@@ -39,7 +39,7 @@ pub(crate) fn after<T: Tables>(tables: &T, name: u32, count: &mut Accesses) -> O
 }
 
 // Sets the link back of the node that `link` names; without one, `name` is the last block.
-fn point_back<T: Tables>(
+pub(crate) fn point_back<T: Tables>(
     tables: &mut T,
     last: &mut u32,
     link: T::Index,

@@ -1,0 +1,75 @@
+// Printed by rust/erase from crates/offset_allocator/src/state.rt: change it there.
+
+//! The numbers of a state: bytes as numbers, their checksum, and what is wrong with them. It touches no space.
+
+use crate::memory::Vec;
+use crate::memory::{AllocError, Global};
+use core::fmt;
+
+/// What is wrong with the bytes of a state, and where.
+#[derive(Clone, Copy, PartialEq, Debug)]
+pub struct StateFault {
+    /// The place of the byte from which on the bytes are wrong; or their number, where there are too few or too many.
+    pub at: usize,
+    /// What is wrong there.
+    pub kind: StateFaultKind,
+}
+
+/// What is wrong with the bytes of a state.
+#[derive(Clone, Copy, PartialEq, Debug)]
+pub enum StateFaultKind {
+    /// They are not as many as their counts say, or no multiple of 4.
+    Length,
+    /// They do not begin as a state does, or are of another version.
+    Form,
+    /// The node limit is above that which the caller or the index type admits.
+    Limit,
+    /// There is no block, or more blocks and unused nodes than the node limit admits.
+    Counts,
+    /// The checksum is not that of the bytes.
+    Checksum,
+    /// A block: its name is that of no node or of an earlier block, or the sizes are not that of the space.
+    Block,
+    /// An unused name: it is that of no node or of a block, or is listed twice.
+    Unused,
+    /// The name of a free block: it is that of no block, or is listed twice.
+    Free,
+    /// This block and the one after it in space are both free.
+    Neighbours,
+}
+
+impl fmt::Display for StateFaultKind {
+    fn fmt(&self, f: &mut fmt::Formatter<'_>) -> fmt::Result {
+        f.write_str(match self {
+            StateFaultKind::Length => "another number of bytes than the counts say",
+            StateFaultKind::Form => "no state, or one of another version",
+            StateFaultKind::Limit => "a node limit that is not admitted",
+            StateFaultKind::Counts => "counts that the node limit does not admit",
+            StateFaultKind::Checksum => "a checksum that is not that of the bytes",
+            StateFaultKind::Block => "a block with a wrong name or size",
+            StateFaultKind::Unused => "an unused name that is wrong",
+            StateFaultKind::Free => "a name that is not that of one block more",
+            StateFaultKind::Neighbours => "two free blocks side by side",
+        })
+    }
+}
+
+/// The bytes as numbers of 32 bits, the lowest byte of each first.
+pub(crate) fn words_of(alloc: Global, bytes: &[u8]) -> Result<Vec<u32>, AllocError> {
+    let mut words = Vec::with_capacity(alloc, bytes.len() / 4)?;
+    for i in 0..bytes.len() / 4 {
+        let at = 4 * i;
+        let word = u32::from_le_bytes([bytes[at], bytes[at + 1], bytes[at + 2], bytes[at + 3]]);
+        words.push(word)?;
+    }
+    Ok(words)
+}
+
+/// The checksum of numbers.
+pub(crate) fn checksum(words: &[u32]) -> u32 {
+    let mut sum = 0;
+    for word in words {
+        sum = ((sum as u64 * 16777619 + *word as u64) % 4294967296) as u32;
+    }
+    sum
+}
