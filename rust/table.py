@@ -25,7 +25,7 @@ extern crate alloc;
 mod memory;
 mod traits;
 
-pub use memory::{AllocError, Global};
+pub use memory::{AllocError, Global, Vec};
 pub use nonmax::IsMax;
 """,
     "offset_guarded": """#![doc = include_str!("../README.md")]

@@ -18,6 +18,7 @@ pub mod engine;
 pub mod in_memory;
 pub mod pool;
 pub mod promises;
+pub mod questions;
 pub mod tickets;
 pub mod walking;
 

@@ -1,29 +1,25 @@
-//! Each call of an allocator, with every clause of its contract once more: what a caller may rely on. Where a clause is
-//! taken back there, the function here is not proved.
+//! Each call that makes or changes an allocator, with every clause of its contract once more: what a caller may rely
+//! on. Where a clause is taken back there, the function here is not proved.
 
-ghost use Rattle.std.specs.List.{FoldsTo};
-ghost use Rattle.std.specs.Prelude.{◌%◌, ◌*◌, ◌+◌, ◌-◌, ◌/◌, ◌<◌, ◌↔◌, ◌≡◌, ◌≢◌, ◌≤◌, IfOk, IfSome, IsSome, IsTrue};
-ghost use Rattle.std.specs.Prelude.{None, [], false, length, min, option_map, sum, true, ℕ};
 ghost use Rattle.offset_allocator.specs.Accesses.{Costs};
-ghost use Rattle.offset_allocator.specs.Compacting.{Compacts, IsCalledWith, KeepsSizes, live, moves};
-ghost use Rattle.offset_allocator.specs.Listing.{listing};
-ghost use Rattle.offset_allocator.specs.Ranges.{Grants, IsLive, KeepsAll, KeepsOthers, Range, range_of, size_of};
-ghost use Rattle.offset_allocator.specs.Relations.{Aligns, Allocates, CanExtend, Extends, Frees, IsAlignment};
-ghost use Rattle.offset_allocator.specs.Relations.{IsFresh, IsSplitNearBest, Resets, SameSpace};
-ghost use Rattle.offset_allocator.specs.Reports.{IsGoodRefusal};
-ghost use Rattle.offset_allocator.specs.Requests.{CanGrant, HasRoomFor, IsFullReport, IsReport, IsWhy, blocks_needed};
-ghost use Rattle.offset_allocator.specs.Requests.{units_needed};
-ghost use Rattle.offset_allocator.specs.Resizing.{CanGrow, CanShrink, Grows, HasUnits, Shrinks};
 ghost use Rattle.offset_allocator.specs.Classes.{down};
-ghost use Rattle.offset_allocator.specs.Statistics.{AreStatistics, greatest};
-ghost use Rattle.offset_allocator.specs.Tight.{AlignsTight, CanHold, IsWhyTight, listed_from};
-ghost use Rattle.offset_allocator.specs.View.{bin_at, count_named, free_sizes, is_full, largest_free, used_of};
-ghost use Rattle.offset_allocator.specs.View.{used_units};
+ghost use Rattle.offset_allocator.specs.Compacting.{Compacts, IsCalledWith, KeepsSizes, live, moves};
+ghost use Rattle.offset_allocator.specs.Ranges.{Grants, IsLive, KeepsAll, KeepsOthers, range_of, size_of};
+ghost use Rattle.offset_allocator.specs.Relations.{Aligns, Allocates, CanExtend, Extends, Frees};
+ghost use Rattle.offset_allocator.specs.Relations.{IsAlignment, IsFresh, IsSplitNearBest, Resets};
+ghost use Rattle.offset_allocator.specs.Relations.{SameSpace};
+ghost use Rattle.offset_allocator.specs.Reports.{IsGoodRefusal};
+ghost use Rattle.offset_allocator.specs.Requests.{CanGrant, HasRoomFor, blocks_needed, units_needed};
+ghost use Rattle.offset_allocator.specs.Resizing.{CanGrow, CanShrink, Grows, HasUnits, Shrinks};
+ghost use Rattle.offset_allocator.specs.State.{IsNoState, IsRestored};
+ghost use Rattle.offset_allocator.specs.Statistics.{greatest};
+ghost use Rattle.offset_allocator.specs.Tight.{AlignsTight, CanHold, listed_from};
+ghost use Rattle.offset_allocator.specs.View.{bin_at, free_sizes, largest_free, used_of};
+ghost use Rattle.std.specs.List.{FoldsTo};
+ghost use Rattle.std.specs.Prelude.{◌%◌, ◌*◌, ◌+◌, ◌-◌, ◌/◌, ◌<◌, ◌↔◌, ◌≡◌, ◌≢◌, ◌≤◌, IfOk, IfSome, IsSome};
+ghost use Rattle.std.specs.Prelude.{IsTrue, None, [], false, length, min, true, ℕ, IsErr};
 
-use offset_allocator::{
-    Allocation, AllocatorOf, BlocksOf, Move, Refusal, Statistics, StorageReport, StorageReportFull,
-    Tables,
-};
+use offset_allocator::{Allocation, AllocatorOf, Move, StateFault, Tables};
 use std::alloc::{AllocError, Global};
 
 /// `new`, with each clause of its contract.
@@ -46,18 +42,16 @@ pub fn with_max_allocs<T: Tables>(
     AllocatorOf::with_max_allocs(alloc, size, max_allocs)
 }
 
-/// `size`, with each clause of its contract.
-pub fn size<T: Tables>(space: &AllocatorOf<T>) -> u32
-    ensures { result ≡ space.now.size }
+/// `read_state`, with each clause of its contract.
+pub fn read_state<T: Tables>(
+    alloc: Global,
+    bytes: &[u8],
+    most_allocs: u32,
+) -> Result<Result<AllocatorOf<T>, StateFault>, AllocError>
+    ensures read { IfOk result (λ r. IfOk r (IsRestored bytes.now most_allocs)) }
+    ensures refused { IfOk result (λ r. IsErr r → IsNoState T.Index.MAX most_allocs bytes.now) }
 {
-    space.size()
-}
-
-/// `max_allocs`, with each clause of its contract.
-pub fn max_allocs<T: Tables>(space: &AllocatorOf<T>) -> u32
-    ensures { result ≡ space.now.max_allocs }
-{
-    space.max_allocs()
+    AllocatorOf::read_state(alloc, bytes, most_allocs)
 }
 
 /// `reset`, with each clause of its contract.
@@ -68,57 +62,6 @@ pub fn reset<T: Tables>(space: &mut AllocatorOf<T>)
     ensures accesses { Costs 1 (min (130 * used_of space.old.blocks + 2) 270) space.old.accesses space.new.accesses }
 {
     space.reset();
-}
-
-/// `block_count`, with each clause of its contract.
-pub fn block_count<T: Tables>(space: &AllocatorOf<T>) -> u32
-    ensures { result ≡ length space.now.blocks }
-{
-    space.block_count()
-}
-
-/// `node_count`, with each clause of its contract.
-pub fn node_count<T: Tables>(space: &AllocatorOf<T>) -> u32
-    ensures names { (x : ℕ) → 1 ≤ count_named x space.now.blocks → x < result }
-    ensures limit { result ≤ space.now.max_allocs }
-{
-    space.node_count()
-}
-
-/// `is_full`, with each clause of its contract.
-pub fn is_full<T: Tables>(space: &AllocatorOf<T>) -> bool
-    ensures limit { IsTrue result ↔ (length space.now.blocks + 1 ≡ space.now.max_allocs) }
-    ensures full { result ≡ is_full space.now }
-{
-    space.is_full()
-}
-
-/// `free_units`, with each clause of its contract.
-pub fn free_units<T: Tables>(space: &AllocatorOf<T>) -> u32
-    ensures { result ≡ sum (free_sizes space.now.blocks) }
-{
-    space.free_units()
-}
-
-/// `live_units`, with each clause of its contract.
-pub fn live_units<T: Tables>(space: &AllocatorOf<T>) -> u32
-    ensures { result ≡ used_units space.now.blocks }
-{
-    space.live_units()
-}
-
-/// `is_empty`, with each clause of its contract.
-pub fn is_empty<T: Tables>(space: &AllocatorOf<T>) -> bool
-    ensures { IsTrue result ↔ (used_of space.now.blocks ≡ 0) }
-{
-    space.is_empty()
-}
-
-/// `statistics`, with each clause of its contract.
-pub fn statistics<T: Tables>(space: &AllocatorOf<T>) -> Statistics
-    ensures { AreStatistics result space.now }
-{
-    space.statistics()
 }
 
 /// `allocate`, with each clause of its contract.
@@ -176,27 +119,6 @@ pub fn allocate_tight_aligned<T: Tables>(
     space.allocate_tight_aligned(size, align)
 }
 
-/// `refusal_tight`, with each clause of its contract.
-pub fn refusal_tight<T: Tables>(space: &AllocatorOf<T>, size: u32) -> Option<Refusal>
-    ensures granted { result ≡ None ↔ CanHold size 1 space.now }
-    ensures why { IfSome result (IsWhyTight size 1 space.now) }
-{
-    space.refusal_tight(size)
-}
-
-/// `refusal_tight_aligned`, with each clause of its contract.
-pub fn refusal_tight_aligned<T: Tables>(
-    space: &AllocatorOf<T>,
-    size: u32,
-    align: u32,
-) -> Option<Refusal>
-    requires power { IsAlignment align }
-    ensures granted { result ≡ None ↔ CanHold size align space.now }
-    ensures why { IfSome result (IsWhyTight size align space.now) }
-{
-    space.refusal_tight_aligned(size, align)
-}
-
 /// `free`, with each clause of its contract.
 pub fn free<T: Tables>(space: &mut AllocatorOf<T>, allocation: Allocation<T::Index>)
     requires live { IsLive allocation.name space.old }
@@ -206,68 +128,6 @@ pub fn free<T: Tables>(space: &mut AllocatorOf<T>, allocation: Allocation<T::Ind
     ensures step { Frees allocation.name space.old space.new }
 {
     space.free(allocation);
-}
-
-/// `is_live`, with each clause of its contract.
-pub fn is_live<T: Tables>(space: &AllocatorOf<T>, allocation: Allocation<T::Index>) -> bool
-    ensures { IsTrue result ↔ IsLive allocation.name space.now }
-{
-    space.is_live(allocation)
-}
-
-/// `allocation_size`, with each clause of its contract.
-pub fn allocation_size<T: Tables>(space: &AllocatorOf<T>, allocation: Allocation<T::Index>) -> u32
-    ensures { result ≡ size_of allocation.name space.now }
-{
-    space.allocation_size(allocation)
-}
-
-/// `allocation_offset`, with each clause of its contract.
-pub fn allocation_offset<T: Tables>(
-    space: &AllocatorOf<T>,
-    allocation: Allocation<T::Index>,
-) -> Option<u32>
-    ensures { result ≡ option_map (λ (r : Range). r.offset) (range_of allocation.name space.now) }
-{
-    space.allocation_offset(allocation)
-}
-
-/// `blocks`, with each clause of its contract.
-pub fn blocks<T: Tables>(space: &AllocatorOf<T>) -> BlocksOf<'_, T>
-    ensures { result ≡ listing space.now }
-{
-    space.blocks()
-}
-
-/// `storage_report`, with each clause of its contract.
-pub fn storage_report<T: Tables>(space: &AllocatorOf<T>) -> StorageReport
-    ensures { IsReport result space.now }
-{
-    space.storage_report()
-}
-
-/// `storage_report_full`, with each clause of its contract.
-pub fn storage_report_full<T: Tables>(space: &AllocatorOf<T>) -> StorageReportFull
-    ensures { IsFullReport result space.now }
-{
-    space.storage_report_full()
-}
-
-/// `refusal`, with each clause of its contract.
-pub fn refusal<T: Tables>(space: &AllocatorOf<T>, size: u32) -> Option<Refusal>
-    ensures granted { result ≡ None ↔ CanGrant 1 size space.now }
-    ensures why { IfSome result (IsWhy 1 size space.now) }
-{
-    space.refusal(size)
-}
-
-/// `refusal_aligned`, with each clause of its contract.
-pub fn refusal_aligned<T: Tables>(space: &AllocatorOf<T>, size: u32, align: u32) -> Option<Refusal>
-    requires power { IsAlignment align }
-    ensures granted { result ≡ None ↔ CanGrant (blocks_needed align) (units_needed size align) space.now }
-    ensures why { IfSome result (IsWhy (blocks_needed align) (units_needed size align) space.now) }
-{
-    space.refusal_aligned(size, align)
 }
 
 /// `allocate_aligned`, with each clause of its contract.

@@ -13,8 +13,8 @@ ghost use Rattle.offset_allocator.specs.Resizing.{CanGrow, CanShrink, Grows, Shr
 ghost use Rattle.offset_allocator.specs.Classes.{down};
 ghost use Rattle.offset_allocator.specs.Tight.{AlignsTight, CanHold, listed_from};
 ghost use Rattle.offset_allocator.specs.View.{bin_at, largest_free, used_of};
-ghost use Rattle.offset_guarded.specs.Guard.{Grants, HasSerialLeft, HasUnits, IsLive, IsSame, IsWhy, IsWhyTight, KeepsAll};
-ghost use Rattle.offset_guarded.specs.Guard.{KeepsLive, KeepsOthers, KeepsSerials, KeepsSizes, grant_of, last_serial};
+ghost use Rattle.offset_guarded.specs.Guard.{Grants, HasSerialLeft, HasUnits, IsCopy, IsLive, IsSame, IsWhy, IsWhyTight};
+ghost use Rattle.offset_guarded.specs.Guard.{KeepsAll, KeepsLive, KeepsOthers, KeepsSerials, KeepsSizes, grant_of, last_serial};
 ghost use Rattle.offset_guarded.specs.Guard.{range_of, serial_of};
 ghost use Rattle.offset_allocator.specs.Ranges as named;
 
@@ -113,6 +113,13 @@ pub fn free<T: Tables>(space: &mut GuardedOf<T>, ticket: Ticket) -> bool
     ensures accesses_max { space.new.space.accesses ≤ space.old.space.accesses + 128 }
 {
     space.free(ticket)
+}
+
+/// `try_clone`, with each clause of its contract.
+pub fn try_clone<T: Tables>(space: &GuardedOf<T>, alloc: Global) -> Result<GuardedOf<T>, AllocError>
+    ensures { IfOk result (IsCopy space.now) }
+{
+    space.try_clone(alloc)
 }
 
 /// `reset`, with each clause of its contract.

@@ -33,7 +33,7 @@ extern crate alloc;
 mod memory;
 mod traits;
 
-pub use memory::{AllocError, Global};
+pub use memory::{AllocError, Global, Vec};
 pub use nonmax::IsMax;
 
 mod accesses;

@@ -1,5 +1,5 @@
-//! The memory of the tables: a vector that returns an error where its allocation fails, and never grows past it. Written
-//! by hand, over `alloc::vec::Vec`.
+//! The memory of the tables, and of the bytes of a state: a vector that returns an error where its allocation fails.
+//! Written by hand, over `alloc::vec::Vec`.
 
 use core::fmt;
 use core::ops::{Deref, DerefMut, Index, IndexMut};
@@ -20,10 +20,33 @@ impl fmt::Display for AllocError {
 
 impl core::error::Error for AllocError {}
 
-/// A table.
-pub(crate) struct Vec<T>(alloc::vec::Vec<T>);
+/// A table, or a list of bytes.
+#[derive(Debug)]
+pub struct Vec<T>(alloc::vec::Vec<T>);
 
 impl<T> Vec<T> {
+    /// Makes an empty list. It takes no memory.
+    pub(crate) fn new(_: Global) -> Self {
+        Vec(alloc::vec::Vec::new())
+    }
+
+    /// Adds a value at the end.
+    pub(crate) fn push(&mut self, value: T) -> Result<(), AllocError> {
+        self.0.try_reserve(1).map_err(|_| AllocError)?;
+        self.0.push(value);
+        Ok(())
+    }
+
+    /// Adds copies of some values at the end.
+    pub(crate) fn extend_from_slice(&mut self, values: &[T]) -> Result<(), AllocError>
+    where
+        T: Clone,
+    {
+        self.0.try_reserve(values.len()).map_err(|_| AllocError)?;
+        self.0.extend_from_slice(values);
+        Ok(())
+    }
+
     /// Makes an empty vector with room for exactly `capacity` values.
     pub(crate) fn with_capacity(_: Global, capacity: usize) -> Result<Self, AllocError> {
         let mut values = alloc::vec::Vec::new();
@@ -44,6 +67,12 @@ impl<T> Vec<T> {
     /// Removes all values, and keeps the memory.
     pub(crate) fn clear(&mut self) {
         self.0.clear();
+    }
+}
+
+impl<T> From<Vec<T>> for alloc::vec::Vec<T> {
+    fn from(values: Vec<T>) -> Self {
+        values.0
     }
 }
 

@@ -1,0 +1,241 @@
+//! States: their bytes, each fault, and that a copy and a space that was read go on alike.
+
+use crate::asserts::{assert_same, assert_same_at, assert_that};
+use crate::layouts::{ALL, Expectation, check, check_each};
+use offset_allocator::StateFaultKind::{
+    Block, Checksum, Counts, Form, Free, Length, Limit, Neighbours, Unused,
+};
+use offset_allocator::{Allocation, AllocatorOf, NodeIndex, StateFault, StateFaultKind, Tables};
+use std::alloc::Global;
+use std::process::Abort;
+
+// The first number of each state: "OAST".
+const FORM: u32 = 0x5453_414F;
+
+// The bytes of numbers and their checksum.
+fn bytes_of(rt: &impl Abort, alloc: Global, words: &[u32]) -> Vec<u8> {
+    let mut bytes = Vec::new(alloc);
+    let mut sum = 0u32;
+    for word in words {
+        bytes
+            .extend_from_slice(&word.to_le_bytes())
+            .expect(rt, "memory");
+        sum = sum.wrapping_mul(16_777_619).wrapping_add(*word);
+    }
+    bytes
+        .extend_from_slice(&sum.to_le_bytes())
+        .expect(rt, "memory");
+    bytes
+}
+
+// Numbers before a checksum, and what is wrong with them: where, and what.
+struct Case {
+    words: &'static [u32],
+    fault: Option<(usize, StateFaultKind)>,
+}
+
+const CASES: [Case; 17] = [
+    // one free block of 100 units, and a limit of 5
+    Case {
+        words: &[FORM, 1, 100, 5, 1, 1, 0, 0, 100, 0],
+        fault: None,
+    },
+    // the same with an unused node
+    Case {
+        words: &[FORM, 1, 100, 5, 1, 1, 1, 0, 100, 0, 1],
+        fault: None,
+    },
+    // used, free, used; the block at the end is first
+    Case {
+        words: &[FORM, 1, 100, 5, 3, 1, 0, 2, 50, 1, 20, 0, 30, 1],
+        fault: None,
+    },
+    Case {
+        words: &[FORM, 1, 100, 5, 1, 1],
+        fault: Some((28, Length)),
+    },
+    Case {
+        words: &[FORM, 1, 100, 5, 1, 1, 0, 0, 100, 0, 0],
+        fault: Some((48, Length)),
+    },
+    Case {
+        words: &[FORM - 1, 1, 100, 5, 1, 1, 0, 0, 100, 0],
+        fault: Some((0, Form)),
+    },
+    Case {
+        words: &[FORM, 2, 100, 5, 1, 1, 0, 0, 100, 0],
+        fault: Some((0, Form)),
+    },
+    Case {
+        words: &[FORM, 1, 100, 11, 1, 1, 0, 0, 100, 0],
+        fault: Some((12, Limit)),
+    },
+    Case {
+        words: &[FORM, 1, 0, 5, 0, 0, 0],
+        fault: Some((16, Counts)),
+    },
+    // no free block, and no node for another
+    Case {
+        words: &[FORM, 1, 100, 2, 1, 0, 0, 0, 100],
+        fault: Some((16, Counts)),
+    },
+    Case {
+        words: &[FORM, 1, 100, 5, 1, 1, 0, 1, 100, 1],
+        fault: Some((28, Block)),
+    },
+    Case {
+        words: &[FORM, 1, 100, 5, 1, 1, 0, 0, 101, 0],
+        fault: Some((32, Block)),
+    },
+    Case {
+        words: &[FORM, 1, 100, 5, 2, 1, 0, 0, 50, 0, 50, 0],
+        fault: Some((36, Block)),
+    },
+    Case {
+        words: &[FORM, 1, 100, 5, 1, 1, 1, 0, 100, 0, 0],
+        fault: Some((40, Unused)),
+    },
+    Case {
+        words: &[FORM, 1, 100, 5, 1, 1, 1, 0, 100, 1, 1],
+        fault: Some((36, Free)),
+    },
+    Case {
+        words: &[FORM, 1, 100, 5, 1, 2, 0, 0, 100, 0, 0],
+        fault: Some((36, Free)),
+    },
+    Case {
+        words: &[FORM, 1, 100, 5, 2, 2, 0, 1, 50, 0, 50, 0, 1],
+        fault: Some((36, Neighbours)),
+    },
+];
+
+struct Faults;
+
+impl Expectation for Faults {
+    fn check<T: Tables>(&self, rt: &impl Abort, alloc: Global) {
+        for case in &CASES {
+            let bytes = bytes_of(rt, alloc, case.words);
+            let read = AllocatorOf::<T>::read_state(alloc, &bytes, 10).expect(rt, "memory");
+            match read {
+                Err(StateFault { at, kind }) => {
+                    assert_same_at(rt, &case.words, &Some((at, kind)), &case.fault)
+                }
+                Ok(space) => {
+                    assert_same_at(rt, &case.words, &None, &case.fault);
+                    let written = space.write_state(alloc).expect(rt, "memory");
+                    assert_same_at(rt, &case.words, &written.as_slice(), &bytes.as_slice());
+                }
+            }
+        }
+        // a checksum that is not that of the numbers, and a byte too few
+        let mut bytes = bytes_of(rt, alloc, CASES[0].words);
+        bytes[40] ^= 1;
+        let read = AllocatorOf::<T>::read_state(alloc, &bytes, 10).expect(rt, "memory");
+        assert_same(
+            rt,
+            &read.err(),
+            &Some(StateFault {
+                at: 40,
+                kind: Checksum,
+            }),
+        );
+        let short = AllocatorOf::<T>::read_state(alloc, &bytes[..43], 10).expect(rt, "memory");
+        assert_same(
+            rt,
+            &short.err(),
+            &Some(StateFault {
+                at: 43,
+                kind: Length,
+            }),
+        );
+    }
+}
+
+#[test]
+fn each_fault(rt: HostRuntime) {
+    check(&rt, rt.alloc(), &Faults);
+}
+
+struct ExactBytes;
+
+impl Expectation for ExactBytes {
+    // The bytes of a fresh space, each worked out by hand: eight numbers, name and size of its block, the free name, and
+    // the checksum.
+    fn check<T: Tables>(&self, rt: &impl Abort, alloc: Global) {
+        let wanted = [
+            b'O', b'A', b'S', b'T', 1, 0, 0, 0, 100, 0, 0, 0, 5, 0, 0, 0, 1, 0, 0, 0, 1, 0, 0, 0,
+            0, 0, 0, 0, 0, 0, 0, 0, 100, 0, 0, 0, 0, 0, 0, 0, 71, 235, 117, 192,
+        ];
+        assert_that(rt, 5 < T::Index::MAX - 1);
+        let space = AllocatorOf::<T>::with_max_allocs(alloc, 100, 5).expect(rt, "memory");
+        let written = space.write_state(alloc).expect(rt, "memory");
+        assert_same(rt, &written.as_slice(), &wanted.as_slice());
+    }
+}
+
+#[test]
+fn exact_bytes(rt: HostRuntime) {
+    check(&rt, rt.alloc(), &ExactBytes);
+}
+
+// The answers of a space to 40 requests, between which ranges are freed.
+fn answers<T: Tables>(
+    rt: &impl Abort,
+    alloc: Global,
+    space: &mut AllocatorOf<T>,
+    held: &[Allocation<T::Index>],
+) -> Vec<Option<Allocation<T::Index>>> {
+    let mut found = Vec::new(alloc);
+    for i in 0..40usize {
+        let size = (i as u32).wrapping_mul(37) % 90;
+        found.push(space.allocate(size)).expect(rt, "memory");
+        if let Some(handle) = held.get(i / 2) {
+            if space.is_live(*handle) {
+                space.free(*handle);
+            }
+        }
+    }
+    found
+}
+
+struct GoesOn;
+
+impl Expectation for GoesOn {
+    // A copy, and a space that was read, give the same handles as the space itself.
+    fn check<T: Tables>(&self, rt: &impl Abort, alloc: Global) {
+        assert_that(rt, 12 < T::Index::MAX - 1);
+        let mut space = AllocatorOf::<T>::with_max_allocs(alloc, 1_000, 12).expect(rt, "memory");
+        let mut held = Vec::new(alloc);
+        for i in 0..10u32 {
+            if let Some(handle) = space.allocate(i.wrapping_mul(29) % 70) {
+                held.push(handle).expect(rt, "memory");
+            }
+        }
+        for place in [2usize, 7, 4] {
+            if let Some(handle) = held.get(place) {
+                if space.is_live(*handle) {
+                    space.free(*handle);
+                }
+            }
+        }
+        let bytes = space.write_state(alloc).expect(rt, "memory");
+        let mut copy = space.try_clone(alloc).expect(rt, "memory");
+        let same = copy.write_state(alloc).expect(rt, "memory");
+        assert_same(rt, &same.as_slice(), &bytes.as_slice());
+        let mut read = match AllocatorOf::<T>::read_state(alloc, &bytes, 12).expect(rt, "memory") {
+            Ok(read) => read,
+            Err(_) => return assert_that(rt, false),
+        };
+        let wanted = answers(rt, alloc, &mut space, &held);
+        let copied = answers(rt, alloc, &mut copy, &held);
+        let found = answers(rt, alloc, &mut read, &held);
+        assert_that(rt, wanted.iter().any(|it| it.is_some()));
+        assert_same(rt, &copied.as_slice(), &wanted.as_slice());
+        assert_same(rt, &found.as_slice(), &wanted.as_slice());
+    }
+}
+
+#[test]
+fn goes_on(rt: HostRuntime) {
+    check_each(&rt, rt.alloc(), &ALL, &GoesOn);
+}
