@@ -20,6 +20,7 @@
 
 #include <cstddef>
 #include <cstdint>
+#include <cstring>
 #include <iterator>
 #if defined(__cpp_exceptions) || defined(__EXCEPTIONS) || defined(_CPPUNWIND)
 #define OFFSET_ALLOCATOR_EXCEPTIONS 1
@@ -215,6 +216,17 @@ private:
     oa_walk start;
 };
 
+namespace detail {
+// Drops a state.
+struct State {
+    oa_state *held;
+    explicit State(oa_state *state) : held(state) {}
+    State(const State &) = delete;
+    State &operator=(const State &) = delete;
+    ~State() { oa_state_drop(held); }
+};
+} // namespace detail
+
 class Allocator {
 public:
     // Where memory is out, or the limit is not 2 to 4294967293, it is empty: every request is refused.
@@ -241,6 +253,23 @@ public:
 
     // Whether it has a space.
     explicit operator bool() const noexcept { return space != nullptr; }
+
+    // A copy, which goes on alike; empty where memory is out.
+    Allocator clone() const { return Allocator(oa_clone(space)); }
+
+    // Assigns the bytes of the state to a vector, say. False where memory for them is out; an exception of assign is that
+    // of the caller.
+    template <class Bytes> bool save(Bytes &bytes) const {
+        const detail::State state(oa_write_state(space));
+        if (!state.held) return false;
+        const uint8_t *first = oa_state_bytes(state.held);
+        bytes.assign(first, first + oa_state_size(state.held));
+        return true;
+    }
+
+    // The space of bytes that save has assigned, or an empty one and what is wrong with them, and where.
+    struct Loaded;
+    static Loaded load(const void *bytes, size_t size, uint32 mostAllocs = 128 * 1024);
 
     void reset() { oa_reset(space); }
 
@@ -303,10 +332,26 @@ public:
     }
 
 private:
+    explicit Allocator(oa_allocator *made) noexcept : space(made) {}
     oa_allocator *space;
 };
 
 inline void swap(Allocator &a, Allocator &b) noexcept { a.swap(b); }
+
+// A space that was loaded, or an empty one and what is wrong with the bytes, and where.
+struct Allocator::Loaded {
+    Allocator space;
+    oa_found found;
+    size_t at;
+};
+
+inline Allocator::Loaded Allocator::load(const void *bytes, size_t size, uint32 mostAllocs) {
+    const detail::State state(oa_state_new(size));
+    if (!state.held) return Loaded{Allocator(static_cast<oa_allocator *>(nullptr)), OA_OUT_OF_MEMORY, 0};
+    if (size != 0) std::memcpy(oa_state_bytes(state.held), bytes, size);
+    oa_read read = oa_read_state(state.held, mostAllocs);
+    return Loaded{Allocator(read.space), read.found, read.at};
+}
 
 // A granted range of a GuardedAllocator, for as long as the grant lives.
 struct Ticket {
@@ -344,6 +389,9 @@ public:
         space = other.space;
         other.space = mine;
     }
+    // A copy, to be used in place of this one: later grants of both may have the same ticket. Empty where memory is out.
+    GuardedAllocator clone() const { return GuardedAllocator(oag_clone(space)); }
+
     GuardedAllocator(const GuardedAllocator &) = delete;
     GuardedAllocator &operator=(const GuardedAllocator &) = delete;
     ~GuardedAllocator() { oag_drop(space); }
@@ -406,6 +454,7 @@ public:
     uint32 realm() const { return oag_realm(space); }
 
 private:
+    explicit GuardedAllocator(oag_allocator *made) noexcept : space(made) {}
     oag_allocator *space;
 
     static Ticket of(oag_ticket from) {

@@ -15,7 +15,7 @@
  * and a walk whose space changed. A call with a null allocator does nothing and returns what its comment says. A handle
  * that is not live here is refused by the result, and nothing changes: it was freed, or a reset freed it, or its name is
  * not in use. A stale handle, or one of another allocator, whose name is in use here cannot be distinguished from the live
- * one. Only the calls named *_new take memory.
+ * one. Only the calls named *_new and *_clone, oa_write_state and oa_read_state take memory.
  *
  * Threads. Calls with an oa_allocator * need it for themselves; calls with a const oa_allocator * may run at the same
  * time as each other.
@@ -26,6 +26,7 @@
 #define OFFSET_ALLOCATOR_H
 
 #include <stdbool.h>
+#include <stddef.h>
 #include <stdint.h>
 
 #ifdef __cplusplus
@@ -119,6 +120,32 @@ typedef struct oa_walk {
 /* A list of blocks. */
 typedef struct oa_blocks oa_blocks;
 
+/* The bytes of a state. */
+typedef struct oa_state oa_state;
+
+/* What oa_read_state found: a space, no memory for it, or what is wrong with the bytes. */
+typedef enum oa_found {
+    OA_SPACE_READ = 0,
+    OA_OUT_OF_MEMORY = 1,
+    OA_BAD_LENGTH = 2,     /* They are not as many as their counts say, or no multiple of 4. */
+    OA_BAD_FORM = 3,       /* They do not begin as a state does, or are of another version. */
+    OA_BAD_LIMIT = 4,      /* The node limit is above the one that is admitted. */
+    OA_BAD_COUNTS = 5,     /* No block, or more blocks and unused nodes than the node limit admits. */
+    OA_BAD_CHECKSUM = 6,
+    OA_BAD_BLOCK = 7,      /* A block with a wrong name, or the sizes are not that of the space. */
+    OA_BAD_UNUSED = 8,     /* An unused name that is wrong, or listed twice. */
+    OA_BAD_FREE = 9,       /* The name of no block, or of a free one that was listed before. */
+    OA_BAD_NEIGHBOURS = 10 /* This block and the one after it are both free. */
+} oa_found;
+
+/* A space that was read, or null, and what is wrong. at: the place of the byte from which on the bytes are wrong, or their
+ * number where there are too few or too many. */
+typedef struct oa_read {
+    oa_allocator *space;
+    oa_found found;
+    size_t at;
+} oa_read;
+
 /* Makes a space of `size` units, all free. At most max_allocs - 1 blocks exist at a time, free ones included, so with at
  * most L live ranges 2 * L + 2 are enough. Null where max_allocs is not 2 to 4294967293, or memory is out.
  * Cost: 28 bytes a node, reserved here and written when the node is used for the first time. */
@@ -126,6 +153,29 @@ oa_allocator *oa_new(uint32_t size, uint32_t max_allocs);
 
 /* Frees the allocator's own memory. A null pointer is allowed. */
 void oa_drop(oa_allocator *space);
+
+/* A copy with memory of its own: the same live handles, and the same answers and handles to all further calls. Null where
+ * memory is out, or space is null. Cost: as oa_new, and time for the nodes that were made. */
+oa_allocator *oa_clone(const oa_allocator *space);
+
+/* The bytes of the state of a space, in which it can be stored: 32, 8 for each block, 4 more for each free one, and 4 for
+ * each unused node that was made. Null where memory is out, or space is null. To be dropped by oa_state_drop. */
+oa_state *oa_write_state(const oa_allocator *space);
+
+/* Room for the bytes of a state that was stored, all 0: copy them to oa_state_bytes. Null where memory is out. */
+oa_state *oa_state_new(size_t size);
+
+/* The bytes, to be read and written until the state is dropped, and their number. Null and 0 where state is null. */
+uint8_t *oa_state_bytes(oa_state *state);
+size_t oa_state_size(const oa_state *state);
+
+/* Frees the bytes. A null pointer is allowed. */
+void oa_state_drop(oa_state *state);
+
+/* The space of these bytes, which goes on as the one that was written: the same handles are live. Any bytes are read: where
+ * they are no state, the answer says what is wrong with them, and where. A node limit above most_allocs is refused, since
+ * memory for it is reserved. The state is not dropped. */
+oa_read oa_read_state(const oa_state *state, uint32_t most_allocs);
 
 /* Frees all ranges: the whole space is one free block again, with what oa_extend added. No earlier handle is live.
  * Cost: at most 270 accesses, whatever the node limit. */
@@ -275,6 +325,10 @@ oag_allocator *oag_new(uint32_t size, uint32_t max_allocs, uint32_t realm);
 
 /* Frees the allocator. A null pointer is allowed. */
 void oag_drop(oag_allocator *space);
+
+/* As oa_clone, with the same realm and serials: each ticket that is live here is live there. Use one copy in place of the
+ * other, not beside it: later grants of both may have the same ticket. */
+oag_allocator *oag_clone(const oag_allocator *space);
 
 /* Makes the whole space free. No earlier ticket is live then. */
 void oag_reset(oag_allocator *space);

@@ -13,7 +13,7 @@ use core::ptr::NonNull;
 use offset_allocator_guarded::{Guarded, Ticket};
 use offset_allocator_proved::ext::min_allocator_size;
 use offset_allocator_proved::small_float::{float_to_uint, uint_to_float_round_down, uint_to_float_round_up};
-use offset_allocator_proved::{Allocation, Allocator, Global, Move, Refusal};
+use offset_allocator_proved::{Allocation, Allocator, Global, Move, Refusal, StateFaultKind};
 
 /// The value of a missing offset or name.
 pub const NO_SPACE: u32 = u32::MAX;
@@ -118,6 +118,33 @@ pub struct Block {
 /// Blocks that were listed, the next one last.
 pub type Blocks = [Vec<Block>; 1];
 
+/// The bytes of a state.
+pub type State = [Vec<u8>; 1];
+
+/// What `oa_read_state` found.
+#[repr(C)]
+pub enum Found {
+    Space,
+    OutOfMemory,
+    Length,
+    Form,
+    Limit,
+    Counts,
+    Checksum,
+    Block,
+    Unused,
+    Free,
+    Neighbours,
+}
+
+/// A space that was read, or what is wrong with the bytes, and where.
+#[repr(C)]
+pub struct Read {
+    space: Option<Box<Space>>,
+    found: Found,
+    at: usize,
+}
+
 /// A walk over the blocks of a space, in memory of the caller: `oa_walk` in the header. All zero it is at its end.
 pub struct Walk<'a> {
     left: Option<offset_allocator_proved::Blocks<'a>>,
@@ -209,6 +236,39 @@ fn boxed<T>(value: T) -> Option<Box<[T; 1]>> {
     one.into_boxed_slice().try_into().ok()
 }
 
+// The space of these bytes, or what is wrong with them.
+fn read(state: &[u8], most_allocs: u32) -> Read {
+    let lost = |found, at| Read { space: None, found, at };
+    match Allocator::read_state(Global, state, most_allocs) {
+        Err(_) => lost(Found::OutOfMemory, 0),
+        Ok(Ok(space)) => match boxed(space) {
+            None => lost(Found::OutOfMemory, 0),
+            space => Read { space, found: Found::Space, at: state.len() },
+        },
+        Ok(Err(fault)) => lost(
+            match fault.kind {
+                StateFaultKind::Length => Found::Length,
+                StateFaultKind::Form => Found::Form,
+                StateFaultKind::Limit => Found::Limit,
+                StateFaultKind::Counts => Found::Counts,
+                StateFaultKind::Checksum => Found::Checksum,
+                StateFaultKind::Block => Found::Block,
+                StateFaultKind::Unused => Found::Unused,
+                StateFaultKind::Free => Found::Free,
+                StateFaultKind::Neighbours => Found::Neighbours,
+            },
+            fault.at,
+        ),
+    }
+}
+
+fn zeros(size: usize) -> Option<Box<State>> {
+    let mut bytes = Vec::new();
+    bytes.try_reserve_exact(size).ok()?;
+    bytes.resize(size, 0);
+    boxed(bytes)
+}
+
 fn reason(refusal: Option<Refusal>) -> Reason {
     match refusal {
         None => Reason::None,
@@ -267,6 +327,22 @@ exports! {
     } else ();
 
     fn oa_drop(space: Option<Box<Space>>) -> () { drop(space) } else ();
+
+    fn oa_clone([space: &Space],) -> Option<Box<Space>> { boxed(space.try_clone(Global).ok()?) } else None;
+
+    fn oa_write_state([space: &Space],) -> Option<Box<State>> { boxed(space.write_state(Global).ok()?.into()) } else None;
+
+    fn oa_state_new(size: usize) -> Option<Box<State>> { zeros(size) } else ();
+
+    fn oa_state_bytes([state: &mut State],) -> Option<NonNull<u8>> { NonNull::new(state.as_mut_ptr()) } else None;
+
+    fn oa_state_size([state: &State],) -> usize { state.len() } else 0;
+
+    fn oa_state_drop(state: Option<Box<State>>) -> () { drop(state) } else ();
+
+    fn oa_read_state([state: &State], most_allocs: u32) -> Read {
+        read(state, most_allocs)
+    } else Read { space: None, found: Found::Length, at: 0 };
 
     fn oa_reset([space: &mut Space],) -> () { space.reset() } else ();
 
@@ -386,6 +462,8 @@ exports! {
     } else ();
 
     fn oag_drop(space: Option<Box<GuardedSpace>>) -> () { drop(space) } else ();
+
+    fn oag_clone([space: &GuardedSpace],) -> Option<Box<GuardedSpace>> { boxed(space.try_clone(offset_allocator_guarded::Global).ok()?) } else None;
 
     fn oag_reset([space: &mut GuardedSpace],) -> () { space.reset() } else ();
 

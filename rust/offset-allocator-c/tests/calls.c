@@ -56,6 +56,47 @@ static void grants(void) {
     oa_drop(space);
 }
 
+/* A copy, and a space that was stored and read, give the same handles. */
+static void states(void) {
+    static const uint8_t fresh[44] = {'O', 'A', 'S', 'T', 1, 0, 0, 0, 100, 0, 0, 0, 5, 0, 0, 0, 1, 0, 0, 0, 1, 0, 0, 0,
+        0, 0, 0, 0, 0, 0, 0, 0, 100, 0, 0, 0, 0, 0, 0, 0, 71, 235, 117, 192};
+    oa_allocator *space = oa_new(100, 5);
+    oa_state *state = oa_write_state(space);
+    CHECK(oa_state_size(state) == 44 && memcmp(oa_state_bytes(state), fresh, 44) == 0);
+    oa_allocation a = oa_allocate(space, 30), b = oa_allocate(space, 20);
+    oa_free(space, a);
+    oa_state_drop(state);
+    state = oa_write_state(space);
+    oa_state *stored = oa_state_new(oa_state_size(state));
+    memcpy(oa_state_bytes(stored), oa_state_bytes(state), oa_state_size(state));
+    oa_read read = oa_read_state(stored, 5);
+    oa_allocator *copy = oa_clone(space);
+    CHECK(read.found == OA_SPACE_READ && read.at == oa_state_size(state) && copy);
+    oa_allocation next = oa_allocate(space, 10);
+    oa_allocation from_copy = oa_allocate(copy, 10), from_read = oa_allocate(read.space, 10);
+    CHECK(next.metadata == from_copy.metadata && next.offset == from_copy.offset);
+    CHECK(next.metadata == from_read.metadata && next.offset == from_read.offset && next.offset == 0);
+    CHECK(oa_is_live(copy, b) && oa_is_live(read.space, b) && oa_allocation_size(read.space, b) == 20);
+    oa_drop(read.space);
+    oa_drop(copy);
+    /* a smaller limit is admitted, a bit is wrong, there are no bytes */
+    read = oa_read_state(stored, 4);
+    CHECK(!read.space && read.found == OA_BAD_LIMIT && read.at == 12);
+    oa_state_bytes(stored)[0] ^= 1;
+    read = oa_read_state(stored, 5);
+    CHECK(!read.space && read.found == OA_BAD_FORM && read.at == 0);
+    oa_state_drop(stored);
+    stored = oa_state_new(0);
+    read = oa_read_state(stored, 5);
+    CHECK(!read.space && read.found == OA_BAD_LENGTH && read.at == 0 && oa_state_size(stored) == 0);
+    oa_state_drop(stored);
+    oa_state_drop(state);
+    oa_drop(space);
+    CHECK(!oa_clone(NULL) && !oa_write_state(NULL) && !oa_state_bytes(NULL) && oa_state_size(NULL) == 0);
+    CHECK(oa_read_state(NULL, 5).found == OA_BAD_LENGTH);
+    oa_state_drop(NULL);
+}
+
 static bool are(oa_totals t, uint32_t ranges, uint32_t live, uint32_t blocks, uint32_t units, uint32_t block, uint32_t region, uint32_t nodes) {
     return t.live_ranges == ranges && t.live_units == live && t.free_blocks == blocks && t.free_units == units
         && t.largest_free_block == block && t.largest_free_region == region && t.unused_nodes == nodes;
@@ -327,6 +368,7 @@ int main(void) {
     resizes();
     reasons();
     compacts();
+    states();
     walks();
     classes();
     nulls();

@@ -44,6 +44,33 @@ int main(void) {
         if (!blocks && held != before) return printf("oa_blocks_new keeps memory\n"), 1;
         left = blocks ? -1 : next + 1;
     }
+    int copied = 0, stored = 0, read = 0;
+    oa_allocator *copy = NULL;
+    for (left = 0; !copy; copied++) {
+        long before = held, next = left;
+        copy = oa_clone(space);
+        if (!copy && held != before) return printf("oa_clone keeps memory\n"), 1;
+        left = copy ? -1 : next + 1;
+    }
+    oa_drop(copy);
+    oa_state *state = NULL;
+    for (left = 0; !state; stored++) {
+        long before = held, next = left;
+        state = oa_write_state(space);
+        if (!state && held != before) return printf("oa_write_state keeps memory\n"), 1;
+        left = state ? -1 : next + 1;
+    }
+    copy = NULL;
+    for (left = 0; !copy; read++) {
+        long before = held, next = left;
+        oa_read found = oa_read_state(state, 100);
+        copy = found.space;
+        if (!copy && (held != before || found.found != OA_OUT_OF_MEMORY)) return printf("oa_read_state keeps memory\n"), 1;
+        left = copy ? -1 : next + 1;
+    }
+    oa_drop(copy);
+    oa_state_drop(state);
+    if (copied < 3 || stored < 3 || read < 3) return printf("no request failed\n"), 1;
     /* no other call takes memory */
     left = 0;
     oa_allocation a = oa_allocate(space, 20);

@@ -323,6 +323,32 @@ static void tickets() {
     CHECK(several[4].allocate(200).realm == 4 && !several[0].allocate(1));
 }
 
+// A level that is saved and loaded, and a game that is rolled back.
+static void states() {
+    Allocator heap(1000, 16);
+    Allocation rock = heap.allocate(300), tree = heap.allocate(200);
+    heap.free(rock);
+    std::vector<unsigned char> level;
+    CHECK(heap.save(level) && level.size() == 32 + 3 * 8 + 2 * 4);
+    Allocator before = heap.clone();
+    heap.allocate(77);
+    heap.free(tree);
+    Allocator::Loaded loaded = Allocator::load(level.data(), level.size());
+    CHECK(loaded.found == OA_SPACE_READ && loaded.space.isLive(tree) && loaded.space.allocationSize(tree) == 200);
+    heap = std::move(before);
+    CHECK(heap.isLive(tree) && heap.freeUnits() == 800);
+    CHECK(heap.allocate(40).metadata == loaded.space.allocate(40).metadata);
+    level[0]++;
+    Allocator::Loaded bad = Allocator::load(level.data(), level.size());
+    CHECK(!bad.space && bad.found == OA_BAD_FORM && bad.at == 0);
+    CHECK(Allocator::load(level.data(), 7).found == OA_BAD_LENGTH && !Allocator::load(nullptr, 0).space);
+    GuardedAllocator guarded(100, 16, 5);
+    Ticket t = guarded.allocate(10);
+    GuardedAllocator copy = guarded.clone();
+    guarded.free(t);
+    CHECK(copy.isLive(t) && !guarded.isLive(t));
+}
+
 int main() {
     basic();
     simple();
@@ -332,6 +358,7 @@ int main() {
     zeroFragmentation();
     minSize();
     sideTable();
+    states();
     surface();
     moves();
     beside();

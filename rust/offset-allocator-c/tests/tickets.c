@@ -45,6 +45,11 @@ static void stale(void) {
     CHECK(c.serial == 3 && oag_offset_of(space, c) % 16 == 0 && oag_extend(space, 10));
     oag_compact(space, NULL, NULL);
     CHECK(oag_is_live(space, c));
+    /* a copy has the same tickets, and goes on with the same serial */
+    oag_allocator *copy = oag_clone(space);
+    CHECK(copy && oag_is_live(copy, c) && oag_free(copy, c) && oag_is_live(space, c) && oag_realm(copy) == 7);
+    CHECK(oag_allocate(copy, 5).serial == 4 && oag_allocate(space, 5).serial == 4 && !oag_clone(NULL));
+    oag_drop(copy);
     oag_drop(other);
     oag_drop(space);
     oag_drop(NULL);
