@@ -19,15 +19,17 @@ calls! { false
     NEW offset_new "new"
     LIMITED offset_with_max_allocs "with_max_allocs"
     CALLS offset_calls "with_max_allocs and 1,000 calls"
+    STORE offset_store "with_max_allocs, 1,000 calls, a copy and a state"
     FILL offset_fill "with_max_allocs and twice 3,000 requests and a reset"
     PLAY offset_play "play"
     NEW_BY_FIELD offset_new_by_field "new by field"
     LIMITED_BY_FIELD offset_with_max_allocs_by_field "with_max_allocs by field"
     CALLS_BY_FIELD offset_calls_by_field "with_max_allocs and 1,000 calls by field"
+    STORE_BY_FIELD offset_store_by_field "with_max_allocs, 1,000 calls, a copy and a state by field"
     FILL_BY_FIELD offset_fill_by_field "with_max_allocs and twice 3,000 requests and a reset by field"
     PLAY_BY_FIELD offset_play_by_field "play by field"
-    GUARDED offset_guarded "guarded with_max_allocs and 1,000 calls"
-    GUARDED_BY_FIELD offset_guarded_by_field "guarded with_max_allocs and 1,000 calls by field"
+    GUARDED offset_guarded "guarded with_max_allocs, 1,000 calls and a copy"
+    GUARDED_BY_FIELD offset_guarded_by_field "guarded with_max_allocs, 1,000 calls and a copy by field"
     PARSE offset_parse "parse"
     RUN offset_run "run"
     RUN_PROGRAM offset_run_program "the program"
@@ -48,6 +50,7 @@ pub struct Layout {
     pub new: Call,
     pub limited: Call,
     pub calls: Call,
+    pub store: Call,
     pub fill: Call,
     pub play: Call,
     pub list: Call,
@@ -61,6 +64,7 @@ pub const BY_NODE: Layout = Layout {
     new: NEW,
     limited: LIMITED,
     calls: CALLS,
+    store: STORE,
     fill: FILL,
     play: PLAY,
     list: LIST,
@@ -74,6 +78,7 @@ pub const BY_FIELD: Layout = Layout {
     new: NEW_BY_FIELD,
     limited: LIMITED_BY_FIELD,
     calls: CALLS_BY_FIELD,
+    store: STORE_BY_FIELD,
     fill: FILL_BY_FIELD,
     play: PLAY_BY_FIELD,
     list: LIST_BY_FIELD,

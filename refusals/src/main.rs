@@ -125,10 +125,14 @@ impl Check {
             header,
             format!("{called} requests, not {made}"),
         );
+        // a copy requests as much again
         let guarded = [vec![8 * nodes], table_requests(layout, nodes, bits)].concat();
-        self.expect_requests(layout.guarded, header, &guarded);
+        let both = [guarded.clone(), guarded].concat();
+        self.expect_requests(layout.guarded, header, &both);
         let wanted = self.with_ample_memory(GUARDED, header);
         self.fail_each(layout.guarded, header, 0, &wanted);
+        let wanted = self.with_ample_memory(STORE, header);
+        self.fail_each(layout.store, header, 0, &wanted);
         let played = self.fail_each(layout.play, header, 0, &outcome(ANSWERED, &[]));
         self.must(
             played >= made,

@@ -69,6 +69,31 @@ impl Work for MakeAndCall {
     }
 }
 
+/// Makes an allocator by `with_max_allocs`, makes 1,000 calls, copies it, writes its state and reads that, and puts the
+/// reports of both, and the number of bytes, into the cells.
+pub struct MakeAndStore;
+
+impl Work for MakeAndStore {
+    fn run<T: Tables>(
+        &self,
+        alloc: Global,
+        script: &Script,
+        kept: &mut [Kept<T::Index>],
+        cells: &mut Cells<'_>,
+    ) -> Result<(), Failure> {
+        let mut allocator = limited::<T>(alloc, script)?;
+        put(cells, mixed_calls(&mut allocator, kept));
+        put_report_of(cells, allocator.try_clone(alloc)?);
+        let bytes = allocator.write_state(alloc)?;
+        put(cells, bytes.len() as u64);
+        match AllocatorOf::<T>::read_state(alloc, &bytes, script.max_allocs)? {
+            Ok(read) => put_report_of(cells, read),
+            Err(fault) => put(cells, fault.at as u64),
+        }
+        Ok(())
+    }
+}
+
 // Makes 3,000 requests for one unit each, and then a reset. It returns how many were granted.
 fn fill_and_reset<T: Tables>(allocator: &mut AllocatorOf<T>) -> u64 {
     let mut granted = 0u64;

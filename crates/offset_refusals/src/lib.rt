@@ -17,7 +17,7 @@ mod programs;
 mod scripts;
 mod tickets;
 
-use crate::allocators::{MakeAndCall, MakeAndFill, MakeDefault, MakeLimited, Play};
+use crate::allocators::{MakeAndCall, MakeAndFill, MakeAndStore, MakeDefault, MakeLimited, Play};
 use crate::layouts::{Layout, Work, run_on};
 use crate::lists::{PlayList, PlayTickets};
 use crate::outcomes::code;
@@ -72,6 +72,19 @@ pub extern "C" fn offset_calls(alloc: Global, text: &[u8], cells: &mut [u64]) ->
 #[unsafe(no_mangle)]
 pub extern "C" fn offset_calls_by_field(alloc: Global, text: &[u8], cells: &mut [u64]) -> u32 {
     work_on(Layout::ByField, &MakeAndCall, alloc, text, cells)
+}
+
+/// Makes an allocator so, then makes 1,000 calls, copies it, writes its state and reads that, and puts the reports of both
+/// into the cells.
+#[unsafe(no_mangle)]
+pub extern "C" fn offset_store(alloc: Global, text: &[u8], cells: &mut [u64]) -> u32 {
+    work_on(Layout::ByNode, &MakeAndStore, alloc, text, cells)
+}
+
+/// The same by field.
+#[unsafe(no_mangle)]
+pub extern "C" fn offset_store_by_field(alloc: Global, text: &[u8], cells: &mut [u64]) -> u32 {
+    work_on(Layout::ByField, &MakeAndStore, alloc, text, cells)
 }
 
 /// Makes an allocator so, then twice makes 3,000 requests and a reset, and puts the numbers of grants, and the report

@@ -84,6 +84,8 @@ impl Work for MakeGuardedAndCall {
         }
         let mut space = GuardedOf::<T>::with_max_allocs(alloc, script.size, limit, 1)?;
         put(cells, checksum(&mut space));
+        let mut copy = space.try_clone(alloc)?;
+        put(cells, checksum(&mut copy));
         Ok(())
     }
 }

@@ -16,6 +16,9 @@ fn use_of<T: Tables>(alloc: Global, max_allocs: u32, units: u32) -> Result<u32, 
         let _aligned = space.allocate_aligned(1, units);
     }
     space.compact(&mut |_: Move<T::Index>| {});
+    let _copy = space.try_clone(alloc)?;
+    let bytes = space.write_state(alloc)?;
+    let _read = AllocatorOf::<T>::read_state(alloc, &bytes, max_allocs)?;
     space.reset();
     let mut guarded: GuardedOf<T> = GuardedOf::with_max_allocs(alloc, units, max_allocs, 1)?;
     let granted = guarded.allocate(units);
@@ -25,6 +28,7 @@ fn use_of<T: Tables>(alloc: Global, max_allocs: u32, units: u32) -> Result<u32, 
         let _is_shrunk = guarded.shrink(ticket, 1);
         let _is_freed = guarded.free(ticket);
     }
+    let _copy = guarded.try_clone(alloc)?;
     guarded.reset();
     Ok(1)
 }
