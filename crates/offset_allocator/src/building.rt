@@ -1,5 +1,6 @@
 //! The tables of a state that is read, made block by block from the end of the space, then name by name.
-ghost use Rattle.std.specs.Prelude.{◌≡◌, ◌+◌, ◌-◌, ◌*◌, ◌/◌, ◌%◌, ◌<◌, ◌≤◌, ◌∷◌, ◌++◌, [], ℕ, List, Option, None, Some, false};
+ghost use Rattle.std.specs.Prelude.{◌≡◌, ◌+◌, ◌-◌, ◌*◌, ◌/◌, ◌%◌, ◌<◌, ◌≤◌, ◌∷◌, ◌++◌, [], ℕ};
+ghost use Rattle.std.specs.Prelude.{List, Option, None, Some, false};
 ghost use Rattle.std.specs.Prelude.{length, replicate, sum, take, IfOk, IsErr, IsSome};
 ghost use Rattle.offset_allocator.specs.Bins.{IsUnlisted};
 ghost use Rattle.offset_allocator.specs.Building.{AreEach, HasBack, IsBuilt, IsLaidOut, IsMade};
@@ -9,8 +10,8 @@ ghost use Rattle.offset_allocator.specs.Chain.{blocks as blocks_in};
 ghost use Rattle.offset_allocator.specs.Classes.{down};
 ghost use Rattle.offset_allocator.specs.State.{block_words, filed, freed};
 ghost use Rattle.offset_allocator.specs.Store.{AreBinned, bins_of};
-ghost use Rattle.offset_allocator.specs.View.{Block, IsApart, count_named, free_sizes, push, times, used_block, used_of};
-ghost use Rattle.offset_allocator.specs.View.{units};
+ghost use Rattle.offset_allocator.specs.View.{Block, IsApart, count_named, free_sizes, push, times};
+ghost use Rattle.offset_allocator.specs.View.{units, used_block, used_of};
 
 use crate::accesses::Accesses;
 use crate::bins;
@@ -41,9 +42,11 @@ fn prepend<T: Tables>(
         → first_or None bs ≡ link_of T.Index.MAX (T.Index.number next) → o ≡ offset + size
         → HasBack (T.cells tables.new) offset (used_block name size ∷ bs) [] }
     ensures last { (bs : List Block) → first_or None bs ≡ link_of T.Index.MAX (T.Index.number next)
-        → (bs ≡ [] → ⊥) → last_or None bs ≡ Some last.old → last_or None (used_block name size ∷ bs) ≡ Some last.new }
+        → (bs ≡ [] → ⊥) → last_or None bs ≡ Some last.old
+        → last_or None (used_block name size ∷ bs) ≡ Some last.new }
     ensures only { link_of T.Index.MAX (T.Index.number next) ≡ None → last.new ≡ name }
-    ensures made { (n m : ℕ) → IsMade T.Index.MAX n m (T.cells tables.old) → IsMade T.Index.MAX n m (T.cells tables.new) }
+    ensures made { (n m : ℕ) → IsMade T.Index.MAX n m (T.cells tables.old)
+        → IsMade T.Index.MAX n m (T.cells tables.new) }
     ensures nodes { length (T.cells tables.new).chain.nodes ≡ length (T.cells tables.old).chain.nodes }
 {
     tables.set_block(name, offset, size, no_link(), next, count);
@@ -67,7 +70,8 @@ pub(crate) fn place_blocks<T: Tables>(
     ensures wrong { IsErr result → (bs : List Block) → block_words bs ≡ words.now → units bs ≡ size
         → ((x : ℕ) → count_named x bs ≤ 1)
         → ((x : ℕ) → length (T.cells tables.old).chain.nodes ≤ x → count_named x bs ≡ 0) → ⊥ }
-    ensures made { (n m : ℕ) → IsMade T.Index.MAX n m (T.cells tables.old) → IsMade T.Index.MAX n m (T.cells tables.new) }
+    ensures made { (n m : ℕ) → IsMade T.Index.MAX n m (T.cells tables.old)
+        → IsMade T.Index.MAX n m (T.cells tables.new) }
 {
     let nodes = tables.len();
     let mut left = size;
@@ -102,7 +106,8 @@ fn put_unused<T: Tables>(tables: &mut T, place: u32, name: u32, count: &mut Acce
         → take place (T.cells tables.old).chain.spare ≡ xs
         → HasBack (T.cells tables.new) o bs (xs ++ name ∷ [])
         × (take (place + 1) (T.cells tables.new).chain.spare ≡ xs ++ name ∷ []) }
-    ensures made { (n m : ℕ) → IsMade T.Index.MAX n m (T.cells tables.old) → IsMade T.Index.MAX n m (T.cells tables.new) }
+    ensures made { (n m : ℕ) → IsMade T.Index.MAX n m (T.cells tables.old)
+        → IsMade T.Index.MAX n m (T.cells tables.new) }
     ensures nodes { length (T.cells tables.new).chain.nodes ≡ length (T.cells tables.old).chain.nodes }
 {
     tables.shape();
@@ -124,7 +129,8 @@ pub(crate) fn place_unused<T: Tables>(
     ensures wrong { IsSome result → (o : ℕ) (bs : List Block) → HasBack (T.cells tables.old) o bs []
         → ((x : ℕ) → count_named x bs + times x words.now ≤ 1)
         → ((x : ℕ) → length (T.cells tables.old).chain.nodes ≤ x → times x words.now ≡ 0) → ⊥ }
-    ensures made { (n m : ℕ) → IsMade T.Index.MAX n m (T.cells tables.old) → IsMade T.Index.MAX n m (T.cells tables.new) }
+    ensures made { (n m : ℕ) → IsMade T.Index.MAX n m (T.cells tables.old)
+        → IsMade T.Index.MAX n m (T.cells tables.new) }
     ensures nodes { length (T.cells tables.new).chain.nodes ≡ length (T.cells tables.old).chain.nodes }
 {
     tables.shape();
@@ -145,7 +151,8 @@ pub(crate) fn clear_marks<T: Tables>(tables: &mut T, words: &[u32], count: &mut 
     ensures back { (o : ℕ) (bs : List Block) → HasBack (T.cells tables.old) o bs words.now
         → HasBack (T.cells tables.new) o bs [] }
     ensures spare { (T.cells tables.new).chain.spare ≡ (T.cells tables.old).chain.spare }
-    ensures made { (n m : ℕ) → IsMade T.Index.MAX n m (T.cells tables.old) → IsMade T.Index.MAX n m (T.cells tables.new) }
+    ensures made { (n m : ℕ) → IsMade T.Index.MAX n m (T.cells tables.old)
+        → IsMade T.Index.MAX n m (T.cells tables.new) }
 {
     for i in 0..words.len() {
         tables.set_used(words[i], false, count);
@@ -317,7 +324,8 @@ pub(crate) fn build<T: Tables>(
     requires some { 2 ≤ length blocks.now }
     requires within { length blocks.now / 2 + length unused.now ≤ limit }
     requires limit { limit < T.Index.MAX }
-    ensures built { IfOk result (λ r. IfOk r (λ p. IsBuilt T.cells T.Index.MAX size limit blocks.now free.now unused.now p.0
+    ensures built { IfOk result (λ r. IfOk r (λ p.
+        IsBuilt T.cells T.Index.MAX size limit blocks.now free.now unused.now p.0
         × (p.1.free_units ≡ sum (free_sizes (blocks_in (T.cells p.0.tables).chain p.0.last)))
         × (p.1.used ≡ used_of (blocks_in (T.cells p.0.tables).chain p.0.last)))) }
     ensures wrong { IfOk result (λ r. IsErr r → (bs : List Block) → block_words bs ≡ blocks.now → units bs ≡ size

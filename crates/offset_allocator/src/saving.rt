@@ -23,7 +23,8 @@ fn push_bin<T: Tables>(
 ) -> Result<(), AllocError>
     requires linked { HasBins T.Index.MAX (T.cells tables.now).bins (bins_in T.Index.MAX (T.cells tables.now).bins) }
     requires classed { class < 256 }
-    ensures { IfOk result (λ _. names.new.items ≡ names.old.items ++ bin_at (bins_in T.Index.MAX (T.cells tables.now).bins) class) }
+    ensures { IfOk result (λ _. names.new.items
+        ≡ names.old.items ++ bin_at (bins_in T.Index.MAX (T.cells tables.now).bins) class) }
 {
     tables.shape();
     let mut name = tables.head(class, count);
@@ -60,7 +61,8 @@ fn push_blocks<T: Tables>(
 ) -> Result<(), AllocError>
     requires space { (spare_count : ℕ) × IsSpace (T.cells tables.now).chain last spare_count }
     requires all { length (blocks_in (T.cells tables.now).chain last) ≡ blocks }
-    ensures { IfOk result (λ _. words.new.items ≡ words.old.items ++ block_words (blocks_in (T.cells tables.now).chain last)) }
+    ensures { IfOk result (λ _. words.new.items
+        ≡ words.old.items ++ block_words (blocks_in (T.cells tables.now).chain last)) }
 {
     let mut name = last;
     for i in 0..blocks {
@@ -82,7 +84,8 @@ fn push_unused<T: Tables>(
     count: &mut Accesses,
 ) -> Result<(), AllocError>
     requires { spare_count ≤ length (T.cells tables.now).chain.spare }
-    ensures { IfOk result (λ _. words.new.items ≡ words.old.items ++ take spare_count (T.cells tables.now).chain.spare) }
+    ensures { IfOk result (λ _. words.new.items
+        ≡ words.old.items ++ take spare_count (T.cells tables.now).chain.spare) }
 {
     for place in 0..spare_count {
         words.push(number(tables.spare(place, count)))?;

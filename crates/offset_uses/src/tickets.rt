@@ -13,9 +13,9 @@ ghost use Rattle.offset_allocator.specs.Resizing.{CanGrow, CanShrink, Grows, Shr
 ghost use Rattle.offset_allocator.specs.Classes.{down};
 ghost use Rattle.offset_allocator.specs.Tight.{AlignsTight, CanHold, listed_from};
 ghost use Rattle.offset_allocator.specs.View.{bin_at, largest_free, used_of};
-ghost use Rattle.offset_guarded.specs.Guard.{Grants, HasSerialLeft, HasUnits, IsCopy, IsLive, IsSame, IsWhy, IsWhyTight};
-ghost use Rattle.offset_guarded.specs.Guard.{KeepsAll, KeepsLive, KeepsOthers, KeepsSerials, KeepsSizes, grant_of, last_serial};
-ghost use Rattle.offset_guarded.specs.Guard.{range_of, serial_of};
+ghost use Rattle.offset_guarded.specs.Guard.{Grants, HasSerialLeft, HasUnits, IsCopy, IsLive, IsSame, IsWhy};
+ghost use Rattle.offset_guarded.specs.Guard.{IsWhyTight, KeepsAll, KeepsLive, KeepsOthers, KeepsSerials};
+ghost use Rattle.offset_guarded.specs.Guard.{KeepsSizes, grant_of, last_serial, range_of, serial_of};
 ghost use Rattle.offset_allocator.specs.Ranges as named;
 
 use offset_allocator::{Allocation, AllocatorOf, Move, Tables};

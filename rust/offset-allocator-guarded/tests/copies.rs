@@ -1,0 +1,55 @@
+//! A copy has the tickets of the space that it was made of, and gives the same answers, tickets included.
+
+use offset_allocator_guarded::{Global, Guarded, Ticket};
+
+/// splitmix64
+struct Random(u64);
+
+impl Random {
+    fn below(&mut self, n: u32) -> u32 {
+        self.0 = self.0.wrapping_add(0x9e37_79b9_7f4a_7c15);
+        let mut z = self.0;
+        z = (z ^ (z >> 30)).wrapping_mul(0xbf58_476d_1ce4_e5b9);
+        z = (z ^ (z >> 27)).wrapping_mul(0x94d0_49bb_1331_11eb);
+        ((z ^ (z >> 31)) % u64::from(n)) as u32
+    }
+}
+
+// One random call, and its answer.
+fn call(space: &mut Guarded, held: &mut Vec<Ticket>, random: &mut Random) -> (Option<Ticket>, bool) {
+    let (kind, size) = (random.below(8), random.below(60));
+    match (kind, held.len() as u32) {
+        (0..=3, _) | (_, 0) => {
+            let granted = if kind == 3 { space.allocate_aligned(size, 4) } else { space.allocate(size) };
+            held.extend(granted);
+            (granted, false)
+        }
+        // tickets that were freed stay in the list
+        (4 | 5, n) => (None, space.free(held[random.below(n) as usize])),
+        (6, n) => (None, space.grow_in_place(held[random.below(n) as usize], size) == Some(true)),
+        (_, _) => (None, if random.below(40) == 0 { space.reset() } else { space.compact(&mut |_| {}) } == ()),
+    }
+}
+
+#[test]
+fn a_copy_goes_on_alike() {
+    let mut random = Random(1);
+    for round in 0..500 {
+        let mut space = Guarded::with_max_allocs(Global, 1_000 + round, 2 + random.below(60), round).unwrap();
+        let mut held = Vec::new();
+        for _ in 0..random.below(100) {
+            call(&mut space, &mut held, &mut random);
+        }
+        let mut copy = space.try_clone(Global).unwrap();
+        assert_eq!(copy.realm(), space.realm());
+        for ticket in &held {
+            assert_eq!((copy.size_of(*ticket), copy.offset_of(*ticket)), (space.size_of(*ticket), space.offset_of(*ticket)));
+        }
+        let start = u64::from(random.below(u32::MAX));
+        let (mut own, mut other, mut held_there) = (Random(start), Random(start), held.clone());
+        for _ in 0..100 {
+            let wanted = call(&mut space, &mut held, &mut own);
+            assert_eq!(call(&mut copy, &mut held_there, &mut other), wanted);
+        }
+    }
+}
