@@ -1,3 +1,4 @@
+pub mod Empties
 pub mod Finding
 pub mod Grants
 pub mod Numbers

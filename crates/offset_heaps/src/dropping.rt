@@ -65,6 +65,21 @@ impl<T: Tables> HeapsOf<T> {
         Some(last)
     }
 
+    /// Drops the heap of a number, if it is empty, and returns whether it did: then drop its buffer. A caller that asks
+    /// this of the heap of each place that it frees keeps no empty heap, and walks over none.
+    pub fn drop_heap(&mut self, number: u32) -> bool
+        ensures done { IsTrue result ↔ (is_empty (heap_at number self.old) ≡ true) }
+        ensures heaps { result ≡ true → Puts number None self.old self.new }
+        ensures same { result ≡ false → IsSame self.old self.new }
+        ensures places { KeepsAll self.old self.new }
+        ensures steps { TakesFewSteps self.old self.new }
+    {
+        if !slots::is_empty_at(&self.slots, number, &mut self.accesses) {
+            return false;
+        }
+        self.give_up(number)
+    }
+
     /// Takes back the heap of a number, with all that it granted, and returns whether there was one: where the buffer of a
     /// new heap can't be made, or is lost. No place of it is ever live again, and all other heaps stay.
     pub fn give_up(&mut self, number: u32) -> bool
@@ -74,7 +89,8 @@ impl<T: Tables> HeapsOf<T> {
         ensures same { result ≡ false → IsSame self.old self.new }
         ensures gone { heap_at number self.new ≡ None }
         ensures others { KeepsOtherHeaps number self.old self.new }
-        ensures steps { TakesFewSteps self.old self.new }
+        ensures steps { (bits : ℕ) → numbers self.old ≤ 2 ^ bits
+            → self.new.accesses ≤ self.old.accesses + 12 * bits + 16 }
     {
         if !slots::has(&self.slots, number, &mut self.accesses) {
             return false;

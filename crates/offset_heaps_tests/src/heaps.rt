@@ -76,10 +76,7 @@ fn expect_drops<T: Tables>(rt: &impl Abort, heaps: &mut HeapsOf<T>, nowhere: Pla
     assert_same(rt, &new.ticket.realm, &4);
     assert_that(rt, heaps.is_live(new));
     assert_that(rt, !heaps.is_live(old));
-    let other = Place {
-        realm: 8,
-        ..new
-    };
+    let other = Place { realm: 8, ..new };
     assert_that(rt, !heaps.free(other));
     assert_that(rt, heaps.give_up(0));
     assert_that(rt, !heaps.give_up(0));
@@ -125,8 +122,7 @@ fn heaps_are_shown(rt: HostRuntime) -> Result<(), Fail> {
     };
     let heaps: HeapsOf<ByNode<u32>> = HeapsOf::new(rt.alloc(), limits, 9)?;
     let text = format!(in rt.alloc(); "{heaps:?}, {}", Refusal::Full)?;
-    assert_eq!(
-        rt;
+    assert_eq!(rt;
         text.as_str(),
         "Heaps { realm: 9, limits: Limits { size: 10, max_allocs: 4, most: 1, most_larger: 0 }, made: 0, totals: Totals { \
          heaps: 0, units: 0, live_units: 0, free_units: 0, largest_free_region: 0 } }, \

@@ -97,6 +97,8 @@ public:
         for (uint32 number; (number = oah_drop_empty(heaps, keep)) != OA_NO_SPACE;) dropped(number);
     }
 
+    bool dropHeap(uint32 number) { return oah_drop_heap(heaps, number); }
+
     bool has(uint32 number) const { return oah_has(heaps, number); }
     StorageReport storageReport(uint32 number) const { return detail::of(oah_storage_report(heaps, number)); }
     Statistics statistics(uint32 number) const { return detail::of(oah_statistics(heaps, number)); }

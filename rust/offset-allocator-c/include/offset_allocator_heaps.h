@@ -107,6 +107,9 @@ bool oah_give_up(oah_heaps *heaps, uint32_t number);
  * where at most `keep` are empty, or for null. No place loses its range. Cost: each number is read once. */
 uint32_t oah_drop_empty(oah_heaps *heaps, uint32_t keep);
 
+/* Drops the heap of a number, if it is empty. True if it did: then drop its buffer. */
+bool oah_drop_heap(oah_heaps *heaps, uint32_t number);
+
 /* Whether a number has a heap. */
 bool oah_has(const oah_heaps *heaps, uint32_t number);
 

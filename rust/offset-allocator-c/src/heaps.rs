@@ -120,6 +120,8 @@ exports! {
         heaps.drop_empty(keep).unwrap_or(NO_SPACE)
     } else NO_SPACE;
 
+    fn oah_drop_heap([heaps: &mut ManyHeaps], number: u32) -> bool { heaps.drop_heap(number) } else false;
+
     fn oah_has([heaps: &ManyHeaps], number: u32) -> bool { heaps.heap(number).is_some() } else false;
 
     fn oah_storage_report([heaps: &ManyHeaps], number: u32) -> Report {

@@ -49,8 +49,11 @@ static void grows_and_drops(void) {
     other.heap = 0;
     CHECK(!oah_free(heaps, other));
     CHECK(oah_give_up(heaps, 1) && !oah_give_up(heaps, 1) && !oah_is_live(heaps, again.place) && oah_is_live(heaps, a.place));
+    /* heap 0 has live ranges, heap 3 is emptied, and heap 1 is not there */
+    CHECK(!oah_drop_heap(heaps, 0) && !oah_drop_heap(heaps, 1) && !oah_drop_heap(heaps, 3));
+    CHECK(oah_free(heaps, odd.place) && oah_drop_heap(heaps, 3) && !oah_drop_heap(heaps, 3) && !oah_is_live(heaps, odd.place));
     oah_reset(heaps);
-    CHECK(!oah_is_live(heaps, a.place) && oah_totals(heaps).live_units == 0 && oah_totals(heaps).heaps == 2);
+    CHECK(!oah_is_live(heaps, a.place) && oah_totals(heaps).live_units == 0 && oah_totals(heaps).heaps == 1);
     oah_drop(heaps);
 }
 
@@ -60,7 +63,7 @@ static void nulls(void) {
     oah_granted none = oah_allocate(NULL, 1);
     CHECK(none.refusal == OAH_BAD_CALL && none.place.ticket.serial == 0 && oah_allocate_aligned(NULL, 1, 1).refusal == OAH_BAD_CALL);
     CHECK(!oah_free(NULL, none.place) && !oah_is_live(NULL, none.place) && !oah_size_of(NULL, none.place));
-    CHECK(oah_offset_of(NULL, none.place) == OA_NO_SPACE && !oah_give_up(NULL, 0) && oah_drop_empty(NULL, 0) == OA_NO_SPACE);
+    CHECK(oah_offset_of(NULL, none.place) == OA_NO_SPACE && !oah_give_up(NULL, 0) && !oah_drop_heap(NULL, 0) && oah_drop_empty(NULL, 0) == OA_NO_SPACE);
     CHECK(!oah_has(NULL, 0) && !oah_storage_report(NULL, 0).total_free_space && !oah_statistics(NULL, 0).free_units);
     CHECK(oah_totals(NULL).heaps == 0);
     oah_reset(NULL);

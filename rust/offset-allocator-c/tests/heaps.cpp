@@ -48,6 +48,7 @@ int main() {
     CHECK(!heaps && moved && moved.totals().heaps == 1 && heaps.totals().heaps == 0);
     swap(heaps, moved);
     CHECK(heaps && !moved && !moved.allocate(1));
+    CHECK(!heaps.dropHeap(1) && heaps.allocate(1) && !heaps.dropHeap(0));
     heaps.reset();
     CHECK(heaps.statistics(0).liveRanges == 0 && heaps.statistics(0).freeUnits == 1024);
     CHECK(!Heaps({1, 3, 1, 1}));

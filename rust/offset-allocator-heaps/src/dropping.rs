@@ -38,6 +38,15 @@ impl<T: Tables> HeapsOf<T> {
         Some(last)
     }
 
+    /// Drops the heap of a number, if it is empty, and returns whether it did: then drop its buffer. A caller that asks
+    /// this of the heap of each place that it frees keeps no empty heap, and walks over none.
+    pub fn drop_heap(&mut self, number: u32) -> bool {
+        if !slots::is_empty_at(&self.slots, number, &mut self.accesses) {
+            return false;
+        }
+        self.give_up(number)
+    }
+
     /// Takes back the heap of a number, with all that it granted, and returns whether there was one: where the buffer of a
     /// new heap can't be made, or is lost. No place of it is ever live again, and all other heaps stay.
     pub fn give_up(&mut self, number: u32) -> bool {

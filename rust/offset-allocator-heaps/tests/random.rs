@@ -219,6 +219,15 @@ impl<T: Tables> Run<T> {
         }
     }
 
+    fn drop_heap(&mut self) {
+        let number = self.numbers.below(self.model.len() as u64 + 2) as usize;
+        let empty = self.model.get(number).and_then(|h| h.as_ref()).is_some_and(|h| h.ranges.is_empty());
+        assert_eq!(self.heaps.drop_heap(number as u32), empty);
+        if empty {
+            self.forget(number);
+        }
+    }
+
     fn give_up(&mut self) {
         let number = self.numbers.below(self.model.len() as u64 + 2) as usize;
         let there = number < self.model.len() && self.model[number].is_some();
@@ -258,7 +267,8 @@ impl<T: Tables> Run<T> {
                     self.allocate(size, align);
                 }
                 40..=89 => self.free(),
-                90..=94 => self.drop_empty(),
+                90..=92 => self.drop_empty(),
+                93 | 94 => self.drop_heap(),
                 95 => self.give_up(),
                 96 => self.empty(),
                 97 if self.numbers.below(200) == 0 => {
