@@ -10,6 +10,7 @@ CRATES = [
     ("offset_guarded", "offset-allocator-guarded", {"memory", "traits"}),
     ("offset_heaps", "offset-allocator-heaps", {"memory", "traits"}),
     ("offset_script", "offset-script", {"memory"}),
+    ("offset_lives", "offset-lives", {"memory"}),
 ]
 
 # In the root file this replaces `#![tactic(auto)]`.
@@ -63,6 +64,14 @@ mod memory;
 
 pub use memory::{AllocError, Global, String, Vec};
 """,
+    "offset_lives": """#![doc = include_str!("../README.md")]
+#![forbid(unsafe_code)]
+#![expect(LINTS)]
+
+mod memory;
+
+pub use memory::{AllocError, Global, String, Vec};
+""",
 }
 
 # Lints that the form of the sources causes, each with the reason for that form. All are about style. `rustc` and clippy
@@ -82,6 +91,10 @@ LINTS = {
         "unused_variables": "a parameter may be there for a contract only",
     },
     "offset_script": {},
+    "offset_lives": {
+        "clippy::collapsible_match": "an arm of a `match` and a test within it have a name each in the proof",
+        "clippy::needless_range_loop": "the proof speaks of the numbers of calls",
+    },
 }
 
 # Names of std that have another path here, or none, each with the reason.
@@ -96,6 +109,7 @@ IMPORTS = {
     "std::marker::Model": None,                             # the model of a type, for contracts, which are erased
     "std::marker::PhantomData": "core::marker::PhantomData",  # the library has no std
     "std::mem::replace": "core::mem::replace",              # the same
+    "std::str": "std::str",                                 # the same
 }
 
 # Names that need no import in Rattle, and here come from the hand-written module.
@@ -128,6 +142,11 @@ PAIRS = [
         "",
         "a push that fails gives an AllocError here, which has its own conversion",
     ),
+    (
+        "lives.iter().map(|life| shape_of(plot, life)).collect(alloc)",
+        "Vec::collect(alloc, lives.iter().map(|life| shape_of(plot, life)))",
+        "Rust's `collect` takes no allocator, and ends the program where one fails",
+    ),
 ]
 
 # What a public function requires of its caller: the clause, the test that is made at the call, the panic's message, and
@@ -144,6 +163,7 @@ REQUIRES = [
     ("needed_object_size ≤ 4026531840", "needed_object_size <= 4026531840", "needed_object_size must be at most 4026531840"),
     ("float_value < 256", "float_value < 256", "float_value must be below 256"),
     ("number self < MAX", "self.to_usize() < <Self as NodeIndex>::MAX as usize", "MAX is the name of no node"),
+    ("All IsOrdered (map life_view course.now.lives.items)", "course.lives.iter().all(|life| life.first <= life.last)", "no life may end before it begins"),
     ("length text.now < 2 ^ 32 - 1", "text.len() < u32::MAX as usize", "a text must be shorter than 4294967295 bytes"),
     ("0 < length bytes.now", "!bytes.is_empty()", "at least one byte must be pushed"),
     (
@@ -166,6 +186,17 @@ def assertion(test, message, *shown):
 
 # What a public function requires, and always holds in plain Rust, each with the reason. It needs no assertion.
 ALWAYS = {
+    "3 ≤ count": "only this crate calls it, and it is proved that it keeps the condition; so it is of those without another reason below",
+    "3 ≤ lines": "",
+    "3 ≤ marks": "",
+    "length values.now ≤ length places.now": "",
+    "ArePlaces plot.now.calls places.now": "",
+    "length answers.now ≡ length commands.now": "",
+    "(i k offset : ℕ) → i < length commands.now → get_or (map answer_view answers.now) i machine.Refused ≡ machine.Grant k offset → k ≤ length commands.now": "",
+    "length text.now + length self.old ≤ 160": "",
+    "20 + length self.old ≤ 160": "",
+    "23 + length self.old ≤ 160": "",
+    "is_refusal (answer_view answer.now) ≡ true → IsRefusedBy space.now command": "",
     "AreLive self.old.space self.old.handles.items": "each call of a player keeps it, and `free` itself panics at a handle that is not live",
     "F.IsAlwaysCallable moved.old": "a closure of Rust may be called at any time; if it panics, that is its own panic",
 }
@@ -192,4 +223,4 @@ EXAMPLES = {
 
 # Attributes and macros that are printed as they are. Any other stops `erase`.
 ATTRIBUTES = {"cold", "inline", "track_caller"}
-MACROS = {"unreachable", "write"}
+MACROS = {"matches", "unreachable", "write", "writeln"}

@@ -1,5 +1,6 @@
 -- Groups of states and runs of marks, and what is still to be written of them.
-use Rattle.std.proofs.Common.{◌≡◌, ℕ, ◌+◌, ◌<◌, ◌≤◌, ◌∙◌, Bool, true, false, cond, List, [], ◌∷◌, ◌++◌, Option, Some, None, append_assoc, append-nil, codes, eqb-true, eq-eqb, get_or, drop, length, map, nat_eq, refl, sym, ap, ap₂, arith}
+use Rattle.std.proofs.Common.{◌≡◌, ℕ, ◌+◌, ◌<◌, ◌≤◌, ◌∙◌, Bool, true, false, cond, List, [], ◌∷◌, ◌++◌, Option, Some}
+use Rattle.std.proofs.Common.{None, append_assoc, append-nil, codes, eqb-true, eq-eqb, get_or, drop, length, map, nat_eq, refl, sym, ap, ap₂, arith}
 use Rattle.std.proofs.lemmas.List.{at_drop_more, at_drop_all}
 use Rattle.std.specs.Prelude.{flat_map, max, min}
 use Rattle.offset_lives.specs.declared.axes.Axis.{Axis}
@@ -134,7 +135,7 @@ marked_after None ps = ps
 marked_after (Some b) ps = after_equal b ps
 
 -- a call at the place of the one before
-pub mark_is_there : (height place i d b : ℕ) (f : ℕ → ℕ) (calls out whole : List ℕ) → i < length calls → place ≡ f (get_or calls i d) → b ≡ place
+pub mark_is_there : {X : Type 0} (height place i : ℕ) (d : X) (b : ℕ) (f : X → ℕ) (calls : List X) (out whole : List ℕ) → i < length calls → place ≡ f (get_or calls i d) → b ≡ place
     → out ++ flat_map (mark_text height) (marked_after (Some b) (one_of_each (map f (drop i calls)))) ≡ whole
     → out ++ flat_map (mark_text height) (marked_after (Some place) (one_of_each (map f (drop (i + 1) calls)))) ≡ whole
 mark_is_there height place i d b f calls out whole less at same before =
@@ -154,7 +155,8 @@ not_marked None p ps e = refl
 not_marked (Some b) p ps e = ap (λ t. cond t ps (p ∷ ps)) e
 
 -- a call at another place gets a mark
-pub mark_is_put : (height place i d : ℕ) (last : Option ℕ) (f : ℕ → ℕ) (calls out new whole : List ℕ) → i < length calls → place ≡ f (get_or calls i d) → is_at last place ≡ false
+pub mark_is_put : {X : Type 0} (height place i : ℕ) (d : X) (last : Option ℕ) (f : X → ℕ) (calls : List X) (out new whole : List ℕ) → i < length calls → place ≡ f (get_or calls i d)
+    → is_at last place ≡ false
     → new ≡ out ++ mark_text height place
     → out ++ flat_map (mark_text height) (marked_after last (one_of_each (map f (drop i calls)))) ≡ whole
     → new ++ flat_map (mark_text height) (marked_after (Some place) (one_of_each (map f (drop (i + 1) calls)))) ≡ whole

@@ -1,19 +1,23 @@
 -- The groups of rectangles by age, and what is still to be written of them.
-use Rattle.std.proofs.Common.{◌≡◌, ℕ, zero, suc, ◌+◌, ◌-◌, ◌<◌, ◌≤◌, ◌∙◌, Bool, true, false, cond, List, [], ◌∷◌, ◌++◌, Option, Some, None, append_assoc, append-nil, codes, get_or, drop, length, map, nat_eq, nat_lt, sym, ap, ap₂, subst, arith, if◌then◌else◌}
+use Rattle.std.proofs.Common.{◌≡◌, ℕ, zero, suc, ◌+◌, ◌-◌, ◌<◌, ◌≤◌, ◌∙◌, Bool, true, false, cond, List, [], ◌∷◌, ◌++◌}
+use Rattle.std.proofs.Common.{Option, Some, None, append_assoc, append-nil, codes, get_or, drop, length, map, nat_eq, nat_lt, sym, ap, ap₂, subst, arith, if◌then◌else◌}
 use Rattle.std.proofs.lemmas.List.{at_drop_more, at_drop_all}
 use Rattle.std.proofs.lemmas.Slice.Zip.{get_or-zip}
 use Rattle.std.specs.Bool.{MatchBool}
 use Rattle.std.specs.Fmt.{decimal}
 use Rattle.std.specs.Prelude.{filter, flat_map}
 use Rattle.std.specs.List.{zip}
+use Rattle.offset_allocator.specs.declared.reports.StorageReport.{StorageReport}
 use Rattle.offset_lives.specs.declared.course.Course.{Course}
 use Rattle.offset_lives.specs.declared.living.Life.{Life}
 use Rattle.offset_lives.specs.declared.plots.Plot.{Plot}
+use Rattle.offset_lives.specs.declared.refusing.Refused.{Refused}
 use Rattle.offset_lives.specs.declared.shapes.Shape.{Shape}
 use Rattle.offset_lives.specs.Levels.{free_of, joined_of, most_of}
 use Rattle.offset_lives.specs.Marks.{rectangle_text, title_text}
 use Rattle.offset_lives.specs.Merging.{AreMerged}
 use Rattle.offset_lives.specs.Places.{frame_of, shape_of}
+use Rattle.offset_lives.specs.Reasons.{reasons_text}
 use Rattle.offset_lives.specs.Rectangles.{AreGrants, age_text, ages_text, falling_below, plain_of_age, titled_of_age, titled_text}
 use Rattle.offset_lives.specs.Steps.{line_text, marks_text, refusals_text, reports_text}
 
@@ -126,11 +130,16 @@ reports_are_put p c base free joined most a o₁ o₂ at f j m e₁ e₂ =
 
 -- ---- the marks of refused calls
 
-pub refusals_are_put : (p : Plot) (refused : List ℕ) (bottom : ℕ) (out o₁ o₂ o₃ : List ℕ) → nat_eq (length refused) 0 ≡ false → bottom ≡ p.units.start + p.units.span
-    → o₁ ≡ out ++ codes "<path class='refusal' d='" → o₂ ≡ o₁ ++ marks_text p.calls bottom refused → o₃ ≡ o₂ ++ codes "'/>\n" → o₃ ≡ out ++ refusals_text p refused
-refusals_are_put p refused bottom out o₁ o₂ o₃ some at e₁ e₂ e₃ =
+pub refusals_are_put : (p : Plot) (reports : List StorageReport) (refused : List Refused) (bottom : ℕ) (out o₁ o₂ o₃ : List ℕ) → nat_eq (length refused) 0 ≡ false
+    → bottom ≡ p.units.start + p.units.span
+    → o₁ ≡ out ++ codes "<path class='refusal' d='" → o₂ ≡ o₁ ++ marks_text p.calls bottom refused → o₃ ≡ o₂ ++ codes "'/>\n"
+    → o₃ ++ reasons_text p reports refused ≡ out ++ refusals_text p reports refused
+refusals_are_put p reports refused bottom out o₁ o₂ o₃ some at e₁ e₂ e₃ =
     let begin : List ℕ = codes "<path class='refusal' d='" in
     let marks : List ℕ = marks_text p.calls (p.units.start + p.units.span) refused in
     let end : List ℕ = codes "'/>\n" in
-    e₃ ∙ ap (λ o. o ++ end) (e₂ ∙ ap₂ (λ (o : List ℕ) (b : ℕ). o ++ marks_text p.calls b refused) e₁ at ∙ append_assoc out begin marks) ∙ append_assoc out (begin ++ marks) end
-    ∙ ap (λ (t : Bool). out ++ (if t then [] else begin ++ marks ++ end)) (sym some)
+    let why : List ℕ = reasons_text p reports refused in
+    let so_far : o₃ ≡ out ++ (begin ++ marks ++ end) =
+    e₃ ∙ ap (λ o. o ++ end) (e₂ ∙ ap₂ (λ (o : List ℕ) (b : ℕ). o ++ marks_text p.calls b refused) e₁ at ∙ append_assoc out begin marks) ∙ append_assoc out (begin ++ marks) end in
+    ap (λ o. o ++ why) so_far ∙ append_assoc out (begin ++ marks ++ end) why
+    ∙ ap (λ (t : Bool). out ++ (if t then [] else begin ++ marks ++ end ++ why)) (sym some)

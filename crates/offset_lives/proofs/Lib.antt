@@ -22,9 +22,11 @@ mod Pieces
 mod Placed
 mod Quieter
 mod Ranges
+mod Reasoned
 mod Same
 mod Seen
 mod Shown
+mod Spotted
 mod Stepped
 mod Tagged
 mod Texts

@@ -2,6 +2,7 @@
 use Rattle.std.proofs.Common.{◌≡◌, ℕ, Bool, true, false, cond, List, [], ◌∷◌, All, map, nat_eq, eqb-true, refl, sym, subst, arith}
 use Rattle.std.proofs.lemmas.List.Elements.{All-cons, All-nil, All-weaker, Contains-append_left, Contains-append_right, Contains-push}
 use Rattle.std.specs.Prelude.{Contains}
+use Rattle.offset_lives.specs.declared.refusing.Refused.{Refused}
 use Rattle.offset_lives.specs.Marks.{counted_from_1, in_tenths}
 use Rattle.offset_lives.specs.Places.{right_of}
 use Rattle.offset_lives.specs.Steps.{EachRefusalIsMarked, IsMarked, after_equal, marked_places, one_of_each, place_of}
@@ -21,7 +22,7 @@ kept_mark : (n x : ℕ) (ms : List ℕ) → Contains ms x → Contains (n ∷ af
 kept_mark n x [] h = in_more n x [] h
 kept_mark n x (m ∷ ms) h = kept_step n m x ms (nat_eq n m) refl h
 
-each_has_one : (f : ℕ → ℕ) (calls : List ℕ) → All (λ call. Contains (one_of_each (map f calls)) (f call)) calls
+each_has_one : {X : Type 0} (f : X → ℕ) (calls : List X) → All (λ call. Contains (one_of_each (map f calls)) (f call)) calls
 each_has_one f [] = All-nil (λ call. Contains (one_of_each (map f [])) (f call))
 each_has_one f (call ∷ calls) =
     let rest = one_of_each (map f calls) in
@@ -34,5 +35,5 @@ near marks place h = (in_tenths place, h, omega arith, omega arith)
 
 pub marks_law : EachRefusalIsMarked
 marks_law calls refused =
-    All-weaker (λ call. Contains (marked_places calls refused) (place_of calls (counted_from_1 call))) (λ call. IsMarked (marked_places calls refused) (right_of calls (counted_from_1 call)))
-    (λ call h. near (marked_places calls refused) (right_of calls (counted_from_1 call)) h) refused (each_has_one (λ call. place_of calls (counted_from_1 call)) refused)
+    All-weaker (λ (r : Refused). Contains (marked_places calls refused) (place_of calls (counted_from_1 r.call))) (λ r. IsMarked (marked_places calls refused) (right_of calls (counted_from_1 r.call)))
+    (λ r h. near (marked_places calls refused) (right_of calls (counted_from_1 r.call)) h) refused (each_has_one (λ (r : Refused). place_of calls (counted_from_1 r.call)) refused)

@@ -1,5 +1,5 @@
 -- The lives of all ages are all lives.
-use Rattle.std.proofs.Common.{◌≡◌, ℕ, zero, suc, ◌-◌, ◌<◌, ◌≤◌, ◌∙◌, Bool, true, false, cond, List, [], ◌∷◌, ◌++◌, All, map, nat_eq, nat_lt, refl, sym, ap, ap₂, subst, arith}
+use Rattle.std.proofs.Common.{◌≡◌, ℕ, zero, suc, ◌<◌, ◌≤◌, ◌∙◌, Bool, true, false, cond, List, [], ◌∷◌, ◌++◌, All, map, nat_eq, nat_lt, refl, sym, ap, ap₂, subst, arith}
 use Rattle.std.proofs.lemmas.Bool.Decides.{nat_tests}
 use Rattle.std.proofs.lemmas.List.Elements.{All-cons, All-head, All-nil, All-tail}
 use Rattle.std.proofs.lemmas.List.Sorted.{IsPermutation-append_right, IsPermutation-filter_both, IsPermutation-refl, IsPermutation-trans}
@@ -56,9 +56,9 @@ young : (calls : ℕ) → age_of calls < 8
 young calls =
     let most : age_of calls ≤ 7 = count_by-le-length (λ m. nat_lt m calls) (10 ∷ 30 ∷ 100 ∷ 300 ∷ 1000 ∷ 3000 ∷ 10000 ∷ []) in omega arith
 
-all_young : (lives : List Life) → All (λ l. age_of (l.last - l.first) < 8) lives
-all_young [] = All-nil (λ l. age_of (l.last - l.first) < 8)
-all_young (l ∷ ls) = All-cons (λ k. age_of (k.last - k.first) < 8) l ls (young (l.last - l.first)) (all_young ls)
+all_young : (lives : List Life) → All (λ l. age_of l.lived < 8) lives
+all_young [] = All-nil (λ l. age_of l.lived < 8)
+all_young (l ∷ ls) = All-cons (λ k. age_of k.lived < 8) l ls (young l.lived) (all_young ls)
 
 one_step : {X Y : Type 0} (f : X → List ℕ) (g : Y → List ℕ) (x : X) (y : Y) (xs : List X) (ys : List Y) (b : Bool) → f x ≡ g y → flat_map f xs ≡ flat_map g ys
     → flat_map f (cond b (x ∷ xs) xs) ≡ flat_map g (cond b (y ∷ ys) ys)
@@ -69,7 +69,7 @@ one_group : (plot : Plot) (calls age : ℕ) (lives : List Life)
     → titled_of_age calls (map (shape_of plot) lives) lives age ≡ flat_map (λ l. titled_text calls (shape_of plot l, l)) (lives_of_age lives age)
 one_group plot calls age [] = refl
 one_group plot calls age (l ∷ ls) =
-    one_step (titled_text calls) (λ k. titled_text calls (shape_of plot k, k)) (shape_of plot l, l) l _ (lives_of_age ls age) (nat_eq (age_of (l.last - l.first)) age) refl (one_group plot calls age ls)
+    one_step (titled_text calls) (λ k. titled_text calls (shape_of plot k, k)) (shape_of plot l, l) l _ (lives_of_age ls age) (nat_eq (age_of l.lived) age) refl (one_group plot calls age ls)
 
 pub rectangles_law : EachLifeHasARectangle
-rectangles_law plot calls lives = (λ age. one_group plot calls age lives, parted (λ l. age_of (l.last - l.first)) 8 lives (all_young lives))
+rectangles_law plot calls lives = (λ age. one_group plot calls age lives, parted (λ l. age_of l.lived) 8 lives (all_young lives))

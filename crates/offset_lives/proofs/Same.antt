@@ -15,6 +15,7 @@ use Rattle.offset_allocator.specs.declared.reports.StorageReport.{StorageReport}
 use Rattle.offset_lives.specs.declared.figures.Figures.{Figures}
 use Rattle.offset_lives.specs.declared.living.Life.{Life}
 use Rattle.offset_lives.specs.declared.plots.Plot.{Plot}
+use Rattle.offset_lives.specs.declared.refusing.Refused.{Refused}
 use Rattle.offset_lives.specs.declared.shapes.Shape.{Shape}
 use Rattle.offset_lives.specs.Figures.{AreFigures, AreTotals, IsFirstLargest, IsFirstSmallest, count_below, counted, end_of, largest, states}
 use Rattle.offset_lives.specs.Legend.{legend_text, notes_text}
@@ -26,12 +27,12 @@ use Rattle.offset_script.specs.declared.scripts.Command.{Command}
 use Rattle.offset_script.specs.Grammar.{Plan}
 use Rattle.offset_script.specs.Machine.{Answer, Report, State, start}
 use Rattle.offset_lives.specs.Merging.{AreMerged, key_of, large_shapes, merged, shape_of_key, tiny_shapes}
-use Rattle.offset_lives.specs.Picture.{IsBody, IsCourse, IsPictureOf, IsPlot, PicturesAreFixed, heading, opening, style}
+use Rattle.offset_lives.specs.Picture.{IsBody, IsCourse, IsPictureOf, IsPlot, PicturesAreFixed, opening, style}
 use Rattle.offset_lives.specs.Places.{ranges_end, reports_end, shape_of}
 use Rattle.offset_lives.specs.Rectangles.{AreGrants, ages_text, plain_of_age, titled_of_age}
 use Rattle.offset_lives.specs.Steps.{line_text, refusals_text}
 use Rattle.offset_lives.specs.Ticks.{axes_text}
-use Rattle.offset_lives.specs.Titles.{escaped}
+use Rattle.offset_lives.specs.Titles.{escaped, heading}
 use Rattle.offset_lives.proofs.Fixed.{figures_law}
 
 -- ---- lists
@@ -147,6 +148,7 @@ one_grants false p ls calls m n s t x y = (x.0 ∙ sym y.0, x.1 ∙ sym y.1)
 -- what is read of a course
 pub record IsLike (c d : Course) : Type 0 where
   pub nodes : c.max_allocs ≡ d.max_allocs
+  pub grants : c.grants ≡ d.grants
   pub lives : c.lives.items ≡ d.lives.items
   pub reports : c.reports.items ≡ d.reports.items
   pub sizes : c.sizes.items ≡ d.sizes.items
@@ -180,7 +182,7 @@ like_read c d P e h = moved P c.lives.items d.lives.items c.reports.items d.repo
 like_totals : (c d : Course) (f : Figures) → IsLike c d → AreTotals f c → AreTotals f d
 like_totals c d f e x = record {
   calls = x.calls ∙ ap (λ ss. counted (length ss - 1)) e.sizes;
-  grants = x.grants ∙ ap (λ ls. counted (length ls)) e.lives;
+  grants = x.grants ∙ ap counted e.grants;
   refusals = x.refusals ∙ ap (λ rs. counted (length rs)) e.refused;
   first_size = x.first_size ∙ ap (λ ss. slice_index ss 0) e.sizes;
   highest = x.highest ∙ ap (λ ls. largest (map end_of ls)) e.lives;
@@ -203,9 +205,9 @@ like_figures c d f e x = record {
 -- ---- the whole text
 
 -- the text below the heading, of what is read for it
-abbrev whole : Figures → ℕ → Plot → Plot → List ℕ → List ℕ → List StorageReport → List ℕ → Option ℕ → List ℕ
+abbrev whole : Figures → ℕ → Plot → Plot → List ℕ → List Refused → List StorageReport → List ℕ → Option ℕ → List ℕ
 whole f nodes p q sizes refused reports grants merged =
-    legend_text f nodes p.units.most ++ line_text (codes "out") p p.units.start sizes ++ axes_text p 6 12 ++ grants ++ refusals_text p refused
+    legend_text f nodes p.units.most ++ line_text (codes "out") p p.units.start sizes ++ axes_text p 6 12 ++ grants ++ refusals_text p reports refused
     ++ (line_text (codes "free") q (q.units.start + q.units.span) (map free_of reports) ++ line_text (codes "joined") q (q.units.start + q.units.span) (map joined_of reports)
     ++ line_text (codes "most") q (q.units.start + q.units.span) (map most_of reports))
     ++ axes_text q 4 12 ++ notes_text merged
@@ -232,14 +234,14 @@ one_body c d a b e some x y =
 pub one_picture : (title : List ℕ) (c d : Course) (a b : List ℕ) → IsLike c d → 0 < states d → IsPictureOf title c a → IsPictureOf title d b → a ≡ b
 one_picture title c d a b e some x y =
     x.is
-    ∙ ap (λ body. opening ++ escaped title ++ codes "</title>\n" ++ style ++ heading ++ escaped title ++ codes "</text>\n" ++ body ++ codes "</svg>\n")
+    ∙ ap (λ body. opening ++ escaped title ++ codes "</title>\n" ++ style ++ heading title ++ escaped title ++ codes "</text>\n" ++ body ++ codes "</svg>\n")
     (one_body c d x.body y.body e some x.is_body y.is_body)
     ∙ sym y.is
 
 -- ---- two courses of one script
 
 life_of : plain.Life → Life
-life_of l = record { number = l.number; offset = l.offset; size = l.size; first = l.first; last = l.last }
+life_of l = record { number = l.number; offset = l.offset; size = l.size; first = l.first; last = l.last; lived = l.lived }
 
 report_of : Answer → StorageReport
 report_of (Report free largest) = record { total_free_space = free; largest_free_region = largest }
@@ -251,13 +253,16 @@ some_reports (c ∷ cs) s = omega arith
 
 like_courses : (plan : Plan) (c d : Course) → IsCourse plan c → IsCourse plan d → IsLike c d
 unfolding life_of report_of
-like_courses plan c d x y = record {
-  nodes = x.limit ∙ sym y.limit;
-  lives = same_from_map life_view life_of (λ l. refl) c.lives.items d.lives.items (x.lives ∙ sym y.lives);
-  reports = same_from_map report_view report_of (λ r. refl) c.reports.items d.reports.items (x.reports ∙ sym y.reports);
-  sizes = same_items c.sizes.items d.sizes.items (x.sizes.0 ∙ sym y.sizes.0) (λ i l. x.sizes.1 i (omega (arith, x.sizes.0)) ∙ sym (y.sizes.1 i (omega (arith, x.sizes.0))));
-  refused = x.refused ∙ sym y.refused;
-}
+like_courses plan c d x y =
+    let lives : c.lives.items ≡ d.lives.items = same_from_map life_view life_of (λ l. refl) c.lives.items d.lives.items (x.lives ∙ sym y.lives) in
+    record {
+      nodes = x.limit ∙ sym y.limit;
+      grants = x.grants ∙ ap length lives ∙ sym y.grants;
+      lives = lives;
+      reports = same_from_map report_view report_of (λ r. refl) c.reports.items d.reports.items (x.reports ∙ sym y.reports);
+      sizes = same_items c.sizes.items d.sizes.items (x.sizes.0 ∙ sym y.sizes.0) (λ i l. x.sizes.1 i (omega (arith, x.sizes.0)) ∙ sym (y.sizes.1 i (omega (arith, x.sizes.0))));
+      refused = x.refused ∙ sym y.refused;
+    }
 
 some_states : (plan : Plan) (c : Course) → IsCourse plan c → 0 < states c
 some_states plan c x =

@@ -1,10 +1,21 @@
 -- The pieces of a picture are pieces of XML.
-use Rattle.std.proofs.Common.{ℕ, ◌+◌, ◌-◌, Bool, true, false, cond, ◌&&◌, List, [], ◌∷◌, ◌++◌, length, nat_eq, nat_le, nat_lt, sym, ap, codes, refl}
+use Rattle.std.proofs.Common.{ℕ, ◌+◌, ◌-◌, Bool, true, false, cond, ◌&&◌, List, [], ◌∷◌, ◌++◌, append-nil, length, nat_eq, nat_le, nat_lt, sym, ap, codes, refl}
 use Rattle.std.specs.Fmt.{decimal}
 use Rattle.std.specs.Prelude.{flat_map}
 use Rattle.offset_lives.specs.declared.axes.Axis.{Axis}
 use Rattle.offset_lives.specs.declared.living.Life.{Life}
+use Rattle.offset_allocator.specs.declared.reports.Refusal.{Refusal}
+use Rattle.offset_allocator.specs.declared.reports.Refusal.TheVariants as refusal
+use Rattle.offset_allocator.specs.declared.reports.StorageReport.{StorageReport}
+use Rattle.offset_allocator.specs.Classes.{value, up}
+use Rattle.offset_allocator.specs.Requests.{refusal_words}
 use Rattle.offset_lives.specs.declared.plots.Plot.{Plot}
+use Rattle.offset_lives.specs.declared.reasons.Spot.{Spot}
+use Rattle.offset_lives.specs.declared.refusing.Asked.{Asked}
+use Rattle.offset_lives.specs.declared.refusing.Asked.TheVariants as asked
+use Rattle.offset_lives.specs.declared.refusing.Reason.{Reason}
+use Rattle.offset_lives.specs.declared.refusing.Reason.TheVariants as reason
+use Rattle.offset_lives.specs.declared.refusing.Refused.{Refused}
 use Rattle.offset_lives.specs.declared.rectangles.Frame.{Frame}
 use Rattle.offset_lives.specs.declared.shapes.Shape.{Shape}
 use Rattle.offset_lives.specs.declared.steps.Column.{Column}
@@ -13,6 +24,7 @@ use Rattle.offset_lives.specs.Axes.{round_step}
 use Rattle.offset_lives.specs.Drawing.{grouped_text, pixels_text}
 use Rattle.offset_lives.specs.Marks.{column_of, column_text, counted_from_1, height_of, title_text}
 use Rattle.offset_lives.specs.Places.{frame_of, right_of, up_of}
+use Rattle.offset_lives.specs.Reasons.{asked_text, more_text, reason_text, reasons_text, report_after, report_text, rounded_text, said_text, spot_text, spots_of}
 use Rattle.offset_lives.specs.Rectangles.{age_text, ages_text, falling_below, plain_of_age, plain_text, titled_of_age, titled_text}
 use Rattle.offset_lives.specs.Steps.{groups_from, groups_text, line_text, mark_text, marked_places, marks_text, refusals_text, steps_text}
 use Rattle.offset_lives.specs.Ticks.{axes_text, calls_text, calls_tick, multiples_to, units_tick}
@@ -126,14 +138,97 @@ pub either_content : (b : Bool) (x y : List ℕ) → IsContent x → IsContent y
 either_content true x y h k = h
 either_content false x y h k = k
 
-pub refusals_content : (p : Plot) (refused : List ℕ) → IsContent (refusals_text p refused)
-refusals_content p refused =
+-- ---- why calls were refused
+
+word : (n : ℕ) → IsContent (decimal n)
+word n = number_words (decimal n) (decimal_numeric n)
+
+is_rounded : (units : ℕ) → IsContent (rounded_text units)
+is_rounded units = either_content (nat_le units 4026531840) _ [] (joins (codes ", rounded up to ") (decimal (value (up units))) (words (codes ", rounded up to ") refl)
+    (word (value (up units)))) nothing
+
+two_numbers : (a : List ℕ) (k n : ℕ) → IsContent a → IsContent (a ++ decimal k ++ codes " " ++ decimal n)
+two_numbers a k n h = joins (a ++ decimal k ++ codes " ") (decimal n) (joins (a ++ decimal k) (codes " ") (joins a (decimal k) h (word k)) (words (codes " ") refl)) (word n)
+
+is_asked : (a : Asked) → IsContent (asked_text a)
+is_asked (asked.Alloc n) = joins (codes "alloc " ++ decimal n) (rounded_text n) (joins (codes "alloc ") (decimal n) (words (codes "alloc ") refl) (word n)) (is_rounded n)
+is_asked (asked.Align n align) = joins (codes "align " ++ decimal n ++ codes " " ++ decimal align) (rounded_text (n + align - 1))
+    (two_numbers (codes "align ") n align (words (codes "align ") refl)) (is_rounded (n + align - 1))
+is_asked (asked.Extend more) = joins (codes "extend ") (decimal more) (words (codes "extend ") refl) (word more)
+is_asked (asked.Shrink k n) = two_numbers (codes "shrink ") k n (words (codes "shrink ") refl)
+is_asked (asked.Grow k n) = two_numbers (codes "grow ") k n (words (codes "grow ") refl)
+
+is_free : (r : StorageReport) → IsContent (codes "; largest free region " ++ decimal r.largest_free_region ++ codes ", of " ++ decimal r.total_free_space ++ codes " free")
+is_free r =
+    let a : List ℕ = codes "; largest free region " ++ decimal r.largest_free_region in
+    joins (a ++ codes ", of " ++ decimal r.total_free_space) (codes " free")
+    (joins (a ++ codes ", of ") (decimal r.total_free_space) (joins a (codes ", of ")
+    (joins (codes "; largest free region ") (decimal r.largest_free_region) (words (codes "; largest free region ") refl) (word r.largest_free_region))
+    (words (codes ", of ") refl)) (word r.total_free_space)) (words (codes " free") refl)
+
+is_reported : (why : Refusal) (r : StorageReport) → IsContent (report_text why r)
+is_reported refusal.Nodes r = nothing
+is_reported refusal.TooLarge r = is_free r
+is_reported refusal.Space r = is_free r
+is_reported refusal.Fragmented r = is_free r
+
+is_refusal : (why : Refusal) → IsContent (refusal_words why)
+is_refusal refusal.Nodes = words (refusal_words refusal.Nodes) refl
+is_refusal refusal.TooLarge = words (refusal_words refusal.TooLarge) refl
+is_refusal refusal.Space = words (refusal_words refusal.Space) refl
+is_refusal refusal.Fragmented = words (refusal_words refusal.Fragmented) refl
+
+is_reason : (why : Reason) (r : StorageReport) → IsContent (reason_text why r)
+is_reason (reason.Request why) r = joins (refusal_words why) (report_text why r) (is_refusal why) (is_reported why r)
+is_reason reason.Limit r = words (codes "a space has at most 4294967295 units") refl
+is_reason reason.NoRoom r = words (codes "too few units directly after the range are free") refl
+is_reason reason.Smaller r = words (codes "the range has fewer units") refl
+is_reason reason.Larger r = words (codes "the range has more units") refl
+
+is_said : (reports : List StorageReport) (r : Refused) → IsContent (said_text reports r)
+is_said reports r =
+    let a : List ℕ = codes "call " ++ decimal (counted_from_1 r.call) in
+    joins (a ++ codes ": " ++ asked_text r.asked ++ codes ": ") (reason_text r.why (report_after reports r.call))
+    (joins (a ++ codes ": " ++ asked_text r.asked) (codes ": ") (joins (a ++ codes ": ") (asked_text r.asked)
+    (joins a (codes ": ") (joins (codes "call ") (decimal (counted_from_1 r.call)) (words (codes "call ") refl) (word (counted_from_1 r.call))) (words (codes ": ") refl)) (is_asked r.asked))
+    (words (codes ": ") refl))
+    (is_reason r.why (report_after reports r.call))
+
+are_more : (more : ℕ) → IsContent (more_text more)
+are_more more =
+    either_content (nat_eq more 0) [] _ nothing
+    (joins (codes "; " ++ decimal more) (codes " more refused here") (joins (codes "; ") (decimal more) (words (codes "; ") refl) (word more)) (words (codes " more refused here") refl))
+
+is_spot : (height : ℕ) (reports : List StorageReport) (s : Spot) → IsContent (spot_text height reports s)
+is_spot height reports s =
+    in_pieces (codes "<rect x='") (pixels_text (s.left - 100) ∷ codes "' y='" ∷ pixels_text height ∷ codes "' width='3' height='12'><title>" ∷ said_text reports s.first ∷ more_text s.more
+    ∷ codes "</title></rect>\n" ∷ [])
+    (full_tag (codes "rect") refl
+    (one (codes "x") refl (at (s.left - 100) ⊙ end) (one (codes "y") refl (at height ⊙ end)
+    (one (codes "width") refl (quoted (codes "3") refl ⊙ end) (one (codes "height") refl (quoted (codes "12") refl ⊙ end) none))))
+    (full_tag (codes "title") refl none (content (is_said reports s.first) ⊕ content (are_more s.more)))
+    ⊕ literal (codes "\n") refl)
+    refl
+
+are_reasons : (p : Plot) (reports : List StorageReport) (refused : List Refused) → IsContent (reasons_text p reports refused)
+are_reasons p reports refused =
+    let bottom = p.units.start + p.units.span in
+    let spots = flat_map (spot_text bottom reports) (spots_of p.calls refused) in
+    in_pieces (codes "<g class='why'>\n") (spots ∷ codes "</g>\n" ∷ [])
+    (full_tag (codes "g") refl (one (codes "class") refl (quoted (codes "why") refl ⊙ end) none)
+    (literal (codes "\n") refl ⊕ content (each (spot_text bottom reports) (is_spot bottom reports) (spots_of p.calls refused)))
+    ⊕ literal (codes "\n") refl)
+    refl
+
+pub refusals_content : (p : Plot) (reports : List StorageReport) (refused : List Refused) → IsContent (refusals_text p reports refused)
+refusals_content p reports refused =
     let bottom = p.units.start + p.units.span in
     either_content (nat_eq (length refused) 0) [] _ nothing
-    (in_pieces (codes "<path class='refusal' d='") (marks_text p.calls bottom refused ∷ codes "'/>\n" ∷ [])
+    (in_pieces (codes "<path class='refusal' d='") (marks_text p.calls bottom refused ∷ codes "'/>\n" ∷ reasons_text p reports refused ∷ [])
     (empty_tag (codes "path") refl
-    (one (codes "class") refl (quoted (codes "refusal") refl ⊙ end) (one (codes "d") refl (are_marks bottom (marked_places p.calls refused) ⊙ end) none)) ⊕ literal (codes "\n") refl)
-    refl)
+    (one (codes "class") refl (quoted (codes "refusal") refl ⊙ end) (one (codes "d") refl (are_marks bottom (marked_places p.calls refused) ⊙ end) none)) ⊕ literal (codes "\n") refl
+    ⊕ content (are_reasons p reports refused))
+    (ap (λ t. in_a_row (codes "<path class='refusal' d='") (marks_text p.calls bottom refused ∷ codes "'/>\n" ∷ t ∷ [])) (sym (append-nil (reasons_text p reports refused)))))
 
 -- ---- rectangles
 

@@ -1,5 +1,6 @@
 -- Whole lives, from the call that grants to the one that ends.
-use Rattle.std.proofs.Common.{◌≡◌, ℕ, zero, suc, ◌+◌, ◌<◌, ◌≤◌, Bool, true, false, ◌&&◌, List, [], ◌∷◌, length, take, cond, Option, Some, None, All, nat_lt, nat_le, if◌then◌else◌, refl, sym, ap, ◌∙◌}
+use Rattle.std.proofs.Common.{◌≡◌, ℕ, zero, suc, ◌+◌, ◌-◌, ◌<◌, ◌≤◌, Bool, true, false, ◌&&◌, List, []}
+use Rattle.std.proofs.Common.{◌∷◌, length, take, cond, Option, Some, None, All, nat_lt, nat_le, if◌then◌else◌, refl, sym, ap, ◌∙◌}
 use Rattle.std.proofs.Common.{inl, inr, arith, slice_index_or, le-leb}
 use Rattle.std.proofs.lemmas.Bool.{cases_lt, lt-leb}
 use Rattle.std.proofs.lemmas.Bool.Decides.{nat_tests}
@@ -90,7 +91,7 @@ shown_answer j c cs s w (machine.Grant k offset) e = All-cons (IsShown j (c ∷ 
 }) (All-nil (IsShown j (c ∷ cs) s))
   where
     life : Life
-    life = record { number = k; offset = offset; size = requested_units c; first = j; last = j + 1 + prefix_len (leaves k) cs }
+    life = record { number = k; offset = offset; size = requested_units c; first = j; last = j + 1 + prefix_len (leaves k) cs; lived = j + 1 + prefix_len (leaves k) cs - j }
 
     says : (k ≡ s.grants + 1) × (range_of k 0 (step c s).state.blocks ≡ Some (offset, requested_units c))
     says = call_grants c s w k offset e

@@ -67,7 +67,7 @@ states c = min (length c.sizes.items) (length c.reports.items)
 -- the numbers that need no order of calls
 pub record AreTotals (f : Figures) (c : Course) : Type 0 where
   pub calls : f.calls ≡ counted (length c.sizes.items - 1)
-  pub grants : f.grants ≡ counted (length c.lives.items)
+  pub grants : f.grants ≡ counted c.grants
   pub refusals : f.refusals ≡ counted (length c.refused.items)
   pub first_size : f.first_size ≡ size_after c 0
   pub highest : f.highest ≡ largest (map end_of c.lives.items)

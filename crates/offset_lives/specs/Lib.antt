@@ -15,7 +15,9 @@ pub mod Picture
 pub mod Places
 pub mod Program
 pub mod Quiet
+pub mod Reasons
 pub mod Rectangles
+pub mod Refusals
 pub mod Reports
 pub mod Steps
 pub mod Ticks

@@ -1,5 +1,5 @@
 -- The lives of grants: which range each has, and during which calls.
-use Rattle.std.specs.Prelude.{◌≡◌, ℕ, ◌+◌, ◌≤◌, Bool, true, false, not, ◌&&◌, ◌⊎◌, List, [], ◌∷◌, ◌++◌, length, take, All, AllPairs, Option, Some, None, nat_eq, nat_lt, nat_le, if◌then◌else◌}
+use Rattle.std.specs.Prelude.{◌≡◌, ℕ, ◌+◌, ◌-◌, ◌≤◌, Bool, true, false, not, ◌&&◌, ◌⊎◌, List, [], ◌∷◌, ◌++◌, length, take, All, AllPairs, Option, Some, None, nat_eq, nat_lt, nat_le, if◌then◌else◌}
 use Rattle.std.specs.List.{prefix_len}
 use Rattle.offset_script.specs.declared.scripts.Command.{Command}
 use Rattle.offset_script.specs.declared.scripts.Command.TheVariants as command
@@ -8,17 +8,19 @@ use Rattle.offset_script.specs.Machine as machine
 use Rattle.offset_script.specs.Totals.{requested_units}
 use Rattle.offset_lives.specs.declared.living.Life as program
 
--- the grant of this number has size units from offset on; it is live from after call first to call last, counted from 0
+-- the grant of this number has size units from offset on; it is live from after call first to call last, counted from 0, and
+-- `lived` is how many calls that are
 pub record Life : Type 0 where
   pub number : ℕ
   pub offset : ℕ
   pub size : ℕ
   pub first : ℕ
   pub last : ℕ
+  pub lived : ℕ
 
 -- a life of the program, as plain data
 abbrev pub life_view : program.Life → Life
-life_view l = record { number = l.number; offset = l.offset; size = l.size; first = l.first; last = l.last }
+life_view l = record { number = l.number; offset = l.offset; size = l.size; first = l.first; last = l.last; lived = l.lived }
 
 -- whether a command leaves grant k live: all do but a reset and a release of k
 abbrev pub leaves : ℕ → Command → Bool
@@ -28,7 +30,7 @@ leaves k other = true
 
 -- the life that begins with this answer to call i, if it is a grant; `end` has the call that ends each grant
 abbrev pub life_of_answer : ℕ → Command → Answer → (ℕ → ℕ) → List Life
-life_of_answer i c (machine.Grant k offset) end = record { number = k; offset = offset; size = requested_units c; first = i; last = end k } ∷ []
+life_of_answer i c (machine.Grant k offset) end = record { number = k; offset = offset; size = requested_units c; first = i; last = end k; lived = end k - i } ∷ []
 life_of_answer i c other end = []
 
 -- the call that ends grant k, among these commands, the first of which is call i; or the number of all calls

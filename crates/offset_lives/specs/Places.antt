@@ -16,12 +16,12 @@ right_of a value = a.start + along a.span a.most value
 abbrev pub up_of : Axis → ℕ → ℕ
 up_of a value = a.start + a.span - along a.span a.most value
 
--- from the call that granted it to the one that ended it, counted from 1, and as high as its range
+-- from the call that granted it to the one that ended it, counted from 1, as high as its range, and in the colour of its age
 abbrev pub shape_of : Plot → Life → Shape
 shape_of p l = record {
   top = up_of p.units (l.offset + l.size);
   bottom = up_of p.units l.offset;
-  age = age_of (l.last - l.first);
+  age = age_of l.lived;
   left = right_of p.calls (l.first + 1);
   right =
       right_of p.calls (l.last + 1);

@@ -1,5 +1,5 @@
 -- The rectangles of grants, as they are written.
-use Rattle.std.specs.Prelude.{◌≡◌, ℕ, zero, suc, ◌+◌, ◌-◌, List, [], ◌∷◌, ◌++◌, Option, Some, None, IsPermutation, codes, filter, flat_map, length, map, nat_eq, nat_lt}
+use Rattle.std.specs.Prelude.{◌≡◌, ℕ, zero, suc, ◌+◌, List, [], ◌∷◌, ◌++◌, Option, Some, None, IsPermutation, codes, filter, flat_map, length, map, nat_eq, nat_lt}
 use Rattle.std.specs.Bool.{MatchBool}
 use Rattle.std.specs.Fmt.{decimal}
 use Rattle.std.specs.List.{zip}
@@ -51,7 +51,7 @@ AreGrants plot lives calls merged text = MatchBool (nat_lt 20000 (length lives))
 
 -- the lives of an age, in the order of the list
 abbrev pub lives_of_age : List Life → ℕ → List Life
-lives_of_age lives age = filter (λ l. nat_eq (age_of (l.last - l.first)) age) lives
+lives_of_age lives age = filter (λ l. nat_eq (age_of l.lived) age) lives
 
 -- the group of an age has a rectangle with its title for each life of this age, and the groups have each life once
 abbrev pub EachLifeHasARectangle : Type 0

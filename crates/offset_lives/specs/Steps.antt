@@ -2,12 +2,15 @@
 use Rattle.std.specs.Prelude.{◌≡◌, ℕ, ◌+◌, ◌<◌, ◌≤◌, List, [], ◌∷◌, ◌++◌, All, Contains, EachIndex, codes, flat_map, length, map, max, min, nat_eq, slice_index, if◌then◌else◌}
 use Rattle.offset_lives.specs.declared.axes.Axis.{Axis}
 use Rattle.offset_lives.specs.declared.course.Course.{Course}
+use Rattle.offset_allocator.specs.declared.reports.StorageReport.{StorageReport}
 use Rattle.offset_lives.specs.declared.plots.Plot.{Plot}
+use Rattle.offset_lives.specs.declared.refusing.Refused.{Refused}
 use Rattle.offset_lives.specs.declared.steps.Group.{Group}
 use Rattle.offset_lives.specs.Drawing.{pixels_text}
 use Rattle.offset_lives.specs.Levels.{free_of, joined_of, most_of}
 use Rattle.offset_lives.specs.Marks.{column_of, column_text, counted_from_1, height_of, in_tenths}
 use Rattle.offset_lives.specs.Places.{right_of}
+use Rattle.offset_lives.specs.Reasons.{reasons_text}
 
 -- where a state lies, and the call that begins it, to a tenth of a pixel
 abbrev pub place_of : Axis → ℕ → ℕ
@@ -81,17 +84,19 @@ abbrev pub mark_text : ℕ → ℕ → List ℕ
 mark_text height place = codes "M" ++ pixels_text place ++ codes " " ++ pixels_text height ++ codes "v12"
 
 -- the places of the marks of these calls, which are counted from 0: one for neighbours at one place
-abbrev pub marked_places : Axis → List ℕ → List ℕ
-marked_places calls marked = one_of_each (map (λ call. place_of calls (counted_from_1 call)) marked)
+abbrev pub marked_places : Axis → List Refused → List ℕ
+marked_places calls marked = one_of_each (map (λ r. place_of calls (counted_from_1 r.call)) marked)
 
 -- the marks of these calls
-abbrev pub marks_text : Axis → ℕ → List ℕ → List ℕ
+abbrev pub marks_text : Axis → ℕ → List Refused → List ℕ
 marks_text calls height marked = flat_map (mark_text height) (marked_places calls marked)
 
--- the marks of refused calls as an element, from the lower end of the plot down; where there are none, nothing
-abbrev pub refusals_text : Plot → List ℕ → List ℕ
-refusals_text p refused =
-    if nat_eq (length refused) 0 then [] else codes "<path class='refusal' d='" ++ marks_text p.calls (p.units.start + p.units.span) refused ++ codes "'/>\n"
+-- the marks of refused calls as an element, from the lower end of the plot down, and why they were refused; where there are
+-- none, nothing
+abbrev pub refusals_text : Plot → List StorageReport → List Refused → List ℕ
+refusals_text p reports refused =
+    if nat_eq (length refused) 0 then []
+    else codes "<path class='refusal' d='" ++ marks_text p.calls (p.units.start + p.units.span) refused ++ codes "'/>\n" ++ reasons_text p reports refused
 
 -- a mark is at this place, or less than a tenth of a pixel to the left of it
 abbrev pub IsMarked : List ℕ → ℕ → Type 0
@@ -99,4 +104,4 @@ IsMarked marks place = (mark : ℕ) × Contains marks mark × (mark ≤ place) �
 
 -- whichever calls are refused, each has its mark
 abbrev pub EachRefusalIsMarked : Type 0
-EachRefusalIsMarked = (calls : Axis) (refused : List ℕ) → All (λ call. IsMarked (marked_places calls refused) (right_of calls (counted_from_1 call))) refused
+EachRefusalIsMarked = (calls : Axis) (refused : List Refused) → All (λ r. IsMarked (marked_places calls refused) (right_of calls (counted_from_1 r.call))) refused

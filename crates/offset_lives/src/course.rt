@@ -1,21 +1,26 @@
-//! The course of a script: all that a picture shows of it.
+//! The course of calls, such as those of a script: all that a picture shows of them.
 
 ghost use Rattle.std.specs.Prelude.{◌≡◌, All, IfOk, length, map};
 ghost use Rattle.offset_script.specs.Machine as machine;
 ghost use Rattle.offset_script.specs.Machine.{answer_view};
 ghost use Rattle.offset_script.specs.Totals.{added_units};
-ghost use Rattle.offset_lives.specs.Growth.{AreSizes, is_refusal, refusals_of};
+ghost use Rattle.offset_lives.specs.Growth.{AreSizes};
 ghost use Rattle.offset_lives.specs.Lives.{IsOrdered, life_view, lives_of};
 ghost use Rattle.offset_lives.specs.Quiet.{replace_all_full};
+ghost use Rattle.offset_lives.specs.Refusals.{refused_of};
 ghost use Rattle.offset_lives.specs.Reports.{report_view, reports_of};
 
 use crate::living::{Life, lives_of_answers};
+use crate::refusing::Refused;
 use crate::watching::{Watched, watch};
 use offset_allocator::StorageReport;
 use offset_script::{Answer, Command, Script};
 use std::alloc::{AllocError, Global};
 
-/// A script after it was played.
+/// What some calls did to a space: those of a script, by `course_of`, or others, as the program notes that makes them.
+///
+/// A picture shows as many calls as `sizes` has states, less one. All that it needs is that no life ends before it
+/// begins: `first` is at most `last`.
 ///
 /// Calls are counted from 0 here, and written from 1 in the picture. A state is what a number of calls leaves: state 0
 /// is the fresh space, and n calls have n + 1 states.
@@ -23,14 +28,16 @@ use std::alloc::{AllocError, Global};
 pub struct Course {
     /// The node limit.
     pub max_allocs: u32,
+    /// How many requests were granted.
+    pub grants: usize,
     /// The life of each grant, in the order of the calls.
     pub lives: Vec<Life>,
     /// The report of each state.
     pub reports: Vec<StorageReport>,
     /// The units of the space in each state.
     pub sizes: Vec<u32>,
-    /// The calls that returned `none`, extensions among them.
-    pub refused: Vec<usize>,
+    /// The calls that were refused, in their order.
+    pub refused: Vec<Refused>,
 }
 
 // The units that a command with this answer adds to the space.
@@ -43,48 +50,30 @@ fn added_units(command: Command, answer: &Answer) -> u32
     }
 }
 
-// Whether a call returned `none`.
-fn is_refusal(answer: &Answer) -> bool
-    ensures { result ≡ is_refusal (answer_view answer.now) }
-{
-    matches!(answer, Answer::Refused)
-}
-
-// The units of the space in each state, and the calls that returned `none`, where the answers have a report in place of
-// each full report.
-fn growth(
-    alloc: Global,
-    script: &Script,
-    answers: &[Answer],
-) -> Result<(Vec<u32>, Vec<usize>), AllocError>
+// The units of the space in each state, where the answers have a report in place of each full report.
+fn sizes_of(alloc: Global, script: &Script, answers: &[Answer]) -> Result<Vec<u32>, AllocError>
     requires len { length answers.now ≡ length script.now.commands.items }
     requires played { map answer_view answers.now
         ≡ machine.answers (replace_all_full script.now.commands.items)
         (machine.start script.now.size script.now.max_allocs) }
-    ensures sizes { IfOk result
-        (λ g. AreSizes g.0.items script.now.size script.now.max_allocs script.now.commands.items) }
-    ensures refused { IfOk result
-        (λ g. g.1.items ≡ refusals_of script.now.size script.now.max_allocs script.now.commands.items) }
+    ensures { IfOk result
+        (λ v. AreSizes v.items script.now.size script.now.max_allocs script.now.commands.items) }
 {
     let calls = script.commands.len();
     let mut size = script.size;
     let mut sizes = Vec::new(alloc);
-    let mut refused = Vec::new(alloc);
     sizes.push(size)?;
     for i in 0..calls {
-        let answer = &answers[i];
-        size = size.saturating_add(added_units(script.commands[i], answer));
+        size = size.saturating_add(added_units(script.commands[i], &answers[i]));
         sizes.push(size)?;
-        if is_refusal(answer) {
-            refused.push(i)?;
-        }
     }
-    Ok((sizes, refused))
+    Ok(sizes)
 }
 
 /// Plays a script, without its full reports, and returns its course.
 pub fn course_of(alloc: Global, script: &Script) -> Result<Course, AllocError>
     ensures limit { IfOk result (λ c. c.max_allocs ≡ script.now.max_allocs) }
+    ensures grants { IfOk result (λ c. c.grants ≡ length c.lives.items) }
     ensures lives { IfOk result
         (λ c. map life_view c.lives.items
         ≡ lives_of script.now.size script.now.max_allocs script.now.commands.items) }
@@ -97,13 +86,19 @@ pub fn course_of(alloc: Global, script: &Script) -> Result<Course, AllocError>
         script.now.size script.now.max_allocs script.now.commands.items) }
     ensures refused { IfOk result
         (λ c. c.refused.items
-        ≡ refusals_of script.now.size script.now.max_allocs script.now.commands.items) }
+        ≡ refused_of script.now.size script.now.max_allocs script.now.commands.items) }
 {
-    let Watched { answers, reports } = watch(alloc, script)?;
-    let (sizes, refused) = growth(alloc, script, &answers)?;
+    let Watched {
+        answers,
+        reports,
+        refused,
+    } = watch(alloc, script)?;
+    let sizes = sizes_of(alloc, script, &answers)?;
+    let lives = lives_of_answers(alloc, &script.commands, &answers)?;
     Ok(Course {
         max_allocs: script.max_allocs,
-        lives: lives_of_answers(alloc, &script.commands, &answers)?,
+        grants: lives.len(),
+        lives,
         reports,
         sizes,
         refused,

@@ -11,10 +11,13 @@ use crate::figures::figures_of;
 use crate::legend::{put_legend, put_notes};
 use crate::levels::levels_of;
 use crate::plots::{Plot, ranges_plot, reports_plot};
+use crate::reasons::put_reasons;
 use crate::rectangles::put_grants;
+use crate::refusing::Refused;
 use crate::steps::{places_of, put_line, put_marks};
-use crate::style::{HEADING, OPENING, STYLE};
-use crate::titles::put_escaped;
+use crate::style::{OPENING, STYLE};
+use crate::titles::{put_escaped, put_heading};
+use offset_allocator::StorageReport;
 use offset_script::Script;
 use std::alloc::{AllocError, Global};
 
@@ -33,10 +36,15 @@ fn put_beyond(
     put_line(out, "out", plot, plot.units.start, &course.sizes, places)
 }
 
-// The marks of the calls that were refused, below the plot, if there are any.
-fn put_refusals(out: &mut String, plot: &Plot, refused: &[usize]) -> Result<(), AllocError>
+// The marks of the calls that were refused, below the plot, and why they were, if there are any.
+fn put_refusals(
+    out: &mut String,
+    plot: &Plot,
+    reports: &[StorageReport],
+    refused: &[Refused],
+) -> Result<(), AllocError>
     ensures { OnOk result (string_bytes out.new
-        ≡ string_bytes out.old ++ refusals_text plot.now refused.now) }
+        ≡ string_bytes out.old ++ refusals_text plot.now reports.now refused.now) }
 {
     if refused.is_empty() {
         return Ok(());
@@ -44,7 +52,7 @@ fn put_refusals(out: &mut String, plot: &Plot, refused: &[usize]) -> Result<(), 
     write!(out, "<path class='refusal' d='")?;
     put_marks(out, &plot.calls, plot.bottom(), refused)?;
     writeln!(out, "'/>")?;
-    Ok(())
+    put_reasons(out, plot, reports, refused)
 }
 
 // The free units, before them what the largest free region would be without fragmentation, and before both what it is.
@@ -83,14 +91,18 @@ fn body(alloc: Global, course: &Course) -> Result<String, AllocError>
     put_beyond(&mut out, &ranges, course, &places)?;
     ranges.put_axes(&mut out, 6, 12)?;
     let merged = put_grants(alloc, &mut out, &ranges, &course.lives, figures.calls)?;
-    put_refusals(&mut out, &ranges, &course.refused)?;
+    put_refusals(&mut out, &ranges, &course.reports, &course.refused)?;
     put_reports(alloc, &mut out, &reports, course, &places)?;
     reports.put_axes(&mut out, 4, 12)?;
     put_notes(&mut out, merged)?;
     Ok(out)
 }
 
-/// The picture of a course, as SVG, with this title.
+/// The picture of a course, as SVG, with this title: its accessible name, and the heading that it shows. In the
+/// title a space takes the place of each line end and tab, and of each character that XML 1.0 forbids.
+///
+/// It is drawn as the course says, of whichever calls: `course_of` makes that of a script. No life may end
+/// before it begins. It fails only where an allocation fails.
 pub fn picture_of(alloc: Global, title: &str, course: &Course) -> Result<String, AllocError>
     requires { All IsOrdered (map life_view course.now.lives.items) }
     ensures { IfOk result (λ text. IsPictureOf title.now course.now (string_bytes text)) }
@@ -100,9 +112,7 @@ pub fn picture_of(alloc: Global, title: &str, course: &Course) -> Result<String,
     put_escaped(&mut out, title)?;
     out.push_str("</title>\n")?;
     out.push_str(STYLE)?;
-    out.push_str(HEADING)?;
-    put_escaped(&mut out, title)?;
-    out.push_str("</text>\n")?;
+    put_heading(&mut out, title)?;
     // So that the last seven bytes do not double the room of the text, with a copy of all of it. Where this room is
     // refused, the text grows as it needs.
     let _has_room = out.reserve(body.len().saturating_add(7)).is_ok();
@@ -116,8 +126,8 @@ pub fn picture_of(alloc: Global, title: &str, course: &Course) -> Result<String,
 /// In the title a space takes the place of each line end and tab, and of each character that XML 1.0 forbids. It fails
 /// only where an allocation fails.
 pub fn picture(alloc: Global, title: &str, script: &Script) -> Result<String, AllocError>
-    // All of the text: the tag of an SVG, the title, the style, the title as heading, and what is drawn of the course of
-    // the script, whose lives, reports, sizes and refusals are those of the plain machine.
+    // All of the text: the tag of an SVG, the title, the style, the title as heading, and what is drawn of
+    // the course of the script, whose lives, reports, sizes and refusals are those of the plain machine.
     ensures { IfOk result (λ text. IsPicture title.now (view script.now) (string_bytes text)) }
 {
     picture_of(alloc, title, &course_of(alloc, script)?)

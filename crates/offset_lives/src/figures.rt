@@ -157,7 +157,7 @@ impl Figures {
         let report = course.reports.first();
         Figures {
             calls: counted(course.sizes.len().saturating_sub(1)),
-            grants: counted(course.lives.len()),
+            grants: counted(course.grants),
             refusals: counted(course.refused.len()),
             most_live: 0,
             most_used: 0,

@@ -7,6 +7,7 @@ ghost use Rattle.offset_lives.specs.Lives.{LivesAreSeen, LivesAreWithin, LivesAr
 ghost use Rattle.offset_lives.specs.Overlaps.{RectanglesAreApart};
 ghost use Rattle.offset_lives.specs.Picture.{FiguresAreFixed, PicturesAreFixed, PicturesAreWellFormed, PicturesHaveTitles};
 ghost use Rattle.offset_lives.specs.Rectangles.{EachLifeHasARectangle};
+ghost use Rattle.offset_lives.specs.Refusals.{RefusalsHaveReasons};
 ghost use Rattle.offset_lives.specs.Steps.{EachRefusalIsMarked};
 
 /// After any number of calls, a live block of a life's number exists, with its range, exactly while the life is on.
@@ -39,8 +40,9 @@ pub fn rectangles_never_overlap()
     ensures { RectanglesAreApart }
 {}
 
-/// Each line has a point where each of its states lies, at the height of its value, both to a tenth of a pixel; and each
-/// of its points is at the height of a state that is on there, or upright between two of them.
+/// Each line has a point where each of its states lies, at the height of its value, both to a tenth of a
+/// pixel; and each of its points is at the height of a state that is on there, or upright between two of
+/// them.
 pub fn each_line_shows_its_values()
     ensures { EachLineShowsItsValues }
 {}
@@ -48,6 +50,11 @@ pub fn each_line_shows_its_values()
 /// Each refused call has its mark, to a tenth of a pixel.
 pub fn each_refusal_is_marked()
     ensures { EachRefusalIsMarked }
+{}
+
+/// The calls with a reason are those that are refused, in any script.
+pub fn each_refusal_has_a_reason()
+    ensures { RefusalsHaveReasons }
 {}
 
 /// Each picture begins with its title, and has it once more as its heading.

@@ -15,6 +15,9 @@ use std::alloc::{AllocError, Global};
 ///
 /// Calls are counted from 0. The grant is live from after the call `first`, which returned it, to the call `last`,
 /// which released it or was a reset; `last` is the number of all calls where the grant is live at the end.
+///
+/// In a course that is no script's, a grant may be moved or resized. Then it has a life for each range that
+/// it has had, and `lived` is the same in all of them.
 #[derive(Clone, Copy, PartialEq, Debug)]
 pub struct Life {
     /// The number of the grant, from 1.
@@ -27,6 +30,8 @@ pub struct Life {
     pub first: usize,
     /// The call that ended it, or the number of all calls.
     pub last: usize,
+    /// How many calls the grant is live: the age that its rectangle has the colour of.
+    pub lived: usize,
 }
 
 // For each grant, the call that ends it, among the calls seen so far: they are seen from the last to the first.
@@ -98,13 +103,17 @@ fn life_of_answer(i: usize, command: Command, answer: &Answer, ends: &Ends) -> O
         ≡ life_of_answer i command (answer_view answer.now) (end_in ends.now) }
 {
     match answer {
-        Answer::Grant { number, offset } => Some(Life {
-            number: *number,
-            offset: *offset,
-            size: requested_units(command),
-            first: i,
-            last: ends.of(*number),
-        }),
+        Answer::Grant { number, offset } => {
+            let last = ends.of(*number);
+            Some(Life {
+                number: *number,
+                offset: *offset,
+                size: requested_units(command),
+                first: i,
+                last,
+                lived: last.saturating_sub(i),
+            })
+        }
         _ => None,
     }
 }

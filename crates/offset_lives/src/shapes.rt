@@ -34,7 +34,8 @@ impl Shape {
     }
 }
 
-/// The rectangle of a life: from the call that granted it to the one that ended it, as high as its range.
+/// The rectangle of a life: from the call that granted it to the one that ended it, as high as its range, and
+/// of the age of its grant.
 pub fn shape_of(plot: &Plot, life: &Life) -> Shape
     ensures shape { result ≡ shape_of plot.now life.now }
     ensures right { result.right ≤ 120000 }
@@ -46,7 +47,7 @@ pub fn shape_of(plot: &Plot, life: &Life) -> Shape
     Shape {
         top: plot.units.up(u64::from(life.offset) + u64::from(life.size)),
         bottom: plot.units.up(u64::from(life.offset)),
-        age: age_of(life.last.saturating_sub(life.first)),
+        age: age_of(life.lived),
         left: plot.calls.right(life.first.saturating_add(1) as u64),
         right: plot.calls.right(life.last.saturating_add(1) as u64),
     }

@@ -8,6 +8,7 @@ use crate::axes::{Axis, TENTH};
 use crate::line::Line;
 use crate::numbers::Pixels;
 use crate::plots::Plot;
+use crate::refusing::Refused;
 use std::alloc::{AllocError, Global};
 
 // The length in whole tenths of a pixel.
@@ -219,15 +220,15 @@ pub fn put_marks(
     out: &mut String,
     calls: &Axis,
     height: u32,
-    marked: &[usize],
+    marked: &[Refused],
 ) -> Result<(), AllocError>
     ensures { OnOk result (string_bytes out.new
         ≡ string_bytes out.old ++ marks_text calls.now height marked.now) }
 {
     let top = Pixels(height);
     let mut before = None;
-    for call in marked {
-        let place = in_tenths(calls.right(call.saturating_add(1) as u64));
+    for refused in marked {
+        let place = in_tenths(calls.right(refused.call.saturating_add(1) as u64));
         if before != Some(place) {
             let mut line = Line::new();
             line.put("v12");

@@ -2,7 +2,7 @@
 
 /// What comes before the title.
 pub const OPENING: &str =
-    "<svg xmlns='http://www.w3.org/2000/svg' width='1200' height='840' viewBox='0 0 1200 840' role='img'>
+    "<svg xmlns='http://www.w3.org/2000/svg' width='1200' height='840' viewBox='0 0 1200 840' role='graphics-document document'>
 <title>";
 
 /// The colours, for light and for dark backgrounds, and the background itself.
@@ -10,7 +10,7 @@ pub const STYLE: &str = "<style>
 text{font:14px sans-serif;fill:#1f2328}
 .big{font-size:18px;font-weight:bold}.figures{font-size:16px}.end{text-anchor:end}.middle{text-anchor:middle}
 .back{fill:#fff}.out{fill:#d8dee4}.grid{stroke:#d8dee4}.tick{stroke:#57606a}.refusal{stroke:#b00020;stroke-width:2}
-.edge{stroke:#fff;stroke-width:.7}
+.why{fill:none;pointer-events:all}.edge{stroke:#fff;stroke-width:.7}
 .free{fill:#e3dfd2;stroke:#6e6a5c}.joined{fill:#f4c27a;stroke:#b35900}.most{fill:#cfe3f7;stroke:#1f5fae}
 .age1{fill:#f2d9bc}.age2{fill:#f0b87e}.age3{fill:#f0898c}.age4{fill:#b98298}
 .age5{fill:#b05c8f}.age6{fill:#635abf}.age7{fill:#0f5c80}.age8{fill:#044247}
@@ -23,6 +23,3 @@ text{fill:#e6edf3}
 </style>
 <rect class='back' width='1200' height='840'/>
 ";
-
-/// What comes before the title as it is shown.
-pub const HEADING: &str = "<text class='big' x='24' y='28'>";

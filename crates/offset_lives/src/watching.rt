@@ -1,12 +1,14 @@
-//! Plays a script once, and sees the reports between its commands.
+//! Plays a script once, and sees the reports between its commands, and why commands are refused.
 
 ghost use Rattle.std.specs.Prelude.{◌≡◌, ◌+◌, ◌<◌, ◌≤◌, All, IfOk, IsTrue, map};
 ghost use Rattle.offset_script.specs.Grammar.{has_valid_alignment};
 ghost use Rattle.offset_script.specs.Machine.{answer_view, answers, start};
 ghost use Rattle.offset_lives.specs.Quiet.{replace_all_full};
+ghost use Rattle.offset_lives.specs.Refusals.{refused_of};
 ghost use Rattle.offset_lives.specs.Reports.{report_view, reports_of};
 
 use crate::quiet::replace_full;
+use crate::refusing::{Refused, note};
 use offset_allocator::laws::is_well_formed;
 use offset_allocator::{ByNode, StorageReport, Tables};
 use offset_script::{Answer, Command, IndexWidth, PlayerOf, Script};
@@ -19,6 +21,8 @@ pub struct Watched {
     pub answers: Vec<Answer>,
     /// The report of the fresh space, and the one after each command.
     pub reports: Vec<StorageReport>,
+    /// The commands that were refused.
+    pub refused: Vec<Refused>,
 }
 
 // Plays commands, as `play_of` does, with a report in place of each full report, and looks at the space after each.
@@ -36,6 +40,7 @@ fn watch_of<T: Tables>(
         ≡ answers (replace_all_full commands.now) (start size max_allocs)) }
     ensures reports { IfOk result
         (λ w. map report_view w.reports.items ≡ reports_of size max_allocs commands.now) }
+    ensures refused { IfOk result (λ w. w.refused.items ≡ refused_of size max_allocs commands.now) }
 {
     let mut player: PlayerOf<T> = PlayerOf::start(alloc, size, max_allocs)?;
     // A step of the proof, which does nothing, here and below.
@@ -44,14 +49,21 @@ fn watch_of<T: Tables>(
     let mut reports = Vec::with_capacity(alloc, commands.len() + 1)?;
     let fresh = player.space.storage_report();
     reports.push(fresh)?;
+    let mut refused = Vec::new(alloc);
     for command in commands {
-        let answer = player.call(alloc, replace_full(*command))?;
+        let quiet = replace_full(*command);
+        let answer = player.call(alloc, quiet)?;
         is_well_formed(&player.space);
+        note(&mut refused, &player.space, answers.len(), quiet, &answer)?;
         answers.push(answer)?;
         let report = player.space.storage_report();
         reports.push(report)?;
     }
-    Ok(Watched { answers, reports })
+    Ok(Watched {
+        answers,
+        reports,
+        refused,
+    })
 }
 
 /// Plays a script on an allocator of its index width, with a report in place of each full report, whose rows would take
@@ -65,6 +77,9 @@ pub fn watch(alloc: Global, script: &Script) -> Result<Watched, AllocError>
     ensures reports { IfOk result
         (λ w. map report_view w.reports.items
         ≡ reports_of script.now.size script.now.max_allocs script.now.commands.items) }
+    ensures refused { IfOk result
+        (λ w. w.refused.items
+        ≡ refused_of script.now.size script.now.max_allocs script.now.commands.items) }
 {
     match script.index {
         IndexWidth::Bits16 => {

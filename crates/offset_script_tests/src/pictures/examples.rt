@@ -43,6 +43,8 @@ alloc 192
         "<rect x='1065' y='166' width='105' height='384' class='edge'><title>grant 5, offset 0, size 192, calls 9-end</title></rect>",
         // the refusal is call 5, at 120 + 525
         "<path class='refusal' d='M645 550v12'/>",
+        // of its free blocks, of 10, 2 and 52 units, none has 60
+        "<rect x='644' y='550' width='3' height='12'><title>call 5: alloc 60, rounded up to 60: no free block is large enough until the space is compacted; largest free region 52, of 64 free</title></rect>",
         // to call 6 the space ends at 100, where y is 350
         "<path class='out' d='M120 150H120V350H750V150H1170V150'/>",
         // free units: 100, 90, 70, 54, 64, 64, 164, 74, 200, 8
@@ -60,14 +62,15 @@ alloc 192
         ">Largest free region at the worst moment: 8 units, of 8 free, after 9 calls.<",
         ">the space ends at 200<",
     ],
-    counts: &[(RECTANGLE, 5)],
+    counts: &[(RECTANGLE, 6)],
 };
 
 // Lives, edges, shares and numbers, also at the bounds between two cases.
 const EXAMPLES: [Picture; 10] = [
-    // Fragmentation alone. Of 96 units, grants of 32 units each are at 0, 32 and 64, and the first and the third are
-    // released: 64 units are free in two blocks of 32. 5 calls: 120 + 175 k. A unit is 150/96 pixels high: 96, 64 and 32
-    // units are at 630, 680 and 730, and each of these numbers is the value of a class.
+    // Fragmentation alone. Of 96 units, grants of 32 units each are at 0, 32 and 64, and the first and the
+    // third are released: 64 units are free in two blocks of 32. 5 calls: 120 + 175 k. A unit is 150/96
+    // pixels high: 96, 64 and 32 units are at 630, 680 and 730, and each of these numbers is the value of a
+    // class.
     Picture {
         script: &[Lines(
             1,
@@ -181,7 +184,7 @@ const EXAMPLES: [Picture; 10] = [
 ];
 
 // Scripts at the limits.
-const EXTREMES: [Picture; 8] = [
+const EXTREMES: [Picture; 9] = [
     // The largest space, all free: 4294967295 units are of the class 15 2^28 = 4026531840, at 780 - 150 15/16 = 639.37,
     // drawn to a tenth.
     Picture {
@@ -217,8 +220,29 @@ const EXTREMES: [Picture; 8] = [
         once: &[
             ">0 grants, 3 refusals; at most 0 live at once. Most in use: 0 of 100 units, 0.0 percent.<",
             "<path class='refusal' d='M382.5 550v12M645 550v12M907.5 550v12'/>",
+            // from 96 on the classes rise by 8 to 128, and then by 16; 96 is that of 100
+            "<rect x='381' y='550' width='3' height='12'><title>call 1: alloc 101, rounded up to 104: the request is too large for the space; largest free region 96, of 100 free</title></rect>\n",
+            // 90 + 64 - 1 = 153
+            "<rect x='644' y='550' width='3' height='12'><title>call 2: align 90 64, rounded up to 160: the request is too large for the space; largest free region 96, of 100 free</title></rect>\n",
+            // no class is so large
+            "<rect x='906' y='550' width='3' height='12'><title>call 3: alloc 4294967295: the request is too large for the space; largest free region 96, of 100 free</title></rect>\n",
         ],
-        counts: &[(RECTANGLE, 0)],
+        counts: &[(RECTANGLE, 3)],
+    },
+    // 40 units, and 40 units after a used block: the first request needs more than both have, the second has
+    // too few nodes, and the third is granted. 5 calls: call 4 is at 820, and the report that it found was 40
+    // of 80.
+    Picture {
+        script: &[Lines(
+            1,
+            "space 100 nodes 5 index 32\nalloc 40\nalloc 20\nfree 1\nalloc 81\nalign 8 2\n",
+        )],
+        once: &[
+            "<rect x='819' y='550' width='3' height='12'><title>call 4: alloc 81, rounded up to 88: too few units are free; largest free region 40, of 80 free</title></rect>\n",
+            // 3 blocks, and two more may be needed, where there are fewer than 5
+            "<rect x='994' y='550' width='3' height='12'><title>call 5: align 8 2, rounded up to 9: too few nodes are left</title></rect>\n",
+        ],
+        counts: &[(RECTANGLE, 4)],
     },
     // A space of no units.
     Picture {
@@ -258,6 +282,7 @@ const EXTREMES: [Picture; 8] = [
             ">3 calls on a space of 10 units, extended to 4,294,967,295, with 16 nodes<",
             ">0 grants, 1 refusal; ",
             "<path class='refusal' d='M907.5 550v12'/>",
+            "<title>call 3: extend 1: a space has at most 4294967295 units</title>",
         ],
         counts: &[],
     },
@@ -268,6 +293,7 @@ const EXTREMES: [Picture; 8] = [
             "<path class='free' d='M120 780H120V630H470V780H1170V780'/>",
             "<path class='joined' d='M120 780H120V636H470V780H1170V780'/>",
             "<path class='refusal' d='M820 550v12'/>",
+            "<title>call 2: alloc 10, rounded up to 10: too few nodes are left</title>",
             "Largest free region at the worst moment: 0 units, of 0 free, after 1 call.<",
             "At the node limit, after 2 calls, 0 units are reported as free.",
         ],
@@ -298,7 +324,7 @@ const TITLES: [(&str, &str); 6] = [
 // What a picture begins with, and its heading.
 fn start_and_heading(alloc: Global, wanted: &str) -> Result<(String, String), AllocError> {
     let start = format!(in alloc;
-        "<svg xmlns='http://www.w3.org/2000/svg' width='1200' height='840' viewBox='0 0 1200 840' role='img'>\n<title>{wanted}</title>\n"
+        "<svg xmlns='http://www.w3.org/2000/svg' width='1200' height='840' viewBox='0 0 1200 840' role='graphics-document document'>\n<title>{wanted}</title>\n"
     )?;
     let heading = format!(in alloc; "<text class='big' x='24' y='28'>{wanted}</text>\n")?;
     Ok((start, heading))
@@ -310,6 +336,51 @@ fn expect_title(rt: &impl Abort, alloc: Global, title: &str, wanted: &str) {
     let (start, heading) = start_and_heading(alloc, wanted).expect(rt, "memory");
     assert_that_at(rt, &title, picture.starts_with(&start));
     assert_same_at(rt, &title, &count(&picture, &heading), &1);
+}
+
+// 85 and 86 letters, three quarters as wide as high each: 255 and 258 quarters. 256 of them are 1152 pixels
+// in 18; else the height is 1152 by a quarter of their number: 17.86. 51 and 52 other characters are 255 and
+// 260 quarters, and 150 letters are 450.
+const LONG: [(&str, &str); 6] = [
+    (
+        "0123456789012345678901234567890123456789012345678901234567890123456789012345678901234",
+        "<text class='big' x='24' y='28'>0123",
+    ),
+    (
+        "01234567890123456789012345678901234567890123456789012345678901234567890123456789012345",
+        "<text class='big' x='24' y='28' style='font-size:17.86px'>0123",
+    ),
+    (
+        "éééééééééééééééééééééééééééééééééééééééééééééééééééééééééééééééééééééééééééééééééééééé",
+        "<text class='big' x='24' y='28' style='font-size:17.86px'>éé",
+    ),
+    (
+        "空空空空空空空空空空空空空空空空空空空空空空空空空空空空空空空空空空空空空空空空空空空空空空空空空空空",
+        "<text class='big' x='24' y='28'>空",
+    ),
+    (
+        "空空空空空空空空空空空空空空空空空空空空空空空空空空空空空空空空空空空空空空空空空空空空空空空空空空空空",
+        "<text class='big' x='24' y='28' style='font-size:17.72px'>空",
+    ),
+    (
+        "012345678901234567890123456789012345678901234567890123456789012345678901234567890123456789012345678901234567890123456789012345678901234567890123456789",
+        "<text class='big' x='24' y='28' style='font-size:10.24px'>0123",
+    ),
+];
+
+// A heading of many characters is smaller, and all of it is there.
+#[test]
+fn a_long_heading_fits(rt: HostRuntime) {
+    for (title, wanted) in LONG {
+        let picture = titled_picture_of(
+            &rt,
+            rt.alloc(),
+            title,
+            &[Lines(1, "space 100 nodes 16 index 32\n")],
+        );
+        assert_same_at(&rt, &title, &count(&picture, wanted), &1);
+        assert_same_at(&rt, &title, &count(&picture, title), &2);
+    }
 }
 
 // The title comes first, and once more as the heading.

@@ -77,6 +77,8 @@ const PICTURES: [Picture; 5] = [
             // their classes are 96, at 636, and 40
             "<path class='joined' d='M120 780H120V636H120.1V720V636H320V720H320.1V636V720H1170V780'/>",
             "<path class='refusal' d='M420 550v12M420.1 550v12'/>",
+            // all three are in one pixel
+            "<rect x='419' y='550' width='3' height='12'><title>call 6000: alloc 101, rounded up to 104: the request is too large for the space; largest free region 40, of 40 free; 2 more refused here</title></rect>",
         ],
         counts: &[],
     },

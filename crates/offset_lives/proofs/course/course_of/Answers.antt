@@ -8,8 +8,8 @@ use Rattle.offset_lives.proofs.Ordered.{lives_are_ordered}
 use Rattle.offset_lives.proofs.Quieter.{quiet_lives}
 use Rattle.offset_lives.proofs.course.course_of.Goals as goal
 
-pub growth-requires : goal.growth-requires
-growth-requires c =
+pub sizes_of-requires : goal.sizes_of-requires
+sizes_of-requires c =
     let script = c.args.script.now in
     let cs = replace_all_full script.commands.items in
     let played = ap (map answer_view) c.deref.ensures.value ∙ c.in_ok-answers.ensures.answers in
@@ -33,7 +33,7 @@ lives_of_answers-requires c =
 pub returns-clause-lives : goal.returns-clause-lives
 returns-clause-lives c =
     let script = c.args.script.now in
-    c.in_ok-lives_of_answers.ensures
+    c.in_ok-lives.ensures
     ∙ ap₂ (lives_from 0) c.deref-2.ensures.value (ap (map answer_view) c.deref-3.ensures.value ∙ c.in_ok-answers.ensures.answers)
     ∙ quiet_lives script.size script.max_allocs script.commands.items
 
@@ -41,8 +41,8 @@ pub returns-clause-ordered : goal.returns-clause-ordered
 returns-clause-ordered c =
     let script = c.args.script.now in
     let cs = script.commands.items in
-    let lives : map life_view c.in_ok-lives_of_answers.field-0.items ≡ lives_of script.size script.max_allocs cs =
-    c.in_ok-lives_of_answers.ensures
+    let lives : map life_view c.in_ok-lives.lives.items ≡ lives_of script.size script.max_allocs cs =
+    c.in_ok-lives.ensures
     ∙ ap₂ (lives_from 0) c.deref-2.ensures.value (ap (map answer_view) c.deref-3.ensures.value ∙ c.in_ok-answers.ensures.answers)
     ∙ quiet_lives script.size script.max_allocs cs in
     subst (All IsOrdered) (sym lives) (lives_are_ordered script.size script.max_allocs cs)

@@ -1,9 +1,11 @@
-use Rattle.std.proofs.Common.{◌++◌, ◌∙◌, List, ℕ, ap, subst}
+use Rattle.std.proofs.Common.{◌++◌, ◌∙◌, List, ℕ, ap₂, subst}
 use Rattle.std.specs.Prelude.{string_bytes}
+use Rattle.offset_allocator.specs.declared.reports.StorageReport.{StorageReport}
 use Rattle.offset_lives.specs.declared.course.Course.{Course}
 use Rattle.offset_lives.specs.declared.figures.Figures.{Figures}
 use Rattle.offset_lives.specs.declared.living.Life.{Life}
 use Rattle.offset_lives.specs.declared.plots.Plot.{Plot}
+use Rattle.offset_lives.specs.declared.refusing.Refused.{Refused}
 use Rattle.offset_lives.specs.Legend.{legend_text, notes_text}
 use Rattle.offset_lives.specs.Rectangles.{AreGrants}
 use Rattle.offset_lives.specs.Steps.{beyond_text, refusals_text, reports_text}
@@ -29,8 +31,11 @@ returns c =
       merged = c.in_ok-merged.merged;
       are_grants = subst (λ (ls : List Life). AreGrants above ls f.calls c.in_ok-merged.merged grants) c.deref-2.ensures.value c.in_ok-merged.ensures.2;
       is =
-          has_all (legend_text f course.max_allocs above.units.most) (beyond_text above course) (axes_text above 6 12) grants (refusals_text above course.refused.items) (reports_text below course) (axes_text below 4 12)
+          has_all (legend_text f course.max_allocs above.units.most) (beyond_text above course) (axes_text above 6 12) grants (refusals_text above course.reports.items course.refused.items)
+          (reports_text below course) (axes_text below 4 12)
           (notes_text c.in_ok-merged.merged) _ _ _ _ _ _ _ _ _ c.new-out.ensures.bytes c.in_ok-put_legend.ensures c.in_ok-put_beyond.ensures c.in_ok-put_axes.ensures c.in_ok-merged.ensures.1
-          (c.in_ok-put_refusals.ensures ∙ ap (λ (calls : List ℕ). string_bytes c.put_grants.new.out ++ refusals_text above calls) c.deref-3.ensures.value) c.in_ok-put_reports.ensures c.in_ok-put_axes-2.ensures
+          (c.in_ok-put_refusals.ensures
+          ∙ ap₂ (λ (reports : List StorageReport) (calls : List Refused). string_bytes c.put_grants.new.out ++ refusals_text above reports calls) c.deref-3.ensures.value c.deref-4.ensures.value)
+          c.in_ok-put_reports.ensures c.in_ok-put_axes-2.ensures
           c.in_ok-put_notes.ensures;
     }

@@ -11,6 +11,7 @@ returns c =
       course = c.in_ok-course_of.field-0;
       is_course = record {
         limit = c.in_ok-course_of.ensures.limit;
+        grants = c.in_ok-course_of.ensures.grants;
         lives = c.in_ok-course_of.ensures.lives;
         reports = c.in_ok-course_of.ensures.reports;
         sizes = c.in_ok-course_of.ensures.sizes;

@@ -17,7 +17,7 @@ pub loop-life-preserved : goal.loop-life-preserved
 loop-life-preserved c =
     let lives : List Life = c.args.lives.now in
     let i = c.loop-life.life-index in
-    let none : Life = record { number = 0; offset = 0; size = 0; first = 0; last = 0 } in
+    let none : Life = record { number = 0; offset = 0; size = 0; first = 0; last = 0; lived = 0 } in
     record {
       len = omega arith;
       counts = λ k d less. counted_more (λ x. nat_eq x.first k) lives i none (get_or c.loop-life.counts.items k d) (get_or c.add.new.counts.items k d) (omega arith)

@@ -19,7 +19,7 @@ loop-life-preserved c =
     let plot : Plot = c.args.plot.now in
     let ls : List Life = c.args.lives.now in
     let i = c.loop-life.life-index in
-    let none : Life = record { number = 0; offset = 0; size = 0; first = 0; last = 0 } in
+    let none : Life = record { number = 0; offset = 0; size = 0; first = 0; last = 0; lived = 0 } in
     let shape : Shape = c.shape_of-shape.result in
     let is : shape ≡ shape_of plot (get_or ls i none) = c.shape_of-shape.ensures.shape in
     let less : i < length ls = omega arith in

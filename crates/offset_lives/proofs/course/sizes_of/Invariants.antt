@@ -1,10 +1,9 @@
-use Rattle.std.proofs.Common.{◌≡◌, ℕ, ◌+◌, ◌≤◌, length, map, take, get_or}
-use Rattle.offset_script.specs.Machine.{answer_view}
-use Rattle.offset_lives.specs.Growth.{size_after, refusals_from}
+use Rattle.std.proofs.Common.{◌≡◌, ℕ, ◌+◌, ◌≤◌, length, get_or}
+use Rattle.offset_lives.specs.Growth.{size_after}
 use Rattle.offset_lives.specs.Quiet.{replace_all_full}
-use Rattle.offset_lives.proofs.course.growth.Given as goal
+use Rattle.offset_lives.proofs.course.sizes_of.Given as goal
 
--- the sizes and refusals of the commands so far
+-- the sizes after the commands so far
 abbrev pub invariant-loop-i : goal.invariant-loop-i
 invariant-loop-i l =
     let s = l.script in
@@ -13,5 +12,4 @@ invariant-loop-i l =
       size : l.size ≡ size_after l.i s.size s.max_allocs cs;
       len : length l.sizes.items ≡ l.i + 1;
       sizes : (k : ℕ) → k ≤ l.i → get_or l.sizes.items k 0 ≡ size_after k s.size s.max_allocs cs;
-      refused : l.refused.items ≡ refusals_from 0 (take l.i (map answer_view l.answers));
     }

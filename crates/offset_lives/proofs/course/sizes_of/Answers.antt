@@ -1,14 +1,13 @@
-use Rattle.std.proofs.Common.{◌≡◌, ◌+◌, true, false, List, length, map, get_or, ap, ap₂, sym, ◌∙◌, arith}
-use Rattle.std.proofs.lemmas.List.{append-nil, get_or-map, length-map, take_all}
+use Rattle.std.proofs.Common.{◌≡◌, ◌+◌, List, length, map, get_or, ap, ap₂, sym, ◌∙◌, arith}
+use Rattle.std.proofs.lemmas.List.{get_or-map, length-map}
 use Rattle.offset_script.specs.declared.scripts.Command.{Command}
 use Rattle.offset_script.specs.Machine.{answer_view, Answer, State, answers, start}
 use Rattle.offset_script.specs.Totals.{added_units}
-use Rattle.offset_lives.specs.Growth.{is_refusal, refusals_from, size_after}
+use Rattle.offset_lives.specs.Growth.{size_after}
 use Rattle.offset_lives.specs.Quiet.{replace_full, replace_all_full}
 use Rattle.offset_lives.proofs.Backward.{seen_at}
-use Rattle.offset_lives.proofs.Grown.{added_more, added_quiet, refused_step, size_pushed, quiet_sizes, quiet_refusals}
-use Rattle.offset_lives.proofs.course.growth.Goals as goal
-use Rattle.offset_lives.proofs.course.growth.Goals.{then-is_refusal+in_ok-push-3, else-is_refusal}
+use Rattle.offset_lives.proofs.Grown.{added_more, added_quiet, size_pushed, quiet_sizes}
+use Rattle.offset_lives.proofs.course.sizes_of.Goals as goal
 
 pub loop-i-preserved : goal.loop-i-preserved
 loop-i-preserved c =
@@ -29,31 +28,15 @@ loop-i-preserved c =
     let added : c.added_units.result ≡ added_units (get_or cs i command) (get_or (answers cs s) i (answer_view answer)) =
     c.added_units.ensures ∙ sym (added_quiet command (answer_view answer)) ∙ ap₂ added_units (sym quiet) (sym at) in
     let size : c.saturating_add-size.result ≡ size_after (i + 1) script.size script.max_allocs cs = omega (arith, more, added, c.saturating_add-size.ensures, c.loop-i.invariant.size) in
-    let is : is_refusal (get_or given i (answer_view answer)) ≡ c.is_refusal.result = ap is_refusal here ∙ sym c.is_refusal.ensures in
     record {
       size = size;
       len = omega (arith, c.in_ok-push-2.ensures.len);
       sizes = λ k l. ap (λ xs. get_or xs k 0) c.in_ok-push-2.ensures.items
           ∙ size_pushed c.loop-i.sizes.items c.saturating_add-size.result i (λ j. size_after j script.size script.max_allocs cs) c.loop-i.invariant.len c.loop-i.invariant.sizes size k l;
-      refused = elim c.if-is_refusal.branch [
-        | then-is_refusal+in_ok-push-3 w ↦ refused_step given i (answer_view answer) true c.loop-i.refused.items c.if-is_refusal.refused.items (omega arith)
-            (is ∙ w.if-is_refusal.true) c.loop-i.invariant.refused (ap (λ v. v.items) w.refused-is ∙ w.in_ok-push-3.ensures.items)
-        | else-is_refusal w ↦ refused_step given i (answer_view answer) false c.loop-i.refused.items c.if-is_refusal.refused.items (omega arith)
-            (is ∙ w.if-is_refusal.false) c.loop-i.invariant.refused (ap (λ v. v.items) w.refused-is ∙ sym (append-nil c.loop-i.refused.items))
-      ];
     }
 
-pub returns-clause-sizes : goal.returns-clause-sizes
-returns-clause-sizes c =
+pub returns : goal.returns
+returns c =
     let script = c.args.script.now in
     quiet_sizes c.loop-i.sizes.items script.size script.max_allocs script.commands.items
     (omega (arith, c.loop-i.invariant.len, length-map script.commands.items replace_full), λ i l. c.loop-i.invariant.sizes i (omega (arith, length-map script.commands.items replace_full)))
-
-pub returns-clause-refused : goal.returns-clause-refused
-returns-clause-refused c =
-    let script = c.args.script.now in
-    let cs : List Command = replace_all_full script.commands.items in
-    let given : List Answer = map answer_view c.args.answers.now in
-    c.loop-i.invariant.refused
-    ∙ ap (refusals_from 0) (take_all c.loop-i.i given (omega (arith, length-map c.args.answers.now answer_view, c.requires.len)) ∙ c.requires.played)
-    ∙ quiet_refusals script.size script.max_allocs script.commands.items
