@@ -1,7 +1,9 @@
-"""What is listed: answers, live ranges, their sizes, bins; and the ways to a row. All are compared with the answers of the
+"""What is listed: answers, live ranges, their sizes, size classes; and the ways to a row. All are compared with the answers of the
 program, and with a plain list of live ranges that is made of them here."""
 
-from .base import TRACES, holds, play, program, row, same, to, until
+import re
+
+from .base import TRACES, give, holds, play, program, row, same, to, until
 
 
 def live_at(text, p):
@@ -86,7 +88,7 @@ def bins_are_listed(b):
     c = int(full[0][1])
     b.point("#bins", (c % 64 + 3.5) / 67, (c // 64 + 0.5) / 4)
     told = b.run("return $('bin').textContent")
-    holds(told.startswith(f"Bin {c}: blocks of ") and f"; {full[0][5]} free block" in told, "the bin under the pointer", told)
+    holds(told.startswith(f"Class {c}: blocks of ") and f"; {full[0][5]} free block" in told, "the class under the pointer", told)
 
 
 def ways_to_a_row(b):
@@ -119,4 +121,32 @@ def ways_to_a_row(b):
 
 FEW = "space 1000 nodes 32 index 32\nalloc 100\n# texture: rock_albedo\nalloc 90\nreport\nfree 2\n"
 
-ALL = [answers_are_the_program_s, ranges_are_listed, bins_are_listed, ways_to_a_row]
+def one_word_for_a_class(b):
+    """What has a number and sizes is a size class, wherever it is shown."""
+    b.open("#t=voxel-game&p=9000")
+    for place in ("document.body.innerText", "$('help').textContent", "[...document.querySelectorAll('[aria-label]')].map(e => e.ariaLabel).join()"):
+        text = b.run(f"return {place}")
+        holds(len(text) > 20 and not re.search(r"\bbins?\b", text, re.I), "a size class has one name in " + place[:18], text)
+    holds("Size classes and masks" in b.run("return document.body.innerText"), "and it is shown")
+
+
+def moved_ranges_keep_their_age(b):
+    """Grant 2 is live for 50 calls: 25 before `compact` moves it, and 25 after; then grant 3 likewise, resized."""
+    lines = ["space 100 nodes 16 index 32", "alloc 10", "alloc 10", "free 1", *["report"] * 23, "compact", *["report"] * 24, "free 2"]
+    lines += ["alloc 10", *["report"] * 24, "grow 3 20", *["report"] * 24, "free 3"]
+    b.open()
+    give(b, "\n".join(lines) + "\n", "ages.script")
+    found = b.run("const c = colors().ages, t = pictured(S.run, 800, 400); return c.map(a => (t.split(`<path fill='${a}' d='`)[1] || '').split(\"'\")[0].split('z').length - 1)")
+    # grant 1 is live for 2 calls; the ranges of grants 2 and 3 are of 31 to 100 calls, two each
+    same(found[:3], [1, 0, 4], "ranges that were moved or resized are of one age")
+    b.run("go(S.run.count)")
+    b.run("return new Promise(r => { const f = () => S.run.picture && S.run.picture.next === S.run.lk.length ? r() : setTimeout(f, 20); f(); })")
+    pixels = b.run("""const s = S.run.picture.sheet, g = s.getContext('2d'), at = (p, o) => [...g.getImageData(
+        Math.round(p / (S.run.count + 1) * s.width), Math.round(s.height - o / S.run.top * s.height), 1, 1).data.slice(0, 3)].join();
+        return [at(15, 15), at(38, 5), at(60, 5), at(90, 15)]""")
+    same(len(set(pixels)), 1, "and have one colour in the lives")
+    b.run("edit(30, [[2, 2, 0]])")
+    same(b.run("return [S.run.lived(1, 31), S.run.lived(2, 31)]"), [29, 29], "in a branch that ends the grant earlier too")
+
+
+ALL = [answers_are_the_program_s, ranges_are_listed, bins_are_listed, ways_to_a_row, one_word_for_a_class, moved_ranges_keep_their_age]

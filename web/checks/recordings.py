@@ -119,4 +119,21 @@ def links_keep_edits(b):
         same([b.run("return $('fault').textContent !== ''"), b.run("return S.run.count > 0 && $('now').textContent !== ''")], [True, True], f"a faulty link: {bad}")
 
 
-ALL = [long_ones, names_and_commands, five_minutes, links_keep_edits]
+def links_keep_the_view(b):
+    """The part of the space that is shown and the filters of the lists are of the state that a link names."""
+    b.open("#t=voxel-game&p=9000")
+    b.run("zoomAt(300000, 5000); $('only').click(); $('atend').click(); draw()")
+    state = "return [S.zoom, $('shown').textContent, $('only').checked, $('atend').checked, L.calls.count, L.ranges.count, S.p]"
+    kept = b.run(state)
+    holds(kept[0] and kept[1].startswith("Shown: units 297,500 to 302,500"), "a part is shown", kept)
+    b.run("return link()")
+    b.open(b.run("return location.hash"))
+    same(b.run(state), kept, "a link keeps the zoom and the filters")
+    b.open("#t=voxel-game&p=9000")
+    same(b.run("return [S.zoom, $('only').checked, $('atend').checked]"), [None, False, False], "a link without them shows all")
+    for bad in ("z=1", "z=5.1", "z=0.5", "z=0.999999999", "z=1.2.3", "z=", "f=x", "f=er"):
+        b.open("#t=voxel-game&p=9000&" + bad)
+        same([b.run("return $('fault').textContent.startsWith('The link is faulty')"), b.run("return [S.p, S.zoom]")], [True, [9000, None]], "a faulty link: " + bad)
+
+
+ALL = [long_ones, names_and_commands, five_minutes, links_keep_edits, links_keep_the_view]

@@ -67,8 +67,8 @@ for (const id of ['life', 'lifeA']) {
 }
 $('bins').onpointermove = event => {
   const c = binAt(event), n = c < 0 ? 0 : S.run.view(S.p).bins[c];
-  $('bin').textContent = c < 0 ? '' : c >= BINS ? `Bin ${c}: larger than any space.` :
-    `Bin ${c}: blocks of ${sizesOf(c)} units; ${counted(n, 'free block')}.`; };
+  $('bin').textContent = c < 0 ? '' : c >= BINS ? `Class ${c}: larger than any space.` :
+    `Class ${c}: blocks of ${sizesOf(c)} units; ${counted(n, 'free block')}.`; };
 // The keys, wherever the focus is, but in text: what each does.
 const KEYS = new Map([
   ['ArrowLeft', 'one row back', () => to(S.p - 1)], ['ArrowRight', 'one row on', () => to(S.p + 1)],

@@ -1,4 +1,4 @@
-// The canvases: the space, the lives, the bins, and the marks above the slider.
+// The canvases: the space, the lives, the size classes, and the marks above the slider.
 const AGES = [10, 30, 100, 300, 1000, 3000, 10000];
 const ageOf = calls => { let a = 0; while (a < 7 && calls > AGES[a]) a++; return a; };
 const ROWS = 6, GUTTER = 54;
@@ -73,7 +73,7 @@ function drawLives(id, run, p, again) {
     for (const end = Math.min(run.lk.length, s.next + 2000); s.next < end; s.next++) {
       const l = s.next, from = run.lf.list[l], to = Math.min(run.lt.list[l], n);
       const x = from / n * w, z = Math.max(1 / d, (to - from) / n * w);
-      q.fillStyle = c.ages[ageOf(to - from)];
+      q.fillStyle = c.ages[ageOf(run.lived(l, n))];
       q.fillRect(x, h - (run.lo.list[l] + run.ln.list[l]) / run.top * h, z, Math.max(1 / d, run.ln.list[l] / run.top * h));
     }
     if (performance.now() - t > 20) { requestAnimationFrame(again); break; }
@@ -99,7 +99,7 @@ function drawMarks(run) {
   g.fillStyle = colors().mark;
   for (const x of ticks(run, Math.max(1, run.count), w - 16)) g.fillRect(8 + x - 0.5, 0, 1.5, h);
 }
-// The bins: left the top mask, a bit for each word; right a bit for each bin that has a free block.
+// The bins, one for each size class: left the top mask, a bit for each word; right a bit for each that has a free block.
 function drawBins(bins, searched, taken) {
   const [g, w, h] = canvas('bins'), cw = w / 67, ch = h / 4, c = colors();
   for (let y = 0; y < 4; y++) {

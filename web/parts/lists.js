@@ -1,4 +1,4 @@
-// The lists: calls and answers, live ranges, sizes, bins. Only the rows that are visible are made.
+// The lists: calls and answers, live ranges, sizes, size classes. Only the rows that are visible are made.
 const LINE = 22, MOST_HEIGHT = 8e6;
 class List {
   // draw(element, row) fills a row; pick(row) is called where one is chosen.
@@ -85,7 +85,7 @@ function showSizes() {
     return row;
   }));
 }
-// The bins that have free blocks.
+// The size classes that have free blocks.
 function showBins(v, searched, taken) {
   const list = [];
   v.bins.forEach((n, c) => { if (n) list.push([c, n]); });
@@ -97,6 +97,6 @@ function showBins(v, searched, taken) {
     for (const text of [c, sizesOf(c), whole(n), whole(sum.get(c) || 0)]) row.insertCell().textContent = text;
     return row;
   }));
-  $('binsum').textContent = `${counted(v.blocks.length - v.blocks.filter(b => b.k).length, 'free block')} in ${counted(list.length, 'bin')}.` +
-    (searched < 256 ? ` Searched from bin ${searched}, ${sizesOf(searched)} units` + (taken < 256 ? `; took bin ${taken}.` : '.') : '');
+  $('binsum').textContent = `${counted(v.blocks.length - v.blocks.filter(b => b.k).length, 'free block')} of ${counted(list.length, 'class', 'classes')}.` +
+    (searched < 256 ? ` Searched from class ${searched}, ${sizesOf(searched)} units` + (taken < 256 ? `; took a block of class ${taken}.` : '.') : '');
 }

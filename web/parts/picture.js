@@ -8,7 +8,7 @@ function pictured(run, w, h) {
   const lives = c.ages.map(() => []);
   for (let l = 0; l < run.lk.length; l++) {
     const from = run.lf.list[l], to = Math.min(run.lt.list[l], n), o = run.lo.list[l];
-    lives[ageOf(to - from)].push(`M${x(from)} ${y(o + run.ln.list[l])}H${x(to)}V${y(o)}H${x(from)}z`);
+    lives[ageOf(run.lived(l, n))].push(`M${x(from)} ${y(o + run.ln.list[l])}H${x(to)}V${y(o)}H${x(from)}z`);
   }
   // for each point of the width the least of the calls there
   const most = Math.max(1, ...run.sizes.map(s => s[1])), wide = Math.round(right - left), free = [], largest = [];

@@ -1,6 +1,6 @@
 // A run: the calls of a text, played. It keeps eight numbers for each call, the life of each range, and copies of the
 // module's memory, from which a position is reached again.
-const EVERY = 2048, MARKED = 1 << 29;
+const EVERY = 2048, MARKED = 1 << 29, ALIVE = 0xffffffff;
 const ANSWER = { grant: 1, refused: 2, freed: 3, resized: 4, compacted: 5, gone: 6, reset: 7, extended: 8, full: 9, size: 10 };
 const REASONS = ['', 'too few nodes are left', 'the request is too large for the space', 'too few units are free',
   'no free block is large enough until the space is compacted'];
@@ -13,7 +13,9 @@ class Run {
     this.used = new Growing(Uint32Array, calls.length / 3 + 1);
     // lives, one number each: grant, offset, units, first and last row, row of the grant
     for (const c of ['lk', 'lo', 'ln', 'lf', 'lt', 'lb']) this[c] = new Growing(Uint32Array, 1024);
+    // by grant: the row that granted it, and the one that ended it
     this.born = new Growing(Uint32Array, 1024); this.born.push(0);
+    this.died = new Growing(Uint32Array, 1024); this.died.push(0);
     this.live = new Map(); this.refusals = []; this.sizes = [[0, head[0]]]; this.top = 1; this.inUse = 0;
   }
   get all() { return this.calls.length / 3; }
@@ -42,26 +44,29 @@ class Run {
   }
   track(r) {
     const i = this.count++, now = this.count, k = r[1], [op, a] = this.calls.list.subarray(3 * i, 3 * i + 2);
-    if (r[0] === ANSWER.grant) { while (this.born.length <= k) this.born.push(now); this.open(k, r[2], r[3], now, now); }
+    if (r[0] === ANSWER.grant) { while (this.born.length <= k) { this.born.push(now); this.died.push(ALIVE); } this.open(k, r[2], r[3], now, now); }
     else if (r[0] === ANSWER.refused) this.refusals.push(now);
-    else if (r[0] === ANSWER.freed) this.close(k, now);
+    else if (r[0] === ANSWER.freed) this.die(k, now);
     else if (r[0] === ANSWER.resized) { const born = this.born.list[k]; this.close(k, now); this.open(k, r[2], r[3], now, born); }
     else if (r[0] === ANSWER.compacted) {
       for (const b of this.m.view().blocks) if (b.k && this.lo.list[this.live.get(b.k)] !== b.o) {
         this.close(b.k, now); this.open(b.k, b.o, b.n, now, this.born.list[b.k]); }
-    } else if (r[0] === ANSWER.reset) for (const k of [...this.live.keys()]) this.close(k, now);
+    } else if (r[0] === ANSWER.reset) for (const k of [...this.live.keys()]) this.die(k, now);
     else if (r[0] === ANSWER.extended && op === 7) this.sizes.push([now, this.sizes.at(-1)[1] + a]);
     this.rows.push(...r); this.used.push(this.inUse);
   }
   open(k, o, n, from, born) {
     this.live.set(k, this.lk.length);
-    this.lk.push(k); this.lo.push(o); this.ln.push(n); this.lf.push(from); this.lt.push(0xffffffff); this.lb.push(born);
+    this.lk.push(k); this.lo.push(o); this.ln.push(n); this.lf.push(from); this.lt.push(ALIVE); this.lb.push(born);
     this.inUse += n; this.top = Math.max(this.top, o + n);
   }
   close(k, now) {
     const l = this.live.get(k);
     if (l !== undefined) { this.lt.list[l] = now; this.inUse -= this.ln.list[l]; this.live.delete(k); }
   }
+  die(k, now) { this.close(k, now); this.died.list[k] = now; }
+  // How many of so many calls the grant of a life is live: a range that is moved or resized keeps its age.
+  lived(l, n) { return Math.min(this.died.list[this.lk.list[l]], n) - this.lb.list[l]; }
   call(i) { return this.calls.list.subarray(3 * i, 3 * i + 3); }
   row(i) { return this.rows.list.subarray(8 * i, 8 * i + 8); }
   // The units of the space after so many calls.
@@ -100,13 +105,14 @@ class Run {
     b.refusals = this.refusals.filter(p => p <= kept); b.sizes = this.sizes.filter(([p]) => p <= kept);
     b.marks = this.marks.filter((_, i) => i * this.every <= kept);
     for (let l = 0; l < this.lk.length; l++) if (this.lf.list[l] <= kept) {
-      const to = this.lt.list[l] > kept ? 0xffffffff : this.lt.list[l];
-      if (to === 0xffffffff) b.live.set(this.lk.list[l], b.lk.length);
+      const to = this.lt.list[l] > kept ? ALIVE : this.lt.list[l];
+      if (to === ALIVE) b.live.set(this.lk.list[l], b.lk.length);
       b.lk.push(this.lk.list[l]); b.lo.push(this.lo.list[l]); b.ln.push(this.ln.list[l]); b.lf.push(this.lf.list[l]);
       b.lt.push(to); b.lb.push(this.lb.list[l]); b.top = Math.max(b.top, this.lo.list[l] + this.ln.list[l]);
     }
-    b.born = new Growing(Uint32Array, 1024);
-    for (let k = 0; k < this.born.length && this.born.list[k] <= kept; k++) b.born.push(this.born.list[k]);
+    b.born = new Growing(Uint32Array, 1024); b.died = new Growing(Uint32Array, 1024);
+    for (let k = 0; k < this.born.length && this.born.list[k] <= kept; k++) {
+      b.born.push(this.born.list[k]); b.died.push(this.died.list[k] > kept ? ALIVE : this.died.list[k]); }
     b.m.start(b.head); b.at = 0; b.left = MARKED; b.seek(kept);
     for (const e of edits) { b.calls.push(...e); b.step(1); }
     return b;

@@ -137,8 +137,9 @@ function save(blob, name) {
   S.saved = blob;
   say(`Saved: ${name}, ${counted(blob.size, 'byte')}.`);
 }
-// The state in the fragment: the text (deflated, or its name), the calls that were added and from where, the position.
-const MOST_LINK = 2e6;
+// The state in the fragment: the text (deflated, or its name), the calls that were added and from where, the position, the
+// part of the space that is shown, and what is left out of the lists.
+const MOST_LINK = 2e6, FILTERS = { r: 'only', e: 'atend' };
 const b64 = a => { let s = ''; for (let i = 0; i < a.length; i += 32768) s += String.fromCharCode(...a.subarray(i, i + 32768));
   return btoa(s).replace(/\+/g, '-').replace(/\//g, '_').replace(/=/g, ''); };
 const un64 = s => Uint8Array.from(atob(s.replace(/-/g, '+').replace(/_/g, '/')), c => c.charCodeAt(0));
@@ -149,6 +150,9 @@ async function link() {
   if (S.name === 'own') q.set('s', b64(await through(S.bytes, new CompressionStream('deflate-raw')))); else q.set('t', S.name);
   if (S.run !== S.base) { q.set('kept', S.run.kept); q.set('c', S.run.edits.flat().join('.')); }
   if (S.other) q.set('x', S.other.as.join('.'));
+  if (S.zoom) q.set('z', S.zoom.join('.'));
+  const filters = Object.keys(FILTERS).filter(f => $(FILTERS[f]).checked).join('');
+  if (filters) q.set('f', filters);
   if (String(q).length > MOST_LINK) {
     say(`This run is too large for a link (${counted(String(q).length, 'character')}): send its file, and the number of the row.`, true);
     return;
@@ -179,6 +183,14 @@ async function restore() {
       S.run = S.base.branch(kept, edits); showNames();
     }
     if (q.has('x')) await compare(numbersOf(q.get('x')));
+    const filters = q.get('f') || '';
+    for (const f of Object.keys(FILTERS)) $(FILTERS[f]).checked = filters.includes(f);
+    if (!/^r?e?$/.test(filters)) throw Error();
+    if (q.has('z')) {
+      const [from, to, more] = numbersOf(q.get('z')), size = S.run.sizeAt(p === null ? 0 : Math.min(p, S.run.count));
+      if (to === undefined || more !== undefined || to - from < ROWS || to > size) throw Error();
+      S.zoom = [from, to];
+    }
   } catch (fault) {
     if (fault) isFaulty = true;
     if (!S.run) {

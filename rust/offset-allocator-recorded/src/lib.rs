@@ -1,4 +1,5 @@
-//! Records the calls of an allocator as a text, line by line as they happen, and reads and plays such recordings.
+//! Records the calls of an allocator as a text, line by line as they happen, and reads, plays and draws such
+//! recordings.
 //!
 //! Written by hand, over the crates that are printed from proved sources: what a recording has is tested, not proved.
 #![doc = include_str!("../README.md")]
@@ -6,11 +7,13 @@
 #![warn(missing_docs)]
 
 mod allocator;
+mod drawing;
 mod guarded;
 mod playing;
 mod reading;
 mod tape;
 
+pub use drawing::{course, draw};
 pub use offset_allocator_guarded::{GuardedOf, Ticket};
 pub use offset_allocator_proved::{AllocError, Allocation, AllocatorOf, Global, Tables};
 pub use offset_script::{Command, IndexWidth, RunFault};
