@@ -81,6 +81,7 @@ LINTS = {
         "clippy::derivable_impls": "an `impl Default` is where a contract says what the value is",
         "clippy::len_without_is_empty": "tables are never empty: they have a node from the start",
         "clippy::manual_map": "a `match` needs no closure, whose calls would need a proof",
+        "clippy::needless_range_loop": "a loop over places calls no iterator, which might count accesses of its own",
         "unused_variables": "a parameter may be there for a contract only",
     },
     "offset_guarded": {

@@ -27,7 +27,13 @@ fn call(space: &mut Guarded, held: &mut Vec<Ticket>, random: &mut Random) -> (Op
         // tickets that were freed stay in the list
         (4 | 5, n) => (None, space.free(held[random.below(n) as usize])),
         (6, n) => (None, space.grow_in_place(held[random.below(n) as usize], size) == Some(true)),
-        (_, _) => (None, if random.below(40) == 0 { space.reset() } else { space.compact(&mut |_| {}) } == ()),
+        (_, _) => {
+            match random.below(40) {
+                0 => space.reset(),
+                _ => space.compact(&mut |_| {}),
+            }
+            (None, true)
+        }
     }
 }
 

@@ -26,6 +26,7 @@
 #![expect(clippy::derivable_impls)] // an `impl Default` is where a contract says what the value is
 #![expect(clippy::len_without_is_empty)] // tables are never empty: they have a node from the start
 #![expect(clippy::manual_map)] // a `match` needs no closure, whose calls would need a proof
+#![expect(clippy::needless_range_loop)] // a loop over places calls no iterator, which might count accesses of its own
 #![expect(unused_variables)] // a parameter may be there for a contract only
 
 extern crate alloc;
