@@ -88,7 +88,8 @@ LINTS = {
         "clippy::manual_map": "a `match` needs no closure, whose calls would need a proof",
     },
     "offset_heaps": {
-        "clippy::manual_map": "a `match` needs no closure, whose calls would need a proof",
+        "clippy::redundant_pattern_matching": "a `match` needs no call, whose contract a proof would need",
+        "clippy::single_match": "both cases are proved",
         "unused_variables": "a parameter may be there for a contract only",
     },
     "offset_script": {},

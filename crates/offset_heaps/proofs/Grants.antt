@@ -1,5 +1,6 @@
 -- Grants: of a heap that was there, and of a new one.
-use Rattle.std.proofs.Common.{◌≡◌, ◌↔◌, ℕ, ◌+◌, ◌<◌, ◌≤◌, ◌⊎◌, true, false, Result, Ok, Err, IfOk, IfErr, length, List, Option, Some, None, slice_set, nat_eq, refl, sym, ap, ◌∙◌, subst, inl, inr, arith}
+use Rattle.std.proofs.Common.{◌≡◌, ◌↔◌, ℕ, ◌+◌, ◌<◌, ◌≤◌, ◌⊎◌, true, false, Result, Ok, Err, IfOk, IfErr, length, List, Option, Some, None, slice_set, nat_eq, refl, sym, ap, ◌∙◌, subst, inl}
+use Rattle.std.proofs.Common.{inr, arith}
 use Rattle.std.proofs.lemmas.Bool.{cases_Bool, cases_eq}
 use Rattle.offset_allocator.specs.Requests.{blocks_needed, units_needed}
 use Rattle.offset_guarded.specs.Guard.{Guard}
@@ -9,7 +10,8 @@ use Rattle.offset_heaps.specs.declared.limits.Limits.{Limits}
 use Rattle.offset_heaps.specs.declared.place.Granted.{Granted}
 use Rattle.offset_heaps.specs.declared.refusal.Refusal.{Refusal}
 use Rattle.offset_heaps.specs.declared.refusal.Refusal.TheVariants.{Empty, TooLarge, Full, Memory}
-use Rattle.offset_heaps.specs.Heaps.{Heaps, Adds, Grants, IsBefore, IsFirstFit, IsForRoom, IsNext, IsWhy, NoneFits, IsNew, IsSame, IsSpareLarger, IsSpareUsual, IsUsual, KeepsOthers, heap_at, larger_limit, range_in, range_of, slot}
+use Rattle.offset_heaps.specs.Heaps.{Heaps, Adds, Grants, IsBefore, IsFirstFit, IsForRoom, IsNext, IsWhy, NoneFits, IsNew, IsSame, IsSpareLarger, IsSpareUsual, IsUsual, KeepsOthers, heap_at}
+use Rattle.offset_heaps.specs.Heaps.{larger_limit, last_realm, range_in, range_of, slot}
 use Rattle.offset_heaps.specs.Slots.{Changes, KeepsOthersIn, Serves, ServesTight}
 use Rattle.offset_heaps.proofs.Numbers.{slot_same}
 use Rattle.offset_heaps.proofs.Places.{none_if, put_keeps, same_realm, shown}
@@ -61,7 +63,7 @@ module _ (hs ks : Heaps) (number size align : ℕ) (o : Option Guard) (ticket : 
         before = by.before;
         after = by.after;
         heap = inr (refl, spare.2, inr (unusual, subst (IsNew size larger_limit (hs.made + 1)) (some_same g by.before by.was) new));
-        step = inr (refl, by.step);
+        step = inr (refl, by.step, by.accesses);
         grants = by.grants;
         realm = refl;
         number = there;
@@ -73,6 +75,19 @@ pub granted_since : (size align : ℕ) (hs ks ls : Heaps) (grant : Granted) → 
 granted_since size align hs ks ls grant same g =
     let h : Grants size align (record hs { accesses = ks.accesses }) ls grant = subst (λ (k : Heaps). Grants size align k ls grant) same g in
     record { before = h.before; after = h.after; heap = h.heap; step = h.step; grants = h.grants; realm = h.realm; number = h.number; heaps = h.heaps }
+
+pub granted_if_since : (size align : ℕ) (hs ks ls : Heaps) (r : Result Granted Refusal) → IsSame hs ks → IfOk r (Grants size align ks ls) → IfOk r (Grants size align hs ls)
+granted_if_since size align hs ks ls (Ok grant) same g = granted_since size align hs ks ls grant same g
+granted_if_since size align hs ks ls (Err why) same g = g
+
+-- the first spare number for a larger heap is the next one for a request that is not usual
+pub next_larger : (units k : ℕ) (hs ks : Heaps) (r : Result Granted Refusal) → IsSame hs ks → (IsUsual units hs → ⊥) → IsSpareLarger k hs → ((j : ℕ) → j < k → IsSpareLarger j hs → ⊥)
+    → IfOk r (λ g. (g.is_new ≡ true) × (g.place.heap ≡ k) × (ks.made < last_realm)) → IfOk r (λ g. (g.is_new ≡ true) × IsNext units g.place.heap hs)
+next_larger units k hs ks (Ok g) same unusual spare first made =
+    let now = ap (λ (h : Heaps). h.made) same in
+    let left : hs.made < last_realm = subst (λ n. n < last_realm) now made.2 in
+    (made.0, subst (λ n. IsNext units n hs) (sym made.1) (left, inr (unusual, spare, first)))
+next_larger units k hs ks (Err why) same unusual spare first made = made
 
 module _ (size align : ℕ) (hs ks : Heaps) (grant : Granted) (g : Grants size align hs ks grant) where
   slots : ks.slots ≡ slice_set hs.slots grant.place.heap (Some g.after)

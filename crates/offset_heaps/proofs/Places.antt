@@ -128,7 +128,8 @@ not_used (Some p) h = rw h refl
 
 pub empty_range : (t : Ticket) (o : Option Guard) → is_empty o ≡ true → range_in t o ≡ None
 empty_range t None e = refl
-empty_range t (Some g) e = none_if (guarded.fits t g) (named.range_of t.name g.space) (not_used (place_of t.name g.space.blocks) (none_used t.name g.space.blocks (eqb-true (used_of g.space.blocks) 0 e)))
+empty_range t (Some g) e = none_if (guarded.fits t g) (named.range_of t.name g.space) (not_used (place_of t.name g.space.blocks)
+    (none_used t.name g.space.blocks (eqb-true (used_of g.space.blocks) 0 e)))
 
 -- every place keeps its range where an empty heap is dropped
 pub dropped_keeps : (hs ks : Heaps) (k : ℕ) → is_empty (heap_at k hs) ≡ true → heap_at k ks ≡ None → ks.realm ≡ hs.realm → KeepsOtherHeaps k hs ks → (p : Place) → range_of p ks ≡ range_of p hs

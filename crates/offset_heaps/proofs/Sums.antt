@@ -1,5 +1,6 @@
 -- Sums over heaps, number by number.
-use Rattle.std.proofs.Common.{◌≡◌, ℕ, zero, suc, ◌+◌, ◌<◌, ◌≤◌, max, true, false, length, List, [], ◌∷◌, Option, Some, None, take, if◌then◌else◌, nat_eq, refl, sym, ap, ap₂, ◌∙◌, inl, inr, arith, add-one}
+use Rattle.std.proofs.Common.{◌≡◌, ℕ, zero, suc, ◌+◌, ◌<◌, ◌≤◌, max, true, false, length, List, [], ◌∷◌, Option, Some, None, take, if◌then◌else◌, nat_eq, refl, sym, ap, ap₂, ◌∙◌, inl, inr}
+use Rattle.std.proofs.Common.{arith, add-one}
 use Rattle.std.proofs.lemmas.Bool.{cases_eq, cases_lt}
 use Rattle.offset_allocator.specs.View.{used_of}
 use Rattle.offset_guarded.specs.Guard.{Guard}

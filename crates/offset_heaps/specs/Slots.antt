@@ -1,7 +1,9 @@
 -- What a call leaves of the heap of one number.
-use Rattle.std.specs.Prelude.{◌≡◌, ℕ, ◌+◌, ◌%◌, ◌<◌, ◌≤◌, ◌⊎◌, List, Option, Some, None, true, false, take, slice_set}
+use Rattle.std.specs.Prelude.{◌≡◌, ℕ, ◌+◌, ◌*◌, ◌%◌, ◌<◌, ◌≤◌, ◌⊎◌, List, Option, Some, None, true, false, length, take, slice_set}
+use Rattle.offset_allocator.specs.Classes.{down}
 use Rattle.offset_allocator.specs.Relations.{Aligns, Frees, Resets}
 use Rattle.offset_allocator.specs.Tight.{AlignsTight, CanHold}
+use Rattle.offset_allocator.specs.View.{bin_at}
 use Rattle.offset_guarded.specs.Guard.{Guard, HasSerialLeft, grant_of}
 use Rattle.offset_guarded.specs.Guard as guarded
 use Rattle.offset_guarded.specs.declared.ticket.Ticket.{Ticket}
@@ -31,6 +33,7 @@ pub record ServesTight (size : ℕ) (old new : Option Guard) (t : Ticket) : Type
   pub is : new ≡ Some after
   pub step : AlignsTight size 1 before.space after.space (Some (grant_of t))
   pub grants : guarded.Grants size before after t
+  pub accesses : after.space.accesses ≤ before.space.accesses + 140 + 6 * length (bin_at before.space.order (down size))
 
 -- every other ticket has the range that it had
 abbrev pub KeepsOthersIn : Ticket → Option Guard → Option Guard → Type 0

@@ -1,5 +1,6 @@
 //! Heaps that are given back: empty ones, those of a number, and what all of them granted.
-ghost use Rattle.std.specs.Prelude.{ℕ, ◌≡◌, ◌↔◌, ◌+◌, ◌*◌, ◌^◌, ◌<◌, ◌≤◌, None, Some, IsSome, IsTrue, IfSome, false};
+ghost use Rattle.std.specs.Prelude.{ℕ, ◌≡◌, ◌↔◌, ◌+◌, ◌*◌, ◌^◌, ◌<◌, ◌≤◌, None, Some, IsSome, IsTrue};
+ghost use Rattle.std.specs.Prelude.{IfSome, false};
 ghost use Rattle.std.specs.Prelude.{length, true};
 ghost use Rattle.offset_heaps.specs.Heaps.{slot};
 ghost use Rattle.offset_heaps.specs.Slots.{ResetsIn};
@@ -37,13 +38,15 @@ fn reset_all<T: Tables>(
 
 impl<T: Tables> HeapsOf<T> {
     ghost use Rattle.offset_heaps.specs.Heaps.{heap_at, is_empty, numbers, range_of, empties};
-    ghost use Rattle.offset_heaps.specs.Heaps.{FreesIn, IsLive, IsSame, KeepsAll, KeepsOthers, KeepsOtherHeaps, Puts, TakesFewSteps};
+    ghost use Rattle.offset_heaps.specs.Heaps.{FreesIn, IsLive, IsSame, KeepsAll, KeepsOthers};
+    ghost use Rattle.offset_heaps.specs.Heaps.{KeepsOtherHeaps, Puts, TakesFewSteps};
 
-    /// Drops the last empty heap, by number, if more than `keep` heaps are empty, and returns its number: drop its buffer.
-    /// `None` is returned where at most `keep` are empty; then nothing changes. Call it until it returns `None`.
+    /// Drops the last empty heap, by number, if more than `keep` heaps are empty, and returns its number:
+    /// drop its buffer. `None` is returned where at most `keep` are empty; then nothing changes. Call it
+    /// until it returns `None`.
     ///
-    /// No place loses its range, and a place that the heap granted is never live again, though a later heap may have its
-    /// number. It reads the slot of each number once.
+    /// No place loses its range, and a place that the heap granted is never live again, though a later heap
+    /// may have its number. It reads the slot of each number once.
     pub fn drop_empty(&mut self, keep: u32) -> Option<u32>
         ensures kept { result ≡ None ↔ (empties self.old.slots ≤ keep) }
         ensures same { result ≡ None → IsSame self.old self.new }
@@ -65,8 +68,8 @@ impl<T: Tables> HeapsOf<T> {
         Some(last)
     }
 
-    /// Drops the heap of a number, if it is empty, and returns whether it did: then drop its buffer. A caller that asks
-    /// this of the heap of each place that it frees keeps no empty heap, and walks over none.
+    /// Drops the heap of a number, if it is empty, and returns whether it did: then drop its buffer. A caller
+    /// that asks this of the heap of each place that it frees keeps no empty heap, and walks over none.
     pub fn drop_heap(&mut self, number: u32) -> bool
         ensures done { IsTrue result ↔ (is_empty (heap_at number self.old) ≡ true) }
         ensures heaps { result ≡ true → Puts number None self.old self.new }
@@ -80,8 +83,9 @@ impl<T: Tables> HeapsOf<T> {
         self.give_up(number)
     }
 
-    /// Takes back the heap of a number, with all that it granted, and returns whether there was one: where the buffer of a
-    /// new heap can't be made, or is lost. No place of it is ever live again, and all other heaps stay.
+    /// Takes back the heap of a number, with all that it granted, and returns whether there was one: where
+    /// the buffer of a new heap can't be made, or is lost. No place of it is ever live again, and all other
+    /// heaps stay.
     pub fn give_up(&mut self, number: u32) -> bool
         ensures done { IsTrue result ↔ IsSome (heap_at number self.old) }
         // Then its number has no heap, and all else stays.
@@ -101,8 +105,9 @@ impl<T: Tables> HeapsOf<T> {
         true
     }
 
-    /// Frees the range of a place, as `GuardedOf::free` does in its heap, and returns `true`; or `false` where the place is
-    /// not live, and then nothing changes. The heap stays, also where it is empty then: `drop_empty` drops it.
+    /// Frees the range of a place, as `GuardedOf::free` does in its heap, and returns `true`; or `false`
+    /// where the place is not live, and then nothing changes. The heap stays, also where it is empty then:
+    /// `drop_empty` drops it.
     pub fn free(&mut self, place: Place) -> bool
         // It is done exactly when the place is live.
         ensures done { IsTrue result ↔ IsLive place self.old }
@@ -130,8 +135,8 @@ impl<T: Tables> HeapsOf<T> {
         true
     }
 
-    /// Makes the space of each heap one free block again. No earlier place is ever live again. All heaps stay, for
-    /// `drop_empty`.
+    /// Makes the space of each heap one free block again. No earlier place is ever live again. All heaps
+    /// stay, for `drop_empty`.
     pub fn reset(&mut self)
         ensures gone { (p : Place) → range_of p self.new ≡ None }
         ensures heaps { (k : ℕ) → ResetsIn (heap_at k self.old) (heap_at k self.new) }

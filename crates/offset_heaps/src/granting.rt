@@ -1,5 +1,6 @@
 //! Requests: which heap grants one, and when another heap is made for it.
-ghost use Rattle.std.specs.Prelude.{ℕ, ◌≡◌, ◌↔◌, ◌+◌, ◌*◌, ◌%◌, ◌^◌, ◌<◌, ◌≤◌, ◌⊎◌, None, Some, Ok, Err, false, true, length};
+ghost use Rattle.std.specs.Prelude.{ℕ, ◌≡◌, ◌↔◌, ◌+◌, ◌*◌, ◌%◌, ◌^◌, ◌<◌, ◌≤◌, ◌⊎◌, None, Some, Ok};
+ghost use Rattle.std.specs.Prelude.{Err, false, true, length};
 ghost use Rattle.std.specs.Prelude.{IsTrue, IfOk, IfErr, IfSome, MatchOption, OnErr};
 ghost use Rattle.offset_allocator.specs.Relations.{IsAlignment};
 ghost use Rattle.offset_allocator.specs.Requests.{blocks_needed, units_needed};
@@ -28,8 +29,10 @@ fn below(found: Option<u32>, limit: u32) -> Option<u32>
 }
 
 impl<T: Tables> HeapsOf<T> {
-    ghost use Rattle.offset_heaps.specs.Heaps.{heap_at, range_of, KeepsOthers, Grants, IsFirstFit, IsNext, IsSame};
-    ghost use Rattle.offset_heaps.specs.Heaps.{IsSpareLarger, IsSpareUsual, IsUsual, IsWhy, NoneFits, TakesFewSteps};
+    ghost use Rattle.offset_heaps.specs.Heaps.{heap_at, range_of, KeepsOthers, Grants, IsFirstFit};
+    ghost use Rattle.offset_heaps.specs.Heaps.{IsNext, IsSame};
+    ghost use Rattle.offset_heaps.specs.Heaps.{IsSpareLarger, IsSpareUsual, IsUsual, IsWhy, NoneFits};
+    ghost use Rattle.offset_heaps.specs.Heaps.{TakesFewSteps};
     ghost use Rattle.offset_heaps.specs.Heaps.{Adds, IsForRoom, IsWhyNotMade, last_realm, numbers, room_of};
 
     // The first heap that has room for a request.
@@ -40,7 +43,8 @@ impl<T: Tables> HeapsOf<T> {
             (λ k. IsFirstFit (blocks_needed align) units k self.old) }
         ensures there { IfSome result (λ k. k < length self.old.slots) }
         ensures same { IsSame self.old self.new }
-        ensures steps { (bits : ℕ) → numbers self.old ≤ 2 ^ bits → self.new.accesses ≤ self.old.accesses + bits + 1 }
+        ensures steps { (bits : ℕ) → numbers self.old ≤ 2 ^ bits
+            → self.new.accesses ≤ self.old.accesses + bits + 1 }
     {
         self.index.first_fit(units, align, &mut self.accesses)
     }
@@ -62,7 +66,8 @@ impl<T: Tables> HeapsOf<T> {
         ensures first { MatchOption result ((k : ℕ) → IsSpareUsual k self.old → ⊥)
             (λ k. IsSpareUsual k self.old × ((j : ℕ) → j < k → IsSpareUsual j self.old → ⊥)) }
         ensures same { IsSame self.old self.new }
-        ensures steps { (bits : ℕ) → numbers self.old ≤ 2 ^ bits → self.new.accesses ≤ self.old.accesses + bits + 1 }
+        ensures steps { (bits : ℕ) → numbers self.old ≤ 2 ^ bits
+            → self.new.accesses ≤ self.old.accesses + bits + 1 }
     {
         let found = self.index.spare.first_at_least(1, &mut self.accesses);
         below(found, self.limits.most)
@@ -73,7 +78,8 @@ impl<T: Tables> HeapsOf<T> {
         ensures first { MatchOption result ((k : ℕ) → IsSpareLarger k self.old → ⊥)
             (λ k. IsSpareLarger k self.old × ((j : ℕ) → j < k → IsSpareLarger j self.old → ⊥)) }
         ensures same { IsSame self.old self.new }
-        ensures steps { (bits : ℕ) → numbers self.old ≤ 2 ^ bits → self.new.accesses ≤ self.old.accesses + bits + 1 }
+        ensures steps { (bits : ℕ) → numbers self.old ≤ 2 ^ bits
+            → self.new.accesses ≤ self.old.accesses + bits + 1 }
     {
         self.index.spare.first_at_least(2, &mut self.accesses)
     }
@@ -140,7 +146,8 @@ impl<T: Tables> HeapsOf<T> {
         ensures why { IfErr result (IsWhyNotMade self.old) }
         ensures same { OnErr result (IsSame self.old self.new) }
         ensures grants { IfOk result (Grants size align self.old self.new) }
-        ensures made { IfOk result (λ g. (g.is_new ≡ true) × (g.place.heap ≡ number) × (self.old.made < last_realm)) }
+        ensures made { IfOk result (λ g. (g.is_new ≡ true) × (g.place.heap ≡ number)
+            × (self.old.made < last_realm)) }
         ensures aligned { IfOk result (λ g. g.place.ticket.offset % align ≡ 0) }
         ensures steps { (bits : ℕ) → numbers self.old ≤ 2 ^ bits
             → self.new.accesses ≤ self.old.accesses + 12 * bits + 8 }
@@ -162,7 +169,8 @@ impl<T: Tables> HeapsOf<T> {
         ensures why { IfErr result (IsWhyNotMade self.old) }
         ensures same { OnErr result (IsSame self.old self.new) }
         ensures grants { IfOk result (Grants size align self.old self.new) }
-        ensures made { IfOk result (λ g. (g.is_new ≡ true) × (g.place.heap ≡ number) × (self.old.made < last_realm)) }
+        ensures made { IfOk result (λ g. (g.is_new ≡ true) × (g.place.heap ≡ number)
+            × (self.old.made < last_realm)) }
         ensures aligned { IfOk result (λ g. g.place.ticket.offset % align ≡ 0) }
         ensures steps { (bits : ℕ) → numbers self.old ≤ 2 ^ bits
             → self.new.accesses ≤ self.old.accesses + 12 * bits + 8 }
@@ -187,7 +195,8 @@ impl<T: Tables> HeapsOf<T> {
         ensures not_empty { result ≡ Err Refusal.Empty → ⊥ }
         ensures same { OnErr result (IsSame self.old self.new) }
         ensures grants { IfOk result (Grants size align self.old self.new) }
-        ensures made { IfOk result (λ g. (g.is_new ≡ true) × IsNext (units_needed size align) g.place.heap self.old) }
+        ensures made { IfOk result (λ g. (g.is_new ≡ true)
+            × IsNext (units_needed size align) g.place.heap self.old) }
         ensures aligned { IfOk result (λ g. g.place.ticket.offset % align ≡ 0) }
         ensures steps { (bits : ℕ) → numbers self.old ≤ 2 ^ bits
             → self.new.accesses ≤ self.old.accesses + 13 * bits + 16 }
@@ -234,8 +243,8 @@ impl<T: Tables> HeapsOf<T> {
 
     /// Grants `size` units of one heap: what `allocate_aligned(size, 1)` grants.
     ///
-    /// A heap has room exactly for requests up to the `largest_free_region` of its report, while it has a serial left: see
-    /// `laws::room_is_reported`.
+    /// A heap has room exactly for requests up to the `largest_free_region` of its report, while it has a
+    /// serial left: see `laws::room_is_reported`.
     pub fn allocate(&mut self, size: u32) -> Result<Granted, Refusal>
         ensures no_room { IsForRoom result
             ↔ ((1 ≤ size) × NoneFits 1 size self.old × ((k : ℕ) → IsNext size k self.old → ⊥)) }
@@ -257,16 +266,18 @@ impl<T: Tables> HeapsOf<T> {
 
     /// Grants `size` units of one heap that begin at a multiple of `align`, a power of two, in that heap.
     ///
-    /// The heap is the first one, by number, that has room: what `GuardedOf::allocate_aligned` grants there, as it grants
-    /// it. Where none has, another heap is made. If a fresh heap of the usual size has room, it is such a heap, with the
-    /// first number below `most` that no heap has; else a larger heap of exactly `size` units, all of which are granted,
-    /// with the first number from `most` on that no heap has. Only then memory is requested.
+    /// The heap is the first one, by number, that has room: what `GuardedOf::allocate_aligned` grants there,
+    /// as it grants it. Where none has, another heap is made. If a fresh heap of the usual size has room, it
+    /// is such a heap, with the first number below `most` that no heap has; else a larger heap of exactly
+    /// `size` units, all of which are granted, with the first number from `most` on that no heap has. Only
+    /// then memory is requested.
     ///
     /// Where the request is refused, all is as it was, and the `Refusal` says why.
     pub fn allocate_aligned(&mut self, size: u32, align: u32) -> Result<Granted, Refusal>
         requires power { IsAlignment align }
         // It is refused for room exactly when no heap has room, and no other may be made for it.
-        ensures no_room { IsForRoom result ↔ ((1 ≤ size) × NoneFits (blocks_needed align) (units_needed size align) self.old
+        ensures no_room { IsForRoom result ↔ ((1 ≤ size)
+            × NoneFits (blocks_needed align) (units_needed size align) self.old
             × ((k : ℕ) → IsNext (units_needed size align) k self.old → ⊥)) }
         ensures empty { size ≡ 0 → result ≡ Err Refusal.Empty }
         ensures why { IfErr result (IsWhy size align self.old) }
@@ -277,8 +288,8 @@ impl<T: Tables> HeapsOf<T> {
         ensures made { IfOk result (λ g. g.is_new ≡ true
             → NoneFits (blocks_needed align) (units_needed size align) self.old
             × IsNext (units_needed size align) g.place.heap self.old) }
-        // The place was not live. It has exactly `size` units, from a multiple of `align` on, and every other place keeps
-        // its range, if it has one.
+        // The place was not live. It has exactly `size` units, from a multiple of `align` on, and every other
+        // place keeps its range, if it has one.
         ensures not_live { IfOk result (λ g. range_of g.place self.old ≡ None) }
         ensures range { IfOk result (λ g. range_of g.place self.new
             ≡ Some (record { offset = g.place.ticket.offset; size = size })) }

@@ -15,8 +15,8 @@ use offset_allocator::{Accesses, Tables};
 use offset_guarded::{GuardedOf, Refusal};
 use std::alloc::{AllocError, Global};
 
-/// Three keys of each number: the largest requests that its heap grants where it may add one and two blocks, or 0, and
-/// whether it has no heap.
+/// Three keys of each number: the largest requests that its heap grants where it may add one and two blocks,
+/// or 0, and whether it has no heap.
 #[derive(Drop)]
 pub(crate) struct Index {
     pub(crate) one: Maxima,
@@ -24,7 +24,8 @@ pub(crate) struct Index {
     pub(crate) spare: Maxima,
 }
 
-// Whether a serial is left for one more grant. A request that is larger than the space costs the least to refuse.
+// Whether a serial is left for one more grant. A request that is larger than the space costs the least to
+// refuse.
 fn has_serial_left<T: Tables>(heap: &GuardedOf<T>) -> bool
     ensures { IsTrue result ↔ HasSerialLeft heap.now }
 {

@@ -11,8 +11,8 @@ use crate::HeapsOf;
 use offset_allocator::Tables;
 use offset_allocator::laws::ranges_are_disjoint;
 
-/// Two live places in the heap of this number, of two grants, have no unit in common. So live places are apart: they are
-/// in two heaps, or share no unit of one.
+/// Two live places in the heap of this number, of two grants, have no unit in common. So live places are
+/// apart: they are in two heaps, or share no unit of one.
 pub fn places_are_apart<T: Tables>(heaps: &HeapsOf<T>, number: u32)
     ensures { (p q : Place) (r s : Range) → p.heap ≡ number → q.heap ≡ number → (AreAlike p q → ⊥)
         → range_of p heaps.now ≡ Some r → range_of q heaps.now ≡ Some s → AreDisjoint r s }
@@ -28,7 +28,8 @@ pub fn room_is_reported()
         → room 1 g ≡ r.largest_free_region }
 {}
 
-/// There is a slot for each number, and no heap has a realm that a later one will have: theirs are above `made`.
+/// There is a slot for each number, and no heap has a realm that a later one will have: theirs are above
+/// `made`.
 pub fn realms_are_given<T: Tables>(heaps: &HeapsOf<T>)
     ensures numbers { length heaps.now.slots ≡ numbers heaps.now }
     ensures realms { (k : ℕ) → IfSome (heap_at k heaps.now) (λ g. g.realm ≤ heaps.now.made) }

@@ -1,9 +1,10 @@
 //! Ranges of as many buffers as are needed, each with a heap of its own.
 //!
-//! A `Heaps` holds heaps by number, each a `GuardedOf`: those of the usual size, and larger ones, each of the size of the
-//! request that it was made for. Nothing is known of the buffers: the caller makes the buffer of a number when he is told
-//! that its heap is new, and drops it when he is told that the heap was dropped. A `Place` is the number of a heap and a
-//! ticket there. Every call takes any place, and one that is not live changes nothing.
+//! A `Heaps` holds heaps by number, each a `GuardedOf`: those of the usual size, and larger ones, each of the
+//! size of the request that it was made for. Nothing is known of the buffers: the caller makes the buffer of
+//! a number when he is told that its heap is new, and drops it when he is told that the heap was dropped. A
+//! `Place` is the number of a heap and a ticket there. Every call takes any place, and one that is not live
+//! changes nothing.
 //!
 //! ```
 //! let limits = Limits { size: 1 << 24, max_allocs: 4096, most: 64, most_larger: 16 };
@@ -18,7 +19,8 @@
 //! ```
 #![tactic(auto)]
 
-ghost use Rattle.std.specs.Prelude.{◌≡◌, ◌↔◌, ◌+◌, ◌^◌, ◌<◌, ◌≤◌, None, IsTrue, IfOk, option_copied, option_map};
+ghost use Rattle.std.specs.Prelude.{◌≡◌, ◌↔◌, ◌+◌, ◌^◌, ◌<◌, ◌≤◌, None, IsTrue, IfOk, option_copied};
+ghost use Rattle.std.specs.Prelude.{option_map};
 ghost use Rattle.std.specs.Prelude.{replicate};
 ghost use Rattle.offset_allocator.specs.Ranges.{Range};
 
@@ -51,8 +53,8 @@ pub type Heaps<NI = u32> = HeapsOf<ByNode<NI>>;
 
 /// Many heaps as one.
 ///
-/// It holds a slot for each number, and an index of them: the work of a call is some steps for each bit of the numbers,
-/// and that of one heap.
+/// It holds a slot for each number, and an index of them: the work of a call is some steps for each bit of
+/// the numbers, and that of one heap.
 #[derive(Drop)]
 pub struct HeapsOf<T: Tables> {
     alloc: Global,
@@ -86,8 +88,9 @@ impl<T: Tables> Model for HeapsOf<T> {
 impl<T: Tables> HeapsOf<T> {
     ghost use Rattle.offset_heaps.specs.Heaps.{IsLive, heap_at, range_in, range_of};
 
-    /// No heap, and memory for the numbers of all that may be made: some 1.2 KB each. A heap is made by the first request
-    /// that none has room for. The realm is kept in places: a place of another realm is never live here.
+    /// No heap, and memory for the numbers of all that may be made: some 1.2 KB each. A heap is made by the
+    /// first request that none has room for. The realm is kept in places: a place of another realm is never
+    /// live here.
     ///
     /// An error is returned only where an allocation failed; then nothing is made.
     pub fn new(alloc: Global, limits: Limits, realm: u32) -> Result<Self, AllocError>
@@ -95,7 +98,8 @@ impl<T: Tables> HeapsOf<T> {
         requires limit_max { limits.max_allocs + 1 < T.Index.MAX }
         requires numbers { limits.most + limits.most_larger < 2 ^ 32 }
         ensures slots { IfOk result (λ h. h.slots ≡ replicate (limits.most + limits.most_larger) None) }
-        ensures rest { IfOk result (λ h. (h.limits ≡ limits) × (h.made ≡ 0) × (h.realm ≡ realm) × (h.accesses ≡ 0)) }
+        ensures rest { IfOk result (λ h. (h.limits ≡ limits) × (h.made ≡ 0) × (h.realm ≡ realm)
+            × (h.accesses ≡ 0)) }
     {
         let count = limits.most + limits.most_larger;
         let slots = slots::none(alloc, count)?;
@@ -129,8 +133,8 @@ impl<T: Tables> HeapsOf<T> {
         self.realm
     }
 
-    /// The heap of a number, to read: its reports, its statistics, its blocks. `None` is returned where the number has no
-    /// heap.
+    /// The heap of a number, to read: its reports, its statistics, its blocks. `None` is returned where the
+    /// number has no heap.
     pub fn heap(&self, number: u32) -> Option<&GuardedOf<T>>
         ensures { option_copied result ≡ heap_at number self.now }
     {
@@ -147,8 +151,8 @@ impl<T: Tables> HeapsOf<T> {
         self.heap(place.heap)
     }
 
-    /// Whether a place is live here: it has the realm, and its range was not freed, its heap not given up and nothing was
-    /// reset since.
+    /// Whether a place is live here: it has the realm, and its range was not freed, its heap not given up and
+    /// nothing was reset since.
     pub fn is_live(&self, place: Place) -> bool
         ensures { IsTrue result ↔ IsLive place self.now }
     {
@@ -168,7 +172,8 @@ impl<T: Tables> HeapsOf<T> {
         }
     }
 
-    /// Where the range of a place begins, in units from the start of its heap, or `None` where it is not live.
+    /// Where the range of a place begins, in units from the start of its heap, or `None` where it is not
+    /// live.
     pub fn offset_of(&self, place: Place) -> Option<u32>
         ensures { result ≡ option_map (λ (r : Range). r.offset) (range_of place self.now) }
     {
@@ -179,7 +184,8 @@ impl<T: Tables> HeapsOf<T> {
     }
 }
 
-/// The text is that of a struct with the realm, the limits, the number of heaps that were made, and the totals.
+/// The text is that of a struct with the realm, the limits, the number of heaps that were made, and the
+/// totals.
 impl<T: Tables> fmt::Debug for HeapsOf<T> {
     fn fmt<W: fmt::Write>(&self, f: &mut fmt::Formatter<W>) -> fmt::Result {
         f.debug_struct("Heaps")

@@ -9,7 +9,7 @@ pub struct Limits {
     pub max_allocs: u32,
     /// How many heaps of the usual size there may be at a time: they have the numbers below this one.
     pub most: u32,
-    /// How many larger heaps there may be at a time, each of the size of the request that it was made for: they have the
-    /// numbers from `most` on. Together there are at most 4294967295.
+    /// How many larger heaps there may be at a time, each of the size of the request that it was made for:
+    /// they have the numbers from `most` on. Together there are at most 4294967295.
     pub most_larger: u32,
 }

@@ -1,5 +1,5 @@
-//! A row of numbers, of which the first that is large enough is found in few steps: a tree of maxima. It touches its own
-//! cells alone, and counts each access.
+//! A row of numbers, of which the first that is large enough is found in few steps: a tree of maxima. It
+//! touches its own cells alone, and counts each access.
 ghost use Rattle.std.specs.Prelude.{ℕ, ◌≡◌, ◌+◌, ◌*◌, ◌^◌, ◌<◌, ◌≤◌, IfOk, length, max, replicate, slice_set};
 ghost use Rattle.offset_allocator.specs.Accesses.{Costs};
 ghost use Rattle.offset_heaps.specs.Maxima.{AreBelow, IsFirst, cell};

@@ -7,10 +7,11 @@ use std::fmt;
 pub enum Refusal {
     /// It is for no unit.
     Empty,
-    /// No heap has room, a fresh one of the usual size would not have it either, and there may be no larger ones.
+    /// No heap has room, a fresh one of the usual size would not have it either, and there may be no larger
+    /// ones.
     TooLarge,
-    /// No heap has room, and no other may be made for it: each number of its kind has a heap, or all 4294967295 realms are
-    /// given. Free ranges, or drop empty heaps of that kind.
+    /// No heap has room, and no other may be made for it: each number of its kind has a heap, or all
+    /// 4294967295 realms are given. Free ranges, or drop empty heaps of that kind.
     Full,
     /// No heap has room. Another one may be made, but its memory was refused.
     Memory,

@@ -1,4 +1,5 @@
-//! The heaps by their numbers: no other module reads or writes them. Each function counts the slots that it touches.
+//! The heaps by their numbers: no other module reads or writes them. Each function counts the slots that it
+//! touches.
 ghost use Rattle.std.specs.Prelude.{◌≡◌, ◌↔◌, ◌+◌, ◌^◌, ◌<◌, ◌≤◌, IsTrue, IsSome, None, Some, false, length};
 ghost use Rattle.std.specs.Prelude.{IfOk, is_some, option_copied, replicate, slice_set, true, if◌then◌else◌};
 ghost use Rattle.offset_allocator.specs.Relations.{IsAlignment};
@@ -6,7 +7,8 @@ ghost use Rattle.offset_allocator.specs.Requests.{blocks_needed, units_needed};
 ghost use Rattle.offset_allocator.specs.Tight.{CanHold};
 ghost use Rattle.offset_guarded.specs.Guard.{Guard, HasSerialLeft};
 ghost use Rattle.offset_heaps.specs.Heaps.{is_empty, range_in, room_of, slot};
-ghost use Rattle.offset_heaps.specs.Slots.{CanHoldIn, Changes, FreesIn, HasEmpty, KeepsOthersIn, ResetsIn, Serves, ServesTight};
+ghost use Rattle.offset_heaps.specs.Slots.{CanHoldIn, Changes, FreesIn, HasEmpty, KeepsOthersIn};
+ghost use Rattle.offset_heaps.specs.Slots.{ResetsIn, Serves, ServesTight};
 
 use offset_allocator::laws::is_well_formed;
 use offset_allocator::{Accesses, Tables};
@@ -145,7 +147,8 @@ pub(crate) fn free<T: Tables>(
 ) -> bool
     ensures done { IsTrue result ↔ IsSome (range_in ticket (slot number slots.old.items)) }
     ensures there { result ≡ true → number < length slots.old.items }
-    ensures change { result ≡ true → Changes number (λ o p. (range_in ticket p ≡ None) × KeepsOthersIn ticket o p
+    ensures change { result ≡ true → Changes number (λ o p. (range_in ticket p ≡ None)
+        × KeepsOthersIn ticket o p
         × FreesIn ticket o p) slots.old.items slots.new.items }
     ensures same { result ≡ false → slots.new.items ≡ slots.old.items }
     ensures accesses { count.new ≡ count.old + 1 }

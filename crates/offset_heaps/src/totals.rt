@@ -19,8 +19,8 @@ pub struct Totals {
     pub live_units: u64,
     /// The units of all free blocks.
     pub free_units: u64,
-    /// The largest `largest_free_region` of a heap, or 0 where there is none: a request of at least one unit is granted by a
-    /// heap that is there exactly when it is at most this.
+    /// The largest `largest_free_region` of a heap, or 0 where there is none: a request of at least one unit
+    /// is granted by a heap that is there exactly when it is at most this.
     pub largest_free_region: u32,
 }
 
@@ -45,7 +45,8 @@ fn with_heap<T: Tables>(totals: Totals, heap: Option<&GuardedOf<T>>) -> Totals
     ensures units { result.units ≡ totals.units + part size_of (option_copied heap.entry) }
     ensures live { result.live_units ≡ totals.live_units + part live_of (option_copied heap.entry) }
     ensures free { result.free_units ≡ totals.free_units + part free_of (option_copied heap.entry) }
-    ensures largest { result.largest_free_region ≡ max totals.largest_free_region (room_of 1 (option_copied heap.entry)) }
+    ensures largest { result.largest_free_region
+        ≡ max totals.largest_free_region (room_of 1 (option_copied heap.entry)) }
     ensures few { result.heaps ≤ totals.heaps + 1 }
     ensures small { result.units < totals.units + 2 ^ 32 }
     ensures add_up { result.live_units + result.free_units ≡ result.units }

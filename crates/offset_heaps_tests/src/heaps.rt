@@ -124,8 +124,8 @@ fn heaps_are_shown(rt: HostRuntime) -> Result<(), Fail> {
     let text = format!(in rt.alloc(); "{heaps:?}, {}", Refusal::Full)?;
     assert_eq!(rt;
         text.as_str(),
-        "Heaps { realm: 9, limits: Limits { size: 10, max_allocs: 4, most: 1, most_larger: 0 }, made: 0, totals: Totals { \
-         heaps: 0, units: 0, live_units: 0, free_units: 0, largest_free_region: 0 } }, \
+        "Heaps { realm: 9, limits: Limits { size: 10, max_allocs: 4, most: 1, most_larger: 0 }, made: 0, \
+         totals: Totals { heaps: 0, units: 0, live_units: 0, free_units: 0, largest_free_region: 0 } }, \
          no heap has room, and no other may be made"
     );
     Ok(())

@@ -133,18 +133,19 @@ impl<T: Tables> HeapsOf<T> {
 
     /// Grants `size` units of one heap: what `allocate_aligned(size, 1)` grants.
     ///
-    /// A heap has room exactly for requests up to the `largest_free_region` of its report, while it has a serial left: see
-    /// `laws::room_is_reported`.
+    /// A heap has room exactly for requests up to the `largest_free_region` of its report, while it has a
+    /// serial left: see `laws::room_is_reported`.
     pub fn allocate(&mut self, size: u32) -> Result<Granted, Refusal> {
         self.allocate_aligned(size, 1)
     }
 
     /// Grants `size` units of one heap that begin at a multiple of `align`, a power of two, in that heap.
     ///
-    /// The heap is the first one, by number, that has room: what `GuardedOf::allocate_aligned` grants there, as it grants
-    /// it. Where none has, another heap is made. If a fresh heap of the usual size has room, it is such a heap, with the
-    /// first number below `most` that no heap has; else a larger heap of exactly `size` units, all of which are granted,
-    /// with the first number from `most` on that no heap has. Only then memory is requested.
+    /// The heap is the first one, by number, that has room: what `GuardedOf::allocate_aligned` grants there,
+    /// as it grants it. Where none has, another heap is made. If a fresh heap of the usual size has room, it
+    /// is such a heap, with the first number below `most` that no heap has; else a larger heap of exactly
+    /// `size` units, all of which are granted, with the first number from `most` on that no heap has. Only
+    /// then memory is requested.
     ///
     /// Where the request is refused, all is as it was, and the `Refusal` says why.
     #[track_caller]

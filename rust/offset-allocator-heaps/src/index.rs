@@ -10,15 +10,16 @@ use offset_allocator::{Accesses, Tables};
 use offset_guarded::{GuardedOf, Refusal};
 use crate::memory::{AllocError, Global};
 
-/// Three keys of each number: the largest requests that its heap grants where it may add one and two blocks, or 0, and
-/// whether it has no heap.
+/// Three keys of each number: the largest requests that its heap grants where it may add one and two blocks,
+/// or 0, and whether it has no heap.
 pub(crate) struct Index {
     pub(crate) one: Maxima,
     pub(crate) two: Maxima,
     pub(crate) spare: Maxima,
 }
 
-// Whether a serial is left for one more grant. A request that is larger than the space costs the least to refuse.
+// Whether a serial is left for one more grant. A request that is larger than the space costs the least to
+// refuse.
 fn has_serial_left<T: Tables>(heap: &GuardedOf<T>) -> bool {
     match heap.refusal(u32::MAX) {
         Some(Refusal::Serials) => false,

@@ -6,8 +6,8 @@ use crate::HeapsOf;
 use offset_allocator::Tables;
 use offset_allocator::laws::ranges_are_disjoint;
 
-/// Two live places in the heap of this number, of two grants, have no unit in common. So live places are apart: they are
-/// in two heaps, or share no unit of one.
+/// Two live places in the heap of this number, of two grants, have no unit in common. So live places are
+/// apart: they are in two heaps, or share no unit of one.
 pub fn places_are_apart<T: Tables>(heaps: &HeapsOf<T>, number: u32) {
     if let Some(heap) = heaps.heap(number) {
         ranges_are_disjoint(heap.allocator());
@@ -17,7 +17,8 @@ pub fn places_are_apart<T: Tables>(heaps: &HeapsOf<T>, number: u32) {
 /// While it has a serial left, a heap has room for one more block and exactly the units that its report has.
 pub fn room_is_reported() {}
 
-/// There is a slot for each number, and no heap has a realm that a later one will have: theirs are above `made`.
+/// There is a slot for each number, and no heap has a realm that a later one will have: theirs are above
+/// `made`.
 pub fn realms_are_given<T: Tables>(heaps: &HeapsOf<T>) {
     let _ = &heaps.made;
 }

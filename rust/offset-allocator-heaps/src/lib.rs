@@ -2,10 +2,11 @@
 
 //! Ranges of as many buffers as are needed, each with a heap of its own.
 //!
-//! A `Heaps` holds heaps by number, each a `GuardedOf`: those of the usual size, and larger ones, each of the size of the
-//! request that it was made for. Nothing is known of the buffers: the caller makes the buffer of a number when he is told
-//! that its heap is new, and drops it when he is told that the heap was dropped. A `Place` is the number of a heap and a
-//! ticket there. Every call takes any place, and one that is not live changes nothing.
+//! A `Heaps` holds heaps by number, each a `GuardedOf`: those of the usual size, and larger ones, each of the
+//! size of the request that it was made for. Nothing is known of the buffers: the caller makes the buffer of
+//! a number when he is told that its heap is new, and drops it when he is told that the heap was dropped. A
+//! `Place` is the number of a heap and a ticket there. Every call takes any place, and one that is not live
+//! changes nothing.
 //!
 //! ```
 //! use offset_allocator_heaps::*;
@@ -25,7 +26,8 @@
 #![no_std]
 #![forbid(unsafe_code)]
 #![warn(missing_docs)]
-#![expect(clippy::manual_map)] // a `match` needs no closure, whose calls would need a proof
+#![expect(clippy::redundant_pattern_matching)] // a `match` needs no call, whose contract a proof would need
+#![expect(clippy::single_match)] // both cases are proved
 #![expect(unused_variables)] // a parameter may be there for a contract only
 
 extern crate alloc;
@@ -63,8 +65,8 @@ pub type Heaps<NI = u32> = HeapsOf<ByNode<NI>>;
 
 /// Many heaps as one.
 ///
-/// It holds a slot for each number, and an index of them: the work of a call is some steps for each bit of the numbers,
-/// and that of one heap.
+/// It holds a slot for each number, and an index of them: the work of a call is some steps for each bit of
+/// the numbers, and that of one heap.
 pub struct HeapsOf<T: Tables> {
     alloc: Global,
     slots: Slots<T>,
@@ -77,8 +79,9 @@ pub struct HeapsOf<T: Tables> {
 }
 
 impl<T: Tables> HeapsOf<T> {
-    /// No heap, and memory for the numbers of all that may be made: some 1.2 KB each. A heap is made by the first request
-    /// that none has room for. The realm is kept in places: a place of another realm is never live here.
+    /// No heap, and memory for the numbers of all that may be made: some 1.2 KB each. A heap is made by the
+    /// first request that none has room for. The realm is kept in places: a place of another realm is never
+    /// live here.
     ///
     /// An error is returned only where an allocation failed; then nothing is made.
     #[track_caller]
@@ -114,8 +117,8 @@ impl<T: Tables> HeapsOf<T> {
         self.realm
     }
 
-    /// The heap of a number, to read: its reports, its statistics, its blocks. `None` is returned where the number has no
-    /// heap.
+    /// The heap of a number, to read: its reports, its statistics, its blocks. `None` is returned where the
+    /// number has no heap.
     pub fn heap(&self, number: u32) -> Option<&GuardedOf<T>> {
         slots::at(&self.slots, number, &mut Accesses::new())
     }
@@ -128,8 +131,8 @@ impl<T: Tables> HeapsOf<T> {
         self.heap(place.heap)
     }
 
-    /// Whether a place is live here: it has the realm, and its range was not freed, its heap not given up and nothing was
-    /// reset since.
+    /// Whether a place is live here: it has the realm, and its range was not freed, its heap not given up and
+    /// nothing was reset since.
     pub fn is_live(&self, place: Place) -> bool {
         match self.heap_of(place) {
             None => false,
@@ -145,7 +148,8 @@ impl<T: Tables> HeapsOf<T> {
         }
     }
 
-    /// Where the range of a place begins, in units from the start of its heap, or `None` where it is not live.
+    /// Where the range of a place begins, in units from the start of its heap, or `None` where it is not
+    /// live.
     pub fn offset_of(&self, place: Place) -> Option<u32> {
         match self.heap_of(place) {
             None => None,
@@ -154,7 +158,8 @@ impl<T: Tables> HeapsOf<T> {
     }
 }
 
-/// The text is that of a struct with the realm, the limits, the number of heaps that were made, and the totals.
+/// The text is that of a struct with the realm, the limits, the number of heaps that were made, and the
+/// totals.
 impl<T: Tables> fmt::Debug for HeapsOf<T> {
     fn fmt(&self, f: &mut fmt::Formatter<'_>) -> fmt::Result {
         f.debug_struct("Heaps")

@@ -1,7 +1,7 @@
 // Printed by rust/erase from crates/offset_heaps/src/maxima.rt: change it there.
 
-//! A row of numbers, of which the first that is large enough is found in few steps: a tree of maxima. It touches its own
-//! cells alone, and counts each access.
+//! A row of numbers, of which the first that is large enough is found in few steps: a tree of maxima. It
+//! touches its own cells alone, and counts each access.
 
 use crate::memory::Vec;
 use offset_allocator::Accesses;

@@ -1,6 +1,7 @@
 // Printed by rust/erase from crates/offset_heaps/src/slots.rt: change it there.
 
-//! The heaps by their numbers: no other module reads or writes them. Each function counts the slots that it touches.
+//! The heaps by their numbers: no other module reads or writes them. Each function counts the slots that it
+//! touches.
 
 use crate::memory::Vec;
 use offset_allocator::laws::is_well_formed;

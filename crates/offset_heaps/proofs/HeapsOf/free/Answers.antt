@@ -20,7 +20,8 @@ pub returns-then-not-free-clause-done : goal.returns-then-not-free-clause-done
 returns-then-not-free-clause-done g c = (
   λ h. absurd (false≢true h),
   λ live. absurd (false≢true (sym c.if-not-free.true
-      ∙ c.free.ensures.done.1 (live_ticket c.args.place (shown c.self.inside.slots.items c.self.inside.limits c.self.inside.made c.self.inside.realm c.self.inside.accesses) c.if-place-self.false (subst (λ (hs : Heaps). IsLive c.args.place hs) (sym c.self.view_is) live)))),
+      ∙ c.free.ensures.done.1 (live_ticket c.args.place (shown c.self.inside.slots.items c.self.inside.limits c.self.inside.made c.self.inside.realm c.self.inside.accesses) c.if-place-self.false
+      (subst (λ (hs : Heaps). IsLive c.args.place hs) (sym c.self.view_is) live)))),
 )
 
 pub returns-then-not-free-clause-others : goal.returns-then-not-free-clause-others
@@ -48,22 +49,26 @@ invariant_of-self-2 g c =
 
 pub returns-clause-done : goal.returns-clause-done
 returns-clause-done g c = (
-  λ _. subst (λ (hs : Heaps). IsLive c.args.place hs) c.self.view_is (live_place c.args.place (shown c.self.inside.slots.items c.self.inside.limits c.self.inside.made c.self.inside.realm c.self.inside.accesses) c.if-place-self.false (c.free.ensures.done.0 c.if-not-free.false)),
+  λ _. subst (λ (hs : Heaps). IsLive c.args.place hs) c.self.view_is (live_place c.args.place (shown c.self.inside.slots.items c.self.inside.limits c.self.inside.made c.self.inside.realm
+      c.self.inside.accesses) c.if-place-self.false (c.free.ensures.done.0 c.if-not-free.false)),
   λ _. refl,
 )
 
 pub returns-clause-gone : goal.returns-clause-gone
 returns-clause-gone g c = freed_gone c.args.place
     (shown c.self.inside.slots.items c.self.inside.limits c.self.inside.made c.self.inside.realm c.self.inside.accesses)
-    (shown c.free.new.slots.items c.self.inside.limits c.self.inside.made c.self.inside.realm c.note.new.count) (c.free.ensures.there c.if-not-free.false) (c.free.ensures.change c.if-not-free.false) refl
+    (shown c.free.new.slots.items c.self.inside.limits c.self.inside.made c.self.inside.realm c.note.new.count) (c.free.ensures.there c.if-not-free.false)
+    (c.free.ensures.change c.if-not-free.false) refl
 
 pub returns-clause-others : goal.returns-clause-others
 returns-clause-others g c = rw (← c.self.view_is)
     (freed_others c.args.place
     (shown c.self.inside.slots.items c.self.inside.limits c.self.inside.made c.self.inside.realm c.self.inside.accesses)
-    (shown c.free.new.slots.items c.self.inside.limits c.self.inside.made c.self.inside.realm c.note.new.count) (c.free.ensures.there c.if-not-free.false) (c.free.ensures.change c.if-not-free.false) refl c.if-place-self.false)
+    (shown c.free.new.slots.items c.self.inside.limits c.self.inside.made c.self.inside.realm c.note.new.count) (c.free.ensures.there c.if-not-free.false)
+    (c.free.ensures.change c.if-not-free.false) refl c.if-place-self.false)
 
 pub returns-clause-step : goal.returns-clause-step
 returns-clause-step g c e = rw (← c.self.view_is) (freed_step c.args.place
     (shown c.self.inside.slots.items c.self.inside.limits c.self.inside.made c.self.inside.realm c.self.inside.accesses)
-    (shown c.free.new.slots.items c.self.inside.limits c.self.inside.made c.self.inside.realm c.note.new.count) (c.free.ensures.there c.if-not-free.false) (c.free.ensures.change c.if-not-free.false) refl)
+    (shown c.free.new.slots.items c.self.inside.limits c.self.inside.made c.self.inside.realm c.note.new.count) (c.free.ensures.there c.if-not-free.false)
+    (c.free.ensures.change c.if-not-free.false) refl)

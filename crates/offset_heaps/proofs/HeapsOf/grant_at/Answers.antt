@@ -23,6 +23,7 @@ returns-clause-grants g c =
 
 pub returns-clause-steps : goal.returns-clause-steps
 returns-clause-steps g c bits enough =
-    let low = levels g.T.Index.NodeIndex.MAX c.self.inside.slots.items c.self.inside.limits c.self.inside.made c.self.inside.index c.self.invariant c.self.inside.realm c.self.inside.accesses c.args.self.now c.self.view_is bits enough in
+    let low = levels g.T.Index.NodeIndex.MAX c.self.inside.slots.items c.self.inside.limits c.self.inside.made c.self.inside.index c.self.invariant c.self.inside.realm c.self.inside.accesses
+    c.args.self.now c.self.view_is bits enough in
     let start = ap (λ (h : Heaps). h.accesses) c.self.view_is in
     omega arith

@@ -12,4 +12,5 @@ returns-in-Ok-clause-grants g c =
     let most = ap (λ (h : Heaps). h.limits.most) c.self.view_is in
     let there : c.args.number < length c.args.self.now.slots = omega arith in
     let new = subst (λ (h : Heaps). IsNew h.limits.size h.limits.max_allocs (h.made + 1) w.0) c.self.view_is w.1 in
-    rw c.add.ensures.granted (granted_usual c.args.self.now c.add.new.self c.args.number c.args.size c.args.align c.in-Ok.slot c.in-Ok.ticket there c.add.ensures.heaps w.0 c.requires.spare c.requires.usual new w.2)
+    rw c.add.ensures.granted (granted_usual c.args.self.now c.add.new.self c.args.number c.args.size c.args.align c.in-Ok.slot c.in-Ok.ticket there c.add.ensures.heaps w.0 c.requires.spare
+    c.requires.usual new w.2)

@@ -15,6 +15,7 @@ loop-number-init g c =
 pub loop-number-preserved : goal.loop-number-preserved
 loop-number-preserved g c = record {
   wide = c.note.ensures.wide;
-  noted = noted_more c.args.limits c.in_ok-slots.slots.items c.loop-number.index c.note.new.self c.loop-number.number (c.args.limits.most + c.args.limits.most_larger) c.note.ensures.here c.note.ensures.others c.loop-number.invariant.noted;
+  noted = noted_more c.args.limits c.in_ok-slots.slots.items c.loop-number.index c.note.new.self c.loop-number.number (c.args.limits.most + c.args.limits.most_larger) c.note.ensures.here
+      c.note.ensures.others c.loop-number.invariant.noted;
   levels = c.note.ensures.levels ∙ c.loop-number.invariant.levels;
 }

@@ -16,6 +16,7 @@ loop-number-preserved g c =
       left = more.1;
       len = ap length change.slots ∙ length-set c.loop-number.slots.items c.loop-number.number change.now ∙ inv.len;
       wide = c.note.ensures.wide;
-      noted = noted_reset c.args.limits c.loop-number.slots.items c.reset.new.slots.items c.loop-number.number c.loop-number.index c.note.new.self change inv.noted c.note.ensures.here c.note.ensures.others;
+      noted = noted_reset c.args.limits c.loop-number.slots.items c.reset.new.slots.items c.loop-number.number c.loop-number.index c.note.new.self change inv.noted c.note.ensures.here
+          c.note.ensures.others;
       levels = c.note.ensures.levels ∙ inv.levels;
     }

@@ -8,7 +8,8 @@ pub returns-then-left-eq2-clause-one : goal.returns-then-left-eq2-clause-one
 returns-then-left-eq2-clause-one g c =
     let all = subst (λ (v : View). c.unused_names-left.result + length v.blocks ≡ v.max_allocs) c.allocator-space.ensures c.unused_names-left.ensures in
     let report = subst (λ (v : View). IsReport c.storage_report-largest.result v) c.allocator-space.ensures c.storage_report-largest.ensures in
-    rw c.in-Some.is (reported 1 c.unused_names-left.result c.in-Some.heap.now c.storage_report-largest.result (omega arith) (c.has_serial_left.ensures.0 c.if-not-has_serial_left.false) all (omega arith) report)
+    rw c.in-Some.is (reported 1 c.unused_names-left.result c.in-Some.heap.now c.storage_report-largest.result (omega arith) (c.has_serial_left.ensures.0 c.if-not-has_serial_left.false) all
+    (omega arith) report)
 
 pub returns-then-left-eq2-clause-two : goal.returns-then-left-eq2-clause-two
 returns-then-left-eq2-clause-two g c =
@@ -19,10 +20,12 @@ pub returns-clause-one : goal.returns-clause-one
 returns-clause-one g c =
     let all = subst (λ (v : View). c.unused_names-left.result + length v.blocks ≡ v.max_allocs) c.allocator-space.ensures c.unused_names-left.ensures in
     let report = subst (λ (v : View). IsReport c.storage_report-largest.result v) c.allocator-space.ensures c.storage_report-largest.ensures in
-    rw c.in-Some.is (reported 1 c.unused_names-left.result c.in-Some.heap.now c.storage_report-largest.result (omega arith) (c.has_serial_left.ensures.0 c.if-not-has_serial_left.false) all (omega arith) report)
+    rw c.in-Some.is (reported 1 c.unused_names-left.result c.in-Some.heap.now c.storage_report-largest.result (omega arith) (c.has_serial_left.ensures.0 c.if-not-has_serial_left.false) all
+    (omega arith) report)
 
 pub returns-clause-two : goal.returns-clause-two
 returns-clause-two g c =
     let all = subst (λ (v : View). c.unused_names-left.result + length v.blocks ≡ v.max_allocs) c.allocator-space.ensures c.unused_names-left.ensures in
     let report = subst (λ (v : View). IsReport c.storage_report-largest.result v) c.allocator-space.ensures c.storage_report-largest.ensures in
-    rw c.in-Some.is (reported 2 c.unused_names-left.result c.in-Some.heap.now c.storage_report-largest.result (omega arith) (c.has_serial_left.ensures.0 c.if-not-has_serial_left.false) all (omega arith) report)
+    rw c.in-Some.is (reported 2 c.unused_names-left.result c.in-Some.heap.now c.storage_report-largest.result (omega arith) (c.has_serial_left.ensures.0 c.if-not-has_serial_left.false) all
+    (omega arith) report)

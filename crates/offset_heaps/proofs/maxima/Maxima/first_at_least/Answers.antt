@@ -17,12 +17,14 @@ read-requires-in-loop-level c =
 pub loop-level-preserved : goal.loop-level-preserved
 loop-level-preserved c = elim c.if-read-least-2.branch [
   | then-read-least-2 w ↦ record {
-    leads = rw w.place-is (step_right c.self.inside.height c.loop-level._level c.args.least c.loop-level.place c.self.inside.cells.items c.self.invariant c.loop-level-test.true c.loop-level.invariant.leads
+    leads = rw w.place-is (step_right c.self.inside.height c.loop-level._level c.args.least c.loop-level.place c.self.inside.cells.items c.self.invariant c.loop-level-test.true
+        c.loop-level.invariant.leads
         (let less = w.if-read-least-2.true in let cell = c.read-in-loop-level.ensures.cell in omega arith));
     accesses = omega arith;
   }
   | else-read-least-2 w ↦ record {
-    leads = rw w.place-is (step_left c.self.inside.height c.loop-level._level c.args.least c.loop-level.place c.self.inside.cells.items c.self.invariant c.loop-level-test.true c.loop-level.invariant.leads
+    leads = rw w.place-is (step_left c.self.inside.height c.loop-level._level c.args.least c.loop-level.place c.self.inside.cells.items c.self.invariant c.loop-level-test.true
+        c.loop-level.invariant.leads
         (let enough = w.if-read-least-2.false in let cell = c.read-in-loop-level.ensures.cell in omega arith));
     accesses = omega arith;
   }

@@ -26,7 +26,8 @@ loop-level-preserved c =
     record {
       above = climbs h c.loop-level._level c.loop-level.place low c.loop-level.invariant.above;
       tree = rw c.write-in-loop-level.ensures.cells
-          (raised h c.loop-level.place (c.loop-level.place / 2) c.larger_below-larger.result c.loop-level.self-inside.cells.items c.loop-level.invariant.tree refl k.0 k.1 c.larger_below-larger.ensures.larger);
+          (raised h c.loop-level.place (c.loop-level.place / 2) c.larger_below-larger.result c.loop-level.self-inside.cells.items c.loop-level.invariant.tree refl k.0 k.1
+          c.larger_below-larger.ensures.larger);
       keys = ap (drop (2 ^ h)) c.write-in-loop-level.ensures.cells
           ∙ drop-set-lt (2 ^ h) c.loop-level.self-inside.cells.items (c.loop-level.place / 2) c.larger_below-larger.result k.1
           ∙ c.loop-level.invariant.keys;
@@ -35,7 +36,8 @@ loop-level-preserved c =
     }
 
 pub read-requires : goal.read-requires
-read-requires c = place_within c.self.inside.height c.args.at c.len.result c.self.inside.cells.items c.self.invariant (search rules) (let e = ap (λ (r : Row). r.keys) c.self.view_is in rw e c.requires)
+read-requires c = place_within c.self.inside.height c.args.at c.len.result c.self.inside.cells.items c.self.invariant (search rules)
+    (let e = ap (λ (r : Row). r.keys) c.self.view_is in rw e c.requires)
 
 pub returns-then-read-key-clause-keys : goal.returns-then-read-key-clause-keys
 returns-then-read-key-clause-keys c =
