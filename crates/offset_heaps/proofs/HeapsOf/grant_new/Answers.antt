@@ -10,4 +10,4 @@ returns-in-Some-spare_larger-clause-grants g c =
 pub returns-in-Some-spare_larger-clause-made : goal.returns-in-Some-spare_larger-clause-made
 returns-in-Some-spare_larger-clause-made g c =
     next_larger (units_needed c.args.size c.args.align) c.in-Some-spare_larger.number c.args.self.now c.spare_larger.new.self c.grant_larger.result c.spare_larger.ensures.same
-      (search rules) c.in-Some-spare_larger.ensures.first.0 c.in-Some-spare_larger.ensures.first.1 c.grant_larger.ensures.made
+    (search rules) c.in-Some-spare_larger.ensures.first.0 c.in-Some-spare_larger.ensures.first.1 c.grant_larger.ensures.made
