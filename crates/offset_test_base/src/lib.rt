@@ -4,7 +4,6 @@
 pub mod devices;
 pub mod flat;
 pub mod groups;
-pub mod layouts;
 mod living;
 pub mod mixed;
 pub mod tiny;

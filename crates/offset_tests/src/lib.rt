@@ -5,3 +5,5 @@
 mod asserts;
 #[cfg(test)]
 mod calls;
+#[cfg(test)]
+mod layouts;

@@ -1,12 +1,12 @@
 //! Tests of `offset_uses`.
 
 use crate::asserts::{assert_same, assert_same_at, assert_that, assert_that_at};
+use crate::layouts::{ALL, Expectation, Layout, check, check_each};
 use offset_allocator::Refusal::{Fragmented, Nodes, Space};
 use offset_allocator::{
     Accesses, Allocation, Allocator, AllocatorOf, ByNode, NodeIndex, Refusal, Tables,
 };
 use offset_script::{Answer, Command};
-use offset_test_base::layouts::{ALL, Expectation, Layout, check, check_each};
 use offset_uses::daily::{
     Ring, defragment, first_byte, give_back, granted_units, insert, place, place_packed, resize,
     upload,

@@ -4,6 +4,7 @@ use super::steps::Limit::{Few, Limited};
 use super::steps::Step::Grants;
 use super::steps::expect;
 use crate::asserts::{assert_same, assert_same_at, assert_that};
+use crate::layouts::{Expectation, check};
 use offset_allocator::ext::min_allocator_size;
 use offset_allocator::small_float::{
     float_to_uint, uint_to_float_round_down, uint_to_float_round_up,
@@ -12,7 +13,6 @@ use offset_allocator::{
     AllocatorOf, NodeIndex, StorageReportFull, StorageReportFullRegion, Tables,
 };
 use offset_test_base::groups::value_of;
-use offset_test_base::layouts::{Expectation, check};
 use std::alloc::Global;
 use std::process::Abort;
 

@@ -1,9 +1,9 @@
 //! Spaces as JSON.
 
 use crate::asserts::{assert_same, assert_that};
+use crate::layouts::{ALL, Expectation, check_each};
 use offset_allocator::{AllocatorOf, Tables};
 use offset_script::{json_of, vma_json_of};
-use offset_test_base::layouts::{ALL, Expectation, check_each};
 use std::alloc::{AllocError, Global};
 use std::process::Abort;
 

@@ -1,8 +1,8 @@
 //! What an allocator is made of.
 
 use crate::asserts::{assert_same, assert_that};
+use crate::layouts::{Expectation, check};
 use offset_allocator::{AllocatorOf, NodeIndex, Tables, laws};
-use offset_test_base::layouts::{Expectation, check};
 use std::alloc::Global;
 use std::process::Abort;
 

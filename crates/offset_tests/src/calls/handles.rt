@@ -4,8 +4,8 @@ use super::steps::Limit::{Few, Limited};
 use super::steps::Step::{Frees, FreesAltered, Gone, Grants, Lives};
 use super::steps::{Case, Step, expect_all, follow, make_allocator};
 use crate::asserts::{assert_same, assert_that};
+use crate::layouts::{Expectation, Layout, check_each};
 use offset_allocator::{Allocation, AllocatorOf, Tables};
-use offset_test_base::layouts::{Expectation, Layout, check_each};
 use std::alloc::Global;
 use std::process::Abort;
 

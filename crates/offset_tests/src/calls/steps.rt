@@ -1,6 +1,7 @@
 //! Calls on one allocator, as rows of a table.
 
 use crate::asserts::{assert_same_at, assert_that_at, text_of};
+use crate::layouts::{ALL, Expectation, check_each};
 use offset_allocator::laws::{
     allocation_offset_counted, is_empty_counted, next_block_counted, refusal_aligned_counted,
     refusal_counted, refusal_tight_aligned_counted, refusal_tight_counted, statistics_counted,
@@ -10,7 +11,6 @@ use offset_allocator::{
     Accesses, Allocation, AllocatorOf, Block, Move, NodeIndex, Refusal, Statistics,
     StorageReportFullRegion, Tables,
 };
-use offset_test_base::layouts::{ALL, Expectation, check_each};
 use std::alloc::{AllocError, Global};
 use std::process::Abort;
 

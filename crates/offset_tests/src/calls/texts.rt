@@ -4,11 +4,11 @@ use super::steps::Limit::Limited;
 use super::steps::Step::{Grants, Shows};
 use super::steps::{Case, expect_all, make_allocator};
 use crate::asserts::{assert_shown, assert_text, assert_that, text_of};
+use crate::layouts::{ALL, Expectation, check_each};
 use offset_allocator::{
     NonMaxU16, NonMaxU32, Refusal, StorageReport, StorageReportFull, StorageReportFullRegion,
     Tables,
 };
-use offset_test_base::layouts::{ALL, Expectation, check_each};
 use std::alloc::{AllocError, Global};
 use std::process::Abort;
 

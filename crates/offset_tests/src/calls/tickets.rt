@@ -1,9 +1,9 @@
 //! Tickets that are stale, freed twice, altered or of another space.
 
 use crate::asserts::{assert_same, assert_that};
+use crate::layouts::{Expectation, Layout, check_each};
 use offset_allocator::{Move, NodeIndex, Tables};
 use offset_guarded::{GuardedOf, Refusal, Ticket};
-use offset_test_base::layouts::{Expectation, Layout, check_each};
 use std::alloc::Global;
 use std::process::Abort;
 

@@ -1,7 +1,7 @@
 //! The layout by node, with each index type. The choice of a type is proved here once, and not anew in each test.
 
-use crate::tiny::Tiny;
 use offset_allocator::{ByNode, Tables};
+use offset_test_base::tiny::Tiny;
 use std::alloc::Global;
 use std::process::Abort;
 
