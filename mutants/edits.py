@@ -106,6 +106,12 @@ def bodies(source):
             head = None
 
 
+def names(crate):
+    """The name of each function of a crate, as often as there is one."""
+    sources = [it.read_text(encoding="utf-8") for it in (TOP / "crates" / crate / "src").rglob("*.rt")]
+    return [name for source in sources for name, _, _ in bodies(source)]
+
+
 def function_at(source, place):
     """The name of the function in whose body this place is, or `None`."""
     return next((name for name, begin, end in bodies(source) if begin <= place < end), None)
