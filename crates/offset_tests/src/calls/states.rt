@@ -1,9 +1,9 @@
-//! States: their bytes, each fault, and that a copy and a space that was read go on alike.
+//! States: their bytes, each fault except that of a checksum, and that a copy and a space that was read go on alike.
 
 use crate::asserts::{assert_same, assert_same_at, assert_that};
 use crate::layouts::{ALL, Expectation, check, check_each};
 use offset_allocator::StateFaultKind::{
-    Block, Checksum, Counts, Form, Free, Length, Limit, Neighbours, Unused,
+    Block, Counts, Form, Free, Length, Limit, Neighbours, Unused,
 };
 use offset_allocator::{Allocation, AllocatorOf, NodeIndex, StateFault, StateFaultKind, Tables};
 use std::alloc::Global;
@@ -127,27 +127,6 @@ impl Expectation for Faults {
                 }
             }
         }
-        // a checksum that is not that of the numbers, and a byte too few
-        let mut bytes = bytes_of(rt, alloc, CASES[0].words);
-        bytes[40] ^= 1;
-        let read = AllocatorOf::<T>::read_state(alloc, &bytes, 10).expect(rt, "memory");
-        assert_same(
-            rt,
-            &read.err(),
-            &Some(StateFault {
-                at: 40,
-                kind: Checksum,
-            }),
-        );
-        let short = AllocatorOf::<T>::read_state(alloc, &bytes[..43], 10).expect(rt, "memory");
-        assert_same(
-            rt,
-            &short.err(),
-            &Some(StateFault {
-                at: 43,
-                kind: Length,
-            }),
-        );
     }
 }
 
