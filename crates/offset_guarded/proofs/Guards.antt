@@ -13,6 +13,7 @@ use Rattle.offset_allocator.specs.Tight.{AlignsTight, CanHold}
 use Rattle.offset_allocator.proofs.Reading.{range_at}
 use Rattle.offset_allocator.proofs.Tallies.{hit_cases}
 use Rattle.offset_guarded.specs.declared.ticket.Ticket.{Ticket}
+use Rattle.offset_guarded.specs.State as state
 use Rattle.offset_guarded.specs.Guard.{Guard, Table, Grants, AreAlike, IsGuarded, IsLive, KeepsOthers, last_serial, cell, fits, serial_of}
 
 -- what the fields show
@@ -139,3 +140,7 @@ copied {max} {v} {w} {t} {u} h e cells given room = record {
   memory = rw e room;
   admitted = rw e h.admitted;
 }
+
+-- what the fields show is well formed
+pub formed : {max : ℕ} {v : View} {t : Table} → IsWellFormed v → IsGuarded max v t → (realm : ℕ) → realm ≤ 4294967295 → state.IsWellFormed (guard v t realm)
+formed {max} {v} {t} w is realm small = record { space = w; live = is.live; given = is.given; realm = small }

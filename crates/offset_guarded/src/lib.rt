@@ -24,14 +24,19 @@ ghost use Rattle.offset_guarded.specs.Guard.{IsCopy, IsLive, KeepsOthers, last_s
 
 mod changing;
 mod granting;
+pub mod laws;
 mod refusal;
+mod restoring;
+mod saving;
 mod serials;
+mod state;
 mod ticket;
 
 use offset_allocator::laws::is_well_formed;
 use offset_allocator::{Allocation, AllocatorOf, ByNode, NodeIndex, Tables};
 pub use refusal::Refusal;
 use serials::Serials;
+pub use state::{StateFault, StateFaultKind};
 use std::alloc::{AllocError, Global};
 use std::fmt;
 use std::marker::Model;

@@ -1,8 +1,10 @@
 //! The serials of grants, by name.
-ghost use Rattle.std.specs.Prelude.{ℕ, ◌≡◌, ◌↔◌, ◌+◌, ◌<◌, ◌≤◌, [], ◌∷◌, ◌++◌, IfOk, IsTrue, false, length, slice_set};
-ghost use Rattle.std.specs.Prelude.{vec_capacity, vec_len};
+ghost use Rattle.std.specs.Prelude.{ℕ, ◌≡◌, ◌↔◌, ◌+◌, ◌/◌, ◌<◌, ◌≤◌, [], ◌∷◌, ◌++◌, IfOk, IfSome, IsTrue, None, false};
+ghost use Rattle.std.specs.Prelude.{length, slice_set, vec_capacity, vec_len};
 ghost use Rattle.offset_guarded.specs.Guard.{cell, last_serial};
+ghost use Rattle.offset_guarded.specs.State.{numbers};
 
+use crate::state::number;
 use std::alloc::{AllocError, Global};
 use std::marker::Model;
 
@@ -59,6 +61,45 @@ impl Serials {
             cells,
             given: self.given,
         })
+    }
+
+    /// The serials of these bytes, the number that is given, and memory for at least this many names.
+    pub(crate) fn of_bytes(
+        alloc: Global,
+        bytes: &[u8],
+        given: u64,
+        names: u32,
+    ) -> Result<Self, AllocError>
+        ensures cells { IfOk result (λ s. s.cells ≡ numbers (length bytes.now / 8) bytes.now) }
+        ensures given { IfOk result (λ s. s.given ≡ given) }
+        ensures room { IfOk result (λ s. names ≤ s.room) }
+    {
+        let count = bytes.len() / 8;
+        let mut cells = Vec::with_capacity(alloc, count.max(names as usize))?;
+        for place in 0..count {
+            push_within(&mut cells, number(bytes, place));
+        }
+        Ok(Serials { cells, given })
+    }
+
+    /// The serials by name.
+    pub(crate) fn cells(&self) -> &[u64]
+        ensures { result.now ≡ self.now.cells }
+    {
+        &self.cells
+    }
+
+    /// The first name whose serial is above the number that is given.
+    pub(crate) fn first_above(&self) -> Option<usize>
+        ensures none { result ≡ None → (x : ℕ) → cell x self.now.cells ≤ self.now.given }
+        ensures some { IfSome result (λ x. self.now.given < cell x self.now.cells) }
+    {
+        for name in 0..self.cells.len() {
+            if self.cells[name] > self.given {
+                return Some(name);
+            }
+        }
+        None
     }
 
     /// Makes the cells of all names below a number.

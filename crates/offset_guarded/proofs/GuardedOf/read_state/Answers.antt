@@ -1,0 +1,69 @@
+use Rattle.std.proofs.Common.{◌≡◌, ◌∙◌, ◌+◌, ◌*◌, ◌≤◌, ap, refl, sym, subst, arith, drop, length, List, ℕ}
+use Rattle.std.proofs.lemmas.List.{length-drop}
+use Rattle.offset_allocator.specs.Ranges as named
+use Rattle.offset_allocator.specs.State as allocator
+use Rattle.offset_allocator.specs.View.{View}
+use Rattle.offset_guarded.specs.Guard.{Guard, cell}
+use Rattle.offset_guarded.specs.State.{numbers}
+use Rattle.offset_guarded.proofs.Guards.{guard}
+use Rattle.offset_guarded.proofs.Numbers.{length-numbers, numbers_sliced, rest_of}
+use Rattle.offset_guarded.proofs.States.{parts, serials_of, tickets_read}
+use Rattle.offset_guarded.proofs.GuardedOf.read_state.Goals as goal
+
+pub returns-in-Err-2-clause-refused : goal.returns-in-Err-2-clause-refused
+returns-in-Err-2-clause-refused g c _ v w admitted asked st =
+    let bs : List ℕ = c.args.bytes.now in
+    let count : c.in-Ok.header.count ≡ length v.serials = sym c.in-Ok.ensures.header.count ∙ (parts v bs st).count in
+    let b = rw c.in-Err-2.is at c.in_ok-fault.ensures.refused in
+    let state : allocator.IsStateOf v.space (drop (48 + 8 * c.in-Ok.header.count) bs) = subst (λ n. allocator.IsStateOf v.space (drop (48 + 8 * n) bs)) (sym count) st.space in
+    b refl v.space w.space admitted asked (subst (allocator.IsStateOf v.space) (sym (rest_of (48 + 8 * c.in-Ok.header.count) bs)) state)
+
+pub returns-in-Some-clause-refused : goal.returns-in-Some-clause-refused
+returns-in-Some-clause-refused g c _ v w admitted asked st =
+    let bs : List ℕ = c.args.bytes.now in
+    let hd = c.in-Ok.ensures.header in
+    let p = parts v bs st in
+    let count : c.in-Ok.header.count ≡ length v.serials = sym hd.count ∙ p.count in
+    let b = rw c.in-Ok-2.is at c.in_ok-fault.ensures.read in
+    let state : allocator.IsStateOf c.in-Ok-2.space (drop (48 + 8 * c.in-Ok.header.count) bs) = subst (allocator.IsStateOf c.in-Ok-2.space) (rest_of (48 + 8 * c.in-Ok.header.count) bs) b.0 in
+    let same = c.a_state_is_read_back.ensures.one v.space c.in-Ok-2.space (drop (48 + 8 * length v.serials) bs) st.space
+    (subst (λ n. allocator.IsStateOf c.in-Ok-2.space (drop (48 + 8 * n) bs)) count state) in
+    let cells : c.in_ok-serials.serials.cells ≡ v.serials =
+    c.in_ok-serials.ensures.cells ∙ numbers_sliced c.in-Ok.header.count _ (drop 40 bs) (omega arith) (omega (arith, hd.long, length-drop 40 bs))
+    ∙ ap (λ n. numbers n (drop 40 bs)) count ∙ serials_of v bs st in
+    let given : c.in_ok-serials.serials.given ≡ v.given = c.in_ok-serials.ensures.given ∙ sym hd.given ∙ p.given in
+    c.in-Some.ensures.some refl
+    (λ x l. subst (λ (k : List ℕ). 1 ≤ cell x k) (sym cells) (w.live x (subst (λ (u : View). named.IsLive x u) same l)))
+    (λ x. omega (arith, w.given x, given, ap (cell x) cells))
+
+pub invariant_of-result : goal.invariant_of-result
+invariant_of-result g c =
+    let ok = c.in_default.ensures.none refl in
+    record {
+      live = ok.0;
+      given = ok.1;
+      memory = omega (arith, c.in_ok-serials.ensures.room, c.max_allocs.ensures);
+      admitted = omega (arith, c.a_state_is_read_back.ensures.admitted);
+    }
+
+pub returns-clause-read : goal.returns-clause-read
+returns-clause-read g c =
+    let bs : List ℕ = c.args.bytes.now in
+    let hd = c.in-Ok.ensures.header in
+    let b = rw c.in-Ok-2.is at c.in_ok-fault.ensures.read in
+    let v : Guard = guard c.in-Ok-2.space c.in_ok-serials.serials c.in-Ok.header.realm in
+    let cells : v.serials ≡ numbers c.in-Ok.header.count (drop 40 bs) =
+    c.in_ok-serials.ensures.cells ∙ numbers_sliced c.in-Ok.header.count _ (drop 40 bs) (omega arith) (omega (arith, hd.long, length-drop 40 bs)) in
+    let count : length v.serials ≡ c.in-Ok.header.count = ap length cells ∙ length-numbers c.in-Ok.header.count (drop 40 bs) in (
+      record {
+        tickets = tickets_read bs c.in-Ok.header v hd cells c.in_ok-serials.ensures.given refl;
+        space = subst (λ n. allocator.IsStateOf v.space (drop (48 + 8 * n) bs)) (sym count) (subst (allocator.IsStateOf v.space) (rest_of (48 + 8 * c.in-Ok.header.count) bs) b.0);
+      },
+      b.1,
+      b.2,
+    )
+
+pub returns-clause-formed : goal.returns-clause-formed
+returns-clause-formed g c =
+    let ok = c.in_default.ensures.none refl in
+    record { space = c.a_state_is_read_back.ensures.formed; live = ok.0; given = ok.1; realm = c.in-Ok.ensures.header.fits }

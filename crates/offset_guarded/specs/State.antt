@@ -1,0 +1,66 @@
+-- The bytes of a state with tickets: what is written of a guarded allocator, and what is read back.
+use Rattle.std.specs.Prelude.{◌≡◌, ℕ, zero, suc, ◌+◌, ◌*◌, ◌%◌, ◌<◌, ◌≤◌, List, [], ◌∷◌, ◌++◌, length, take, drop}
+use Rattle.std.specs.Int.{w64, from_le_bytes}
+use Rattle.offset_allocator.specs.View as view
+use Rattle.offset_allocator.specs.Ranges as named
+use Rattle.offset_allocator.specs.State as allocator
+use Rattle.offset_guarded.specs.Guard.{Guard, serial_of}
+use Rattle.offset_guarded.specs.declared.restoring.Header.{Header}
+
+-- the number of 64 bits at a place, the lowest byte first
+abbrev pub number_at : List ℕ → ℕ → ℕ
+number_at bytes i = from_le_bytes w64 (take 8 (drop (8 * i) bytes))
+
+-- the first n numbers of 64 bits
+abbrev pub numbers : ℕ → List ℕ → List ℕ
+numbers zero bytes = []
+numbers (suc n) bytes = from_le_bytes w64 (take 8 bytes) ∷ numbers n (drop 8 bytes)
+
+-- the checksum of numbers, from one of those before
+abbrev pub checksum_from : ℕ → List ℕ → ℕ
+checksum_from s [] = s
+checksum_from s (n ∷ ns) = checksum_from ((s * 1099511628211 + n) % 18446744073709551616) ns
+
+-- the numbers of tickets: the form and its version, how many serials are stored, how many were given, the realm, and the
+-- serials by name
+abbrev pub ticket_numbers : Guard → List ℕ
+ticket_numbers g = 1263812943 ∷ 1 ∷ length g.serials ∷ g.given ∷ g.realm ∷ g.serials
+
+-- the bytes of a state of a guarded allocator
+pub record IsStateOf (g : Guard) (bytes : List ℕ) : Type 0 where
+  -- they begin with the numbers of tickets, and their checksum
+  pub tickets : numbers (6 + length g.serials) bytes ≡ ticket_numbers g ++ checksum_from 0 (ticket_numbers g) ∷ []
+  -- what is behind these is a state of the space
+  pub space : allocator.IsStateOf g.space (drop (48 + 8 * length g.serials) bytes)
+
+-- the numbers before the serials, where all numbers of tickets are there, and their checksum is right
+pub record IsHeader (bytes : List ℕ) (h : Header) : Type 0 where
+  pub long : 48 + 8 * h.count ≤ length bytes
+  pub form : number_at bytes 0 ≡ 1263812943
+  pub version : number_at bytes 1 ≡ 1
+  pub count : number_at bytes 2 ≡ h.count
+  pub given : number_at bytes 3 ≡ h.given
+  pub realm : number_at bytes 4 ≡ h.realm
+  pub fits : h.realm ≤ 4294967295
+  pub sum : checksum_from 0 (numbers (5 + h.count) bytes) ≡ number_at bytes (5 + h.count)
+
+-- a guarded allocator that was read: of these bytes, with a node limit that was admitted, and no access counted
+abbrev pub IsRestored : List ℕ → ℕ → Guard → Type 0
+IsRestored bytes most g = IsStateOf g bytes × (g.space.accesses ≡ 0) × (g.space.max_allocs ≤ most)
+
+-- what is true of each guarded allocator
+pub record IsWellFormed (g : Guard) : Type 0 where
+  pub space : view.IsWellFormed g.space
+  -- each live name has a serial
+  pub live : (x : ℕ) → named.IsLive x g.space → 1 ≤ serial_of x g
+  -- and no serial is above the number of grants: so no later grant has one of them
+  pub given : (x : ℕ) → serial_of x g ≤ g.given
+  pub realm : g.realm ≤ 4294967295
+
+-- no guarded allocator whose node limit is admitted has these bytes
+abbrev pub IsNoState : ℕ → ℕ → List ℕ → Type 0
+IsNoState max most bytes = (g : Guard) → IsWellFormed g → g.space.max_allocs + 1 < max → g.space.max_allocs ≤ most → IsStateOf g bytes → ⊥
+
+-- nothing differs but the count of accesses
+abbrev pub SameGuard : Guard → Guard → Type 0
+SameGuard g h = h ≡ record g { space = record g.space { accesses = h.space.accesses } }
