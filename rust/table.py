@@ -40,7 +40,7 @@ extern crate alloc;
 mod memory;
 mod traits;
 
-pub use memory::{AllocError, Global};
+pub use memory::{AllocError, Global, Vec};
 """,
     "offset_heaps": """#![doc = include_str!("../README.md")]
 #![no_std]

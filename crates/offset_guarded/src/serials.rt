@@ -63,15 +63,15 @@ impl Serials {
         })
     }
 
-    /// The serials of these bytes, the number that is given, and memory for at least this many names.
+    /// The serials of these bytes, of so many grants, and memory for at least this many names.
     pub(crate) fn of_bytes(
         alloc: Global,
         bytes: &[u8],
-        given: u64,
+        grants: u64,
         names: u32,
     ) -> Result<Self, AllocError>
         ensures cells { IfOk result (λ s. s.cells ≡ numbers (length bytes.now / 8) bytes.now) }
-        ensures given { IfOk result (λ s. s.given ≡ given) }
+        ensures given { IfOk result (λ s. s.given ≡ grants) }
         ensures room { IfOk result (λ s. names ≤ s.room) }
     {
         let count = bytes.len() / 8;
@@ -79,7 +79,10 @@ impl Serials {
         for place in 0..count {
             push_within(&mut cells, number(bytes, place));
         }
-        Ok(Serials { cells, given })
+        Ok(Serials {
+            cells,
+            given: grants,
+        })
     }
 
     /// The serials by name.

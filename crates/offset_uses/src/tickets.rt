@@ -2,8 +2,8 @@
 //! clause is taken back there, the function here is not proved.
 
 ghost use Rattle.std.specs.List.{FoldsTo};
-ghost use Rattle.std.specs.Prelude.{◌%◌, ◌*◌, ◌+◌, ◌-◌, ◌<◌, ◌↔◌, ◌≡◌, ◌≤◌, IfOk, IfSome, IsSome, IsTrue};
-ghost use Rattle.std.specs.Prelude.{MatchOption, None, Some, [], false, length, min, option_map, true};
+ghost use Rattle.std.specs.Prelude.{◌%◌, ◌*◌, ◌+◌, ◌-◌, ◌<◌, ◌↔◌, ◌≡◌, ◌≤◌, IfOk, IfSome, IsErr, IsOk, IsSome};
+ghost use Rattle.std.specs.Prelude.{IsTrue, MatchOption, None, Some, [], false, length, min, option_map, true};
 ghost use Rattle.offset_allocator.specs.Compacting.{Compacts, IsCalledWith, moves};
 ghost use Rattle.offset_allocator.specs.Ranges.{Range};
 ghost use Rattle.offset_allocator.specs.Relations.{Aligns, Allocates, CanExtend, Extends, Frees, IsAlignment};
@@ -16,10 +16,12 @@ ghost use Rattle.offset_allocator.specs.View.{bin_at, largest_free, used_of};
 ghost use Rattle.offset_guarded.specs.Guard.{Grants, HasSerialLeft, HasUnits, IsCopy, IsLive, IsSame, IsWhy};
 ghost use Rattle.offset_guarded.specs.Guard.{IsWhyTight, KeepsAll, KeepsLive, KeepsOthers, KeepsSerials};
 ghost use Rattle.offset_guarded.specs.Guard.{KeepsSizes, grant_of, last_serial, range_of, serial_of};
+ghost use Rattle.offset_guarded.specs.State.{IsNoState, IsRestored, IsStateOf, IsWellFormed};
 ghost use Rattle.offset_allocator.specs.Ranges as named;
 
 use offset_allocator::{Allocation, AllocatorOf, Move, Tables};
-use offset_guarded::{GuardedOf, Refusal, Ticket};
+use offset_guarded::laws::a_state_is_read_back;
+use offset_guarded::{GuardedOf, Refusal, StateFault, Ticket};
 use std::alloc::{AllocError, Global};
 
 /// `new`, with each clause of its contract.
@@ -120,6 +122,42 @@ pub fn try_clone<T: Tables>(space: &GuardedOf<T>, alloc: Global) -> Result<Guard
     ensures { IfOk result (IsCopy space.now) }
 {
     space.try_clone(alloc)
+}
+
+/// `write_state`, with each clause of its contract.
+pub fn write_state<T: Tables>(space: &GuardedOf<T>, alloc: Global) -> Result<Vec<u8>, AllocError>
+    ensures { IfOk result (λ bytes. IsStateOf space.now bytes.items) }
+{
+    space.write_state(alloc)
+}
+
+/// `read_state`, with each clause of its contract.
+pub fn read_state<T: Tables>(
+    alloc: Global,
+    bytes: &[u8],
+    most_allocs: u32,
+) -> Result<Result<GuardedOf<T>, StateFault>, AllocError>
+    ensures read { IfOk result (λ r. IfOk r (IsRestored bytes.now most_allocs)) }
+    ensures formed { IfOk result (λ r. IfOk r IsWellFormed) }
+    ensures refused { IfOk result (λ r. IsErr r → IsNoState T.Index.MAX most_allocs bytes.now) }
+{
+    GuardedOf::read_state(alloc, bytes, most_allocs)
+}
+
+/// What is read of the bytes that a space is written to: the same space, the same realm and the same serials. So each
+/// ticket has the range that it has there, or none.
+pub fn written_and_read<T: Tables>(
+    space: &GuardedOf<T>,
+    alloc: Global,
+) -> Result<Result<GuardedOf<T>, StateFault>, AllocError>
+    ensures read { IfOk result IsOk }
+    ensures same { IfOk result (λ r. IfOk r (IsCopy space.now)) }
+    ensures tickets { IfOk result (λ r. IfOk r (KeepsAll space.now)) }
+{
+    // what is written is a state of one space at most, and this one may be read
+    a_state_is_read_back(space);
+    let bytes = space.write_state(alloc)?;
+    GuardedOf::read_state(alloc, &bytes, space.allocator().max_allocs())
 }
 
 /// `reset`, with each clause of its contract.

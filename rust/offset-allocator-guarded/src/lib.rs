@@ -28,18 +28,23 @@ extern crate alloc;
 mod memory;
 mod traits;
 
-pub use memory::{AllocError, Global};
+pub use memory::{AllocError, Global, Vec};
 
 mod changing;
 mod granting;
+pub mod laws;
 mod refusal;
+mod restoring;
+mod saving;
 mod serials;
+mod state;
 mod ticket;
 
 use offset_allocator::laws::is_well_formed;
 use offset_allocator::{Allocation, AllocatorOf, ByNode, NodeIndex, Tables};
 pub use refusal::Refusal;
 use serials::Serials;
+pub use state::{StateFault, StateFaultKind};
 use core::fmt;
 pub use ticket::Ticket;
 

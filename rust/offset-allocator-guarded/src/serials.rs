@@ -3,6 +3,7 @@
 //! The serials of grants, by name.
 
 use crate::memory::Vec;
+use crate::state::number;
 use crate::memory::{AllocError, Global};
 
 /// The serial that each name was last granted with, 0 before its first grant, and the number of serials given so far.
@@ -37,6 +38,39 @@ impl Serials {
             cells,
             given: self.given,
         })
+    }
+
+    /// The serials of these bytes, of so many grants, and memory for at least this many names.
+    pub(crate) fn of_bytes(
+        alloc: Global,
+        bytes: &[u8],
+        grants: u64,
+        names: u32,
+    ) -> Result<Self, AllocError> {
+        let count = bytes.len() / 8;
+        let mut cells = Vec::with_capacity(alloc, count.max(names as usize))?;
+        for place in 0..count {
+            push_within(&mut cells, number(bytes, place));
+        }
+        Ok(Serials {
+            cells,
+            given: grants,
+        })
+    }
+
+    /// The serials by name.
+    pub(crate) fn cells(&self) -> &[u64] {
+        &self.cells
+    }
+
+    /// The first name whose serial is above the number that is given.
+    pub(crate) fn first_above(&self) -> Option<usize> {
+        for name in 0..self.cells.len() {
+            if self.cells[name] > self.given {
+                return Some(name);
+            }
+        }
+        None
     }
 
     /// Makes the cells of all names below a number.

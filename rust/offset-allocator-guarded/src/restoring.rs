@@ -1,0 +1,144 @@
+// Printed by rust/erase from crates/offset_guarded/src/restoring.rt: change it there.
+
+//! A guarded allocator from the bytes of its state, and what is wrong with bytes that are none. It makes tables.
+
+use crate::GuardedOf;
+use crate::serials::Serials;
+use crate::state::{StateFault, StateFaultKind, checksum, number};
+use offset_allocator::laws::a_state_is_read_back;
+use offset_allocator::{Allocation, AllocatorOf, Tables};
+use crate::memory::{AllocError, Global};
+
+// What the numbers before the serials say.
+pub(crate) struct Header {
+    // how many serials are stored, and how many were given
+    pub(crate) count: usize,
+    pub(crate) given: u64,
+    pub(crate) realm: u32,
+}
+
+// The header of these bytes, where all numbers of tickets are there and their checksum is right.
+fn header_of(bytes: &[u8]) -> Result<Header, StateFault> {
+    if bytes.len() < 48 {
+        return Err(StateFault {
+            at: bytes.len(),
+            kind: StateFaultKind::Length,
+        });
+    }
+    if number(bytes, 0) != 1263812943 || number(bytes, 1) != 1 {
+        return Err(StateFault {
+            at: 0,
+            kind: StateFaultKind::Form,
+        });
+    }
+    let stored = number(bytes, 2);
+    if stored > (bytes.len() as u64 - 48) / 8 {
+        return Err(StateFault {
+            at: bytes.len(),
+            kind: StateFaultKind::Length,
+        });
+    }
+    let count = stored as usize;
+    let given = number(bytes, 3);
+    let realm = number(bytes, 4);
+    if realm > u32::MAX as u64 {
+        return Err(StateFault {
+            at: 32,
+            kind: StateFaultKind::Realm,
+        });
+    }
+    if checksum(bytes, 5 + count) != number(bytes, 5 + count) {
+        return Err(StateFault {
+            at: 40 + 8 * count,
+            kind: StateFaultKind::Checksum,
+        });
+    }
+    Ok(Header {
+        count,
+        given,
+        realm: realm as u32,
+    })
+}
+
+// The first live name that has no serial.
+fn live_without_serial<T: Tables>(space: &AllocatorOf<T>, serials: &Serials) -> Option<u32> {
+    // A step of the proof, which does nothing: names are below the limit.
+    a_state_is_read_back(space);
+    for name in 0..space.node_count() {
+        if serials.at(name) != 0 {
+            continue;
+        }
+        if let Some(handle) = Allocation::from_parts(0, name) {
+            if space.is_live(handle) {
+                return Some(name);
+            }
+        }
+    }
+    None
+}
+
+// What is wrong with the serials of a space, if anything is.
+fn serial_fault<T: Tables>(space: &AllocatorOf<T>, serials: &Serials) -> Option<StateFault> {
+    if let Some(name) = serials.first_above() {
+        return Some(StateFault {
+            at: 8usize.wrapping_mul(name).wrapping_add(40),
+            kind: StateFaultKind::Serial,
+        });
+    }
+    let name = live_without_serial(space, serials)? as usize;
+    let is_stored = name < serials.cells().len();
+    Some(StateFault {
+        at: if is_stored { 8 * name + 40 } else { 16 },
+        kind: StateFaultKind::Serial,
+    })
+}
+
+impl<T: Tables> GuardedOf<T> {
+    /// The guarded allocator of these bytes, which `write_state` has made, or what is wrong with them, and where: any bytes
+    /// are read. It has the same space, the same serials and the same realm as the one that was written: so each ticket that
+    /// was live there is live here, with its range, and no other is.
+    ///
+    /// Serials go on from the number that was stored, as they do in the one that was written, and in every other that is
+    /// read from the same bytes: so a later grant of one may have a ticket that is live in the other, for another range. Use
+    /// one in place of the other. A ticket that was freed after the bytes were written is live again here.
+    ///
+    /// `most_allocs` is the largest node limit that is accepted, since memory for the limit is reserved, as by
+    /// `with_max_allocs`. Nothing else that is requested is more than 8 bytes for each 8 that were given. It takes time for
+    /// the bytes. An error is returned only where an allocation failed; then nothing is made.
+    pub fn read_state(
+        alloc: Global,
+        bytes: &[u8],
+        most_allocs: u32,
+    ) -> Result<Result<Self, StateFault>, AllocError> {
+        let header = match header_of(bytes) {
+            Err(fault) => return Ok(Err(fault)),
+            Ok(header) => header,
+        };
+        let end = 48 + 8 * header.count;
+        let space = match AllocatorOf::read_state(alloc, &bytes[end..], most_allocs)? {
+            Err(fault) => {
+                return Ok(Err(StateFault {
+                    at: end.wrapping_add(fault.at),
+                    kind: StateFaultKind::Allocator(fault.kind),
+                }));
+            }
+            Ok(space) => space,
+        };
+        // A step of the proof, which does nothing: no other space has these bytes.
+        a_state_is_read_back(&space);
+        let serials = Serials::of_bytes(
+            alloc,
+            &bytes[40..end - 8],
+            header.given,
+            space.max_allocs(),
+        )?;
+        if let Some(fault) = serial_fault(&space, &serials) {
+            return Ok(Err(fault));
+        }
+        Ok(Ok(GuardedOf {
+            space,
+            serials,
+            realm: header.realm,
+        }))
+    }
+}

@@ -1,0 +1,67 @@
+// Printed by rust/erase from crates/offset_guarded/src/state.rt: change it there.
+
+//! The numbers of a state with tickets: bytes as numbers of 64 bits, their checksum, and what is wrong with them. It
+//! touches no space.
+
+use core::fmt;
+
+/// What is wrong with the bytes of a state, and where.
+#[derive(Clone, Copy, PartialEq, Debug)]
+pub struct StateFault {
+    /// The place of the byte from which on the bytes are wrong; or their number, where there are too few or too many.
+    pub at: usize,
+    /// What is wrong there.
+    pub kind: StateFaultKind,
+}
+
+/// What is wrong with the bytes of a state.
+#[derive(Clone, Copy, PartialEq, Debug)]
+pub enum StateFaultKind {
+    /// They are fewer than the numbers of tickets, of which they say how many there are.
+    Length,
+    /// They do not begin as a state with tickets does, or are of another version.
+    Form,
+    /// The realm has more than 32 bits.
+    Realm,
+    /// The checksum is not that of the numbers of tickets.
+    Checksum,
+    /// The serial of a name: it is above the number of grants; or there is none for a live range, and then the place is
+    /// that of the serial, which is 0, or of the number of serials, which is too small.
+    Serial,
+    /// The state of the space, which is behind the numbers of tickets, has this fault.
+    Allocator(offset_allocator::StateFaultKind),
+}
+
+impl fmt::Display for StateFaultKind {
+    fn fmt(&self, f: &mut fmt::Formatter<'_>) -> fmt::Result {
+        match self {
+            StateFaultKind::Length => f.write_str("fewer bytes than the counts say"),
+            StateFaultKind::Form => f.write_str("no state with tickets, or one of another version"),
+            StateFaultKind::Realm => f.write_str("a realm of more than 32 bits"),
+            StateFaultKind::Checksum => f.write_str("a checksum that is not that of the tickets"),
+            StateFaultKind::Serial => f.write_str(
+                "a serial that was not given, or none for a live range",
+            ),
+            StateFaultKind::Allocator(kind) => write!(f, "{kind}"),
+        }
+    }
+}
+
+/// The number of 64 bits at a place, the lowest byte first.
+pub(crate) fn number(bytes: &[u8], place: usize) -> u64 {
+    let at = 8 * place;
+    let mut eight = [0; 8];
+    eight.copy_from_slice(&bytes[at..at + 8]);
+    u64::from_le_bytes(eight)
+}
+
+/// The checksum of the first numbers.
+pub(crate) fn checksum(bytes: &[u8], count: usize) -> u64 {
+    let mut sum = 0u64;
+    for place in 0..count {
+        sum = sum
+            .wrapping_mul(1099511628211)
+            .wrapping_add(number(bytes, place));
+    }
+    sum
+}
