@@ -225,6 +225,15 @@ struct State {
     State &operator=(const State &) = delete;
     ~State() { oa_state_drop(held); }
 };
+
+// Assigns the bytes of a state, which is dropped; or returns false where there is none.
+template <class Bytes> bool assign(oa_state *made, Bytes &bytes) {
+    const State state(made);
+    if (!state.held) return false;
+    const uint8_t *first = oa_state_bytes(state.held);
+    bytes.assign(first, first + oa_state_size(state.held));
+    return true;
+}
 } // namespace detail
 
 class Allocator {
@@ -259,13 +268,7 @@ public:
 
     // Assigns the bytes of the state to a vector, say. False where memory for them is out; an exception of assign is that
     // of the caller.
-    template <class Bytes> bool save(Bytes &bytes) const {
-        const detail::State state(oa_write_state(space));
-        if (!state.held) return false;
-        const uint8_t *first = oa_state_bytes(state.held);
-        bytes.assign(first, first + oa_state_size(state.held));
-        return true;
-    }
+    template <class Bytes> bool save(Bytes &bytes) const { return detail::assign(oa_write_state(space), bytes); }
 
     // The space of bytes that save has assigned, or an empty one and what is wrong with them, and where.
     struct Loaded;
@@ -399,6 +402,14 @@ public:
     // Whether it has a space.
     explicit operator bool() const noexcept { return space != nullptr; }
 
+    // Assigns the bytes of the state to a vector, say, with realm and serials. False where memory for them is out.
+    template <class Bytes> bool save(Bytes &bytes) const { return detail::assign(oag_write_state(space), bytes); }
+
+    // The space of bytes that save has assigned, with the same tickets, or an empty one and what is wrong with them, and
+    // where. It is to be used in place of the one that was saved: later grants of both may have the same ticket.
+    struct Loaded;
+    static Loaded load(const void *bytes, size_t size, uint32 mostAllocs = 128 * 1024);
+
     void reset() { oag_reset(space); }
 
     // Where it is refused, the ticket converts to false.
@@ -469,6 +480,21 @@ private:
 };
 
 inline void swap(GuardedAllocator &a, GuardedAllocator &b) noexcept { a.swap(b); }
+
+// A space that was loaded, or an empty one and what is wrong with the bytes, and where.
+struct GuardedAllocator::Loaded {
+    GuardedAllocator space;
+    oa_found found;
+    size_t at;
+};
+
+inline GuardedAllocator::Loaded GuardedAllocator::load(const void *bytes, size_t size, uint32 mostAllocs) {
+    const detail::State state(oa_state_new(size));
+    if (!state.held) return Loaded{GuardedAllocator(static_cast<oag_allocator *>(nullptr)), OA_OUT_OF_MEMORY, 0};
+    if (size != 0) std::memcpy(oa_state_bytes(state.held), bytes, size);
+    oag_read read = oag_read_state(state.held, mostAllocs);
+    return Loaded{GuardedAllocator(read.space), read.found, read.at};
+}
 
 // The smallest size of a fresh space that grants a request of this size; 0 above 4026531840.
 inline uint32 minAllocatorSize(uint32 size) { return oa_min_allocator_size(size); }

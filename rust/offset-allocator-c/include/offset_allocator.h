@@ -15,7 +15,7 @@
  * and a walk whose space changed. A call with a null allocator does nothing and returns what its comment says. A handle
  * that is not live here is refused by the result, and nothing changes: it was freed, or a reset freed it, or its name is
  * not in use. A stale handle, or one of another allocator, whose name is in use here cannot be distinguished from the live
- * one. Only the calls named *_new and *_clone, oa_write_state and oa_read_state take memory.
+ * one. Only the calls named *_new, *_clone, *_write_state and *_read_state take memory.
  *
  * Threads. Calls with an oa_allocator * need it for themselves; calls with a const oa_allocator * may run at the same
  * time as each other.
@@ -123,7 +123,7 @@ typedef struct oa_blocks oa_blocks;
 /* The bytes of a state. */
 typedef struct oa_state oa_state;
 
-/* What oa_read_state found: a space, no memory for it, or what is wrong with the bytes. */
+/* What oa_read_state and oag_read_state found: a space, no memory for it, or what is wrong with the bytes. */
 typedef enum oa_found {
     OA_SPACE_READ = 0,
     OA_OUT_OF_MEMORY = 1,
@@ -135,7 +135,9 @@ typedef enum oa_found {
     OA_BAD_BLOCK = 7,      /* A block with a wrong name, or the sizes are not that of the space. */
     OA_BAD_UNUSED = 8,     /* An unused name that is wrong, or listed twice. */
     OA_BAD_FREE = 9,       /* The name of no block, or of a free one that was listed before. */
-    OA_BAD_NEIGHBOURS = 10 /* This block and the one after it are both free. */
+    OA_BAD_NEIGHBOURS = 10, /* This block and the one after it are both free. */
+    OA_BAD_REALM = 11,     /* A realm of more than 32 bits. */
+    OA_BAD_SERIAL = 12     /* A serial that is above the number of grants, or none for a live range. */
 } oa_found;
 
 /* A space that was read, or null, and what is wrong. at: the place of the byte from which on the bytes are wrong, or their
@@ -329,6 +331,22 @@ void oag_drop(oag_allocator *space);
 /* As oa_clone, with the same realm and serials: each ticket that is live here is live there. Use one copy in place of the
  * other, not beside it: later grants of both may have the same ticket. */
 oag_allocator *oag_clone(const oag_allocator *space);
+
+/* The bytes of the state of a space with its tickets: as oa_write_state, and 48 more, and 8 for each node that was ever
+ * made. Null where memory is out, or space is null. To be dropped by oa_state_drop. */
+oa_state *oag_write_state(const oag_allocator *space);
+
+/* A space with tickets that was read, or null, and what is wrong, and where. */
+typedef struct oag_read {
+    oag_allocator *space;
+    oa_found found;
+    size_t at;
+} oag_read;
+
+/* The space of these bytes, which goes on as the one that was written: with its realm, and the same tickets are live. Any
+ * bytes are read, as by oa_read_state. Use it in place of the one that was written: later grants of both may have the same
+ * ticket. The state is not dropped. */
+oag_read oag_read_state(const oa_state *state, uint32_t most_allocs);
 
 /* Makes the whole space free. No earlier ticket is live then. */
 void oag_reset(oag_allocator *space);

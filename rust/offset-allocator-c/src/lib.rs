@@ -121,7 +121,7 @@ pub type Blocks = [Vec<Block>; 1];
 /// The bytes of a state.
 pub type State = [Vec<u8>; 1];
 
-/// What `oa_read_state` found.
+/// What `oa_read_state` and `oag_read_state` found.
 #[repr(C)]
 pub enum Found {
     Space,
@@ -135,12 +135,22 @@ pub enum Found {
     Unused,
     Free,
     Neighbours,
+    Realm,
+    Serial,
 }
 
 /// A space that was read, or what is wrong with the bytes, and where.
 #[repr(C)]
 pub struct Read {
     space: Option<Box<Space>>,
+    found: Found,
+    at: usize,
+}
+
+/// The same of a space with tickets.
+#[repr(C)]
+pub struct GuardedRead {
+    space: Option<Box<GuardedSpace>>,
     found: Found,
     at: usize,
 }
@@ -236,6 +246,31 @@ fn boxed<T>(value: T) -> Option<Box<[T; 1]>> {
     one.into_boxed_slice().try_into().ok()
 }
 
+fn fault(kind: StateFaultKind) -> Found {
+    match kind {
+        StateFaultKind::Length => Found::Length,
+        StateFaultKind::Form => Found::Form,
+        StateFaultKind::Limit => Found::Limit,
+        StateFaultKind::Counts => Found::Counts,
+        StateFaultKind::Checksum => Found::Checksum,
+        StateFaultKind::Block => Found::Block,
+        StateFaultKind::Unused => Found::Unused,
+        StateFaultKind::Free => Found::Free,
+        StateFaultKind::Neighbours => Found::Neighbours,
+    }
+}
+
+fn guarded_fault(kind: offset_allocator_guarded::StateFaultKind) -> Found {
+    match kind {
+        offset_allocator_guarded::StateFaultKind::Length => Found::Length,
+        offset_allocator_guarded::StateFaultKind::Form => Found::Form,
+        offset_allocator_guarded::StateFaultKind::Realm => Found::Realm,
+        offset_allocator_guarded::StateFaultKind::Checksum => Found::Checksum,
+        offset_allocator_guarded::StateFaultKind::Serial => Found::Serial,
+        offset_allocator_guarded::StateFaultKind::Allocator(kind) => fault(kind),
+    }
+}
+
 // The space of these bytes, or what is wrong with them.
 fn read(state: &[u8], most_allocs: u32) -> Read {
     let lost = |found, at| Read { space: None, found, at };
@@ -245,20 +280,19 @@ fn read(state: &[u8], most_allocs: u32) -> Read {
             None => lost(Found::OutOfMemory, 0),
             space => Read { space, found: Found::Space, at: state.len() },
         },
-        Ok(Err(fault)) => lost(
-            match fault.kind {
-                StateFaultKind::Length => Found::Length,
-                StateFaultKind::Form => Found::Form,
-                StateFaultKind::Limit => Found::Limit,
-                StateFaultKind::Counts => Found::Counts,
-                StateFaultKind::Checksum => Found::Checksum,
-                StateFaultKind::Block => Found::Block,
-                StateFaultKind::Unused => Found::Unused,
-                StateFaultKind::Free => Found::Free,
-                StateFaultKind::Neighbours => Found::Neighbours,
-            },
-            fault.at,
-        ),
+        Ok(Err(wrong)) => lost(fault(wrong.kind), wrong.at),
+    }
+}
+
+fn guarded_read(state: &[u8], most_allocs: u32) -> GuardedRead {
+    let lost = |found, at| GuardedRead { space: None, found, at };
+    match Guarded::read_state(Global, state, most_allocs) {
+        Err(_) => lost(Found::OutOfMemory, 0),
+        Ok(Ok(space)) => match boxed(space) {
+            None => lost(Found::OutOfMemory, 0),
+            space => GuardedRead { space, found: Found::Space, at: state.len() },
+        },
+        Ok(Err(wrong)) => lost(guarded_fault(wrong.kind), wrong.at),
     }
 }
 
@@ -464,6 +498,14 @@ exports! {
     fn oag_drop(space: Option<Box<GuardedSpace>>) -> () { drop(space) } else ();
 
     fn oag_clone([space: &GuardedSpace],) -> Option<Box<GuardedSpace>> { boxed(space.try_clone(offset_allocator_guarded::Global).ok()?) } else None;
+
+    fn oag_write_state([space: &GuardedSpace],) -> Option<Box<State>> {
+        boxed(space.write_state(Global).ok()?.into())
+    } else None;
+
+    fn oag_read_state([state: &State], most_allocs: u32) -> GuardedRead {
+        guarded_read(state, most_allocs)
+    } else GuardedRead { space: None, found: Found::Length, at: 0 };
 
     fn oag_reset([space: &mut GuardedSpace],) -> () { space.reset() } else ();
 

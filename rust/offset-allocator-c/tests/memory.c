@@ -71,6 +71,28 @@ int main(void) {
     oa_drop(copy);
     oa_state_drop(state);
     if (copied < 3 || stored < 3 || read < 3) return printf("no request failed\n"), 1;
+    /* the same with tickets */
+    left = -1;
+    oag_allocator *with_tickets = oag_new(1000, 100, 7), *again = NULL;
+    oag_allocate(with_tickets, 10);
+    state = NULL;
+    for (left = 0, stored = 0; !state; stored++) {
+        long before = held, next = left;
+        state = oag_write_state(with_tickets);
+        if (!state && held != before) return printf("oag_write_state keeps memory\n"), 1;
+        left = state ? -1 : next + 1;
+    }
+    for (left = 0, read = 0; !again; read++) {
+        long before = held, next = left;
+        oag_read found = oag_read_state(state, 100);
+        again = found.space;
+        if (!again && (held != before || found.found != OA_OUT_OF_MEMORY)) return printf("oag_read_state keeps memory\n"), 1;
+        left = again ? -1 : next + 1;
+    }
+    oag_drop(again);
+    oag_drop(with_tickets);
+    oa_state_drop(state);
+    if (stored < 4 || read < 4) return printf("no request with tickets failed\n"), 1;
     /* no other call takes memory */
     left = 0;
     oa_allocation a = oa_allocate(space, 20);

@@ -347,6 +347,15 @@ static void states() {
     GuardedAllocator copy = guarded.clone();
     guarded.free(t);
     CHECK(copy.isLive(t) && !guarded.isLive(t));
+    CHECK(copy.save(level) && level.size() == 48 + 2 * 8 + 32 + 2 * 8 + 4);
+    GuardedAllocator::Loaded restored = GuardedAllocator::load(level.data(), level.size());
+    CHECK(restored.found == OA_SPACE_READ && restored.space.isLive(t) && restored.space.realm() == 5);
+    CHECK(restored.space.allocate(20) == copy.allocate(20) && restored.space.free(t) && !restored.space.free(t));
+    level[47] ^= 1;
+    GuardedAllocator::Loaded lost = GuardedAllocator::load(level.data(), level.size());
+    CHECK(!lost.space && lost.found == OA_BAD_CHECKSUM && lost.at == 56);
+    CHECK(GuardedAllocator::load(level.data(), 47).found == OA_BAD_LENGTH && !GuardedAllocator::load(nullptr, 0).space);
+    CHECK(!lost.space.save(level) && level.size() == 116);
 }
 
 int main() {

@@ -3,6 +3,7 @@
 
 #include <stdio.h>
 #include <stdlib.h>
+#include <string.h>
 
 static int checks;
 
@@ -53,6 +54,78 @@ static void stale(void) {
     oag_drop(other);
     oag_drop(space);
     oag_drop(NULL);
+}
+
+/* what is written is read back, with the same tickets */
+static void states(void) {
+    /* the tickets of a space of 100 units and a limit of 5 with one grant of 40 units in realm 7: the form, the version,
+     * two serials, one grant, the realm, 1 for the name 0 and 0 for the name 1; the checksum is worked out below */
+    static const uint8_t first[] = {
+        'O', 'A', 'T', 'K', 0, 0, 0, 0, 1, 0, 0, 0, 0, 0, 0, 0, 2, 0, 0, 0, 0, 0, 0, 0, 1, 0, 0, 0, 0, 0, 0, 0,
+        7, 0, 0, 0, 0, 0, 0, 0, 1, 0, 0, 0, 0, 0, 0, 0, 0, 0, 0, 0, 0, 0, 0, 0};
+    static const uint64_t numbers[] = {1263812943, 1, 2, 1, 7, 1, 0};
+    oag_allocator *space = oag_new(100, 5, 7);
+    oag_ticket a = oag_allocate(space, 40);
+    oa_state *state = oag_write_state(space);
+    /* 48 and 8 a serial, then 32, two blocks and a free one */
+    CHECK(oa_state_size(state) == 48 + 2 * 8 + 32 + 2 * 8 + 4 && memcmp(oa_state_bytes(state), first, 56) == 0);
+    uint64_t sum = 0;
+    for (int i = 0; i < 7; i++) sum = sum * 1099511628211u + numbers[i];
+    for (int i = 0; i < 8; i++) CHECK(oa_state_bytes(state)[56 + i] == (uint8_t) (sum >> 8 * i));
+    CHECK(memcmp(oa_state_bytes(state) + 64, "OAST", 4) == 0);
+    CHECK(oag_free(space, a));
+    oag_read read = oag_read_state(state, 5);
+    CHECK(read.found == OA_SPACE_READ && read.at == oa_state_size(state) && oag_realm(read.space) == 7);
+    /* a ticket that was freed after the state was written is live there */
+    CHECK(oag_is_live(read.space, a) && !oag_is_live(space, a) && oag_size_of(read.space, a) == 40);
+    oag_ticket b = oag_allocate(read.space, 10);
+    CHECK(b.serial == 2 && oag_offset_of(read.space, b) == 40 && oag_free(read.space, a) && !oag_free(read.space, a));
+    oag_drop(read.space);
+    read = oag_read_state(state, 4);
+    CHECK(!read.space && read.found == OA_BAD_LIMIT && read.at == 64 + 12);
+    /* each byte of the tickets, changed alone */
+    static const oa_found found[] = {OA_BAD_FORM, OA_BAD_FORM, OA_BAD_LENGTH, OA_BAD_CHECKSUM, OA_BAD_CHECKSUM};
+    for (int i = 0; i < 64; i++) {
+        oa_state_bytes(state)[i] ^= 128;
+        read = oag_read_state(state, 5);
+        oa_found wanted = i >= 36 && i < 40 ? OA_BAD_REALM : i >= 40 ? OA_BAD_CHECKSUM : found[i / 8];
+        CHECK(!read.space && read.found == wanted);
+        CHECK(read.at == (wanted == OA_BAD_FORM ? 0u : wanted == OA_BAD_REALM ? 32u : wanted == OA_BAD_LENGTH ? 116u : 56u));
+        oa_state_bytes(state)[i] ^= 128;
+    }
+    oa_state_bytes(state)[64] ^= 1;
+    read = oag_read_state(state, 5);
+    CHECK(!read.space && read.found == OA_BAD_FORM && read.at == 64);
+    oa_state_bytes(state)[64] ^= 1;
+    /* a serial above the number of grants, and none for a live range; the checksum is right again */
+    static const struct { int place; uint64_t number; oa_found found; size_t at; } wrong[] = {
+        {5, 2, OA_BAD_SERIAL, 40}, {6, 2, OA_BAD_SERIAL, 48}, {3, 0, OA_BAD_SERIAL, 40}, {5, 0, OA_BAD_SERIAL, 40},
+        {4, 4294967296u, OA_BAD_REALM, 32}, {3, 2, OA_SPACE_READ, 116}};
+    for (int k = 0; k < 6; k++) {
+        oa_state *changed = oa_state_new(116);
+        memcpy(oa_state_bytes(changed), oa_state_bytes(state), 116);
+        sum = 0;
+        for (int i = 0; i < 8; i++) {
+            uint64_t number = i == 7 ? sum : i == wrong[k].place ? wrong[k].number : numbers[i];
+            for (int j = 0; j < 8; j++) oa_state_bytes(changed)[8 * i + j] = (uint8_t) (number >> 8 * j);
+            sum = sum * 1099511628211u + number;
+        }
+        read = oag_read_state(changed, 5);
+        CHECK(read.found == wrong[k].found && read.at == wrong[k].at);
+        if (read.space) CHECK(oag_allocate(read.space, 1).serial == 3);
+        oag_drop(read.space);
+        oa_state_drop(changed);
+    }
+    CHECK(!oag_write_state(NULL) && oag_read_state(NULL, 5).found == OA_BAD_LENGTH);
+    /* a state of handles is none of tickets, and the other way round */
+    CHECK(oa_read_state(state, 5).found == OA_BAD_FORM);
+    oa_state_drop(state);
+    oa_allocator *plain = oa_new(100, 5);
+    state = oa_write_state(plain);
+    CHECK(oag_read_state(state, 5).found == OA_BAD_LENGTH);
+    oa_state_drop(state);
+    oa_drop(plain);
+    oag_drop(space);
 }
 
 /* any free block serves that holds the request */
@@ -155,6 +228,7 @@ static void random_tickets(void) {
 
 int main(void) {
     stale();
+    states();
     tight();
     reads();
     nulls();
