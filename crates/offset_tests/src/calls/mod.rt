@@ -17,5 +17,6 @@ mod resizing;
 mod states;
 mod steps;
 mod texts;
+mod ticket_states;
 mod tickets;
 mod walking;

@@ -1,21 +1,26 @@
-//! States: their bytes, each fault except that of a checksum, and that a copy and a space that was read go on alike.
+//! States: their bytes, each fault, and that a copy and a space that was read go on alike.
 
 use crate::asserts::{assert_same, assert_same_at, assert_that};
 use crate::layouts::{ALL, Expectation, check, check_each};
 use offset_allocator::StateFaultKind::{
-    Block, Counts, Form, Free, Length, Limit, Neighbours, Unused,
+    Block, Checksum, Counts, Form, Free, Length, Limit, Neighbours, Unused,
 };
 use offset_allocator::{Allocation, AllocatorOf, NodeIndex, StateFault, StateFaultKind, Tables};
 use std::alloc::Global;
 use std::process::Abort;
 
 // The first number of each state: "OAST".
-const FORM: u32 = 0x5453_414F;
+pub(super) const FORM: u32 = 0x5453_414F;
 
 // The bytes of numbers and their checksum.
-fn bytes_of(rt: &impl Abort, alloc: Global, words: &[u32]) -> Vec<u8> {
+pub(super) fn bytes_of(rt: &impl Abort, alloc: Global, words: &[u32]) -> Vec<u8> {
+    bytes_from(rt, alloc, words, 0)
+}
+
+// The same with a checksum that begins at another number than 0.
+fn bytes_from(rt: &impl Abort, alloc: Global, words: &[u32], start: u32) -> Vec<u8> {
     let mut bytes = Vec::new(alloc);
-    let mut sum = 0u32;
+    let mut sum = start;
     for word in words {
         bytes
             .extend_from_slice(&word.to_le_bytes())
@@ -133,6 +138,29 @@ impl Expectation for Faults {
 #[test]
 fn each_fault(rt: HostRuntime) {
     check(&rt, rt.alloc(), &Faults);
+}
+
+struct Checksums;
+
+impl Expectation for Checksums {
+    // Another checksum than that of the numbers is a fault in its place, in the same bytes that are read with the right one.
+    fn check<T: Tables>(&self, rt: &impl Abort, alloc: Global) {
+        let words = [FORM, 1, 100, 5, 1, 1, 0, 0, 100, 0];
+        for start in [1, 2, u32::MAX] {
+            let bytes = bytes_from(rt, alloc, &words, start);
+            let read = AllocatorOf::<T>::read_state(alloc, &bytes, 10).expect(rt, "memory");
+            let fault = StateFault {
+                at: 40,
+                kind: Checksum,
+            };
+            assert_same_at(rt, &start, &read.err(), &Some(fault));
+        }
+    }
+}
+
+#[test]
+fn checksums(rt: HostRuntime) {
+    check(&rt, rt.alloc(), &Checksums);
 }
 
 struct ExactBytes;
