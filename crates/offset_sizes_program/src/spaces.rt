@@ -29,6 +29,8 @@ fn use_of<T: Tables>(alloc: Global, max_allocs: u32, units: u32) -> Result<u32, 
         let _is_freed = guarded.free(ticket);
     }
     let _copy = guarded.try_clone(alloc)?;
+    let bytes = guarded.write_state(alloc)?;
+    let _read = GuardedOf::<T>::read_state(alloc, &bytes, max_allocs)?;
     guarded.reset();
     Ok(1)
 }
