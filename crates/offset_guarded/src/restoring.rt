@@ -78,7 +78,7 @@ fn live_without_serial<T: Tables>(space: &AllocatorOf<T>, serials: &Serials) -> 
             continue;
         }
         if let Some(handle) = Allocation::from_parts(0, name) {
-            if space.is_live(handle) {
+            if AllocatorOf::is_live(space, handle) {
                 return Some(name);
             }
         }
