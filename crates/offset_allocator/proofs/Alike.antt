@@ -9,7 +9,8 @@ pub node_is : {o z : ℕ} {u : Bool} {b a : Option ℕ} (n : Node) → o ≡ n.o
     → record { offset = o; size = z; used = u; before = b; after = a } ≡ n
 node_is n eo ez eu eb ea = rw (eo, ez, eu, eb, ea) refl
 
-module _ {x max : ℕ} {f c d : Cells} (n : Node) (o : ℕ) (s : AreShaped max c) (l : x < length c.chain.nodes) (block : d ≡ record c { chain = put c.chain x n }) (older : o ≡ slice_index f.bins.older x) where
+module _ {x max : ℕ} {f c d : Cells} (n : Node) (o : ℕ) (s : AreShaped max c) (l : x < length c.chain.nodes) (block : d ≡ record c { chain = put c.chain x n })
+    (older : o ≡ slice_index f.bins.older x) where
   -- a used node
   pub used_filled : {e k : Cells} → e ≡ record d { bins = record d.bins { older = set d.bins.older x o } }
       → k ≡ record e { chain = put e.chain x (record (node e.chain x) { used = true }); bins = record e.bins { newer = set e.bins.newer x (mark_of max true) } }
@@ -32,7 +33,8 @@ unfolding node with_spare
 node-with_spare c i v y = refl
 
 -- its entry of the stack too
-module _ {x max : ℕ} {f c d e : Cells} (w : IsFilled x f c d) (s : AreShaped max c) (l : x < length c.chain.nodes) (v : ℕ) (at : v ≡ slice_index f.chain.spare x) (q : e ≡ record d { chain = with_spare d.chain x v }) where
+module _ {x max : ℕ} {f c d e : Cells} (w : IsFilled x f c d) (s : AreShaped max c) (l : x < length c.chain.nodes) (v : ℕ) (at : v ≡ slice_index f.chain.spare x)
+    (q : e ≡ record d { chain = with_spare d.chain x v }) where
   chain : e.chain ≡ with_spare d.chain x v
   chain = ap (λ (t : Cells). t.chain) q
 

@@ -1,7 +1,9 @@
 -- Names that are freed one by one: the blocks, and the bins.
-use Rattle.offset_allocator.proofs.Common.{◌≡◌, ℕ, zero, suc, ◌+◌, ◌<◌, ◌≤◌, Bool, true, false, not, ◌&&◌, Option, None, Some, List, [], ◌∷◌, length, get_or, refl, sym, ap, ap₂, ◌∙◌, arith, cases_eq, cases_lt, drop, ◌-◌, ◌⊎◌, inl, inr}
+use Rattle.offset_allocator.proofs.Common.{◌≡◌, ℕ, zero, suc, ◌+◌, ◌<◌, ◌≤◌, Bool, true, false, not, ◌&&◌, Option, None, Some, List, [], ◌∷◌, length, get_or, refl, sym, ap, ap₂}
+use Rattle.offset_allocator.proofs.Common.{◌∙◌, arith, cases_eq, cases_lt, drop, ◌-◌, ◌⊎◌, inl, inr}
 use Rattle.std.proofs.Math.Seq.{drop-cons}
-use Rattle.offset_allocator.proofs.Common.{eq-eqb, ne_eqb, zero-add, get_or-set_same, get_or-set_other, get_or-replicate, length-replicate, length-set, get_or_past, down, ChainCells, Node, node, put, IsRow, IsChain, first_or, last_or}
+use Rattle.offset_allocator.proofs.Common.{eq-eqb, ne_eqb, zero-add, get_or-set_same, get_or-set_other, get_or-replicate, length-replicate, length-set, get_or_past, down}
+use Rattle.offset_allocator.proofs.Common.{ChainCells, Node, node, put, IsRow, IsChain, first_or, last_or}
 use Rattle.offset_allocator.proofs.Common.{Block, count_named, count_in_bin, one, times, nat_eq, bin_at, push, if◌then◌else◌}
 use Rattle.std.specs.Prelude.{◌||◌}
 use Rattle.offset_allocator.proofs.Common.{true≢false, not-true}
@@ -30,11 +32,13 @@ module _ {c d : ChainCells} {x : ℕ} (w : Wrote c d x (record (node c x) { used
       | inl e ↦
           let hit : nat_eq b.name x ≡ true = eq-eqb b.name x e in
           ap (node d) e ∙ w.here ∙ ap (λ i. record (node c i) { used = false }) (sym e) ∙ ap (λ (n : Node). record n { used = false }) h.0
-          ∙ ap₂ (λ (u : Bool) (f : Option ℕ). record { offset = o; size = b.size; used = u; before = p; after = f }) (ap (λ t. not (t || is_among b.name xs)) (sym hit)) (first-freed q xs bs ∙ sym (first-freed q (x ∷ xs) bs))
+          ∙ ap₂ (λ (u : Bool) (f : Option ℕ). record { offset = o; size = b.size; used = u; before = p; after = f }) (ap (λ t. not (t || is_among b.name xs)) (sym hit)) (first-freed q xs bs
+          ∙ sym (first-freed q (x ∷ xs) bs))
       | inr ne ↦
           let miss : nat_eq b.name x ≡ false = ne_eqb b.name x ne in
           w.other b.name ne ∙ h.0
-          ∙ ap₂ (λ (u : Bool) (f : Option ℕ). record { offset = o; size = b.size; used = u; before = p; after = f }) (ap (λ t. not (t || is_among b.name xs)) (sym miss)) (first-freed q xs bs ∙ sym (first-freed q (x ∷ xs) bs))
+          ∙ ap₂ (λ (u : Bool) (f : Option ℕ). record { offset = o; size = b.size; used = u; before = p; after = f }) (ap (λ t. not (t || is_among b.name xs)) (sym miss)) (first-freed q xs bs
+          ∙ sym (first-freed q (x ∷ xs) bs))
     ],
     row_freed (Some b.name) (o + b.size) bs q h.1,
   )
@@ -102,7 +106,8 @@ times-filed y c bs (x ∷ xs) l =
     elim (cases_eq c k) [
       | inl e ↦
           let at : bin_at (filed bs (x ∷ xs)) c ≡ x ∷ bin_at (filed bs xs) c =
-          ap (bin_at (filed bs (x ∷ xs))) e ∙ get_or-set_same (filed bs xs) k (x ∷ bin_at (filed bs xs) k) [] (omega (arith, length-filed bs xs, l, e)) ∙ ap (λ i. x ∷ bin_at (filed bs xs) i) (sym e) in
+          ap (bin_at (filed bs (x ∷ xs))) e ∙ get_or-set_same (filed bs xs) k (x ∷ bin_at (filed bs xs) k) [] (omega (arith, length-filed bs xs, l, e))
+          ∙ ap (λ i. x ∷ bin_at (filed bs xs) i) (sym e) in
           omega (arith, h, ap (times y) at)
       | inr ne ↦ omega (arith, h, ap (times y) (get_or-set_other (filed bs xs) k c (x ∷ bin_at (filed bs xs) k) [] ne))
     ]
@@ -150,7 +155,8 @@ times_of_bin y c bs (x ∷ xs) l =
     elim (cases_eq c k) [
       | inl e ↦
           let at : bin_at (filed bs (x ∷ xs)) c ≡ x ∷ bin_at (filed bs xs) c =
-          ap (bin_at (filed bs (x ∷ xs))) e ∙ get_or-set_same (filed bs xs) k (x ∷ bin_at (filed bs xs) k) [] (omega (arith, length-filed bs xs, l, e)) ∙ ap (λ i. x ∷ bin_at (filed bs xs) i) (sym e) in
+          ap (bin_at (filed bs (x ∷ xs))) e ∙ get_or-set_same (filed bs xs) k (x ∷ bin_at (filed bs xs) k) [] (omega (arith, length-filed bs xs, l, e))
+          ∙ ap (λ i. x ∷ bin_at (filed bs xs) i) (sym e) in
           elim (cases_eq y x) [
             | inl q ↦
                 let hit : nat_eq c (down (size_named y bs)) ≡ true = eq-eqb _ _ (e ∙ ap (λ i. down (size_named i bs)) (sym q)) in

@@ -1,5 +1,6 @@
 -- Blocks and unused names that are laid out: as many as there are nodes, and each of its own.
-use Rattle.offset_allocator.proofs.Common.{◌≡◌, ℕ, ◌+◌, ◌<◌, ◌≤◌, ◌^◌, Bool, true, false, None, Some, List, [], ◌∷◌, ◌++◌, length, map, take, refl, sym, ap, subst, ◌∙◌, arith, cases_eq, cases_lt, inl, inr, if◌then◌else◌, nat_lt}
+use Rattle.offset_allocator.proofs.Common.{◌≡◌, ℕ, ◌+◌, ◌<◌, ◌≤◌, ◌^◌, Bool, true, false, None, Some, List, [], ◌∷◌, ◌++◌, length, map, take, refl, sym, ap, subst, ◌∙◌, arith}
+use Rattle.offset_allocator.proofs.Common.{cases_eq, cases_lt, inl, inr, if◌then◌else◌, nat_lt}
 use Rattle.offset_allocator.proofs.Common.{length-append, length-map, lt-ltb, le-ltb, Cells, node, IsChain, last_or, Block, units, count_named, one, times, nat_eq}
 use Rattle.offset_allocator.proofs.{Tallies.one-same, Tallies.one-other, Tallies.times-join, Walks.length_below, Marks.one_small, Backwards.marked_below}
 use Rattle.offset_allocator.specs.Building.{AreEach, HasBack, IsMade}

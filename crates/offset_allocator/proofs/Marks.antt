@@ -1,9 +1,11 @@
 -- Names that are marked as used while a state is read.
-use Rattle.offset_allocator.proofs.Common.{◌≡◌, ◌≢◌, ℕ, suc, ◌+◌, ◌<◌, ◌≤◌, Bool, true, false, None, List, [], ◌∷◌, ◌++◌, length, take, drop, get_or, set, sym, ap, subst, ◌∙◌, arith, cases_eq, inl, inr}
+use Rattle.offset_allocator.proofs.Common.{◌≡◌, ◌≢◌, ℕ, suc, ◌+◌, ◌<◌, ◌≤◌, Bool, true, false, None, List, [], ◌∷◌, ◌++◌, length, take, drop, get_or, set, sym, ap, subst, ◌∙◌}
+use Rattle.offset_allocator.proofs.Common.{arith, cases_eq, inl, inr}
 use Rattle.offset_allocator.proofs.Common.{take_more_set, take-append-drop, Cells, ChainCells, Node, node, put, with_spare, Block, count_named, times, one, nat_eq}
 use Rattle.std.proofs.Math.Seq.{drop-cons}
 use Rattle.offset_allocator.proofs.Exchange.{Wrote, wrote}
-use Rattle.offset_allocator.proofs.{Nodes.length-put, Nodes.reserved-put, Nodes.nodes-with_spare, Nodes.reserved-with_spare, Rows.IsRow-kept, Tallies.one-same, Tallies.one-other, Tallies.times-join, Alike.spare-with_spare, Alike.node-with_spare}
+use Rattle.offset_allocator.proofs.{Nodes.length-put, Nodes.reserved-put, Nodes.nodes-with_spare, Nodes.reserved-with_spare, Rows.IsRow-kept, Tallies.one-same, Tallies.one-other}
+use Rattle.offset_allocator.proofs.{Tallies.times-join, Alike.spare-with_spare, Alike.node-with_spare}
 use Rattle.offset_allocator.specs.Building.{HasBack, IsMade}
 
 pub one_small : (u : Bool) → one u ≤ 1
@@ -75,5 +77,6 @@ pub made_kept : (x i v w : ℕ) (q : Node) {max n m : ℕ} {c d e : Cells} → I
     → e ≡ record d { chain = put d.chain x q; bins = record d.bins { newer = set d.bins.newer x w } } → IsMade max n m e
 made_kept x i v w q {max} {n} {m} {c} {d} {e} h e₁ e₂ = grind (arith, length-put, reserved-put, nodes-with_spare, reserved-with_spare)
 
-pub made_marked : (x w : ℕ) (q : Node) {max n m : ℕ} {c d : Cells} → IsMade max n m c → d ≡ record c { chain = put c.chain x q; bins = record c.bins { newer = set c.bins.newer x w } } → IsMade max n m d
+pub made_marked : (x w : ℕ) (q : Node) {max n m : ℕ} {c d : Cells} → IsMade max n m c → d ≡ record c { chain = put c.chain x q; bins = record c.bins { newer = set c.bins.newer x w } }
+    → IsMade max n m d
 made_marked x w q {max} {n} {m} {c} {d} h e = grind (arith, length-put, reserved-put)

@@ -3,7 +3,8 @@ use Rattle.offset_allocator.proofs.Common.{◌≡◌, ℕ, suc, ◌+◌, ◌-◌
 use Rattle.offset_allocator.proofs.Common.{length-append, length-take-le, take-append-drop, Block, View, IsWellFormed, IsApart, units, count_named, times, used_of, max_size}
 use Rattle.std.proofs.Math.Seq.{drop-append_seam, take-append_seam, get_or-append_seam, take-add, drop-cons}
 use Rattle.std.proofs.lemmas.List.{length-drop}
-use Rattle.offset_allocator.proofs.{Freed.length-filed, Freed.orders_agree, Freed.filed-freed, Laying.each_small, Laying.each_far, StateWords.length-words, StateWords.count-freed, StateWords.units-freed, StateWords.length-freed, StateWords.freed_again, StateWords.freed_same}
+use Rattle.offset_allocator.proofs.{Freed.length-filed, Freed.orders_agree, Freed.filed-freed, Laying.each_small, Laying.each_far, StateWords.length-words, StateWords.count-freed}
+use Rattle.offset_allocator.proofs.{StateWords.units-freed, StateWords.length-freed, StateWords.freed_again, StateWords.freed_same}
 use Rattle.offset_allocator.specs.Building.{AreEach, IsHeader}
 use Rattle.offset_allocator.specs.Relations.{SameSpace}
 use Rattle.offset_allocator.specs.declared.restoring.Header.{Header}
@@ -66,7 +67,8 @@ joined ws a b c e =
     )
 
 -- the view of what is built
-pub well_built : (size limit count : ℕ) (bs : List Block) (free unused : List ℕ) → 1 ≤ length bs → units bs ≡ size → size ≤ max_size → AreEach bs unused → length bs + length unused ≤ limit → length bs + 1 ≤ limit
+pub well_built : (size limit count : ℕ) (bs : List Block) (free unused : List ℕ) → 1 ≤ length bs → units bs ≡ size → size ≤ max_size → AreEach bs unused → length bs + length unused ≤ limit
+    → length bs + 1 ≤ limit
     → ((x : ℕ) → times x free ≤ count_named x bs) → IsApart (freed free bs) → used_of (freed free bs) + 2 ≤ limit
     → IsWellFormed (record { size = size; max_allocs = limit; blocks = freed free bs; order = filed bs free; accesses = count })
 well_built size limit count bs free unused some whole fits each made room once apart spare = record {
@@ -110,7 +112,8 @@ text_built ws h count bs x y z hd ex ey ez words each once check =
     let ly : length y ≡ h.free =
     ap length ey ∙ length-take-le (7 + 2 * h.blocks + h.free - (7 + 2 * h.blocks)) (drop (7 + 2 * h.blocks) ws) (omega (arith, hd.long, length-drop (7 + 2 * h.blocks) ws)) ∙ omega arith in
     let lz : length z ≡ h.unused =
-    ap length ez ∙ length-take-le (n - (7 + 2 * h.blocks + h.free)) (drop (7 + 2 * h.blocks + h.free) ws) (omega (arith, hd.long, length-drop (7 + 2 * h.blocks + h.free) ws)) ∙ omega (arith, hd.long) in
+    ap length ez ∙ length-take-le (n - (7 + 2 * h.blocks + h.free)) (drop (7 + 2 * h.blocks + h.free) ws) (omega (arith, hd.long, length-drop (7 + 2 * h.blocks + h.free) ws))
+    ∙ omega (arith, hd.long) in
     let lb : length (freed y bs) ≡ h.blocks = omega (arith, length-freed y bs, length-words bs, ap length words, lx) in
     let heads : take 7 ws ≡ 1414742351 ∷ 1 ∷ h.size ∷ h.max_allocs ∷ length (freed y bs) ∷ length y ∷ length z ∷ [] = let e = ap (take 7) hd.words in cc in
     let body : take (7 + 2 * h.blocks - 7) (drop 7 ws) ≡ block_words (freed y bs) = sym ex ∙ sym words ∙ sym (words-freed y bs) in
@@ -132,7 +135,8 @@ text_parts {ws} {v} t a b ea eb =
 
 view_parts : (v w : View) → w.size ≡ v.size → w.max_allocs ≡ v.max_allocs → w.blocks ≡ v.blocks → w.order ≡ v.order → SameSpace v w
 view_parts v w s m b o =
-    ap (λ (n : ℕ). record w { size = n }) s ∙ ap (λ (n : ℕ). record w { size = v.size; max_allocs = n }) m ∙ ap (λ (l : List Block). record w { size = v.size; max_allocs = v.max_allocs; blocks = l }) b
+    ap (λ (n : ℕ). record w { size = n }) s ∙ ap (λ (n : ℕ). record w { size = v.size; max_allocs = n }) m
+    ∙ ap (λ (l : List Block). record w { size = v.size; max_allocs = v.max_allocs; blocks = l }) b
     ∙ ap (λ (l : List (List ℕ)). record v { order = l; accesses = w.accesses }) o
 
 pub one_view : (v w : View) (ws : List ℕ) → IsTextOf v ws → IsTextOf w ws → SameSpace v w

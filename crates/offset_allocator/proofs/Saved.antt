@@ -1,10 +1,13 @@
 -- The names in the bins say which blocks are free, and give the bins.
-use Rattle.offset_allocator.proofs.Common.{◌≡◌, ◌≢◌, ℕ, zero, suc, ◌+◌, ◌<◌, ◌≤◌, Bool, true, false, not, ◌&&◌, ◌⊎◌, List, [], ◌∷◌, ◌++◌, length, replicate, get_or, set, refl, sym, ap, ap₂, subst, ◌∙◌, arith, cases_eq, inl, inr}
-use Rattle.offset_allocator.proofs.Common.{eq-eqb, ne_eqb, length-replicate, append_assoc, append-nil, down, Block, View, IsWellFormed, count_named, count_in_bin, one, times, nat_eq, bin_at, push, if◌then◌else◌}
+use Rattle.offset_allocator.proofs.Common.{◌≡◌, ◌≢◌, ℕ, zero, suc, ◌+◌, ◌<◌, ◌≤◌, Bool, true, false, not, ◌&&◌, ◌⊎◌, List, [], ◌∷◌, ◌++◌, length, replicate, get_or, set, refl, sym}
+use Rattle.offset_allocator.proofs.Common.{ap, ap₂, subst, ◌∙◌, arith, cases_eq, inl, inr}
+use Rattle.offset_allocator.proofs.Common.{eq-eqb, ne_eqb, length-replicate, append_assoc, append-nil, down, Block, View, IsWellFormed, count_named, count_in_bin, one, times}
+use Rattle.offset_allocator.proofs.Common.{nat_eq, bin_at, push, if◌then◌else◌}
 use Rattle.std.specs.List.{concat}
 use Rattle.std.proofs.Math.Seq.{get_or-append_seam, set-append_seam}
 use Rattle.std.proofs.lemmas.List.{replicate-append-replicate}
-use Rattle.offset_allocator.proofs.{Classes.down_small, Freed.bool_cases, Freed.among_times, Freed.times_among, Tallies.one-same, Tallies.one-eq, Tallies.times-join, Tallies.times-append, Tallies.listed_named}
+use Rattle.offset_allocator.proofs.{Classes.down_small, Freed.bool_cases, Freed.among_times, Freed.times_among, Tallies.one-same, Tallies.one-eq, Tallies.times-join}
+use Rattle.offset_allocator.proofs.{Tallies.times-append, Tallies.listed_named}
 use Rattle.offset_allocator.specs.State.{filed, freed, is_among, size_named}
 
 -- a name that only one list has
@@ -79,7 +82,8 @@ filed_bin bs n [] xs ls h e = e
 filed_bin bs n (x ∷ l) xs ls h e =
     ap₂ (λ (k : ℕ) (o : List (List ℕ)). push k x o) (h x (omega (arith, one-same x))) (filed_bin bs n l xs ls (λ y s. h y (omega (arith, s))) e) ∙ pushed_at n x l ls
 
-filed_bins : (bs : List Block) (n : ℕ) (ls : List (List ℕ)) → n + length ls ≡ 256 → ((k x : ℕ) → 1 ≤ times x (bin_at ls k) → down (size_named x bs) ≡ n + k) → filed bs (concat ls) ≡ replicate n [] ++ ls
+filed_bins : (bs : List Block) (n : ℕ) (ls : List (List ℕ)) → n + length ls ≡ 256 → ((k x : ℕ) → 1 ≤ times x (bin_at ls k) → down (size_named x bs) ≡ n + k)
+    → filed bs (concat ls) ≡ replicate n [] ++ ls
 filed_bins bs n [] e h = ap (λ (k : ℕ). replicate {A = List ℕ} k []) {x = 256} {y = n} (omega (arith, e)) ∙ sym (append-nil (replicate n []))
 filed_bins bs n (l ∷ ls) e h =
     filed_bin bs n l (concat ls) ls (λ x s. h 0 x s ∙ omega arith)

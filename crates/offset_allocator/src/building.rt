@@ -54,8 +54,8 @@ fn prepend<T: Tables>(
     point_back(tables, last, next, name, count);
 }
 
-/// Writes the blocks of these words, all of them used: name and size of each, from the end of the space to its start.
-/// Returns the name of the last one, or the place of the word that is wrong.
+/// Writes the blocks of these words, all of them used: name and size of each, from the end of the space to
+/// its start. Returns the name of the last one, or the place of the word that is wrong.
 pub(crate) fn place_blocks<T: Tables>(
     tables: &mut T,
     words: &[u32],
@@ -115,7 +115,8 @@ fn put_unused<T: Tables>(tables: &mut T, place: u32, name: u32, count: &mut Acce
     tables.set_used(name, true, count);
 }
 
-/// Writes the unused names, and marks their nodes as used. Returns the place of the word that is wrong, if one is.
+/// Writes the unused names, and marks their nodes as used. Returns the place of the word that is wrong, if
+/// one is.
 pub(crate) fn place_unused<T: Tables>(
     tables: &mut T,
     words: &[u32],
@@ -168,11 +169,14 @@ fn free_name<T: Tables>(store: &mut Store<T>, name: u32)
     ensures chain { (m : ℕ) (xs : List ℕ) (bs : List Block)
         → IsChain (T.cells store.old.tables).chain m store.old.last store.old.spare_count (freed xs bs)
         → count_named name bs ≡ 1
-        → IsChain (T.cells store.new.tables).chain m store.new.last store.new.spare_count (freed (name ∷ xs) bs) }
+        → IsChain (T.cells store.new.tables).chain m store.new.last store.new.spare_count
+        (freed (name ∷ xs) bs) }
     ensures binned { AreBinned T.cells T.Index.MAX store.new }
     ensures lists { bins_of T.cells T.Index.MAX store.new
-        ≡ push (down (node (T.cells store.old.tables).chain name).size) name (bins_of T.cells T.Index.MAX store.old) }
-    ensures nodes { length (T.cells store.new.tables).chain.nodes ≡ length (T.cells store.old.tables).chain.nodes }
+        ≡ push (down (node (T.cells store.old.tables).chain name).size)
+        name (bins_of T.cells T.Index.MAX store.old) }
+    ensures nodes { length (T.cells store.new.tables).chain.nodes
+        ≡ length (T.cells store.old.tables).chain.nodes }
     ensures same { (store.new.last ≡ store.old.last) × (store.new.spare_count ≡ store.old.spare_count)
         × ((T.cells store.new.tables).chain.spare ≡ (T.cells store.old.tables).chain.spare) }
 {
@@ -181,7 +185,8 @@ fn free_name<T: Tables>(store: &mut Store<T>, name: u32)
     bins::push(store, name, uint_to_float_round_down(size));
 }
 
-/// Frees the blocks of these names, the last one first. Returns the place of the word that is wrong, if one is.
+/// Frees the blocks of these names, the last one first. Returns the place of the word that is wrong, if one
+/// is.
 pub(crate) fn free_names<T: Tables>(store: &mut Store<T>, words: &[u32]) -> Option<usize>
     requires binned { AreBinned T.cells T.Index.MAX store.old }
     requires empty { bins_of T.cells T.Index.MAX store.old ≡ replicate 256 [] }
@@ -220,8 +225,8 @@ pub(crate) struct Overview {
     pub(crate) used: u32,
 }
 
-/// Walks over the blocks, from the end of the space to its start. Returns how many it passed where it meets two
-/// neighbours that are both free.
+/// Walks over the blocks, from the end of the space to its start. Returns how many it passed where it meets
+/// two neighbours that are both free.
 pub(crate) fn look_over<T: Tables>(
     tables: &T,
     last: u32,
@@ -286,7 +291,8 @@ fn lay_out<T: Tables>(
     requires within { length blocks.now / 2 + length unused.now ≤ limit }
     requires limit { limit < T.Index.MAX }
     ensures out { IfOk result (λ r. IfOk r (IsLaidOut T.cells T.Index.MAX size limit blocks.now unused.now)) }
-    ensures wrong { IfOk result (λ r. IsErr r → (bs : List Block) → block_words bs ≡ blocks.now → units bs ≡ size
+    ensures wrong { IfOk result (λ r. IsErr r → (bs : List Block) → block_words bs ≡ blocks.now
+        → units bs ≡ size
         → AreEach bs unused.now → ⊥) }
 {
     let mut count = Accesses::new();
@@ -311,7 +317,8 @@ fn lay_out<T: Tables>(
     }))
 }
 
-/// The store of a space with these blocks, of which those with the names in `free` are free, and these unused names.
+/// The store of a space with these blocks, of which those with the names in `free` are free, and these unused
+/// names.
 pub(crate) fn build<T: Tables>(
     alloc: Global,
     size: u32,
@@ -328,8 +335,10 @@ pub(crate) fn build<T: Tables>(
         IsBuilt T.cells T.Index.MAX size limit blocks.now free.now unused.now p.0
         × (p.1.free_units ≡ sum (free_sizes (blocks_in (T.cells p.0.tables).chain p.0.last)))
         × (p.1.used ≡ used_of (blocks_in (T.cells p.0.tables).chain p.0.last)))) }
-    ensures wrong { IfOk result (λ r. IsErr r → (bs : List Block) → block_words bs ≡ blocks.now → units bs ≡ size
-        → AreEach bs unused.now → ((x : ℕ) → times x free.now ≤ count_named x bs) → IsApart (freed free.now bs) → ⊥) }
+    ensures wrong { IfOk result (λ r. IsErr r → (bs : List Block) → block_words bs ≡ blocks.now
+        → units bs ≡ size
+        → AreEach bs unused.now → ((x : ℕ) → times x free.now ≤ count_named x bs)
+        → IsApart (freed free.now bs) → ⊥) }
 {
     let mut store = match lay_out(alloc, size, limit, blocks, unused)? {
         Err(wrong) => return Ok(Err(wrong)),

@@ -1,4 +1,4 @@
-//! The numbers of a state: bytes as numbers, their checksum, and what is wrong with them. It touches no space.
+//! The numbers of a state: bytes as numbers, their checksum, and their faults. It touches no space.
 ghost use Rattle.std.specs.Prelude.{◌≡◌, ◌++◌, ◌+◌, ◌*◌, ◌%◌, ◌<◌, ◌≤◌, [], ◌∷◌, ℕ, List, IfOk, length};
 ghost use Rattle.offset_allocator.specs.State.{checksum_from, words_in};
 
@@ -8,7 +8,8 @@ use std::fmt;
 /// What is wrong with the bytes of a state, and where.
 #[derive(Clone, Copy, PartialEq, Debug)]
 pub struct StateFault {
-    /// The place of the byte from which on the bytes are wrong; or their number, where there are too few or too many.
+    /// The place of the byte from which on the bytes are wrong; or their number, where there are too few or
+    /// too many.
     pub at: usize,
     /// What is wrong there.
     pub kind: StateFaultKind,

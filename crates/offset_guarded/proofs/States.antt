@@ -55,7 +55,12 @@ parts g bs st =
     let s : ℕ = checksum_from 0 (ticket_numbers g) in
     let at : (i : ℕ) → i < 6 + n → number_at bs i ≡ get_or (ticket_numbers g ++ s ∷ []) i 0 = λ i l. sym (number_in (6 + n) i bs l) ∙ ap (λ l. get_or l i 0) st.tickets in
     let words : List ℕ = allocator.words_in (drop (48 + 8 * n) bs) in
-    let some : 8 ≤ length words = omega (arith, ap length st.space.text.words, length-append (allocator.block_words g.space.blocks ++ (st.space.text.names ++ st.space.text.unused)) (allocator.checksum_from 0 (allocator.state_words g.space st.space.text.names st.space.text.unused) ∷ [])) in
+    let some : 8 ≤ length words = omega (
+      arith,
+      ap length st.space.text.words,
+      length-append (allocator.block_words g.space.blocks ++ (st.space.text.names ++ st.space.text.unused))
+          (allocator.checksum_from 0 (allocator.state_words g.space st.space.text.names st.space.text.unused) ∷ []),
+    ) in
     let seam : numbers (5 + n) bs ++ number_at bs (5 + n) ∷ [] ≡ ticket_numbers g ++ s ∷ [] =
     sym (numbers_more (5 + n) bs) ∙ ap (λ m. numbers m bs) {x = 5 + n + 1} {y = 6 + n} (omega arith) ∙ st.tickets in
     let long : length (numbers (5 + n) bs) ≡ length (ticket_numbers g) = length-numbers (5 + n) bs ∙ omega arith in
@@ -78,7 +83,8 @@ serials_of g bs st =
     ap (drop 5) (sym (numbers-add 5 (length g.serials) bs) ∙ (parts g bs st).first)
 
 -- bytes are of one guarded allocator
-pub one_guard : (g h : Guard) (bs : List ℕ) → IsStateOf g bs → IsStateOf h bs → ((bytes : List ℕ) → allocator.IsStateOf g.space bytes → allocator.IsStateOf h.space bytes → SameSpace g.space h.space) → SameGuard g h
+pub one_guard : (g h : Guard) (bs : List ℕ) → IsStateOf g bs → IsStateOf h bs
+    → ((bytes : List ℕ) → allocator.IsStateOf g.space bytes → allocator.IsStateOf h.space bytes → SameSpace g.space h.space) → SameGuard g h
 one_guard g h bs s t spaces =
     let p = parts g bs s in
     let q = parts h bs t in

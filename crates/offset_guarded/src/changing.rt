@@ -1,11 +1,13 @@
 //! Calls that give a range another size, the space another size, and the ranges other places.
 
-ghost use Rattle.std.specs.Prelude.{◌≡◌, ◌↔◌, ◌+◌, ◌*◌, ◌≤◌, None, Some, false, true, IsTrue, IsSome, IfSome, length};
+ghost use Rattle.std.specs.Prelude.{◌≡◌, ◌↔◌, ◌+◌, ◌*◌, ◌≤◌, None, Some, false, true, IsTrue, IsSome, IfSome};
+ghost use Rattle.std.specs.Prelude.{length};
 ghost use Rattle.std.specs.List.{FoldsTo};
 ghost use Rattle.offset_allocator.specs.Relations.{CanExtend, Extends};
 ghost use Rattle.offset_allocator.specs.Resizing.{CanGrow, CanShrink, Grows, Shrinks};
 ghost use Rattle.offset_allocator.specs.Compacting.{Compacts, IsCalledWith, moves};
-ghost use Rattle.offset_guarded.specs.Guard.{HasUnits, IsLive, IsSame, KeepsAll, KeepsLive, KeepsOthers, KeepsSerials};
+ghost use Rattle.offset_guarded.specs.Guard.{HasUnits, IsLive, IsSame, KeepsAll, KeepsLive, KeepsOthers};
+ghost use Rattle.offset_guarded.specs.Guard.{KeepsSerials};
 ghost use Rattle.offset_guarded.specs.Guard.{KeepsSizes};
 
 use crate::GuardedOf;
@@ -13,8 +15,8 @@ use crate::ticket::Ticket;
 use offset_allocator::{Move, Tables};
 
 impl<T: Tables> GuardedOf<T> {
-    /// Makes the range of a ticket smaller in place, as `Allocator::shrink` does, and returns whether it did; or `None`
-    /// where the ticket is not live, and then nothing changes.
+    /// Makes the range of a ticket smaller in place, as `Allocator::shrink` does, and returns whether it did;
+    /// or `None` where the ticket is not live, and then nothing changes.
     pub fn shrink(&mut self, ticket: Ticket, size: u32) -> Option<bool>
         ensures live { IsSome result ↔ IsLive ticket self.old }
         ensures done { IfSome result (λ done. IsTrue done ↔ CanShrink ticket.name size self.old.space) }
@@ -40,8 +42,8 @@ impl<T: Tables> GuardedOf<T> {
         }
     }
 
-    /// Makes the range of a ticket larger in place, as `Allocator::grow_in_place` does, and returns whether it did; or
-    /// `None` where the ticket is not live, and then nothing changes.
+    /// Makes the range of a ticket larger in place, as `Allocator::grow_in_place` does, and returns whether
+    /// it did; or `None` where the ticket is not live, and then nothing changes.
     pub fn grow_in_place(&mut self, ticket: Ticket, size: u32) -> Option<bool>
         ensures live { IsSome result ↔ IsLive ticket self.old }
         ensures done { IfSome result (λ done. IsTrue done ↔ CanGrow ticket.name size self.old.space) }
@@ -83,14 +85,14 @@ impl<T: Tables> GuardedOf<T> {
         done
     }
 
-    /// Slides every live range to the front of the space, as `Allocator::compact` does. Every ticket stays live, with
-    /// its size; `offset_of` returns where its range begins.
+    /// Slides every live range to the front of the space, as `Allocator::compact` does. Every ticket stays
+    /// live, with its size; `offset_of` returns where its range begins.
     pub fn compact<F: FnMut(Move<T::Index>)>(&mut self, moved: &mut F)
         requires callable { F.IsAlwaysCallable moved.old }
         ensures sizes { KeepsSizes self.old self.new }
         // The closure is called with the moves, in space order.
-        ensures moved { FoldsTo (IsCalledWith T.Index.NonMax.number (λ f range g. F.step f range tt g)) moved.old
-            (moves 0 0 self.old.space.blocks) moved.new }
+        ensures moved { FoldsTo (IsCalledWith T.Index.NonMax.number (λ f range g. F.step f range tt g))
+            moved.old (moves 0 0 self.old.space.blocks) moved.new }
         ensures step { Compacts self.old.space self.new.space }
         ensures serials { self.new ≡ record self.old { space = self.new.space } }
         ensures accesses_max { self.new.space.accesses

@@ -1,6 +1,7 @@
 //! Grants, each with the next serial, and why one is refused.
 
-ghost use Rattle.std.specs.Prelude.{ℕ, ◌≡◌, ◌↔◌, ◌+◌, ◌*◌, ◌%◌, ◌<◌, ◌≤◌, None, Some, IsSome, IfSome, if◌then◌else◌};
+ghost use Rattle.std.specs.Prelude.{ℕ, ◌≡◌, ◌↔◌, ◌+◌, ◌*◌, ◌%◌, ◌<◌, ◌≤◌, None, Some, IsSome, IfSome};
+ghost use Rattle.std.specs.Prelude.{if◌then◌else◌};
 ghost use Rattle.std.specs.Prelude.{length, nat_eq, option_map};
 ghost use Rattle.offset_allocator.specs.Ranges as named;
 ghost use Rattle.offset_allocator.specs.View.{bin_at, largest_free};
@@ -8,7 +9,8 @@ ghost use Rattle.offset_allocator.specs.Relations.{Aligns, Allocates, IsAlignmen
 ghost use Rattle.offset_allocator.specs.Requests.{CanGrant, blocks_needed, units_needed};
 ghost use Rattle.offset_allocator.specs.Classes.{down};
 ghost use Rattle.offset_allocator.specs.Tight.{AlignsTight, CanHold, listed_from};
-ghost use Rattle.offset_guarded.specs.Guard.{Grants, IsLive, IsSame, IsWhy, IsWhyTight, cell, grant_of, last_serial};
+ghost use Rattle.offset_guarded.specs.Guard.{Grants, IsLive, IsSame, IsWhy, IsWhyTight, cell, grant_of};
+ghost use Rattle.offset_guarded.specs.Guard.{last_serial};
 ghost use Rattle.offset_guarded.specs.Guard.{HasSerialLeft};
 
 use crate::GuardedOf;
@@ -50,19 +52,20 @@ fn ticket_for<T: Tables>(
 }
 
 impl<T: Tables> GuardedOf<T> {
-    /// Grants a range of `size` units, and returns its ticket: of the range that `Allocator::allocate` grants, with the
-    /// next serial.
+    /// Grants a range of `size` units, and returns its ticket: of the range that `Allocator::allocate`
+    /// grants, with the next serial.
     ///
-    /// `None` is returned where that call returns `None`, or where all serials are given; then all is as it was.
+    /// `None` is returned where that call returns `None`, or where all serials are given; then all is as it
+    /// was.
     #[inline(always)]
     pub fn allocate(&mut self, size: u32) -> Option<Ticket>
-        // It is granted exactly when a serial is left and the allocator can grant it: for at least one unit, when
-        // `size` is at most the reported `largest_free_region`.
+        // It is granted exactly when a serial is left and the allocator can grant it: for at least one unit,
+        // when `size` is at most the reported `largest_free_region`.
         ensures granted { 1 ≤ size
             → (IsSome result ↔ (HasSerialLeft self.old × (size ≤ largest_free self.old.space))) }
         ensures can_grant { IsSome result ↔ (HasSerialLeft self.old × CanGrant 1 size self.old.space) }
-        // A grant has the next serial, and its ticket was not live. Its range has exactly `size` units, lies in the
-        // space, and overlaps no live range. Every other ticket keeps its range, if it has one.
+        // A grant has the next serial, and its ticket was not live. Its range has exactly `size` units, lies
+        // in the space, and overlaps no live range. Every other ticket keeps its range, if it has one.
         ensures grants { IfSome result (Grants size self.old self.new) }
         // A refusal leaves all as it was.
         ensures same { result ≡ None → IsSame self.old self.new }
@@ -83,11 +86,12 @@ impl<T: Tables> GuardedOf<T> {
     /// Grants `size` units that begin at a multiple of `align`, a power of two: the range that
     /// `Allocator::allocate_aligned` grants, with the next serial.
     ///
-    /// `None` is returned where that call returns `None`, or where all serials are given; then all is as it was.
+    /// `None` is returned where that call returns `None`, or where all serials are given; then all is as it
+    /// was.
     pub fn allocate_aligned(&mut self, size: u32, align: u32) -> Option<Ticket>
         requires power { IsAlignment align }
-        ensures can_grant { IsSome result
-            ↔ (HasSerialLeft self.old × CanGrant (blocks_needed align) (units_needed size align) self.old.space) }
+        ensures can_grant { IsSome result ↔ (HasSerialLeft self.old
+            × CanGrant (blocks_needed align) (units_needed size align) self.old.space) }
         ensures grants { IfSome result (Grants size self.old self.new) }
         ensures aligned { IfSome result (λ t. t.offset % align ≡ 0) }
         ensures same { result ≡ None → IsSame self.old self.new }
@@ -104,13 +108,14 @@ impl<T: Tables> GuardedOf<T> {
         }
     }
 
-    /// Grants `size` units of any free block that has them: the range that `Allocator::allocate_tight` grants, with the
-    /// next serial.
+    /// Grants `size` units of any free block that has them: the range that `Allocator::allocate_tight`
+    /// grants, with the next serial.
     ///
-    /// `None` is returned where that call returns `None`, or where all serials are given; then all is as it was.
+    /// `None` is returned where that call returns `None`, or where all serials are given; then all is as it
+    /// was.
     pub fn allocate_tight(&mut self, size: u32) -> Option<Ticket>
-        // It is granted exactly when a serial is left and there is room for one more block and a free block of `size`
-        // units.
+        // It is granted exactly when a serial is left and there is room for one more block and a free block
+        // of `size` units.
         ensures can_hold { IsSome result ↔ (HasSerialLeft self.old × CanHold size 1 self.old.space) }
         ensures grants { IfSome result (Grants size self.old self.new) }
         ensures same { result ≡ None → IsSame self.old self.new }
@@ -128,10 +133,11 @@ impl<T: Tables> GuardedOf<T> {
         }
     }
 
-    /// Grants `size` units that begin at a multiple of `align`, a power of two, of any free block that holds them: the range
-    /// that `Allocator::allocate_tight_aligned` grants, with the next serial.
+    /// Grants `size` units that begin at a multiple of `align`, a power of two, of any free block that holds
+    /// them: the range that `Allocator::allocate_tight_aligned` grants, with the next serial.
     ///
-    /// `None` is returned where that call returns `None`, or where all serials are given; then all is as it was.
+    /// `None` is returned where that call returns `None`, or where all serials are given; then all is as it
+    /// was.
     pub fn allocate_tight_aligned(&mut self, size: u32, align: u32) -> Option<Ticket>
         requires power { IsAlignment align }
         ensures can_hold { IsSome result ↔ (HasSerialLeft self.old × CanHold size align self.old.space) }
@@ -169,8 +175,8 @@ impl<T: Tables> GuardedOf<T> {
     /// Why `allocate_aligned(size, align)` would be refused now, or `None` exactly where it would be granted.
     pub fn refusal_aligned(&self, size: u32, align: u32) -> Option<Refusal>
         requires power { IsAlignment align }
-        ensures granted { result ≡ None
-            ↔ (HasSerialLeft self.now × CanGrant (blocks_needed align) (units_needed size align) self.now.space) }
+        ensures granted { result ≡ None ↔ (HasSerialLeft self.now
+            × CanGrant (blocks_needed align) (units_needed size align) self.now.space) }
         ensures why { IfSome result (IsWhy (blocks_needed align) (units_needed size align) self.now) }
     {
         if self.serials.is_spent() {
@@ -196,7 +202,8 @@ impl<T: Tables> GuardedOf<T> {
         }
     }
 
-    /// Why `allocate_tight_aligned(size, align)` would be refused now, or `None` exactly where it would be granted.
+    /// Why `allocate_tight_aligned(size, align)` would be refused now, or `None` exactly where it would be
+    /// granted.
     pub fn refusal_tight_aligned(&self, size: u32, align: u32) -> Option<Refusal>
         requires power { IsAlignment align }
         ensures granted { result ≡ None ↔ (HasSerialLeft self.now × CanHold size align self.now.space) }

@@ -1,9 +1,9 @@
 //! An allocator of ranges whose handles cannot be stale.
 //!
-//! A handle of `offset_allocator` is the name of a node, so one whose range was freed is live again where a newer grant
-//! has its name. A `Ticket` has a serial too, which no other grant of that `Guarded` ever has: so it is live exactly
-//! until the grant that gave it is freed or reset. Every call takes any ticket, and one that is not live changes
-//! nothing.
+//! A handle of `offset_allocator` is the name of a node, so one whose range was freed is live again where a
+//! newer grant has its name. A `Ticket` has a serial too, which no other grant of that `Guarded` ever has: so
+//! it is live exactly until the grant that gave it is freed or reset. Every call takes any ticket, and one
+//! that is not live changes nothing.
 //!
 //! ```
 //! let mut vertices = Guarded::<u32>::new(alloc, 1 << 20, 1)?;
@@ -14,7 +14,8 @@
 //! ```
 #![tactic(auto)]
 
-ghost use Rattle.std.specs.Prelude.{◌≡◌, ◌↔◌, ◌+◌, ◌-◌, ◌*◌, ◌<◌, ◌≤◌, min, None, Some, false, true, [], IsTrue};
+ghost use Rattle.std.specs.Prelude.{◌≡◌, ◌↔◌, ◌+◌, ◌-◌, ◌*◌, ◌<◌, ◌≤◌, min, None, Some, false, true, []};
+ghost use Rattle.std.specs.Prelude.{IsTrue};
 ghost use Rattle.std.specs.Prelude.{IsSome, IfSome, IfOk, MatchOption, option_map};
 ghost use Rattle.offset_allocator.specs.Ranges.{Range};
 ghost use Rattle.offset_allocator.specs.Ranges as named;
@@ -71,8 +72,8 @@ impl<T: Tables> Model for GuardedOf<T> {
 }
 
 impl<T: Tables> GuardedOf<T> {
-    /// A space of `size` units, all free, with the smaller of 131072 and `T::Index::MAX - 2` as the node limit. The
-    /// realm is kept in its tickets: a ticket of another realm is never live here.
+    /// A space of `size` units, all free, with the smaller of 131072 and `T::Index::MAX - 2` as the node
+    /// limit. The realm is kept in its tickets: a ticket of another realm is never live here.
     ///
     /// An error is returned only where an allocation failed; then nothing is made.
     #[track_caller]
@@ -84,8 +85,8 @@ impl<T: Tables> GuardedOf<T> {
     }
 
     /// A space of `size` units, all free, with `max_allocs` as the node limit, and a realm. The limit is 2 to
-    /// `T::Index::MAX - 2`. It reserves what an `AllocatorOf<T>` does and 8 bytes a node, all of them here; those of a
-    /// node are written by the first call after it was made that may make nodes.
+    /// `T::Index::MAX - 2`. It reserves what an `AllocatorOf<T>` does and 8 bytes a node, all of them here;
+    /// those of a node are written by the first call after it was made that may make nodes.
     ///
     /// An error is returned only where an allocation failed; then nothing is made.
     pub fn with_max_allocs(
@@ -109,10 +110,10 @@ impl<T: Tables> GuardedOf<T> {
         })
     }
 
-    /// A copy, with memory of its own, as `Allocator::try_clone` makes it, with the same realm and serials: each ticket
-    /// that is live here is live there. Serials go on from the same number in both, so a later grant of one may have a
-    /// ticket that is live in the other, for another range: use one copy in place of the other, as a snapshot, and not
-    /// beside it.
+    /// A copy, with memory of its own, as `Allocator::try_clone` makes it, with the same realm and serials:
+    /// each ticket that is live here is live there. Serials go on from the same number in both, so a later
+    /// grant of one may have a ticket that is live in the other, for another range: use one copy in place of
+    /// the other, as a snapshot, and not beside it.
     ///
     /// An error is returned only where an allocation failed; then nothing is made.
     pub fn try_clone(&self, alloc: Global) -> Result<Self, AllocError>
@@ -127,8 +128,8 @@ impl<T: Tables> GuardedOf<T> {
         })
     }
 
-    /// The allocator, to read: its reports and statistics, whether nothing is live, its blocks, its sizes, and why it
-    /// refuses a request.
+    /// The allocator, to read: its reports and statistics, whether nothing is live, its blocks, its sizes,
+    /// and why it refuses a request.
     pub fn allocator(&self) -> &AllocatorOf<T>
         ensures { result.now ≡ self.now.space }
     {
@@ -171,7 +172,8 @@ impl<T: Tables> GuardedOf<T> {
         }
     }
 
-    /// Whether a ticket is live here: it has the realm, and the grant that gave it was neither freed nor reset since.
+    /// Whether a ticket is live here: it has the realm, and the grant that gave it was neither freed nor
+    /// reset since.
     pub fn is_live(&self, ticket: Ticket) -> bool
         ensures { IsTrue result ↔ IsLive ticket self.now }
     {
@@ -188,9 +190,11 @@ impl<T: Tables> GuardedOf<T> {
         }
     }
 
-    /// Where the range of a ticket begins, in units from the start of the space, or `None` where it is not live.
+    /// Where the range of a ticket begins, in units from the start of the space, or `None` where it is not
+    /// live.
     ///
-    /// The `offset` of the ticket is where the range began when the ticket was made. `compact` does not change it.
+    /// The `offset` of the ticket is where the range began when the ticket was made. `compact` does not
+    /// change it.
     pub fn offset_of(&self, ticket: Ticket) -> Option<u32>
         ensures { result ≡ option_map (λ (r : Range). r.offset) (range_of ticket self.now) }
     {
@@ -200,9 +204,10 @@ impl<T: Tables> GuardedOf<T> {
         }
     }
 
-    /// The ticket of a live handle of the allocator, as its `blocks` and the moves of `compact` have them, or `None`
-    /// where the handle is not live. Its offset is where the range begins now: the ticket that the grant returned has
-    /// another one where `compact` moved the range, and is live as well, but not equal to this one.
+    /// The ticket of a live handle of the allocator, as its `blocks` and the moves of `compact` have them, or
+    /// `None` where the handle is not live. Its offset is where the range begins now: the ticket that the
+    /// grant returned has another one where `compact` moved the range, and is live as well, but not equal to
+    /// this one.
     pub fn ticket(&self, handle: Allocation<T::Index>) -> Option<Ticket>
         ensures { MatchOption result (named.range_of handle.name self.now.space ≡ None)
             (λ t. (t ≡ record {
@@ -226,11 +231,11 @@ impl<T: Tables> GuardedOf<T> {
         }
     }
 
-    /// Frees the range of a ticket, as `Allocator::free` does, and returns `true`; or `false` where the ticket is not
-    /// live, and then nothing changes.
+    /// Frees the range of a ticket, as `Allocator::free` does, and returns `true`; or `false` where the
+    /// ticket is not live, and then nothing changes.
     ///
-    /// It reads at most one serial, and makes at most 136 accesses to the tables of the allocator: 8 to see whether the
-    /// name is live, and 128 to free it.
+    /// It reads at most one serial, and makes at most 136 accesses to the tables of the allocator: 8 to see
+    /// whether the name is live, and 128 to free it.
     #[inline(always)]
     pub fn free(&mut self, ticket: Ticket) -> bool
         // It is done exactly when the ticket is live.
@@ -254,7 +259,8 @@ impl<T: Tables> GuardedOf<T> {
         }
     }
 
-    /// Makes the whole space one free block again, as `Allocator::reset` does. No earlier ticket is ever live again.
+    /// Makes the whole space one free block again, as `Allocator::reset` does. No earlier ticket is ever live
+    /// again.
     pub fn reset(&mut self)
         ensures gone { (t : Ticket) → range_of t self.new ≡ None }
         ensures size { self.new.space.size ≡ self.old.space.size }

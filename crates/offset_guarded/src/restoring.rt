@@ -1,4 +1,4 @@
-//! A guarded allocator from the bytes of its state, and what is wrong with bytes that are none. It makes tables.
+//! A guarded allocator from the bytes of its state, or what is wrong with them. It makes tables.
 ghost use Rattle.std.specs.Prelude.{◌≡◌, ◌+◌, ◌*◌, ◌≤◌, ℕ, IfOk, IfSome, IsErr, IsSome, None, length};
 ghost use Rattle.offset_allocator.specs.Ranges as named;
 ghost use Rattle.offset_guarded.specs.Guard.{Guard, cell};
@@ -108,17 +108,19 @@ fn serial_fault<T: Tables>(space: &AllocatorOf<T>, serials: &Serials) -> Option<
 }
 
 impl<T: Tables> GuardedOf<T> {
-    /// The guarded allocator of these bytes, which `write_state` has made, or what is wrong with them, and where: any bytes
-    /// are read. It has the same space, the same serials and the same realm as the one that was written: so each ticket that
-    /// was live there is live here, with its range, and no other is.
+    /// The guarded allocator of these bytes, which `write_state` has made, or what is wrong with them, and
+    /// where: any bytes are read. It has the same space, the same serials and the same realm as the one that
+    /// was written: so each ticket that was live there is live here, with its range, and no other is.
     ///
-    /// Serials go on from the number that was stored, as they do in the one that was written, and in every other that is
-    /// read from the same bytes: so a later grant of one may have a ticket that is live in the other, for another range. Use
-    /// one in place of the other. A ticket that was freed after the bytes were written is live again here.
+    /// Serials go on from the number that was stored, as they do in the one that was written, and in every
+    /// other that is read from the same bytes: so a later grant of one may have a ticket that is live in the
+    /// other, for another range. Use one in place of the other. A ticket that was freed after the bytes were
+    /// written is live again here.
     ///
-    /// `most_allocs` is the largest node limit that is accepted, since memory for the limit is reserved, as by
-    /// `with_max_allocs`. Nothing else that is requested is more than 8 bytes for each 8 that were given. It takes time for
-    /// the bytes. An error is returned only where an allocation failed; then nothing is made.
+    /// `most_allocs` is the largest node limit that is accepted, since memory for the limit is reserved, as
+    /// by `with_max_allocs`. Nothing else that is requested is more than 8 bytes for each 8 that were given.
+    /// It takes time for the bytes. An error is returned only where an allocation failed; then nothing is
+    /// made.
     pub fn read_state(
         alloc: Global,
         bytes: &[u8],

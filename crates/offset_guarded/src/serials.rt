@@ -1,5 +1,6 @@
 //! The serials of grants, by name.
-ghost use Rattle.std.specs.Prelude.{ℕ, ◌≡◌, ◌↔◌, ◌+◌, ◌/◌, ◌<◌, ◌≤◌, [], ◌∷◌, ◌++◌, IfOk, IfSome, IsTrue, None, false};
+ghost use Rattle.std.specs.Prelude.{ℕ, ◌≡◌, ◌↔◌, ◌+◌, ◌/◌, ◌<◌, ◌≤◌, [], ◌∷◌, ◌++◌, IfOk, IfSome, IsTrue};
+ghost use Rattle.std.specs.Prelude.{None, false};
 ghost use Rattle.std.specs.Prelude.{length, slice_set, vec_capacity, vec_len};
 ghost use Rattle.offset_guarded.specs.Guard.{cell, last_serial};
 ghost use Rattle.offset_guarded.specs.State.{numbers};
@@ -8,7 +9,8 @@ use crate::state::number;
 use std::alloc::{AllocError, Global};
 use std::marker::Model;
 
-/// The serial that each name was last granted with, 0 before its first grant, and the number of serials given so far.
+/// The serial that each name was last granted with, 0 before its first grant, and the number of serials given
+/// so far.
 #[derive(Drop)]
 pub(crate) struct Serials {
     cells: Vec<u64>,
@@ -24,8 +26,8 @@ impl Model for Serials {
     ghost view = { λ s. record { cells = s.cells.items; given = s.given; room = vec_capacity s.cells } };
 }
 
-// Adds a cell at the end of a table that has room for it. `insert`, unlike `push`, promises that the memory stays the
-// same. It is out of line, since each cell is made once.
+// Adds a cell at the end of a table that has room for it. `insert`, unlike `push`, promises that the memory
+// stays the same. It is out of line, since each cell is made once.
 #[inline(never)]
 fn push_within(cells: &mut Vec<u64>, serial: u64)
     requires { vec_len cells.old < vec_capacity cells.old }

@@ -4,7 +4,8 @@ use offset_allocator::{AllocatorOf, Move, NodeIndex, Tables};
 use offset_guarded::GuardedOf;
 use std::alloc::{AllocError, Global};
 
-// Every call of a space and of a guarded one, with requests of `units` units; nothing where the limit is not admitted.
+// Every call of a space and of a guarded one, with requests of `units` units; nothing where the limit is not
+// admitted.
 fn use_of<T: Tables>(alloc: Global, max_allocs: u32, units: u32) -> Result<u32, AllocError> {
     if max_allocs < 2 || max_allocs >= T::Index::MAX - 1 {
         return Ok(0);
@@ -35,8 +36,8 @@ fn use_of<T: Tables>(alloc: Global, max_allocs: u32, units: u32) -> Result<u32, 
     Ok(1)
 }
 
-/// Spaces with node limits from 2 to 4,194,304, or to what the index type admits, and with 1 to 2,147,483,648 units.
-/// Returns their number.
+/// Spaces with node limits from 2 to 4,194,304, or to what the index type admits, and with 1 to 2,147,483,648
+/// units. Returns their number.
 pub fn all<T: Tables>(alloc: Global) -> Result<u32, AllocError> {
     let _default: AllocatorOf<T> = AllocatorOf::new(alloc, u32::MAX)?;
     let _guarded: GuardedOf<T> = GuardedOf::new(alloc, u32::MAX, 1)?;

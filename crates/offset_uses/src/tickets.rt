@@ -1,9 +1,11 @@
-//! Each call of a guarded allocator, with every clause of its contract once more: what a caller may rely on. Where a
-//! clause is taken back there, the function here is not proved.
+//! Each call of a guarded allocator, with every clause of its contract once more: what a caller may rely on.
+//! Where a clause is taken back there, the function here is not proved.
 
 ghost use Rattle.std.specs.List.{FoldsTo};
-ghost use Rattle.std.specs.Prelude.{◌%◌, ◌*◌, ◌+◌, ◌-◌, ◌<◌, ◌↔◌, ◌≡◌, ◌≤◌, IfOk, IfSome, IsErr, IsOk, IsSome};
-ghost use Rattle.std.specs.Prelude.{IsTrue, MatchOption, None, Some, [], false, length, min, option_map, true};
+ghost use Rattle.std.specs.Prelude.{◌%◌, ◌*◌, ◌+◌, ◌-◌, ◌<◌, ◌↔◌, ◌≡◌, ◌≤◌, IfOk, IfSome, IsErr, IsOk};
+ghost use Rattle.std.specs.Prelude.{IsSome};
+ghost use Rattle.std.specs.Prelude.{IsTrue, MatchOption, None, Some, [], false, length, min, option_map};
+ghost use Rattle.std.specs.Prelude.{true};
 ghost use Rattle.offset_allocator.specs.Compacting.{Compacts, IsCalledWith, moves};
 ghost use Rattle.offset_allocator.specs.Ranges.{Range};
 ghost use Rattle.offset_allocator.specs.Relations.{Aligns, Allocates, CanExtend, Extends, Frees, IsAlignment};
@@ -144,8 +146,8 @@ pub fn read_state<T: Tables>(
     GuardedOf::read_state(alloc, bytes, most_allocs)
 }
 
-/// What is read of the bytes that a space is written to: the same space, the same realm and the same serials. So each
-/// ticket has the range that it has there, or none.
+/// What is read of the bytes that a space is written to: the same space, the same realm and the same serials.
+/// So each ticket has the range that it has there, or none.
 pub fn written_and_read<T: Tables>(
     space: &GuardedOf<T>,
     alloc: Global,
@@ -193,8 +195,8 @@ pub fn allocate_aligned<T: Tables>(
     align: u32,
 ) -> Option<Ticket>
     requires power { IsAlignment align }
-    ensures can_grant { IsSome result
-        ↔ (HasSerialLeft space.old × CanGrant (blocks_needed align) (units_needed size align) space.old.space) }
+    ensures can_grant { IsSome result ↔ (HasSerialLeft space.old
+        × CanGrant (blocks_needed align) (units_needed size align) space.old.space) }
     ensures grants { IfSome result (Grants size space.old space.new) }
     ensures aligned { IfSome result (λ t. t.offset % align ≡ 0) }
     ensures same { result ≡ None → IsSame space.old space.new }
@@ -216,8 +218,8 @@ pub fn refusal<T: Tables>(space: &GuardedOf<T>, size: u32) -> Option<Refusal>
 /// `refusal_aligned`, with each clause of its contract.
 pub fn refusal_aligned<T: Tables>(space: &GuardedOf<T>, size: u32, align: u32) -> Option<Refusal>
     requires power { IsAlignment align }
-    ensures granted { result ≡ None
-        ↔ (HasSerialLeft space.now × CanGrant (blocks_needed align) (units_needed size align) space.now.space) }
+    ensures granted { result ≡ None ↔ (HasSerialLeft space.now
+        × CanGrant (blocks_needed align) (units_needed size align) space.now.space) }
     ensures why { IfSome result (IsWhy (blocks_needed align) (units_needed size align) space.now) }
 {
     space.refusal_aligned(size, align)

@@ -7,8 +7,8 @@ use crate::ticket::Ticket;
 use offset_allocator::{Move, Tables};
 
 impl<T: Tables> GuardedOf<T> {
-    /// Makes the range of a ticket smaller in place, as `Allocator::shrink` does, and returns whether it did; or `None`
-    /// where the ticket is not live, and then nothing changes.
+    /// Makes the range of a ticket smaller in place, as `Allocator::shrink` does, and returns whether it did;
+    /// or `None` where the ticket is not live, and then nothing changes.
     pub fn shrink(&mut self, ticket: Ticket, size: u32) -> Option<bool> {
         match self.handle(ticket) {
             None => None,
@@ -20,8 +20,8 @@ impl<T: Tables> GuardedOf<T> {
         }
     }
 
-    /// Makes the range of a ticket larger in place, as `Allocator::grow_in_place` does, and returns whether it did; or
-    /// `None` where the ticket is not live, and then nothing changes.
+    /// Makes the range of a ticket larger in place, as `Allocator::grow_in_place` does, and returns whether
+    /// it did; or `None` where the ticket is not live, and then nothing changes.
     pub fn grow_in_place(&mut self, ticket: Ticket, size: u32) -> Option<bool> {
         match self.handle(ticket) {
             None => None,
@@ -40,8 +40,8 @@ impl<T: Tables> GuardedOf<T> {
         done
     }
 
-    /// Slides every live range to the front of the space, as `Allocator::compact` does. Every ticket stays live, with
-    /// its size; `offset_of` returns where its range begins.
+    /// Slides every live range to the front of the space, as `Allocator::compact` does. Every ticket stays
+    /// live, with its size; `offset_of` returns where its range begins.
     pub fn compact<F: FnMut(Move<T::Index>)>(&mut self, moved: &mut F) {
         self.space.compact(moved);
     }

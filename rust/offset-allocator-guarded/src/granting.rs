@@ -27,10 +27,11 @@ fn ticket_for<T: Tables>(
 }
 
 impl<T: Tables> GuardedOf<T> {
-    /// Grants a range of `size` units, and returns its ticket: of the range that `Allocator::allocate` grants, with the
-    /// next serial.
+    /// Grants a range of `size` units, and returns its ticket: of the range that `Allocator::allocate`
+    /// grants, with the next serial.
     ///
-    /// `None` is returned where that call returns `None`, or where all serials are given; then all is as it was.
+    /// `None` is returned where that call returns `None`, or where all serials are given; then all is as it
+    /// was.
     #[inline(always)]
     pub fn allocate(&mut self, size: u32) -> Option<Ticket> {
         if self.serials.is_spent() {
@@ -45,7 +46,8 @@ impl<T: Tables> GuardedOf<T> {
     /// Grants `size` units that begin at a multiple of `align`, a power of two: the range that
     /// `Allocator::allocate_aligned` grants, with the next serial.
     ///
-    /// `None` is returned where that call returns `None`, or where all serials are given; then all is as it was.
+    /// `None` is returned where that call returns `None`, or where all serials are given; then all is as it
+    /// was.
     #[track_caller]
     pub fn allocate_aligned(&mut self, size: u32, align: u32) -> Option<Ticket> {
         assert!(align.is_power_of_two(), "align must be a power of two");
@@ -58,10 +60,11 @@ impl<T: Tables> GuardedOf<T> {
         }
     }
 
-    /// Grants `size` units of any free block that has them: the range that `Allocator::allocate_tight` grants, with the
-    /// next serial.
+    /// Grants `size` units of any free block that has them: the range that `Allocator::allocate_tight`
+    /// grants, with the next serial.
     ///
-    /// `None` is returned where that call returns `None`, or where all serials are given; then all is as it was.
+    /// `None` is returned where that call returns `None`, or where all serials are given; then all is as it
+    /// was.
     pub fn allocate_tight(&mut self, size: u32) -> Option<Ticket> {
         if self.serials.is_spent() {
             return None;
@@ -72,10 +75,11 @@ impl<T: Tables> GuardedOf<T> {
         }
     }
 
-    /// Grants `size` units that begin at a multiple of `align`, a power of two, of any free block that holds them: the range
-    /// that `Allocator::allocate_tight_aligned` grants, with the next serial.
+    /// Grants `size` units that begin at a multiple of `align`, a power of two, of any free block that holds
+    /// them: the range that `Allocator::allocate_tight_aligned` grants, with the next serial.
     ///
-    /// `None` is returned where that call returns `None`, or where all serials are given; then all is as it was.
+    /// `None` is returned where that call returns `None`, or where all serials are given; then all is as it
+    /// was.
     #[track_caller]
     pub fn allocate_tight_aligned(&mut self, size: u32, align: u32) -> Option<Ticket> {
         assert!(align.is_power_of_two(), "align must be a power of two");
@@ -123,7 +127,8 @@ impl<T: Tables> GuardedOf<T> {
         }
     }
 
-    /// Why `allocate_tight_aligned(size, align)` would be refused now, or `None` exactly where it would be granted.
+    /// Why `allocate_tight_aligned(size, align)` would be refused now, or `None` exactly where it would be
+    /// granted.
     #[track_caller]
     pub fn refusal_tight_aligned(&self, size: u32, align: u32) -> Option<Refusal> {
         assert!(align.is_power_of_two(), "align must be a power of two");

@@ -2,10 +2,10 @@
 
 //! An allocator of ranges whose handles cannot be stale.
 //!
-//! A handle of `offset_allocator` is the name of a node, so one whose range was freed is live again where a newer grant
-//! has its name. A `Ticket` has a serial too, which no other grant of that `Guarded` ever has: so it is live exactly
-//! until the grant that gave it is freed or reset. Every call takes any ticket, and one that is not live changes
-//! nothing.
+//! A handle of `offset_allocator` is the name of a node, so one whose range was freed is live again where a
+//! newer grant has its name. A `Ticket` has a serial too, which no other grant of that `Guarded` ever has: so
+//! it is live exactly until the grant that gave it is freed or reset. Every call takes any ticket, and one
+//! that is not live changes nothing.
 //!
 //! ```
 //! use offset_allocator_guarded::*;
@@ -61,8 +61,8 @@ pub struct GuardedOf<T: Tables> {
 }
 
 impl<T: Tables> GuardedOf<T> {
-    /// A space of `size` units, all free, with the smaller of 131072 and `T::Index::MAX - 2` as the node limit. The
-    /// realm is kept in its tickets: a ticket of another realm is never live here.
+    /// A space of `size` units, all free, with the smaller of 131072 and `T::Index::MAX - 2` as the node
+    /// limit. The realm is kept in its tickets: a ticket of another realm is never live here.
     ///
     /// An error is returned only where an allocation failed; then nothing is made.
     #[track_caller]
@@ -71,8 +71,8 @@ impl<T: Tables> GuardedOf<T> {
     }
 
     /// A space of `size` units, all free, with `max_allocs` as the node limit, and a realm. The limit is 2 to
-    /// `T::Index::MAX - 2`. It reserves what an `AllocatorOf<T>` does and 8 bytes a node, all of them here; those of a
-    /// node are written by the first call after it was made that may make nodes.
+    /// `T::Index::MAX - 2`. It reserves what an `AllocatorOf<T>` does and 8 bytes a node, all of them here;
+    /// those of a node are written by the first call after it was made that may make nodes.
     ///
     /// An error is returned only where an allocation failed; then nothing is made.
     #[track_caller]
@@ -94,10 +94,10 @@ impl<T: Tables> GuardedOf<T> {
         })
     }
 
-    /// A copy, with memory of its own, as `Allocator::try_clone` makes it, with the same realm and serials: each ticket
-    /// that is live here is live there. Serials go on from the same number in both, so a later grant of one may have a
-    /// ticket that is live in the other, for another range: use one copy in place of the other, as a snapshot, and not
-    /// beside it.
+    /// A copy, with memory of its own, as `Allocator::try_clone` makes it, with the same realm and serials:
+    /// each ticket that is live here is live there. Serials go on from the same number in both, so a later
+    /// grant of one may have a ticket that is live in the other, for another range: use one copy in place of
+    /// the other, as a snapshot, and not beside it.
     ///
     /// An error is returned only where an allocation failed; then nothing is made.
     pub fn try_clone(&self, alloc: Global) -> Result<Self, AllocError> {
@@ -110,8 +110,8 @@ impl<T: Tables> GuardedOf<T> {
         })
     }
 
-    /// The allocator, to read: its reports and statistics, whether nothing is live, its blocks, its sizes, and why it
-    /// refuses a request.
+    /// The allocator, to read: its reports and statistics, whether nothing is live, its blocks, its sizes,
+    /// and why it refuses a request.
     pub fn allocator(&self) -> &AllocatorOf<T> {
         &self.space
     }
@@ -144,7 +144,8 @@ impl<T: Tables> GuardedOf<T> {
         }
     }
 
-    /// Whether a ticket is live here: it has the realm, and the grant that gave it was neither freed nor reset since.
+    /// Whether a ticket is live here: it has the realm, and the grant that gave it was neither freed nor
+    /// reset since.
     pub fn is_live(&self, ticket: Ticket) -> bool {
         self.handle(ticket).is_some()
     }
@@ -157,9 +158,11 @@ impl<T: Tables> GuardedOf<T> {
         }
     }
 
-    /// Where the range of a ticket begins, in units from the start of the space, or `None` where it is not live.
+    /// Where the range of a ticket begins, in units from the start of the space, or `None` where it is not
+    /// live.
     ///
-    /// The `offset` of the ticket is where the range began when the ticket was made. `compact` does not change it.
+    /// The `offset` of the ticket is where the range began when the ticket was made. `compact` does not
+    /// change it.
     pub fn offset_of(&self, ticket: Ticket) -> Option<u32> {
         match self.handle(ticket) {
             None => None,
@@ -167,9 +170,10 @@ impl<T: Tables> GuardedOf<T> {
         }
     }
 
-    /// The ticket of a live handle of the allocator, as its `blocks` and the moves of `compact` have them, or `None`
-    /// where the handle is not live. Its offset is where the range begins now: the ticket that the grant returned has
-    /// another one where `compact` moved the range, and is live as well, but not equal to this one.
+    /// The ticket of a live handle of the allocator, as its `blocks` and the moves of `compact` have them, or
+    /// `None` where the handle is not live. Its offset is where the range begins now: the ticket that the
+    /// grant returned has another one where `compact` moved the range, and is live as well, but not equal to
+    /// this one.
     pub fn ticket(&self, handle: Allocation<T::Index>) -> Option<Ticket> {
         let (_, name) = handle.to_parts();
         match self.space.allocation_offset(handle) {
@@ -183,11 +187,11 @@ impl<T: Tables> GuardedOf<T> {
         }
     }
 
-    /// Frees the range of a ticket, as `Allocator::free` does, and returns `true`; or `false` where the ticket is not
-    /// live, and then nothing changes.
+    /// Frees the range of a ticket, as `Allocator::free` does, and returns `true`; or `false` where the
+    /// ticket is not live, and then nothing changes.
     ///
-    /// It reads at most one serial, and makes at most 136 accesses to the tables of the allocator: 8 to see whether the
-    /// name is live, and 128 to free it.
+    /// It reads at most one serial, and makes at most 136 accesses to the tables of the allocator: 8 to see
+    /// whether the name is live, and 128 to free it.
     #[inline(always)]
     pub fn free(&mut self, ticket: Ticket) -> bool {
         match self.handle(ticket) {
@@ -199,7 +203,8 @@ impl<T: Tables> GuardedOf<T> {
         }
     }
 
-    /// Makes the whole space one free block again, as `Allocator::reset` does. No earlier ticket is ever live again.
+    /// Makes the whole space one free block again, as `Allocator::reset` does. No earlier ticket is ever live
+    /// again.
     pub fn reset(&mut self) {
         self.space.reset();
     }

@@ -23,10 +23,10 @@ fn push_numbers(bytes: &mut Vec<u8>, more: &[u64]) -> Result<(), AllocError> {
 }
 
 impl<T: Tables> GuardedOf<T> {
-    /// The bytes of the state, which `read_state` reads: 48, 8 for each serial that is stored, one for each node that was
-    /// ever made, and behind them those of `Allocator::write_state`. The first are numbers of 64 bits, the lowest byte of
-    /// each first: 1263812943 and the version 1, how many serials are stored and how many were given, the realm, the
-    /// serials by name, and a checksum.
+    /// The bytes of the state, which `read_state` reads: 48, 8 for each serial that is stored, one for each
+    /// node that was ever made, and behind them those of `Allocator::write_state`. The first are numbers of
+    /// 64 bits, the lowest byte of each first: 1263812943 and the version 1, how many serials are stored and
+    /// how many were given, the realm, the serials by name, and a checksum.
     ///
     /// It takes time for the nodes that were made. An error is returned only where an allocation failed.
     pub fn write_state(&self, alloc: Global) -> Result<Vec<u8>, AllocError> {

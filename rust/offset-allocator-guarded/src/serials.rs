@@ -6,14 +6,15 @@ use crate::memory::Vec;
 use crate::state::number;
 use crate::memory::{AllocError, Global};
 
-/// The serial that each name was last granted with, 0 before its first grant, and the number of serials given so far.
+/// The serial that each name was last granted with, 0 before its first grant, and the number of serials given
+/// so far.
 pub(crate) struct Serials {
     cells: Vec<u64>,
     given: u64,
 }
 
-// Adds a cell at the end of a table that has room for it. `insert`, unlike `push`, promises that the memory stays the
-// same. It is out of line, since each cell is made once.
+// Adds a cell at the end of a table that has room for it. `insert`, unlike `push`, promises that the memory
+// stays the same. It is out of line, since each cell is made once.
 #[inline(never)]
 fn push_within(cells: &mut Vec<u64>, serial: u64) {
     let _ = cells.insert(cells.len(), serial);

@@ -1,14 +1,14 @@
 // Printed by rust/erase from crates/offset_guarded/src/state.rt: change it there.
 
-//! The numbers of a state with tickets: bytes as numbers of 64 bits, their checksum, and what is wrong with them. It
-//! touches no space.
+//! The numbers of a state with tickets: their bytes, their checksum, and faults. It touches no space.
 
 use core::fmt;
 
 /// What is wrong with the bytes of a state, and where.
 #[derive(Clone, Copy, PartialEq, Debug)]
 pub struct StateFault {
-    /// The place of the byte from which on the bytes are wrong; or their number, where there are too few or too many.
+    /// The place of the byte from which on the bytes are wrong; or their number, where there are too few or
+    /// too many.
     pub at: usize,
     /// What is wrong there.
     pub kind: StateFaultKind,
@@ -25,8 +25,8 @@ pub enum StateFaultKind {
     Realm,
     /// The checksum is not that of the numbers of tickets.
     Checksum,
-    /// The serial of a name: it is above the number of grants; or there is none for a live range, and then the place is
-    /// that of the serial, which is 0, or of the number of serials, which is too small.
+    /// The serial of a name: it is above the number of grants; or there is none for a live range, and then
+    /// the place is that of the serial, which is 0, or of the number of serials, which is too small.
     Serial,
     /// The state of the space, which is behind the numbers of tickets, has this fault.
     Allocator(offset_allocator::StateFaultKind),

@@ -27,8 +27,8 @@ fn prepend<T: Tables>(
     point_back(tables, last, next, name, count);
 }
 
-/// Writes the blocks of these words, all of them used: name and size of each, from the end of the space to its start.
-/// Returns the name of the last one, or the place of the word that is wrong.
+/// Writes the blocks of these words, all of them used: name and size of each, from the end of the space to
+/// its start. Returns the name of the last one, or the place of the word that is wrong.
 pub(crate) fn place_blocks<T: Tables>(
     tables: &mut T,
     words: &[u32],
@@ -65,7 +65,8 @@ fn put_unused<T: Tables>(tables: &mut T, place: u32, name: u32, count: &mut Acce
     tables.set_used(name, true, count);
 }
 
-/// Writes the unused names, and marks their nodes as used. Returns the place of the word that is wrong, if one is.
+/// Writes the unused names, and marks their nodes as used. Returns the place of the word that is wrong, if
+/// one is.
 pub(crate) fn place_unused<T: Tables>(
     tables: &mut T,
     words: &[u32],
@@ -97,7 +98,8 @@ fn free_name<T: Tables>(store: &mut Store<T>, name: u32) {
     bins::push(store, name, uint_to_float_round_down(size));
 }
 
-/// Frees the blocks of these names, the last one first. Returns the place of the word that is wrong, if one is.
+/// Frees the blocks of these names, the last one first. Returns the place of the word that is wrong, if one
+/// is.
 pub(crate) fn free_names<T: Tables>(store: &mut Store<T>, words: &[u32]) -> Option<usize> {
     let nodes = store.tables.len();
     for i in 0..words.len() {
@@ -119,8 +121,8 @@ pub(crate) struct Overview {
     pub(crate) used: u32,
 }
 
-/// Walks over the blocks, from the end of the space to its start. Returns how many it passed where it meets two
-/// neighbours that are both free.
+/// Walks over the blocks, from the end of the space to its start. Returns how many it passed where it meets
+/// two neighbours that are both free.
 pub(crate) fn look_over<T: Tables>(
     tables: &T,
     last: u32,
@@ -194,7 +196,8 @@ fn lay_out<T: Tables>(
     }))
 }
 
-/// The store of a space with these blocks, of which those with the names in `free` are free, and these unused names.
+/// The store of a space with these blocks, of which those with the names in `free` are free, and these unused
+/// names.
 pub(crate) fn build<T: Tables>(
     alloc: Global,
     size: u32,

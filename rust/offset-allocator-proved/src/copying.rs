@@ -82,12 +82,14 @@ fn copied<T: Tables>(
 }
 
 impl<T: Tables> AllocatorOf<T> {
-    /// A copy of the space, with memory of its own: the same live ranges under the same handles, the same blocks and the
-    /// same order in bins, and the same unused nodes. So each further call has the same answer in both, handles included,
-    /// and a handle of one is live in the other exactly if it was when the copy was made.
+    /// A copy of the space, with memory of its own: the same live ranges under the same handles, the same
+    /// blocks and the same order in bins, and the same unused nodes. So each further call has the same answer
+    /// in both, handles included, and a handle of one is live in the other exactly if it was when the copy
+    /// was made.
     ///
-    /// It reserves what `with_max_allocs` does, and takes time for the nodes that were made, which `node_count` counts,
-    /// and not for the node limit. An error is returned only where an allocation failed; then nothing is made.
+    /// It reserves what `with_max_allocs` does, and takes time for the nodes that were made, which
+    /// `node_count` counts, and not for the node limit. An error is returned only where an allocation failed;
+    /// then nothing is made.
     pub fn try_clone(&self, alloc: Global) -> Result<Self, AllocError> {
         let mut count = Accesses::new();
         let store = &self.store;

@@ -1,6 +1,6 @@
 // Printed by rust/erase from crates/offset_allocator/src/state.rt: change it there.
 
-//! The numbers of a state: bytes as numbers, their checksum, and what is wrong with them. It touches no space.
+//! The numbers of a state: bytes as numbers, their checksum, and their faults. It touches no space.
 
 use crate::memory::Vec;
 use crate::memory::{AllocError, Global};
@@ -9,7 +9,8 @@ use core::fmt;
 /// What is wrong with the bytes of a state, and where.
 #[derive(Clone, Copy, PartialEq, Debug)]
 pub struct StateFault {
-    /// The place of the byte from which on the bytes are wrong; or their number, where there are too few or too many.
+    /// The place of the byte from which on the bytes are wrong; or their number, where there are too few or
+    /// too many.
     pub at: usize,
     /// What is wrong there.
     pub kind: StateFaultKind,

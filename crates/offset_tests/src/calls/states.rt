@@ -143,7 +143,8 @@ fn each_fault(rt: HostRuntime) {
 struct Checksums;
 
 impl Expectation for Checksums {
-    // Another checksum than that of the numbers is a fault in its place, in the same bytes that are read with the right one.
+    // Another checksum than that of the numbers is a fault in its place, in the same bytes that are read with
+    // the right one.
     fn check<T: Tables>(&self, rt: &impl Abort, alloc: Global) {
         let words = [FORM, 1, 100, 5, 1, 1, 0, 0, 100, 0];
         for start in [1, 2, u32::MAX] {
@@ -159,15 +160,15 @@ impl Expectation for Checksums {
 }
 
 #[test]
-fn checksums(rt: HostRuntime) {
+fn another_checksum(rt: HostRuntime) {
     check(&rt, rt.alloc(), &Checksums);
 }
 
 struct ExactBytes;
 
 impl Expectation for ExactBytes {
-    // The bytes of a fresh space, each worked out by hand: eight numbers, name and size of its block, the free name, and
-    // the checksum.
+    // The bytes of a fresh space, each worked out by hand: eight numbers, name and size of its block, the
+    // free name, and the checksum.
     fn check<T: Tables>(&self, rt: &impl Abort, alloc: Global) {
         let wanted = [
             b'O', b'A', b'S', b'T', 1, 0, 0, 0, 100, 0, 0, 0, 5, 0, 0, 0, 1, 0, 0, 0, 1, 0, 0, 0,

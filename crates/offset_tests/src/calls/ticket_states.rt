@@ -1,4 +1,5 @@
-//! States with tickets: their bytes, each fault of the tickets, and that the same tickets are live in a space that was read.
+//! States with tickets: their bytes, each fault of the tickets, and that the same tickets are live in a space
+//! that was read.
 
 use crate::asserts::{assert_same, assert_same_at, assert_that};
 use crate::calls::states::{FORM as SPACE_FORM, bytes_of};
@@ -12,19 +13,20 @@ use std::process::Abort;
 // The first number of each state: "OATK".
 const FORM: u64 = 0x4B54_414F;
 
-// A space of 100 units, with a limit of 5: a free block of 60 with the name 1 is at the end, behind a used one of 40 with
-// the name 0.
+// A space of 100 units, with a limit of 5: a free block of 60 with the name 1 is at the end, behind a used
+// one of 40 with the name 0.
 const SPACE: [u32; 12] = [SPACE_FORM, 1, 100, 5, 2, 1, 0, 1, 60, 0, 40, 1];
 
-// The numbers of tickets, the number that their checksum begins with, and what is wrong with them before that space.
+// The numbers of tickets, the number that their checksum begins with, and what is wrong with them before that
+// space.
 struct Case {
     numbers: &'static [u64],
     start: u64,
     fault: Option<(usize, StateFaultKind)>,
 }
 
-// How many serials are stored, how many were given, the realm, and the serials by name: with as many serials as nodes, one
-// more, which a space has after a reset, and one fewer, as no grant had the name 1.
+// How many serials are stored, how many were given, the realm, and the serials by name: with as many serials
+// as nodes, one more, which a space has after a reset, and one fewer, as no grant had the name 1.
 const CASES: [Case; 14] = [
     Case {
         numbers: &[FORM, 1, 2, 1, 7, 1, 0],
@@ -158,8 +160,9 @@ fn each_fault(rt: HostRuntime) {
 struct ExactBytes;
 
 impl Expectation for ExactBytes {
-    // The bytes of a fresh space of realm 7, worked out by hand: five numbers, of which the third and the fourth say that no
-    // serial is stored and none was given, their checksum, and the bytes of the space, as `states` has them.
+    // The bytes of a fresh space of realm 7, worked out by hand: five numbers, of which the third and the
+    // fourth say that no serial is stored and none was given, their checksum, and the bytes of the space, as
+    // `states` has them.
     fn check<T: Tables>(&self, rt: &impl Abort, alloc: Global) {
         let wanted = [
             b'O', b'A', b'T', b'K', 0, 0, 0, 0, 1, 0, 0, 0, 0, 0, 0, 0, 0, 0, 0, 0, 0, 0, 0, 0, 0,
@@ -182,7 +185,8 @@ fn exact_bytes(rt: HostRuntime) {
 struct GoesOn;
 
 impl Expectation for GoesOn {
-    // What is freed after the bytes were written is live in the space that is read, and what was freed before is not.
+    // What is freed after the bytes were written is live in the space that is read, and what was freed before
+    // is not.
     fn check<T: Tables>(&self, rt: &impl Abort, alloc: Global) {
         let mut space = GuardedOf::<T>::new(alloc, 64, 7).expect(rt, "memory");
         let first = space.allocate(8).expect(rt, "a grant");

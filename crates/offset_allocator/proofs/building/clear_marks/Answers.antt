@@ -20,7 +20,8 @@ loop-i-preserved g c =
     let e = ap (λ (k : Cells). k.chain) c.set_used.ensures.cells in
     let first : drop at ws ≡ name ∷ drop (at + 1) ws = drop-cons ws at 0 (omega arith) ∙ ap (λ n. name ∷ drop n ws) (sym (add-one at)) in
     record {
-      back = λ o bs h. mark_removed (g.T.Tables.cells c.loop-i.tables) (g.T.Tables.cells c.set_used.new.self) name false named e refl (subst (HasBack (g.T.Tables.cells c.loop-i.tables) o bs) first (i.back o bs h));
+      back = λ o bs h. mark_removed (g.T.Tables.cells c.loop-i.tables) (g.T.Tables.cells c.set_used.new.self) name false named e refl
+          (subst (HasBack (g.T.Tables.cells c.loop-i.tables) o bs) first (i.back o bs h));
       spare = use_spare (g.T.Tables.cells c.loop-i.tables) (g.T.Tables.cells c.set_used.new.self) name false named e ∙ i.spare;
       made = λ n m h. made_marked _ _ _ (i.made n m h) c.set_used.ensures.cells;
       nodes = ap (λ (k : ChainCells). length k.nodes) e ∙ length-put _ _ _ ∙ i.nodes;

@@ -12,7 +12,8 @@ pub push-requires-clause-binned : goal.push-requires-clause-binned
 push-requires-clause-binned g c = (marked g (goal.at.push-requires-clause-binned g c).After-set_used).0
 
 pub push-requires-clause-idle : goal.push-requires-clause-idle
-push-requires-clause-idle g c = use_here (g.T.Tables.cells c.args.store.now.tables) (g.T.Tables.cells c.set_used.new.self) c.args.name false c.requires.named (ap (λ (v : Cells). v.chain) c.set_used.ensures.cells)
+push-requires-clause-idle g c = use_here (g.T.Tables.cells c.args.store.now.tables) (g.T.Tables.cells c.set_used.new.self) c.args.name false c.requires.named
+    (ap (λ (v : Cells). v.chain) c.set_used.ensures.cells)
 
 pub push-requires-clause-classed : goal.push-requires-clause-classed
 push-requires-clause-classed g c = omega (arith, down_small c.size-size.result, c.uint_to_float_round_down.ensures.is)
@@ -36,5 +37,9 @@ returns-clause-lists g c =
 
 pub returns-clause-same : goal.returns-clause-same
 returns-clause-same g c =
-    let e = c.push.ensures.chain in
-    (e.1, e.2, ap (λ (k : ChainCells). k.spare) e.0 ∙ use_spare (g.T.Tables.cells c.args.store.now.tables) (g.T.Tables.cells c.set_used.new.self) c.args.name false c.requires.named (ap (λ (v : Cells). v.chain) c.set_used.ensures.cells))
+    let e = c.push.ensures.chain in (
+      e.1,
+      e.2,
+      ap (λ (k : ChainCells). k.spare) e.0 ∙ use_spare (g.T.Tables.cells c.args.store.now.tables) (g.T.Tables.cells c.set_used.new.self) c.args.name false c.requires.named
+          (ap (λ (v : Cells). v.chain) c.set_used.ensures.cells),
+    )

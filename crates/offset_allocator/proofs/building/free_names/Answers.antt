@@ -1,5 +1,6 @@
 use Rattle.offset_allocator.proofs.Common.{◌≡◌, ◌∙◌, ◌+◌, ◌-◌, ◌≤◌, ap, ap₂, sym, subst, length, get_or, drop, arith, ℕ, List, push, down, bin_at, count_named, times, IsAmong, cases_eq, inl, inr}
-use Rattle.offset_allocator.proofs.{Exchange.each-le, Exchange.there-below, Freed.drop_at, Freed.times_drop, Freed.times-filed, Freed.used_now, Freed.unused_now, Tallies.one-same, Tallies.one-eq, Tallies.one-other}
+use Rattle.offset_allocator.proofs.{Exchange.each-le, Exchange.there-below, Freed.drop_at, Freed.times_drop, Freed.times-filed, Freed.used_now, Freed.unused_now, Tallies.one-same}
+use Rattle.offset_allocator.proofs.{Tallies.one-eq, Tallies.one-other}
 use Rattle.offset_allocator.specs.State.{filed}
 use Rattle.offset_allocator.proofs.building.free_names.Goals as goal
 use Rattle.offset_allocator.proofs.building.free_names.Goals.{then-name-nodes-via-then-name-nodes, then-name-nodes-via-else-name-nodes+then-not-used}

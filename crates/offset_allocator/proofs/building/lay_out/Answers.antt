@@ -1,5 +1,6 @@
 use Rattle.offset_allocator.proofs.Common.{◌≡◌, ◌∙◌, ◌+◌, ◌/◌, ap, refl, sym, length, take, arith, ℕ, List}
-use Rattle.offset_allocator.proofs.{Backwards.marked_below, Laying.each_small, Laying.each_far, Laying.idle_made, Laying.laid_chain, Laying.marked_each, StateWords.length-words, StateWords.same_counts}
+use Rattle.offset_allocator.proofs.{Backwards.marked_below, Laying.each_small, Laying.each_far, Laying.idle_made, Laying.laid_chain, Laying.marked_each, StateWords.length-words}
+use Rattle.offset_allocator.proofs.{StateWords.same_counts}
 use Rattle.offset_allocator.proofs.building.lay_out.Goals as goal
 
 pub returns-in-Err-clause-wrong : goal.returns-in-Err-clause-wrong

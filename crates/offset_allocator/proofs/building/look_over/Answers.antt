@@ -1,4 +1,5 @@
-use Rattle.offset_allocator.proofs.Common.{◌≡◌, ◌∙◌, ◌+◌, ◌-◌, ◌∷◌, ap, sym, subst, not, None, Some, inl, inr, take, drop, sum, arith, ℕ, List, Block, last_or, free_sizes, used_of, starts_free, IsApart}
+use Rattle.offset_allocator.proofs.Common.{◌≡◌, ◌∙◌, ◌+◌, ◌-◌, ◌∷◌, ap, sym, subst, not, None, Some, inl, inr, take, drop, sum, arith, ℕ, List, Block, last_or, free_sizes, used_of}
+use Rattle.offset_allocator.proofs.Common.{starts_free, IsApart}
 use Rattle.offset_allocator.proofs.{Surveys.next_back, Surveys.drop_sums, Surveys.sums_free, Surveys.sums_used, Surveys.joined_apart, Surveys.not_apart, Surveys.drop_apart, Surveys.name_next}
 use Rattle.offset_allocator.specs.Chain.{blocks as blocks_in}
 use Rattle.offset_allocator.specs.declared.building.Overview.{Overview}
@@ -45,7 +46,16 @@ overflow_add-found g c =
 pub overflow_add-found-else-is_free-2 : goal.overflow_add-found-else-is_free-2
 overflow_add-found-else-is_free-2 g c =
     let bs : List Block = blocks_in (g.T.Tables.cells c.args.tables.now).chain c.args.last in
-    omega (arith, (drop_sums bs (c.args.blocks - c.loop-i.i)).1, c.loop-i.invariant.used, c.requires.space.1.full, c.requires.space.1.within, c.shape.ensures.within, c.shape.ensures.limit, c.shape.ensures.word)
+    omega (
+      arith,
+      (drop_sums bs (c.args.blocks - c.loop-i.i)).1,
+      c.loop-i.invariant.used,
+      c.requires.space.1.full,
+      c.requires.space.1.within,
+      c.shape.ensures.within,
+      c.shape.ensures.limit,
+      c.shape.ensures.word,
+    )
 
 pub loop-i-preserved : goal.loop-i-preserved
 loop-i-preserved g c =
@@ -59,7 +69,8 @@ loop-i-preserved g c =
     record {
       at = λ more. ap (λ n. last_or None (take n bs)) next ∙ elim c.match-linked.branch [
         | in-Some w ↦ sym r.before ∙ sym c.before-in-loop-i.ensures.cell ∙ sym c.linked.ensures ∙ w.in-Some.is ∙ ap (λ n. Some n) (sym w.name-is)
-        | in_default w ↦ absurd (name_next bs (k - 1) (sym r.before ∙ sym c.before-in-loop-i.ensures.cell ∙ sym c.linked.ensures ∙ w.in_default.is) (omega (arith, more)) (omega (arith, c.requires.all)))
+        | in_default w ↦ absurd (name_next bs (k - 1) (sym r.before ∙ sym c.before-in-loop-i.ensures.cell ∙ sym c.linked.ensures
+            ∙ w.in_default.is) (omega (arith, more)) (omega (arith, c.requires.all)))
       ];
       apart = subst IsApart (sym passed) (joined_apart r.block (drop k bs) (elim c.else-is_free.branch [
         | else-is_free-via-then-is_free+else-is_free_after w ↦ inr (sym i.first ∙ w.if-is_free_after.false)
@@ -67,8 +78,22 @@ loop-i-preserved g c =
       ]) i.apart);
       first = ap not used ∙ ap starts_free (sym passed);
       free_units = elim c.if-is_free-2.branch [
-        | then-is_free-2 w ↦ omega (arith, ap (λ (f : Overview). f.free_units) w.found-is, i.free_units, ap (λ l. sum (free_sizes l)) passed, (sums_free r.block (drop k bs) (sym used ∙ w.if-is_free-2.true)).0, w.size.ensures.cell, r.size)
-        | else-is_free-2 w ↦ omega (arith, ap (λ (f : Overview). f.free_units) w.found-is, i.free_units, ap (λ l. sum (free_sizes l)) passed, (sums_used r.block (drop k bs) (sym used ∙ w.if-is_free-2.false)).0)
+        | then-is_free-2 w ↦ omega (
+          arith,
+          ap (λ (f : Overview). f.free_units) w.found-is,
+          i.free_units,
+          ap (λ l. sum (free_sizes l)) passed,
+          (sums_free r.block (drop k bs) (sym used ∙ w.if-is_free-2.true)).0,
+          w.size.ensures.cell,
+          r.size,
+        )
+        | else-is_free-2 w ↦ omega (
+          arith,
+          ap (λ (f : Overview). f.free_units) w.found-is,
+          i.free_units,
+          ap (λ l. sum (free_sizes l)) passed,
+          (sums_used r.block (drop k bs) (sym used ∙ w.if-is_free-2.false)).0,
+        )
       ];
       used = elim c.if-is_free-2.branch [
         | then-is_free-2 w ↦ omega (arith, ap (λ (f : Overview). f.used) w.found-is, i.used, ap used_of passed, (sums_free r.block (drop k bs) (sym used ∙ w.if-is_free-2.true)).1)

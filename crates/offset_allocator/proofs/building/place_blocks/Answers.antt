@@ -17,7 +17,8 @@ loop-i-init g c = record {
 }
 
 -- the words of one block more, and the blocks that they are of
-more : (ws : List ℕ) (bs : List Block) (i : ℕ) → block_words bs ≡ take (2 * i) ws → 2 * i + 1 < length ws → block_words (used_block (get_or ws (2 * i) 0) (get_or ws (2 * i + 1) 0) ∷ bs) ≡ take (2 * (i + 1)) ws
+more : (ws : List ℕ) (bs : List Block) (i : ℕ) → block_words bs ≡ take (2 * i) ws → 2 * i + 1 < length ws
+    → block_words (used_block (get_or ws (2 * i) 0) (get_or ws (2 * i + 1) 0) ∷ bs) ≡ take (2 * (i + 1)) ws
 more ws bs i e l = words_next bs ws i _ _ e l refl refl
 
 pub returns-then-name-nodes-clause-wrong : goal.returns-then-name-nodes-clause-wrong
@@ -27,7 +28,8 @@ returns-then-name-nodes-clause-wrong g c _ vs words whole once below =
     let name : ℕ = get_or ws (2 * c.loop-i.i) 0 in
     let long = length-words vs in
     let inside : 2 * c.loop-i.i + 1 < length ws = omega (arith, c.loop-i-test.true) in
-    let some = some_of name (c.loop-i.i + 1) (used_block name (get_or ws (2 * c.loop-i.i + 1) 0) ∷ i.blocks) vs (more ws i.blocks c.loop-i.i i.words inside ∙ ap (take (2 * (c.loop-i.i + 1))) (sym words)) (omega (arith, long, ap length words, inside)) in
+    let some = some_of name (c.loop-i.i + 1) (used_block name (get_or ws (2 * c.loop-i.i + 1) 0) ∷ i.blocks) vs (more ws i.blocks c.loop-i.i i.words inside
+    ∙ ap (take (2 * (c.loop-i.i + 1))) (sym words)) (omega (arith, long, ap length words, inside)) in
     elim c.then-name-nodes.branch [
       | then-name-nodes-via-then-name-nodes w ↦ omega (arith, some.0, one-same name, below name (omega (arith, w.if-name-nodes.true, c.len-nodes.ensures)))
       | then-name-nodes-via-else-name-nodes+then-used w ↦
@@ -39,7 +41,8 @@ returns-then-units-left-clause-wrong g c _ vs words whole once below =
     let i = c.loop-i.invariant in
     let ws : List ℕ = c.args.words.now in
     let inside : 2 * c.loop-i.i + 1 < length ws = omega (arith, c.loop-i-test.true) in
-    let some = some_of 0 (c.loop-i.i + 1) (used_block (get_or ws (2 * c.loop-i.i) 0) (get_or ws (2 * c.loop-i.i + 1) 0) ∷ i.blocks) vs (more ws i.blocks c.loop-i.i i.words inside ∙ ap (take (2 * (c.loop-i.i + 1))) (sym words)) (omega (arith, length-words vs, ap length words, inside)) in
+    let some = some_of 0 (c.loop-i.i + 1) (used_block (get_or ws (2 * c.loop-i.i) 0) (get_or ws (2 * c.loop-i.i + 1) 0) ∷ i.blocks) vs (more ws i.blocks c.loop-i.i i.words inside
+    ∙ ap (take (2 * (c.loop-i.i + 1))) (sym words)) (omega (arith, length-words vs, ap length words, inside)) in
     omega (arith, some.1, i.whole, whole, c.if-units-left.true)
 
 pub loop-i-preserved : goal.loop-i-preserved

@@ -23,4 +23,5 @@ returns-clause-back g c o bs h first e =
     }
 
 pub returns-clause-made : goal.returns-clause-made
-returns-clause-made g c n m h = made_prepended _ _ _ _ _ h c.requires.named c.set_block.ensures.cells c.set_used.ensures.cells c.point_back.ensures.nodes c.point_back.ensures.cells c.point_back.ensures.bins
+returns-clause-made g c n m h = made_prepended _ _ _ _ _ h c.requires.named c.set_block.ensures.cells c.set_used.ensures.cells
+    c.point_back.ensures.nodes c.point_back.ensures.cells c.point_back.ensures.bins

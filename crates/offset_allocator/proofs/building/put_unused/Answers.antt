@@ -10,10 +10,18 @@ returns-clause-back g c o bs xs h e =
     let number = c.link_to.ensures.number in
     let e₁ = ap (λ (k : Cells). k.chain) c.set_spare.ensures.cells in
     let e₂ = ap (λ (k : Cells). k.chain) c.set_used.ensures.cells in
-    let named : name < length one.nodes = omega (arith, c.requires.named, ap (λ (k : ChainCells). length k.nodes) e₁, ap length (nodes-with_spare old c.args.place (g.T.Index.NodeIndex.number c.link_to.result))) in
-    let idle : (node one name).used ≡ false = ap (λ (k : ChainCells). (node k name).used) e₁ ∙ ap (λ (n : Node). n.used) (node-with_spare old c.args.place (g.T.Index.NodeIndex.number c.link_to.result) name) ∙ c.requires.idle in (
-      mark_added (g.T.Tables.cells c.set_spare.new.self) (g.T.Tables.cells c.set_used.new.self) name true named e₂ refl idle (stacked (g.T.Tables.cells c.args.tables.now) (g.T.Tables.cells c.set_spare.new.self) c.args.place _ e₁ h),
-      ap (take (c.args.place + 1)) (use_spare (g.T.Tables.cells c.set_spare.new.self) (g.T.Tables.cells c.set_used.new.self) name true named e₂) ∙ stack_top _ _ c.args.place _ e₁ (omega (arith, c.requires.place, c.shape.ensures.spare))
+    let named : name < length one.nodes = omega (
+      arith,
+      c.requires.named,
+      ap (λ (k : ChainCells). length k.nodes) e₁,
+      ap length (nodes-with_spare old c.args.place (g.T.Index.NodeIndex.number c.link_to.result)),
+    ) in
+    let idle : (node one name).used ≡ false = ap (λ (k : ChainCells). (node k name).used) e₁
+    ∙ ap (λ (n : Node). n.used) (node-with_spare old c.args.place (g.T.Index.NodeIndex.number c.link_to.result) name) ∙ c.requires.idle in (
+      mark_added (g.T.Tables.cells c.set_spare.new.self) (g.T.Tables.cells c.set_used.new.self) name true named e₂ refl idle
+          (stacked (g.T.Tables.cells c.args.tables.now) (g.T.Tables.cells c.set_spare.new.self) c.args.place _ e₁ h),
+      ap (take (c.args.place + 1)) (use_spare (g.T.Tables.cells c.set_spare.new.self) (g.T.Tables.cells c.set_used.new.self) name true named e₂)
+          ∙ stack_top _ _ c.args.place _ e₁ (omega (arith, c.requires.place, c.shape.ensures.spare))
           ∙ ap (λ l. l ++ g.T.Index.NodeIndex.number c.link_to.result ∷ []) e ∙ ap (λ n. xs ++ n ∷ []) number,
     )
 

@@ -1,4 +1,5 @@
-use Rattle.offset_allocator.proofs.Common.{◌+◌, ◌*◌, ◌-◌, ◌≤◌, ◌++◌, ◌∷◌, [], ◌≡◌, ◌∙◌, ap, ap₂, refl, sym, subst, take, drop, get_or, length, arith, ℕ, List, Block, View, IsApart, used_of, count_named, times}
+use Rattle.offset_allocator.proofs.Common.{◌+◌, ◌*◌, ◌-◌, ◌≤◌, ◌++◌, ◌∷◌, [], ◌≡◌, ◌∙◌, ap, ap₂, refl, sym, subst, take, drop, get_or, length, arith, ℕ, List, Block, View, IsApart}
+use Rattle.offset_allocator.proofs.Common.{used_of, count_named, times}
 use Rattle.offset_allocator.proofs.Restored.{AreParts, parted, well_built, text_built}
 use Rattle.offset_allocator.proofs.{StateWords.freed_same, StateWords.length-words, StateWords.length-freed, Views.blocks-chain, Views.space-chain}
 use Rattle.offset_allocator.specs.Building.{AreEach, IsHeader}
@@ -38,7 +39,8 @@ returns-in-Err-2-clause-refused g c _ v w admitted asked t =
     let hd = c.in-Ok.ensures.header in
     let p = parts hd t in
     let b = rw c.in-Err-2.is at c.in_ok-wrong.ensures.wrong in
-    b refl v.blocks (sym p.first) (w.whole ∙ sym (same_size hd t)) (subst (AreEach v.blocks) (sym p.third) t.are.each) (λ x. subst (λ l. times x l ≤ count_named x v.blocks) (sym p.second) (t.are.once x))
+    b refl v.blocks (sym p.first) (w.whole ∙ sym (same_size hd t)) (subst (AreEach v.blocks) (sym p.third) t.are.each)
+    (λ x. subst (λ l. times x l ≤ count_named x v.blocks) (sym p.second) (t.are.once x))
     (subst IsApart (sym t.are.free ∙ ap (λ l. freed l v.blocks) (sym p.second)) w.apart)
 
 pub returns-then-found-header-clause-refused : goal.returns-then-found-header-clause-refused
@@ -62,10 +64,29 @@ invariant_of-result g c =
       space = space-chain _ _ _ _ _ b.0.chain;
       bins = b.0.binned;
       well = subst IsWellFormed
-          (sym (ap₂ (λ (bs : List Block) (o : List (List ℕ)). let u : View = record { size = c.in-Ok.header.size; max_allocs = c.in-Ok.header.max_allocs; blocks = bs; order = o; accesses = 0 } in u) same b.0.order))
+          (sym (ap₂ (λ (bs : List Block) (o : List (List ℕ)). let u : View = record {
+            size = c.in-Ok.header.size;
+            max_allocs = c.in-Ok.header.max_allocs;
+            blocks = bs;
+            order = o;
+            accesses = 0;
+          } in u) same b.0.order))
           (well_built c.in-Ok.header.size c.in-Ok.header.max_allocs 0 b.0.all _ _ (omega (arith, hd.some, count))
-          b.0.whole (omega (arith, b.0.chain.fits, units-freed (take (7 + 2 * c.in-Ok.header.blocks + c.in-Ok.header.free - (7 + 2 * c.in-Ok.header.blocks)) (drop (7 + 2 * c.in-Ok.header.blocks) c.args.words.now)) b.0.all, b.0.whole)) b.0.each
-          (omega (arith, b.0.chain.full, b.0.chain.within, b.0.count, length-freed (take (7 + 2 * c.in-Ok.header.blocks + c.in-Ok.header.free - (7 + 2 * c.in-Ok.header.blocks)) (drop (7 + 2 * c.in-Ok.header.blocks) c.args.words.now)) b.0.all)) (omega (arith, hd.room, count)) b.0.once b.0.apart (omega (arith, c.if-found-header.false, b.2, ap used_of same)));
+          b.0.whole (omega (
+            arith,
+            b.0.chain.fits,
+            units-freed (take (7 + 2 * c.in-Ok.header.blocks + c.in-Ok.header.free - (7 + 2 * c.in-Ok.header.blocks))
+                (drop (7 + 2 * c.in-Ok.header.blocks) c.args.words.now)) b.0.all,
+            b.0.whole,
+          )) b.0.each
+          (omega (
+            arith,
+            b.0.chain.full,
+            b.0.chain.within,
+            b.0.count,
+            length-freed (take (7 + 2 * c.in-Ok.header.blocks + c.in-Ok.header.free - (7 + 2 * c.in-Ok.header.blocks)) (drop (7 + 2 * c.in-Ok.header.blocks) c.args.words.now)) b.0.all,
+          ))
+          (omega (arith, hd.room, count)) b.0.once b.0.apart (omega (arith, c.if-found-header.false, b.2, ap used_of same)));
       total = sym b.1;
     }
 
@@ -75,7 +96,13 @@ returns-clause-read g c =
     let b = rw c.in-Ok-2.is at c.in_ok-wrong.ensures.built in
     let same = blocks-chain _ _ _ _ _ b.0.chain in (
       subst (λ v. IsTextOf v c.args.words.now)
-          (sym (ap₂ (λ (bs : List Block) (o : List (List ℕ)). let u : View = record { size = c.in-Ok.header.size; max_allocs = c.in-Ok.header.max_allocs; blocks = bs; order = o; accesses = c.new.result } in u) same b.0.order))
+          (sym (ap₂ (λ (bs : List Block) (o : List (List ℕ)). let u : View = record {
+            size = c.in-Ok.header.size;
+            max_allocs = c.in-Ok.header.max_allocs;
+            blocks = bs;
+            order = o;
+            accesses = c.new.result;
+          } in u) same b.0.order))
           (text_built c.args.words.now c.in-Ok.header c.new.result b.0.all _ _ _ hd refl refl refl b.0.words b.0.each b.0.once (sym c.checksum.ensures ∙ c.if-checksum-words.false)),
       c.new.ensures,
       hd.asked,

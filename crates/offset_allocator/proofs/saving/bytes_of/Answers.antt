@@ -14,5 +14,8 @@ loop-word-preserved c =
     ∙ ap (λ l. l ++ get_or b 3 0 ∷ []) (c.in_ok-push-3.ensures.items ∙ ap (λ l. l ++ get_or b 2 0 ∷ []) (c.in_ok-push-2.ensures.items ∙ ap (λ l. l ++ get_or b 1 0 ∷ []) c.in_ok-push.ensures.items))
     ∙ four_pushed c.loop-word.bytes.items (get_or b 0 0) (get_or b 1 0) (get_or b 2 0) (get_or b 3 0)
     ∙ ap (λ (k : List ℕ). c.loop-word.bytes.items ++ get_or k 0 0 ∷ get_or k 1 0 ∷ get_or k 2 0 ∷ get_or k 3 0 ∷ []) c.to_le_bytes.ensures in
-    let r = word_added c.loop-word.word-index n c.loop-word.bytes.items (take c.loop-word.word-index ws) c.push-in-loop-word-3.new.self.items i.long i.words (omega (arith, c.type_inv.words c.loop-word.word-index)) pushed in
+    let r = word_added c.loop-word.word-index n c.loop-word.bytes.items (take c.loop-word.word-index ws) c.push-in-loop-word-3.new.self.items i.long i.words (omega (
+      arith,
+      c.type_inv.words c.loop-word.word-index,
+    )) pushed in
     record { words = r.0 ∙ sym (take_more ws c.loop-word.word-index 0 (omega arith)); long = r.1 }

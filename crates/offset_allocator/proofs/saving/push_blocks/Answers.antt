@@ -32,7 +32,8 @@ loop-i-preserved g c =
     record {
       at = λ more. ap (λ n. last_or None (take n bs)) next ∙ elim c.match-linked.branch [
         | in-Some w ↦ sym r.before ∙ sym c.before-in-loop-i.ensures.cell ∙ sym c.linked.ensures ∙ w.in-Some.is ∙ ap (λ n. Some n) (sym w.name-is)
-        | in_default w ↦ absurd (name_next bs (k - 1) (sym r.before ∙ sym c.before-in-loop-i.ensures.cell ∙ sym c.linked.ensures ∙ w.in_default.is) (omega (arith, more)) (omega (arith, c.requires.all)))
+        | in_default w ↦ absurd (name_next bs (k - 1) (sym r.before ∙ sym c.before-in-loop-i.ensures.cell ∙ sym c.linked.ensures
+            ∙ w.in_default.is) (omega (arith, more)) (omega (arith, c.requires.all)))
       ];
       items =
           c.in_ok-push-2.ensures.items ∙ ap (λ l. l ++ c.size.result ∷ []) c.in_ok-push.ensures.items ∙ append_assoc c.loop-i.words.items (c.loop-i.name ∷ []) (c.size.result ∷ [])
