@@ -45,6 +45,7 @@ pub mod Released
 pub mod Resizing
 pub mod Restored
 pub mod Rows
+pub mod Runs
 pub mod Served
 pub mod Sound
 pub mod Starts

@@ -14,6 +14,7 @@ pub mod Relations
 pub mod Reports
 pub mod Requests
 pub mod Resizing
+pub mod Room
 pub mod Soundness
 pub mod State
 pub mod Statistics

@@ -27,6 +27,7 @@ pub use crate::reports::{
     allocation_offset_counted, allocation_size_counted, is_live_counted, refusal_aligned_counted,
     refusal_counted, storage_report_counted, storage_report_full_counted,
 };
+pub use crate::room::room_cost_counted;
 pub use crate::statistics::{is_empty_counted, statistics_counted};
 use crate::store::Store;
 use crate::tables::Tables;

@@ -1,0 +1,49 @@
+-- Runs of neighbouring blocks, and what it costs to make one free block of all free units of a run.
+use Rattle.std.specs.Prelude.{◌≡◌, ℕ, ◌+◌, ◌<◌, ◌≤◌, ◌⊎◌, true, false, if◌then◌else◌, List, [], ◌∷◌, ◌++◌, Option, Some, None, sum, length}
+use Rattle.offset_allocator.specs.declared.room.RoomCost.{RoomCost}
+use Rattle.offset_allocator.specs.declared.room.Window.{Window}
+use Rattle.offset_allocator.specs.View.{Block, ends_used, free_sizes, starts_free, used_of, used_units}
+
+-- neighbouring blocks, of which the first and the last are free
+pub record IsRun (run bs : List Block) : Type 0 where
+  pub front : List Block
+  pub back : List Block
+  pub is : bs ≡ front ++ (run ++ back)
+  pub begins : starts_free run ≡ true
+  pub ends : ends_used run ≡ false
+
+-- what it costs to slide the live blocks of a run together: their units, and how many they are
+abbrev pub cost_of : List Block → RoomCost
+cost_of run = record { units = used_units run; ranges = used_of run }
+
+-- a cost is at most another: it has fewer units, or as many and no more ranges
+abbrev pub IsAtMost : RoomCost → RoomCost → Type 0
+IsAtMost c d = (c.units < d.units) ⊎ ((c.units ≡ d.units) × (c.ranges ≤ d.ranges))
+
+-- the cost of a run with at least so many free units, such that no run with as many costs less; none where no run has
+-- so many
+abbrev pub IsLeastCost : ℕ → List Block → Option RoomCost → Type 0
+IsLeastCost want bs None = (run : List Block) → IsRun run bs → sum (free_sizes run) < want
+IsLeastCost want bs (Some c) = ((run : List Block) × IsRun run bs × (want ≤ sum (free_sizes run)) × (c ≡ cost_of run))
+    × ((run : List Block) → IsRun run bs → want ≤ sum (free_sizes run) → IsAtMost c (cost_of run))
+
+-- blocks that end in this one, in numbers: their free units, their live units, and how many are live
+pub record IsWindow (w : Window) (bs : List Block) : Type 0 where
+  pub front : List Block
+  pub is : bs ≡ front ++ record { name = w.end; size = w.end_size; used = w.end_used } ∷ []
+  pub room : w.room ≡ sum (free_sizes bs)
+  pub units : w.units ≡ used_units bs
+  pub ranges : w.ranges ≡ used_of bs
+
+-- the free units of its last block
+abbrev pub end_room : Window → ℕ
+end_room w = if w.end_used then 0 else w.end_size
+
+-- the first blocks of others, with at least so many free units, and fewer without the last one
+pub record IsShrunk (want : ℕ) (w : Window) (bs : List Block) : Type 0 where
+  pub left : List Block
+  pub gone : List Block
+  pub is : bs ≡ left ++ gone
+  pub window : IsWindow w left
+  pub serves : want ≤ w.room
+  pub tight : w.room < want + end_room w
