@@ -398,3 +398,34 @@ module _ {want : ℕ} {bs front : List Block} {w : Window} {known : Option RoomC
       where
         whole : f.last ∷ (i.met ++ i.gone) ≡ s.left ++ (s.gone ++ i.gone)
         whole = ap (λ l. l ++ i.gone) s.is ∙ append_assoc s.left s.gone i.gone
+
+-- a free block that serves is a run in which nothing has to move
+pub single_run : (want : ℕ) (bs before after : List Block) (b : Block) → bs ≡ before ++ (b ∷ after) → b.used ≡ false → want ≤ b.size → IsLeastCost want bs (Some (record { units = 0; ranges = 0 }))
+single_run want bs before after b is free l =
+    let empty : record { units = 0; ranges = 0 } ≡ cost_of (b ∷ []) = sym (grind (arith, common_steps)) in (
+      (b ∷ [], record { front = before; back = after; is = is; begins = ap not free; ends = free }, omega (arith, l, free_sum (b ∷ []), ap (λ (v : Bool). if v then 0 else b.size) free), empty),
+      λ run r s. at_least run,
+    )
+  where
+    at_least : (run : List Block) → IsAtMost (record { units = 0; ranges = 0 }) (cost_of run)
+    at_least run = elim (cases_lt 0 (used_units run)) [ inl k ↦ inl k | inr k ↦ inr (omega (arith, k), omega arith) ]
+
+-- a run has a free block
+pub run_some : (run bs : List Block) → IsRun run bs → free_sizes bs ≡ [] → ⊥
+run_some run bs r e = go r.front (sym (ap free_sizes r.is) ∙ e)
+  where
+    first : (run back : List Block) → starts_free run ≡ true → free_sizes (run ++ back) ≡ [] → ⊥
+    first [] back s e = true≢false (sym s)
+    first (b ∷ run) back s e = let f = sym (ap (λ (u : Bool). if u then free_sizes (run ++ back) else b.size ∷ free_sizes (run ++ back)) (not-true b.used s)) ∙ e in absurd (cc)
+
+    later : (f : Block) (u : Bool) (rest : List Block) → f.used ≡ u → free_sizes (f ∷ rest) ≡ [] → free_sizes rest ≡ []
+    later f true rest h e = sym (ap (λ (v : Bool). if v then free_sizes rest else f.size ∷ free_sizes rest) h) ∙ e
+    later f false rest h e = let k = sym (ap (λ (v : Bool). if v then free_sizes rest else f.size ∷ free_sizes rest) h) ∙ e in absurd (cc)
+
+    go : (front : List Block) → free_sizes (front ++ (run ++ r.back)) ≡ [] → ⊥
+    go [] e = first run r.back r.begins e
+    go (f ∷ front) e = go front (later f f.used (front ++ (run ++ r.back)) refl e)
+
+-- it has no more free units than all blocks
+pub run_within : (run bs : List Block) → IsRun run bs → sum (free_sizes run) ≤ sum (free_sizes bs)
+run_within run bs r = omega (arith, ap (λ (l : List Block). sum (free_sizes l)) r.is, free_sum-append r.front (run ++ r.back), free_sum-append run r.back)

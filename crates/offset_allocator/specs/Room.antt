@@ -1,5 +1,5 @@
 -- Runs of neighbouring blocks, and what it costs to make one free block of all free units of a run.
-use Rattle.std.specs.Prelude.{◌≡◌, ℕ, ◌+◌, ◌<◌, ◌≤◌, ◌⊎◌, true, false, if◌then◌else◌, List, [], ◌∷◌, ◌++◌, Option, Some, None, sum, length}
+use Rattle.std.specs.Prelude.{◌≡◌, ℕ, ◌+◌, ◌<◌, ◌≤◌, ◌⊎◌, true, false, if◌then◌else◌, List, [], ◌∷◌, ◌++◌, Option, Some, None, sum}
 use Rattle.offset_allocator.specs.declared.room.RoomCost.{RoomCost}
 use Rattle.offset_allocator.specs.declared.room.Window.{Window}
 use Rattle.offset_allocator.specs.View.{Block, ends_used, free_sizes, starts_free, used_of, used_units}

@@ -1,6 +1,6 @@
-use Rattle.offset_allocator.proofs.Common.{◌≡◌, ◌≤◌, ◌∙◌, ◌++◌, ◌∷◌, ◌+◌, ◌*◌, ℕ, List, [], Some, None, refl, sym, ap, subst, arith, inl, inr, append-nil, length, length-append, Block, Node, blocks, last_or}
-use Rattle.offset_allocator.proofs.{Ends.Ended, Ends.ended, Ends.last_none, Places.at_place, Places.end_place, Sliding.walked}
-use Rattle.offset_allocator.proofs.Runs.{IsMet, alone_serves, alone_few, block_is, met_is, met_fits, met_kept, met_shrunk}
+use Rattle.offset_allocator.proofs.Common.{◌≡◌, ◌≤◌, ◌∙◌, ◌++◌, ◌∷◌, List, [], refl, sym, ap, subst, arith, inl, inr, length, length-append, Block, Node}
+use Rattle.offset_allocator.proofs.{Ends.ended, Ends.last_none, Places.at_place, Places.end_place, Sliding.walked}
+use Rattle.offset_allocator.proofs.Runs.{alone_serves, alone_few, block_is, met_is, met_fits, met_kept, met_shrunk}
 use Rattle.offset_allocator.specs.Room.{IsLeastCost}
 use Rattle.offset_allocator.proofs.room.least_cost.Goals as goal
 use Rattle.offset_allocator.proofs.room.least_cost.Goals.{then-window-want, else-window-want, then-not-used+then-window-want-2, else-not-used, else-not-used-via-then-not-used+else-window-want-2, else-not-used-via-else-not-used}

@@ -1,4 +1,4 @@
-use Rattle.offset_allocator.proofs.Common.{◌≡◌, ◌∙◌, ◌++◌, ◌∷◌, ◌+◌, ◌*◌, ℕ, List, [], Some, refl, sym, ap, arith, append-nil, length, length-append, Block, blocks}
+use Rattle.offset_allocator.proofs.Common.{◌∙◌, ◌++◌, ◌∷◌, List, [], sym, ap, arith, append-nil, length, length-append, Block}
 use Rattle.offset_allocator.proofs.Runs.{end_fits, here, before_some, prior, there, left_is, split_is, last_block}
 use Rattle.offset_allocator.proofs.room.shrink.Goals as goal
 

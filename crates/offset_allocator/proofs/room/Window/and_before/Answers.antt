@@ -1,4 +1,4 @@
-use Rattle.offset_allocator.proofs.Common.{◌∙◌, ◌∷◌, Block, arith, ap, one, sum, free_sizes, used_of, used_units, if◌then◌else◌, length, common_steps}
+use Rattle.offset_allocator.proofs.Common.{◌∙◌, arith}
 use Rattle.offset_allocator.proofs.Runs.{shares, used_few, window_used, window_idle}
 use Rattle.offset_allocator.proofs.room.Window.and_before.Goals as goal
 

@@ -1,4 +1,4 @@
-use Rattle.offset_allocator.proofs.Common.{arith, ap, refl, Bool, true, false, if◌then◌else◌}
+use Rattle.offset_allocator.proofs.Common.{arith, ap, refl, Bool, if◌then◌else◌}
 use Rattle.offset_allocator.proofs.Runs.{cut_used, cut_idle, end_fits, end_used_fits}
 use Rattle.offset_allocator.proofs.room.Window.without_end.Goals as goal
 
