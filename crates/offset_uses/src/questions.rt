@@ -1,11 +1,13 @@
 //! Each call that leaves an allocator as it is, with every clause of its contract once more: what a caller may rely on.
 //! Where a clause is taken back there, the function here is not proved.
 
+ghost use Rattle.offset_allocator.specs.Classes.{up, value};
 ghost use Rattle.offset_allocator.specs.Listing.{listing};
 ghost use Rattle.offset_allocator.specs.Ranges.{IsLive, Range, range_of, size_of};
 ghost use Rattle.offset_allocator.specs.Relations.{IsAlignment, IsCopy};
 ghost use Rattle.offset_allocator.specs.Requests.{CanGrant, IsFullReport, IsReport, IsWhy, blocks_needed};
 ghost use Rattle.offset_allocator.specs.Requests.{units_needed};
+ghost use Rattle.offset_allocator.specs.Room.{IsLeastCost};
 ghost use Rattle.offset_allocator.specs.State.{IsStateOf};
 ghost use Rattle.offset_allocator.specs.Statistics.{AreStatistics};
 ghost use Rattle.offset_allocator.specs.Tight.{CanHold, IsWhyTight};
@@ -14,8 +16,8 @@ ghost use Rattle.std.specs.Prelude.{◌+◌, ◌-◌, ◌/◌, ◌<◌, ◌↔�
 ghost use Rattle.std.specs.Prelude.{option_map, sum, ℕ};
 
 use offset_allocator::{
-    Allocation, AllocatorOf, BlocksOf, Refusal, Statistics, StorageReport, StorageReportFull,
-    Tables,
+    Allocation, AllocatorOf, BlocksOf, Refusal, RoomCost, Statistics, StorageReport,
+    StorageReportFull, Tables,
 };
 use std::alloc::{AllocError, Global};
 
@@ -103,6 +105,13 @@ pub fn refusal_tight_aligned<T: Tables>(
     ensures why { IfSome result (IsWhyTight size align space.now) }
 {
     space.refusal_tight_aligned(size, align)
+}
+
+/// `room_cost`, with each clause of its contract.
+pub fn room_cost<T: Tables>(space: &AllocatorOf<T>, size: u32) -> Option<RoomCost>
+    ensures cost { IsLeastCost (value (up size)) space.now.blocks result }
+{
+    space.room_cost(size)
 }
 
 /// `is_live`, with each clause of its contract.
