@@ -1,11 +1,13 @@
 -- Runs of blocks, as a walk back from the last block meets them.
-use Rattle.offset_allocator.proofs.Common.{◌≡◌, ℕ, ◌+◌, ◌-◌, ◌*◌, ◌<◌, ◌≤◌, ◌⊎◌, Bool, true, false, not, Option, None, Some, IfSome, List, [], ◌∷◌, ◌++◌, length, sum, if◌then◌else◌, refl, sym, ap, subst, ◌∙◌}
-use Rattle.offset_allocator.proofs.Common.{inl, inr, arith, append_assoc, append-nil, length-append, cases_lt, true≢false, not-true, Block, free_sizes, units, used_of, used_units, ChainCells, Node, node, HasPlace, IsSpace, blocks, last_or, starts_free, ends_used, one, common_steps}
+use Rattle.offset_allocator.proofs.Common.{◌≡◌, ℕ, ◌+◌, ◌-◌, ◌*◌, ◌<◌, ◌≤◌, ◌⊎◌, Bool, true, false, not, Option, None}
+use Rattle.offset_allocator.proofs.Common.{Some, IfSome, List, [], ◌∷◌, ◌++◌, length, sum, if◌then◌else◌, refl, sym, ap, subst, ◌∙◌}
+use Rattle.offset_allocator.proofs.Common.{inl, inr, arith, append_assoc, append-nil, length-append, cases_lt, true≢false, not-true, Block, free_sizes, units}
+use Rattle.offset_allocator.proofs.Common.{used_of, used_units, ChainCells, Node, node, HasPlace, IsSpace, blocks, last_or, starts_free, ends_used, one, common_steps}
 use Rattle.offset_allocator.proofs.{Tallies.tally_append, Tallies.free_units, Tallies.free_sum, Tallies.units-append, Joints.free_units-append, Joints.free_units-free}
 use Rattle.offset_allocator.proofs.{Ends.Ended, Ends.ended, Ends.last_none, Places.placed, Places.at_place, Rows.last_or-append}
 use Rattle.offset_allocator.specs.declared.room.RoomCost.{RoomCost}
 use Rattle.offset_allocator.specs.declared.room.Window.{Window}
-use Rattle.offset_allocator.specs.Room.{IsRun, IsAtMost, IsLeastCost, IsShrunk, IsWindow, cost_of, end_room}
+use Rattle.offset_allocator.specs.Room.{IsRun, IsAtMost, IsLeastCost, IsShrunk, IsWindow, cost_of, end_of, end_room}
 
 pub used_units-append : (xs ys : List Block) → used_units (xs ++ ys) ≡ used_units xs + used_units ys
 used_units-append xs ys = tally_append (λ (b : Block). if b.used then b.size else 0) xs ys
@@ -19,7 +21,9 @@ free_sum-append xs ys = omega (arith, free_sum (xs ++ ys), free_sum xs, free_sum
 -- each unit is free or used
 shared : (bs : List Block) → free_units bs + used_units bs ≡ units bs
 shared [] = omega arith
-shared (b ∷ bs) = let ih = shared bs in elim b.used as (λ u. ((if u then 0 else b.size) + free_units bs) + ((if u then b.size else 0) + used_units bs) ≡ b.size + units bs) [ true ↦ omega arith | false ↦ omega arith ]
+shared (b ∷ bs) =
+    let ih = shared bs in
+    elim b.used as (λ u. ((if u then 0 else b.size) + free_units bs) + ((if u then b.size else 0) + used_units bs) ≡ b.size + units bs) [ true ↦ omega arith | false ↦ omega arith ]
 
 pub shares : (bs : List Block) → sum (free_sizes bs) + used_units bs ≡ units bs
 shares bs = omega (arith, shared bs, free_sum bs)
@@ -98,7 +102,7 @@ module _ (want : ℕ) (w : Window) (us : List Block) (h : IsWindow w us) (serves
     last_room-append xs z zs,
     ap last_room e,
     ap last_room h.is,
-    last_room-end h.front (record { name = w.end; size = w.end_size; used = w.end_used }),
+    last_room-end h.front (end_of w),
   )
 
 -- a window with one more block at its start
@@ -119,10 +123,6 @@ window_idle {w} {n} b bs u e h = record {
   units = omega (arith, h.units, ap (λ (v : Bool). (if v then b.size else 0) + used_units bs) u);
   ranges = omega (arith, h.ranges, ap (λ (v : Bool). one v + used_of bs) u);
 }
-
--- the last block of a window
-abbrev pub end_of : Window → Block
-end_of w = record { name = w.end; size = w.end_size; used = w.end_used }
 
 -- what is left of a window without its last block
 pub record IsParted (w : Window) (cs : List Block) : Type 0 where
@@ -178,7 +178,8 @@ flat : (f g : List Block) (e : Block) (gone back : List Block) → f ++ (((g ++ 
 flat f g e gone back =
     ap (λ l. f ++ (l ++ back)) (append_assoc g (e ∷ []) gone) ∙ ap (λ l. f ++ l) (append_assoc g (e ∷ gone) back) ∙ sym (append_assoc f g (e ∷ (gone ++ back)))
 
-module _ {c : ChainCells} {last count : ℕ} (w : Window) (front left gone back : List Block) (space : IsSpace c last count) (is : blocks c last ≡ front ++ ((left ++ gone) ++ back)) (h : IsWindow w left) where
+module _ {c : ChainCells} {last count : ℕ} (w : Window) (front left gone back : List Block)
+    (space : IsSpace c last count) (is : blocks c last ≡ front ++ ((left ++ gone) ++ back)) (h : IsWindow w left) where
   pub here : HasPlace c c.reserved last count w.end (record { before = front ++ h.front; block = end_of w; after = gone ++ back })
   here = placed (rw (is ∙ ap (λ l. front ++ ((l ++ gone) ++ back)) h.is ∙ flat front h.front (end_of w) gone back) at space) refl
 
@@ -274,7 +275,7 @@ module _ (want : ℕ) (b : Block) (rest : List Block) where
     begins_free : starts_free us ≡ true
     begins_free = go us is h.front h.is
       where
-        go : (us : List Block) → b ∷ rest ≡ us ++ back → (front : List Block) → us ≡ front ++ record { name = w.end; size = w.end_size; used = w.end_used } ∷ [] → starts_free us ≡ true
+        go : (us : List Block) → b ∷ rest ≡ us ++ back → (front : List Block) → us ≡ front ++ end_of w ∷ [] → starts_free us ≡ true
         go [] e [] f = absurd (cc)
         go [] e (x ∷ front) f = absurd (cc)
         go (u ∷ us) e front f = let same : u ≡ b = cc in ap (λ (v : Block). not v.used) same ∙ ap not free
@@ -306,13 +307,15 @@ module _ (want : ℕ) (b : Block) (rest : List Block) where
         taken None (inr q) k = absurd (cc)
         taken (Some d) (inr q) k = let same : r ≡ d = cc in (k.0.0, run_after b k.0.1, k.0.2, same ∙ k.0.3)
 
-        each : (known : Option RoomCost) → IfSome known (λ k. IsAtMost r k) → IsLeastCost want rest known → (run : List Block) → IsRun run (b ∷ rest) → want ≤ sum (free_sizes run) → IsAtMost r (cost_of run)
+        each : (known : Option RoomCost) → IfSome known (λ k. IsAtMost r k) → IsLeastCost want rest known → (run : List Block) → IsRun run (b ∷ rest) → want ≤ sum (free_sizes run)
+            → IsAtMost r (cost_of run)
         each known less k run q l = elim (beyond run q l) [
           | inl m ↦ at_most_trans r (cost_of us) (cost_of run) (subst (IsAtMost r) here most) m
           | inr m ↦ later known less k run m l
         ]
           where
-            later : (known : Option RoomCost) → IfSome known (λ k. IsAtMost r k) → IsLeastCost want rest known → (run : List Block) → IsRun run rest → want ≤ sum (free_sizes run) → IsAtMost r (cost_of run)
+            later : (known : Option RoomCost) → IfSome known (λ k. IsAtMost r k) → IsLeastCost want rest known → (run : List Block) → IsRun run rest → want ≤ sum (free_sizes run)
+                → IsAtMost r (cost_of run)
             later None less k run m l = absurd (let f = k run m in omega (arith, f, l))
             later (Some d) less k run m l = at_most_trans r d (cost_of run) less (k.1 run m l)
 

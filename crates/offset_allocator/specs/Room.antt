@@ -1,5 +1,6 @@
 -- Runs of neighbouring blocks, and what it costs to make one free block of all free units of a run.
-use Rattle.std.specs.Prelude.{◌≡◌, ℕ, ◌+◌, ◌<◌, ◌≤◌, ◌⊎◌, true, false, if◌then◌else◌, List, [], ◌∷◌, ◌++◌, Option, Some, None, sum}
+use Rattle.std.specs.Prelude.{◌≡◌, ℕ, ◌+◌, ◌<◌, ◌≤◌, ◌⊎◌, true, false, if◌then◌else◌, List, [], ◌∷◌, ◌++◌}
+use Rattle.std.specs.Prelude.{Option, Some, None, sum}
 use Rattle.offset_allocator.specs.declared.room.RoomCost.{RoomCost}
 use Rattle.offset_allocator.specs.declared.room.Window.{Window}
 use Rattle.offset_allocator.specs.View.{Block, ends_used, free_sizes, starts_free, used_of, used_units}
@@ -20,24 +21,29 @@ cost_of run = record { units = used_units run; ranges = used_of run }
 abbrev pub IsAtMost : RoomCost → RoomCost → Type 0
 IsAtMost c d = (c.units < d.units) ⊎ ((c.units ≡ d.units) × (c.ranges ≤ d.ranges))
 
--- the cost of a run with at least so many free units, such that no run with as many costs less; none where no run has
--- so many
+-- the cost of a run with at least so many free units, where no run with as many costs less; or nothing, where no run
+-- has so many
 abbrev pub IsLeastCost : ℕ → List Block → Option RoomCost → Type 0
 IsLeastCost want bs None = (run : List Block) → IsRun run bs → sum (free_sizes run) < want
-IsLeastCost want bs (Some c) = ((run : List Block) × IsRun run bs × (want ≤ sum (free_sizes run)) × (c ≡ cost_of run))
+IsLeastCost want bs (Some c) =
+    ((run : List Block) × IsRun run bs × (want ≤ sum (free_sizes run)) × (c ≡ cost_of run))
     × ((run : List Block) → IsRun run bs → want ≤ sum (free_sizes run) → IsAtMost c (cost_of run))
+
+-- the last block of a window
+abbrev pub end_of : Window → Block
+end_of w = record { name = w.end; size = w.end_size; used = w.end_used }
+
+-- its free units
+abbrev pub end_room : Window → ℕ
+end_room w = if w.end_used then 0 else w.end_size
 
 -- blocks that end in this one, in numbers: their free units, their live units, and how many are live
 pub record IsWindow (w : Window) (bs : List Block) : Type 0 where
   pub front : List Block
-  pub is : bs ≡ front ++ record { name = w.end; size = w.end_size; used = w.end_used } ∷ []
+  pub is : bs ≡ front ++ end_of w ∷ []
   pub room : w.room ≡ sum (free_sizes bs)
   pub units : w.units ≡ used_units bs
   pub ranges : w.ranges ≡ used_of bs
-
--- the free units of its last block
-abbrev pub end_room : Window → ℕ
-end_room w = if w.end_used then 0 else w.end_size
 
 -- the first blocks of others, with at least so many free units, and fewer without the last one
 pub record IsShrunk (want : ℕ) (w : Window) (bs : List Block) : Type 0 where

@@ -1,10 +1,10 @@
-//! What it costs at least to make room for a request, by sliding the ranges of some neighbouring blocks together. It
-//! reads the tables, and changes nothing.
+//! What has to move at least to make room for a request, where the ranges of some neighbouring blocks slide together.
+//! It reads the tables, and changes nothing.
 ghost use Rattle.std.specs.Prelude.{◌≡◌, ◌≤◌, ◌<◌, ◌+◌, ◌*◌, ◌^◌, ◌⊎◌, ℕ, List, [], ◌∷◌, ◌++◌, Some, IfSome, length};
 ghost use Rattle.offset_allocator.specs.Accesses.{Costs};
 ghost use Rattle.offset_allocator.specs.Chain.{IsSpace, blocks};
 ghost use Rattle.offset_allocator.specs.Classes.{value, up};
-ghost use Rattle.offset_allocator.specs.Room.{IsAtMost, IsLeastCost, IsShrunk, IsWindow, end_room};
+ghost use Rattle.offset_allocator.specs.Room.{IsAtMost, IsLeastCost, IsShrunk, IsWindow, end_of, end_room};
 ghost use Rattle.offset_allocator.specs.View.{Block, units};
 
 use crate::accesses::Accesses;
@@ -21,7 +21,7 @@ pub struct RoomCost {
     pub ranges: u32,
 }
 
-// Neighbouring blocks, in numbers: the last one, the free units, the live units, and how many ranges are live.
+// Neighbouring blocks, in numbers: the last one, the free units, the live units, and how many are live.
 #[derive(Clone, Copy)]
 struct Window {
     end: u32,
@@ -78,7 +78,7 @@ impl Window {
     fn without_end(self, name: u32, size: u32, used: bool) -> Self
         requires window { (bs : List Block) × IsWindow self bs }
         ensures window { (b : Block) (bs cs : List Block) → b ≡ record { name = name; size = size; used = used }
-            → IsWindow self bs → bs ≡ (cs ++ b ∷ []) ++ record { name = self.end; size = self.end_size; used = self.end_used } ∷ []
+            → IsWindow self bs → bs ≡ (cs ++ b ∷ []) ++ end_of self ∷ []
             → IsWindow result (cs ++ b ∷ []) }
         ensures room { result.room + end_room self ≡ self.room }
     {
@@ -138,8 +138,9 @@ fn least(known: Option<RoomCost>, cost: RoomCost) -> RoomCost
     }
 }
 
-// The least cost of a run with at least `want` free units. Of a walk back over the blocks from the last one, the window
-// has those that were met, without the last ones that are not needed.
+// The least cost of a run with at least `want` free units. The walk goes back over the blocks from the last one on; the
+// window has those that were met, without the last ones, which are no longer needed: from each free block on, the
+// shortest run with enough free units is the cheapest, and ends no later than that of the free block after.
 fn least_cost<T: Tables>(tables: &T, last: u32, want: u32, count: &mut Accesses) -> Option<RoomCost>
     requires space { (spare : ℕ) × IsSpace (T.cells tables.now).chain last spare }
     requires some { 1 ≤ want }
@@ -202,19 +203,18 @@ pub fn room_cost_counted<T: Tables>(
 }
 
 impl<T: Tables> AllocatorOf<T> {
-    /// What has to move at least, so that `allocate(size)` finds its block: the units and the number of the ranges of some
-    /// neighbouring blocks. Slid together, these leave one free block, which is large enough. Of all neighbouring blocks
-    /// that would do, those with the fewest units in ranges are taken, and of these those with the fewest ranges.
+    /// What has to move at least so that `allocate(size)` finds its block: the units and the number of the ranges in
+    /// some run of blocks, from one free block to another. Slid to the front of the run, they leave after them one free
+    /// block that is large enough. Of all such runs it is one whose ranges have the fewest units, and of these one that
+    /// has the fewest ranges.
     ///
-    /// `None` is returned where all free units together are not enough, as `refusal` says by `Space` and `TooLarge`. Both
-    /// numbers are 0 where a free block is large enough already: then nothing has to move, though the request is refused
-    /// at the node limit. For an aligned request ask with `size + align - 1`.
-    ///
-    /// `compact` moves all ranges behind the first free block, mostly far more. It makes at most 6 accesses to the tables
-    /// for each block, and 2, and where a free block is large enough at most 2.
+    /// `None` is returned where all free units together are not enough: `refusal` says `TooLarge` or `Space` then. Both
+    /// numbers are 0 where one free block is large enough: nothing has to move then, though the request is refused at
+    /// the node limit. For an aligned request ask with `size + align - 1`. It makes at most 6 accesses to the tables
+    /// for each block, and 2.
     pub fn room_cost(&self, size: u32) -> Option<RoomCost>
-        // Of all runs of blocks that begin and end with a free one, and have at least the units of the class of the
-        // request free, none costs less; and one costs this. Where there is no such run, it is `None`.
+        // Of all runs of blocks that begin and end with a free one and have enough free units, which is the value of
+        // the class that the request needs, one costs this, and none costs less. `None`: there is no such run.
         ensures cost { IsLeastCost (value (up size)) self.now.blocks result }
     {
         room_cost_counted(self, size, &mut Accesses::new())

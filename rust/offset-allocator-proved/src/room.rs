@@ -1,7 +1,7 @@
 // Printed by rust/erase from crates/offset_allocator/src/room.rt: change it there.
 
-//! What it costs at least to make room for a request, by sliding the ranges of some neighbouring blocks together. It
-//! reads the tables, and changes nothing.
+//! What has to move at least to make room for a request, where the ranges of some neighbouring blocks slide together.
+//! It reads the tables, and changes nothing.
 
 use crate::accesses::Accesses;
 use crate::small_float::{float_to_uint, uint_to_float_round_down, uint_to_float_round_up};
@@ -17,7 +17,7 @@ pub struct RoomCost {
     pub ranges: u32,
 }
 
-// Neighbouring blocks, in numbers: the last one, the free units, the live units, and how many ranges are live.
+// Neighbouring blocks, in numbers: the last one, the free units, the live units, and how many are live.
 #[derive(Clone, Copy)]
 struct Window {
     end: u32,
@@ -108,8 +108,9 @@ fn least(known: Option<RoomCost>, cost: RoomCost) -> RoomCost {
     }
 }
 
-// The least cost of a run with at least `want` free units. Of a walk back over the blocks from the last one, the window
-// has those that were met, without the last ones that are not needed.
+// The least cost of a run with at least `want` free units. The walk goes back over the blocks from the last one on; the
+// window has those that were met, without the last ones, which are no longer needed: from each free block on, the
+// shortest run with enough free units is the cheapest, and ends no later than that of the free block after.
 fn least_cost<T: Tables>(tables: &T, last: u32, want: u32, count: &mut Accesses) -> Option<RoomCost> {
     tables.shape();
     let size = tables.size(last, count);
@@ -163,16 +164,15 @@ pub fn room_cost_counted<T: Tables>(
 }
 
 impl<T: Tables> AllocatorOf<T> {
-    /// What has to move at least, so that `allocate(size)` finds its block: the units and the number of the ranges of some
-    /// neighbouring blocks. Slid together, these leave one free block, which is large enough. Of all neighbouring blocks
-    /// that would do, those with the fewest units in ranges are taken, and of these those with the fewest ranges.
+    /// What has to move at least so that `allocate(size)` finds its block: the units and the number of the ranges in
+    /// some run of blocks, from one free block to another. Slid to the front of the run, they leave after them one free
+    /// block that is large enough. Of all such runs it is one whose ranges have the fewest units, and of these one that
+    /// has the fewest ranges.
     ///
-    /// `None` is returned where all free units together are not enough, as `refusal` says by `Space` and `TooLarge`. Both
-    /// numbers are 0 where a free block is large enough already: then nothing has to move, though the request is refused
-    /// at the node limit. For an aligned request ask with `size + align - 1`.
-    ///
-    /// `compact` moves all ranges behind the first free block, mostly far more. It makes at most 6 accesses to the tables
-    /// for each block, and 2, and where a free block is large enough at most 2.
+    /// `None` is returned where all free units together are not enough: `refusal` says `TooLarge` or `Space` then. Both
+    /// numbers are 0 where one free block is large enough: nothing has to move then, though the request is refused at
+    /// the node limit. For an aligned request ask with `size + align - 1`. It makes at most 6 accesses to the tables
+    /// for each block, and 2.
     pub fn room_cost(&self, size: u32) -> Option<RoomCost> {
         room_cost_counted(self, size, &mut Accesses::new())
     }

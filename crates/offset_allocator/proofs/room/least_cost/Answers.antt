@@ -3,7 +3,8 @@ use Rattle.offset_allocator.proofs.{Ends.ended, Ends.last_none, Places.at_place,
 use Rattle.offset_allocator.proofs.Runs.{alone_serves, alone_few, block_is, met_is, met_fits, met_kept, met_shrunk}
 use Rattle.offset_allocator.specs.Room.{IsLeastCost}
 use Rattle.offset_allocator.proofs.room.least_cost.Goals as goal
-use Rattle.offset_allocator.proofs.room.least_cost.Goals.{then-window-want, else-window-want, then-not-used+then-window-want-2, else-not-used, else-not-used-via-then-not-used+else-window-want-2, else-not-used-via-else-not-used}
+use Rattle.offset_allocator.proofs.room.least_cost.Goals.{then-window-want, else-window-want, then-not-used+then-window-want-2}
+use Rattle.offset_allocator.proofs.room.least_cost.Goals.{else-not-used, else-not-used-via-then-not-used+else-window-want-2, else-not-used-via-else-not-used}
 
 pub size-size-requires : goal.size-size-requires
 size-size-requires g c = (end_place c.requires.space.1).below
@@ -19,7 +20,8 @@ loop-at-init g c =
     let s = c.requires.space.1 in
     let f = ended _ c.args.last s.ends in
     let at = at_place (end_place s) in
-    let w = c.alone-window.ensures f.last (block_is f.last c.args.last _ _ f.name (c.size-size.ensures.cell ∙ ap (λ (v : Node). v.size) at) (c.is_used-used.ensures.cell ∙ ap (λ (v : Node). v.used) at)) in
+    let w = c.alone-window.ensures f.last (block_is f.last c.args.last _ _ f.name (c.size-size.ensures.cell ∙ ap (λ (v : Node). v.size) at) (c.is_used-used.ensures.cell
+    ∙ ap (λ (v : Node). v.used) at)) in
     record {
       front = f.front;
       ends = sym (c.before-at.ensures.before ∙ ap (λ (v : Node). v.before) at);
@@ -77,7 +79,8 @@ shrink-window-requires-clause-place g c =
       i.met.gone,
       s,
       met_is i.met f,
-      c.and_before-window.ensures.window f.last i.met.met (sym (c.size-size-in-Some.ensures.cell ∙ ap (λ (v : Node). v.size) at)) (sym (c.is_used-used-in-Some.ensures.cell ∙ ap (λ (v : Node). v.used) at))
+      c.and_before-window.ensures.window f.last i.met.met (sym (c.size-size-in-Some.ensures.cell ∙ ap (λ (v : Node). v.size) at)) (sym (c.is_used-used-in-Some.ensures.cell
+          ∙ ap (λ (v : Node). v.used) at))
           i.met.window,
     )
 
@@ -96,7 +99,8 @@ loop-at-preserved g c =
       met = elim c.if-not-used.branch [
         | then-not-used+then-window-want-2 t ↦
             let r = t.shrink-window.ensures.shrunk c.args.last c.requires.space.0 f.front (f.last ∷ i.met.met) i.met.gone s (met_is i.met f) w in
-            rw (t.window-is, t.cost-is) (met_shrunk i.met f c.and_before-window.result w (used ∙ t.if-not-used.true) r.0 _ t.least.result refl refl t.least.ensures.one t.least.ensures.cost t.least.ensures.known
+            rw (t.window-is, t.cost-is) (met_shrunk i.met f c.and_before-window.result w (used
+            ∙ t.if-not-used.true) r.0 _ t.least.result refl refl t.least.ensures.one t.least.ensures.cost t.least.ensures.known
             (omega (arith, c.size-size-in-Some.ensures.accesses, c.is_used-used-in-Some.ensures.accesses, c.before-at-in-Some.ensures.accesses, t.count-is, r.1)))
         | else-not-used t ↦ elim t.else-not-used.branch [
           | else-not-used-via-then-not-used+else-window-want-2 k ↦
@@ -119,7 +123,8 @@ loop-at-smaller g c =
     let used : f.last.used ≡ c.is_used-used-in-Some.result = sym (c.is_used-used-in-Some.ensures.cell ∙ ap (λ (v : Node). v.used) at) in
     let w = c.and_before-window.ensures.window f.last i.met.met (sym (c.size-size-in-Some.ensures.cell ∙ ap (λ (v : Node). v.size) at)) used i.met.window in
     let grows : c.is_used-used-in-Some.new.count ≤ c.if-not-used.count = elim c.if-not-used.branch [
-      | then-not-used+then-window-want-2 t ↦ let r = t.shrink-window.ensures.shrunk c.args.last c.requires.space.0 f.front (f.last ∷ i.met.met) i.met.gone s (met_is i.met f) w in omega (arith, t.count-is, r.1)
+      | then-not-used+then-window-want-2 t ↦ let r = t.shrink-window.ensures.shrunk c.args.last c.requires.space.0 f.front (f.last ∷ i.met.met) i.met.gone s (met_is i.met f) w
+          in omega (arith, t.count-is, r.1)
       | else-not-used t ↦ omega (arith, t.count-is)
     ] in
     omega (

@@ -1,4 +1,5 @@
-use Rattle.offset_allocator.proofs.Common.{◌≡◌, ◌^◌, ◌∙◌, ◌<◌, ℕ, List, [], Option, Some, None, true, true≢false, is_some, refl, sym, ap, subst, arith, inl, inr, cases_lt, get_or_past, sum, View, IsWellFormed, free_sizes, value, up, down, bin_at}
+use Rattle.offset_allocator.proofs.Common.{◌≡◌, ◌^◌, ◌∙◌, ◌<◌, ℕ, List, [], Option, Some, None, true, true≢false, is_some, refl, sym}
+use Rattle.offset_allocator.proofs.Common.{ap, subst, arith, inl, inr, cases_lt, get_or_past, sum, View, IsWellFormed, free_sizes, value, up, down, bin_at}
 use Rattle.offset_allocator.proofs.Classes.{down_law, below_value_up, value_grows, value_down}
 use Rattle.offset_allocator.proofs.{Advice.none_free, Advice.free_within, Sound.Fields, Sound.fields_of, Taken.HasFit, Taken.fitting, Refusals.total_is}
 use Rattle.offset_allocator.proofs.Runs.{single_run, run_some, run_within}
@@ -11,7 +12,8 @@ pub find_at_or_above-requires-clause-classed : goal.find_at_or_above-requires-cl
 find_at_or_above-requires-clause-classed g c = omega (arith, (below_value_up c.args.size (omega arith)).1, c.uint_to_float_round_up-class.ensures.is)
 
 -- a bin that is found has a block that serves
-one_serves : (v : View) → IsWellFormed v → (n k : ℕ) (ls : List (List ℕ)) (r : Option ℕ) → k ≡ up n → ls ≡ v.order → IsFoundFrom k ls r → is_some r ≡ true → IsLeastCost (value (up n)) v.blocks (Some (record { units = 0; ranges = 0 }))
+one_serves : (v : View) → IsWellFormed v → (n k : ℕ) (ls : List (List ℕ)) (r : Option ℕ) → k ≡ up n → ls ≡ v.order → IsFoundFrom k ls r → is_some r ≡ true
+    → IsLeastCost (value (up n)) v.blocks (Some (record { units = 0; ranges = 0 }))
 one_serves v w n k ls None e o f s = absurd (cc)
 one_serves v w n k ls (Some c) e o f s =
     let h : HasFit n v = (c, omega (arith, e, f.0), λ q. f.2 (ap (λ (l : List (List ℕ)). bin_at l c) o ∙ q)) in

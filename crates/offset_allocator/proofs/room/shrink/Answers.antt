@@ -1,5 +1,6 @@
 use Rattle.offset_allocator.proofs.Common.{◌∙◌, ◌++◌, ◌∷◌, List, [], sym, ap, arith, append-nil, length, length-append, Block}
 use Rattle.offset_allocator.proofs.Runs.{end_fits, here, before_some, prior, there, left_is, split_is, last_block}
+use Rattle.offset_allocator.specs.Room.{end_of}
 use Rattle.offset_allocator.proofs.room.shrink.Goals as goal
 
 pub loop-window-init : goal.loop-window-init
@@ -57,10 +58,10 @@ loop-window-smaller g c =
       i.4,
       r.5.full,
       ap (λ (l : List Block). length l) all,
-      length-append r.2 (((i.3.front ++ record { name = c.loop-window.window.end; size = c.loop-window.window.end_size; used = c.loop-window.window.end_used } ∷ []) ++ i.1) ++ r.4),
-      length-append ((i.3.front ++ record { name = c.loop-window.window.end; size = c.loop-window.window.end_size; used = c.loop-window.window.end_used } ∷ []) ++ i.1) r.4,
-      length-append (i.3.front ++ record { name = c.loop-window.window.end; size = c.loop-window.window.end_size; used = c.loop-window.window.end_used } ∷ []) i.1,
-      length-append i.3.front (record { name = c.loop-window.window.end; size = c.loop-window.window.end_size; used = c.loop-window.window.end_used } ∷ []),
+      length-append r.2 (((i.3.front ++ end_of c.loop-window.window ∷ []) ++ i.1) ++ r.4),
+      length-append ((i.3.front ++ end_of c.loop-window.window ∷ []) ++ i.1) r.4,
+      length-append (i.3.front ++ end_of c.loop-window.window ∷ []) i.1,
+      length-append i.3.front (end_of c.loop-window.window ∷ []),
       c.before-in-loop-window.ensures.accesses,
       c.size-size.ensures.accesses,
       c.is_used-used.ensures.accesses,
@@ -72,13 +73,15 @@ loop-window-preserved g c = record {
   at = λ last spare front bs back space is w.
       let i = c.loop-window.invariant.at last spare front bs back space is w in
       let e = sym c.in-Some.is ∙ c.before-in-loop-window.ensures.before in
+      let w' = c.loop-window.window in
       let all = is ∙ ap (λ l. front ++ (l ++ back)) i.2 in
       let p = prior c.loop-window.window front i.0 i.1 back space all i.3 c.args.want c.requires.some (omega (arith, c.end_room.ensures, c.loop-window-test.true)) c.in-Some.name e in (
         p.front ++ p.last ∷ [],
-        record { name = c.loop-window.window.end; size = c.loop-window.window.end_size; used = c.loop-window.window.end_used } ∷ i.1,
+        end_of c.loop-window.window ∷ i.1,
         i.2 ∙ split_is c.loop-window.window front i.0 i.1 back space all i.3 c.args.want c.requires.some (omega (arith, c.end_room.ensures, c.loop-window-test.true)) c.in-Some.name e,
         c.without_end-window.ensures.window p.last i.0 p.front
-            (last_block c.loop-window.window front i.0 i.1 back space all i.3 c.args.want c.requires.some (omega (arith, c.end_room.ensures, c.loop-window-test.true)) c.in-Some.name e _ _ c.size-size.ensures.cell c.is_used-used.ensures.cell) i.3
+            (last_block w' front i.0 i.1 back space all i.3 c.args.want c.requires.some (omega (arith, c.end_room.ensures, c.loop-window-test.true)) c.in-Some.name e _ _
+            c.size-size.ensures.cell c.is_used-used.ensures.cell) i.3
             (left_is c.loop-window.window front i.0 i.1 back space all i.3 c.args.want c.requires.some (omega (arith, c.end_room.ensures, c.loop-window-test.true)) c.in-Some.name e),
         omega (arith, i.4, c.before-in-loop-window.ensures.accesses, c.size-size.ensures.accesses, c.is_used-used.ensures.accesses),
       );
