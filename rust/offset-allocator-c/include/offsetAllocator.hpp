@@ -81,6 +81,13 @@ struct Statistics {
     uint32 unusedNodes;
 };
 
+// What has to move at least so that a request finds its block, where all free units together are enough for it.
+struct RoomCost {
+    bool possible;
+    uint32 units;
+    uint32 ranges;
+};
+
 enum class Refusal { granted, nodes, tooLarge, space, fragmented, badCall, serials };
 
 struct Move {
@@ -116,6 +123,8 @@ inline Statistics of(const oa_totals &from) {
     return {from.live_ranges,        from.live_units,          from.free_blocks, from.free_units,
             from.largest_free_block, from.largest_free_region, from.unused_nodes};
 }
+
+inline RoomCost of(oa_room from) { return {from.possible, from.units, from.ranges}; }
 
 inline StorageReportFull of(const oa_report_full &from) {
     StorageReportFull report;
@@ -333,6 +342,7 @@ public:
     Refusal refusalTightAligned(uint32 size, uint32 align) const {
         return Refusal(oa_refusal_tight_aligned(space, size, align));
     }
+    RoomCost roomCost(uint32 size) const { return detail::of(oa_room_cost(space, size)); }
 
 private:
     explicit Allocator(oa_allocator *made) noexcept : space(made) {}
@@ -460,6 +470,7 @@ public:
     Refusal refusalTightAligned(uint32 size, uint32 align) const {
         return Refusal(oag_refusal_tight_aligned(space, size, align));
     }
+    RoomCost roomCost(uint32 size) const { return detail::of(oag_room_cost(space, size)); }
 
     bool isSpent() const { return oag_is_spent(space); }
     uint32 realm() const { return oag_realm(space); }

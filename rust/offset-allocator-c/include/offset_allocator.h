@@ -74,6 +74,14 @@ typedef struct oa_totals {
     uint32_t unused_nodes;
 } oa_totals;
 
+/* What has to move at least so that a request finds its block. possible: whether all free units together are enough; if
+ * not, the rest is 0. units, ranges: of the ranges that have to move. */
+typedef struct oa_room {
+    bool possible;
+    uint32_t units;
+    uint32_t ranges;
+} oa_room;
+
 /* The free blocks by size class. size: the smallest size of the class (from class 240 on, where no block is, modulo
  * 2 to the power of 32). count: how many free blocks it has. */
 typedef struct oa_region {
@@ -276,6 +284,12 @@ oa_reason oa_refusal_aligned(const oa_allocator *space, uint32_t size, uint32_t 
 oa_reason oa_refusal_tight(const oa_allocator *space, uint32_t size);
 oa_reason oa_refusal_tight_aligned(const oa_allocator *space, uint32_t size, uint32_t align);
 
+/* What has to move at least so that oa_allocate of this size finds its block: of all runs of blocks, from a free one to a
+ * free one, that have enough free units together, one whose ranges have the fewest units, and of these one with the fewest
+ * ranges. Both are 0 where a free block is large enough, though the request is refused at the node limit. For an aligned
+ * request ask with size + align - 1. All 0 for null. Cost: 6 accesses a block, and 2. */
+oa_room oa_room_cost(const oa_allocator *space, uint32_t size);
+
 /* The smallest size of a fresh space that grants a request of this size; 0 above 4026531840, where none does. */
 uint32_t oa_min_allocator_size(uint32_t size);
 
@@ -408,6 +422,9 @@ oa_reason oag_refusal_aligned(const oag_allocator *space, uint32_t size, uint32_
 /* Why oag_allocate_tight and oag_allocate_tight_aligned would be refused now. */
 oa_reason oag_refusal_tight(const oag_allocator *space, uint32_t size);
 oa_reason oag_refusal_tight_aligned(const oag_allocator *space, uint32_t size, uint32_t align);
+
+/* As oa_room_cost. */
+oa_room oag_room_cost(const oag_allocator *space, uint32_t size);
 
 /* As oa_walk_start and oa_blocks_new, for oa_walk_next, oa_blocks_next and oa_blocks_drop. A block has a handle, which
  * oag_ticket_of makes a ticket. */

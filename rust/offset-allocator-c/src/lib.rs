@@ -61,6 +61,15 @@ pub struct Totals {
     unused_nodes: u32,
 }
 
+/// What has to move at least for a request.
+#[repr(C)]
+#[derive(Default)]
+pub struct Room {
+    possible: bool,
+    units: u32,
+    ranges: u32,
+}
+
 /// One size class.
 #[repr(C)]
 #[derive(Clone, Copy)]
@@ -229,6 +238,10 @@ fn totals(space: &Allocator) -> Totals {
         largest_free_region: found.largest_free_region,
         unused_nodes: found.unused_nodes,
     }
+}
+
+fn room(space: &Allocator, size: u32) -> Room {
+    space.room_cost(size).map_or(Room::default(), |cost| Room { possible: true, units: cost.units, ranges: cost.ranges })
 }
 
 fn full(space: &Allocator) -> FullReport {
@@ -462,6 +475,8 @@ exports! {
         if align.is_power_of_two() { reason(space.refusal_tight_aligned(size, align)) } else { Reason::BadCall }
     } else Reason::BadCall;
 
+    fn oa_room_cost([space: &Space], size: u32) -> Room { room(space, size) } else Room::default();
+
     fn oa_min_allocator_size(size: u32) -> u32 {
         if size <= 4_026_531_840 { min_allocator_size(size) } else { 0 }
     } else 0;
@@ -602,4 +617,6 @@ exports! {
     fn oag_refusal_tight_aligned([space: &GuardedSpace], size: u32, align: u32) -> Reason {
         if align.is_power_of_two() { guarded_reason(space.refusal_tight_aligned(size, align)) } else { Reason::BadCall }
     } else Reason::BadCall;
+
+    fn oag_room_cost([space: &GuardedSpace], size: u32) -> Room { room(space.allocator(), size) } else Room::default();
 }

@@ -263,6 +263,24 @@ static void classes(void) {
     CHECK(oa_float_to_uint(255) == 0xc0000000u && !oa_float_to_uint(256) && !oa_float_to_uint(4294967295u));
 }
 
+static bool costs(oa_room room, uint32_t units, uint32_t ranges) {
+    return room.possible && room.units == units && room.ranges == ranges;
+}
+
+/* 10 free units, 20 live, 8 free, 12 live, 50 free: the class of 50 units begins at 48, and those above at 52, 60, 64, 72 */
+static void room(void) {
+    oa_allocator *space = oa_new(100, 16);
+    oa_allocation first = oa_allocate(space, 10);
+    oa_allocate(space, 20);
+    oa_allocation second = oa_allocate(space, 8);
+    oa_allocate(space, 12);
+    CHECK(oa_free(space, first) && oa_free(space, second) && oa_block_count(space) == 5);
+    CHECK(costs(oa_room_cost(space, 48), 0, 0) && costs(oa_room_cost(space, 49), 12, 1) && costs(oa_room_cost(space, 52), 12, 1));
+    CHECK(costs(oa_room_cost(space, 57), 32, 2) && costs(oa_room_cost(space, 64), 32, 2) && costs(oa_room_cost(space, 0), 0, 0));
+    CHECK(!oa_room_cost(space, 65).possible && !oa_room_cost(space, 4294967295u).possible && !oa_room_cost(space, 65).units);
+    oa_drop(space);
+}
+
 static void nulls(void) {
     oa_allocation a = made(0, 0);
     oa_reset(NULL);
@@ -270,6 +288,7 @@ static void nulls(void) {
     CHECK(is_nothing(oa_allocate(NULL, 1)) && is_nothing(oa_allocate_aligned(NULL, 1, 1)));
     CHECK(is_nothing(oa_allocate_tight(NULL, 1)) && is_nothing(oa_allocate_tight_aligned(NULL, 1, 1)));
     CHECK(oa_refusal_tight(NULL, 0) == OA_BAD_CALL && oa_refusal_tight_aligned(NULL, 0, 1) == OA_BAD_CALL);
+    CHECK(!oa_room_cost(NULL, 0).possible);
     CHECK(!oa_free(NULL, a) && !oa_is_live(NULL, a) && !oa_allocation_size(NULL, a));
     CHECK(oa_allocation_offset(NULL, a) == OA_NO_SPACE && !oa_shrink(NULL, a, 0) && !oa_grow_in_place(NULL, a, 0));
     CHECK(!oa_extend(NULL, 0) && !oa_size(NULL) && !oa_max_allocs(NULL) && !oa_block_count(NULL) && oa_is_full(NULL));
@@ -363,6 +382,7 @@ int main(void) {
     constructors();
     grants();
     statistics();
+    room();
     tight();
     aligned();
     resizes();

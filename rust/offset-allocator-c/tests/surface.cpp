@@ -93,7 +93,11 @@ static void zeroFragmentation() {
     }
     CHECK(a.storageReport().totalFreeSpace == 0 && a.storageReport().largestFreeRegion == 0);
     CHECK(!a.isEmpty() && a.freeUnits() + a.liveUnits() == a.size() && a.statistics().freeUnits == a.freeUnits());
+    CHECK(!a.roomCost(1).possible);
     for (int i : {243, 5, 123, 95, 151, 152, 153, 154}) a.free(live[i]);
+    // one at 5 and one at 95 have 89 between them, one at 123 and those from 151 on 27: five free together need those
+    RoomCost cost = a.roomCost(5 * MIB);
+    CHECK(cost.possible && cost.units == 27 * MIB && cost.ranges == 27 && a.roomCost(4 * MIB).units == 0);
     for (int i : {243, 5, 123, 95}) {
         live[i] = a.allocate(MIB);
         CHECK(live[i].offset != Allocation::NO_SPACE);
@@ -280,6 +284,8 @@ static void tickets() {
     CHECK(g.refusalTight(86) == Refusal::granted && g.refusalTightAligned(87, 2) == Refusal::fragmented && !g.allocateTight(87));
     Ticket filled = g.allocateTightAligned(86, 2);
     CHECK(filled && g.offsetOf(filled) == 42 && g.free(filled) && g.free(g.allocateTight(86)));
+    RoomCost cost = g.roomCost(88);
+    CHECK(cost.possible && cost.units == 10 && cost.ranges == 1 && g.roomCost(80).ranges == 0 && !g.roomCost(99).possible);
     Statistics sums = g.statistics();
     CHECK(sums.freeUnits == 98 && g.freeUnits() == 98 && sums.liveUnits == g.liveUnits() && !g.isEmpty());
     CHECK(sums.liveRanges + sums.freeBlocks == 4 && sums.unusedNodes + 4 == g.maxAllocs());

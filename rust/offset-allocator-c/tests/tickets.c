@@ -154,6 +154,9 @@ static void reads(void) {
     CHECK(!oag_is_empty(space) && oag_live_units(space) == 20 && oag_free_units(space) == 80);
     oa_report_full full = oag_storage_report_full(space);
     for (int c = 0; c < 256; c++) CHECK(full.free_regions[c].count == (c == 10 || c == 32));
+    /* 10 free units, 20 live, 70 free: the class from 72 on needs both */
+    oa_room room = oag_room_cost(space, 72);
+    CHECK(room.possible && room.units == 20 && room.ranges == 1 && !oag_room_cost(space, 81).possible);
     CHECK(oag_refusal(space, 97) == OA_TOO_LARGE && oag_refusal(space, 80) == OA_FRAGMENTED);
     CHECK(oag_refusal_aligned(space, 10, 3) == OA_BAD_CALL && oag_refusal_aligned(space, 10, 8) == OA_GRANTED);
     CHECK(oag_refusal_aligned(space, 60, 64) == OA_TOO_LARGE && oag_refusal_aligned(space, 10, 0) == OA_BAD_CALL);
@@ -183,6 +186,7 @@ static void nulls(void) {
     CHECK(!oag_realm(NULL) && !oag_blocks_new(NULL) && !oag_ticket_of(NULL, handle).serial);
     CHECK(oag_refusal_aligned(NULL, 1, 1) == OA_BAD_CALL && !oag_storage_report_full(NULL).free_regions[0].count);
     CHECK(oag_is_empty(NULL) && !oag_free_units(NULL) && !oag_live_units(NULL) && !oag_statistics(NULL).unused_nodes);
+    CHECK(!oag_room_cost(NULL, 0).possible);
     oag_walk_start(NULL, &walk);
     CHECK(oa_walk_next(&walk).kind == OA_END);
     CHECK(oag_refusal_tight(NULL, 1) == OA_BAD_CALL && oag_refusal_tight_aligned(NULL, 1, 1) == OA_BAD_CALL);
