@@ -14,6 +14,7 @@ mod ranges;
 mod refusals;
 mod reports;
 mod resizing;
+mod room;
 mod states;
 mod steps;
 mod texts;

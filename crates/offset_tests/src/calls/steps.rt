@@ -4,11 +4,11 @@ use crate::asserts::{assert_same_at, assert_that_at, text_of};
 use crate::layouts::{ALL, Expectation, check_each};
 use offset_allocator::laws::{
     allocation_offset_counted, is_empty_counted, next_block_counted, refusal_aligned_counted,
-    refusal_counted, refusal_tight_aligned_counted, refusal_tight_counted, statistics_counted,
-    undo,
+    refusal_counted, refusal_tight_aligned_counted, refusal_tight_counted, room_cost_counted,
+    statistics_counted, undo,
 };
 use offset_allocator::{
-    Accesses, Allocation, AllocatorOf, Block, Move, NodeIndex, Refusal, Statistics,
+    Accesses, Allocation, AllocatorOf, Block, Move, NodeIndex, Refusal, RoomCost, Statistics,
     StorageReportFullRegion, Tables,
 };
 use std::alloc::{AllocError, Global};
@@ -60,6 +60,10 @@ pub enum Step {
     Lacks(u32, Refusal),
     /// A request of this size at a multiple of the second number is refused for this reason.
     LacksAligned(u32, u32, Refusal),
+    /// For a request of this size so many units move at least, in so many ranges.
+    Costs(u32, u32, u32),
+    /// For a request of this size all free units together are too few.
+    CostsNot(u32),
     /// The space has this size, this many blocks, and is full or not.
     Is(u32, u32, bool),
     /// Of live ranges, their units, free blocks, their units, the largest free block, the largest region, and unused
@@ -208,6 +212,19 @@ fn expect_sums<T: Tables>(
     let mut count = Accesses::new();
     assert_same_at(rt, at, &is_empty_counted(allocator, &mut count), &empty);
     assert_same_at(rt, at, &statistics_counted(allocator, &mut count), &wanted);
+}
+
+// What has to move for a request, by both calls that say so.
+fn expect_cost<T: Tables>(
+    rt: &impl Abort,
+    at: &Place,
+    allocator: &AllocatorOf<T>,
+    size: u32,
+    wanted: Option<RoomCost>,
+) {
+    assert_same_at(rt, at, &allocator.room_cost(size), &wanted);
+    let counted = room_cost_counted(allocator, size, &mut Accesses::new());
+    assert_same_at(rt, at, &counted, &wanted);
 }
 
 fn request<T: Tables>(
@@ -494,6 +511,11 @@ fn observe<T: Tables>(
                 &Some(*why),
             );
         }
+        Step::Costs(size, units, ranges) => {
+            let (units, ranges) = (*units, *ranges);
+            expect_cost(rt, at, allocator, *size, Some(RoomCost { units, ranges }));
+        }
+        Step::CostsNot(size) => expect_cost(rt, at, allocator, *size, None),
         Step::Is(size, blocks, full) => {
             assert_same_at(rt, at, &allocator.size(), size);
             assert_same_at(rt, at, &allocator.block_count(), blocks);
