@@ -145,39 +145,74 @@ module _ {it : Fields} {more : ℕ} (r : Growth it more true) where
       (inr unused) (inr room) (λ _. unused)
       (rw (whole, none) at chain) bins (rw sum eo)
 
--- the last block is free
-module _ {it : Fields} {more : ℕ} (r : Growth it more false) where
+-- fields whose last block is free
+pub record EndsFree (it : Fields) : Type 0 where
+  pub sound : AreSound it
+  pub ends : ends_used (blocks it.cells.chain it.last) ≡ false
+
+module _ {it : Fields} (r : EndsFree it) where
+  abbrev pub last_of : Ended it.last (blocks it.cells.chain it.last)
+  last_of = ended (blocks it.cells.chain it.last) it.last r.sound.space.ends
+
+  pub known_of : IsWellFormed (shown it)
+  known_of = well_counted (shown (record it { accesses = 0 })) it.accesses r.sound.well
+
+  pub last_held : {d : ChainCells} → d ≡ it.cells.chain → HasPlace d it.cells.chain.reserved it.last it.count it.last (record { before = last_of.front; block = last_of.last; after = [] })
+  last_held e = rw e (end_place r.sound.space)
+
+  pub last_size : (node it.cells.chain it.last).size ≡ last_of.last.size
+  last_size = ap (λ (n : Node). n.size) (at_place (last_held refl))
+
+  pub last_free : last_of.last.used ≡ false
+  last_free = sym (ends_last last_of.front last_of.last) ∙ ap ends_used (sym last_of.is) ∙ r.ends
+
   -- its name leaves its bin
-  abbrev pub widen_left : List (List ℕ)
-  widen_left = slice_set (bins_in it.max it.cells.bins) (down (node it.cells.chain it.last).size) (without it.last (bin_at (bins_in it.max it.cells.bins) (down (node it.cells.chain it.last).size)))
+  abbrev pub last_left : List (List ℕ)
+  last_left = slice_set (bins_in it.max it.cells.bins) (down (node it.cells.chain it.last).size) (without it.last (bin_at (bins_in it.max it.cells.bins) (down (node it.cells.chain it.last).size)))
 
-  is_left : widen_left ≡ remove_all ((end r).last ∷ []) (bins_in it.max it.cells.bins)
-  is_left = rw (size_at_end r) (sym (remove_free (end r).last (bins_in it.max it.cells.bins) (b_used r) ∙ ap (λ i. remove (down (end r).last.size) i (bins_in it.max it.cells.bins)) (end r).name))
+  pub last_removed : last_left ≡ remove_all (last_of.last ∷ []) (bins_in it.max it.cells.bins)
+  last_removed = rw last_size (sym (remove_free last_of.last (bins_in it.max it.cells.bins) last_free ∙ ap (λ i. remove (down last_of.last.size) i (bins_in it.max it.cells.bins)) last_of.name))
 
-  pub widen_listed : IsAmong it.last (bin_at (bins_in it.max it.cells.bins) (down (node it.cells.chain it.last).size))
-  widen_listed =
+  pub last_listed : IsAmong it.last (bin_at (bins_in it.max it.cells.bins) (down (node it.cells.chain it.last).size))
+  last_listed =
       let k : ℕ = down (node it.cells.chain it.last).size in
-      let there = counts_once (end_held r refl) (ap (λ (n : Node). n.used) (at_place (end_held r refl)) ∙ b_used r) in
-      omega (arith, there, (w r).orders k it.last, ap (count_in_bin k it.last) (end r).is, tally_append (share k it.last) (end r).front ((end r).last ∷ []))
+      let there = counts_once (last_held refl) (ap (λ (n : Node). n.used) (at_place (last_held refl)) ∙ last_free) in
+      omega (arith, there, known_of.orders k it.last, ap (count_in_bin k it.last) last_of.is, tally_append (share k it.last) last_of.front (last_of.last ∷ []))
 
-  pub widen_unlisted : IsUnlisted it.last widen_left
-  widen_unlisted d dh a =
+  pub last_unlisted : IsUnlisted it.last last_left
+  last_unlisted d dh a =
       let l : List (List ℕ) = bins_in it.max it.cells.bins in
       let bs : List Block = blocks it.cells.chain it.last in
-      let known = w r in
-      let split : (k y : ℕ) → count_in_bin k y bs ≡ count_in_bin k y (end r).front + count_in_bin k y ((end r).last ∷ []) = λ k y. ap (count_in_bin k y) (end r).is
-      ∙ tally_append (share k y) (end r).front ((end r).last ∷ []) in
-      let left = times_remove_all ((end r).last ∷ []) l known.classes (λ k y. omega (arith, known.orders k y, known.distinct y, listed_named k y bs))
-      (λ k y. omega (arith, known.orders k y, split k y)) d it.last in
-      let alone : count_named it.last (end r).front ≡ 0 = omega (
+      let split : (k y : ℕ) → count_in_bin k y bs ≡ count_in_bin k y last_of.front + count_in_bin k y (last_of.last ∷ []) = λ k y. ap (count_in_bin k y) last_of.is
+      ∙ tally_append (share k y) last_of.front (last_of.last ∷ []) in
+      let left = times_remove_all (last_of.last ∷ []) l known_of.classes (λ k y. omega (arith, known_of.orders k y, known_of.distinct y, listed_named k y bs))
+      (λ k y. omega (arith, known_of.orders k y, split k y)) d it.last in
+      let alone : count_named it.last last_of.front ≡ 0 = omega (
         arith,
-        known.distinct it.last,
-        ap (count_named it.last) (end r).is,
-        times-append it.last (end r).front ((end r).last ∷ []),
-        one-eq it.last (end r).last.name (end r).name,
+        known_of.distinct it.last,
+        ap (count_named it.last) last_of.is,
+        times-append it.last last_of.front (last_of.last ∷ []),
+        one-eq it.last last_of.last.name last_of.name,
       ) in
-      let there : 1 ≤ times it.last (bin_at (remove_all ((end r).last ∷ []) l) d) = rw is_left at a in
-      omega (arith, there, left, known.orders d it.last, split d it.last, listed_named d it.last (end r).front, alone)
+      let there : 1 ≤ times it.last (bin_at (remove_all (last_of.last ∷ []) l) d) = rw last_removed at a in
+      omega (arith, there, left, known_of.orders d it.last, split d it.last, listed_named d it.last last_of.front, alone)
+
+-- the last block is free
+module _ {it : Fields} {more : ℕ} (r : Growth it more false) where
+  abbrev free : EndsFree it
+  free = record { sound = r.sound; ends = r.ends }
+
+  abbrev pub widen_left : List (List ℕ)
+  widen_left = last_left free
+
+  is_left : widen_left ≡ remove_all ((end r).last ∷ []) (bins_in it.max it.cells.bins)
+  is_left = last_removed free
+
+  pub widen_listed : IsAmong it.last (bin_at (bins_in it.max it.cells.bins) (down (node it.cells.chain it.last).size))
+  widen_listed = last_listed free
+
+  pub widen_unlisted : IsUnlisted it.last widen_left
+  widen_unlisted = last_unlisted free
 
   pub widened : (d : Cells) (k : ℕ) {count top : ℕ} → IsChain d.chain it.cells.chain.reserved it.last count ((end r).front ++ record (end r).last { size = (end r).last.size + more } ∷ [])
       → IsBinned it.max d.bins top

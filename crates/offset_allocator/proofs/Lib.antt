@@ -5,12 +5,15 @@ pub mod Split
 pub mod Advice
 pub mod Always
 pub mod Backwards
+pub mod Begins
 pub mod Binned
 pub mod Bytes
 pub mod Classes
 pub mod Compacting
 pub mod Alike
+pub mod InPieces
 pub mod Counting
+pub mod Dropped
 pub mod Emptied
 pub mod Ends
 pub mod Exchange
@@ -27,6 +30,7 @@ pub mod Laying
 pub mod Listing
 pub mod Marks
 pub mod Masks
+pub mod Nearby
 pub mod Nearest
 pub mod Nodes
 pub mod Packed
@@ -44,6 +48,7 @@ pub mod Uses
 pub mod Released
 pub mod Resizing
 pub mod Restored
+pub mod Retracted
 pub mod Rows
 pub mod Runs
 pub mod Served

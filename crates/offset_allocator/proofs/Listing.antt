@@ -36,7 +36,7 @@ ends_in bs k x l e =
     }
 
 -- one block more at the end
-placed-push : (o : ℕ) (fs : List Block) (b : Block) → placed o (fs ++ b ∷ []) ≡ placed o fs ++ placed_at (o + units fs) b ∷ []
+pub placed-push : (o : ℕ) (fs : List Block) (b : Block) → placed o (fs ++ b ∷ []) ≡ placed o fs ++ placed_at (o + units fs) b ∷ []
 placed-push o [] b = grind arith
 placed-push o (a ∷ fs) b = grind (arith, placed-push (o + a.size) fs b)
 

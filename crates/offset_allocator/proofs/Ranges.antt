@@ -1,10 +1,11 @@
 -- What each call leaves of the ranges of live handles.
-use Rattle.offset_allocator.proofs.Common.{◌≡◌, ◌≢◌, ℕ, IfSome, zero, suc, ◌+◌, ◌≤◌, Bool, true, false, ◌&&◌, List, [], ◌∷◌, ◌++◌, Option, Some, None, nat_eq, if◌then◌else◌, refl, sym, ap, subst, ◌∙◌}
+use Rattle.offset_allocator.proofs.Common.{◌-◌, ◌≡◌, ◌≢◌, ℕ, IfSome, zero, suc, ◌+◌, ◌≤◌, Bool, true, false, ◌&&◌, List, [], ◌∷◌, ◌++◌, Option, Some, None, nat_eq, if◌then◌else◌, refl, sym, ap, subst, ◌∙◌}
 use Rattle.offset_allocator.proofs.Common.{inl, inr, arith, append_assoc, add-zero, add_assoc, eq-eqb, ne_eqb, false≢true, and_right, AllByRecursion, Block, View, Place, Grant, one, units}
 use Rattle.offset_allocator.proofs.Common.{count_named, used_block, free_block, free_part, IsWellFormed, place_of, Range, range_of, AreDisjoint, Grants, KeepsAll, KeepsOthers, KeepsRanges, Resizes}
 use Rattle.offset_allocator.proofs.Common.{HasUnits, SameSpace, Splits, Frees, Adds, common_steps}
 use Rattle.offset_allocator.proofs.{ViewSteps.place_at, ViewSteps.no_place, Released.idle_parts, Reading.range_at, Tallies.part_sums, Tallies.tally_append, Tallies.hit_cases, Tallies.units-append}
 use Rattle.offset_allocator.proofs.{Split.split_view}
+use Rattle.offset_allocator.specs.Retracting.{Cuts, end_part}
 
 -- the range of the used block named x, where the first of the blocks has this offset
 abbrev range_from : ℕ → ℕ → List Block → Option Range
@@ -232,6 +233,20 @@ shut x offset (b ∷ bs) cs h = ap (λ r. if b.used && nat_eq x b.name then Some
 
 pub adds_keep : (v w : View) → IsWellFormed v → IsWellFormed w → (more : ℕ) → Adds more v w → KeepsAll v w
 adds_keep v w f after more s x = grind (arith, range_is, shut, none_idle, none_idle_all)
+
+-- fewer units at the end
+none_end : (y : ℕ) (fs : List Block) (x n : ℕ) → HasNone y (end_part fs x n ++ [])
+none_end y [] x n = none_idle y (free_block x n) refl
+none_end y (b ∷ bs) x zero = tt
+none_end y (b ∷ bs) x (suc n) = none_idle y (free_block x (suc n)) refl
+
+pub cuts_keep : (v w : View) → IsWellFormed v → IsWellFormed w → (less : ℕ) → Cuts less v w → KeepsAll v w
+cuts_keep v w f after less s x =
+    range_is x w after
+    ∙ ap (λ (u : View). range_from x 0 u.blocks) s.view
+    ∙ shut x 0 s.before (end_part s.before s.last.name (s.last.size - less) ++ []) (none_end x s.before s.last.name (s.last.size - less))
+    ∙ sym (shut x 0 s.before (s.last ∷ []) (none_idle x s.last s.free))
+    ∙ sym (ap (range_from x 0) s.blocks) ∙ sym (range_is x v f)
 
 -- fewer units, or more
 module _ (x n : ℕ) (v w : View) (k : IsWellFormed v) (after : IsWellFormed w) (s : Resizes x n v w) where

@@ -139,6 +139,24 @@ mark_place {t} {d} {m} {last} {count} {x} {u} {p} h e =
     } in
     placed (link_none h.chain exchange refl refl refl (back h.chain exchange) (omega (arith, h.chain.fits, units-append p.before (p.block ∷ p.after)))) h.name
 
+-- the last block has fewer units
+pub trim_place : (n : ℕ) {t d : ChainCells} {m last count x : ℕ} {fs : List Block} {b : Block} → HasPlace t m last count x (record { before = fs; block = b; after = [] }) → n ≤ b.size
+    → d ≡ put t x (record (node t x) { size = n }) → HasPlace d m last count x (record { before = fs; block = record b { size = n }; after = [] })
+trim_place n {t} {d} {m} {last} {count} {x} {fs} {b} h small e =
+    let w = wrote e h.below in
+    let exchange : IsExchange t d d d count count fs (b ∷ []) (record b { size = n } ∷ []) [] = record {
+      row = rw h.name (w.here ∙ ap (λ (v : Node). record v { size = n }) (at_place h), tt);
+      others = λ k u v. w.other k (λ q. omega (arith, one-eq k b.name (h.name ∙ sym q)));
+      gone = λ k u v. absurd (omega arith);
+      cells = w.cells;
+      same = refl;
+      memory = w.memory;
+      stack = ap (λ (l : List ℕ). length l) w.spare;
+      names = λ k. omega (arith, kept_names t d count w.spare k);
+      full = refl;
+    } in
+    placed (link_none h.chain exchange refl refl refl tt (omega (arith, small, h.chain.fits, units-append fs (b ∷ [])))) h.name
+
 -- the last block has more units
 pub grow_place : (more : ℕ) {t d : ChainCells} {m last count x s : ℕ} {fs : List Block} {b : Block} → HasPlace t m last count x (record { before = fs; block = b; after = [] })
     → units (fs ++ b ∷ []) + more < 2 ^ 32

@@ -285,3 +285,40 @@ pub(crate) fn grow<T: Tables>(tables: &mut T, last: u32, more: u32, count: &mut 
     let size = tables.size(last, count);
     tables.set_size(last, size + more, count);
 }
+
+/// Leaves the last block fewer units.
+#[tactic(auto, using(crate::proofs::Nodes::lengths))]
+pub(crate) fn trim<T: Tables>(tables: &mut T, last: u32, size: u32, count: &mut Accesses)
+    requires place { (m spare : ℕ) × (before : List Block) × (b : Block)
+        × HasPlace (T.cells tables.old).chain m last spare last (record { before = before; block = b; after = [] }) }
+    ensures place { (m spare : ℕ) (before : List Block) (b : Block)
+        → HasPlace (T.cells tables.old).chain m last spare last (record { before = before; block = b; after = [] })
+        → size ≤ b.size → HasPlace (T.cells tables.new).chain m last spare last (record {
+          before = before;
+          block = record b { size = size };
+          after = [];
+        }) }
+    ensures bins { (T.cells tables.new).bins ≡ (T.cells tables.old).bins }
+    ensures nodes { length (T.cells tables.new).chain.nodes ≡ length (T.cells tables.old).chain.nodes }
+    ensures accesses { count.new ≡ count.old + 1 }
+{
+    tables.set_size(last, size, count);
+}
+
+/// Takes the last block, which is free, off the end; `previous` is the last one then.
+pub(crate) fn drop_end<T: Tables>(store: &mut Store<T>, previous: u32, size: u32)
+    requires place { (m : ℕ) × (before : List Block) × (a b : Block)
+        × IsPlaceIn T.cells store.old m previous (record { before = before; block = a; after = b ∷ [] })
+        × (b.used ≡ false) × (size ≡ b.size) }
+    ensures place { (m : ℕ) (before : List Block) (a b : Block)
+        → IsPlaceIn T.cells store.old m previous (record { before = before; block = a; after = b ∷ [] })
+        → b.used ≡ false → IsPlaceIn T.cells store.new m previous (record { before = before; block = a; after = [] }) }
+    ensures bins { SameBins T.cells store.old store.new }
+    ensures last { store.new.last ≡ previous }
+    ensures accesses { Costs 6 7 store.old.accesses store.new.accesses }
+{
+    let end = store.last;
+    let kept = store.tables.size(previous, &mut store.accesses);
+    coalesce_after(store, previous, end, kept + size);
+    trim(&mut store.tables, previous, kept, &mut store.accesses);
+}

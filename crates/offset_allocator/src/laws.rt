@@ -1,7 +1,7 @@
 //! Laws: that a grant can be undone, and what holds of every allocator. Except `undo` and `unused_names`, their
 //! functions do nothing. With them are the calls that leave an allocator as it is, with a count of their accesses.
-ghost use Rattle.std.specs.Prelude.{◌≡◌, ◌≢◌, ◌<◌, ◌≤◌, ◌+◌, ◌*◌, ◌%◌, ◌↔◌, ℕ, List, ◌++◌, false, IsTrue, Some, length};
-ghost use Rattle.std.specs.Prelude.{sum};
+ghost use Rattle.std.specs.Prelude.{◌≡◌, ◌≢◌, ◌<◌, ◌≤◌, ◌+◌, ◌-◌, ◌*◌, ◌%◌, ◌↔◌, ℕ, List, ◌++◌, false};
+ghost use Rattle.std.specs.Prelude.{IsTrue, Some, length, min, sum};
 ghost use Rattle.std.specs.Int.{IsPowerOfTwo};
 ghost use Rattle.std.specs.List.{AllByRecursion};
 ghost use Rattle.offset_allocator.specs.Accesses.{Costs};
@@ -19,9 +19,11 @@ ghost use Rattle.offset_allocator.specs.declared.statistics.Statistics.{Statisti
 ghost use Rattle.offset_allocator.specs.declared.reports.Refusal.{Refusal};
 ghost use Rattle.offset_allocator.specs.declared.reports.Refusal.TheVariants.{TooLarge, Fragmented};
 ghost use Rattle.offset_allocator.specs.Compacting.{moves, AreSafe, Compacts};
+ghost use Rattle.offset_allocator.specs.Copies.{pieces, copied, all_copied, ArePieces};
 
 use crate::AllocatorOf;
 use crate::accesses::Accesses;
+pub use crate::beside::{last_live_counted, live_after_counted, live_before_counted};
 pub use crate::blocks::next_block_counted;
 pub use crate::reports::{
     allocation_offset_counted, allocation_size_counted, is_live_counted, refusal_aligned_counted,
@@ -227,6 +229,16 @@ pub fn tight_refusals_advise<T: Tables>(allocator: &AllocatorOf<T>)
 /// Each move of `compact` goes to a smaller offset, and ends before all units that later moves have yet to read.
 pub fn moves_are_safe()
     ensures { (bs : List Block) → AreSafe (moves 0 0 bs) }
+{}
+
+/// The pieces of a move, copied one after the other, leave what the move at once leaves, whatever the units hold. Each has
+/// at most `most` units and none in common with those that it reads, and is written on none that a later one reads.
+pub fn pieces_are_the_move()
+    ensures together { (most from to n i : ℕ) (held : ℕ → ℕ) → 0 < most → to < from
+        → all_copied (pieces n (min most (from - to)) from to n) held i
+        ≡ copied (record { from = from; to = to; size = n }) held i }
+    ensures apart { (most from to n : ℕ) → 0 < most → to < from
+        → ArePieces most (pieces n (min most (from - to)) from to n) }
 {}
 
 /// Bytes are those of a state of one view at most, however many accesses were counted; and those of this allocator are

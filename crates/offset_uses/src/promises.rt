@@ -8,9 +8,11 @@ ghost use Rattle.offset_allocator.specs.Ranges.{Grants, IsLive, KeepsAll, KeepsO
 ghost use Rattle.offset_allocator.specs.Relations.{Aligns, Allocates, CanExtend, Extends, Frees};
 ghost use Rattle.offset_allocator.specs.Relations.{IsAlignment, IsFresh, IsSplitNearBest, Resets};
 ghost use Rattle.offset_allocator.specs.Relations.{SameSpace};
+ghost use Rattle.offset_allocator.specs.Relocating.{Relocates, offset_of};
 ghost use Rattle.offset_allocator.specs.Reports.{IsGoodRefusal};
 ghost use Rattle.offset_allocator.specs.Requests.{CanGrant, HasRoomFor, blocks_needed, units_needed};
 ghost use Rattle.offset_allocator.specs.Resizing.{CanGrow, CanShrink, Grows, HasUnits, Shrinks};
+ghost use Rattle.offset_allocator.specs.Retracting.{CanRetract, Retracts};
 ghost use Rattle.offset_allocator.specs.State.{IsNoState, IsRestored};
 ghost use Rattle.offset_allocator.specs.Statistics.{greatest};
 ghost use Rattle.offset_allocator.specs.Tight.{AlignsTight, CanHold, listed_from};
@@ -164,6 +166,35 @@ pub fn extend<T: Tables>(space: &mut AllocatorOf<T>, more: u32) -> bool
     ensures step { Extends more space.old space.new result }
 {
     space.extend(more)
+}
+
+/// `retract`, with each clause of its contract.
+pub fn retract<T: Tables>(space: &mut AllocatorOf<T>, less: u32) -> bool
+    ensures done { IsTrue result ↔ (1 ≤ less → CanRetract less space.old) }
+    ensures size { IsTrue result → space.new.size + less ≡ space.old.size }
+    ensures kept { KeepsAll space.old space.new }
+    ensures same { result ≡ false → SameSpace space.old space.new }
+    ensures accesses { Costs 0 64 space.old.accesses space.new.accesses }
+    ensures accesses_min { result ≡ true → 0 < less → space.old.accesses + 10 ≤ space.new.accesses }
+    ensures step { Retracts less space.old space.new result }
+{
+    space.retract(less)
+}
+
+/// `relocate`, with each clause of its contract.
+pub fn relocate<T: Tables>(
+    space: &mut AllocatorOf<T>,
+    allocation: Allocation<T::Index>,
+) -> Option<Allocation<T::Index>>
+    requires live { IsLive allocation.name space.old }
+    ensures grants { IfSome result (Grants (size_of allocation.name space.old) space.old space.new) }
+    ensures before { IfSome result (λ h. h.offset + size_of allocation.name space.old
+        ≤ offset_of allocation.name space.old) }
+    ensures same { result ≡ None → SameSpace space.old space.new }
+    ensures accesses { Costs 3 80 space.old.accesses space.new.accesses }
+    ensures step { Relocates allocation.name space.old space.new result }
+{
+    space.relocate(allocation)
 }
 
 /// `shrink`, with each clause of its contract.

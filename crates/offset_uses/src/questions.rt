@@ -1,6 +1,7 @@
 //! Each call that leaves an allocator as it is, with every clause of its contract once more: what a caller may rely on.
 //! Where a clause is taken back there, the function here is not proved.
 
+ghost use Rattle.offset_allocator.specs.Beside.{last_live, live_after, live_before};
 ghost use Rattle.offset_allocator.specs.Classes.{up, value};
 ghost use Rattle.offset_allocator.specs.Listing.{listing};
 ghost use Rattle.offset_allocator.specs.Ranges.{IsLive, Range, range_of, size_of};
@@ -191,4 +192,31 @@ pub fn write_state<T: Tables>(space: &AllocatorOf<T>, alloc: Global) -> Result<V
     ensures { IfOk result (λ bytes. IsStateOf space.now bytes.items) }
 {
     space.write_state(alloc)
+}
+
+/// `last_live`, with each clause of its contract.
+pub fn last_live<T: Tables>(space: &AllocatorOf<T>) -> Option<Allocation<T::Index>>
+    ensures { result ≡ last_live space.now }
+{
+    space.last_live()
+}
+
+/// `live_before`, with each clause of its contract.
+pub fn live_before<T: Tables>(
+    space: &AllocatorOf<T>,
+    allocation: Allocation<T::Index>,
+) -> Option<Allocation<T::Index>>
+    ensures { result ≡ live_before allocation.name space.now }
+{
+    space.live_before(allocation)
+}
+
+/// `live_after`, with each clause of its contract.
+pub fn live_after<T: Tables>(
+    space: &AllocatorOf<T>,
+    allocation: Allocation<T::Index>,
+) -> Option<Allocation<T::Index>>
+    ensures { result ≡ live_after allocation.name space.now }
+{
+    space.live_after(allocation)
 }
