@@ -130,6 +130,11 @@ PAIRS = [
         "the same",
     ),
     (
+        "fn clone(&self) -> Result<Self, AllocError> { Ok(MovePieces { from: self.from, to: self.to, left: self.left, most: self.most, }) }",
+        "fn clone(&self) -> Self {\n        MovePieces {\n            from: self.from,\n            to: self.to,\n            left: self.left,\n            most: self.most,\n        }\n    }",
+        "the same",
+    ),
+    (
         "pub trait Tables: Drop {",
         "pub trait Tables: Sized {",
         "in Rattle what a type parameter is bounded by says that its values may be dropped",
@@ -160,6 +165,11 @@ REQUIRES = [
     ("4 ≤ limits.max_allocs", "4 <= limits.max_allocs", "max_allocs must be at least 4"),
     ("limits.max_allocs + 1 < T.Index.MAX", "limits.max_allocs < <T::Index as offset_allocator::NodeIndex>::MAX - 1", "max_allocs must be at most NI::MAX - 2"),
     ("limits.most + limits.most_larger < 2 ^ 32", "limits.most.checked_add(limits.most_larger).is_some()", "there may be at most 4294967295 heaps"),
+    ("0 < most", "0 < most", "a piece must have at least 1 unit"),
+    ("to < from", "to < from", "a move must go to a smaller offset"),
+    ("from + size ≤ 4294967295", "from.checked_add(size).is_some()", "a move must end at 4294967295 or before"),
+    ("self.now.to < self.now.from", "self.to < self.from", "a move must go to a smaller offset"),
+    ("self.now.from + self.now.size ≤ 4294967295", "self.from.checked_add(self.size).is_some()", "a move must end at 4294967295 or before"),
     ("IsLive allocation.name self.old", "self.is_live(allocation)", "the handle must be live: {:?}", "{ allocation }"),
     ("IsAlignment align", "align.is_power_of_two()", "align must be a power of two"),
     ("needed_object_size ≤ 4026531840", "needed_object_size <= 4026531840", "needed_object_size must be at most 4026531840"),

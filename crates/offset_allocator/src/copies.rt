@@ -85,6 +85,23 @@ impl Iterator for MovePieces {
 
 impl FusedIterator for MovePieces {}
 
+impl MovePieces {
+    /// As `pieces` of a move of `size` units from the offset `from` to the offset `to`.
+    pub fn of(from: u32, to: u32, size: u32, most: u32) -> Self
+        requires some { 0 < most }
+        requires down { to < from }
+        requires within { from + size ≤ 4294967295 }
+        ensures { result ≡ pieces size (min most (from - to)) from to size }
+    {
+        MovePieces {
+            from,
+            to,
+            left: size,
+            most: most.min(from - to),
+        }
+    }
+}
+
 impl<NI: NodeIndex, N: NodeIndexNonMax> Move<NI, N> {
     /// Whether the units that are read and those that are written have none in common. Then one copy makes the move on a
     /// device whose copies may not overlap; `pieces` are for all moves.
@@ -112,11 +129,6 @@ impl<NI: NodeIndex, N: NodeIndexNonMax> Move<NI, N> {
         ensures { result ≡ pieces self.now.size (min most (self.now.from - self.now.to)) self.now.from self.now.to
             self.now.size }
     {
-        MovePieces {
-            from: self.from,
-            to: self.to,
-            left: self.size,
-            most: most.min(self.from - self.to),
-        }
+        MovePieces::of(self.from, self.to, self.size, most)
     }
 }

@@ -97,6 +97,12 @@ struct Move {
     Allocation allocation;
 };
 
+struct Piece {
+    uint32 from;
+    uint32 to;
+    uint32 size;
+};
+
 struct Block {
     bool used;
     uint32 offset;
@@ -146,20 +152,19 @@ template <class F> bool each(oa_blocks *blocks, F &seen) {
     }
 }
 
-// What is called with each move.
-template <class F> struct Moving {
-    F &moved;
-    explicit Moving(F &f) : moved(f) {}
+// What is called with each move or piece.
+template <class F> struct Calling {
+    F &called;
+    explicit Calling(F &f) : called(f) {}
 #ifdef OFFSET_ALLOCATOR_EXCEPTIONS
     std::exception_ptr thrown;
 
-    static void call(void *user, oa_move range) {
-        Moving &moving = *static_cast<Moving *>(user);
-        if (moving.thrown) return;
+    template <class T> void pass(const T &value) {
+        if (thrown) return;
         try {
-            moving.moved(Move{range.from, range.to, range.size, of(range.allocation)});
+            called(value);
         } catch (...) {
-            moving.thrown = std::current_exception();
+            thrown = std::current_exception();
         }
     }
 
@@ -167,12 +172,18 @@ template <class F> struct Moving {
         if (thrown) std::rethrow_exception(thrown);
     }
 #else
-    static void call(void *user, oa_move range) {
-        static_cast<Moving *>(user)->moved(Move{range.from, range.to, range.size, of(range.allocation)});
-    }
+    template <class T> void pass(const T &value) { called(value); }
 
     void finish() {}
 #endif
+
+    static void moved(void *user, oa_move range) {
+        static_cast<Calling *>(user)->pass(Move{range.from, range.to, range.size, of(range.allocation)});
+    }
+
+    static void copied(void *user, uint32_t from, uint32_t to, uint32_t size) {
+        static_cast<Calling *>(user)->pass(Piece{from, to, size});
+    }
 };
 
 } // namespace detail
@@ -303,12 +314,21 @@ public:
     bool shrink(Allocation allocation, uint32 size) { return oa_shrink(space, detail::in(allocation), size); }
     bool growInPlace(Allocation allocation, uint32 size) { return oa_grow_in_place(space, detail::in(allocation), size); }
     bool extend(uint32 more) { return oa_extend(space, more); }
+    bool retract(uint32 less) { return oa_retract(space, less); }
+
+    // A second range before that of a live allocation; where there is none, both parts are NO_SPACE.
+    Allocation relocate(Allocation allocation) { return detail::of(oa_relocate(space, detail::in(allocation))); }
+
+    // The live ranges in space; where there is none, both parts are NO_SPACE.
+    Allocation lastLive() const { return detail::of(oa_last_live(space)); }
+    Allocation liveBefore(Allocation allocation) const { return detail::of(oa_live_before(space, detail::in(allocation))); }
+    Allocation liveAfter(Allocation allocation) const { return detail::of(oa_live_after(space, detail::in(allocation))); }
 
     // Calls moved(Move) for each range that moves. An exception of it goes on to the caller when all ranges have moved;
     // after it, moved is not called again.
     template <class F> void compact(F &&moved) {
-        detail::Moving<F> each(moved);
-        oa_compact(space, detail::Moving<F>::call, &each);
+        detail::Calling<F> each(moved);
+        oa_compact(space, detail::Calling<F>::moved, &each);
         each.finish();
     }
 
@@ -444,8 +464,8 @@ public:
 
     // As those of Allocator.
     template <class F> void compact(F &&moved) {
-        detail::Moving<F> each(moved);
-        oag_compact(space, detail::Moving<F>::call, &each);
+        detail::Calling<F> each(moved);
+        oag_compact(space, detail::Calling<F>::moved, &each);
         each.finish();
     }
     template <class F> bool eachBlock(F &&seen) const { return detail::each(oag_blocks_new(space), seen); }
@@ -505,6 +525,17 @@ inline GuardedAllocator::Loaded GuardedAllocator::load(const void *bytes, size_t
     if (size != 0) std::memcpy(oa_state_bytes(state.held), bytes, size);
     oag_read read = oag_read_state(state.held, mostAllocs);
     return Loaded{GuardedAllocator(read.space), read.found, read.at};
+}
+
+// Calls copy(Piece) for the copies that make a move where a copy may not overlap, in the order in which they can be made: each
+// of at most `most` units, none of which it also reads. False, and nothing is called, where `most` is 0 or the move is none to
+// a smaller offset. An exception of copy goes on to the caller; after it, copy is not called again.
+template <class F>
+inline bool copyInPieces(Move range, uint32 most, F &&copy) {
+    detail::Calling<F> each(copy);
+    bool done = oa_copy_in_pieces(range.from, range.to, range.size, most, detail::Calling<F>::copied, &each);
+    each.finish();
+    return done;
 }
 
 // The smallest size of a fresh space that grants a request of this size; 0 above 4026531840.

@@ -236,11 +236,34 @@ bool oa_grow_in_place(oa_allocator *space, oa_allocation allocation, uint32_t si
  * more than 4294967295 units, where its last block is used and no node is left, or if the allocator is null. Bounded. */
 bool oa_extend(oa_allocator *space, uint32_t more);
 
+/* Takes `less` free units off the end of the space, the reverse of oa_extend. True if done. False, and nothing changes, where
+ * the last block is used or has fewer units, or if the allocator is null. Bounded. */
+bool oa_retract(oa_allocator *space, uint32_t less);
+
+/* A second range of as many units before that of a live handle, from the block that oa_allocate takes for them. Both are live
+ * until the old one is freed, so the units can be copied while the old ones are still read, and the copies do not overlap.
+ * Both parts are OA_NO_SPACE, and nothing changes, where oa_allocate would refuse them, where that block begins after the
+ * range, if the handle is not live, or if the allocator is null. Bounded. */
+oa_allocation oa_relocate(oa_allocator *space, oa_allocation allocation);
+
 /* Moves all live ranges to the front of the space, in order, so that all free units are one block. Handles stay live.
  * `moved`, if it is not null, is called with `user` and each range that moves, in the order in which they can be copied
  * one after the other. It must return: no exception, no longjmp; and it must not use this allocator.
  * Nothing is done where the allocator is null. Cost: at most 24 accesses a block, and 512. */
 void oa_compact(oa_allocator *space, void (*moved)(void *user, oa_move range), void *user);
+
+/* The copies that make a move of `size` units from `from` to `to` where a copy may not overlap, as on a device: `copy`, if it
+ * is not null, is called with `user` and each, in the order in which they can be made. Each has at most `most` units, as many
+ * as it can, and reads none that it writes. True if done. False, and nothing is called, where `most` is 0, where `to` is not
+ * below `from`, or where `from + size` is above 4294967295. Cost: a call for each piece. */
+bool oa_copy_in_pieces(uint32_t from, uint32_t to, uint32_t size, uint32_t most,
+                       void (*copy)(void *user, uint32_t from, uint32_t to, uint32_t size), void *user);
+
+/* The live ranges in space: the last one, and the one before or after that of a live handle. Both parts are OA_NO_SPACE where
+ * there is none, if the handle is not live, or if the allocator is null. Bounded. */
+oa_allocation oa_last_live(const oa_allocator *space);
+oa_allocation oa_live_before(const oa_allocator *space, oa_allocation allocation);
+oa_allocation oa_live_after(const oa_allocator *space, oa_allocation allocation);
 
 /* The units of the space, with what oa_extend added; 0 for null. */
 uint32_t oa_size(const oa_allocator *space);

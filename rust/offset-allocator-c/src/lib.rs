@@ -13,7 +13,7 @@ use core::ptr::NonNull;
 use offset_allocator_guarded::{Guarded, Ticket};
 use offset_allocator_proved::ext::min_allocator_size;
 use offset_allocator_proved::small_float::{float_to_uint, uint_to_float_round_down, uint_to_float_round_up};
-use offset_allocator_proved::{Allocation, Allocator, Global, Move, Refusal, StateFaultKind};
+use offset_allocator_proved::{Allocation, Allocator, Global, Move, MovePieces, Piece, Refusal, StateFaultKind};
 
 /// The value of a missing offset or name.
 pub const NO_SPACE: u32 = u32::MAX;
@@ -337,6 +337,9 @@ fn guarded_reason(refusal: Option<offset_allocator_guarded::Refusal>) -> Reason 
 /// What C passes to be called with each move.
 pub type Callback = extern "C" fn(Option<NonNull<c_void>>, Moved);
 
+/// What C passes to be called with each piece of a move: from, to and size.
+pub type Copying = extern "C" fn(Option<NonNull<c_void>>, u32, u32, u32);
+
 // Calls C with each move, where it passed a function.
 fn calls(moved: Option<Callback>, user: Option<NonNull<c_void>>) -> impl FnMut(Move) {
     move |range| {
@@ -435,6 +438,12 @@ exports! {
 
     fn oa_extend([space: &mut Space], more: u32) -> bool { space.extend(more) } else false;
 
+    fn oa_retract([space: &mut Space], less: u32) -> bool { space.retract(less) } else false;
+
+    fn oa_relocate([space: &mut Space], allocation: Handle) -> Handle {
+        handle(live(space, allocation).and_then(|allocation| space.relocate(allocation)))
+    } else NOTHING;
+
     fn oa_compact(
         [space: &mut Space],
         moved: Option<Callback>,
@@ -442,6 +451,36 @@ exports! {
     ) -> () {
         space.compact(&mut calls(moved, user))
     } else ();
+
+    fn oa_copy_in_pieces(
+        from: u32,
+        to: u32,
+        size: u32,
+        most: u32,
+        copy: Option<Copying>,
+        user: Option<NonNull<c_void>>
+    ) -> bool {
+        // the moves that the library admits
+        if most == 0 || to >= from || from.checked_add(size).is_none() {
+            return false;
+        }
+        for Piece { from, to, size } in MovePieces::of(from, to, size, most) {
+            if let Some(copy) = copy {
+                copy(user, from, to, size);
+            }
+        }
+        true
+    } else false;
+
+    fn oa_last_live([space: &Space],) -> Handle { handle(space.last_live()) } else NOTHING;
+
+    fn oa_live_before([space: &Space], allocation: Handle) -> Handle {
+        handle(live(space, allocation).and_then(|allocation| space.live_before(allocation)))
+    } else NOTHING;
+
+    fn oa_live_after([space: &Space], allocation: Handle) -> Handle {
+        handle(live(space, allocation).and_then(|allocation| space.live_after(allocation)))
+    } else NOTHING;
 
     fn oa_size([space: &Space],) -> u32 { space.size() } else 0;
 

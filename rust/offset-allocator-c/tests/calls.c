@@ -227,6 +227,49 @@ static void compacts(void) {
     oa_drop(space);
 }
 
+/* the pieces of 20 units from 10 to 4: six at a time, so that no copy overlaps, and the two that are left */
+struct pieces {
+    char bytes[40];
+    int count;
+};
+
+static void piece(void *user, uint32_t from, uint32_t to, uint32_t size) {
+    struct pieces *all = user;
+    CHECK(from == 10u + 6u * all->count && to == from - 6 && size == (all->count < 3 ? 6u : 2u));
+    memcpy(all->bytes + to, all->bytes + from, size);
+    all->count++;
+}
+
+static void in_pieces(void) {
+    struct pieces all = {"0123456789abcdefghijklmnopqrstuvwxyz", 0};
+    CHECK(oa_copy_in_pieces(10, 4, 20, 100, piece, &all) && all.count == 4);
+    CHECK(!memcmp(all.bytes, "0123abcdefghijklmnopqrst", 24));
+    CHECK(oa_copy_in_pieces(10, 4, 20, 1, NULL, NULL) && oa_copy_in_pieces(10, 4, 0, 1, piece, &all) && all.count == 4);
+    CHECK(!oa_copy_in_pieces(10, 4, 20, 0, piece, &all) && !oa_copy_in_pieces(4, 4, 20, 1, piece, &all));
+    CHECK(!oa_copy_in_pieces(4, 10, 20, 1, piece, &all) && !oa_copy_in_pieces(4294967295u, 0, 1, 1, piece, &all) && all.count == 4);
+}
+
+static bool same(oa_allocation a, oa_allocation b) { return a.offset == b.offset && a.metadata == b.metadata; }
+
+/* three ranges of 10 units, of which the second is freed: the third finds room there, and then the end can go */
+static void from_the_end(void) {
+    oa_allocator *space = oa_new(100, 8);
+    CHECK(is_nothing(oa_last_live(space)));
+    oa_allocation a = oa_allocate(space, 10), b = oa_allocate(space, 10), c = oa_allocate(space, 10);
+    CHECK(same(oa_last_live(space), c) && same(oa_live_before(space, c), b) && same(oa_live_after(space, a), b));
+    CHECK(is_nothing(oa_live_before(space, a)) && is_nothing(oa_live_after(space, c)));
+    CHECK(is_nothing(oa_relocate(space, c)) && oa_free(space, b));
+    CHECK(same(oa_live_before(space, c), a) && same(oa_live_after(space, a), c) && is_nothing(oa_live_before(space, b)));
+    CHECK(is_nothing(oa_live_after(space, b)) && is_nothing(oa_relocate(space, b)) && is_nothing(oa_relocate(space, a)));
+    oa_allocation d = oa_relocate(space, c);
+    CHECK(d.offset == 10 && oa_is_live(space, c) && oa_allocation_size(space, d) == 10 && oa_free(space, c));
+    CHECK(same(oa_last_live(space), d) && is_nothing(oa_relocate(space, d)));
+    CHECK(!oa_retract(space, 81) && oa_retract(space, 0) && oa_retract(space, 30) && oa_size(space) == 70);
+    CHECK(oa_block_count(space) == 3 && oa_retract(space, 50) && oa_block_count(space) == 2 && oa_size(space) == 20);
+    CHECK(!oa_retract(space, 1) && oa_extend(space, 5) && oa_allocate(space, 5).offset == 20);
+    oa_drop(space);
+}
+
 /* a walk shows the blocks from the end to the start, in memory of the caller, and can be left */
 static void walks(void) {
     oa_allocator *space = oa_new(100, 16);
@@ -289,6 +332,8 @@ static void nulls(void) {
     CHECK(is_nothing(oa_allocate_tight(NULL, 1)) && is_nothing(oa_allocate_tight_aligned(NULL, 1, 1)));
     CHECK(oa_refusal_tight(NULL, 0) == OA_BAD_CALL && oa_refusal_tight_aligned(NULL, 0, 1) == OA_BAD_CALL);
     CHECK(!oa_room_cost(NULL, 0).possible);
+    CHECK(!oa_retract(NULL, 0) && is_nothing(oa_relocate(NULL, a)) && is_nothing(oa_last_live(NULL)));
+    CHECK(is_nothing(oa_live_before(NULL, a)) && is_nothing(oa_live_after(NULL, a)));
     CHECK(!oa_free(NULL, a) && !oa_is_live(NULL, a) && !oa_allocation_size(NULL, a));
     CHECK(oa_allocation_offset(NULL, a) == OA_NO_SPACE && !oa_shrink(NULL, a, 0) && !oa_grow_in_place(NULL, a, 0));
     CHECK(!oa_extend(NULL, 0) && !oa_size(NULL) && !oa_max_allocs(NULL) && !oa_block_count(NULL) && oa_is_full(NULL));
@@ -388,6 +433,8 @@ int main(void) {
     resizes();
     reasons();
     compacts();
+    in_pieces();
+    from_the_end();
     states();
     walks();
     classes();

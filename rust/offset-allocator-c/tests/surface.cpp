@@ -125,6 +125,29 @@ static void sideTable() {
     CHECK(std::count(meshes.begin(), meshes.end(), nullptr) == 15);
 }
 
+// The end of a heap is emptied: each last range that finds a place before it is copied there, and the old one freed.
+static void emptyTheEnd() {
+    Allocator heap(100, 16);
+    std::vector<char> bytes(100);
+    std::vector<Allocation> live;
+    for (uint32 i = 0; i < 5; i++) live.push_back(heap.allocate(10));
+    std::fill(bytes.begin() + 40, bytes.begin() + 50, 'e');
+    CHECK(heap.free(live[1]) && heap.free(live[3]));
+    for (Allocation old = heap.lastLive(); old.offset != Allocation::NO_SPACE;) {
+        Allocation to = heap.relocate(old);
+        if (to.offset == Allocation::NO_SPACE) break;
+        Move copy{old.offset, to.offset, heap.allocationSize(old), to};
+        CHECK(copyInPieces(copy, 4, [&](Piece p) { std::memcpy(&bytes[p.to], &bytes[p.from], p.size); }));
+        CHECK(heap.free(old));
+        old = heap.lastLive();
+    }
+    Allocation last = heap.lastLive();
+    CHECK(last.offset == 20 && heap.liveBefore(last).offset == 10 && heap.liveAfter(heap.liveBefore(last)).offset == 20);
+    CHECK(heap.retract(70) && heap.size() == 30 && !heap.retract(1));
+    CHECK(std::string(bytes.begin() + 10, bytes.begin() + 20) == "eeeeeeeeee");
+    CHECK(!copyInPieces(Move{4, 4, 1, last}, 1, [](Piece) {}));
+}
+
 static void minSize() {
     for (uint32 needed : {0u, 1u, 7u, 8u, 9u, 100u, 118u, 1024u, 529445u, 1048575u, 4026531840u}) {
         uint32 size = minAllocatorSize(needed);
@@ -373,6 +396,7 @@ int main() {
     zeroFragmentation();
     minSize();
     sideTable();
+    emptyTheEnd();
     states();
     surface();
     moves();

@@ -140,3 +140,16 @@ pub(crate) fn grow<T: Tables>(tables: &mut T, last: u32, more: u32, count: &mut 
     let size = tables.size(last, count);
     tables.set_size(last, size + more, count);
 }
+
+/// Leaves the last block fewer units.
+pub(crate) fn trim<T: Tables>(tables: &mut T, last: u32, size: u32, count: &mut Accesses) {
+    tables.set_size(last, size, count);
+}
+
+/// Takes the last block, which is free, off the end; `previous` is the last one then.
+pub(crate) fn drop_end<T: Tables>(store: &mut Store<T>, previous: u32, size: u32) {
+    let end = store.last;
+    let kept = store.tables.size(previous, &mut store.accesses);
+    coalesce_after(store, previous, end, kept + size);
+    trim(&mut store.tables, previous, kept, &mut store.accesses);
+}
