@@ -4,6 +4,7 @@ mod alignment;
 mod classes;
 mod compacting;
 mod dumps;
+mod ending;
 mod extension;
 mod fields;
 mod filling;

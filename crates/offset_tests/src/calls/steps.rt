@@ -3,9 +3,10 @@
 use crate::asserts::{assert_same_at, assert_that_at, text_of};
 use crate::layouts::{ALL, Expectation, check_each};
 use offset_allocator::laws::{
-    allocation_offset_counted, is_empty_counted, next_block_counted, refusal_aligned_counted,
-    refusal_counted, refusal_tight_aligned_counted, refusal_tight_counted, room_cost_counted,
-    statistics_counted, undo,
+    allocation_offset_counted, is_empty_counted, last_live_counted, live_after_counted,
+    live_before_counted, next_block_counted, refusal_aligned_counted, refusal_counted,
+    refusal_tight_aligned_counted, refusal_tight_counted, room_cost_counted, statistics_counted,
+    undo,
 };
 use offset_allocator::{
     Accesses, Allocation, AllocatorOf, Block, Move, NodeIndex, Refusal, RoomCost, Statistics,
@@ -43,6 +44,16 @@ pub enum Step {
     Gone(usize),
     /// The space grows by this number of units, or refuses to.
     Extends(u32, bool),
+    /// The space loses this number of units at its end, or refuses to.
+    Retracts(u32, bool),
+    /// The grant of this number gets a second range at this offset.
+    Relocates(usize, u32),
+    /// The grant of this number gets no second range, and nothing changes.
+    Stays(usize),
+    /// The grant of this number is the last live range, or none is live.
+    Last(Option<usize>),
+    /// Directly before and after the grant of this number are the live ranges of these.
+    Beside(usize, Option<usize>, Option<usize>),
     /// The grant of this number shrinks to this size, or is refused.
     Shrinks(usize, u32, bool),
     /// The grant of this number grows in place to this size, or is refused.
@@ -457,6 +468,86 @@ fn keep<T: Tables>(
     }
 }
 
+// Whether a handle is that of a grant, or there is none where none is wanted.
+fn is_grant<NI: NodeIndex>(
+    found: Option<Allocation<NI>>,
+    handles: &[Allocation<NI>],
+    wanted: Option<usize>,
+) -> bool {
+    match wanted {
+        None => found.is_none(),
+        Some(number) => match handles.get(number) {
+            None => false,
+            Some(handle) => found == Some(*handle),
+        },
+    }
+}
+
+fn expect_last<T: Tables>(
+    rt: &impl Abort,
+    at: &Place,
+    allocator: &AllocatorOf<T>,
+    handles: &[Allocation<T::Index>],
+    wanted: Option<usize>,
+) {
+    assert_that_at(rt, at, is_grant(allocator.last_live(), handles, wanted));
+    let counted = last_live_counted(allocator, &mut Accesses::new());
+    assert_that_at(rt, at, is_grant(counted, handles, wanted));
+}
+
+// The live ranges beside a grant, whatever the public offset of its handle is.
+fn expect_beside<T: Tables>(
+    rt: &impl Abort,
+    at: &Place,
+    allocator: &AllocatorOf<T>,
+    handles: &[Allocation<T::Index>],
+    number: usize,
+    wanted: (Option<usize>, Option<usize>),
+) {
+    let (before, after) = wanted;
+    let mut handle = grant_of(rt, at, handles, number);
+    assert_that_at(
+        rt,
+        at,
+        is_grant(allocator.live_before(handle), handles, before),
+    );
+    assert_that_at(
+        rt,
+        at,
+        is_grant(allocator.live_after(handle), handles, after),
+    );
+    handle.offset = handle.offset.wrapping_add(83);
+    let mut count = Accesses::new();
+    let counted = live_before_counted(allocator, handle, &mut count);
+    assert_that_at(rt, at, is_grant(counted, handles, before));
+    let counted = live_after_counted(allocator, handle, &mut count);
+    assert_that_at(rt, at, is_grant(counted, handles, after));
+}
+
+// A second range for a grant, which is kept, or none where no offset is wanted.
+fn expect_second<T: Tables>(
+    rt: &impl Abort,
+    at: &Place,
+    allocator: &mut AllocatorOf<T>,
+    handles: &mut Vec<Allocation<T::Index>>,
+    number: usize,
+    wanted: Option<u32>,
+) {
+    let handle = grant_of(rt, at, handles, number);
+    assert_that_at(rt, at, allocator.is_live(handle));
+    let size = allocator.allocation_size(handle);
+    let blocks = allocator.block_count();
+    let second = allocator.relocate(handle);
+    expect_live(rt, at, allocator, handle, size);
+    match wanted {
+        Some(offset) => keep(rt, at, allocator, handles, second, size, offset),
+        None => {
+            assert_that_at(rt, at, second.is_none());
+            assert_same_at(rt, at, &allocator.block_count(), &blocks);
+        }
+    }
+}
+
 fn grant_of<NI: NodeIndex>(
     rt: &impl Abort,
     at: &Place,
@@ -528,6 +619,10 @@ fn observe<T: Tables>(
             assert_same_at(rt, at, &report.largest_free_region, largest);
         }
         Step::Counts(wanted) => expect_counts(rt, at, allocator, wanted),
+        Step::Last(number) => expect_last(rt, at, allocator, handles, *number),
+        Step::Beside(number, before, after) => {
+            expect_beside(rt, at, allocator, handles, *number, (*before, *after));
+        }
         Step::Walks(wanted) => expect_walk(rt, at, allocator, handles, wanted),
         Step::Shows(wanted) => {
             let text = text_of(rt, alloc, allocator);
@@ -576,6 +671,13 @@ fn take<T: Tables>(
         Step::Extends(more, grown) => {
             assert_same_at(rt, at, &allocator.extend(*more), grown);
         }
+        Step::Retracts(less, done) => {
+            assert_same_at(rt, at, &allocator.retract(*less), done);
+        }
+        Step::Relocates(number, offset) => {
+            expect_second(rt, at, allocator, handles, *number, Some(*offset));
+        }
+        Step::Stays(number) => expect_second(rt, at, allocator, handles, *number, None),
         Step::Undoes(size, granted) => {
             assert_same_at(rt, at, &undo(allocator, *size), granted);
         }
