@@ -85,6 +85,7 @@ LINTS = {
         "unused_variables": "a parameter may be there for a contract only",
     },
     "offset_guarded": {
+        "clippy::manual_find": "a loop over places needs no closure, whose calls would need a proof",
         "clippy::manual_map": "a `match` needs no closure, whose calls would need a proof",
     },
     "offset_heaps": {
