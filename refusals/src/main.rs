@@ -1,9 +1,13 @@
-//! Makes whole runs of the libraries, fails each memory request in turn, and checks the result each time.
+//! Makes calls of the libraries, fails each memory request in turn, and checks the result each time.
 mod calls;
 mod memory;
 
 use calls::*;
-use memory::with_failures;
+use memory::{Memory, Program};
+use std::ops::RangeInclusive;
+use std::sync::atomic::{AtomicUsize, Ordering};
+use std::sync::Mutex;
+use std::thread;
 
 const COMMANDS: &str = "alloc 10\nalloc 10\nfree 1\nalloc 10\nreport\nfull\n";
 
@@ -20,8 +24,8 @@ const WRITTEN: &str = "grant 1 at 0\ngrant 2 at 10\nfreed\nnone\nfree 0 largest 
 const BAD: &str = "# c\n\nspace 010 nodes 4 index 32\nalloc 0000000001\nalloc 00000000001\n";
 const FAULT: &[u64] = &[3, 5];
 
-/// The replies to the short list of calls, each as its place in the enum, and then its numbers. Range 2 moves from 10 to
-/// 0; in the end 92 units are free, of class 35, whose value is 88.
+/// The replies to the short list of calls, each as its place in the enum, and then its numbers. Range 2 moves
+/// from 10 to 0; in the end 92 units are free, of class 35, whose value is 88.
 const REPLIES: &[u64] = &[
     0, 0, 1, 0, 0, 0, 2, 10, 0, 2, 2, 1, 2, 10, 0, 20, 3, 0, 1, 0, 6, 1, 35, 88, 1,
 ];
@@ -29,8 +33,8 @@ const REPLIES: &[u64] = &[
 /// The serials of its two grants.
 const SERIALS: &[u64] = &[1, 2];
 
-/// Whether a constructor first requests the bytes of all tables in one piece, and frees it, before it requests each
-/// table.
+/// Whether a constructor first requests the bytes of all tables in one piece, and frees it, before it
+/// requests each table.
 const REQUESTS_ALL_FIRST: bool = true;
 
 /// The bytes of each request that a constructor makes. An index has `bits` bits.
@@ -40,41 +44,66 @@ fn table_requests(layout: Layout, nodes: usize, bits: usize) -> Vec<usize> {
     all.into_iter().chain(tables).collect()
 }
 
-#[derive(Default)]
-struct Check {
-    runs: u64,
-    wrong: u64,
+/// The same with tickets: a serial for each node first.
+fn guarded_requests(layout: Layout, nodes: usize, bits: usize) -> Vec<usize> {
+    [vec![8 * nodes], table_requests(layout, nodes, bits)].concat()
 }
 
-impl Check {
+/// No request fails.
+const NONE: RangeInclusive<u64> = 0..=0;
+
+/// What a part of the check found.
+struct Check<'a> {
+    program: &'a Program,
+    runs: u64,
+    wrong: u64,
+    lines: Vec<String>,
+}
+
+impl Check<'_> {
     fn must(&mut self, holds: bool, call: Call, text: &str, what: String) {
         if !holds {
             self.wrong += 1;
-            println!("WRONG: {}: {what:.300}", call.title(text));
+            self.lines
+                .push(format!("WRONG: {}: {what:.300}", call.title(text)));
         }
     }
 
-    /// Fails each request of a call in turn, after the `first` ones of the parse before it: that request alone, and
-    /// that one with all after it. It ends where a run makes no such request, and returns the number of requests.
+    fn run(
+        &mut self,
+        call: Call,
+        text: &str,
+        failing: RangeInclusive<u64>,
+    ) -> Option<(Outcome, Memory)> {
+        self.runs += 1;
+        let found = self.program.run(call, text, failing.clone());
+        let what = || format!("requests {failing:?} refused: the program ended otherwise");
+        self.must(found.is_some(), call, text, what());
+        found
+    }
+
+    /// Fails each request of a call in turn, after the `first` ones of the parse before it: that request
+    /// alone, and that one with all after it. It ends where a run makes no such request, and returns the
+    /// number of requests.
     fn fail_each(&mut self, call: Call, text: &str, first: u64, wanted: &Outcome) -> u64 {
-        let out_of_memory = outcome(REFUSED, &[]);
+        let out_of_memory = Outcome::new(REFUSED, &[]);
         let mut hints = 0;
         for place in first + 1.. {
             let mut is_met = false;
-            for end in [place + 1, u64::MAX] {
-                let (found, memory) = with_failures(place..end, || call.with(text));
-                self.runs += 1;
+            for end in [place, u64::MAX] {
+                let Some((found, memory)) = self.run(call, text, place..=end) else {
+                    return 0;
+                };
                 is_met = memory.failed > 0;
                 // a fault may be found before the request
                 let may_be_wanted = !is_met || wanted.result == FAULTY || call.has_hints;
                 let is_right =
                     is_met && found == out_of_memory || may_be_wanted && found == *wanted;
-                let (left, strange) = (memory.blocks.len(), memory.strange);
+                let (left, strange) = (memory.left, memory.strange);
                 let what = format!(
                     "request {place} refused: {is_met}, {found:?}, left {left}, strange {strange}"
                 );
-                hints +=
-                    u64::from(is_met && call.has_hints && end == place + 1 && found == *wanted);
+                hints += u64::from(is_met && call.has_hints && end == place && found == *wanted);
                 self.must(is_right && left == 0 && strange == 0, call, text, what);
             }
             if !is_met {
@@ -84,146 +113,266 @@ impl Check {
                 } else {
                     String::new()
                 };
-                println!("{}: {requests} requests{which}", call.title(text));
+                self.lines
+                    .push(format!("{}: {requests} requests{which}", call.title(text)));
                 return requests;
             }
         }
         unreachable!("a run ends")
     }
 
-    /// The result of a call with ample memory, which must not be a failure.
-    fn with_ample_memory(&mut self, call: Call, text: &str) -> Outcome {
-        let (found, _) = with_failures(0..0, || call.with(text));
+    /// The result of a call with ample memory, which must not be a failure, and its requests.
+    fn with_ample_memory(&mut self, call: Call, text: &str) -> (Outcome, Vec<usize>) {
+        let Some((found, memory)) = self.run(call, text, NONE) else {
+            return (Outcome::new(REFUSED, &[]), Vec::new());
+        };
         self.must(found.result == ANSWERED, call, text, format!("{found:?}"));
-        found
+        (found, memory.requested)
+    }
+
+    /// The number of requests of the parse of a text.
+    fn parse_requests(&mut self, text: &str) -> u64 {
+        self.with_ample_memory(PARSE, text).1.len() as u64
     }
 
     /// With ample memory a call makes exactly these requests, those included whose failure it would ignore.
     fn expect_requests(&mut self, call: Call, text: &str, wanted: &[usize]) {
-        let (_, memory) = with_failures(0..0, || call.with(text));
-        let requested = memory.requested;
-        self.must(
-            requested == wanted,
-            call,
-            text,
-            format!("{requested:?}, not {wanted:?}"),
-        );
+        let (_, requested) = self.with_ample_memory(call, text);
+        let what = format!("{requested:?}, not {wanted:?}");
+        self.must(requested == wanted, call, text, what);
+    }
+
+    /// A call whose result is that of the call by node with ample memory. It returns the number of its
+    /// requests.
+    fn fail_each_as_by_node(&mut self, call: Call, layout: Layout, text: &str, first: u64) -> u64 {
+        let (wanted, _) = self.with_ample_memory(call.on(BY_NODE), text);
+        self.fail_each(call.on(layout), text, first, &wanted)
     }
 
     /// An allocator for a script that has no commands, 1,000 calls on it, and the script itself.
     fn allocator(&mut self, layout: Layout, nodes: usize, bits: usize, size: u64, report: &[u64]) {
         let header = &format!("space {size} nodes {nodes} index {bits}");
-        for call in [layout.limited, layout.calls, layout.play] {
-            self.expect_requests(call, header, &table_requests(layout, nodes, bits));
+        let tables = table_requests(layout, nodes, bits);
+        for call in [LIMITED, CALLS, PLAY] {
+            self.expect_requests(call.on(layout), header, &tables);
         }
-        let made = self.fail_each(layout.limited, header, 0, &outcome(ANSWERED, report));
-        let wanted = self.with_ample_memory(CALLS, header);
-        let called = self.fail_each(layout.calls, header, 0, &wanted);
-        self.must(
-            called == made,
-            layout.calls,
-            header,
-            format!("{called} requests, not {made}"),
-        );
+        let report = Outcome::new(ANSWERED, report);
+        self.fail_each(LIMITED.on(layout), header, 0, &report);
+        self.fail_each_as_by_node(CALLS, layout, header, 0);
         // a copy requests as much again
-        let guarded = [vec![8 * nodes], table_requests(layout, nodes, bits)].concat();
+        let guarded = guarded_requests(layout, nodes, bits);
         let both = [guarded.clone(), guarded].concat();
-        self.expect_requests(layout.guarded, header, &both);
-        let wanted = self.with_ample_memory(GUARDED, header);
-        self.fail_each(layout.guarded, header, 0, &wanted);
-        let wanted = self.with_ample_memory(STORE, header);
-        self.fail_each(layout.store, header, 0, &wanted);
-        let played = self.fail_each(layout.play, header, 0, &outcome(ANSWERED, &[]));
-        self.must(
-            played >= made,
-            layout.play,
-            header,
-            format!("{played} requests, below {made}"),
-        );
+        self.expect_requests(GUARDED.on(layout), header, &both);
+        self.fail_each_as_by_node(GUARDED, layout, header, 0);
+        self.stored(layout, header, &tables);
+        let nothing = Outcome::new(ANSWERED, &[]);
+        self.fail_each(PLAY.on(layout), header, 0, &nothing);
+    }
+
+    /// An allocator that is copied, written and read: its tables and those of the copy first, those of what
+    /// is read last, and between them rows that double as they grow, of which none is longer than twice the
+    /// bytes of the state. The numbers are a checksum, the report of the copy, these bytes, and the report of
+    /// what is read.
+    fn stored(&mut self, layout: Layout, header: &str, tables: &[usize]) {
+        let call = STORE.on(layout);
+        let (found, requested) = self.with_ample_memory(call, header);
+        let both = [tables, tables].concat();
+        let is_right = match found.numbers[..] {
+            [_, free, largest, bytes, free_again, largest_again] => {
+                let rows = requested.strip_prefix(&both[..]);
+                let rows = rows.and_then(|rest| rest.strip_suffix(tables));
+                let are_short = |rows: &[usize]| rows.iter().all(|row| *row as u64 <= 2 * bytes);
+                [free, largest] == [free_again, largest_again] && rows.is_some_and(are_short)
+            }
+            _ => false,
+        };
+        self.must(is_right, call, header, format!("{found:?}, {requested:?}"));
+        self.fail_each_as_by_node(STORE, layout, header, 0);
     }
 
     /// An allocator for a script that has no commands, filled and reset twice: no reset makes a request.
     fn filled(&mut self, layout: Layout, nodes: usize, bits: usize, wanted: &[u64]) {
         let header = &format!("space 5000 nodes {nodes} index {bits}");
-        self.expect_requests(layout.fill, header, &table_requests(layout, nodes, bits));
-        let made = self.fail_each(layout.limited, header, 0, &outcome(ANSWERED, &[5000, 4608]));
-        let filled = self.fail_each(layout.fill, header, 0, &outcome(ANSWERED, wanted));
-        self.must(
-            filled == made,
-            layout.fill,
-            header,
-            format!("{filled} requests, not {made}"),
-        );
+        let tables = table_requests(layout, nodes, bits);
+        self.expect_requests(FILL.on(layout), header, &tables);
+        let report = Outcome::new(ANSWERED, &[5000, 4608]);
+        self.fail_each(LIMITED.on(layout), header, 0, &report);
+        let wanted = Outcome::new(ANSWERED, wanted);
+        self.fail_each(FILL.on(layout), header, 0, &wanted);
     }
 
-    /// Constructors with `new` and by node limits, of which `most` is the largest that is tried.
-    fn constructors(&mut self, layout: Layout, bits: usize, most: usize) {
+    /// The constructor `new`, whose node limit is `most`.
+    fn default(&mut self, layout: Layout, most: usize, bits: usize) {
         let header = format!("space 100 nodes 4 index {bits}");
-        self.expect_requests(layout.new, &header, &table_requests(layout, most, bits));
-        self.fail_each(layout.new, &header, 0, &outcome(ANSWERED, &[100, 96]));
-        self.allocator(layout, 4, bits, 100, &[100, 96]);
-        self.allocator(layout, 2, bits, 100, &[0, 0]);
-        self.allocator(layout, 100, bits, 1000, &[1000, 960]);
-        self.allocator(layout, most, bits, 100, &[100, 96]);
-        // at most 2,998 ranges are live under a limit of 3,000
-        self.filled(layout, 3000, bits, &[2998, 2998, 5000, 4608]);
-        self.filled(layout, most, bits, &[3000, 3000, 5000, 4608]);
+        let call = NEW.on(layout);
+        self.expect_requests(call, &header, &table_requests(layout, most, bits));
+        self.fail_each(call, &header, 0, &Outcome::new(ANSWERED, &[100, 96]));
     }
 
-    fn script(&mut self, text: &str, script: &Outcome, answers: &Outcome, written: &Outcome) {
-        let first = self.fail_each(PARSE, text, 0, script);
-        self.fail_each(PLAY, text, first, answers);
-        self.fail_each(PLAY_BY_FIELD, text, first, answers);
-        self.fail_each(RUN, text, 0, written);
-        self.fail_each(RUN_PROGRAM, text, 0, written);
-        for call in [LIVES, PICTURE] {
-            let wanted = self.with_ample_memory(call, text);
-            self.fail_each(call, text, first, &wanted);
-        }
-        let wanted = self.with_ample_memory(PICTURE, text);
-        self.fail_each(DRAW_PROGRAM, text, 0, &wanted);
-        let [replies, with_tickets] =
-            [LIST, TICKETS].map(|call| self.with_ample_memory(call, text));
-        self.lists(text, first, &replies, &with_tickets);
+    /// Room for seven heaps, and 1,000 calls: the slots, three trees of 16 numbers, and then, for each heap
+    /// that is made, what a guarded allocator requests. A larger heap has the node limit 4.
+    fn heaps(&mut self, layout: Layout, nodes: usize, bits: usize, size: u64) {
+        let header = &format!("space {size} nodes {nodes} index {bits}");
+        let (_, room) = self.with_ample_memory(HEAPS.on(layout), header);
+        let is_right = room.len() == 4 && room[0] % 7 == 0 && room[1..] == [64; 3];
+        self.must(is_right, HEAPS.on(layout), header, format!("{room:?}"));
+        self.fail_each(HEAPS.on(layout), header, 0, &Outcome::new(ANSWERED, &[0]));
+        let call = HEAPS_CALLS.on(layout);
+        let (found, mut requested) = self.with_ample_memory(call, header);
+        let made = |place: usize| found.numbers.get(place).map_or(0, |it| *it as usize);
+        let mut wanted = [
+            room,
+            guarded_requests(layout, nodes, bits).repeat(made(0)),
+            guarded_requests(layout, 4, bits).repeat(made(1)),
+        ]
+        .concat();
+        requested.sort();
+        wanted.sort();
+        let is_right = made(0) > 4 && made(1) > 3 && requested == wanted;
+        let what = format!("{found:?}, {requested:?}, not {wanted:?}");
+        self.must(is_right, call, header, what);
+        self.fail_each_as_by_node(HEAPS_CALLS, layout, header, 0);
     }
 
-    /// Lists of calls for a script whose parse makes the `first` requests; a list takes one more, two with tickets.
-    fn lists(&mut self, text: &str, first: u64, replies: &Outcome, with_tickets: &Outcome) {
-        for layout in [BY_NODE, BY_FIELD] {
-            self.fail_each(layout.list, text, first + 1, replies);
-            self.fail_each(layout.tickets, text, first + 2, with_tickets);
-        }
+    /// A list of calls for a script; it takes one request, and with tickets two, which are no call's.
+    fn lists(&mut self, layout: Layout, text: &str, replies: &Outcome, with_tickets: &Outcome) {
+        let first = self.parse_requests(text);
+        self.fail_each(LIST.on(layout), text, first + 1, replies);
+        self.fail_each(TICKETS.on(layout), text, first + 2, with_tickets);
     }
 }
 
-fn main() {
-    let mut check = Check::default();
-    for (bits, most) in [(16, 65_533), (32, 131_072)] {
+/// A part of the check.
+type Part = Box<dyn Fn(&mut Check) + Send + Sync>;
+
+fn part(run: impl Fn(&mut Check) + Send + Sync + 'static) -> Part {
+    Box::new(run)
+}
+
+/// The parts for an index of `bits` bits, of which `most` is the largest node limit that is tried.
+fn parts(bits: usize, most: usize) -> Vec<Part> {
+    let mut all = Vec::new();
+    for layout in [BY_NODE, BY_FIELD] {
+        all.push(part(move |it| it.default(layout, most, bits)));
+        all.push(part(move |it| {
+            it.allocator(layout, 4, bits, 100, &[100, 96])
+        }));
+        all.push(part(move |it| it.allocator(layout, 2, bits, 100, &[0, 0])));
+        all.push(part(move |it| {
+            it.allocator(layout, 100, bits, 1000, &[1000, 960])
+        }));
+        all.push(part(move |it| {
+            it.allocator(layout, most, bits, 100, &[100, 96])
+        }));
+        // at most 2,998 ranges are live under a limit of 3,000
+        all.push(part(move |it| {
+            it.filled(layout, 3000, bits, &[2998, 2998, 5000, 4608])
+        }));
+        all.push(part(move |it| {
+            it.filled(layout, most, bits, &[3000, 3000, 5000, 4608])
+        }));
+        all.push(part(move |it| it.heaps(layout, 100, bits, 300)));
+    }
+    let header = format!("space 100 nodes 4 index {bits}");
+    let short = format!("{header}\n{COMMANDS}");
+    let script = Outcome::new(ANSWERED, &[&[100, 4, bits as u64], SCRIPT].concat());
+    let written: Vec<u64> = WRITTEN.bytes().map(u64::from).collect();
+    let text = short.clone();
+    all.push(part(move |it| {
+        let first = it.fail_each(PARSE, &text, 0, &script);
         for layout in [BY_NODE, BY_FIELD] {
-            check.constructors(layout, bits, most);
+            let answers = Outcome::new(ANSWERED, ANSWERS);
+            it.fail_each(PLAY.on(layout), &text, first, &answers);
         }
-        let header = format!("space 100 nodes 4 index {bits}");
-        let script = outcome(ANSWERED, &[&[100, 4, bits as u64], SCRIPT].concat());
-        let written: Vec<u64> = WRITTEN.bytes().map(u64::from).collect();
-        let (answers, written) = (outcome(ANSWERED, ANSWERS), outcome(ANSWERED, &written));
-        check.script(
-            &format!("{header}\n{COMMANDS}"),
-            &script,
-            &answers,
-            &written,
-        );
-        let with_tickets = outcome(ANSWERED, &[REPLIES, SERIALS].concat());
-        let eight = format!("space 100 nodes 8 index {bits}");
-        check.lists(&eight, 0, &outcome(ANSWERED, REPLIES), &with_tickets);
-        let mixed = mixed(bits);
-        let [script, answers, written] =
-            [PARSE, PLAY, RUN].map(|call| check.with_ample_memory(call, &mixed));
-        check.script(&mixed, &script, &answers, &written);
+        for call in [RUN, RUN_PROGRAM] {
+            it.fail_each(call, &text, 0, &Outcome::new(ANSWERED, &written));
+        }
+    }));
+    let long = mixed(bits);
+    let text = long.clone();
+    all.push(part(move |it| {
+        let (script, _) = it.with_ample_memory(PARSE, &text);
+        let first = it.fail_each(PARSE, &text, 0, &script);
+        for layout in [BY_NODE, BY_FIELD] {
+            it.fail_each_as_by_node(PLAY, layout, &text, first);
+        }
+        for call in [RUN, RUN_PROGRAM] {
+            let (written, _) = it.with_ample_memory(RUN, &text);
+            it.fail_each(call, &text, 0, &written);
+        }
+    }));
+    for text in [short, long] {
+        let drawn = text.clone();
+        all.push(part(move |it| {
+            let first = it.parse_requests(&drawn);
+            for call in [LIVES, PICTURE] {
+                let (wanted, _) = it.with_ample_memory(call, &drawn);
+                it.fail_each(call, &drawn, first, &wanted);
+            }
+            let (wanted, _) = it.with_ample_memory(PICTURE, &drawn);
+            it.fail_each(DRAW_PROGRAM, &drawn, 0, &wanted);
+        }));
+        for layout in [BY_NODE, BY_FIELD] {
+            let text = text.clone();
+            all.push(part(move |it| {
+                let [replies, with_tickets] =
+                    [LIST, TICKETS].map(|call| it.with_ample_memory(call.on(BY_NODE), &text).0);
+                it.lists(layout, &text, &replies, &with_tickets);
+            }));
+        }
     }
+    for layout in [BY_NODE, BY_FIELD] {
+        all.push(part(move |it| {
+            let eight = format!("space 100 nodes 8 index {bits}");
+            let replies = Outcome::new(ANSWERED, REPLIES);
+            let with_tickets = Outcome::new(ANSWERED, &[REPLIES, SERIALS].concat());
+            it.lists(layout, &eight, &replies, &with_tickets);
+        }));
+    }
+    all
+}
+
+fn main() {
+    let mut words = std::env::args_os().skip(1);
+    let (Some(file), Some(memory)) = (words.next(), words.next()) else {
+        panic!("refusals PROGRAM MEMORY");
+    };
+    let program = Program { file, memory };
+    let mut all = parts(16, 65_533);
+    all.extend(parts(32, 131_072));
     for call in [PARSE, RUN] {
-        check.fail_each(call, BAD, 0, &outcome(FAULTY, FAULT));
-        check.fail_each(call, &"\n".repeat(1_048_577), 0, &outcome(FAULTY, &[0]));
+        all.push(part(move |it| {
+            it.fail_each(call, BAD, 0, &Outcome::new(FAULTY, FAULT));
+            let long = "\n".repeat(1_048_577);
+            it.fail_each(call, &long, 0, &Outcome::new(FAULTY, &[0]));
+        }));
     }
-    println!("{} runs, {} wrong", check.runs, check.wrong);
-    std::process::exit(i32::from(check.wrong > 0));
+    let next = AtomicUsize::new(0);
+    let done = Mutex::new(Vec::new());
+    thread::scope(|scope| {
+        for _ in 0..thread::available_parallelism().map_or(1, usize::from) {
+            scope.spawn(|| loop {
+                let at = next.fetch_add(1, Ordering::Relaxed);
+                let Some(run) = all.get(at) else { break };
+                let mut check = Check {
+                    program: &program,
+                    runs: 0,
+                    wrong: 0,
+                    lines: Vec::new(),
+                };
+                run(&mut check);
+                done.lock().unwrap().push((at, check));
+            });
+        }
+    });
+    let mut done = done.into_inner().unwrap();
+    done.sort_by_key(|(at, _)| *at);
+    let (mut runs, mut wrong) = (0, 0);
+    for (_, check) in &done {
+        check.lines.iter().for_each(|line| println!("{line}"));
+        runs += check.runs;
+        wrong += check.wrong;
+    }
+    println!("{runs} runs, {wrong} wrong");
+    std::process::exit(i32::from(wrong > 0));
 }

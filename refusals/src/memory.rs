@@ -1,111 +1,75 @@
-//! The memory of the static library, which makes all of its requests here.
-use std::alloc::{alloc, dealloc, Layout};
-use std::collections::BTreeMap;
-use std::ops::Range;
-use std::sync::Mutex;
+//! The program, with the memory of `memory.c` preloaded into it, which refuses some of its requests.
+use crate::calls::{Call, Outcome, CELLS};
+use std::ffi::OsString;
+use std::io::Write;
+use std::ops::RangeInclusive;
+use std::process::{Command, Stdio};
 
-/// The requests of a run, and its blocks.
-#[derive(Default)]
+/// The requests of a run, and what is left of them.
 pub struct Memory {
-    /// The requests that fail, by their number from 1.
-    failing: Range<u64>,
-    /// The bytes of each request, for a new block or for a longer one.
-    pub requested: Vec<usize>,
     /// The number of requests that failed.
     pub failed: u64,
-    /// The blocks that are not freed.
-    pub blocks: BTreeMap<usize, Layout>,
-    /// The number of calls on a block that does not exist, or has another size or alignment.
+    /// The number of blocks that are not freed.
+    pub left: u64,
+    /// The number of calls on a block that does not exist.
     pub strange: u64,
+    /// The bytes of each request, for a new block or for a longer one.
+    pub requested: Vec<usize>,
 }
 
-static MEMORY: Mutex<Option<Memory>> = Mutex::new(None);
-
-/// Makes a run, in which these requests fail.
-pub fn with_failures<T>(failing: Range<u64>, run: impl FnOnce() -> T) -> (T, Memory) {
-    let memory = Memory {
-        failing,
-        ..Memory::default()
-    };
-    *MEMORY.lock().unwrap() = Some(memory);
-    let result = run();
-    (result, MEMORY.lock().unwrap().take().unwrap())
+/// The program, and the library that has its memory.
+pub struct Program {
+    pub file: OsString,
+    pub memory: OsString,
 }
 
-fn with_memory<T>(call: impl FnOnce(&mut Memory) -> T) -> T {
-    call(MEMORY.lock().unwrap().as_mut().expect("a run"))
+fn numbers<T: std::str::FromStr>(line: &str) -> Vec<T> {
+    let all = line.split_whitespace().map(str::parse);
+    all.collect::<Result<_, _>>().unwrap_or_default()
 }
 
-impl Memory {
-    fn fails(&mut self, size: usize) -> bool {
-        self.requested.push(size);
-        let fails = self.failing.contains(&(self.requested.len() as u64));
-        self.failed += u64::from(fails);
-        fails
-    }
-
-    fn take(&mut self, size: usize, align: usize) -> Block {
-        let layout = Layout::from_size_align(size.max(1), align).unwrap();
-        let at = unsafe { alloc(layout) };
-        assert!(!at.is_null(), "there is ample memory");
-        // no caller may depend on the contents of a new block
-        unsafe { at.write_bytes(0xa5, layout.size()) };
-        self.blocks.insert(at as usize, layout);
-        Block { ok: 1, at }
-    }
-
-    fn free(&mut self, at: *mut u8) {
-        match self.blocks.remove(&(at as usize)) {
-            None => self.strange += 1,
-            Some(layout) => unsafe {
-                // nor on those of a freed one
-                at.write_bytes(0x5a, layout.size());
-                dealloc(at, layout);
-            },
-        }
-    }
-}
-
-#[repr(C)]
-pub struct Block {
-    ok: u64,
-    at: *mut u8,
-}
-
-const NO_BLOCK: Block = Block {
-    ok: 0,
-    at: std::ptr::dangling_mut(),
-};
-
-#[no_mangle]
-extern "C" fn rattle_alloc(size: usize, align: usize) -> Block {
-    with_memory(|memory| match memory.fails(size) {
-        true => NO_BLOCK,
-        false => memory.take(size, align),
-    })
-}
-
-/// Moves the first `kept` bytes of a block to a new block of another size.
-#[no_mangle]
-extern "C" fn rattle_realloc(from: *mut u8, kept: usize, size: usize, align: usize) -> Block {
-    with_memory(|memory| {
-        let old = memory.blocks.get(&(from as usize)).copied();
-        let fits = |old: &Layout| old.align() == align && kept <= old.size().min(size);
-        let Some(old) = old.filter(fits) else {
-            memory.strange += 1;
-            return NO_BLOCK;
+impl Program {
+    /// Makes a call with a text, in which these requests fail, by their number from 1. `None` where the
+    /// program does not end as it has to.
+    pub fn run(
+        &self,
+        call: Call,
+        text: &str,
+        failing: RangeInclusive<u64>,
+    ) -> Option<(Outcome, Memory)> {
+        let mut run = Command::new(&self.file)
+            .args(call.words())
+            .env_clear()
+            .env("LD_PRELOAD", &self.memory)
+            .env("REFUSED", format!("{} {}", failing.start(), failing.end()))
+            .stdin(Stdio::piped())
+            .stdout(Stdio::piped())
+            .stderr(Stdio::piped())
+            .spawn()
+            .ok()?;
+        run.stdin.take()?.write_all(text.as_bytes()).ok()?;
+        let ended = run.wait_with_output().ok()?;
+        let (printed, counted) = (
+            String::from_utf8(ended.stdout).ok()?,
+            String::from_utf8(ended.stderr).ok()?,
+        );
+        let [_, result, line] = printed.lines().collect::<Vec<_>>()[..] else {
+            return None;
         };
-        if size > old.size() && memory.fails(size) {
-            return NO_BLOCK;
-        }
-        let block = memory.take(size, align);
-        unsafe { block.at.copy_from_nonoverlapping(from, kept) };
-        memory.free(from);
-        block
-    })
-}
-
-#[no_mangle]
-extern "C" fn rattle_dealloc(at: *mut u8) {
-    with_memory(|memory| memory.free(at));
+        let found = Outcome {
+            result: result.parse().ok()?,
+            numbers: numbers(line),
+        };
+        let [failed, left, strange, requested @ ..] = &numbers::<u64>(&counted)[..] else {
+            return None;
+        };
+        let memory = Memory {
+            failed: *failed,
+            left: *left,
+            strange: *strange,
+            requested: requested.iter().map(|bytes| *bytes as usize).collect(),
+        };
+        let is_whole = ended.status.success() && found.numbers.len() < CELLS;
+        is_whole.then_some((found, memory))
+    }
 }

@@ -53,7 +53,8 @@ impl Work for MakeLimited {
     }
 }
 
-/// Makes an allocator by `with_max_allocs`, makes 1,000 calls, and puts a checksum of their results into the cells.
+/// Makes an allocator by `with_max_allocs`, makes 1,000 calls, and puts a checksum of their results into the
+/// cells.
 pub struct MakeAndCall;
 
 impl Work for MakeAndCall {
@@ -69,8 +70,8 @@ impl Work for MakeAndCall {
     }
 }
 
-/// Makes an allocator by `with_max_allocs`, makes 1,000 calls, copies it, writes its state and reads that, and puts the
-/// reports of both, and the number of bytes, into the cells.
+/// Makes an allocator by `with_max_allocs`, makes 1,000 calls, copies it, writes its state and reads that,
+/// and puts the reports of both, and the number of bytes, into the cells.
 pub struct MakeAndStore;
 
 impl Work for MakeAndStore {
@@ -82,11 +83,15 @@ impl Work for MakeAndStore {
         cells: &mut Cells<'_>,
     ) -> Result<(), Failure> {
         let mut allocator = limited::<T>(alloc, script)?;
-        put(cells, mixed_calls(&mut allocator, kept));
-        put_report_of(cells, allocator.try_clone(alloc)?);
+        let sum = mixed_calls(&mut allocator, kept);
+        let copy = allocator.try_clone(alloc)?;
         let bytes = allocator.write_state(alloc)?;
+        let read = AllocatorOf::<T>::read_state(alloc, &bytes, script.max_allocs)?;
+        // nothing is put before the last request
+        put(cells, sum);
+        put_report_of(cells, copy);
         put(cells, bytes.len() as u64);
-        match AllocatorOf::<T>::read_state(alloc, &bytes, script.max_allocs)? {
+        match read {
             Ok(read) => put_report_of(cells, read),
             Err(fault) => put(cells, fault.at as u64),
         }
@@ -106,8 +111,8 @@ fn fill_and_reset<T: Tables>(allocator: &mut AllocatorOf<T>) -> u64 {
     granted
 }
 
-/// Makes an allocator by `with_max_allocs`, twice makes 3,000 requests and a reset, and puts the numbers of grants, and
-/// the report in the end, into the cells.
+/// Makes an allocator by `with_max_allocs`, twice makes 3,000 requests and a reset, and puts the numbers of
+/// grants, and the report in the end, into the cells.
 pub struct MakeAndFill;
 
 impl Work for MakeAndFill {

@@ -33,8 +33,8 @@ fn between(place: u32) -> Call {
     }
 }
 
-// The commands of a script, with another call after each; for a script without commands a short list. One request, for
-// as many calls as there are.
+// The commands of a script, with another call after each; for a script without commands a short list. One
+// request, for as many calls as there are.
 fn list(alloc: Global, commands: &[Command]) -> Result<Vec<Call>, AllocError> {
     if commands.is_empty() {
         let mut calls = Vec::with_capacity(alloc, SHORT.len())?;
@@ -87,7 +87,8 @@ impl Work for PlayList {
     }
 }
 
-/// Plays the same with tickets, and puts the serials of the grants after the replies. The list takes two requests.
+/// Plays the same with tickets, and puts the serials of the grants after the replies. The list takes two
+/// requests.
 pub struct PlayTickets;
 
 impl Work for PlayTickets {

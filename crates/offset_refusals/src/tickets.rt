@@ -83,8 +83,9 @@ impl Work for MakeGuardedAndCall {
             return Err(Failure::Unfit);
         }
         let mut space = GuardedOf::<T>::with_max_allocs(alloc, script.size, limit, 1)?;
-        put(cells, checksum(&mut space));
+        let sum = checksum(&mut space);
         let mut copy = space.try_clone(alloc)?;
+        put(cells, sum);
         put(cells, checksum(&mut copy));
         Ok(())
     }

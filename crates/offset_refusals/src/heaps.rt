@@ -1,0 +1,146 @@
+//! Many heaps as one, and calls of every kind on them.
+
+use crate::layouts::{Kept, Work};
+use crate::numbers::{Cells, put};
+use crate::outcomes::Failure;
+use offset_allocator::{NodeIndex, Tables};
+use offset_heaps::{HeapsOf, Limits, Place, Refusal};
+use offset_script::Script;
+use std::alloc::Global;
+
+// Room for four heaps of a script's size and node limit, and for three larger ones.
+fn made<T: Tables>(alloc: Global, script: &Script) -> Result<HeapsOf<T>, Failure> {
+    let limit = script.max_allocs;
+    if limit < 4 || limit >= T::Index::MAX - 1 {
+        return Err(Failure::Unfit);
+    }
+    let limits = Limits {
+        size: script.size,
+        max_allocs: limit,
+        most: 4,
+        most_larger: 3,
+    };
+    Ok(HeapsOf::new(alloc, limits, 1)?)
+}
+
+/// Makes the heaps, none of which is there yet, and puts their number into the cells.
+pub struct MakeHeaps;
+
+impl Work for MakeHeaps {
+    fn run<T: Tables>(
+        &self,
+        alloc: Global,
+        script: &Script,
+        _kept: &mut [Kept<T::Index>],
+        cells: &mut Cells<'_>,
+    ) -> Result<(), Failure> {
+        let heaps = made::<T>(alloc, script)?;
+        put(cells, u64::from(heaps.totals().heaps));
+        Ok(())
+    }
+}
+
+// How many heaps were made of the usual size, and how many larger ones.
+#[derive(Drop)]
+struct Counts {
+    usual: u64,
+    larger: u64,
+}
+
+// Makes a request. It returns its result as a number.
+fn request<T: Tables>(
+    heaps: &mut HeapsOf<T>,
+    kept: &mut Option<Place>,
+    made: &mut Counts,
+    kind: u32,
+    number: u32,
+) -> Result<u64, Failure> {
+    let limits = heaps.limits();
+    let answer = match kind {
+        0 => heaps.allocate(limits.size.saturating_add(number)),
+        1..=7 => heaps.allocate_aligned(number, 8),
+        _ => heaps.allocate(number),
+    };
+    match answer {
+        Ok(granted) => {
+            *kept = Some(granted.place);
+            if granted.is_new && granted.place.heap < limits.most {
+                made.usual = made.usual.wrapping_add(1);
+            } else if granted.is_new {
+                made.larger = made.larger.wrapping_add(1);
+            }
+            Ok(u64::from(granted.place.ticket.offset))
+        }
+        Err(Refusal::Memory) => Err(Failure::OutOfMemory),
+        Err(why) => Ok(u64::from(why as u8)),
+    }
+}
+
+// Makes another call on a place that was granted. It returns the result as a number.
+fn call<T: Tables>(heaps: &mut HeapsOf<T>, place: Place, kind: u32, number: u32) -> u64 {
+    match kind {
+        0..=9 => u64::from(heaps.free(place)),
+        10 => u64::from(heaps.drop_heap(place.heap)),
+        11 => u64::from(heaps.drop_empty(1).unwrap_or(9)),
+        12 => u64::from(heaps.give_up(place.heap)),
+        13 => u64::from(heaps.size_of(place).unwrap_or(0)),
+        14 => u64::from(heaps.offset_of(place).unwrap_or(0)),
+        _ => {
+            if number % 8 == 0 {
+                heaps.reset();
+            }
+            heaps.totals().live_units
+        }
+    }
+}
+
+// Makes 1,000 calls of every kind, and returns a checksum of their results.
+fn checksum<T: Tables>(heaps: &mut HeapsOf<T>, made: &mut Counts) -> Result<u64, Failure> {
+    let mut kept: [Option<Place>; 16] = [None; 16];
+    let mut state = 1u64;
+    let mut sum = 0u64;
+    for _ in 0..1_000u32 {
+        state = state.wrapping_mul(1_103_515_245).wrapping_add(12_345) % 2_147_483_648;
+        let number = state / 65_536;
+        if let Some(kept) = kept.get_mut((number / 16 % 16) as usize) {
+            let kind = (number % 16) as u32;
+            let size = (number / 256 % 100) as u32;
+            let answer = match *kept {
+                None => request(heaps, kept, made, kind, size)?,
+                Some(place) => {
+                    if !heaps.is_live(place) || kind == 15 {
+                        *kept = None;
+                    }
+                    call(heaps, place, kind, size)
+                }
+            };
+            sum = sum.wrapping_mul(31).wrapping_add(answer);
+        }
+    }
+    Ok(sum)
+}
+
+/// Makes the heaps and 1,000 calls, and puts the numbers of heaps that were made, of the usual size and
+/// larger, and a checksum of the results into the cells.
+pub struct MakeHeapsAndCall;
+
+impl Work for MakeHeapsAndCall {
+    fn run<T: Tables>(
+        &self,
+        alloc: Global,
+        script: &Script,
+        _kept: &mut [Kept<T::Index>],
+        cells: &mut Cells<'_>,
+    ) -> Result<(), Failure> {
+        let mut heaps = made::<T>(alloc, script)?;
+        let mut made = Counts {
+            usual: 0,
+            larger: 0,
+        };
+        let sum = checksum(&mut heaps, &mut made)?;
+        put(cells, made.usual);
+        put(cells, made.larger);
+        put(cells, sum);
+        Ok(())
+    }
+}
