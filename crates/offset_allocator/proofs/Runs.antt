@@ -2,12 +2,13 @@
 use Rattle.offset_allocator.proofs.Common.{◌≡◌, ℕ, ◌+◌, ◌-◌, ◌*◌, ◌<◌, ◌≤◌, ◌⊎◌, Bool, true, false, not, Option, None}
 use Rattle.offset_allocator.proofs.Common.{Some, IfSome, List, [], ◌∷◌, ◌++◌, length, sum, if◌then◌else◌, refl, sym, ap, subst, ◌∙◌}
 use Rattle.offset_allocator.proofs.Common.{inl, inr, arith, append_assoc, append-nil, length-append, cases_lt, true≢false, not-true, Block, free_sizes, units}
-use Rattle.offset_allocator.proofs.Common.{used_of, used_units, ChainCells, Node, node, HasPlace, IsSpace, blocks, last_or, starts_free, ends_used, one, common_steps}
+use Rattle.offset_allocator.proofs.Common.{used_of, used_units, ChainCells, Node, node, HasPlace, IsSpace, blocks, first_or, last_or, starts_free, ends_used, one, common_steps}
 use Rattle.offset_allocator.proofs.{Tallies.tally_append, Tallies.free_units, Tallies.free_sum, Tallies.units-append, Joints.free_units-append, Joints.free_units-free}
 use Rattle.offset_allocator.proofs.{Ends.Ended, Ends.ended, Ends.last_none, Places.placed, Places.at_place, Rows.last_or-append}
 use Rattle.offset_allocator.specs.declared.room.RoomCost.{RoomCost}
+use Rattle.offset_allocator.specs.declared.room.Run.{Run}
 use Rattle.offset_allocator.specs.declared.room.Window.{Window}
-use Rattle.offset_allocator.specs.Room.{IsRun, IsAtMost, IsLeastCost, IsShrunk, IsWindow, cost_of, end_of, end_room}
+use Rattle.offset_allocator.specs.Room.{IsRun, IsAtMost, IsCheapest, IsLeastCost, IsShrunk, IsWindow, cost_of, end_of, end_room}
 
 pub used_units-append : (xs ys : List Block) → used_units (xs ++ ys) ≡ used_units xs + used_units ys
 used_units-append xs ys = tally_append (λ (b : Block). if b.used then b.size else 0) xs ys
@@ -241,17 +242,24 @@ no_run (b ∷ run) r = go r.front r.is
     go [] e = absurd (cc)
     go (f ∷ front) e = absurd (cc)
 
-pub none_yet : (want : ℕ) → IsLeastCost want [] None
+pub none_yet : (want : ℕ) → IsCheapest want [] None
 none_yet want run r = absurd (no_run run r)
+
+-- a run that a window is, between a block of this name and its last block
+pub record IsFound (name : ℕ) (w : Window) (r : Run) : Type 0 where
+  pub first : r.first ≡ name
+  pub end : r.end ≡ w.end
+  pub units : r.cost.units ≡ w.units
+  pub ranges : r.cost.ranges ≡ w.ranges
 
 -- one more block, at which no run begins that serves
 module _ (want : ℕ) (b : Block) (rest : List Block) where
-  carried : (known : Option RoomCost) → ((run : List Block) → IsRun run (b ∷ rest) → want ≤ sum (free_sizes run) → IsRun run rest)
-      → IsLeastCost want rest known → IsLeastCost want (b ∷ rest) known
+  carried : (known : Option Run) → ((run : List Block) → IsRun run (b ∷ rest) → want ≤ sum (free_sizes run) → IsRun run rest)
+      → IsCheapest want rest known → IsCheapest want (b ∷ rest) known
   carried None k h = λ run r. elim (cases_lt (sum (free_sizes run)) want) [ inl l ↦ l | inr l ↦ h run (k run r l) ]
-  carried (Some c) k h = ((h.0.0, run_after b h.0.1, h.0.2, h.0.3), λ run r l. h.1 run (k run r l) l)
+  carried (Some c) k h = ((h.0.0, run_after b h.0.1, h.0.2, h.0.3, h.0.4, h.0.5), λ run r l. h.1 run (k run r l) l)
 
-  pub met_used : (known : Option RoomCost) → b.used ≡ true → IsLeastCost want rest known → IsLeastCost want (b ∷ rest) known
+  pub met_used : (known : Option Run) → b.used ≡ true → IsCheapest want rest known → IsCheapest want (b ∷ rest) known
   met_used known u h = carried known later h
     where
       later : (run : List Block) → IsRun run (b ∷ rest) → want ≤ sum (free_sizes run) → IsRun run rest
@@ -261,7 +269,7 @@ module _ (want : ℕ) (b : Block) (rest : List Block) where
           go [] back e s = true≢false (sym s)
           go (d ∷ run) back e s = let same : b ≡ d = cc in absurd (let f = ap (λ (v : Block). not v.used) same ∙ s in let g = ap not u in cc)
 
-  pub met_few : (known : Option RoomCost) → sum (free_sizes (b ∷ rest)) < want → IsLeastCost want rest known → IsLeastCost want (b ∷ rest) known
+  pub met_few : (known : Option Run) → sum (free_sizes (b ∷ rest)) < want → IsCheapest want rest known → IsCheapest want (b ∷ rest) known
   met_few known few h = carried known later h
     where
       later : (run : List Block) → IsRun run (b ∷ rest) → want ≤ sum (free_sizes run) → IsRun run rest
@@ -295,29 +303,48 @@ module _ (want : ℕ) (b : Block) (rest : List Block) where
       ]
     ]
 
-    pub met_run : (known : Option RoomCost) (c r : RoomCost) → c.units ≡ w.units → c.ranges ≡ w.ranges → (r ≡ c) ⊎ (known ≡ Some r) → IsAtMost r c → IfSome known (λ k. IsAtMost r k)
-        → IsLeastCost want rest known → IsLeastCost want (b ∷ rest) (Some r)
-    met_run known c r e f one most less k = (taken known one k, each known less k)
+    first_named : first_or None us ≡ Some b.name
+    first_named = go us is h.front h.is
       where
-        here : c ≡ cost_of us
-        here = cost_is c e f
+        go : (us : List Block) → b ∷ rest ≡ us ++ back → (front : List Block) → us ≡ front ++ end_of w ∷ [] → first_or None us ≡ Some b.name
+        go [] e [] f = absurd (cc)
+        go [] e (x ∷ front) f = absurd (cc)
+        go (u ∷ us) e front f = let same : u ≡ b = cc in ap (λ (v : Block). Some v.name) same
 
-        taken : (known : Option RoomCost) → (r ≡ c) ⊎ (known ≡ Some r) → IsLeastCost want rest known → (run : List Block) × IsRun run (b ∷ rest) × (want ≤ sum (free_sizes run)) × (r ≡ cost_of run)
-        taken known (inl q) k = (us, window_run, omega (arith, serves, h.room), q ∙ here)
+    last_named : last_or None us ≡ Some w.end
+    last_named = ap (last_or None) h.is ∙ last_or-append None h.front (end_of w ∷ [])
+
+    pub met_run : (known : Option Run) (c r : Run) → IsFound b.name w c → (r ≡ c) ⊎ (known ≡ Some r) → IsAtMost r.cost c.cost → IfSome known (λ k. IsAtMost r.cost k.cost)
+        → IsCheapest want rest known → IsCheapest want (b ∷ rest) (Some r)
+    met_run known c r f one most less k = (taken known one k, each known less k)
+      where
+        here : c.cost ≡ cost_of us
+        here = cost_is c.cost f.units f.ranges
+
+        taken : (known : Option Run) → (r ≡ c) ⊎ (known ≡ Some r) → IsCheapest want rest known → (run : List Block) × IsRun run (b ∷ rest) × (want ≤ sum (free_sizes run)) × (r.cost ≡ cost_of run)
+            × (first_or None run ≡ Some r.first) × (last_or None run ≡ Some r.end)
+        taken known (inl q) k = (
+          us,
+          window_run,
+          omega (arith, serves, h.room),
+          ap (λ (v : Run). v.cost) q ∙ here,
+          first_named ∙ ap (λ n. Some n) (sym f.first ∙ sym (ap (λ (v : Run). v.first) q)),
+          last_named ∙ ap (λ n. Some n) (sym f.end ∙ sym (ap (λ (v : Run). v.end) q)),
+        )
         taken None (inr q) k = absurd (cc)
-        taken (Some d) (inr q) k = let same : r ≡ d = cc in (k.0.0, run_after b k.0.1, k.0.2, same ∙ k.0.3)
+        taken (Some d) (inr q) k = let same : r ≡ d = cc in (k.0.0, run_after b k.0.1, k.0.2, rw same k.0.3, rw same k.0.4, rw same k.0.5)
 
-        each : (known : Option RoomCost) → IfSome known (λ k. IsAtMost r k) → IsLeastCost want rest known → (run : List Block) → IsRun run (b ∷ rest) → want ≤ sum (free_sizes run)
-            → IsAtMost r (cost_of run)
+        each : (known : Option Run) → IfSome known (λ k. IsAtMost r.cost k.cost) → IsCheapest want rest known → (run : List Block) → IsRun run (b ∷ rest) → want ≤ sum (free_sizes run)
+            → IsAtMost r.cost (cost_of run)
         each known less k run q l = elim (beyond run q l) [
-          | inl m ↦ at_most_trans r (cost_of us) (cost_of run) (subst (IsAtMost r) here most) m
+          | inl m ↦ at_most_trans r.cost (cost_of us) (cost_of run) (subst (IsAtMost r.cost) here most) m
           | inr m ↦ later known less k run m l
         ]
           where
-            later : (known : Option RoomCost) → IfSome known (λ k. IsAtMost r k) → IsLeastCost want rest known → (run : List Block) → IsRun run rest → want ≤ sum (free_sizes run)
-                → IsAtMost r (cost_of run)
+            later : (known : Option Run) → IfSome known (λ k. IsAtMost r.cost k.cost) → IsCheapest want rest known → (run : List Block) → IsRun run rest → want ≤ sum (free_sizes run)
+                → IsAtMost r.cost (cost_of run)
             later None less k run m l = absurd (let f = k run m in omega (arith, f, l))
-            later (Some d) less k run m l = at_most_trans r d (cost_of run) less (k.1 run m l)
+            later (Some d) less k run m l = at_most_trans r.cost d.cost (cost_of run) less (k.1 run m l)
 
 -- the first block that is met, alone
 module _ (want : ℕ) (some : 1 ≤ want) (w : Window) (b : Block) (h : IsWindow w (b ∷ [])) where
@@ -329,11 +356,15 @@ module _ (want : ℕ) (some : 1 ≤ want) (w : Window) (b : Block) (h : IsWindow
       go (d ∷ []) e = absurd (cc)
       go (d ∷ k ∷ front) e = absurd (cc)
 
-  pub alone_serves : want ≤ w.room → IsLeastCost want (b ∷ []) (Some (record { units = 0; ranges = 0 }))
-  alone_serves l =
-      let zero : RoomCost = record { units = 0; ranges = 0 } in
-      met_run want b [] w (b ∷ []) [] free refl h l (omega (arith, some, alone_tight)) None zero zero (omega (arith, h.units, ap (λ (v : Bool). if v then b.size else 0) free))
-      (omega (arith, h.ranges, ap one free)) (inl refl) (inr (refl, omega arith)) tt (none_yet want)
+  pub alone_serves : (r : Run) → r ≡ record { first = b.name; end = w.end; cost = record { units = 0; ranges = 0 } } → want ≤ w.room → IsCheapest want (b ∷ []) (Some r)
+  alone_serves r e l =
+      let found : IsFound b.name w r = record {
+        first = ap (λ (v : Run). v.first) e;
+        end = ap (λ (v : Run). v.end) e;
+        units = omega (arith, ap (λ (v : Run). v.cost.units) e, h.units, ap (λ (v : Bool). if v then b.size else 0) free);
+        ranges = omega (arith, ap (λ (v : Run). v.cost.ranges) e, h.ranges, ap one free);
+      } in
+      met_run want b [] w (b ∷ []) [] free refl h l (omega (arith, some, alone_tight)) None r r found (inl refl) (inr (refl, omega arith)) tt (none_yet want)
     where
       free : b.used ≡ false
       free = go b.used refl
@@ -342,20 +373,33 @@ module _ (want : ℕ) (some : 1 ≤ want) (w : Window) (b : Block) (h : IsWindow
           go false e = e
           go true e = absurd (omega (arith, some, l, h.room, free_sum (b ∷ []), ap (λ (v : Bool). if v then 0 else b.size) e))
 
-  pub alone_few : w.room < want → IsLeastCost want (b ∷ []) None
+  pub alone_few : w.room < want → IsCheapest want (b ∷ []) None
   alone_few l = met_few want b [] None (omega (arith, l, h.room)) (none_yet want)
 
+-- the window of one block ends in it
+pub alone_end : {w : Window} {b : Block} → IsWindow w (b ∷ []) → b.name ≡ w.end
+alone_end {w} {b} h = go h.front h.is
+  where
+    go : (front : List Block) → b ∷ [] ≡ front ++ end_of w ∷ [] → b.name ≡ w.end
+    go [] e = cc
+    go (d ∷ []) e = absurd (cc)
+    go (d ∷ k ∷ front) e = absurd (cc)
+
+pub alone_is : (b : Block) (name : ℕ) (w : Window) → b.name ≡ name → b.name ≡ w.end
+    → ◌≡◌ {A = Run} (record { first = name; end = name; cost = record { units = 0; ranges = 0 } }) (record { first = b.name; end = w.end; cost = record { units = 0; ranges = 0 } })
+alone_is b name w e f = rw (← e, ← f) refl
+
 -- the blocks in front are left, those of the window are `met`, and those in `gone` are no longer needed
-pub record IsMet (want : ℕ) (bs front : List Block) (w : Window) (known : Option RoomCost) (start count : ℕ) : Type 0 where
+pub record IsMet (want : ℕ) (bs front : List Block) (w : Window) (known : Option Run) (start count : ℕ) : Type 0 where
   pub met : List Block
   pub gone : List Block
   pub is : bs ≡ front ++ (met ++ gone)
   pub window : IsWindow w met
   pub needed : (gone ≡ []) ⊎ (want ≤ w.room)
-  pub cost : IsLeastCost want (met ++ gone) known
+  pub cost : IsCheapest want (met ++ gone) known
   pub counted : count ≡ start + 3 * length met + 6 * length gone
 
-module _ {want : ℕ} {bs front : List Block} {w : Window} {known : Option RoomCost} {start count : ℕ} (i : IsMet want bs front w known start count) {name : ℕ} (f : Ended name front) where
+module _ {want : ℕ} {bs front : List Block} {w : Window} {known : Option Run} {start count : ℕ} (i : IsMet want bs front w known start count) {name : ℕ} (f : Ended name front) where
   pub met_is : bs ≡ f.front ++ (f.last ∷ (i.met ++ i.gone))
   met_is = i.is ∙ ap (λ l. l ++ (i.met ++ i.gone)) f.is ∙ append_assoc f.front (f.last ∷ []) (i.met ++ i.gone)
 
@@ -386,16 +430,16 @@ module _ {want : ℕ} {bs front : List Block} {w : Window} {known : Option RoomC
           | inr m ↦ absurd (omega (arith, l, m, grown))
         ]
 
-    pub met_shrunk : {u : Window} {count' : ℕ} → f.last.used ≡ false → (s : IsShrunk want u (f.last ∷ i.met)) → (c r : RoomCost) → c.units ≡ u.units → c.ranges ≡ u.ranges → (r ≡ c) ⊎ (known ≡ Some r)
-        → IsAtMost r c → IfSome known (λ k. IsAtMost r k) → count' ≡ count + 3 + 3 * length s.gone → IsMet want bs f.front u (Some r) start count'
-    met_shrunk {u} free s c r p q one most less e = record {
+    pub met_shrunk : {u : Window} {count' : ℕ} → f.last.used ≡ false → (s : IsShrunk want u (f.last ∷ i.met)) → (c r : Run) → IsFound f.last.name u c → (r ≡ c) ⊎ (known ≡ Some r)
+        → IsAtMost r.cost c.cost → IfSome known (λ k. IsAtMost r.cost k.cost) → count' ≡ count + 3 + 3 * length s.gone → IsMet want bs f.front u (Some r) start count'
+    met_shrunk {u} free s c r found one most less e = record {
       met = s.left;
       gone = s.gone ++ i.gone;
       is = met_is ∙ ap (λ l. f.front ++ l) whole;
       window = s.window;
       needed = inr s.serves;
-      cost = subst (λ l. IsLeastCost want l (Some r)) whole
-          (met_run want f.last (i.met ++ i.gone) u s.left (s.gone ++ i.gone) free whole s.window s.serves s.tight known c r p q one most less i.cost);
+      cost = subst (λ l. IsCheapest want l (Some r)) whole
+          (met_run want f.last (i.met ++ i.gone) u s.left (s.gone ++ i.gone) free whole s.window s.serves s.tight known c r found one most less i.cost);
       counted = omega (arith, i.counted, e, length-append s.gone i.gone, length-append s.left s.gone, ap (λ (l : List Block). length l) s.is);
     }
       where
@@ -432,3 +476,7 @@ run_some run bs r e = go r.front (sym (ap free_sizes r.is) ∙ e)
 -- it has no more free units than all blocks
 pub run_within : (run bs : List Block) → IsRun run bs → sum (free_sizes run) ≤ sum (free_sizes bs)
 run_within run bs r = omega (arith, ap (λ (l : List Block). sum (free_sizes l)) r.is, free_sum-append r.front (run ++ r.back), free_sum-append run r.back)
+
+-- the cost of the cheapest run
+pub cheapest_cost : (want : ℕ) (bs : List Block) (r : Run) → IsCheapest want bs (Some r) → IsLeastCost want bs (Some r.cost)
+cheapest_cost want bs r h = ((h.0.0, h.0.1, h.0.2, h.0.3), h.1)

@@ -2,7 +2,9 @@
 use Rattle.std.specs.Prelude.{◌≡◌, ℕ, ◌+◌, ◌<◌, ◌≤◌, ◌⊎◌, true, false, if◌then◌else◌, List, [], ◌∷◌, ◌++◌}
 use Rattle.std.specs.Prelude.{Option, Some, None, sum}
 use Rattle.offset_allocator.specs.declared.room.RoomCost.{RoomCost}
+use Rattle.offset_allocator.specs.declared.room.Run.{Run}
 use Rattle.offset_allocator.specs.declared.room.Window.{Window}
+use Rattle.offset_allocator.specs.Chain.{first_or, last_or}
 use Rattle.offset_allocator.specs.View.{Block, ends_used, free_sizes, starts_free, used_of, used_units}
 
 -- neighbouring blocks, of which the first and the last are free
@@ -28,6 +30,15 @@ IsLeastCost want bs None = (run : List Block) → IsRun run bs → sum (free_siz
 IsLeastCost want bs (Some c) =
     ((run : List Block) × IsRun run bs × (want ≤ sum (free_sizes run)) × (c ≡ cost_of run))
     × ((run : List Block) → IsRun run bs → want ≤ sum (free_sizes run) → IsAtMost c (cost_of run))
+
+-- the cheapest run with at least so many free units: the names of its first and last block, and its cost; or nothing,
+-- where no run has so many
+abbrev pub IsCheapest : ℕ → List Block → Option Run → Type 0
+IsCheapest want bs None = (run : List Block) → IsRun run bs → sum (free_sizes run) < want
+IsCheapest want bs (Some r) =
+    ((run : List Block) × IsRun run bs × (want ≤ sum (free_sizes run)) × (r.cost ≡ cost_of run)
+    × (first_or None run ≡ Some r.first) × (last_or None run ≡ Some r.end))
+    × ((run : List Block) → IsRun run bs → want ≤ sum (free_sizes run) → IsAtMost r.cost (cost_of run))
 
 -- the last block of a window
 abbrev pub end_of : Window → Block

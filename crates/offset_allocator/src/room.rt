@@ -4,7 +4,7 @@ ghost use Rattle.std.specs.Prelude.{◌≡◌, ◌≤◌, ◌<◌, ◌+◌, ◌*
 ghost use Rattle.offset_allocator.specs.Accesses.{Costs};
 ghost use Rattle.offset_allocator.specs.Chain.{IsSpace, blocks};
 ghost use Rattle.offset_allocator.specs.Classes.{value, up};
-ghost use Rattle.offset_allocator.specs.Room.{IsAtMost, IsLeastCost, IsShrunk, IsWindow, end_of, end_room};
+ghost use Rattle.offset_allocator.specs.Room.{IsAtMost, IsCheapest, IsLeastCost, IsShrunk, IsWindow, end_of, end_room};
 ghost use Rattle.offset_allocator.specs.View.{Block, units};
 
 use crate::accesses::Accesses;
@@ -98,6 +98,14 @@ impl Window {
     }
 }
 
+// A run of blocks, from a free one to a free one: the names of both, and what it costs to slide it together.
+#[derive(Clone, Copy)]
+struct Run {
+    first: u32,
+    end: u32,
+    cost: RoomCost,
+}
+
 // Gives up the last blocks of a window, as long as what is left has enough free units.
 fn shrink<T: Tables>(tables: &T, want: u32, mut window: Window, count: &mut Accesses) -> Window
     requires place { (last spare : ℕ) × (front bs back : List Block) × IsSpace (T.cells tables.now).chain last spare
@@ -120,17 +128,18 @@ fn shrink<T: Tables>(tables: &T, want: u32, mut window: Window, count: &mut Acce
     window
 }
 
-// The smaller of two costs, or the only one.
-fn least(known: Option<RoomCost>, cost: RoomCost) -> RoomCost
-    ensures one { (result ≡ cost) ⊎ (known ≡ Some result) }
-    ensures cost { IsAtMost result cost }
-    ensures known { IfSome known (λ c. IsAtMost result c) }
+// The cheaper of two runs, or the only one.
+fn cheaper(known: Option<Run>, run: Run) -> Run
+    ensures one { (result ≡ run) ⊎ (known ≡ Some result) }
+    ensures cost { IsAtMost result.cost run.cost }
+    ensures known { IfSome known (λ k. IsAtMost result.cost k.cost) }
 {
     match known {
-        None => cost,
+        None => run,
         Some(known) => {
-            if cost.units < known.units || cost.units == known.units && cost.ranges < known.ranges {
-                cost
+            let (least, cost) = (known.cost, run.cost);
+            if cost.units < least.units || cost.units == least.units && cost.ranges < least.ranges {
+                run
             } else {
                 known
             }
@@ -138,13 +147,13 @@ fn least(known: Option<RoomCost>, cost: RoomCost) -> RoomCost
     }
 }
 
-// The least cost of a run with at least `want` free units. The walk goes back over the blocks from the last one on; the
-// window has those that were met, without the last ones, which are no longer needed: from each free block on, the
-// shortest run with enough free units is the cheapest, and ends no later than that of the free block after.
-fn least_cost<T: Tables>(tables: &T, last: u32, want: u32, count: &mut Accesses) -> Option<RoomCost>
+// The cheapest run with at least `want` free units. The walk goes back over the blocks from the last one on; the window
+// has those that were met, without the last ones, which are no longer needed: from each free block on, the shortest run
+// with enough free units is the cheapest, and ends no later than that of the free block after.
+fn cheapest<T: Tables>(tables: &T, last: u32, want: u32, count: &mut Accesses) -> Option<Run>
     requires space { (spare : ℕ) × IsSpace (T.cells tables.now).chain last spare }
     requires some { 1 ≤ want }
-    ensures cost { IsLeastCost want (blocks (T.cells tables.now).chain last) result }
+    ensures run { IsCheapest want (blocks (T.cells tables.now).chain last) result }
     ensures accesses { Costs (3 * length (blocks (T.cells tables.now).chain last))
         (6 * length (blocks (T.cells tables.now).chain last)) count.old count.new }
 {
@@ -152,11 +161,15 @@ fn least_cost<T: Tables>(tables: &T, last: u32, want: u32, count: &mut Accesses)
     let size = tables.size(last, count);
     let used = chain::is_used(tables, last, count);
     let mut window = Window::alone(last, size, used);
-    let mut cost = None;
+    let mut run = None;
     if window.room >= want {
-        cost = Some(RoomCost {
-            units: 0,
-            ranges: 0,
+        run = Some(Run {
+            first: last,
+            end: last,
+            cost: RoomCost {
+                units: 0,
+                ranges: 0,
+            },
         });
     }
     let mut at = chain::before(tables, last, count);
@@ -166,15 +179,19 @@ fn least_cost<T: Tables>(tables: &T, last: u32, want: u32, count: &mut Accesses)
         window = window.and_before(size, used);
         if !used && window.room >= want {
             window = shrink(tables, want, window, count);
-            let found = RoomCost {
-                units: window.units,
-                ranges: window.ranges,
+            let found = Run {
+                first: name,
+                end: window.end,
+                cost: RoomCost {
+                    units: window.units,
+                    ranges: window.ranges,
+                },
             };
-            cost = Some(least(cost, found));
+            run = Some(cheaper(run, found));
         }
         at = chain::before(tables, name, count);
     }
-    cost
+    run
 }
 
 /// As `Allocator::room_cost`. The count grows by at most 6 for each block, and 2.
@@ -199,7 +216,8 @@ pub fn room_cost_counted<T: Tables>(
     if size == 0 || uint_to_float_round_down(allocator.free_total) < class {
         return None;
     }
-    least_cost(tables, allocator.store.last, float_to_uint(class), count)
+    let run = cheapest(tables, allocator.store.last, float_to_uint(class), count)?;
+    Some(run.cost)
 }
 
 impl<T: Tables> AllocatorOf<T> {

@@ -1,8 +1,8 @@
-use Rattle.offset_allocator.proofs.Common.{◌≡◌, ◌^◌, ◌∙◌, ◌<◌, ℕ, List, [], Option, Some, None, true, true≢false, is_some, refl, sym}
+use Rattle.offset_allocator.proofs.Common.{◌≡◌, ◌^◌, ◌%◌, ◌≤◌, ◌∙◌, ◌<◌, ℕ, List, [], Option, Some, None, true, true≢false, is_some, refl, sym}
 use Rattle.offset_allocator.proofs.Common.{ap, subst, arith, inl, inr, cases_lt, get_or_past, sum, View, IsWellFormed, free_sizes, value, up, down, bin_at}
 use Rattle.offset_allocator.proofs.Classes.{down_law, below_value_up, value_grows, value_down}
 use Rattle.offset_allocator.proofs.{Advice.none_free, Advice.free_within, Sound.Fields, Sound.fields_of, Taken.HasFit, Taken.fitting, Refusals.total_is}
-use Rattle.offset_allocator.proofs.Runs.{single_run, run_some, run_within}
+use Rattle.offset_allocator.proofs.Runs.{cheapest_cost, single_run, run_some, run_within}
 use Rattle.offset_allocator.specs.Bins.{IsFoundFrom}
 use Rattle.offset_allocator.specs.Room.{IsLeastCost}
 use Rattle.offset_allocator.proofs.room.room_cost_counted.Goals.{then-size-eq0-via-then-size-eq0, then-size-eq0-via-else-size-eq0+then-uint_to_float_round_down-class}
@@ -31,6 +31,21 @@ none_fits v w n k ls None e o f s h = elim (cases_lt h.0 256) [
 -- the free units of a class that all free units together have not
 few_units : (n k d s : ℕ) → s < 2 ^ 32 → k ≡ up n → d ≡ down s → d < k → s < value (up n)
 few_units n k d s h e f l = elim (cases_lt s (value (up n))) [ inl m ↦ m | inr m ↦ absurd (let a = (down_law s (up n) h).1 m in omega (arith, a, e, f, l)) ]
+
+-- a class that all free units together have is one of a value that a word holds
+want_is : (n k d s w : ℕ) → s < 2 ^ 32 → k ≡ up n → d ≡ down s → k ≤ d → w ≡ value k % 2 ^ 32 → w ≡ value (up n)
+want_is n k d s w h e f l q = let a = (down_law s k h).0 (omega (arith, f, l)) in omega (arith, q, a, h, ap value e)
+
+pub returns-clause-cost : goal.returns-clause-cost
+returns-clause-cost g c =
+    let v : View = c.args.allocator.now in
+    let f : Fields = fields_of g.T.Tables.cells g.T.Index.NodeIndex.MAX c.allocator.inside in
+    let free = total_is f c.allocator.invariant 0 0 ∙ ap (λ (v : View). sum (free_sizes v.blocks)) c.allocator.view_is in
+    let want = want_is c.args.size c.uint_to_float_round_up-class.result c.uint_to_float_round_down.result c.allocator.inside.free_total c.float_to_uint.result
+    (omega (arith, free, free_within v c.formed.ensures, c.formed.ensures.fits)) c.uint_to_float_round_up-class.ensures.is c.uint_to_float_round_down.ensures.is
+    c.if-uint_to_float_round_down-class.false c.float_to_uint.ensures.is in
+    let P : View → Type 0 = λ u. IsLeastCost c.float_to_uint.result u.blocks (Some c.in_ok-run.run'.cost) in
+    subst (λ n. IsLeastCost n v.blocks (Some c.in_ok-run.run'.cost)) want (subst P c.allocator.view_is (cheapest_cost _ _ c.in_ok-run.run' c.in_ok-run.ensures.run))
 
 pub returns-then-is_some-clause-cost : goal.returns-then-is_some-clause-cost
 returns-then-is_some-clause-cost g c =

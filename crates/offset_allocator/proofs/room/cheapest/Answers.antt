@@ -1,10 +1,10 @@
 use Rattle.offset_allocator.proofs.Common.{◌≡◌, ◌≤◌, ◌∙◌, ◌++◌, ◌∷◌, List, [], refl, sym, ap, subst, arith, inl, inr, length, length-append, Block, Node}
 use Rattle.offset_allocator.proofs.{Ends.ended, Ends.last_none, Places.at_place, Places.end_place, Sliding.walked}
-use Rattle.offset_allocator.proofs.Runs.{alone_serves, alone_few, block_is, met_is, met_fits, met_kept, met_shrunk}
-use Rattle.offset_allocator.specs.Room.{IsLeastCost}
-use Rattle.offset_allocator.proofs.room.least_cost.Goals as goal
-use Rattle.offset_allocator.proofs.room.least_cost.Goals.{then-window-want, else-window-want, then-not-used+then-window-want-2}
-use Rattle.offset_allocator.proofs.room.least_cost.Goals.{else-not-used, else-not-used-via-then-not-used+else-window-want-2, else-not-used-via-else-not-used}
+use Rattle.offset_allocator.proofs.Runs.{alone_end, alone_is, alone_serves, alone_few, block_is, met_is, met_fits, met_kept, met_shrunk}
+use Rattle.offset_allocator.specs.Room.{IsCheapest}
+use Rattle.offset_allocator.proofs.room.cheapest.Goals as goal
+use Rattle.offset_allocator.proofs.room.cheapest.Goals.{then-window-want, else-window-want, then-not-used+then-window-want-2}
+use Rattle.offset_allocator.proofs.room.cheapest.Goals.{else-not-used, else-not-used-via-then-not-used+else-window-want-2, else-not-used-via-else-not-used}
 
 pub size-size-requires : goal.size-size-requires
 size-size-requires g c = (end_place c.requires.space.1).below
@@ -32,8 +32,8 @@ loop-at-init g c =
         window = w;
         needed = inl refl;
         cost = elim c.if-window-want.branch [
-          | then-window-want t ↦ rw t.cost-is (alone_serves c.args.want c.requires.some c.alone-window.result f.last w (omega (arith, t.if-window-want)))
-          | else-window-want t ↦ rw t.cost-is (alone_few c.args.want c.requires.some c.alone-window.result f.last w (omega (arith, t.if-window-want)))
+          | then-window-want t ↦ rw t.run-is (alone_serves c.args.want c.requires.some c.alone-window.result f.last w _ (alone_is f.last c.args.last c.alone-window.result f.name (alone_end w)) (omega (arith, t.if-window-want)))
+          | else-window-want t ↦ rw t.run-is (alone_few c.args.want c.requires.some c.alone-window.result f.last w (omega (arith, t.if-window-want)))
         ];
         counted = omega (arith, c.size-size.ensures.accesses, c.is_used-used.ensures.accesses, c.before-at.ensures.accesses);
       };
@@ -99,15 +99,15 @@ loop-at-preserved g c =
       met = elim c.if-not-used.branch [
         | then-not-used+then-window-want-2 t ↦
             let r = t.shrink-window.ensures.shrunk c.args.last c.requires.space.0 f.front (f.last ∷ i.met.met) i.met.gone s (met_is i.met f) w in
-            rw (t.window-is, t.cost-is) (met_shrunk i.met f c.and_before-window.result w (used
-            ∙ t.if-not-used.true) r.0 _ t.least.result refl refl t.least.ensures.one t.least.ensures.cost t.least.ensures.known
+            rw (t.window-is, t.run-is) (met_shrunk i.met f c.and_before-window.result w (used
+            ∙ t.if-not-used.true) r.0 _ t.cheaper.result (record { first = sym f.name; end = refl; units = refl; ranges = refl }) t.cheaper.ensures.one t.cheaper.ensures.cost t.cheaper.ensures.known
             (omega (arith, c.size-size-in-Some.ensures.accesses, c.is_used-used-in-Some.ensures.accesses, c.before-at-in-Some.ensures.accesses, t.count-is, r.1)))
         | else-not-used t ↦ elim t.else-not-used.branch [
           | else-not-used-via-then-not-used+else-window-want-2 k ↦
-              rw (t.window-is, t.cost-is) (met_kept i.met f c.and_before-window.result w (inr (omega (arith, k.if-window-want-2)))
+              rw (t.window-is, t.run-is) (met_kept i.met f c.and_before-window.result w (inr (omega (arith, k.if-window-want-2)))
               (omega (arith, c.size-size-in-Some.ensures.accesses, c.is_used-used-in-Some.ensures.accesses, c.before-at-in-Some.ensures.accesses, t.count-is)))
           | else-not-used-via-else-not-used k ↦
-              rw (t.window-is, t.cost-is) (met_kept i.met f c.and_before-window.result w (inl (used ∙ k.if-not-used.false))
+              rw (t.window-is, t.run-is) (met_kept i.met f c.and_before-window.result w (inl (used ∙ k.if-not-used.false))
               (omega (arith, c.size-size-in-Some.ensures.accesses, c.is_used-used-in-Some.ensures.accesses, c.before-at-in-Some.ensures.accesses, t.count-is)))
         ]
       ];
@@ -139,11 +139,11 @@ loop-at-smaller g c =
       c.before-at-in-Some.ensures.accesses,
     )
 
-pub returns-clause-cost : goal.returns-clause-cost
-returns-clause-cost g c =
+pub returns-clause-run : goal.returns-clause-run
+returns-clause-run g c =
     let i = c.loop-at.invariant in
     let none = last_none i.front (i.ends ∙ c.in_default.is) in
-    subst (λ l. IsLeastCost c.args.want l c.loop-at.cost) (sym (i.met.is ∙ ap (λ (l : List Block). l ++ (i.met.met ++ i.met.gone)) none)) i.met.cost
+    subst (λ l. IsCheapest c.args.want l c.loop-at.run) (sym (i.met.is ∙ ap (λ (l : List Block). l ++ (i.met.met ++ i.met.gone)) none)) i.met.cost
 
 pub returns-clause-accesses : goal.returns-clause-accesses
 returns-clause-accesses g c =

@@ -1,13 +1,13 @@
 use Rattle.offset_allocator.proofs.Common.{◌≡◌, ◌+◌, ◌-◌, ◌*◌, List, length, None, Block, blocks, last_or}
 use Rattle.offset_allocator.proofs.Runs.{IsMet}
-use Rattle.offset_allocator.proofs.room.least_cost.Given as goal
+use Rattle.offset_allocator.proofs.room.cheapest.Given as goal
 
 -- the blocks in front are left
 abbrev pub invariant-loop-at : goal.invariant-loop-at
 invariant-loop-at g l = record {
   front : List Block;
   ends : last_or None front ≡ l.at;
-  met : IsMet l.want (blocks (g.T.Tables.cells l.tables).chain l.last) front l.window l.cost l.fn.count l.count;
+  met : IsMet l.want (blocks (g.T.Tables.cells l.tables).chain l.last) front l.window l.run l.fn.count l.count;
 }
 
 abbrev pub decreases-loop-at : goal.decreases-loop-at
