@@ -30,7 +30,7 @@ live_whole : (bs : List Block) → AreUsed bs → live bs ≡ bs
 live_whole [] h = refl
 live_whole (b ∷ bs) h = live_used b bs h.0 ∙ ap (λ l. b ∷ l) (live_whole bs h.1)
 
-live_append : (bs cs : List Block) → live (bs ++ cs) ≡ live bs ++ live cs
+pub live_append : (bs cs : List Block) → live (bs ++ cs) ≡ live bs ++ live cs
 live_append [] cs = grind arith
 live_append (b ∷ bs) cs = grind (arith, live_append bs cs)
 
@@ -43,7 +43,7 @@ no_free_units [] h = refl
 no_free_units (b ∷ bs) h = free_units-used b bs h.0 ∙ no_free_units bs h.1
 
 -- of all blocks, the live ones have the units that are not free, and are fewer where one is free
-live_units : (bs : List Block) → units bs ≡ units (live bs) + free_units bs
+pub live_units : (bs : List Block) → units bs ≡ units (live bs) + free_units bs
 live_units [] = grind arith
 live_units (b ∷ bs) = grind (arith, live_units bs)
 

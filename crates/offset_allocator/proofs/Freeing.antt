@@ -11,7 +11,7 @@ use Rattle.offset_allocator.proofs.Tallies.{free_units, free_sum}
 share_used : (k y : ℕ) (b : Block) → b.used ≡ true → share k y b ≡ 0
 share_used k y b e = ap (λ (u : Bool). one (not u && (nat_eq k (down b.size) && nat_eq y b.name))) e
 
-remove_all-append : (ys zs : List Block) (o : List (List ℕ)) → remove_all (ys ++ zs) o ≡ remove_all zs (remove_all ys o)
+pub remove_all-append : (ys zs : List Block) (o : List (List ℕ)) → remove_all (ys ++ zs) o ≡ remove_all zs (remove_all ys o)
 remove_all-append [] zs o = refl
 remove_all-append (a ∷ ys) zs o = remove_all-append ys zs (if a.used then o else remove (down a.size) a.name o)
 

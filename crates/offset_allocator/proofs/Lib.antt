@@ -23,6 +23,7 @@ pub mod Find
 pub mod Freed
 pub mod Freeing
 pub mod Fresh
+pub mod Stretches
 pub mod Granting
 pub mod Joints
 pub mod Largest

@@ -76,7 +76,7 @@ last_room-le [] = omega arith
 last_room-le (b ∷ []) = omega arith
 last_room-le (b ∷ c ∷ bs) = let ih = last_room-le (c ∷ bs) in omega (arith, ih)
 
-ends_used-end : (fs : List Block) (b : Block) → ends_used (fs ++ b ∷ []) ≡ b.used
+pub ends_used-end : (fs : List Block) (b : Block) → ends_used (fs ++ b ∷ []) ≡ b.used
 ends_used-end [] b = refl
 ends_used-end (f ∷ []) b = refl
 ends_used-end (f ∷ g ∷ fs) b = ends_used-end (g ∷ fs) b

@@ -85,7 +85,7 @@ moves_used i j b bs e = ap (λ (u : Bool). if u then move_of i j b ++ moves (i +
 pub moves_idle : (i j : ℕ) (b : Block) (bs : List Block) → b.used ≡ false → moves i j (b ∷ bs) ≡ moves (i + b.size) j bs
 moves_idle i j b bs e = ap (λ (u : Bool). if u then move_of i j b ++ moves (i + b.size) (j + b.size) bs else moves (i + b.size) j bs) e
 
-folds_append : {P A : Type 0} (R : P → A → P → Type 0) (xs ys : List A) (p q r : P) → FoldsTo R p xs q → FoldsTo R q ys r → FoldsTo R p (xs ++ ys) r
+pub folds_append : {P A : Type 0} (R : P → A → P → Type 0) (xs ys : List A) (p q r : P) → FoldsTo R p xs q → FoldsTo R q ys r → FoldsTo R p (xs ++ ys) r
 folds_append R [] ys p q r e f = subst (λ s. FoldsTo R s ys r) (sym e) f
 folds_append R (x ∷ xs) ys p q r e f = (e.0, e.1, folds_append R xs ys e.0 q r e.2 f)
 

@@ -5,7 +5,7 @@ use Rattle.offset_allocator.specs.declared.room.RoomCost.{RoomCost}
 use Rattle.offset_allocator.specs.declared.room.Run.{Run}
 use Rattle.offset_allocator.specs.declared.room.Window.{Window}
 use Rattle.offset_allocator.specs.Chain.{first_or, last_or}
-use Rattle.offset_allocator.specs.View.{Block, ends_used, free_sizes, starts_free, used_of, used_units}
+use Rattle.offset_allocator.specs.View.{Block, Place, ends_used, free_sizes, starts_free, used_of, used_units}
 
 -- neighbouring blocks, of which the first and the last are free
 pub record IsRun (run bs : List Block) : Type 0 where
@@ -39,6 +39,13 @@ IsCheapest want bs (Some r) =
     ((run : List Block) × IsRun run bs × (want ≤ sum (free_sizes run)) × (r.cost ≡ cost_of run)
     × (first_or None run ≡ Some r.first) × (last_or None run ≡ Some r.end))
     × ((run : List Block) → IsRun run bs → want ≤ sum (free_sizes run) → IsAtMost r.cost (cost_of run))
+
+-- after the free block of a place come these blocks, the last of which is free and has this name, and then others
+pub record IsStretch (p : Place) (run back : List Block) (end : ℕ) : Type 0 where
+  pub idle : p.block.used ≡ false
+  pub is : p.after ≡ run ++ back
+  pub ends : last_or None run ≡ Some end
+  pub free : ends_used run ≡ false
 
 -- the last block of a window
 abbrev pub end_of : Window → Block

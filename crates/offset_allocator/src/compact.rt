@@ -108,14 +108,20 @@ fn first_free<T: Tables>(tables: &T, last: u32, start: u32, count: &mut Accesses
 
 // The free block that takes up the free units, while the used blocks after it pass it.
 #[derive(Clone, Copy)]
-struct Hole {
-    name: u32,
-    size: u32,
+pub(crate) struct Hole {
+    pub(crate) name: u32,
+    pub(crate) size: u32,
 }
 
 // Exchanges a free block, which begins at `offset`, with the used block `next` of `more` units directly after it. The
 // name that the free block has then is returned.
-fn pass<T: Tables>(store: &mut Store<T>, hole: Hole, offset: u32, next: u32, more: u32) -> u32
+pub(crate) fn pass<T: Tables>(
+    store: &mut Store<T>,
+    hole: Hole,
+    offset: u32,
+    next: u32,
+    more: u32,
+) -> u32
     requires place { (m : ℕ) × (p : Place) × IsPlaceIn T.cells store.old m hole.name p × (p.block.used ≡ false) }
     requires offset { offset ≡ (node (T.cells store.old.tables).chain hole.name).offset }
     requires size { hole.size ≡ (node (T.cells store.old.tables).chain hole.name).size }
@@ -137,7 +143,7 @@ fn pass<T: Tables>(store: &mut Store<T>, hole: Hole, offset: u32, next: u32, mor
 }
 
 // Calls the closure with the move of a block, where it gets another offset.
-fn report<NI: NodeIndex, F: FnMut(Move<NI>)>(
+pub(crate) fn report<NI: NodeIndex, F: FnMut(Move<NI>)>(
     moved: &mut F,
     name: u32,
     from: u32,
