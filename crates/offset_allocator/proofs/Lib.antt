@@ -51,6 +51,7 @@ pub mod Resizing
 pub mod Restored
 pub mod Retracted
 pub mod Rows
+pub mod Rooms
 pub mod Runs
 pub mod Served
 pub mod Sound

@@ -1,4 +1,8 @@
 -- Runs of blocks, as a walk back from the last block meets them.
+use Rattle.offset_allocator.proofs.Common.{◌^◌, ◌%◌, is_some, get_or_past, View, IsWellFormed, value, up, down, bin_at}
+use Rattle.offset_allocator.proofs.Classes.{down_law, value_grows, value_down}
+use Rattle.offset_allocator.proofs.{Taken.HasFit, Taken.fitting}
+use Rattle.offset_allocator.specs.Bins.{IsFoundFrom}
 use Rattle.offset_allocator.proofs.Common.{◌≡◌, ℕ, ◌+◌, ◌-◌, ◌*◌, ◌<◌, ◌≤◌, ◌⊎◌, Bool, true, false, not, Option, None}
 use Rattle.offset_allocator.proofs.Common.{Some, IfSome, List, [], ◌∷◌, ◌++◌, length, sum, if◌then◌else◌, refl, sym, ap, subst, ◌∙◌}
 use Rattle.offset_allocator.proofs.Common.{inl, inr, arith, append_assoc, append-nil, length-append, cases_lt, true≢false, not-true, Block, free_sizes, units}
@@ -480,3 +484,28 @@ run_within run bs r = omega (arith, ap (λ (l : List Block). sum (free_sizes l))
 -- the cost of the cheapest run
 pub cheapest_cost : (want : ℕ) (bs : List Block) (r : Run) → IsCheapest want bs (Some r) → IsLeastCost want bs (Some r.cost)
 cheapest_cost want bs r h = ((h.0.0, h.0.1, h.0.2, h.0.3), h.1)
+
+-- a bin that is found has a block that serves
+pub one_serves : (v : View) → IsWellFormed v → (n k : ℕ) (ls : List (List ℕ)) (r : Option ℕ) → k ≡ up n → ls ≡ v.order → IsFoundFrom k ls r → is_some r ≡ true
+    → IsLeastCost (value (up n)) v.blocks (Some (record { units = 0; ranges = 0 }))
+one_serves v w n k ls None e o f s = absurd (cc)
+one_serves v w n k ls (Some c) e o f s =
+    let h : HasFit n v = (c, omega (arith, e, f.0), λ q. f.2 (ap (λ (l : List (List ℕ)). bin_at l c) o ∙ q)) in
+    let p = fitting n v w h in
+    single_run (value (up n)) v.blocks p.0.before p.0.after p.0.block p.1 p.2 (omega (arith, value_grows (up n) (down p.0.block.size) p.3, value_down p.0.block.size))
+
+-- where none is found, no free block is of such a class
+pub none_fits : (v : View) → IsWellFormed v → (n k : ℕ) (ls : List (List ℕ)) (r : Option ℕ) → k ≡ up n → ls ≡ v.order → IsFoundFrom k ls r → (is_some r ≡ true → ⊥) → HasFit n v → ⊥
+none_fits v w n k ls (Some c) e o f s h = s refl
+none_fits v w n k ls None e o f s h = elim (cases_lt h.0 256) [
+  | inl l ↦ h.2 (sym (ap (λ (m : List (List ℕ)). bin_at m h.0) o) ∙ f h.0 (omega (arith, e, h.1)) l)
+  | inr l ↦ h.2 (get_or_past v.order h.0 [] (omega (arith, l, w.classes)))
+]
+
+-- the free units of a class that all free units together have not
+pub few_units : (n k d s : ℕ) → s < 2 ^ 32 → k ≡ up n → d ≡ down s → d < k → s < value (up n)
+few_units n k d s h e f l = elim (cases_lt s (value (up n))) [ inl m ↦ m | inr m ↦ absurd (let a = (down_law s (up n) h).1 m in omega (arith, a, e, f, l)) ]
+
+-- a class that all free units together have is one of a value that a word holds
+pub want_is : (n k d s w : ℕ) → s < 2 ^ 32 → k ≡ up n → d ≡ down s → k ≤ d → w ≡ value k % 2 ^ 32 → w ≡ value (up n)
+want_is n k d s w h e f l q = let a = (down_law s k h).0 (omega (arith, f, l)) in omega (arith, q, a, h, ap value e)

@@ -5,7 +5,11 @@ use Rattle.offset_allocator.specs.declared.room.RoomCost.{RoomCost}
 use Rattle.offset_allocator.specs.declared.room.Run.{Run}
 use Rattle.offset_allocator.specs.declared.room.Window.{Window}
 use Rattle.offset_allocator.specs.Chain.{first_or, last_or}
-use Rattle.offset_allocator.specs.View.{Block, Place, ends_used, free_sizes, starts_free, used_of, used_units}
+use Rattle.offset_allocator.specs.View.{View, Block, Place, count_named, ends_used, free_block, free_sizes, replace, starts_free, units}
+use Rattle.offset_allocator.specs.View.{used_of, used_units}
+use Rattle.offset_allocator.specs.Compacting.{Move, live, moves}
+use Rattle.offset_allocator.specs.Relations.{SameSpace}
+use Rattle.std.specs.List.{FoldsTo}
 
 -- neighbouring blocks, of which the first and the last are free
 pub record IsRun (run bs : List Block) : Type 0 where
@@ -30,6 +34,30 @@ IsLeastCost want bs None = (run : List Block) → IsRun run bs → sum (free_siz
 IsLeastCost want bs (Some c) =
     ((run : List Block) × IsRun run bs × (want ≤ sum (free_sizes run)) × (c ≡ cost_of run))
     × ((run : List Block) → IsRun run bs → want ≤ sum (free_sizes run) → IsAtMost c (cost_of run))
+
+-- a run with at least so many free units slides to its front: its live blocks keep their order, and its free units are
+-- one block after them, the newest of its bin; all else stays
+pub record SlidesRun (want : ℕ) (v w : View) : Type 0 where
+  pub front : List Block
+  pub run : List Block
+  pub back : List Block
+  pub is : v.blocks ≡ front ++ (run ++ back)
+  pub begins : starts_free run ≡ true
+  pub ends : ends_used run ≡ false
+  pub serves : want ≤ sum (free_sizes run)
+  pub name : ℕ
+  pub below : name < v.max_allocs
+  pub absent : count_named name (front ++ (live run ++ back)) ≡ 0
+  pub view : SameSpace (replace v front run (live run ++ free_block name (sum (free_sizes run)) ∷ []) back) w
+
+-- room is made at a cost: where that has ranges, a run of this cost slides, and a closure is called with the moves of its
+-- live blocks; else nothing changes
+abbrev pub MakesRoom : {F : Type 0} → (F → Move → F → Type 0) → ℕ → View → F → Option RoomCost → View → F → Type 0
+MakesRoom R want v f None w g = SameSpace v w × (g ≡ f)
+MakesRoom R want v f (Some c) w g =
+    (c.ranges ≡ 0 → SameSpace v w × (g ≡ f))
+    × (1 ≤ c.ranges → (s : SlidesRun want v w) × (c ≡ cost_of s.run)
+    × FoldsTo R f (moves (units s.front) (units s.front) s.run) g)
 
 -- the cheapest run with at least so many free units: the names of its first and last block, and its cost; or nothing,
 -- where no run has so many

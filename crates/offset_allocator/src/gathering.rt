@@ -5,14 +5,18 @@ ghost use Rattle.std.specs.List.{FoldsTo};
 ghost use Rattle.offset_allocator.specs.Cells.{node};
 ghost use Rattle.offset_allocator.specs.View.{Block, Place, free_block, free_sizes, remove_all, units};
 ghost use Rattle.offset_allocator.specs.Compacting.{IsCalledWith, live, moves};
-ghost use Rattle.offset_allocator.specs.Room.{IsStretch};
+ghost use Rattle.offset_allocator.specs.Classes.{up, value};
+ghost use Rattle.offset_allocator.specs.Room.{IsLeastCost, IsStretch, MakesRoom};
 ghost use Rattle.offset_allocator.specs.Soundness.{AreInBins};
 ghost use Rattle.offset_allocator.specs.Store.{AreBinned, IsPlaceIn, bins_of};
 
 use crate::compact::{Hole, Move, pass, report};
+use crate::index::{NodeIndex, NodeIndexNonMax};
+use crate::room::{RoomCost, cheapest};
+use crate::small_float::{float_to_uint, uint_to_float_round_down, uint_to_float_round_up};
 use crate::store::Store;
 use crate::tables::Tables;
-use crate::{bins, chain};
+use crate::{AllocatorOf, bins, chain};
 
 // Slides the used blocks after a free block to the front, and coalesces it with the free ones, which leave their bins,
 // until the free block `end` is coalesced.
@@ -62,4 +66,73 @@ fn slide_to<T: Tables, F: FnMut(Move<T::Index>)>(
     }
     // not reached: the block `end` comes before
     hole
+}
+
+impl<T: Tables> AllocatorOf<T> {
+    /// Makes room for a request of `size` units where ranges have to move for it, and then as few as possible: slides
+    /// the live ranges of a run of blocks to its front, so that its free units are one block after them, which is large
+    /// enough. The run is one that costs what `room_cost(size)` returns, which this returns too: ask that first where
+    /// a budget has to be kept. `moved` is called for each range that moves, in space order, as by `compact`: the units
+    /// from `from` on are to be copied to `to`.
+    ///
+    /// Every handle stays live, with its name and its size; only the public `offset` of a moved one is that of before.
+    /// Nothing changes, and `moved` is not called, where no range has to move: where `None` is returned, since all free
+    /// units together are not enough, and where the cost has no ranges, since one free block is large enough. Else the
+    /// request is granted afterwards, also at the node limit. For an aligned request ask with `size + align - 1`. Which
+    /// of several runs that cost as much it is, and the name of the free block, are left open. It makes at most 6
+    /// accesses to the tables for each block, 40 for each range of the cost, and 40, and takes no memory.
+    pub fn make_room<F: FnMut(Move<T::Index>)>(
+        &mut self,
+        size: u32,
+        moved: &mut F,
+    ) -> Option<RoomCost>
+        requires callable { F.IsAlwaysCallable moved.old }
+        // It returns what `room_cost` would have returned before.
+        ensures cost { IsLeastCost (value (up size)) self.old.blocks result }
+        // The step as a whole, with the moves: a run of this cost slides; or nothing changes.
+        ensures step { MakesRoom (IsCalledWith T.Index.NonMax.number (λ f range g. F.step f range tt g)) (value (up size))
+            self.old moved.old result self.new moved.new }
+    {
+        self.formed();
+        let class = uint_to_float_round_up(size);
+        let found = bins::find_at_or_above(
+            &self.store.tables,
+            self.store.top_mask,
+            class,
+            &mut self.store.accesses,
+        );
+        if found.is_some() {
+            return Some(RoomCost {
+                units: 0,
+                ranges: 0,
+            });
+        }
+        // where no block is free, or the class of all free units in one block is too small
+        if size == 0 || uint_to_float_round_down(self.free_total) < class {
+            return None;
+        }
+        let run = cheapest(
+            &self.store.tables,
+            self.store.last,
+            float_to_uint(class),
+            &mut self.store.accesses,
+        )?;
+        if run.cost.ranges == 0 {
+            return Some(run.cost);
+        }
+        let first = self.store.tables.size(run.first, &mut self.store.accesses);
+        bins::remove(&mut self.store, run.first, first);
+        let hole = slide_to(
+            &mut self.store,
+            Hole {
+                name: run.first,
+                size: first,
+            },
+            run.end,
+            moved,
+        );
+        let class = uint_to_float_round_down(hole.size);
+        bins::push(&mut self.store, hole.name, class);
+        Some(run.cost)
+    }
 }

@@ -100,10 +100,10 @@ impl Window {
 
 // A run of blocks, from a free one to a free one: the names of both, and what it costs to slide it together.
 #[derive(Clone, Copy)]
-struct Run {
-    first: u32,
-    end: u32,
-    cost: RoomCost,
+pub(crate) struct Run {
+    pub(crate) first: u32,
+    pub(crate) end: u32,
+    pub(crate) cost: RoomCost,
 }
 
 // Gives up the last blocks of a window, as long as what is left has enough free units.
@@ -150,7 +150,12 @@ fn cheaper(known: Option<Run>, run: Run) -> Run
 // The cheapest run with at least `want` free units. The walk goes back over the blocks from the last one on; the window
 // has those that were met, without the last ones, which are no longer needed: from each free block on, the shortest run
 // with enough free units is the cheapest, and ends no later than that of the free block after.
-fn cheapest<T: Tables>(tables: &T, last: u32, want: u32, count: &mut Accesses) -> Option<Run>
+pub(crate) fn cheapest<T: Tables>(
+    tables: &T,
+    last: u32,
+    want: u32,
+    count: &mut Accesses,
+) -> Option<Run>
     requires space { (spare : ℕ) × IsSpace (T.cells tables.now).chain last spare }
     requires some { 1 ≤ want }
     ensures run { IsCheapest want (blocks (T.cells tables.now).chain last) result }

@@ -2,7 +2,7 @@ use Rattle.offset_allocator.proofs.Common.{◌≡◌, ◌^◌, ◌%◌, ◌≤�
 use Rattle.offset_allocator.proofs.Common.{ap, subst, arith, inl, inr, cases_lt, get_or_past, sum, View, IsWellFormed, free_sizes, value, up, down, bin_at}
 use Rattle.offset_allocator.proofs.Classes.{down_law, below_value_up, value_grows, value_down}
 use Rattle.offset_allocator.proofs.{Advice.none_free, Advice.free_within, Sound.Fields, Sound.fields_of, Taken.HasFit, Taken.fitting, Refusals.total_is}
-use Rattle.offset_allocator.proofs.Runs.{cheapest_cost, single_run, run_some, run_within}
+use Rattle.offset_allocator.proofs.Runs.{cheapest_cost, one_serves, none_fits, few_units, want_is, single_run, run_some, run_within}
 use Rattle.offset_allocator.specs.Bins.{IsFoundFrom}
 use Rattle.offset_allocator.specs.Room.{IsLeastCost}
 use Rattle.offset_allocator.proofs.room.room_cost_counted.Goals.{then-size-eq0-via-then-size-eq0, then-size-eq0-via-else-size-eq0+then-uint_to_float_round_down-class}
@@ -10,31 +10,6 @@ use Rattle.offset_allocator.proofs.room.room_cost_counted.Goals as goal
 
 pub find_at_or_above-requires-clause-classed : goal.find_at_or_above-requires-clause-classed
 find_at_or_above-requires-clause-classed g c = omega (arith, (below_value_up c.args.size (omega arith)).1, c.uint_to_float_round_up-class.ensures.is)
-
--- a bin that is found has a block that serves
-one_serves : (v : View) → IsWellFormed v → (n k : ℕ) (ls : List (List ℕ)) (r : Option ℕ) → k ≡ up n → ls ≡ v.order → IsFoundFrom k ls r → is_some r ≡ true
-    → IsLeastCost (value (up n)) v.blocks (Some (record { units = 0; ranges = 0 }))
-one_serves v w n k ls None e o f s = absurd (cc)
-one_serves v w n k ls (Some c) e o f s =
-    let h : HasFit n v = (c, omega (arith, e, f.0), λ q. f.2 (ap (λ (l : List (List ℕ)). bin_at l c) o ∙ q)) in
-    let p = fitting n v w h in
-    single_run (value (up n)) v.blocks p.0.before p.0.after p.0.block p.1 p.2 (omega (arith, value_grows (up n) (down p.0.block.size) p.3, value_down p.0.block.size))
-
--- where none is found, no free block is of such a class
-none_fits : (v : View) → IsWellFormed v → (n k : ℕ) (ls : List (List ℕ)) (r : Option ℕ) → k ≡ up n → ls ≡ v.order → IsFoundFrom k ls r → (is_some r ≡ true → ⊥) → HasFit n v → ⊥
-none_fits v w n k ls (Some c) e o f s h = s refl
-none_fits v w n k ls None e o f s h = elim (cases_lt h.0 256) [
-  | inl l ↦ h.2 (sym (ap (λ (m : List (List ℕ)). bin_at m h.0) o) ∙ f h.0 (omega (arith, e, h.1)) l)
-  | inr l ↦ h.2 (get_or_past v.order h.0 [] (omega (arith, l, w.classes)))
-]
-
--- the free units of a class that all free units together have not
-few_units : (n k d s : ℕ) → s < 2 ^ 32 → k ≡ up n → d ≡ down s → d < k → s < value (up n)
-few_units n k d s h e f l = elim (cases_lt s (value (up n))) [ inl m ↦ m | inr m ↦ absurd (let a = (down_law s (up n) h).1 m in omega (arith, a, e, f, l)) ]
-
--- a class that all free units together have is one of a value that a word holds
-want_is : (n k d s w : ℕ) → s < 2 ^ 32 → k ≡ up n → d ≡ down s → k ≤ d → w ≡ value k % 2 ^ 32 → w ≡ value (up n)
-want_is n k d s w h e f l q = let a = (down_law s k h).0 (omega (arith, f, l)) in omega (arith, q, a, h, ap value e)
 
 pub returns-clause-cost : goal.returns-clause-cost
 returns-clause-cost g c =

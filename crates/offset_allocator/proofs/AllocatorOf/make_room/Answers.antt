@@ -1,0 +1,141 @@
+use Rattle.offset_allocator.proofs.Common.{◌≡◌, ◌^◌, ◌∙◌, ◌<◌, ◌≤◌, ℕ, List, [], Option, Some, None, refl, sym, ap, subst, arith, sum, View, IsWellFormed, bins_in, blocks, free_sizes, value, up, down, bin_at, true≢false, Node, moves, units, IsCalledWith, FoldsTo}
+use Rattle.offset_allocator.proofs.Classes.{below_value_up, down_small}
+use Rattle.offset_allocator.proofs.{Advice.none_free, Advice.free_within, Sound.AreSound, Sound.Fields, Sound.shown, Sound.fields_of, Taken.HasFit, Refusals.total_is, Places.kept_place, Places.at_place, Filed.unlisted}
+use Rattle.offset_allocator.proofs.Runs.{cheapest_cost, run_some, run_within, one_serves, none_fits, few_units, want_is}
+use Rattle.offset_allocator.proofs.Rooms.{found_cost, found_run, first_at, first_stretch, first_listed, first_filed, slides}
+use Rattle.offset_allocator.specs.Room.{IsLeastCost, IsRun}
+use Rattle.offset_allocator.proofs.AllocatorOf.make_room.Goals.{then-size-eq0-via-then-size-eq0, then-size-eq0-via-else-size-eq0+then-uint_to_float_round_down-class}
+use Rattle.offset_allocator.proofs.AllocatorOf.make_room.Goals as goal
+
+pub find_at_or_above-found-requires-clause-classed : goal.find_at_or_above-found-requires-clause-classed
+find_at_or_above-found-requires-clause-classed g c = omega (arith, (below_value_up c.args.size (omega arith)).1, c.uint_to_float_round_up-class.ensures.is)
+
+pub float_to_uint-requires : goal.float_to_uint-requires
+float_to_uint-requires g c = omega (arith, (below_value_up c.args.size (omega arith)).1, c.uint_to_float_round_up-class.ensures.is)
+
+pub returns-then-is_some-clause-cost : goal.returns-then-is_some-clause-cost
+returns-then-is_some-clause-cost g c =
+    one_serves c.args.self.now c.formed.ensures c.args.size c.uint_to_float_round_up-class.result _ c.find_at_or_above-found.result c.uint_to_float_round_up-class.ensures.is
+    (ap (λ (u : View). u.order) c.self.view_is) c.find_at_or_above-found.ensures.smallest (sym c.is_some.ensures ∙ c.if-is_some.true)
+
+pub returns-then-size-eq0-clause-cost : goal.returns-then-size-eq0-clause-cost
+returns-then-size-eq0-clause-cost g c =
+    let v : View = c.args.self.now in
+    let f : Fields = (fields_of g.T.Tables.cells g.T.Index.NodeIndex.MAX c.self.inside) in
+    let free = total_is f c.self.invariant 0 0 ∙ ap (λ (v : View). sum (free_sizes v.blocks)) c.self.view_is in
+    let none = none_fits v c.formed.ensures c.args.size c.uint_to_float_round_up-class.result _ c.find_at_or_above-found.result c.uint_to_float_round_up-class.ensures.is
+    (ap (λ (u : View). u.order) c.self.view_is) c.find_at_or_above-found.ensures.smallest (λ e. true≢false (sym e ∙ sym c.is_some.ensures ∙ c.if-is_some.false)) in
+    λ run r. elim c.then-size-eq0.branch [
+      | then-size-eq0-via-then-size-eq0 w ↦ absurd (run_some run v.blocks r (none_free v c.formed.ensures (subst (λ n. HasFit n v → ⊥) w.if-size-eq0.true none)))
+      | then-size-eq0-via-else-size-eq0+then-uint_to_float_round_down-class w ↦
+          let s = few_units c.args.size c.uint_to_float_round_up-class.result w.uint_to_float_round_down.result c.self.inside.free_total
+          (omega (arith, free, free_within v c.formed.ensures, c.formed.ensures.fits)) c.uint_to_float_round_up-class.ensures.is w.uint_to_float_round_down.ensures.is
+          w.if-uint_to_float_round_down-class.true in
+          omega (arith, s, free, run_within run v.blocks r)
+    ]
+
+pub returns-then-run-eq0-clause-cost : goal.returns-then-run-eq0-clause-cost
+returns-then-run-eq0-clause-cost g c =
+    found_cost (fields_of g.T.Tables.cells g.T.Index.NodeIndex.MAX c.self.inside) c.self.invariant c.args.self.now c.self.view_is c.formed.ensures c.args.size c.uint_to_float_round_up-class.result c.uint_to_float_round_down.result
+    c.float_to_uint.result c.in_ok-run.run' c.uint_to_float_round_up-class.ensures.is c.uint_to_float_round_down.ensures.is c.if-uint_to_float_round_down-class.false c.float_to_uint.ensures.is c.in_ok-run.ensures.run
+
+pub returns-clause-cost : goal.returns-clause-cost
+returns-clause-cost g c =
+    found_cost (fields_of g.T.Tables.cells g.T.Index.NodeIndex.MAX c.self.inside) c.self.invariant c.args.self.now c.self.view_is c.formed.ensures c.args.size c.uint_to_float_round_up-class.result c.uint_to_float_round_down.result
+    c.float_to_uint.result c.in_ok-run.run' c.uint_to_float_round_up-class.ensures.is c.uint_to_float_round_down.ensures.is c.if-uint_to_float_round_down-class.false c.float_to_uint.ensures.is c.in_ok-run.ensures.run
+
+pub size-first-requires : goal.size-first-requires
+size-first-requires g c =
+    let f : Fields = (fields_of g.T.Tables.cells g.T.Index.NodeIndex.MAX c.self.inside) in
+    let o = found_run (fields_of g.T.Tables.cells g.T.Index.NodeIndex.MAX c.self.inside) c.self.invariant c.args.self.now c.self.view_is c.formed.ensures c.args.size c.uint_to_float_round_up-class.result c.uint_to_float_round_down.result
+    c.float_to_uint.result c.in_ok-run.run' c.uint_to_float_round_up-class.ensures.is c.uint_to_float_round_down.ensures.is c.if-uint_to_float_round_down-class.false c.float_to_uint.ensures.is c.in_ok-run.ensures.run c.if-run-eq0.false in
+    let want = value (up c.args.size) in
+    (first_at f c.self.invariant want c.in_ok-run.run' o).below
+
+pub remove-requires-clause-listed : goal.remove-requires-clause-listed
+remove-requires-clause-listed g c =
+    let f : Fields = (fields_of g.T.Tables.cells g.T.Index.NodeIndex.MAX c.self.inside) in
+    let o = found_run (fields_of g.T.Tables.cells g.T.Index.NodeIndex.MAX c.self.inside) c.self.invariant c.args.self.now c.self.view_is c.formed.ensures c.args.size c.uint_to_float_round_up-class.result c.uint_to_float_round_down.result
+    c.float_to_uint.result c.in_ok-run.run' c.uint_to_float_round_up-class.ensures.is c.uint_to_float_round_down.ensures.is c.if-uint_to_float_round_down-class.false c.float_to_uint.ensures.is c.in_ok-run.ensures.run c.if-run-eq0.false in
+    let want = value (up c.args.size) in
+    first_listed f c.self.invariant want c.in_ok-run.run' o c.size-first.result c.size-first.ensures.cell
+
+pub slide_to-hole-requires-clause-place : goal.slide_to-hole-requires-clause-place
+slide_to-hole-requires-clause-place g c =
+    let f : Fields = (fields_of g.T.Tables.cells g.T.Index.NodeIndex.MAX c.self.inside) in
+    let o = found_run (fields_of g.T.Tables.cells g.T.Index.NodeIndex.MAX c.self.inside) c.self.invariant c.args.self.now c.self.view_is c.formed.ensures c.args.size c.uint_to_float_round_up-class.result c.uint_to_float_round_down.result
+    c.float_to_uint.result c.in_ok-run.run' c.uint_to_float_round_up-class.ensures.is c.uint_to_float_round_down.ensures.is c.if-uint_to_float_round_down-class.false c.float_to_uint.ensures.is c.in_ok-run.ensures.run c.if-run-eq0.false in
+    let want = value (up c.args.size) in
+    let held = kept_place c.remove.ensures.chain (first_at f c.self.invariant want c.in_ok-run.run' o) in
+    let st = first_stretch f c.self.invariant want c.in_ok-run.run' o in
+    let filed = first_filed f c.self.invariant want c.in_ok-run.run' o c.size-first.result c.size-first.ensures.cell _ c.remove.ensures.lists in
+    (_, _, o.rest, o.back, held, st, filed)
+
+pub push-requires-clause-named : goal.push-requires-clause-named
+push-requires-clause-named g c =
+    let f : Fields = (fields_of g.T.Tables.cells g.T.Index.NodeIndex.MAX c.self.inside) in
+    let o = found_run (fields_of g.T.Tables.cells g.T.Index.NodeIndex.MAX c.self.inside) c.self.invariant c.args.self.now c.self.view_is c.formed.ensures c.args.size c.uint_to_float_round_up-class.result c.uint_to_float_round_down.result
+    c.float_to_uint.result c.in_ok-run.run' c.uint_to_float_round_up-class.ensures.is c.uint_to_float_round_down.ensures.is c.if-uint_to_float_round_down-class.false c.float_to_uint.ensures.is c.in_ok-run.ensures.run c.if-run-eq0.false in
+    let want = value (up c.args.size) in
+    let held = kept_place c.remove.ensures.chain (first_at f c.self.invariant want c.in_ok-run.run' o) in
+    let st = first_stretch f c.self.invariant want c.in_ok-run.run' o in
+    let filed = first_filed f c.self.invariant want c.in_ok-run.run' o c.size-first.result c.size-first.ensures.cell _ c.remove.ensures.lists in
+    let e = c.slide_to-hole.ensures.place _ _ o.rest o.back held st filed in
+    e.0.below
+
+pub push-requires-clause-idle : goal.push-requires-clause-idle
+push-requires-clause-idle g c =
+    let f : Fields = (fields_of g.T.Tables.cells g.T.Index.NodeIndex.MAX c.self.inside) in
+    let o = found_run (fields_of g.T.Tables.cells g.T.Index.NodeIndex.MAX c.self.inside) c.self.invariant c.args.self.now c.self.view_is c.formed.ensures c.args.size c.uint_to_float_round_up-class.result c.uint_to_float_round_down.result
+    c.float_to_uint.result c.in_ok-run.run' c.uint_to_float_round_up-class.ensures.is c.uint_to_float_round_down.ensures.is c.if-uint_to_float_round_down-class.false c.float_to_uint.ensures.is c.in_ok-run.ensures.run c.if-run-eq0.false in
+    let want = value (up c.args.size) in
+    let held = kept_place c.remove.ensures.chain (first_at f c.self.invariant want c.in_ok-run.run' o) in
+    let st = first_stretch f c.self.invariant want c.in_ok-run.run' o in
+    let filed = first_filed f c.self.invariant want c.in_ok-run.run' o c.size-first.result c.size-first.ensures.cell _ c.remove.ensures.lists in
+    let e = c.slide_to-hole.ensures.place _ _ o.rest o.back held st filed in
+    ap (λ (v : Node). v.used) (at_place e.0)
+
+pub push-requires-clause-classed : goal.push-requires-clause-classed
+push-requires-clause-classed g c =
+    omega (arith, down_small c.slide_to-hole.result.size, c.uint_to_float_round_down-class.ensures.is)
+
+pub push-requires-clause-unlisted : goal.push-requires-clause-unlisted
+push-requires-clause-unlisted g c =
+    let f : Fields = (fields_of g.T.Tables.cells g.T.Index.NodeIndex.MAX c.self.inside) in
+    let o = found_run (fields_of g.T.Tables.cells g.T.Index.NodeIndex.MAX c.self.inside) c.self.invariant c.args.self.now c.self.view_is c.formed.ensures c.args.size c.uint_to_float_round_up-class.result c.uint_to_float_round_down.result
+    c.float_to_uint.result c.in_ok-run.run' c.uint_to_float_round_up-class.ensures.is c.uint_to_float_round_down.ensures.is c.if-uint_to_float_round_down-class.false c.float_to_uint.ensures.is c.in_ok-run.ensures.run c.if-run-eq0.false in
+    let want = value (up c.args.size) in
+    let held = kept_place c.remove.ensures.chain (first_at f c.self.invariant want c.in_ok-run.run' o) in
+    let st = first_stretch f c.self.invariant want c.in_ok-run.run' o in
+    let filed = first_filed f c.self.invariant want c.in_ok-run.run' o c.size-first.result c.size-first.ensures.cell _ c.remove.ensures.lists in
+    let e = c.slide_to-hole.ensures.place _ _ o.rest o.back held st filed in
+    unlisted e.0 _ e.4
+
+pub invariant_of-self-2 : goal.invariant_of-self-2
+invariant_of-self-2 g c =
+    let f : Fields = (fields_of g.T.Tables.cells g.T.Index.NodeIndex.MAX c.self.inside) in
+    let o = found_run (fields_of g.T.Tables.cells g.T.Index.NodeIndex.MAX c.self.inside) c.self.invariant c.args.self.now c.self.view_is c.formed.ensures c.args.size c.uint_to_float_round_up-class.result c.uint_to_float_round_down.result
+    c.float_to_uint.result c.in_ok-run.run' c.uint_to_float_round_up-class.ensures.is c.uint_to_float_round_down.ensures.is c.if-uint_to_float_round_down-class.false c.float_to_uint.ensures.is c.in_ok-run.ensures.run c.if-run-eq0.false in
+    let want = value (up c.args.size) in
+    let held = kept_place c.remove.ensures.chain (first_at f c.self.invariant want c.in_ok-run.run' o) in
+    let st = first_stretch f c.self.invariant want c.in_ok-run.run' o in
+    let filed = first_filed f c.self.invariant want c.in_ok-run.run' o c.size-first.result c.size-first.ensures.cell _ c.remove.ensures.lists in
+    let e = c.slide_to-hole.ensures.place _ _ o.rest o.back held st filed in
+    (slides f c.self.invariant want c.in_ok-run.run' o (g.T.Tables.cells c.push.new.store.tables) c.push.new.store.last c.push.new.store.spare_count c.slide_to-hole.result.name c.slide_to-hole.result.size
+    (kept_place c.push.ensures.chain e.0) e.1 {accesses = 0} c.size-first.result c.size-first.ensures.cell c.push.ensures.binned
+    (rw (c.uint_to_float_round_down-class.ensures.is, e.3, c.remove.ensures.lists) at c.push.ensures.lists)).0
+
+pub returns-clause-step : goal.returns-clause-step
+returns-clause-step g c =
+    let f : Fields = (fields_of g.T.Tables.cells g.T.Index.NodeIndex.MAX c.self.inside) in
+    let o = found_run (fields_of g.T.Tables.cells g.T.Index.NodeIndex.MAX c.self.inside) c.self.invariant c.args.self.now c.self.view_is c.formed.ensures c.args.size c.uint_to_float_round_up-class.result c.uint_to_float_round_down.result
+    c.float_to_uint.result c.in_ok-run.run' c.uint_to_float_round_up-class.ensures.is c.uint_to_float_round_down.ensures.is c.if-uint_to_float_round_down-class.false c.float_to_uint.ensures.is c.in_ok-run.ensures.run c.if-run-eq0.false in
+    let want = value (up c.args.size) in
+    let held = kept_place c.remove.ensures.chain (first_at f c.self.invariant want c.in_ok-run.run' o) in
+    let st = first_stretch f c.self.invariant want c.in_ok-run.run' o in
+    let filed = first_filed f c.self.invariant want c.in_ok-run.run' o c.size-first.result c.size-first.ensures.cell _ c.remove.ensures.lists in
+    let e = c.slide_to-hole.ensures.place _ _ o.rest o.back held st filed in
+    let done = slides f c.self.invariant want c.in_ok-run.run' o (g.T.Tables.cells c.push.new.store.tables) c.push.new.store.last c.push.new.store.spare_count c.slide_to-hole.result.name c.slide_to-hole.result.size
+    (kept_place c.push.ensures.chain e.0) e.1 {accesses = c.push.new.store.accesses} c.size-first.result c.size-first.ensures.cell c.push.ensures.binned
+    (rw (c.uint_to_float_round_down-class.ensures.is, e.3, c.remove.ensures.lists) at c.push.ensures.lists) in
+    ?
