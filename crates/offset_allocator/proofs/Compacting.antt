@@ -26,7 +26,7 @@ live_are_used (b ∷ bs) = go b.used refl (live_are_used bs)
     go true e h = subst AreUsed (sym (live_used b bs e)) (e, h)
     go false e h = subst AreUsed (sym (live_idle b bs e)) h
 
-live_whole : (bs : List Block) → AreUsed bs → live bs ≡ bs
+pub live_whole : (bs : List Block) → AreUsed bs → live bs ≡ bs
 live_whole [] h = refl
 live_whole (b ∷ bs) h = live_used b bs h.0 ∙ ap (λ l. b ∷ l) (live_whole bs h.1)
 

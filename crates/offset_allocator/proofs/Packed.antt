@@ -1,5 +1,5 @@
 -- What holds after the live ranges are packed, and of the moves that pack them.
-use Rattle.offset_allocator.proofs.Common.{◌≡◌, ◌↔◌, ℕ, ◌+◌, ◌≤◌, Bool, true, false, Option, Some, None, List, [], ◌∷◌, ◌++◌, sum, if◌then◌else◌, nat_eq, option_map, option_and_then, refl, ap, ◌∙◌}
+use Rattle.offset_allocator.proofs.Common.{◌≡◌, sym, append-nil, ◌↔◌, ℕ, ◌+◌, ◌≤◌, Bool, true, false, Option, Some, None, List, [], ◌∷◌, ◌++◌, sum, if◌then◌else◌, nat_eq, option_map, option_and_then, refl, ap, ◌∙◌}
 use Rattle.offset_allocator.proofs.Common.{arith, AllByRecursion, cases_eq, nat_tests, sum_by-cons, value, down, largest, Block, View, Place, one, place_of, count_named, free_sizes, units}
 use Rattle.offset_allocator.proofs.Common.{IsWellFormed, CanGrant, HasRoomFor, Range, Move, live, moves, move_of, gathered, AreSafe, KeepsSizes, Compacts, common_steps}
 use Rattle.offset_allocator.proofs.ViewFits.{fits_exactly, largest_small}
@@ -59,6 +59,13 @@ held_live x y ns (b ∷ bs) l = go b.used refl (held_live x y ns bs (omega (arit
     go : (u : Bool) → b.used ≡ u → held x (live bs ++ gathered y ns) ≡ held x bs → held x (live (b ∷ bs) ++ gathered y ns) ≡ held x (b ∷ bs)
     go true u ih = grind (arith, common_steps, live_used, hit_cases, nat_tests, held_other)
     go false u ih = grind (arith, common_steps, live_idle, hit_cases, held_absent, nat_tests, held_other)
+
+-- live ranges that stay keep their sizes
+held_alive : (x : ℕ) (bs : List Block) → count_named x bs ≤ 1 → held x (live bs) ≡ held x bs
+held_alive x bs l = ap (held x) (sym (append-nil (live bs))) ∙ held_live x 0 [] bs l
+
+pub live_sizes : (v w : View) → IsWellFormed v → IsWellFormed w → live w.blocks ≡ live v.blocks → KeepsSizes v w
+live_sizes v w known left e x = held_is x w.blocks ∙ sym (held_alive x w.blocks (left.distinct x)) ∙ ap (held x) e ∙ held_alive x v.blocks (known.distinct x) ∙ sym (held_is x v.blocks)
 
 pub compacts_sizes : (v w : View) → IsWellFormed v → Compacts v w → KeepsSizes v w
 compacts_sizes v w well c x = grind (arith, held_is, held_live)

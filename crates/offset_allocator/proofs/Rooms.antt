@@ -1,5 +1,6 @@
 -- The whole allocator after a run has slid to its front.
-use Rattle.offset_allocator.proofs.Common.{◌%◌, value, up}
+use Rattle.offset_allocator.proofs.Common.{◌%◌, ◌*◌, value, up, moves, Move, FoldsTo, CanGrant}
+use Rattle.offset_allocator.proofs.{Sliding.moves_idle, Compacting.live_whole, Classes.down_law, Classes.down_small, ViewOrders.names_same, ViewOrders.length_remove_all}
 use Rattle.offset_allocator.proofs.{Advice.free_within, Refusals.total_is, Runs.cheapest_cost, Runs.want_is}
 use Rattle.offset_allocator.proofs.Common.{◌≡◌, ◌≢◌, ℕ, ◌+◌, ◌^◌, ◌<◌, ◌≤◌, ◌⊎◌, Bool, true, false, not, ◌&&◌, Option, Some, None, List, [], ◌∷◌, ◌++◌, length, sum, if◌then◌else◌, nat_eq, refl, sym, ap, ap₂}
 use Rattle.offset_allocator.proofs.Common.{subst, ◌∙◌, arith, inl, inr, append_assoc, append-nil, length-append, eq-zero-or-pos, true≢false, not-true, down, Cells, ChainCells, Block, View, Place}
@@ -12,7 +13,7 @@ use Rattle.offset_allocator.proofs.{ViewReplaced.orders_replaced, Filed.share, F
 use Rattle.offset_allocator.proofs.{Compacting.live_are_used, Freeing.remove_used, Places.at_place}
 use Rattle.offset_allocator.specs.declared.room.RoomCost.{RoomCost}
 use Rattle.offset_allocator.specs.declared.room.Run.{Run}
-use Rattle.offset_allocator.specs.Room.{IsRun, IsCheapest, IsLeastCost, IsStretch, SlidesRun, cost_of}
+use Rattle.offset_allocator.specs.Room.{IsRun, IsCheapest, IsLeastCost, IsStretch, MakesRoom, SlidesRun, cost_of}
 
 -- a run that is not one block alone
 pub record IsOpened (want : ℕ) (bs : List Block) (r : Run) : Type 0 where
@@ -96,6 +97,20 @@ ends_free_is : (b : Block) (bs : List Block) (k : ℕ) → last_or None bs ≡ S
 ends_free_is b [] k e h = absurd (cc)
 ends_free_is b (d ∷ []) k e h = ap not h
 ends_free_is b (d ∷ c ∷ bs) k e h = ends_free_is d (c ∷ bs) k e h
+
+-- blocks of which no two neighbours are free are at most twice as many as the used ones, and one
+apart_few : (bs : List Block) → IsApart bs → length bs ≤ 2 * used_of bs + 1
+apart_few [] h = omega arith
+apart_few (b ∷ []) h = omega arith
+apart_few (b ∷ d ∷ bs) h = go b.used refl (apart_few (d ∷ bs) h.1) (apart_few bs h.1.1)
+  where
+    go : (u : Bool) → b.used ≡ u → length (d ∷ bs) ≤ 2 * used_of (d ∷ bs) + 1 → length bs ≤ 2 * used_of bs + 1 → length (b ∷ d ∷ bs) ≤ 2 * used_of (b ∷ d ∷ bs) + 1
+    go true e ih more = omega (arith, ih, ap one e)
+    go false e ih more = omega (arith, more, ap one e, ap one (next d.used refl (ap (λ u. not u && starts_free (d ∷ bs)) (sym e) ∙ h.0)))
+      where
+        next : (u : Bool) → d.used ≡ u → starts_free (d ∷ bs) ≡ false → d.used ≡ true
+        next true q k = q
+        next false q k = absurd (true≢false (sym (ap not q) ∙ k))
 
 module _ (f : Fields) (s : AreSound f) (want : ℕ) (r : Run) (o : IsOpened want (blocks f.cells.chain f.last) r) where
   abbrev v : View
@@ -277,10 +292,51 @@ module _ (f : Fields) (s : AreSound f) (want : ℕ) (r : Run) (o : IsOpened want
       free_units-free (free_block x n) o.back refl,
     )
 
+    pub few_moved : length o.rest ≤ 2 * r.cost.ranges
+    few_moved = omega (arith, apart_few run after_parts.0, ap (λ (c : RoomCost). c.ranges) o.cost)
+
+    ends_free_few : (bs : List Block) (k : ℕ) → last_or None bs ≡ Some k → ends_used bs ≡ false → length (live bs) + 1 ≤ length bs
+    ends_free_few [] k e h = absurd (cc)
+    ends_free_few (b ∷ []) k e h = omega (arith, ap (λ (l : List Block). length l) (live_idle b [] h))
+    ends_free_few (b ∷ c ∷ bs) k e h = go b.used refl (ends_free_few (c ∷ bs) k e h)
+      where
+        go : (u : Bool) → b.used ≡ u → length (live (c ∷ bs)) + 1 ≤ length (c ∷ bs) → length (live (b ∷ c ∷ bs)) + 1 ≤ length (b ∷ c ∷ bs)
+        go true q ih = omega (arith, ap (λ (l : List Block). length l) (live_used b (c ∷ bs) q), ih)
+        go false q ih = omega (arith, ap (λ (l : List Block). length l) (live_idle b (c ∷ bs) q), ih)
+
+    -- a node is free then, and the block is of a class large enough
+    pub grants : (size : ℕ) → want ≡ value (up size) → (u : View) → SameSpace left_view u → CanGrant 1 size u
+    grants size is u same =
+        let fits : n < 2 ^ 32 = omega (arith, w.whole, w.fits, ap units o.is, units-append o.front (run ++ o.back), units-append run o.back, new_units, ap units new_is, units-append (live o.rest) (free_block x n ∷ [])) in
+        let order : u.order ≡ push (down n) x (remove_all run ls) =
+        ap (λ (z : View). z.order) same ∙ ap (λ l. push_all l (remove_all run ls)) new_is ∙ pushed_used (live o.rest) (free_block x n ∷ []) (remove_all run ls) (live_are_used o.rest) in (
+          omega (
+            arith,
+            ap (λ (z : View). length z.blocks) same,
+            ap (λ (z : View). z.max_allocs) same,
+            w.room,
+            ap (λ (l : List Block). length l) o.is,
+            length-append o.front (run ++ o.back),
+            length-append run o.back,
+            length-append o.front (new ++ o.back),
+            length-append new o.back,
+            new_length,
+            ends_free_few o.rest r.end o.ends o.free,
+          ),
+          (
+            down n,
+            (down_law n (up size) fits).1 (omega (arith, o.serves, room_is, is)),
+            λ q. let k : x ∷ bin_at (remove_all run ls) (down n) ≡ [] =
+                sym (names_same (remove_all run ls) (down n) (x ∷ bin_at (remove_all run ls) (down n)) (length_remove_all run ls ∙ w.classes) (down_small n)) ∙ ap (λ (m : List (List ℕ)). bin_at m (down n)) (sym order) ∙ q in
+                absurd (cc),
+          ),
+        )
+
     pub slides : {top accesses : ℕ} (k : ℕ) → k ≡ (node f.cells.chain r.first).size → IsBinned f.max d.bins top
         → bins_in f.max d.bins ≡ push (down n) x (remove_all o.rest (remove (down k) r.first ls))
         → AreSound (record f { cells = d; last = last; count = count; top = top; accesses = accesses })
         × ((h : SlidesRun want v (shown (record f { cells = d; last = last; count = count; top = top; accesses = accesses }))) × (h.run ≡ run) × (h.front ≡ o.front))
+        × SameSpace left_view (shown (record f { cells = d; last = last; count = count; top = top; accesses = accesses }))
     slides {top} {accesses} k e binned lists =
         let order : bins_in f.max d.bins ≡ left_view.order =
         lists ∙ ap (λ m. push (down n) x (remove_all o.rest m)) (removed k e) ∙ sym (pushed_used (live o.rest) (free_block x n ∷ []) (remove_all run ls) (live_are_used o.rest))
@@ -311,6 +367,7 @@ module _ (f : Fields) (s : AreSound f) (want : ℕ) (r : Run) (o : IsOpened want
             refl,
             refl,
           ),
+          done.1,
         )
       where
         run_ends : ends_used run ≡ false
@@ -319,6 +376,27 @@ module _ (f : Fields) (s : AreSound f) (want : ℕ) (r : Run) (o : IsOpened want
             go : (l : List Block) → last_or None l ≡ Some r.end → ends_used l ≡ false → ends_used (o.block ∷ l) ≡ false
             go [] e h = absurd (cc)
             go (b ∷ l) e h = h
+
+-- the live blocks stay
+pub slides_live : (want : ℕ) (v w : View) → SlidesRun want v w → live w.blocks ≡ live v.blocks
+slides_live want v w h =
+    let free : Block = free_block h.name (sum (free_sizes h.run)) in
+    let inner : live (live h.run ++ free ∷ []) ≡ live h.run = live_append (live h.run) (free ∷ []) ∙ append-nil (live (live h.run)) ∙ live_whole (live h.run) (live_are_used h.run) in
+    ap (λ (u : View). live u.blocks) h.view ∙ live_append h.front ((live h.run ++ free ∷ []) ++ h.back) ∙ ap (λ l. live h.front ++ l) (live_append (live h.run ++ free ∷ []) h.back ∙ ap (λ l. l ++ live h.back) inner)
+    ∙ sym (ap live h.is ∙ live_append h.front (h.run ++ h.back) ∙ ap (λ l. live h.front ++ l) (live_append h.run h.back))
+
+-- the step, as a caller sees it
+module _ (f : Fields) (s : AreSound f) (want : ℕ) (r : Run) (o : IsOpened want (blocks f.cells.chain f.last) r) where
+  pub makes : {F : Type 0} {R : F → Move → F → Type 0} {f₀ g : F} (w' : View) (h : SlidesRun want (shown f) w') → h.run ≡ o.block ∷ o.rest → h.front ≡ o.front
+      → FoldsTo R f₀ (moves (units o.front + o.block.size) (units o.front) o.rest) g → (u : View) → shown f ≡ u → r.cost.ranges ≢ 0 → MakesRoom R want u f₀ (Some r.cost) w' g
+  makes {F} {R} {f₀} {g} w' h run_is front_is calls u e some = (
+    λ z. absurd (some z),
+    λ _. subst (λ (z : View). (k : SlidesRun want z w') × (r.cost ≡ cost_of k.run) × FoldsTo R f₀ (moves (units k.front) (units k.front) k.run) g) e
+        (h, o.cost ∙ ap cost_of (sym run_is), subst (λ l. FoldsTo R f₀ l g) (sym all) calls),
+  )
+    where
+      all : moves (units h.front) (units h.front) h.run ≡ moves (units o.front + o.block.size) (units o.front) o.rest
+      all = ap₂ (λ (l k : List Block). moves (units l) (units l) k) front_is run_is ∙ moves_idle (units o.front) (units o.front) o.block o.rest o.idle
 
 -- what the search has found
 module _ (f : Fields) (s : AreSound f) (v : View) (e : shown f ≡ v) (w : IsWellFormed v) (n k d want : ℕ) (r : Run) (up_is : k ≡ up n) (down_is : d ≡ down f.free) (l : k ≤ d)

@@ -27,6 +27,11 @@ cost_of run = record { units = used_units run; ranges = used_of run }
 abbrev pub IsAtMost : RoomCost → RoomCost → Type 0
 IsAtMost c d = (c.units < d.units) ⊎ ((c.units ≡ d.units) × (c.ranges ≤ d.ranges))
 
+-- the ranges that have to move, none where no run is found
+abbrev pub ranges_of : Option RoomCost → ℕ
+ranges_of None = 0
+ranges_of (Some c) = c.ranges
+
 -- the cost of a run with at least so many free units, where no run with as many costs less; or nothing, where no run
 -- has so many
 abbrev pub IsLeastCost : ℕ → List Block → Option RoomCost → Type 0

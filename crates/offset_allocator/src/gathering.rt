@@ -1,12 +1,14 @@
 //! Makes room for a request: slides the live ranges of a run of blocks to its front, so that its free units are one block
 //! after them.
-ghost use Rattle.std.specs.Prelude.{ℕ, ◌≡◌, ◌+◌, ◌*◌, ◌≤◌, List, ◌++◌, length, sum};
+ghost use Rattle.std.specs.Prelude.{ℕ, ◌≡◌, ◌+◌, ◌*◌, ◌≤◌, List, ◌++◌, IfSome, length, sum};
 ghost use Rattle.std.specs.List.{FoldsTo};
+ghost use Rattle.offset_allocator.specs.Accesses.{Costs};
+ghost use Rattle.offset_allocator.specs.Requests.{CanGrant};
 ghost use Rattle.offset_allocator.specs.Cells.{node};
 ghost use Rattle.offset_allocator.specs.View.{Block, Place, free_block, free_sizes, remove_all, units};
-ghost use Rattle.offset_allocator.specs.Compacting.{IsCalledWith, live, moves};
+ghost use Rattle.offset_allocator.specs.Compacting.{IsCalledWith, KeepsSizes, live, moves};
 ghost use Rattle.offset_allocator.specs.Classes.{up, value};
-ghost use Rattle.offset_allocator.specs.Room.{IsLeastCost, IsStretch, MakesRoom};
+ghost use Rattle.offset_allocator.specs.Room.{IsLeastCost, IsStretch, MakesRoom, ranges_of};
 ghost use Rattle.offset_allocator.specs.Soundness.{AreInBins};
 ghost use Rattle.offset_allocator.specs.Store.{AreBinned, IsPlaceIn, bins_of};
 
@@ -80,7 +82,7 @@ impl<T: Tables> AllocatorOf<T> {
     /// units together are not enough, and where the cost has no ranges, since one free block is large enough. Else the
     /// request is granted afterwards, also at the node limit. For an aligned request ask with `size + align - 1`. Which
     /// of several runs that cost as much it is, and the name of the free block, are left open. It makes at most 6
-    /// accesses to the tables for each block, 40 for each range of the cost, and 40, and takes no memory.
+    /// accesses to the tables for each block, 40 for each range that moves, and 20, and takes no memory.
     pub fn make_room<F: FnMut(Move<T::Index>)>(
         &mut self,
         size: u32,
@@ -89,6 +91,13 @@ impl<T: Tables> AllocatorOf<T> {
         requires callable { F.IsAlwaysCallable moved.old }
         // It returns what `room_cost` would have returned before.
         ensures cost { IsLeastCost (value (up size)) self.old.blocks result }
+        // The live blocks keep their names, their sizes and their order: so every handle stays live, with its size.
+        ensures live { live self.new.blocks ≡ live self.old.blocks }
+        ensures sizes { KeepsSizes self.old self.new }
+        // Where ranges had to move, the request is granted then, since there is a node for one more block too.
+        ensures granted { IfSome result (λ c. 1 ≤ c.ranges → CanGrant 1 size self.new) }
+        ensures accesses { Costs 1 (6 * length self.old.blocks + 40 * ranges_of result + 20)
+            self.old.accesses self.new.accesses }
         // The step as a whole, with the moves: a run of this cost slides; or nothing changes.
         ensures step { MakesRoom (IsCalledWith T.Index.NonMax.number (λ f range g. F.step f range tt g)) (value (up size))
             self.old moved.old result self.new moved.new }
