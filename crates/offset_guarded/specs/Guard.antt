@@ -93,6 +93,10 @@ IsCopy g h = h ≡ record g { space = record g.space { accesses = 0 } }
 abbrev pub grant_of : Ticket → Grant
 grant_of t = record { name = t.name; offset = t.offset }
 
+-- the ticket that a handle has now
+abbrev pub ticket_at : Grant → Guard → Ticket
+ticket_at h g = record { offset = h.offset; name = h.name; serial = serial_of h.name g; realm = g.realm }
+
 -- a serial is left for one more grant
 abbrev pub HasSerialLeft : Guard → Type 0
 HasSerialLeft g = g.given < last_serial

@@ -4,6 +4,8 @@ ghost use Rattle.std.specs.Prelude.{ℕ, ◌≡◌, ◌↔◌, ◌+◌, ◌*◌,
 ghost use Rattle.std.specs.Prelude.{if◌then◌else◌};
 ghost use Rattle.std.specs.Prelude.{length, nat_eq, option_map};
 ghost use Rattle.offset_allocator.specs.Ranges as named;
+ghost use Rattle.offset_allocator.specs.Ranges.{size_of};
+ghost use Rattle.offset_allocator.specs.Relocating.{Relocates, offset_of};
 ghost use Rattle.offset_allocator.specs.View.{bin_at, largest_free};
 ghost use Rattle.offset_allocator.specs.Relations.{Aligns, Allocates, IsAlignment};
 ghost use Rattle.offset_allocator.specs.Requests.{CanGrant, blocks_needed, units_needed};
@@ -155,6 +157,33 @@ impl<T: Tables> GuardedOf<T> {
         match self.space.allocate_tight_aligned(size, align) {
             None => None,
             Some(handle) => Some(ticket_for(&self.space, &mut self.serials, self.realm, handle)),
+        }
+    }
+
+    /// Grants a second range of as many units as that of a ticket, which begins before it: the one that
+    /// `Allocator::relocate` grants, with the next serial. The old ticket stays live until it is freed.
+    ///
+    /// `None` is returned where that call returns `None`, where the ticket is not live, or where all serials
+    /// are given; then all is as it was.
+    pub fn relocate(&mut self, ticket: Ticket) -> Option<Ticket>
+        ensures live { IsSome result → IsLive ticket self.old × HasSerialLeft self.old }
+        ensures grants { IfSome result (Grants (size_of ticket.name self.old.space) self.old self.new) }
+        // It ends where the old range begins, or before.
+        ensures before { IfSome result (λ t. t.offset + size_of ticket.name self.old.space
+            ≤ offset_of ticket.name self.old.space) }
+        ensures same { result ≡ None → IsSame self.old self.new }
+        // The step of the allocator, where the ticket is live and a serial is left.
+        ensures step { IsLive ticket self.old → HasSerialLeft self.old
+            → Relocates ticket.name self.old.space self.new.space (option_map grant_of result) }
+        ensures accesses_max { self.new.space.accesses ≤ self.old.space.accesses + 80 }
+    {
+        let handle = self.handle(ticket)?;
+        if self.serials.is_spent() {
+            return None;
+        }
+        match self.space.relocate(handle) {
+            None => None,
+            Some(second) => Some(ticket_for(&self.space, &mut self.serials, self.realm, second)),
         }
     }
 

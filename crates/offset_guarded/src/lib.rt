@@ -24,6 +24,7 @@ ghost use Rattle.offset_allocator.specs.Relations.{Frees, IsFresh, Resets};
 ghost use Rattle.offset_guarded.specs.Guard.{IsCopy, IsLive, KeepsOthers, last_serial, range_of, serial_of};
 
 mod changing;
+mod ending;
 mod granting;
 pub mod laws;
 mod refusal;

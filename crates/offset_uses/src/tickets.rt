@@ -6,18 +6,21 @@ ghost use Rattle.std.specs.Prelude.{◌%◌, ◌*◌, ◌+◌, ◌-◌, ◌<◌,
 ghost use Rattle.std.specs.Prelude.{IsSome};
 ghost use Rattle.std.specs.Prelude.{IsTrue, MatchOption, None, Some, [], false, length, min, option_map};
 ghost use Rattle.std.specs.Prelude.{true};
+ghost use Rattle.offset_allocator.specs.Beside.{last_live, live_after, live_before};
 ghost use Rattle.offset_allocator.specs.Compacting.{Compacts, IsCalledWith, moves};
-ghost use Rattle.offset_allocator.specs.Ranges.{Range};
+ghost use Rattle.offset_allocator.specs.Ranges.{Range, size_of};
 ghost use Rattle.offset_allocator.specs.Relations.{Aligns, Allocates, CanExtend, Extends, Frees, IsAlignment};
 ghost use Rattle.offset_allocator.specs.Relations.{IsFresh, Resets};
+ghost use Rattle.offset_allocator.specs.Relocating.{Relocates, offset_of};
 ghost use Rattle.offset_allocator.specs.Requests.{CanGrant, blocks_needed, units_needed};
 ghost use Rattle.offset_allocator.specs.Resizing.{CanGrow, CanShrink, Grows, Shrinks};
+ghost use Rattle.offset_allocator.specs.Retracting.{CanRetract, Retracts};
 ghost use Rattle.offset_allocator.specs.Classes.{down};
 ghost use Rattle.offset_allocator.specs.Tight.{AlignsTight, CanHold, listed_from};
-ghost use Rattle.offset_allocator.specs.View.{bin_at, largest_free, used_of};
+ghost use Rattle.offset_allocator.specs.View.{Grant, bin_at, largest_free, used_of};
 ghost use Rattle.offset_guarded.specs.Guard.{Grants, HasSerialLeft, HasUnits, IsCopy, IsLive, IsSame, IsWhy};
 ghost use Rattle.offset_guarded.specs.Guard.{IsWhyTight, KeepsAll, KeepsLive, KeepsOthers, KeepsSerials};
-ghost use Rattle.offset_guarded.specs.Guard.{KeepsSizes, grant_of, last_serial, range_of, serial_of};
+ghost use Rattle.offset_guarded.specs.Guard.{KeepsSizes, grant_of, last_serial, range_of, serial_of, ticket_at};
 ghost use Rattle.offset_guarded.specs.State.{IsNoState, IsRestored, IsStateOf, IsWellFormed};
 ghost use Rattle.offset_allocator.specs.Ranges as named;
 
@@ -308,6 +311,58 @@ pub fn grow_in_place<T: Tables>(space: &mut GuardedOf<T>, ticket: Ticket, size: 
     ensures accesses_max { space.new.space.accesses ≤ space.old.space.accesses + 128 }
 {
     space.grow_in_place(ticket, size)
+}
+
+/// `retract`, with each clause of its contract.
+pub fn retract<T: Tables>(space: &mut GuardedOf<T>, less: u32) -> bool
+    ensures done { IsTrue result ↔ (1 ≤ less → CanRetract less space.old.space) }
+    ensures size { IsTrue result → space.new.space.size + less ≡ space.old.space.size }
+    ensures kept { KeepsAll space.old space.new }
+    ensures same { result ≡ false → IsSame space.old space.new }
+    ensures step { Retracts less space.old.space space.new.space result }
+    ensures serials { space.new ≡ record space.old { space = space.new.space } }
+    ensures accesses_max { space.new.space.accesses ≤ space.old.space.accesses + 64 }
+{
+    space.retract(less)
+}
+
+/// `relocate`, with each clause of its contract.
+pub fn relocate<T: Tables>(space: &mut GuardedOf<T>, ticket: Ticket) -> Option<Ticket>
+    ensures live { IsSome result → IsLive ticket space.old × HasSerialLeft space.old }
+    ensures grants { IfSome result (Grants (size_of ticket.name space.old.space) space.old space.new) }
+    ensures before { IfSome result (λ t. t.offset + size_of ticket.name space.old.space
+        ≤ offset_of ticket.name space.old.space) }
+    ensures same { result ≡ None → IsSame space.old space.new }
+    ensures step { IsLive ticket space.old → HasSerialLeft space.old
+        → Relocates ticket.name space.old.space space.new.space (option_map grant_of result) }
+    ensures accesses_max { space.new.space.accesses ≤ space.old.space.accesses + 80 }
+{
+    space.relocate(ticket)
+}
+
+/// `last_live`, with each clause of its contract.
+pub fn last_live<T: Tables>(space: &GuardedOf<T>) -> Option<Ticket>
+    ensures { result ≡ option_map (λ (h : Grant). ticket_at h space.now) (last_live space.now.space) }
+{
+    space.last_live()
+}
+
+/// `live_before`, with each clause of its contract.
+pub fn live_before<T: Tables>(space: &GuardedOf<T>, ticket: Ticket) -> Option<Ticket>
+    ensures before { IsLive ticket space.now → result
+        ≡ option_map (λ (h : Grant). ticket_at h space.now) (live_before ticket.name space.now.space) }
+    ensures gone { (IsLive ticket space.now → ⊥) → result ≡ None }
+{
+    space.live_before(ticket)
+}
+
+/// `live_after`, with each clause of its contract.
+pub fn live_after<T: Tables>(space: &GuardedOf<T>, ticket: Ticket) -> Option<Ticket>
+    ensures after { IsLive ticket space.now → result
+        ≡ option_map (λ (h : Grant). ticket_at h space.now) (live_after ticket.name space.now.space) }
+    ensures gone { (IsLive ticket space.now → ⊥) → result ≡ None }
+{
+    space.live_after(ticket)
 }
 
 /// `extend`, with each clause of its contract.

@@ -458,6 +458,13 @@ public:
     bool shrink(Ticket ticket, uint32 size) { return oag_shrink(space, in(ticket), size); }
     bool growInPlace(Ticket ticket, uint32 size) { return oag_grow_in_place(space, in(ticket), size); }
     bool extend(uint32 more) { return oag_extend(space, more); }
+    bool retract(uint32 less) { return oag_retract(space, less); }
+
+    // Where there is none, the ticket converts to false.
+    Ticket relocate(Ticket ticket) { return of(oag_relocate(space, in(ticket))); }
+    Ticket lastLive() const { return of(oag_last_live(space)); }
+    Ticket liveBefore(Ticket ticket) const { return of(oag_live_before(space, in(ticket))); }
+    Ticket liveAfter(Ticket ticket) const { return of(oag_live_after(space, in(ticket))); }
 
     // The ticket of the allocation of a block or of a move; it converts to false where that is not live.
     Ticket ticketOf(Allocation allocation) const { return of(oag_ticket_of(space, detail::in(allocation))); }

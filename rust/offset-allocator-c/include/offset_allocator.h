@@ -414,8 +414,17 @@ uint32_t oag_offset_of(const oag_allocator *space, oag_ticket ticket);
 bool oag_shrink(oag_allocator *space, oag_ticket ticket, uint32_t size);
 bool oag_grow_in_place(oag_allocator *space, oag_ticket ticket, uint32_t size);
 
-/* As oa_extend. */
+/* As oa_extend and oa_retract. */
 bool oag_extend(oag_allocator *space, uint32_t more);
+bool oag_retract(oag_allocator *space, uint32_t less);
+
+/* As oa_relocate: the ticket of the second range; the old one stays live. Its serial is 0 where there is none. */
+oag_ticket oag_relocate(oag_allocator *space, oag_ticket ticket);
+
+/* As oa_last_live, oa_live_before and oa_live_after. The serial of the ticket is 0 where there is none. */
+oag_ticket oag_last_live(const oag_allocator *space);
+oag_ticket oag_live_before(const oag_allocator *space, oag_ticket ticket);
+oag_ticket oag_live_after(const oag_allocator *space, oag_ticket ticket);
 
 /* As oa_compact. Tickets stay live; metadata of a move is the name in the ticket. */
 void oag_compact(oag_allocator *space, void (*moved)(void *user, oa_move range), void *user);

@@ -599,6 +599,22 @@ exports! {
 
     fn oag_extend([space: &mut GuardedSpace], more: u32) -> bool { space.extend(more) } else false;
 
+    fn oag_retract([space: &mut GuardedSpace], less: u32) -> bool { space.retract(less) } else false;
+
+    fn oag_relocate([space: &mut GuardedSpace], allocation: Guard) -> Guard {
+        guard(space.relocate(ticket(allocation)))
+    } else NO_TICKET;
+
+    fn oag_last_live([space: &GuardedSpace],) -> Guard { guard(space.last_live()) } else NO_TICKET;
+
+    fn oag_live_before([space: &GuardedSpace], allocation: Guard) -> Guard {
+        guard(space.live_before(ticket(allocation)))
+    } else NO_TICKET;
+
+    fn oag_live_after([space: &GuardedSpace], allocation: Guard) -> Guard {
+        guard(space.live_after(ticket(allocation)))
+    } else NO_TICKET;
+
     fn oag_compact(
         [space: &mut GuardedSpace],
         moved: Option<Callback>,

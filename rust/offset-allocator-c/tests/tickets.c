@@ -56,6 +56,25 @@ static void stale(void) {
     oag_drop(NULL);
 }
 
+static bool same(oag_ticket a, oag_ticket b) { return a.serial == b.serial && a.name == b.name && a.realm == b.realm; }
+
+/* the third range finds a place where the second one was, and the end can go */
+static void from_the_end(void) {
+    oag_allocator *space = oag_new(64, 16, 9);
+    CHECK(!oag_last_live(space).serial);
+    oag_ticket a = oag_allocate(space, 8), b = oag_allocate(space, 8), c = oag_allocate(space, 8);
+    CHECK(same(oag_last_live(space), c) && same(oag_live_before(space, c), b) && same(oag_live_after(space, a), b));
+    CHECK(!oag_live_before(space, a).serial && !oag_live_after(space, c).serial && !oag_relocate(space, c).serial);
+    CHECK(oag_free(space, b) && !oag_relocate(space, b).serial && !oag_live_before(space, b).serial);
+    oag_ticket d = oag_relocate(space, c);
+    CHECK(d.serial == 4 && d.realm == 9 && oag_offset_of(space, d) == 8 && oag_is_live(space, c) && oag_free(space, c));
+    CHECK(!oag_retract(space, 49) && oag_retract(space, 48) && !oag_retract(space, 1) && oag_size(space) == 16);
+    CHECK(same(oag_last_live(space), d) && same(oag_live_before(space, d), a));
+    CHECK(!oag_retract(NULL, 0) && !oag_relocate(NULL, d).serial && !oag_last_live(NULL).serial);
+    CHECK(!oag_live_before(NULL, d).serial && !oag_live_after(NULL, d).serial);
+    oag_drop(space);
+}
+
 /* what is written is read back, with the same tickets */
 static void states(void) {
     /* the tickets of a space of 100 units and a limit of 5 with one grant of 40 units in realm 7: the form, the version,
@@ -232,6 +251,7 @@ static void random_tickets(void) {
 
 int main(void) {
     stale();
+    from_the_end();
     states();
     tight();
     reads();

@@ -92,6 +92,22 @@ impl<T: Tables> GuardedOf<T> {
         }
     }
 
+    /// Grants a second range of as many units as that of a ticket, which begins before it: the one that
+    /// `Allocator::relocate` grants, with the next serial. The old ticket stays live until it is freed.
+    ///
+    /// `None` is returned where that call returns `None`, where the ticket is not live, or where all serials
+    /// are given; then all is as it was.
+    pub fn relocate(&mut self, ticket: Ticket) -> Option<Ticket> {
+        let handle = self.handle(ticket)?;
+        if self.serials.is_spent() {
+            return None;
+        }
+        match self.space.relocate(handle) {
+            None => None,
+            Some(second) => Some(ticket_for(&self.space, &mut self.serials, self.realm, second)),
+        }
+    }
+
     /// Why `allocate(size)` would be refused now, or `None` exactly where it would be granted.
     pub fn refusal(&self, size: u32) -> Option<Refusal> {
         if self.serials.is_spent() {

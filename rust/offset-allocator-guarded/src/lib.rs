@@ -32,6 +32,7 @@ mod traits;
 pub use memory::{AllocError, Global, Vec};
 
 mod changing;
+mod ending;
 mod granting;
 pub mod laws;
 mod refusal;

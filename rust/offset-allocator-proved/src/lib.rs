@@ -50,6 +50,7 @@ mod copies;
 mod copying;
 pub mod ext;
 mod fills;
+mod gathering;
 mod handle;
 mod index;
 pub mod laws;

@@ -80,6 +80,14 @@ impl Window {
     }
 }
 
+// A run of blocks, from a free one to a free one: the names of both, and what it costs to slide it together.
+#[derive(Clone, Copy)]
+pub(crate) struct Run {
+    pub(crate) first: u32,
+    pub(crate) end: u32,
+    pub(crate) cost: RoomCost,
+}
+
 // Gives up the last blocks of a window, as long as what is left has enough free units.
 fn shrink<T: Tables>(tables: &T, want: u32, mut window: Window, count: &mut Accesses) -> Window {
     while window.room - window.end_room() >= want {
@@ -94,13 +102,14 @@ fn shrink<T: Tables>(tables: &T, want: u32, mut window: Window, count: &mut Acce
     window
 }
 
-// The smaller of two costs, or the only one.
-fn least(known: Option<RoomCost>, cost: RoomCost) -> RoomCost {
+// The cheaper of two runs, or the only one.
+fn cheaper(known: Option<Run>, run: Run) -> Run {
     match known {
-        None => cost,
+        None => run,
         Some(known) => {
-            if cost.units < known.units || cost.units == known.units && cost.ranges < known.ranges {
-                cost
+            let (least, cost) = (known.cost, run.cost);
+            if cost.units < least.units || cost.units == least.units && cost.ranges < least.ranges {
+                run
             } else {
                 known
             }
@@ -108,19 +117,28 @@ fn least(known: Option<RoomCost>, cost: RoomCost) -> RoomCost {
     }
 }
 
-// The least cost of a run with at least `want` free units. The walk goes back over the blocks from the last one on; the
-// window has those that were met, without the last ones, which are no longer needed: from each free block on, the
-// shortest run with enough free units is the cheapest, and ends no later than that of the free block after.
-fn least_cost<T: Tables>(tables: &T, last: u32, want: u32, count: &mut Accesses) -> Option<RoomCost> {
+// The cheapest run with at least `want` free units. The walk goes back over the blocks from the last one on; the window
+// has those that were met, without the last ones, which are no longer needed: from each free block on, the shortest run
+// with enough free units is the cheapest, and ends no later than that of the free block after.
+pub(crate) fn cheapest<T: Tables>(
+    tables: &T,
+    last: u32,
+    want: u32,
+    count: &mut Accesses,
+) -> Option<Run> {
     tables.shape();
     let size = tables.size(last, count);
     let used = chain::is_used(tables, last, count);
     let mut window = Window::alone(last, size, used);
-    let mut cost = None;
+    let mut run = None;
     if window.room >= want {
-        cost = Some(RoomCost {
-            units: 0,
-            ranges: 0,
+        run = Some(Run {
+            first: last,
+            end: last,
+            cost: RoomCost {
+                units: 0,
+                ranges: 0,
+            },
         });
     }
     let mut at = chain::before(tables, last, count);
@@ -130,15 +148,19 @@ fn least_cost<T: Tables>(tables: &T, last: u32, want: u32, count: &mut Accesses)
         window = window.and_before(size, used);
         if !used && window.room >= want {
             window = shrink(tables, want, window, count);
-            let found = RoomCost {
-                units: window.units,
-                ranges: window.ranges,
+            let found = Run {
+                first: name,
+                end: window.end,
+                cost: RoomCost {
+                    units: window.units,
+                    ranges: window.ranges,
+                },
             };
-            cost = Some(least(cost, found));
+            run = Some(cheaper(run, found));
         }
         at = chain::before(tables, name, count);
     }
-    cost
+    run
 }
 
 /// As `Allocator::room_cost`. The count grows by at most 6 for each block, and 2.
@@ -160,7 +182,8 @@ pub fn room_cost_counted<T: Tables>(
     if size == 0 || uint_to_float_round_down(allocator.free_total) < class {
         return None;
     }
-    least_cost(tables, allocator.store.last, float_to_uint(class), count)
+    let run = cheapest(tables, allocator.store.last, float_to_uint(class), count)?;
+    Some(run.cost)
 }
 
 impl<T: Tables> AllocatorOf<T> {

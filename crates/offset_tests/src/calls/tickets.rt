@@ -22,6 +22,9 @@ fn expect_dead<T: Tables>(rt: &impl Abort, space: &mut GuardedOf<T>, ticket: Tic
     assert_same(rt, &space.offset_of(ticket), &None);
     assert_same(rt, &space.shrink(ticket, 0), &None);
     assert_same(rt, &space.grow_in_place(ticket, 64), &None);
+    assert_same(rt, &space.relocate(ticket), &None);
+    assert_same(rt, &space.live_before(ticket), &None);
+    assert_same(rt, &space.live_after(ticket), &None);
     assert_that(rt, !space.free(ticket));
 }
 
@@ -118,6 +121,39 @@ fn of_ranges_that_change<T: Tables>(rt: &impl Abort, alloc: Global) {
     expect_ticket(rt, third, 32, 3, 0);
 }
 
+// The third range finds a place where the second one was, and the end can go.
+fn of_ranges_from_the_end<T: Tables>(rt: &impl Abort, alloc: Global) {
+    let mut space = make::<T>(rt, alloc, 64, 9);
+    assert_same(rt, &space.last_live(), &None);
+    let first = grant(rt, &mut space, 8);
+    let second = grant(rt, &mut space, 8);
+    let third = grant(rt, &mut space, 8);
+    assert_same(rt, &space.last_live(), &Some(third));
+    assert_same(rt, &space.live_before(third), &Some(second));
+    assert_same(rt, &space.live_after(first), &Some(second));
+    assert_same(rt, &space.live_before(first), &None);
+    assert_same(rt, &space.relocate(third), &None);
+    assert_that(rt, space.free(second));
+    let fourth = space.relocate(third).expect(rt, "a grant");
+    expect_ticket(rt, fourth, 8, 4, 9);
+    assert_that(rt, space.is_live(third));
+    assert_same(rt, &space.live_after(fourth), &Some(third));
+    assert_that(rt, space.free(third));
+    expect_dead(rt, &mut space, third);
+    assert_that(
+        rt,
+        !space.retract(49) && space.retract(48) && !space.retract(1),
+    );
+    assert_same(rt, &space.allocator().size(), &16);
+    assert_same(rt, &space.offset_of(fourth), &Some(8));
+    // where a range moved, its present ticket has another offset
+    assert_that(rt, space.free(first));
+    assert_same(rt, &compacted(&mut space), &8);
+    let mut present = fourth;
+    present.offset = 0;
+    assert_same(rt, &space.last_live(), &Some(present));
+}
+
 // The tickets of the blocks of a space, from its end to its start.
 fn walked<T: Tables>(rt: &impl Abort, alloc: Global, space: &GuardedOf<T>) -> Vec<Option<Ticket>> {
     let mut tickets = Vec::new(alloc);
@@ -181,6 +217,7 @@ impl Expectation for Guards {
         stale_or_altered::<T>(rt, alloc);
         of_another_space::<T>(rt, alloc);
         of_ranges_that_change::<T>(rt, alloc);
+        of_ranges_from_the_end::<T>(rt, alloc);
         of_a_walk::<T>(rt, alloc);
         requests_that_are_refused::<T>(rt, alloc);
         requests_that_are_granted::<T>(rt, alloc);

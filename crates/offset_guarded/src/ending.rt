@@ -1,0 +1,84 @@
+//! The live ranges beside one another in space, and what goes off its end.
+
+ghost use Rattle.std.specs.Prelude.{◌≡◌, ◌↔◌, ◌+◌, ◌≤◌, None, false, IsTrue, option_map};
+ghost use Rattle.offset_allocator.specs.Beside.{last_live, live_after, live_before};
+ghost use Rattle.offset_allocator.specs.Retracting.{CanRetract, Retracts};
+ghost use Rattle.offset_allocator.specs.View.{Grant};
+ghost use Rattle.offset_guarded.specs.Guard.{IsLive, IsSame, KeepsAll, ticket_at};
+
+use crate::GuardedOf;
+use crate::ticket::Ticket;
+use offset_allocator::{Allocation, Tables};
+
+impl<T: Tables> GuardedOf<T> {
+    // The present ticket of a handle.
+    fn ticket_at(&self, handle: Allocation<T::Index>) -> Ticket
+        ensures { result ≡ ticket_at handle self.now }
+    {
+        let (offset, name) = handle.to_parts();
+        Ticket {
+            offset,
+            name,
+            serial: self.serials.at(name),
+            realm: self.realm,
+        }
+    }
+
+    /// The ticket of the live range that is the last one in space, as `Allocator::last_live` finds it, or
+    /// `None` where none is live. Its offset is where the range begins now, as in what `ticket` returns.
+    pub fn last_live(&self) -> Option<Ticket>
+        ensures { result ≡ option_map (λ (h : Grant). ticket_at h self.now) (last_live self.now.space) }
+    {
+        match self.space.last_live() {
+            None => None,
+            Some(handle) => Some(self.ticket_at(handle)),
+        }
+    }
+
+    /// The ticket of the live range directly before that of a ticket. `None` where there is none, or where
+    /// the ticket is not live.
+    pub fn live_before(&self, ticket: Ticket) -> Option<Ticket>
+        ensures before { IsLive ticket self.now → result
+            ≡ option_map (λ (h : Grant). ticket_at h self.now) (live_before ticket.name self.now.space) }
+        ensures gone { (IsLive ticket self.now → ⊥) → result ≡ None }
+    {
+        match self.handle(ticket) {
+            None => None,
+            Some(handle) => match self.space.live_before(handle) {
+                None => None,
+                Some(before) => Some(self.ticket_at(before)),
+            },
+        }
+    }
+
+    /// The ticket of the live range directly after that of a ticket. `None` where there is none, or where
+    /// the ticket is not live.
+    pub fn live_after(&self, ticket: Ticket) -> Option<Ticket>
+        ensures after { IsLive ticket self.now → result
+            ≡ option_map (λ (h : Grant). ticket_at h self.now) (live_after ticket.name self.now.space) }
+        ensures gone { (IsLive ticket self.now → ⊥) → result ≡ None }
+    {
+        match self.handle(ticket) {
+            None => None,
+            Some(handle) => match self.space.live_after(handle) {
+                None => None,
+                Some(after) => Some(self.ticket_at(after)),
+            },
+        }
+    }
+
+    /// Takes `less` free units off the end of the space, as `Allocator::retract` does, and returns whether it
+    /// did.
+    pub fn retract(&mut self, less: u32) -> bool
+        ensures done { IsTrue result ↔ (1 ≤ less → CanRetract less self.old.space) }
+        // Every ticket keeps its range, and a refusal leaves all as it was.
+        ensures size { IsTrue result → self.new.space.size + less ≡ self.old.space.size }
+        ensures kept { KeepsAll self.old self.new }
+        ensures same { result ≡ false → IsSame self.old self.new }
+        ensures step { Retracts less self.old.space self.new.space result }
+        ensures serials { self.new ≡ record self.old { space = self.new.space } }
+        ensures accesses_max { self.new.space.accesses ≤ self.old.space.accesses + 64 }
+    {
+        self.space.retract(less)
+    }
+}

@@ -1,0 +1,102 @@
+// Printed by rust/erase from crates/offset_allocator/src/gathering.rt: change it there.
+
+//! Makes room for a request: slides the live ranges of a run of blocks to its front, so that its free units are one block
+//! after them.
+
+use crate::compact::{Hole, Move, pass, report};
+use crate::index::{NodeIndex, NodeIndexNonMax};
+use crate::room::{RoomCost, cheapest};
+use crate::small_float::{float_to_uint, uint_to_float_round_down, uint_to_float_round_up};
+use crate::store::Store;
+use crate::tables::Tables;
+use crate::{AllocatorOf, bins, chain};
+
+// Slides the used blocks after a free block to the front, and coalesces it with the free ones, which leave their bins,
+// until the free block `end` is coalesced.
+fn slide_to<T: Tables, F: FnMut(Move<T::Index>)>(
+    store: &mut Store<T>,
+    mut hole: Hole,
+    end: u32,
+    moved: &mut F,
+) -> Hole {
+    store.tables.shape();
+    while let Some(next) = chain::after(&store.tables, hole.name, &mut store.accesses) {
+        let more = store.tables.size(next, &mut store.accesses);
+        if chain::is_used(&store.tables, next, &mut store.accesses) {
+            let to = store.tables.offset(hole.name, &mut store.accesses);
+            hole.name = pass(store, hole, to, next, more);
+            report(moved, next, to + hole.size, to, more);
+        } else {
+            hole.size += more;
+            bins::remove(store, next, more);
+            chain::coalesce_after(store, hole.name, next, hole.size);
+            if next == end {
+                return hole;
+            }
+        }
+    }
+    // not reached: the block `end` comes before
+    hole
+}
+
+impl<T: Tables> AllocatorOf<T> {
+    /// Makes room for a request of `size` units where ranges have to move for it, and then as few as possible: slides
+    /// the live ranges of a run of blocks to its front, so that its free units are one block after them, which is large
+    /// enough. The run is one that costs what `room_cost(size)` returns, which this returns too: ask that first where
+    /// a budget has to be kept. `moved` is called for each range that moves, in space order, as by `compact`: the units
+    /// from `from` on are to be copied to `to`.
+    ///
+    /// Every handle stays live, with its name and its size; only the public `offset` of a moved one is that of before.
+    /// Nothing changes, and `moved` is not called, where no range has to move: where `None` is returned, since all free
+    /// units together are not enough, and where the cost has no ranges, since one free block is large enough. Else the
+    /// request is granted afterwards, also at the node limit. For an aligned request ask with `size + align - 1`. Which
+    /// of several runs that cost as much it is, and the name of the free block, are left open. It makes at most 6
+    /// accesses to the tables for each block, 40 for each range that moves, and 20, and takes no memory.
+    pub fn make_room<F: FnMut(Move<T::Index>)>(
+        &mut self,
+        size: u32,
+        moved: &mut F,
+    ) -> Option<RoomCost> {
+        self.formed();
+        let class = uint_to_float_round_up(size);
+        let found = bins::find_at_or_above(
+            &self.store.tables,
+            self.store.top_mask,
+            class,
+            &mut self.store.accesses,
+        );
+        if found.is_some() {
+            return Some(RoomCost {
+                units: 0,
+                ranges: 0,
+            });
+        }
+        // where no block is free, or the class of all free units in one block is too small
+        if size == 0 || uint_to_float_round_down(self.free_total) < class {
+            return None;
+        }
+        let run = cheapest(
+            &self.store.tables,
+            self.store.last,
+            float_to_uint(class),
+            &mut self.store.accesses,
+        )?;
+        if run.cost.ranges == 0 {
+            return Some(run.cost);
+        }
+        let first = self.store.tables.size(run.first, &mut self.store.accesses);
+        bins::remove(&mut self.store, run.first, first);
+        let hole = slide_to(
+            &mut self.store,
+            Hole {
+                name: run.first,
+                size: first,
+            },
+            run.end,
+            moved,
+        );
+        let class = uint_to_float_round_down(hole.size);
+        bins::push(&mut self.store, hole.name, class);
+        Some(run.cost)
+    }
+}
