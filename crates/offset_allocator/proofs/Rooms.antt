@@ -2,15 +2,15 @@
 use Rattle.offset_allocator.proofs.Common.{◌%◌, ◌*◌, value, up, moves, Move, FoldsTo, CanGrant}
 use Rattle.offset_allocator.proofs.{Sliding.moves_idle, Compacting.live_whole, Classes.down_law, Classes.down_small, ViewOrders.names_same, ViewOrders.length_remove_all}
 use Rattle.offset_allocator.proofs.{Advice.free_within, Refusals.total_is, Runs.cheapest_cost, Runs.want_is}
-use Rattle.offset_allocator.proofs.Common.{◌≡◌, ◌≢◌, ℕ, ◌+◌, ◌^◌, ◌<◌, ◌≤◌, ◌⊎◌, Bool, true, false, not, ◌&&◌, Option, Some, None, List, [], ◌∷◌, ◌++◌, length, sum, if◌then◌else◌, nat_eq, refl, sym, ap, ap₂}
-use Rattle.offset_allocator.proofs.Common.{subst, ◌∙◌, arith, inl, inr, append_assoc, append-nil, length-append, eq-zero-or-pos, true≢false, not-true, down, Cells, ChainCells, Block, View, Place}
+use Rattle.offset_allocator.proofs.Common.{◌≡◌, ◌≢◌, ℕ, ◌+◌, ◌^◌, ◌<◌, ◌≤◌, ◌⊎◌, Bool, true, false, not, ◌&&◌, Some, None, List, [], ◌∷◌, ◌++◌, length, sum, if◌then◌else◌, nat_eq, refl, sym, ap, ap₂}
+use Rattle.offset_allocator.proofs.Common.{subst, ◌∙◌, arith, inl, inr, append_assoc, append-nil, length-append, eq-zero-or-pos, true≢false, not-true, down, Cells, Block, View, Place}
 use Rattle.offset_allocator.proofs.Common.{one, free_block, units, free_sizes, used_of, count_named, count_in_bin, bin_at, push, push_all, remove, remove_all, replace, IsApart, IsWellFormed, IsNew}
-use Rattle.offset_allocator.proofs.Common.{starts_free, ends_used, live, SameSpace, HasPlace, blocks, IsBinned, bins_in, AreInBins, IsAmong, last_or, first_or, Node, node, common_steps, KeepsSizes, times}
+use Rattle.offset_allocator.proofs.Common.{starts_free, ends_used, live, SameSpace, HasPlace, blocks, IsBinned, bins_in, AreInBins, IsAmong, last_or, first_or, Node, node}
 use Rattle.offset_allocator.proofs.{Exchange.each-le, Exchange.there-below, Joints.stepped, Joints.free_units-append, Joints.free_units-free, Joints.free_units-used, Joints.remove_free, Places.placed}
 use Rattle.offset_allocator.proofs.{Sound.Fields, Sound.AreSound, Sound.shown, Sound.well_counted, Tallies.one-same, Tallies.times-append, Tallies.tally_append, Tallies.tally_three, Tallies.units-append}
 use Rattle.offset_allocator.proofs.{Tallies.free_units, Tallies.free_sum, Tallies.counted_none, ViewApart.apart_parts, ViewApart.apart_append, ViewApart.ends_free, ViewApart.left_false, ViewApart.right_false, ViewReplaced.IsReplacement, ViewReplaced.well_replaced}
 use Rattle.offset_allocator.proofs.{ViewReplaced.orders_replaced, Filed.share, Filed.counts_once, Sliding.live_used, Sliding.live_idle, Compacting.live_append, Compacting.live_units, Compacting.AreUsed}
-use Rattle.offset_allocator.proofs.{Compacting.live_are_used, Freeing.remove_used, Places.at_place}
+use Rattle.offset_allocator.proofs.{Compacting.live_are_used, Places.at_place}
 use Rattle.offset_allocator.specs.declared.room.RoomCost.{RoomCost}
 use Rattle.offset_allocator.specs.declared.room.Run.{Run}
 use Rattle.offset_allocator.specs.Room.{IsRun, IsCheapest, IsLeastCost, IsStretch, MakesRoom, SlidesRun, cost_of}

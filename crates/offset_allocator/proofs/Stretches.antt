@@ -1,6 +1,6 @@
 -- A free block that slides to the end of a run: used blocks pass it, and free ones leave their bins and go into it.
-use Rattle.offset_allocator.proofs.Common.{◌≡◌, ℕ, ◌+◌, ◌*◌, ◌<◌, ◌≤◌, Bool, true, false, Some, None, List, [], ◌∷◌, ◌++◌, length, if◌then◌else◌, refl, sym, ap, ap₂, subst, ◌∙◌, arith, append_assoc, append-nil}
-use Rattle.offset_allocator.proofs.Common.{length-append, FoldsTo, true≢false, ChainCells, IsChain, Node, node, Block, Place, free_block, units, HasPlace, first_or, last_or, Move, live, moves, move_of, common_steps}
+use Rattle.offset_allocator.proofs.Common.{◌≡◌, ℕ, ◌+◌, ◌*◌, ◌<◌, ◌≤◌, Bool, true, false, Some, None, List, [], ◌∷◌, ◌++◌, length, refl, sym, ap, ap₂, subst, ◌∙◌, arith, append_assoc, append-nil}
+use Rattle.offset_allocator.proofs.Common.{length-append, FoldsTo, true≢false, ChainCells, IsChain, Node, node, Block, Place, free_block, units, HasPlace, last_or, Move, live, moves, move_of}
 use Rattle.offset_allocator.proofs.Common.{coalesced_after, remove_all, remove, down, free_start, without_start, ends_used, sum, free_sizes, AreInBins, count_named}
 use Rattle.offset_allocator.proofs.{Places.placed, Places.at_place, Rows.last_or-append, Rows.times-end, Tallies.units-append, Tallies.one-same, Tallies.times-append, Exchange.each-le}
 use Rattle.offset_allocator.proofs.{Joints.free_units-append, Joints.free_units-free, Joints.free_units-used, Joints.remove_free, Tallies.free_units, Tallies.free_sum}

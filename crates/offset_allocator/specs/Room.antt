@@ -5,8 +5,8 @@ use Rattle.offset_allocator.specs.declared.room.RoomCost.{RoomCost}
 use Rattle.offset_allocator.specs.declared.room.Run.{Run}
 use Rattle.offset_allocator.specs.declared.room.Window.{Window}
 use Rattle.offset_allocator.specs.Chain.{first_or, last_or}
-use Rattle.offset_allocator.specs.View.{View, Block, Place, count_named, ends_used, free_block, free_sizes, replace, starts_free, units}
-use Rattle.offset_allocator.specs.View.{used_of, used_units}
+use Rattle.offset_allocator.specs.View.{View, Block, Place, count_named, ends_used, free_block, free_sizes, replace}
+use Rattle.offset_allocator.specs.View.{starts_free, units, used_of, used_units}
 use Rattle.offset_allocator.specs.Compacting.{Move, live, moves}
 use Rattle.offset_allocator.specs.Relations.{SameSpace}
 use Rattle.std.specs.List.{FoldsTo}
@@ -55,8 +55,8 @@ pub record SlidesRun (want : ℕ) (v w : View) : Type 0 where
   pub absent : count_named name (front ++ (live run ++ back)) ≡ 0
   pub view : SameSpace (replace v front run (live run ++ free_block name (sum (free_sizes run)) ∷ []) back) w
 
--- room is made at a cost: where that has ranges, a run of this cost slides, and a closure is called with the moves of its
--- live blocks; else nothing changes
+-- room is made at a cost: where that has ranges, a run of this cost slides, and a closure is called with the moves of
+-- its live blocks; else nothing changes
 abbrev pub MakesRoom : {F : Type 0} → (F → Move → F → Type 0) → ℕ → View → F → Option RoomCost → View → F → Type 0
 MakesRoom R want v f None w g = SameSpace v w × (g ≡ f)
 MakesRoom R want v f (Some c) w g =

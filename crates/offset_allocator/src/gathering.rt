@@ -1,5 +1,5 @@
-//! Makes room for a request: slides the live ranges of a run of blocks to its front, so that its free units are one block
-//! after them.
+//! Makes room for a request: slides the live ranges of a run of blocks to its front, so that its free units are one
+//! block after them.
 ghost use Rattle.std.specs.Prelude.{ℕ, ◌≡◌, ◌+◌, ◌*◌, ◌≤◌, List, ◌++◌, IfSome, length, sum};
 ghost use Rattle.std.specs.List.{FoldsTo};
 ghost use Rattle.offset_allocator.specs.Accesses.{Costs};
@@ -13,7 +13,6 @@ ghost use Rattle.offset_allocator.specs.Soundness.{AreInBins};
 ghost use Rattle.offset_allocator.specs.Store.{AreBinned, IsPlaceIn, bins_of};
 
 use crate::compact::{Hole, Move, pass, report};
-use crate::index::{NodeIndex, NodeIndexNonMax};
 use crate::room::{RoomCost, cheapest};
 use crate::small_float::{float_to_uint, uint_to_float_round_down, uint_to_float_round_up};
 use crate::store::Store;
@@ -99,8 +98,8 @@ impl<T: Tables> AllocatorOf<T> {
         ensures accesses { Costs 1 (6 * length self.old.blocks + 40 * ranges_of result + 20)
             self.old.accesses self.new.accesses }
         // The step as a whole, with the moves: a run of this cost slides; or nothing changes.
-        ensures step { MakesRoom (IsCalledWith T.Index.NonMax.number (λ f range g. F.step f range tt g)) (value (up size))
-            self.old moved.old result self.new moved.new }
+        ensures step { MakesRoom (IsCalledWith T.Index.NonMax.number (λ f range g. F.step f range tt g))
+            (value (up size)) self.old moved.old result self.new moved.new }
     {
         self.formed();
         let class = uint_to_float_round_up(size);

@@ -1,10 +1,9 @@
 // Printed by rust/erase from crates/offset_allocator/src/gathering.rt: change it there.
 
-//! Makes room for a request: slides the live ranges of a run of blocks to its front, so that its free units are one block
-//! after them.
+//! Makes room for a request: slides the live ranges of a run of blocks to its front, so that its free units are one
+//! block after them.
 
 use crate::compact::{Hole, Move, pass, report};
-use crate::index::{NodeIndex, NodeIndexNonMax};
 use crate::room::{RoomCost, cheapest};
 use crate::small_float::{float_to_uint, uint_to_float_round_down, uint_to_float_round_up};
 use crate::store::Store;

@@ -1,9 +1,10 @@
-//! What `room_cost` returns, against a search over all runs of blocks in random spaces, on both layouts.
+//! What `room_cost` returns and what `make_room` leaves, against a search over all runs of blocks in random spaces, on both
+//! layouts.
 //!
 //! `SPACES=1000000 cargo test --release --test room` tries as many spaces.
 
 use offset_allocator_proved::laws::room_cost_counted;
-use offset_allocator_proved::{Accesses, Allocation, AllocatorOf, ByField, ByNode, Global, Refusal, RoomCost, Tables};
+use offset_allocator_proved::{Accesses, Allocation, AllocatorOf, Block, ByField, ByNode, Global, Refusal, RoomCost, Tables};
 
 /// splitmix64
 struct Random(u64);
@@ -79,6 +80,76 @@ fn space<T: Tables<Index = u32>>(random: &mut Random) -> AllocatorOf<T> {
     space
 }
 
+fn blocks_of<T: Tables<Index = u32>>(space: &AllocatorOf<T>) -> Vec<Block> {
+    let mut blocks: Vec<Block> = space.blocks().collect();
+    blocks.reverse();
+    blocks
+}
+
+// The blocks after the live ones of a run have slid to its front.
+fn slid(blocks: &[Block], first: usize, last: usize) -> Vec<(u32, u32, Option<u32>)> {
+    let run = &blocks[first..=last];
+    let live = run.iter().filter(|it| it.allocation.is_some()).map(|it| (it.size, it.allocation.map(|it| it.name())));
+    let room = run.iter().filter(|it| it.allocation.is_none()).map(|it| it.size).sum();
+    let after = blocks[last + 1..].iter().map(|it| (it.size, it.allocation.map(|it| it.name())));
+    let before = blocks[..first].iter().map(|it| (it.size, it.allocation.map(|it| it.name())));
+    let mut offset = 0;
+    before
+        .chain(live)
+        .chain([(room, None)])
+        .chain(after)
+        .map(|(size, name)| {
+            offset += size;
+            (offset - size, size, name)
+        })
+        .collect()
+}
+
+// Makes room, and copies the data as it says.
+fn try_to_make<T: Tables<Index = u32>>(mut space: AllocatorOf<T>, size: u32, want: u64, wanted: Option<(u32, u32)>) {
+    let before = blocks_of(&space);
+    let bytes = space.write_state(Global).unwrap();
+    let mut data: Vec<Option<u32>> = vec![None; if space.size() < 1000 { space.size() as usize } else { 0 }];
+    for it in &before {
+        if !data.is_empty() {
+            data[it.offset as usize..(it.offset + it.size) as usize].fill(it.allocation.map(|it| it.name()));
+        }
+    }
+    let mut moves = Vec::new();
+    let cost = space.make_room(size, &mut |it| moves.push(it));
+    assert_eq!(cost, wanted.map(|(units, ranges)| RoomCost { units, ranges }));
+    let moved = (moves.iter().map(|it| it.size).sum(), moves.len() as u32);
+    assert_eq!(moved, wanted.unwrap_or((0, 0)));
+    if moved.1 == 0 {
+        assert_eq!(&*space.write_state(Global).unwrap(), &*bytes);
+        return;
+    }
+    assert_eq!(space.refusal(size), None);
+    let after: Vec<_> = blocks_of(&space).iter().map(|it| (it.offset, it.size, it.allocation.map(|it| it.name()))).collect();
+    let is_free = |at: usize| before[at].allocation.is_none();
+    let made = (0..before.len()).filter(|first| is_free(*first)).any(|first| {
+        (first + 1..before.len()).filter(|last| is_free(*last)).any(|last| {
+            let run = &before[first..=last];
+            let live = run.iter().filter(|it| it.allocation.is_some());
+            let room: u64 = run.iter().filter(|it| it.allocation.is_none()).map(|it| u64::from(it.size)).sum();
+            room >= want && live.map(|it| it.size).sum::<u32>() == moved.0 && slid(&before, first, last) == after
+        })
+    });
+    assert!(made, "{size} in {before:?}: {after:?}");
+    for it in &moves {
+        assert!(it.to < it.from && space.allocation_offset(it.allocation()) == Some(it.to));
+        if !data.is_empty() {
+            data.copy_within(it.from as usize..(it.from + it.size) as usize, it.to as usize);
+        }
+    }
+    for (offset, size, name) in after {
+        if !data.is_empty() && name.is_some() {
+            assert!(data[offset as usize..(offset + size) as usize].iter().all(|it| *it == name));
+        }
+    }
+    assert!(space.allocate(size).is_some());
+}
+
 #[derive(Default, Debug)]
 struct Seen {
     none: u64,
@@ -111,6 +182,7 @@ fn try_one<T: Tables<Index = u32>>(random: &mut Random, seen: &mut Seen) {
             Some(Refusal::Fragmented) => assert!(wanted.is_some_and(|(_, ranges)| ranges > 0)),
             Some(_) => assert_eq!(wanted, None),
         }
+        try_to_make(space.try_clone(Global).unwrap(), size, class_value(size), wanted);
         match wanted {
             None => seen.none += 1,
             Some((_, 0)) => seen.nothing += 1,

@@ -1,9 +1,8 @@
-use Rattle.offset_allocator.proofs.Common.{◌≡◌, ◌^◌, ◌∙◌, ◌<◌, ◌≤◌, ℕ, List, [], Option, Some, None, refl, sym, ap, subst, arith, sum, View, IsWellFormed, bins_in, blocks, free_sizes, value, up, down, bin_at, live, length, KeepsSizes, ◌+◌, ◌*◌, true≢false, Node, moves, units, IsCalledWith, FoldsTo}
+use Rattle.offset_allocator.proofs.Common.{◌∙◌, refl, sym, ap, subst, arith, sum, View, free_sizes, value, up, live, length, KeepsSizes, true≢false, Node}
 use Rattle.offset_allocator.proofs.Classes.{below_value_up, down_small}
-use Rattle.offset_allocator.proofs.{Advice.none_free, Advice.free_within, Sound.AreSound, Sound.Fields, Sound.shown, Sound.fields_of, Sound.known_sound, Packed.live_sizes, Taken.HasFit, Refusals.total_is, Places.kept_place, Places.at_place, Filed.unlisted}
-use Rattle.offset_allocator.proofs.Runs.{cheapest_cost, run_some, run_within, one_serves, none_fits, few_units, want_is}
+use Rattle.offset_allocator.proofs.{Advice.none_free, Advice.free_within, Sound.Fields, Sound.shown, Sound.fields_of, Sound.known_sound, Packed.live_sizes, Taken.HasFit, Refusals.total_is, Places.kept_place, Places.at_place, Filed.unlisted}
+use Rattle.offset_allocator.proofs.Runs.{run_some, run_within, one_serves, none_fits, few_units}
 use Rattle.offset_allocator.proofs.Rooms.{found_cost, found_run, few_moved, grants, makes, slides_live, first_at, first_stretch, first_listed, first_filed, slides}
-use Rattle.offset_allocator.specs.Room.{IsLeastCost, IsRun}
 use Rattle.offset_allocator.proofs.AllocatorOf.make_room.Goals.{then-size-eq0-via-then-size-eq0, then-size-eq0-via-else-size-eq0+then-uint_to_float_round_down-class}
 use Rattle.offset_allocator.proofs.AllocatorOf.make_room.Goals as goal
 

@@ -1,4 +1,4 @@
-use Rattle.offset_allocator.proofs.Common.{◌≡◌, ◌≤◌, live, true, false, List, Some, None, [], ◌∷◌, ◌++◌, length, refl, sym, ap, subst, ◌∙◌, arith, length-append, FoldsTo, Node, Block, Place, units, Move, IsCalledWith, ChainCells, node, last_or, bins_in}
+use Rattle.offset_allocator.proofs.Common.{◌≡◌, live, true, false, List, None, ◌++◌, refl, sym, ap, subst, ◌∙◌, arith, FoldsTo, Node, units, Move, IsCalledWith, ChainCells, node, last_or}
 use Rattle.offset_allocator.proofs.Places.{at_place, end_fits, after_fits, kept_place}
 use Rattle.offset_allocator.proofs.{Sliding.next_is, Sliding.at_end, Sliding.same_move, Filed.next_filed}
 use Rattle.offset_allocator.proofs.Stretches.{gather_start, gather_past, gather_into, gather_within, gathered_all, first_part, after_is, goes_on, is_last, not_last}

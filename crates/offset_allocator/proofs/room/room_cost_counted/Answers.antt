@@ -1,9 +1,8 @@
-use Rattle.offset_allocator.proofs.Common.{◌≡◌, ◌^◌, ◌%◌, ◌≤◌, ◌∙◌, ◌<◌, ℕ, List, [], Option, Some, None, true, true≢false, is_some, refl, sym}
-use Rattle.offset_allocator.proofs.Common.{ap, subst, arith, inl, inr, cases_lt, get_or_past, sum, View, IsWellFormed, free_sizes, value, up, down, bin_at}
-use Rattle.offset_allocator.proofs.Classes.{down_law, below_value_up, value_grows, value_down}
-use Rattle.offset_allocator.proofs.{Advice.none_free, Advice.free_within, Sound.Fields, Sound.fields_of, Taken.HasFit, Taken.fitting, Refusals.total_is}
-use Rattle.offset_allocator.proofs.Runs.{cheapest_cost, one_serves, none_fits, few_units, want_is, single_run, run_some, run_within}
-use Rattle.offset_allocator.specs.Bins.{IsFoundFrom}
+use Rattle.offset_allocator.proofs.Common.{◌∙◌, Some, true≢false, sym}
+use Rattle.offset_allocator.proofs.Common.{ap, subst, arith, sum, View, free_sizes}
+use Rattle.offset_allocator.proofs.Classes.{below_value_up}
+use Rattle.offset_allocator.proofs.{Advice.none_free, Advice.free_within, Sound.Fields, Sound.fields_of, Taken.HasFit, Refusals.total_is}
+use Rattle.offset_allocator.proofs.Runs.{cheapest_cost, one_serves, none_fits, few_units, want_is, run_some, run_within}
 use Rattle.offset_allocator.specs.Room.{IsLeastCost}
 use Rattle.offset_allocator.proofs.room.room_cost_counted.Goals.{then-size-eq0-via-then-size-eq0, then-size-eq0-via-else-size-eq0+then-uint_to_float_round_down-class}
 use Rattle.offset_allocator.proofs.room.room_cost_counted.Goals as goal
