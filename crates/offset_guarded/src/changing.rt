@@ -5,6 +5,9 @@ ghost use Rattle.std.specs.Prelude.{length};
 ghost use Rattle.std.specs.List.{FoldsTo};
 ghost use Rattle.offset_allocator.specs.Relations.{CanExtend, Extends};
 ghost use Rattle.offset_allocator.specs.Resizing.{CanGrow, CanShrink, Grows, Shrinks};
+ghost use Rattle.offset_allocator.specs.Classes.{up, value};
+ghost use Rattle.offset_allocator.specs.Requests.{CanGrant};
+ghost use Rattle.offset_allocator.specs.Room.{IsLeastCost, MakesRoom, ranges_of};
 ghost use Rattle.offset_allocator.specs.Compacting.{Compacts, IsCalledWith, moves};
 ghost use Rattle.offset_guarded.specs.Guard.{HasUnits, IsLive, IsSame, KeepsAll, KeepsLive, KeepsOthers};
 ghost use Rattle.offset_guarded.specs.Guard.{KeepsSerials};
@@ -12,7 +15,7 @@ ghost use Rattle.offset_guarded.specs.Guard.{KeepsSizes};
 
 use crate::GuardedOf;
 use crate::ticket::Ticket;
-use offset_allocator::{Move, Tables};
+use offset_allocator::{Move, RoomCost, Tables};
 
 impl<T: Tables> GuardedOf<T> {
     /// Makes the range of a ticket smaller in place, as `Allocator::shrink` does, and returns whether it did;
@@ -99,5 +102,28 @@ impl<T: Tables> GuardedOf<T> {
             ≤ self.old.space.accesses + 24 * length self.old.space.blocks + 512 }
     {
         self.space.compact(moved);
+    }
+
+    /// Makes room for a request of `size` units, where ranges have to move for it, as `Allocator::make_room` does. Every
+    /// ticket stays live, with its size; `offset_of` returns where its range begins.
+    pub fn make_room<F: FnMut(Move<T::Index>)>(
+        &mut self,
+        size: u32,
+        moved: &mut F,
+    ) -> Option<RoomCost>
+        requires callable { F.IsAlwaysCallable moved.old }
+        // It returns what `room_cost` of the allocator would have returned before.
+        ensures cost { IsLeastCost (value (up size)) self.old.space.blocks result }
+        ensures sizes { KeepsSizes self.old self.new }
+        // Where ranges had to move, the allocator can grant the request then.
+        ensures granted { IfSome result (λ c. 1 ≤ c.ranges → CanGrant 1 size self.new.space) }
+        // The step of the allocator, with the moves. All serials stay.
+        ensures step { MakesRoom (IsCalledWith T.Index.NonMax.number (λ f range g. F.step f range tt g))
+            (value (up size)) self.old.space moved.old result self.new.space moved.new }
+        ensures serials { self.new ≡ record self.old { space = self.new.space } }
+        ensures accesses_max { self.new.space.accesses
+            ≤ self.old.space.accesses + 6 * length self.old.space.blocks + 40 * ranges_of result + 20 }
+    {
+        self.space.make_room(size, moved)
     }
 }

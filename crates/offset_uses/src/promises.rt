@@ -2,7 +2,7 @@
 //! on. Where a clause is taken back there, the function here is not proved.
 
 ghost use Rattle.offset_allocator.specs.Accesses.{Costs};
-ghost use Rattle.offset_allocator.specs.Classes.{down};
+ghost use Rattle.offset_allocator.specs.Classes.{down, up, value};
 ghost use Rattle.offset_allocator.specs.Compacting.{Compacts, IsCalledWith, KeepsSizes, live, moves};
 ghost use Rattle.offset_allocator.specs.Ranges.{Grants, IsLive, KeepsAll, KeepsOthers, range_of, size_of};
 ghost use Rattle.offset_allocator.specs.Relations.{Aligns, Allocates, CanExtend, Extends, Frees};
@@ -13,6 +13,7 @@ ghost use Rattle.offset_allocator.specs.Reports.{IsGoodRefusal};
 ghost use Rattle.offset_allocator.specs.Requests.{CanGrant, HasRoomFor, blocks_needed, units_needed};
 ghost use Rattle.offset_allocator.specs.Resizing.{CanGrow, CanShrink, Grows, HasUnits, Shrinks};
 ghost use Rattle.offset_allocator.specs.Retracting.{CanRetract, Retracts};
+ghost use Rattle.offset_allocator.specs.Room.{IsLeastCost, MakesRoom, ranges_of};
 ghost use Rattle.offset_allocator.specs.State.{IsNoState, IsRestored};
 ghost use Rattle.offset_allocator.specs.Statistics.{greatest};
 ghost use Rattle.offset_allocator.specs.Tight.{AlignsTight, CanHold, listed_from};
@@ -21,7 +22,7 @@ ghost use Rattle.std.specs.List.{FoldsTo};
 ghost use Rattle.std.specs.Prelude.{◌%◌, ◌*◌, ◌+◌, ◌-◌, ◌/◌, ◌<◌, ◌↔◌, ◌≡◌, ◌≢◌, ◌≤◌, IfOk, IfSome, IsSome};
 ghost use Rattle.std.specs.Prelude.{IsTrue, None, [], false, length, min, true, ℕ, IsErr};
 
-use offset_allocator::{Allocation, AllocatorOf, Move, StateFault, Tables};
+use offset_allocator::{Allocation, AllocatorOf, Move, RoomCost, StateFault, Tables};
 use std::alloc::{AllocError, Global};
 
 /// `new`, with each clause of its contract.
@@ -249,4 +250,23 @@ pub fn compact<T: Tables, F: FnMut(Move<T::Index>)>(space: &mut AllocatorOf<T>, 
     ensures step { Compacts space.old space.new }
 {
     space.compact(moved);
+}
+
+/// `make_room`, with each clause of its contract.
+pub fn make_room<T: Tables, F: FnMut(Move<T::Index>)>(
+    space: &mut AllocatorOf<T>,
+    size: u32,
+    moved: &mut F,
+) -> Option<RoomCost>
+    requires callable { F.IsAlwaysCallable moved.old }
+    ensures cost { IsLeastCost (value (up size)) space.old.blocks result }
+    ensures live { live space.new.blocks ≡ live space.old.blocks }
+    ensures sizes { KeepsSizes space.old space.new }
+    ensures granted { IfSome result (λ c. 1 ≤ c.ranges → CanGrant 1 size space.new) }
+    ensures accesses { Costs 1 (6 * length space.old.blocks + 40 * ranges_of result + 20)
+        space.old.accesses space.new.accesses }
+    ensures step { MakesRoom (IsCalledWith T.Index.NonMax.number (λ f range g. F.step f range tt g))
+        (value (up size)) space.old moved.old result space.new moved.new }
+{
+    space.make_room(size, moved)
 }

@@ -15,7 +15,8 @@ ghost use Rattle.offset_allocator.specs.Relocating.{Relocates, offset_of};
 ghost use Rattle.offset_allocator.specs.Requests.{CanGrant, blocks_needed, units_needed};
 ghost use Rattle.offset_allocator.specs.Resizing.{CanGrow, CanShrink, Grows, Shrinks};
 ghost use Rattle.offset_allocator.specs.Retracting.{CanRetract, Retracts};
-ghost use Rattle.offset_allocator.specs.Classes.{down};
+ghost use Rattle.offset_allocator.specs.Classes.{down, up, value};
+ghost use Rattle.offset_allocator.specs.Room.{IsLeastCost, MakesRoom, ranges_of};
 ghost use Rattle.offset_allocator.specs.Tight.{AlignsTight, CanHold, listed_from};
 ghost use Rattle.offset_allocator.specs.View.{Grant, bin_at, largest_free, used_of};
 ghost use Rattle.offset_guarded.specs.Guard.{Grants, HasSerialLeft, HasUnits, IsCopy, IsLive, IsSame, IsWhy};
@@ -24,7 +25,7 @@ ghost use Rattle.offset_guarded.specs.Guard.{KeepsSizes, grant_of, last_serial, 
 ghost use Rattle.offset_guarded.specs.State.{IsNoState, IsRestored, IsStateOf, IsWellFormed};
 ghost use Rattle.offset_allocator.specs.Ranges as named;
 
-use offset_allocator::{Allocation, AllocatorOf, Move, Tables};
+use offset_allocator::{Allocation, AllocatorOf, Move, RoomCost, Tables};
 use offset_guarded::laws::a_state_is_read_back;
 use offset_guarded::{GuardedOf, Refusal, StateFault, Ticket};
 use std::alloc::{AllocError, Global};
@@ -390,4 +391,23 @@ pub fn compact<T: Tables, F: FnMut(Move<T::Index>)>(space: &mut GuardedOf<T>, mo
         ≤ space.old.space.accesses + 24 * length space.old.space.blocks + 512 }
 {
     space.compact(moved);
+}
+
+/// `make_room`, with each clause of its contract.
+pub fn make_room<T: Tables, F: FnMut(Move<T::Index>)>(
+    space: &mut GuardedOf<T>,
+    size: u32,
+    moved: &mut F,
+) -> Option<RoomCost>
+    requires callable { F.IsAlwaysCallable moved.old }
+    ensures cost { IsLeastCost (value (up size)) space.old.space.blocks result }
+    ensures sizes { KeepsSizes space.old space.new }
+    ensures granted { IfSome result (λ c. 1 ≤ c.ranges → CanGrant 1 size space.new.space) }
+    ensures step { MakesRoom (IsCalledWith T.Index.NonMax.number (λ f range g. F.step f range tt g))
+        (value (up size)) space.old.space moved.old result space.new.space moved.new }
+    ensures serials { space.new ≡ record space.old { space = space.new.space } }
+    ensures accesses_max { space.new.space.accesses
+        ≤ space.old.space.accesses + 6 * length space.old.space.blocks + 40 * ranges_of result + 20 }
+{
+    space.make_room(size, moved)
 }

@@ -4,7 +4,7 @@
 
 use crate::GuardedOf;
 use crate::ticket::Ticket;
-use offset_allocator::{Move, Tables};
+use offset_allocator::{Move, RoomCost, Tables};
 
 impl<T: Tables> GuardedOf<T> {
     /// Makes the range of a ticket smaller in place, as `Allocator::shrink` does, and returns whether it did;
@@ -44,5 +44,15 @@ impl<T: Tables> GuardedOf<T> {
     /// live, with its size; `offset_of` returns where its range begins.
     pub fn compact<F: FnMut(Move<T::Index>)>(&mut self, moved: &mut F) {
         self.space.compact(moved);
+    }
+
+    /// Makes room for a request of `size` units, where ranges have to move for it, as `Allocator::make_room` does. Every
+    /// ticket stays live, with its size; `offset_of` returns where its range begins.
+    pub fn make_room<F: FnMut(Move<T::Index>)>(
+        &mut self,
+        size: u32,
+        moved: &mut F,
+    ) -> Option<RoomCost> {
+        self.space.make_room(size, moved)
     }
 }
