@@ -331,6 +331,12 @@ public:
         oa_compact(space, detail::Calling<F>::moved, &each);
         each.finish();
     }
+    template <class F> RoomCost makeRoom(uint32 size, F &&moved) {
+        detail::Moving<F> each(moved);
+        RoomCost cost = detail::of(oa_make_room(space, size, detail::Moving<F>::call, &each));
+        each.finish();
+        return cost;
+    }
 
     // Calls seen(Block) for each block, from the start of the space to its end, of a list that is made first: seen may
     // change the allocator. False where memory for the list is out.
@@ -474,6 +480,12 @@ public:
         detail::Calling<F> each(moved);
         oag_compact(space, detail::Calling<F>::moved, &each);
         each.finish();
+    }
+    template <class F> RoomCost makeRoom(uint32 size, F &&moved) {
+        detail::Moving<F> each(moved);
+        RoomCost cost = detail::of(oag_make_room(space, size, detail::Moving<F>::call, &each));
+        each.finish();
+        return cost;
     }
     template <class F> bool eachBlock(F &&seen) const { return detail::each(oag_blocks_new(space), seen); }
     Blocks blocks() const {

@@ -103,7 +103,7 @@ typedef enum oa_reason {
     OA_SERIALS = 6     /* All serials are given (oag_refusal alone). Use another space. */
 } oa_reason;
 
-/* A range that oa_compact moves: its units were at from, and have to be at to, which is smaller. */
+/* A range that oa_compact or oa_make_room moves: its units were at from, and have to be at to, which is smaller. */
 typedef struct oa_move {
     uint32_t from;
     uint32_t to;
@@ -264,6 +264,13 @@ bool oa_copy_in_pieces(uint32_t from, uint32_t to, uint32_t size, uint32_t most,
 oa_allocation oa_last_live(const oa_allocator *space);
 oa_allocation oa_live_before(const oa_allocator *space, oa_allocation allocation);
 oa_allocation oa_live_after(const oa_allocator *space, oa_allocation allocation);
+
+/* Makes room for a request of this size where ranges have to move for it: slides those of a run of blocks that costs what
+ * oa_room_cost returns to its front, so that its free units are one block after them, which is large enough. `moved` is
+ * called as by oa_compact. Handles stay live. Returns what oa_room_cost would have returned before; where that is not
+ * possible or has no ranges, nothing changes. Else oa_allocate grants the request afterwards, at the node limit too.
+ * All 0 for null. Cost: 6 accesses a block, 40 a range that moves, and 20. */
+oa_room oa_make_room(oa_allocator *space, uint32_t size, void (*moved)(void *user, oa_move range), void *user);
 
 /* The units of the space, with what oa_extend added; 0 for null. */
 uint32_t oa_size(const oa_allocator *space);
@@ -428,6 +435,9 @@ oag_ticket oag_live_after(const oag_allocator *space, oag_ticket ticket);
 
 /* As oa_compact. Tickets stay live; metadata of a move is the name in the ticket. */
 void oag_compact(oag_allocator *space, void (*moved)(void *user, oa_move range), void *user);
+
+/* As oa_make_room; the same of tickets. */
+oa_room oag_make_room(oag_allocator *space, uint32_t size, void (*moved)(void *user, oa_move range), void *user);
 
 /* As the calls oa_* of these names. */
 uint32_t oag_size(const oag_allocator *space);

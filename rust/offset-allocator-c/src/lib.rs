@@ -13,7 +13,9 @@ use core::ptr::NonNull;
 use offset_allocator_guarded::{Guarded, Ticket};
 use offset_allocator_proved::ext::min_allocator_size;
 use offset_allocator_proved::small_float::{float_to_uint, uint_to_float_round_down, uint_to_float_round_up};
-use offset_allocator_proved::{Allocation, Allocator, Global, Move, MovePieces, Piece, Refusal, StateFaultKind};
+use offset_allocator_proved::{
+    Allocation, Allocator, Global, Move, MovePieces, Piece, Refusal, RoomCost, StateFaultKind,
+};
 
 /// The value of a missing offset or name.
 pub const NO_SPACE: u32 = u32::MAX;
@@ -240,8 +242,8 @@ fn totals(space: &Allocator) -> Totals {
     }
 }
 
-fn room(space: &Allocator, size: u32) -> Room {
-    space.room_cost(size).map_or(Room::default(), |cost| Room { possible: true, units: cost.units, ranges: cost.ranges })
+fn room(cost: Option<RoomCost>) -> Room {
+    cost.map_or(Room::default(), |cost| Room { possible: true, units: cost.units, ranges: cost.ranges })
 }
 
 fn full(space: &Allocator) -> FullReport {
@@ -482,6 +484,15 @@ exports! {
         handle(live(space, allocation).and_then(|allocation| space.live_after(allocation)))
     } else NOTHING;
 
+    fn oa_make_room(
+        [space: &mut Space],
+        size: u32,
+        moved: Option<Callback>,
+        user: Option<NonNull<c_void>>
+    ) -> Room {
+        room(space.make_room(size, &mut calls(moved, user)))
+    } else Room::default();
+
     fn oa_size([space: &Space],) -> u32 { space.size() } else 0;
 
     fn oa_max_allocs([space: &Space],) -> u32 { space.max_allocs() } else 0;
@@ -514,7 +525,7 @@ exports! {
         if align.is_power_of_two() { reason(space.refusal_tight_aligned(size, align)) } else { Reason::BadCall }
     } else Reason::BadCall;
 
-    fn oa_room_cost([space: &Space], size: u32) -> Room { room(space, size) } else Room::default();
+    fn oa_room_cost([space: &Space], size: u32) -> Room { room(space.room_cost(size)) } else Room::default();
 
     fn oa_min_allocator_size(size: u32) -> u32 {
         if size <= 4_026_531_840 { min_allocator_size(size) } else { 0 }
@@ -623,6 +634,15 @@ exports! {
         space.compact(&mut calls(moved, user))
     } else ();
 
+    fn oag_make_room(
+        [space: &mut GuardedSpace],
+        size: u32,
+        moved: Option<Callback>,
+        user: Option<NonNull<c_void>>
+    ) -> Room {
+        room(space.make_room(size, &mut calls(moved, user)))
+    } else Room::default();
+
     fn oag_size([space: &GuardedSpace],) -> u32 { space.allocator().size() } else 0;
 
     fn oag_max_allocs([space: &GuardedSpace],) -> u32 { space.allocator().max_allocs() } else 0;
@@ -673,5 +693,5 @@ exports! {
         if align.is_power_of_two() { guarded_reason(space.refusal_tight_aligned(size, align)) } else { Reason::BadCall }
     } else Reason::BadCall;
 
-    fn oag_room_cost([space: &GuardedSpace], size: u32) -> Room { room(space.allocator(), size) } else Room::default();
+    fn oag_room_cost([space: &GuardedSpace], size: u32) -> Room { room(space.allocator().room_cost(size)) } else Room::default();
 }

@@ -320,6 +320,19 @@ static void room(void) {
     CHECK(oa_free(space, first) && oa_free(space, second) && oa_block_count(space) == 5);
     CHECK(costs(oa_room_cost(space, 48), 0, 0) && costs(oa_room_cost(space, 49), 12, 1) && costs(oa_room_cost(space, 52), 12, 1));
     CHECK(costs(oa_room_cost(space, 57), 32, 2) && costs(oa_room_cost(space, 64), 32, 2) && costs(oa_room_cost(space, 0), 0, 0));
+    struct copied data = {{0}, 0, {0, 0}};
+    memset(data.bytes + 10, 'a', 20);
+    memset(data.bytes + 38, 'b', 12);
+    CHECK(!oa_make_room(space, 65, copy, &data).possible && costs(oa_make_room(space, 48, copy, &data), 0, 0) && !data.moves);
+    /* the 12 units go to 30, and 58 free ones are after them; then the 20 go to the front */
+    CHECK(costs(oa_make_room(space, 49, copy, &data), 12, 1) && data.moves == 1 && data.last.offset == 30);
+    CHECK(!memcmp(data.bytes + 30, "bbbbbbbbbbbb", 12) && oa_block_count(space) == 4 && oa_refusal(space, 49) == OA_GRANTED);
+    CHECK(costs(oa_make_room(space, 64, copy, &data), 32, 2) && data.moves == 3 && data.last.offset == 20);
+    CHECK(!memcmp(data.bytes, "aaaaaaaaaaaaaaaaaaaabbbbbbbbbbbb", 32) && oa_allocate(space, 64).offset == 32);
+    oa_drop(space);
+    space = oa_new(100, 16);
+    oa_allocate(space, 36);
+    oa_allocate(space, 1);
     CHECK(!oa_room_cost(space, 65).possible && !oa_room_cost(space, 4294967295u).possible && !oa_room_cost(space, 65).units);
     oa_drop(space);
 }
@@ -331,7 +344,7 @@ static void nulls(void) {
     CHECK(is_nothing(oa_allocate(NULL, 1)) && is_nothing(oa_allocate_aligned(NULL, 1, 1)));
     CHECK(is_nothing(oa_allocate_tight(NULL, 1)) && is_nothing(oa_allocate_tight_aligned(NULL, 1, 1)));
     CHECK(oa_refusal_tight(NULL, 0) == OA_BAD_CALL && oa_refusal_tight_aligned(NULL, 0, 1) == OA_BAD_CALL);
-    CHECK(!oa_room_cost(NULL, 0).possible);
+    CHECK(!oa_room_cost(NULL, 0).possible && !oa_make_room(NULL, 0, copy, NULL).possible);
     CHECK(!oa_retract(NULL, 0) && is_nothing(oa_relocate(NULL, a)) && is_nothing(oa_last_live(NULL)));
     CHECK(is_nothing(oa_live_before(NULL, a)) && is_nothing(oa_live_after(NULL, a)));
     CHECK(!oa_free(NULL, a) && !oa_is_live(NULL, a) && !oa_allocation_size(NULL, a));

@@ -232,6 +232,12 @@ static void beside() {
     a.free(live[2]);
     CHECK(a.refusal(48) == Refusal::fragmented && a.blockCount() == 5 && !a.isFull());
     std::vector<uint32> to;
+    // 24 free, 24 live, 24 free, 24 live, and 4 free: the first two holes do
+    Allocator copied = a.clone();
+    RoomCost made = copied.makeRoom(48, [&](Move m) { to.push_back(m.to); CHECK(m.from == 24 && m.size == 24); });
+    CHECK(made.possible && made.ranges == 1 && made.units == 24 && to == std::vector<uint32>{0} && copied.refusal(48) == Refusal::granted);
+    CHECK(!copied.makeRoom(97, [](Move) {}).possible && copied.allocate(48).offset == 24);
+    to.clear();
     a.compact([&](Move m) { to.push_back(m.to); CHECK(m.allocation.offset == m.to && m.size == 24 && m.to < m.from); });
     CHECK(to == (std::vector<uint32>{0, 24}) && a.refusal(48) == Refusal::granted);
     CHECK(a.allocationOffset(live[1]) == 0 && a.allocationOffset(live[0]) == Allocation::NO_SPACE);
@@ -324,6 +330,7 @@ static void tickets() {
     CHECK(g.eachBlock([&](Block b) { used += b.used; }) && used == 2);
     CHECK(g.free(u));
     std::vector<uint32> to;
+    CHECK(g.makeRoom(1, [&](Move m) { to.push_back(m.to); }).ranges == 0 && to.empty());
     g.compact([&](Move m) { to.push_back(m.to); CHECK(m.allocation.metadata == v.name); });
     CHECK(to == (std::vector<uint32>{0}) && g.isLive(v) && g.offsetOf(v) == 0);
     bool caught = false;

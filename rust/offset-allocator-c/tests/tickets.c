@@ -205,7 +205,7 @@ static void nulls(void) {
     CHECK(!oag_realm(NULL) && !oag_blocks_new(NULL) && !oag_ticket_of(NULL, handle).serial);
     CHECK(oag_refusal_aligned(NULL, 1, 1) == OA_BAD_CALL && !oag_storage_report_full(NULL).free_regions[0].count);
     CHECK(oag_is_empty(NULL) && !oag_free_units(NULL) && !oag_live_units(NULL) && !oag_statistics(NULL).unused_nodes);
-    CHECK(!oag_room_cost(NULL, 0).possible);
+    CHECK(!oag_room_cost(NULL, 0).possible && !oag_make_room(NULL, 0, NULL, NULL).possible);
     oag_walk_start(NULL, &walk);
     CHECK(oa_walk_next(&walk).kind == OA_END);
     CHECK(oag_refusal_tight(NULL, 1) == OA_BAD_CALL && oag_refusal_tight_aligned(NULL, 1, 1) == OA_BAD_CALL);
