@@ -1,7 +1,9 @@
 //! What has to move at least for a request.
 
 use super::steps::Limit::{Few, Limited};
-use super::steps::Step::{Costs, CostsNot, Frees, Grants, Is, Lacks, Walks};
+use super::steps::Step::{
+    Begins, Costs, CostsNot, Counts, Frees, Grants, Is, Lacks, Lives, Makes, MakesNot, Walks,
+};
 use super::steps::{Case, expect_all};
 use offset_allocator::Refusal::{Fragmented, Nodes, Space, TooLarge};
 
@@ -141,6 +143,115 @@ const COSTS: [Case; 7] = [
         steps: &[Costs(0, 0, 0), CostsNot(1), Grants(0, 0), CostsNot(0)],
     },
 ];
+
+const MADE: [Case; 4] = [
+    // 10 free units, 20 live, 8 free, 12 live, 50 free. The last three blocks become 12 live and 58 free ones.
+    Case {
+        name: "slides the cheapest run alone",
+        size: 100,
+        limit: Limited(8),
+        steps: &[
+            Grants(10, 0),
+            Grants(20, 10),
+            Grants(8, 30),
+            Grants(12, 38),
+            Frees(0),
+            Frees(2),
+            MakesNot(65),
+            Makes(48, 0, 0, &[]),
+            Makes(52, 12, 1, &[(3, 38, 30, 12)]),
+            Walks(&[
+                (42, 58, None),
+                (30, 12, Some(3)),
+                (10, 20, Some(1)),
+                (0, 10, None),
+            ]),
+            Counts(&[(10, 10, 1), (30, 56, 1)]),
+            Lives(3, 12),
+            Begins(3, 30),
+            Makes(64, 32, 2, &[(1, 10, 0, 20), (3, 30, 20, 12)]),
+            Counts(&[(32, 64, 1)]),
+            Grants(64, 32),
+            Frees(1),
+            Begins(3, 20),
+        ],
+    },
+    // Blocks before and after the run stay, free ones too. Of the free blocks of 4 units the new one is of another class.
+    Case {
+        name: "leaves what is before and after",
+        size: 27,
+        limit: Limited(10),
+        steps: &[
+            Grants(4, 0),
+            Grants(5, 4),
+            Grants(4, 9),
+            Grants(1, 13),
+            Grants(4, 14),
+            Grants(5, 18),
+            Grants(4, 23),
+            Frees(0),
+            Frees(2),
+            Frees(4),
+            Frees(6),
+            Makes(8, 1, 1, &[(3, 13, 9, 1)]),
+            Walks(&[
+                (23, 4, None),
+                (18, 5, Some(5)),
+                (10, 8, None),
+                (9, 1, Some(3)),
+                (4, 5, Some(1)),
+                (0, 4, None),
+            ]),
+            Counts(&[(4, 4, 2), (8, 8, 1)]),
+            Grants(8, 10),
+            Grants(4, 23),
+            Grants(4, 0),
+        ],
+    },
+    // Two free blocks become one, so the request is granted.
+    Case {
+        name: "at the node limit",
+        size: 100,
+        limit: Limited(4),
+        steps: &[
+            Grants(10, 0),
+            Grants(10, 10),
+            Makes(50, 0, 0, &[]),
+            Lacks(50, Nodes),
+            Frees(0),
+            Lacks(88, Nodes),
+            Makes(88, 10, 1, &[(1, 10, 0, 10)]),
+            Is(100, 2, false),
+            Grants(88, 10),
+            Is(100, 3, true),
+        ],
+    },
+    // A free block within the run goes into the one after it, and a range of no units moves.
+    Case {
+        name: "a run of several free blocks",
+        size: 18,
+        limit: Limited(10),
+        steps: &[
+            Grants(3, 0),
+            Grants(0, 3),
+            Grants(3, 3),
+            Grants(2, 6),
+            Grants(10, 8),
+            Frees(0),
+            Frees(2),
+            Frees(4),
+            Makes(16, 2, 2, &[(1, 3, 0, 0), (3, 6, 0, 2)]),
+            Walks(&[(2, 16, None), (0, 2, Some(3)), (0, 0, Some(1))]),
+            Makes(16, 0, 0, &[]),
+            Grants(16, 2),
+        ],
+    },
+];
+
+#[test]
+fn room_is_made(rt: HostRuntime) {
+    expect_all(&rt, rt.alloc(), &MADE);
+}
 
 #[test]
 fn the_least_units_move(rt: HostRuntime) {

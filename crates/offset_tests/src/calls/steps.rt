@@ -65,6 +65,10 @@ pub enum Step {
     /// The grants of these numbers move, in this order and no others: each from an offset to another one, with this
     /// size.
     Compacts(&'static [(usize, u32, u32, u32)]),
+    /// Room is made for a request of this size: so many units move, in so many ranges, as with `Compacts`.
+    Makes(u32, u32, u32, &'static [(usize, u32, u32, u32)]),
+    /// No room can be made for a request of this size, and nothing moves.
+    MakesNot(u32),
     /// The range of the grant of this number begins at this offset, whatever the offset of its handle is.
     Begins(usize, u32),
     /// A request of this size is refused for this reason.
@@ -379,6 +383,31 @@ fn expect_moves<T: Tables>(
     assert_same_at(rt, at, &count, &wanted.len());
 }
 
+fn expect_made<T: Tables>(
+    rt: &impl Abort,
+    at: &Place,
+    allocator: &mut AllocatorOf<T>,
+    handles: &[Allocation<T::Index>],
+    size: u32,
+    cost: Option<RoomCost>,
+    wanted: &[(usize, u32, u32, u32)],
+) {
+    let mut count = 0usize;
+    let mut first_wrong = None;
+    let found = allocator.make_room(
+        size,
+        &mut |range: Move<T::Index>| {
+            if first_wrong.is_none() && !is_wanted(&range, handles, wanted.get(count)) {
+                first_wrong = Some((count, range.from, range.to, range.size));
+            }
+            count = count.saturating_add(1);
+        },
+    );
+    assert_same_at(rt, at, &found, &cost);
+    assert_same_at(rt, at, &first_wrong, &None);
+    assert_same_at(rt, at, &count, &wanted.len());
+}
+
 // Whether a block has the handle of a grant, at this offset, or none where it is free.
 fn has_handle<NI: NodeIndex>(
     found: Option<Allocation<NI>>,
@@ -683,6 +712,14 @@ fn take<T: Tables>(
         }
         Step::Resets => allocator.reset(),
         Step::Compacts(wanted) => expect_moves(rt, at, allocator, handles.as_slice(), wanted),
+        Step::Makes(size, units, ranges, wanted) => {
+            let (units, ranges) = (*units, *ranges);
+            let cost = Some(RoomCost { units, ranges });
+            expect_made(rt, at, allocator, handles.as_slice(), *size, cost, wanted);
+        }
+        Step::MakesNot(size) => {
+            expect_made(rt, at, allocator, handles.as_slice(), *size, None, &[]);
+        }
         Step::Frees(number)
         | Step::FreesAltered(number, _)
         | Step::Shrinks(number, _, _)
