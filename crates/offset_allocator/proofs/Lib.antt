@@ -51,6 +51,7 @@ pub mod Resizing
 pub mod Restored
 pub mod Retracted
 pub mod Rows
+pub mod RoomAdvice
 pub mod Rooms
 pub mod Runs
 pub mod Served

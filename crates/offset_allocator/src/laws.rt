@@ -1,7 +1,7 @@
 //! Laws: that a grant can be undone, and what holds of every allocator. Except `undo` and `unused_names`, their
 //! functions do nothing. With them are the calls that leave an allocator as it is, with a count of their accesses.
 ghost use Rattle.std.specs.Prelude.{◌≡◌, ◌≢◌, ◌<◌, ◌≤◌, ◌+◌, ◌-◌, ◌*◌, ◌%◌, ◌↔◌, ℕ, List, ◌++◌, false};
-ghost use Rattle.std.specs.Prelude.{IsTrue, Some, length, min, sum};
+ghost use Rattle.std.specs.Prelude.{IsTrue, None, Option, Some, length, min, sum};
 ghost use Rattle.std.specs.Int.{IsPowerOfTwo};
 ghost use Rattle.std.specs.List.{AllByRecursion};
 ghost use Rattle.offset_allocator.specs.Accesses.{Costs};
@@ -17,7 +17,9 @@ ghost use Rattle.offset_allocator.specs.Tight.{CanHold, IsWhyTight};
 ghost use Rattle.offset_allocator.specs.declared.reports.StorageReport.{StorageReport};
 ghost use Rattle.offset_allocator.specs.declared.statistics.Statistics.{Statistics};
 ghost use Rattle.offset_allocator.specs.declared.reports.Refusal.{Refusal};
-ghost use Rattle.offset_allocator.specs.declared.reports.Refusal.TheVariants.{TooLarge, Fragmented};
+ghost use Rattle.offset_allocator.specs.declared.reports.Refusal.TheVariants.{TooLarge, Space, Fragmented};
+ghost use Rattle.offset_allocator.specs.declared.room.RoomCost.{RoomCost};
+ghost use Rattle.offset_allocator.specs.Room.{IsLeastCost, ranges_of};
 ghost use Rattle.offset_allocator.specs.Compacting.{moves, AreSafe, Compacts};
 ghost use Rattle.offset_allocator.specs.Copies.{pieces, copied, all_copied, ArePieces};
 
@@ -209,6 +211,22 @@ pub fn refusals_advise<T: Tables>(allocator: &AllocatorOf<T>)
         → IsWhy blocks units allocator.now s → r ≡ s }
     ensures none { (blocks units : ℕ) (r : Refusal) → IsWhy blocks units allocator.now r
         → CanGrant blocks units allocator.now → ⊥ }
+{
+    allocator.formed();
+}
+
+/// What `room_cost` returns, and `make_room` moves, beside the reason of a refusal: nothing where the request is granted;
+/// at least one range where it is refused as `Fragmented`, and after that move it is granted; and `None`, where nothing
+/// moves, where it is refused as `Space` or `TooLarge`.
+pub fn room_is_advised<T: Tables>(allocator: &AllocatorOf<T>)
+    ensures granted { (n : ℕ) (c : Option RoomCost) → CanGrant 1 n allocator.now
+        → IsLeastCost (value (up n)) allocator.now.blocks c → c ≡ Some (record { units = 0; ranges = 0 }) }
+    ensures fragmented { (n : ℕ) (c : Option RoomCost) → IsWhy 1 n allocator.now Fragmented
+        → IsLeastCost (value (up n)) allocator.now.blocks c → 1 ≤ ranges_of c }
+    ensures space { (n : ℕ) (c : Option RoomCost) → IsWhy 1 n allocator.now Space
+        → IsLeastCost (value (up n)) allocator.now.blocks c → c ≡ None }
+    ensures large { (n : ℕ) (c : Option RoomCost) → IsWhy 1 n allocator.now TooLarge
+        → IsLeastCost (value (up n)) allocator.now.blocks c → c ≡ None }
 {
     allocator.formed();
 }
