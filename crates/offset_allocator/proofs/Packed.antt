@@ -1,5 +1,6 @@
 -- What holds after the live ranges are packed, and of the moves that pack them.
-use Rattle.offset_allocator.proofs.Common.{◌≡◌, sym, append-nil, ◌↔◌, ℕ, ◌+◌, ◌≤◌, Bool, true, false, Option, Some, None, List, [], ◌∷◌, ◌++◌, sum, if◌then◌else◌, nat_eq, option_map, option_and_then, refl, ap, ◌∙◌}
+use Rattle.offset_allocator.proofs.Common.{◌≡◌, sym, append-nil, ◌↔◌, ℕ, ◌+◌, ◌≤◌, Bool, true, false, Option, Some}
+use Rattle.offset_allocator.proofs.Common.{None, List, [], ◌∷◌, ◌++◌, sum, if◌then◌else◌, nat_eq, option_map, option_and_then, refl, ap, ◌∙◌}
 use Rattle.offset_allocator.proofs.Common.{arith, AllByRecursion, cases_eq, nat_tests, sum_by-cons, value, down, largest, Block, View, Place, one, place_of, count_named, free_sizes, units}
 use Rattle.offset_allocator.proofs.Common.{IsWellFormed, CanGrant, HasRoomFor, Range, Move, live, moves, move_of, gathered, AreSafe, KeepsSizes, Compacts, common_steps}
 use Rattle.offset_allocator.proofs.ViewFits.{fits_exactly, largest_small}

@@ -3,7 +3,8 @@ use Rattle.offset_allocator.proofs.Common.{◌≡◌, ℕ, ◌^◌, ◌<◌, ◌
 use Rattle.offset_allocator.proofs.Common.{inl, inr, eq-zero-or-pos, true≢false, not-true, Block, View, IsWellFormed, IsApart, CanGrant, IsWhy, free_sizes}
 use Rattle.offset_allocator.proofs.Common.{starts_free, ends_used, used_of, one, value, up, down, times, units, first_free}
 use Rattle.offset_allocator.proofs.{Advice.none_free, Advice.free_within, Taken.HasFit, Taken.fitting, Classes.value_rises, Classes.down_law, Classes.value_grows, Classes.value_down}
-use Rattle.offset_allocator.proofs.{ViewFits.HasName, ViewFits.there_listed, ViewFits.there_middle, ViewApart.apart_parts, Tallies.free_units, Tallies.free_sum, Tallies.units-append, Joints.free_units-append, Joints.free_units-free}
+use Rattle.offset_allocator.proofs.{ViewFits.HasName, ViewFits.there_listed, ViewFits.there_middle, ViewApart.apart_parts}
+use Rattle.offset_allocator.proofs.{Tallies.free_units, Tallies.free_sum, Tallies.units-append, Joints.free_units-append, Joints.free_units-free}
 use Rattle.offset_allocator.proofs.{Joints.free_units-used, Compacting.AreUsed, Compacting.IsFirst, Compacting.first_is, Runs.single_run, Runs.run_some, Runs.run_within}
 use Rattle.offset_allocator.specs.declared.reports.Refusal.TheVariants.{TooLarge, Space, Fragmented}
 use Rattle.offset_allocator.specs.declared.room.RoomCost.{RoomCost}

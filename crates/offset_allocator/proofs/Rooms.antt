@@ -7,9 +7,12 @@ use Rattle.offset_allocator.proofs.Common.{subst, ◌∙◌, arith, inl, inr, ap
 use Rattle.offset_allocator.proofs.Common.{one, free_block, units, free_sizes, used_of, count_named, count_in_bin, bin_at, push, push_all, remove, remove_all, replace, IsApart, IsWellFormed, IsNew}
 use Rattle.offset_allocator.proofs.Common.{starts_free, ends_used, live, SameSpace, HasPlace, blocks, IsBinned, bins_in, AreInBins, IsAmong, last_or, first_or, Node, node}
 use Rattle.offset_allocator.proofs.{Exchange.each-le, Exchange.there-below, Joints.stepped, Joints.free_units-append, Joints.free_units-free, Joints.free_units-used, Joints.remove_free, Places.placed}
-use Rattle.offset_allocator.proofs.{Sound.Fields, Sound.AreSound, Sound.shown, Sound.well_counted, Tallies.one-same, Tallies.times-append, Tallies.tally_append, Tallies.tally_three, Tallies.units-append}
-use Rattle.offset_allocator.proofs.{Tallies.free_units, Tallies.free_sum, Tallies.counted_none, ViewApart.apart_parts, ViewApart.apart_append, ViewApart.ends_free, ViewApart.left_false, ViewApart.right_false, ViewReplaced.IsReplacement, ViewReplaced.well_replaced}
-use Rattle.offset_allocator.proofs.{ViewReplaced.orders_replaced, Filed.share, Filed.counts_once, Sliding.live_used, Sliding.live_idle, Compacting.live_append, Compacting.live_units, Compacting.AreUsed}
+use Rattle.offset_allocator.proofs.{Sound.Fields, Sound.AreSound, Sound.shown, Sound.well_counted}
+use Rattle.offset_allocator.proofs.{Tallies.one-same, Tallies.times-append, Tallies.tally_append, Tallies.tally_three, Tallies.units-append}
+use Rattle.offset_allocator.proofs.{Tallies.free_units, Tallies.free_sum, Tallies.counted_none, ViewApart.apart_parts, ViewApart.apart_append}
+use Rattle.offset_allocator.proofs.{ViewApart.ends_free, ViewApart.left_false, ViewApart.right_false, ViewReplaced.IsReplacement, ViewReplaced.well_replaced}
+use Rattle.offset_allocator.proofs.{ViewReplaced.orders_replaced, Filed.share, Filed.counts_once, Sliding.live_used}
+use Rattle.offset_allocator.proofs.{Sliding.live_idle, Compacting.live_append, Compacting.live_units, Compacting.AreUsed}
 use Rattle.offset_allocator.proofs.{Compacting.live_are_used, Places.at_place}
 use Rattle.offset_allocator.specs.declared.room.RoomCost.{RoomCost}
 use Rattle.offset_allocator.specs.declared.room.Run.{Run}
@@ -178,7 +181,8 @@ module _ (f : Fields) (s : AreSound f) (want : ℕ) (r : Run) (o : IsOpened want
     new_is = ap₂ (λ (l : List Block) (m : ℕ). l ++ free_block x m ∷ []) live_is room_is
 
     list_is : (o.front ++ live o.rest) ++ (free_block x n ∷ o.back) ≡ o.front ++ (new ++ o.back)
-    list_is = append_assoc o.front (live o.rest) (free_block x n ∷ o.back) ∙ ap (λ l. o.front ++ l) (sym (append_assoc (live o.rest) (free_block x n ∷ []) o.back)) ∙ ap (λ l. o.front ++ (l ++ o.back)) (sym new_is)
+    list_is = append_assoc o.front (live o.rest) (free_block x n ∷ o.back) ∙ ap (λ l. o.front ++ l) (sym (append_assoc (live o.rest) (free_block x n ∷ []) o.back)) ∙ ap (λ l. o.front ++
+        (l ++ o.back)) (sym new_is)
 
     named : (y : ℕ) → count_named y o.front + (count_named y (live o.rest) + (one (nat_eq y x) + count_named y o.back)) ≤ 1
     named y = omega (
@@ -307,7 +311,18 @@ module _ (f : Fields) (s : AreSound f) (want : ℕ) (r : Run) (o : IsOpened want
     -- a node is free then, and the block is of a class large enough
     pub grants : (size : ℕ) → want ≡ value (up size) → (u : View) → SameSpace left_view u → CanGrant 1 size u
     grants size is u same =
-        let fits : n < 2 ^ 32 = omega (arith, w.whole, w.fits, ap units o.is, units-append o.front (run ++ o.back), units-append run o.back, new_units, ap units new_is, units-append (live o.rest) (free_block x n ∷ [])) in
+        let fits : n < 2 ^ 32 = omega (
+          arith,
+          w.whole,
+          w.fits,
+          ap units o.is,
+          units-append o.front (run ++ o.back),
+          units-append run o.back,
+          new_units,
+          ap units new_is,
+          units-append (live
+              o.rest) (free_block x n ∷ []),
+        ) in
         let order : u.order ≡ push (down n) x (remove_all run ls) =
         ap (λ (z : View). z.order) same ∙ ap (λ l. push_all l (remove_all run ls)) new_is ∙ pushed_used (live o.rest) (free_block x n ∷ []) (remove_all run ls) (live_are_used o.rest) in (
           omega (
@@ -327,7 +342,8 @@ module _ (f : Fields) (s : AreSound f) (want : ℕ) (r : Run) (o : IsOpened want
             down n,
             (down_law n (up size) fits).1 (omega (arith, o.serves, room_is, is)),
             λ q. let k : x ∷ bin_at (remove_all run ls) (down n) ≡ [] =
-                sym (names_same (remove_all run ls) (down n) (x ∷ bin_at (remove_all run ls) (down n)) (length_remove_all run ls ∙ w.classes) (down_small n)) ∙ ap (λ (m : List (List ℕ)). bin_at m (down n)) (sym order) ∙ q in
+                sym (names_same (remove_all run ls) (down n) (x ∷ bin_at (remove_all run ls) (down n)) (length_remove_all run ls ∙ w.classes) (down_small n)) ∙ ap (λ (m : List
+                (List ℕ)). bin_at m (down n)) (sym order) ∙ q in
                 absurd (cc),
           ),
         )
@@ -382,7 +398,8 @@ pub slides_live : (want : ℕ) (v w : View) → SlidesRun want v w → live w.bl
 slides_live want v w h =
     let free : Block = free_block h.name (sum (free_sizes h.run)) in
     let inner : live (live h.run ++ free ∷ []) ≡ live h.run = live_append (live h.run) (free ∷ []) ∙ append-nil (live (live h.run)) ∙ live_whole (live h.run) (live_are_used h.run) in
-    ap (λ (u : View). live u.blocks) h.view ∙ live_append h.front ((live h.run ++ free ∷ []) ++ h.back) ∙ ap (λ l. live h.front ++ l) (live_append (live h.run ++ free ∷ []) h.back ∙ ap (λ l. l ++ live h.back) inner)
+    ap (λ (u : View). live u.blocks) h.view ∙ live_append h.front ((live h.run ++ free ∷ []) ++ h.back) ∙ ap (λ l. live h.front ++ l) (live_append (live h.run ++ free ∷ []) h.back ∙ ap
+    (λ l. l ++ live h.back) inner)
     ∙ sym (ap live h.is ∙ live_append h.front (h.run ++ h.back) ∙ ap (λ l. live h.front ++ l) (live_append h.run h.back))
 
 -- the step, as a caller sees it

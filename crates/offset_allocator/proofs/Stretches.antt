@@ -39,7 +39,8 @@ moves-append i j (x ∷ xs) ys = go x.used refl (λ k l. moves-append k l xs ys)
         moves_idle i j x (xs ++ ys) e ∙ ih (i + x.size) j ∙ ap₂ (λ (l k : List Move). l ++ k) (sym (moves_idle i j x xs e)) (ap₂ (λ a b. moves a b ys) from to)
 
 -- at first
-pub gather_start : {F : Type 0} {R : F → Move → F → Type 0} {m : ℕ} {p : Place} {run back : List Block} {end : ℕ} {f : F} {order : List (List ℕ)} {accesses : ℕ} {t : ChainCells} {last count hole size : ℕ}
+pub gather_start : {F : Type 0} {R : F → Move → F → Type 0} {m : ℕ} {p : Place} {run back : List Block} {end : ℕ} {f : F} {order : List (List ℕ)} {accesses : ℕ} {t : ChainCells}
+    {last count hole size : ℕ}
     → HasPlace t m last count hole p → IsStretch p run back end → size ≡ (node t hole).size → AreInBins (p.before ++ p.after) order
     → (s : IsGathering R m p run back f order accesses t order last count hole size f accesses) × (s.rest ≡ run)
 gather_start {m = m} {p = p} {run = run} {back = back} {order = order} {t = t} {last = last} {count = count} {hole = hole} {size = size} h s e filed = (
@@ -103,7 +104,8 @@ module _ {F : Type 0} {R : F → Move → F → Type 0} {m : ℕ} {p : Place} {r
       sized = omega (arith, s.sized, free_units-append s.done (b ∷ []), free_units-used b [] u);
       calls = subst (λ l. FoldsTo R f l g') (sym all) (folds_append R _ _ f g g' s.calls (rw (from, to) at call));
       bins = s.bins ∙ sym (remove_all-append s.done (b ∷ []) order ∙ remove_used b [] (remove_all s.done order) u);
-      filed = subst (λ l. AreInBins l lists) (ap (λ l. (p.before ++ live s.done) ++ l) after_is ∙ sym (append_assoc (p.before ++ live s.done) (b ∷ []) (bs ++ back)) ∙ ap (λ l. l ++ (bs ++ back)) before) s.filed;
+      filed = subst (λ l. AreInBins l lists) (ap (λ l. (p.before ++ live s.done) ++ l) after_is ∙ sym (append_assoc (p.before ++ live s.done) (b ∷ []) (bs ++ back)) ∙ ap (λ l. l ++
+          (bs ++ back)) before) s.filed;
       bounded = omega (arith, s.bounded, more, length-append s.done (b ∷ []));
     },
     refl,
@@ -148,7 +150,8 @@ module _ {F : Type 0} {R : F → Move → F → Type 0} {m : ℕ} {p : Place} {r
 
       left : AreInBins ((p.before ++ live s.done) ++ (bs ++ back)) (remove (down b.size) b.name lists)
       left = subst (λ l. AreInBins ((p.before ++ live s.done) ++ l) (remove (down b.size) b.name lists)) starts.1
-          (subst (λ o. AreInBins ((p.before ++ live s.done) ++ without_start (s.rest ++ back)) o) (ap (λ l. remove_all l lists) starts.0 ∙ remove_free b lists u) (filed_after s.there lists s.filed long))
+          (subst (λ o. AreInBins ((p.before ++ live s.done) ++ without_start (s.rest ++ back)) o) (ap (λ l. remove_all l lists) starts.0 ∙ remove_free b lists u)
+          (filed_after s.there lists s.filed long))
 
   -- the run ends in a free block
   pub goes_on : ends_used run ≡ false → b.used ≡ true → bs ≡ [] → ⊥
@@ -201,7 +204,8 @@ gather_within {p = p} {run = run} {back = back} s some h st = let f = first_part
 pub gathered_all : {F : Type 0} {R : F → Move → F → Type 0} {m : ℕ} {p : Place} {run back : List Block} {f : F} {order : List (List ℕ)} {accesses : ℕ} {t : ChainCells} {lists : List (List ℕ)}
     {last count hole size : ℕ} {g : F} {used : ℕ} (s : IsGathering R m p run back f order accesses t lists last count hole size g used) → s.rest ≡ []
     → HasPlace t m last count hole (record { before = p.before ++ live run; block = free_block hole size; after = back }) × (size ≡ p.block.size + sum (free_sizes run))
-    × FoldsTo R f (moves (units p.before + p.block.size) (units p.before) run) g × (lists ≡ remove_all run order) × AreInBins ((p.before ++ live run) ++ back) lists × (used ≤ accesses + 20 * length run)
+    × FoldsTo R f (moves (units p.before + p.block.size) (units p.before) run) g × (lists ≡ remove_all run order) × AreInBins ((p.before ++ live run) ++ back) lists ×
+    (used ≤ accesses + 20 * length run)
 gathered_all {R = R} {m} {p} {run} {back} {f} {order} {accesses} {t} {lists} {last} {count} {hole} {size} {g} {used} s none =
     let all : s.done ≡ run = sym (s.is ∙ ap (λ l. s.done ++ l) none ∙ append-nil s.done) in (
       subst (λ l. HasPlace t m last count hole (record { before = p.before ++ live l; block = free_block hole size; after = back })) all

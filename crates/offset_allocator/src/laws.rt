@@ -215,9 +215,9 @@ pub fn refusals_advise<T: Tables>(allocator: &AllocatorOf<T>)
     allocator.formed();
 }
 
-/// What `room_cost` returns, and `make_room` moves, beside the reason of a refusal: nothing where the request is granted;
-/// at least one range where it is refused as `Fragmented`, and after that move it is granted; and `None`, where nothing
-/// moves, where it is refused as `Space` or `TooLarge`.
+/// What `room_cost` returns, and `make_room` moves, beside the reason of a refusal: nothing where the request is
+/// granted; at least one range where it is refused as `Fragmented`, after which move it is granted; and `None` where it
+/// is refused as `Space` or `TooLarge`: then nothing moves.
 pub fn room_is_advised<T: Tables>(allocator: &AllocatorOf<T>)
     ensures granted { (n : ℕ) (c : Option RoomCost) → CanGrant 1 n allocator.now
         → IsLeastCost (value (up n)) allocator.now.blocks c → c ≡ Some (record { units = 0; ranges = 0 }) }

@@ -124,7 +124,15 @@ pub loop-next-preserved : goal.loop-next-preserved
 loop-next-preserved g c = record {
   callable = c.loop-next.invariant.callable;
   binned = rw (c.coalesce_after.ensures.bins.0, c.coalesce_after.ensures.bins.1) c.remove.ensures.binned;
-  grows = omega (arith, c.loop-next.invariant.grows, c.after.ensures.accesses, c.size-more.ensures.accesses, c.is_used.ensures.accesses, c.remove.ensures.accesses.0, c.coalesce_after.ensures.accesses.0);
+  grows = omega (
+    arith,
+    c.loop-next.invariant.grows,
+    c.after.ensures.accesses,
+    c.size-more.ensures.accesses,
+    c.is_used.ensures.accesses,
+    c.remove.ensures.accesses.0,
+    c.coalesce_after.ensures.accesses.0,
+  );
   at = λ m p run back h st fl.
       let i = c.loop-next.invariant.at m p run back h st fl in
       let s = i.0 in

@@ -32,7 +32,8 @@ loop-at-init g c =
         window = w;
         needed = inl refl;
         cost = elim c.if-window-want.branch [
-          | then-window-want t ↦ rw t.run-is (alone_serves c.args.want c.requires.some c.alone-window.result f.last w _ (alone_is f.last c.args.last c.alone-window.result f.name (alone_end w)) (omega (arith, t.if-window-want)))
+          | then-window-want t ↦ rw t.run-is (alone_serves c.args.want c.requires.some c.alone-window.result f.last w _ (alone_is f.last c.args.last c.alone-window.result f.name
+              (alone_end w)) (omega (arith, t.if-window-want)))
           | else-window-want t ↦ rw t.run-is (alone_few c.args.want c.requires.some c.alone-window.result f.last w (omega (arith, t.if-window-want)))
         ];
         counted = omega (arith, c.size-size.ensures.accesses, c.is_used-used.ensures.accesses, c.before-at.ensures.accesses);
