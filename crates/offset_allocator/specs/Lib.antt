@@ -8,6 +8,7 @@ pub mod Classes
 pub mod Compacting
 pub mod Copies
 pub mod Copying
+pub mod Faults
 pub mod Layouts
 pub mod Listing
 pub mod Ranges

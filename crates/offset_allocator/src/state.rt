@@ -39,8 +39,13 @@ pub enum StateFaultKind {
 }
 
 impl fmt::Display for StateFaultKind {
+    ghost use Rattle.std.specs.Prelude.{Some};
+    ghost use Rattle.offset_allocator.specs.Faults.{fault_words};
+
+    ghost output = { λ kind. Some (fault_words kind) };
+
     fn fmt<W: fmt::Write>(&self, f: &mut fmt::Formatter<W>) -> fmt::Result {
-        f.write_str(match self {
+        let words = match self {
             StateFaultKind::Length => "another number of bytes than the counts say",
             StateFaultKind::Form => "no state, or one of another version",
             StateFaultKind::Limit => "a node limit that is not admitted",
@@ -50,7 +55,8 @@ impl fmt::Display for StateFaultKind {
             StateFaultKind::Unused => "an unused name that is wrong",
             StateFaultKind::Free => "a name that is not that of one block more",
             StateFaultKind::Neighbours => "two free blocks side by side",
-        })
+        };
+        write!(f, "{words}")
     }
 }
 

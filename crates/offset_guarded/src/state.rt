@@ -33,14 +33,20 @@ pub enum StateFaultKind {
 }
 
 impl fmt::Display for StateFaultKind {
+    ghost use Rattle.std.specs.Prelude.{Some};
+    ghost use Rattle.offset_guarded.specs.Faults.{fault_words};
+
+    ghost output = { λ kind. Some (fault_words kind) };
+
     fn fmt<W: fmt::Write>(&self, f: &mut fmt::Formatter<W>) -> fmt::Result {
         match self {
-            StateFaultKind::Length => f.write_str("fewer bytes than the counts say"),
-            StateFaultKind::Form => f.write_str("no state with tickets, or one of another version"),
-            StateFaultKind::Realm => f.write_str("a realm of more than 32 bits"),
-            StateFaultKind::Checksum => f.write_str("a checksum that is not that of the tickets"),
-            StateFaultKind::Serial => f.write_str(
-                "a serial that was not given, or none for a live range",
+            StateFaultKind::Length => write!(f, "fewer bytes than the counts say"),
+            StateFaultKind::Form => write!(f, "no state with tickets, or one of another version"),
+            StateFaultKind::Realm => write!(f, "a realm of more than 32 bits"),
+            StateFaultKind::Checksum => write!(f, "a checksum that is not that of the tickets"),
+            StateFaultKind::Serial => write!(
+                f,
+                "a serial that was not given, or none for a live range"
             ),
             StateFaultKind::Allocator(kind) => write!(f, "{kind}"),
         }

@@ -41,7 +41,7 @@ pub enum StateFaultKind {
 
 impl fmt::Display for StateFaultKind {
     fn fmt(&self, f: &mut fmt::Formatter<'_>) -> fmt::Result {
-        f.write_str(match self {
+        let words = match self {
             StateFaultKind::Length => "another number of bytes than the counts say",
             StateFaultKind::Form => "no state, or one of another version",
             StateFaultKind::Limit => "a node limit that is not admitted",
@@ -51,7 +51,8 @@ impl fmt::Display for StateFaultKind {
             StateFaultKind::Unused => "an unused name that is wrong",
             StateFaultKind::Free => "a name that is not that of one block more",
             StateFaultKind::Neighbours => "two free blocks side by side",
-        })
+        };
+        write!(f, "{words}")
     }
 }
 
