@@ -181,6 +181,44 @@ pub fn place_packed(
     }
 }
 
+/// Allocates `size` units of a buffer. Where they are free, but lie apart, it first moves the fewest units that make
+/// room for them, with their data, if these are at most `budget`.
+///
+/// The error says why the request is refused, as `Fragmented` where more units would have to move; then nothing has
+/// changed. The buffer has to be as long as the space.
+pub fn place_within(
+    space: &mut Allocator,
+    buffer: &mut [u32],
+    size: u32,
+    budget: u32,
+) -> Result<Allocation, Refusal>
+    ensures range { IfOk result (λ h. IsGrantOf size h space.new) }
+    ensures why { IfErr result (IsWhy 1 size space.old) }
+    ensures same { IfErr result (λ _. space.new ≡ space.old) }
+{
+    laws::room_is_advised(space);
+    match space.refusal(size) {
+        None => Ok(space.allocate(size).unwrap()),
+        Some(Refusal::Fragmented) => {
+            let is_cheap = match space.room_cost(size) {
+                None => false,
+                Some(cost) => cost.units <= budget,
+            };
+            if !is_cheap {
+                return Err(Refusal::Fragmented);
+            }
+            space.make_room(
+                size,
+                &mut |range: Move| { copy_down(buffer, range.from, range.to, range.size) },
+            );
+            Ok(space.allocate(size).unwrap())
+        }
+        Some(Refusal::Nodes) => Err(Refusal::Nodes),
+        Some(Refusal::TooLarge) => Err(Refusal::TooLarge),
+        Some(Refusal::Space) => Err(Refusal::Space),
+    }
+}
+
 /// The byte at which the vertices of a mesh begin, with `stride` bytes each, as a draw call needs it, or `None` where
 /// the mesh's handle is not live.
 pub fn first_byte<T: Tables>(
