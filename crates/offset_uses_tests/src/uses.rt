@@ -8,8 +8,8 @@ use offset_allocator::{
 };
 use offset_script::{Answer, Command};
 use offset_uses::daily::{
-    Ring, defragment, first_byte, give_back, granted_units, insert, place, place_packed, resize,
-    upload,
+    Ring, defragment, first_byte, give_back, granted_units, insert, place, place_packed,
+    place_within, resize, upload,
 };
 use offset_uses::engine::{free_named, restored, take_from, upload_units};
 use offset_uses::walking::{count_holes, dump};
@@ -698,6 +698,35 @@ fn a_packed_place_is_granted(rt: HostRuntime) {
     let mut space = with_a_middle::<ByNode<u32>>(&rt, rt.alloc());
     let found = packed(rt.alloc(), &mut space, &[49, 97, 48]).expect(&rt, "memory");
     let wanted = [Err(Refusal::Space), Err(Refusal::TooLarge), Ok(48)];
+    assert_same(&rt, &found.as_slice(), &wanted.as_slice());
+}
+
+// Where each place begins, of 48 units, that may move as many units at most.
+fn within(
+    alloc: Global,
+    space: &mut Allocator,
+    budgets: &[u32],
+) -> Result<Vec<Result<u32, Refusal>>, AllocError> {
+    let mut buffer = [7u32; 96];
+    let mut places = Vec::new(alloc);
+    for budget in budgets {
+        let place = place_within(space, &mut buffer, 48, *budget);
+        places.push(place.map(|range| range.offset))?;
+    }
+    Ok(places)
+}
+
+// The 48 units in the middle have to move.
+#[test]
+fn a_place_within_a_budget(rt: HostRuntime) {
+    let mut space = with_a_middle::<ByNode<u32>>(&rt, rt.alloc());
+    let found = within(rt.alloc(), &mut space, &[0, 47, 48, 48]).expect(&rt, "memory");
+    let wanted = [
+        Err(Refusal::Fragmented),
+        Err(Refusal::Fragmented),
+        Ok(48),
+        Err(Refusal::Space),
+    ];
     assert_same(&rt, &found.as_slice(), &wanted.as_slice());
 }
 
