@@ -3,14 +3,17 @@
 //! - `corpus`: the names of all programs.
 //! - `corpus NAME`: `requests COUNT`; `peak BYTES`; `least ALLOCATOR SPACE`, the smallest space that refuses nothing;
 //!   `refusing ALLOCATOR SPACE`, the largest that refuses something, of 1,000 sizes up to half above the peak; of ours,
-//!   `once SPACE` with one `compact` before the request that makes the peak, and `retried SPACE COUNT` with one after
-//!   each refusal, and how often; `refused PERCENT ALLOCATOR COUNT FITTING`, the refusals in a space that is this much above
-//!   the peak, and how many of them a free block was large enough for.
+//!   `once SPACE` with one `compact` before the request that makes the peak, and `retried WAY SPACE COUNT UNITS` with one
+//!   (`each`), or with `make_room` (`room`), at each refusal, how often, and what moves; `refused PERCENT ALLOCATOR COUNT
+//!   FITTING`, the refusals in a space that is this much above the peak, and how many of them a free block was large enough
+//!   for; `moving PERCENT WAY REFUSED ROUNDED COUNT UNITS MOST`, what `Moved` has.
 mod best_fit;
+mod moving;
 mod peers;
 mod traces;
 
 use best_fit::BestFit;
+use moving::{moving, Way, WAYS};
 use peers::{Answers, REFUSED, RELEASED};
 use std::collections::BTreeMap;
 use traces::{Step, Trace};
@@ -18,6 +21,8 @@ use traces::{Step, Trace};
 type Ours = offset_allocator_proved::Allocator;
 
 const PERCENT: [u32; 3] = [0, 1, 5];
+/// The same where ranges move.
+const MOVING: [u32; 4] = [0, 1, 2, 5];
 /// The sizes that are tried below a least space that was found: right below it, and spread from the peak on.
 const TRIED: u32 = 1000;
 /// The largest space that all admit.
@@ -94,16 +99,14 @@ fn play<S: Space>(size: u32, trace: &Trace, mut prepare: impl FnMut(&mut S, usiz
     trace.steps.iter().enumerate().map(&mut answer).collect()
 }
 
-/// Ours with a `compact` before each step for which `when` holds; and how many there were.
-fn compacting(size: u32, trace: &Trace, when: impl Fn(&Ours, usize, u32) -> bool) -> (Vec<u64>, u32) {
-    let mut count = 0;
-    let prepare = |space: &mut Ours, at: usize, size: u32| {
-        if when(space, at, size) {
+/// Ours with a `compact` before this step.
+fn once(size: u32, trace: &Trace, at: usize) -> Vec<u64> {
+    let prepare = |space: &mut Ours, step: usize, _: u32| {
+        if step == at {
             space.compact(&mut |_| ());
-            count += 1;
         }
     };
-    (play(size, trace, prepare), count)
+    play(size, trace, prepare)
 }
 
 type Player = Box<dyn Fn(u32, &Trace) -> Vec<u64>>;
@@ -223,13 +226,22 @@ fn main() {
         println!("least\t{side}\t{space}");
         println!("refusing\t{side}\t{}", refusing(peak, enough));
     }
-    let at_peak = |_: &Ours, step: usize, _: u32| step == at;
-    println!("once\t{}", least(peak, |size| !compacting(size, &trace, at_peak).0.contains(&REFUSED)));
-    let refuses = |space: &Ours, _: usize, size: u32| size > 0 && space.refusal(size).is_some();
-    let space = least(peak, |size| !compacting(size, &trace, refuses).0.contains(&REFUSED));
-    println!("retried\t{space}\t{}", compacting(space, &trace, refuses).1);
+    println!("once\t{}", least(peak, |size| !once(size, &trace, at).contains(&REFUSED)));
+    for (name, way, checked) in [("each", Way::Each, Way::Each), ("room", Way::Room, Way::Searched)] {
+        let space = least(peak, |size| !moving(size, &trace, way).0.contains(&REFUSED));
+        let (answers, found) = moving(space, &trace, checked);
+        assert!(!answers.contains(&REFUSED));
+        println!("retried\t{name}\t{space}\t{}\t{}", found.times, found.units);
+    }
+    let above = |percent: u32| (u64::from(peak) * u64::from(100 + percent) / 100) as u32;
+    for percent in MOVING {
+        for (name, way) in WAYS {
+            let found = moving(above(percent), &trace, way).1;
+            println!("moving\t{percent}\t{name}\t{}\t{}\t{}\t{}\t{}", found.refused, found.rounded, found.times, found.units, found.most);
+        }
+    }
     for percent in PERCENT {
-        let size = (u64::from(peak) * u64::from(100 + percent) / 100) as u32;
+        let size = above(percent);
         // with refusals the player in C requests 0 units where others do nothing
         for (side, play) in sides.iter().filter(|(side, _)| side != "c") {
             let (refused, fitting) = refusals(size, &trace, &play(size, &trace));
