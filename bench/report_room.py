@@ -60,17 +60,18 @@ def whole(blocks):
 
 shown = [
     "# What `room_cost` takes", "",
-    "On the erased side, where every other block is free, and a block has 1 to 1,024 units ([how](README.md#room)). Times are the least "
-    f"of {min(RUNS)} runs or more ({PROCESSOR}), beside other work: other programs took {others:.2f} of a processor meanwhile. So the "
-    "instructions say more.", "",
+    "On the erased side, where every other block is free, and a block has 1 to 1,024 units ([how](README.md#room)). "
+    f"Times are the least of {min(RUNS)} runs or more ({PROCESSOR}), beside other work: other programs took {others:.2f} "
+    "of a processor meanwhile. So the instructions say more.", "",
     "## A block", "",
-    f"A request of 5,120 units needs {min(SMALL)} to {max(SMALL)} ranges out of its way, one of half of the free units a quarter of all "
-    "blocks, which are ranges. *Nodes*: whether those of neighbouring blocks lie side by side. `blocks` is a walk that adds up what is live.", "",
-    *table(["blocks", "nodes", "ns: `blocks`", "`room_cost`, 5,120 units", "half", "instructions: `blocks`", "`room_cost`, 5,120 units",
-            "half"], rows(of_a_block)), "",
+    f"For 5,120 units {min(SMALL)} to {max(SMALL)} ranges would move, for half of the free units about half of all ranges. "
+    "*Nodes*: whether those of neighbouring blocks lie side by side. `blocks` is a walk that adds up what is live.", "",
+    *table(["blocks", "nodes", "ns: `blocks`", "`room_cost`, 5,120 units", "half", "instructions: `blocks`",
+            "`room_cost`, 5,120 units", "half"], rows(of_a_block)), "",
     f"A call takes {', '.join(map(whole, BLOCKS))}.", "",
     "## A range that moves", "",
-    "For half of the free units: what `make_room` takes beyond `room_cost`; and `compact` of the same space, with its own walk.", "",
+    "For half of the free units: what `make_room` takes beyond `room_cost`; and `compact` of the same space, with its own "
+    "walk.", "",
     *table(["blocks", "nodes", "ns: `make_room`", "`compact`", "instructions: `make_room`", "`compact`"], rows(of_a_range)),
 ]
 (HERE / "ROOM.md").write_text("\n".join(shown) + "\n")
