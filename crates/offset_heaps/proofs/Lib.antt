@@ -5,5 +5,6 @@ pub mod Numbers
 pub mod Places
 pub mod Rooms
 pub mod Sound
+pub mod States
 pub mod Sums
 pub mod Trees

@@ -66,7 +66,7 @@ pub realm_kept : (made : ℕ) (old new : Option Guard) (before after : Guard) �
 realm_kept made old new before after was is same below = rw is (let l = rw was at below in omega (arith, l, same))
 
 -- with no heap and keys of 0, what is behind the last number is noted
-empty_cell : (p k : ℕ) → cell k (replicate p 0) ≡ 0
+pub empty_cell : (p k : ℕ) → cell k (replicate p 0) ≡ 0
 empty_cell p k = elim (cases_lt k p) [
   | inl l ↦ get_or-replicate p k 0 0 l
   | inr past ↦ get_or_past (replicate p 0) k 0 (let same = length-replicate {A = ℕ} p 0 in omega arith)

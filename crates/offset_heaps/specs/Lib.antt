@@ -2,3 +2,4 @@ pub mod Heaps
 pub mod Maxima
 pub mod Slots
 pub mod Soundness
+pub mod State

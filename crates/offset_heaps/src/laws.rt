@@ -1,10 +1,11 @@
 //! Laws: what holds of all heaps. Its functions do nothing.
-ghost use Rattle.std.specs.Prelude.{ℕ, ◌≡◌, ◌≤◌, Some, IfSome, length};
+ghost use Rattle.std.specs.Prelude.{ℕ, List, ◌≡◌, ◌+◌, ◌<◌, ◌≤◌, Some, IfSome, length};
 ghost use Rattle.offset_allocator.specs.Ranges.{AreDisjoint, Range};
 ghost use Rattle.offset_allocator.specs.Requests.{IsReport};
 ghost use Rattle.offset_allocator.specs.declared.reports.StorageReport.{StorageReport};
 ghost use Rattle.offset_guarded.specs.Guard.{Guard, HasSerialLeft};
-ghost use Rattle.offset_heaps.specs.Heaps.{room, AreAlike, heap_at, numbers, range_of};
+ghost use Rattle.offset_heaps.specs.Heaps.{Heaps, room, AreAlike, heap_at, numbers, range_of};
+ghost use Rattle.offset_heaps.specs.State.{IsStateOf, IsWellFormed, SameHeaps};
 ghost use Rattle.offset_heaps.specs.declared.place.Place.{Place};
 
 use crate::HeapsOf;
@@ -35,4 +36,31 @@ pub fn realms_are_given<T: Tables>(heaps: &HeapsOf<T>)
     ensures realms { (k : ℕ) → IfSome (heap_at k heaps.now) (λ g. g.realm ≤ heaps.now.made) }
 {
     let _ = &heaps.made;
+}
+
+// How many heaps were made.
+fn made<T: Tables>(heaps: &HeapsOf<T>) -> u32
+    ensures { result ≡ heaps.now.made }
+{
+    heaps.made
+}
+
+/// Bytes are those of a state of one `Heaps` at most, however many accesses were counted; and those of these
+/// are refused by no `read_state` that admits their limits. So `read_state` of what `write_state` returned
+/// are the same heaps, and each place is live there exactly if it is live here. It looks at each slot.
+pub fn a_state_is_read_back<T: Tables>(heaps: &HeapsOf<T>)
+    ensures one { (hs ks : Heaps) (bytes : List ℕ) → IsStateOf hs bytes → IsStateOf ks bytes
+        → SameHeaps hs ks }
+    ensures formed { IsWellFormed heaps.now }
+    ensures limit { heaps.now.limits.max_allocs + 1 < T.Index.MAX }
+    ensures heaps { (k : ℕ) → IfSome (heap_at k heaps.now) (λ g. g.space.max_allocs + 1 < T.Index.MAX) }
+{
+    // what is read recalls the invariant, and that numbers have 32 bits
+    let limits = heaps.limits;
+    let _ = (heaps.realm(), made(heaps));
+    for number in 0..limits.most + limits.most_larger {
+        if let Some(heap) = heaps.heap(number) {
+            offset_guarded::laws::a_state_is_read_back(heap);
+        }
+    }
 }

@@ -24,6 +24,7 @@ ghost use Rattle.std.specs.Prelude.{option_map};
 ghost use Rattle.std.specs.Prelude.{replicate};
 ghost use Rattle.offset_allocator.specs.Ranges.{Range};
 
+mod copying;
 mod dropping;
 mod granting;
 mod index;
@@ -33,7 +34,10 @@ mod making;
 mod maxima;
 mod place;
 mod refusal;
+mod restoring;
+mod saving;
 mod slots;
+mod state;
 mod totals;
 
 use index::Index;
@@ -43,6 +47,7 @@ use offset_guarded::GuardedOf;
 pub use place::{Granted, Place};
 pub use refusal::Refusal;
 use slots::Slots;
+pub use state::{StateFault, StateFaultKind};
 use std::alloc::{AllocError, Global};
 use std::fmt;
 use std::marker::Model;

@@ -1,0 +1,72 @@
+use Rattle.std.proofs.Common.{◌≡◌, ◌∙◌, ◌+◌, ◌*◌, ap, arith, drop, length, refl, subst, sym, List, ℕ}
+use Rattle.offset_guarded.specs.State.{number_at}
+use Rattle.offset_guarded.proofs.Numbers.{rest_of}
+use Rattle.offset_heaps.specs.Heaps.{slot}
+use Rattle.offset_heaps.specs.State.{AreRead, IsHeapAt, IsHeapFormed}
+use Rattle.offset_heaps.proofs.States.{heap_between, parts, read_restored, read_sound, read_well_formed}
+use Rattle.offset_heaps.proofs.HeapsOf.read_state.Goals as goal
+
+pub returns-then-number-ne0-clause-refused : goal.returns-then-number-ne0-clause-refused
+returns-then-number-ne0-clause-refused g c _ hs w adm st =
+    let p = parts hs c.args.bytes.now st in
+    c.if-number-ne0.true (c.number.ensures ∙ p.places 0 (omega arith) ∙ st.heaps.first)
+
+pub returns-then-number-states-clause-refused : goal.returns-then-number-states-clause-refused
+returns-then-number-states-clause-refused g c _ hs w adm st =
+    let bs : List ℕ = c.args.bytes.now in
+    let p = parts hs bs st in
+    let lim = c.in-Ok.header.limits in
+    let hd = c.in-Ok.ensures.header in
+    let count : length hs.slots ≡ lim.most + lim.most_larger = omega (arith, st.count, p.most, p.larger, hd.most, hd.larger) in
+    c.if-number-states.true
+    (c.number-2.ensures ∙ subst (λ n. number_at bs (8 + n) ≡ length (drop (80 + 8 * n) bs)) count (p.places (length hs.slots) (omega arith) ∙ st.heaps.last)
+    ∙ sym (ap length (rest_of (80 + 8 * (lim.most + lim.most_larger)) bs)))
+
+pub returns-in-Err-2-clause-refused : goal.returns-in-Err-2-clause-refused
+returns-in-Err-2-clause-refused g c _ hs w adm st =
+    let bs : List ℕ = c.args.bytes.now in
+    let p = parts hs bs st in
+    let lim = c.in-Ok.header.limits in
+    let m : ℕ = lim.most + lim.most_larger in
+    let hd = c.in-Ok.ensures.header in
+    let count : length hs.slots ≡ m = omega (arith, st.count, p.most, p.larger, hd.most, hd.larger) in
+    let made : hs.made ≡ c.in-Ok.header.made = sym p.made ∙ hd.made in
+    let b = rw c.in-Err-2.is at c.in_ok-fault.ensures.refused in
+    b refl hs.slots count
+    (λ k l. subst (λ r. IsHeapAt (slot k hs.slots) (number_at bs (8 + k)) (number_at bs (9 + k)) r) (sym (rest_of (80 + 8 * m) bs))
+    (subst (λ n. IsHeapAt (slot k hs.slots) (number_at bs (8 + k)) (number_at bs (9 + k)) (drop (80 + 8 * n) bs)) count (heap_between hs bs st k (omega (arith, l, count)))))
+    (λ k. subst (λ n. IsHeapFormed n (slot k hs.slots)) made (w.heaps k)) adm.heaps
+
+pub invariant_of-result : goal.invariant_of-result
+invariant_of-result g c =
+    let bs : List ℕ = c.args.bytes.now in
+    let h = c.in-Ok.header in
+    let m : ℕ = h.limits.most + h.limits.most_larger in
+    let b = rw c.in-Ok-2.is at c.in_ok-fault.ensures.read in
+    let are : AreRead g.T.Index.NodeIndex.MAX h.made c.args.most_allocs m bs (drop (80 + 8 * m) bs) c.in-Ok-2.slots.items =
+    subst (λ r. AreRead g.T.Index.NodeIndex.MAX h.made c.args.most_allocs m bs r c.in-Ok-2.slots.items) (rest_of (80 + 8 * m) bs) b in
+    read_sound g.T.Index.NodeIndex.MAX c.args.most_heaps c.args.most_allocs bs h c.in-Ok-2.slots.items 0 c.in-Ok.ensures.header (sym c.number.ensures ∙ c.if-number-ne0.false)
+    (sym c.number-2.ensures ∙ c.if-number-states.false ∙ ap length (rest_of (80 + 8 * m) bs)) are refl c.in_ok-index.index (omega (arith, c.ranges.most_heaps)) c.in_ok-index.ensures.wide
+    c.in_ok-index.ensures.noted c.in_ok-index.ensures.low
+
+pub returns-clause-read : goal.returns-clause-read
+returns-clause-read g c =
+    let bs : List ℕ = c.args.bytes.now in
+    let h = c.in-Ok.header in
+    let m : ℕ = h.limits.most + h.limits.most_larger in
+    let b = rw c.in-Ok-2.is at c.in_ok-fault.ensures.read in
+    let are : AreRead g.T.Index.NodeIndex.MAX h.made c.args.most_allocs m bs (drop (80 + 8 * m) bs) c.in-Ok-2.slots.items =
+    subst (λ r. AreRead g.T.Index.NodeIndex.MAX h.made c.args.most_allocs m bs r c.in-Ok-2.slots.items) (rest_of (80 + 8 * m) bs) b in
+    read_restored g.T.Index.NodeIndex.MAX c.args.most_heaps c.args.most_allocs bs h c.in-Ok-2.slots.items c.new.result c.in-Ok.ensures.header (sym c.number.ensures ∙ c.if-number-ne0.false)
+    (sym c.number-2.ensures ∙ c.if-number-states.false ∙ ap length (rest_of (80 + 8 * m) bs)) are c.new.ensures
+
+pub returns-clause-formed : goal.returns-clause-formed
+returns-clause-formed g c =
+    let bs : List ℕ = c.args.bytes.now in
+    let h = c.in-Ok.header in
+    let m : ℕ = h.limits.most + h.limits.most_larger in
+    let b = rw c.in-Ok-2.is at c.in_ok-fault.ensures.read in
+    let are : AreRead g.T.Index.NodeIndex.MAX h.made c.args.most_allocs m bs (drop (80 + 8 * m) bs) c.in-Ok-2.slots.items =
+    subst (λ r. AreRead g.T.Index.NodeIndex.MAX h.made c.args.most_allocs m bs r c.in-Ok-2.slots.items) (rest_of (80 + 8 * m) bs) b in
+    read_well_formed g.T.Index.NodeIndex.MAX c.args.most_heaps c.args.most_allocs bs h c.in-Ok-2.slots.items c.new.result c.in-Ok.ensures.header (sym c.number.ensures ∙ c.if-number-ne0.false)
+    (sym c.number-2.ensures ∙ c.if-number-states.false ∙ ap length (rest_of (80 + 8 * m) bs)) are c.new.ensures (omega (arith, c.ranges.most_heaps))

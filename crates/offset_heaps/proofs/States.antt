@@ -1,0 +1,364 @@
+-- The bytes of a state, and the heaps that they are of.
+use Rattle.std.proofs.Common.{◌≡◌, ◌≢◌, ℕ, zero, suc, ◌+◌, ◌*◌, ◌-◌, ◌%◌, ◌^◌, ◌<◌, ◌≤◌, ◌⊎◌, [], ◌∷◌, ◌++◌, length, List, Option, Some, None, IfSome, map, replicate, slice_set, take, drop, get_or, refl, sym, ap, ap₂, ◌∙◌, subst, inl, inr, arith, length-append, ext_get_or, le-ltb}
+use Rattle.std.proofs.lemmas.Bool.{cases_eq, cases_lt}
+use Rattle.std.proofs.Math.Seq.{drop-append_seam, take-append_seam}
+use Rattle.std.proofs.lemmas.List.{drop-drop, get_or_append_left, get_or-append-add, get_or_push, take_all, length-drop, length-map, length-replicate, length-set, take-append-le, drop-append-le}
+use Rattle.offset_allocator.specs.State as allocator
+use Rattle.offset_allocator.specs.State.{words_in}
+use Rattle.offset_allocator.proofs.Restored.{one_view}
+use Rattle.offset_guarded.specs.Guard.{Guard}
+use Rattle.offset_guarded.specs.State as guarded
+use Rattle.std.specs.Int.{w64, from_le_bytes}
+use Rattle.offset_guarded.specs.State.{SameGuard, checksum_from, number_at}
+use Rattle.offset_guarded.proofs.States as guards
+use Rattle.offset_guarded.proofs.Numbers.{length-numbers, number_in, numbers-add, numbers_more}
+use Rattle.offset_heaps.specs.declared.limits.Limits.{Limits}
+use Rattle.offset_heaps.specs.declared.index.Index.{Index}
+use Rattle.offset_heaps.specs.declared.restoring.Header.{Header}
+use Rattle.offset_heaps.specs.Heaps.{Heaps, heap_at, numbers, room_of, slot}
+use Rattle.offset_heaps.specs.Maxima.{cell}
+use Rattle.offset_heaps.specs.Soundness.{IsNoted, IsSound, IsWide, spare_of}
+use Rattle.offset_heaps.specs.State.{AreRead, AreStatesOf, IsAdmitted, IsHeader, IsHeapAdmitted, IsHeapAt, IsHeapFormed, IsHeapReadAt, IsHeapState, IsRestored, IsStateOf, IsWellFormed, SameHeaps, heaps_numbers, quiet, uncounted}
+use Rattle.offset_heaps.proofs.Numbers.{slot_other, slot_past, slot_same}
+use Rattle.offset_heaps.proofs.Places.{shown}
+use Rattle.offset_heaps.proofs.Sound.{empty_cell}
+
+-- before any number is noted, what is behind the last one is
+past_noted : (limits : Limits) (p k : ℕ) (slots : List (Option Guard)) (index : Index) → index.one.keys ≡ replicate p 0 → index.two.keys ≡ index.one.keys → index.spare.keys ≡ index.one.keys
+    → length slots ≡ limits.most + limits.most_larger → limits.most + limits.most_larger ≤ k → IsNoted limits slots index k
+past_noted limits p k slots index one two spare count past =
+    let zero_key : cell k index.one.keys ≡ 0 = ap (cell k) one ∙ empty_cell p k in
+    let none : slot k slots ≡ None = slot_past slots k (omega (arith, count, past)) in
+    let before : limits.most ≤ k = omega (arith, past) in
+    record {
+      one = rw none zero_key;
+      two = rw none (ap (cell k) two ∙ zero_key);
+      spare = rw (none, le-ltb k limits.most before, le-ltb k (limits.most + limits.most_larger) past) (ap (cell k) spare ∙ zero_key);
+    }
+
+pub started_at : (limits : Limits) (p : ℕ) (slots : List (Option Guard)) (index : Index) → length slots ≡ limits.most + limits.most_larger → limits.most + limits.most_larger ≤ p
+    → index.one.keys ≡ replicate p 0 → (index.two.keys ≡ index.one.keys) × (index.two.height ≡ index.one.height) → (index.spare.keys ≡ index.one.keys) × (index.spare.height ≡ index.one.height)
+    → IsWide slots index × ((k : ℕ) → limits.most + limits.most_larger ≤ k → IsNoted limits slots index k)
+started_at limits p slots index count room one two spare =
+    let wide : length index.one.keys ≡ p = ap length one ∙ length-replicate {A = ℕ} p 0 in
+    let wide_two : length index.two.keys ≡ length index.one.keys = ap length two.0 in
+    let wide_spare : length index.spare.keys ≡ length index.one.keys = ap length spare.0 in (
+      record { one = omega (arith, wide, count, room); two = omega (arith, wide, wide_two, count, room); spare = omega (arith, wide, wide_spare, count, room); level_two = two.1; level_spare = spare.1 },
+      λ k past. past_noted limits p k slots index one two.0 spare.0 count past,
+    )
+
+-- the heaps of which no access was counted
+pub slot_quiet : (k : ℕ) (slots : List (Option Guard)) → slot k (map quiet slots) ≡ quiet (slot k slots)
+slot_quiet k [] = refl
+slot_quiet zero (o ∷ slots) = refl
+slot_quiet (suc k) (o ∷ slots) = slot_quiet k slots
+
+pub all_quiet : (slots copies : List (Option Guard)) → length copies ≡ length slots → ((k : ℕ) → k < length slots → slot k copies ≡ quiet (slot k slots)) → copies ≡ map quiet slots
+all_quiet slots copies long each =
+    ext_get_or None copies (map quiet slots) (long ∙ sym (length-map slots quiet)) (λ k l. each k (omega (arith, long, l)) ∙ sym (slot_quiet k slots))
+
+-- one more slot is as it should be
+pub put_more : (P : ℕ → Option Guard → Type 0) (slots : List (Option Guard)) (n : ℕ) (o : Option Guard) → n < length slots → P n o → ((k : ℕ) → k < n → P k (slot k slots))
+    → (k : ℕ) → k < n + 1 → P k (slot k (slice_set slots n o))
+put_more P slots n o l here before k below = elim (cases_eq k n) [
+  | inl e ↦ rw (e, slot_same slots n o l) here
+  | inr d ↦ rw (slot_other slots n k o d) (before k (omega (arith, below, d)))
+]
+
+-- copies are as sound
+realm_quiet : (made : ℕ) (o : Option Guard) → IfSome o (λ g. g.realm ≤ made) → IfSome (quiet o) (λ g. g.realm ≤ made)
+realm_quiet made None h = tt
+realm_quiet made (Some g) h = h
+
+pub copied_sound : (max : ℕ) (slots copies : List (Option Guard)) (limits : Limits) (made : ℕ) (old new : Index) → IsSound max slots limits made old → copies ≡ map quiet slots
+    → IsWide copies new → ((k : ℕ) → IsNoted limits copies new k) → ((bits : ℕ) → length copies ≤ 2 ^ bits → new.one.height ≤ bits) → IsSound max copies limits made new
+copied_sound max slots copies limits made old new is same wide noted low =
+    let long : length copies ≡ length slots = ap length same ∙ length-map slots quiet in
+    record {
+      wide = wide;
+      noted = noted;
+      numbers = long ∙ is.numbers;
+      few = rw long is.few;
+      low = low;
+      limit_min = is.limit_min;
+      limit_max = is.limit_max;
+      realms = λ k. rw (same, slot_quiet k slots) (realm_quiet made (slot k slots) (is.realms k));
+    }
+
+-- the states of the first n heaps
+pub record ArePushed (n : ℕ) (slots : List (Option Guard)) (places bytes : List ℕ) : Type 0 where
+  pub count : length places ≡ n + 1
+  pub first : cell 0 places ≡ 0
+  pub heaps : (k : ℕ) → k < n → IsHeapAt (slot k slots) (cell k places) (cell (k + 1) places) bytes
+  pub last : cell n places ≡ length bytes
+
+-- more bytes behind those of a heap do not count
+before : (o : Option Guard) (a b : ℕ) (bytes more : List ℕ) → IsHeapAt o a b bytes → IsHeapAt o a b (bytes ++ more)
+before o a b bytes more is =
+    let from : a ≤ b = is.order in
+    let to : b ≤ length bytes = is.within in
+    record {
+      order = from;
+      within = omega (arith, to, length-append bytes more);
+      state = subst (IsHeapState o) (sym (ap (take (b - a)) (drop-append-le a bytes more (omega (arith, from, to)))
+          ∙ take-append-le (b - a) (drop a bytes) more (omega (arith, from, to, length-drop a bytes)))) is.state;
+    }
+
+-- one more state
+pub pushed_more : (n : ℕ) (slots : List (Option Guard)) (places bytes more places' bytes' : List ℕ) → ArePushed n slots places bytes → IsHeapState (slot n slots) more → bytes' ≡ bytes ++ more
+    → places' ≡ places ++ length bytes' ∷ [] → ArePushed (n + 1) slots places' bytes'
+pushed_more n slots places bytes more places' bytes' is state e f =
+    let count : length places ≡ n + 1 = is.count in
+    let long : length bytes' ≡ length bytes + length more = ap length e ∙ length-append bytes more in
+    let old : (k : ℕ) → k < n + 1 → cell k places' ≡ cell k places = λ k l. ap (cell k) f ∙ get_or_append_left places (length bytes' ∷ []) 0 k (omega (arith, l, count)) in
+    let next : cell (n + 1) places' ≡ length bytes' = ap (cell (n + 1)) f ∙ get_or_push places (length bytes') 0 (n + 1) count in
+    let from : cell n places' ≡ length bytes = old n (omega arith) ∙ is.last in
+    let here : IsHeapAt (slot n slots) (cell n places') (cell (n + 1) places') bytes' = record {
+      order = omega (arith, from, next, long);
+      within = omega (arith, next);
+      state = subst (IsHeapState (slot n slots)) (sym (ap₂ (λ a b. take (b - a) (drop a bytes')) from next ∙ ap (λ l. take (length bytes' - length bytes) (drop (length bytes) l)) e
+          ∙ ap (take (length bytes' - length bytes)) (drop-append_seam bytes more) ∙ take_all (length bytes' - length bytes) more (omega (arith, long)))) state;
+    } in
+    record {
+      count = ap length f ∙ length-append places (length bytes' ∷ []) ∙ omega (arith, count);
+      first = old 0 (omega arith) ∙ is.first;
+      heaps = λ k l. elim (cases_eq k n) [
+        | inl same ↦ rw same here
+        | inr d ↦
+            subst (λ a. IsHeapAt (slot k slots) a (cell (k + 1) places') bytes') (sym (old k (omega (arith, l))))
+            (subst (λ b. IsHeapAt (slot k slots) (cell k places) b bytes') (sym (old (k + 1) (omega (arith, l, d))))
+            (subst (IsHeapAt (slot k slots) (cell k places) (cell (k + 1) places)) (sym e) (before (slot k slots) (cell k places) (cell (k + 1) places) bytes more (is.heaps k (omega (arith, l, d))))))
+      ];
+      last = next;
+    }
+
+-- all of them
+pub all_pushed : (n : ℕ) (slots : List (Option Guard)) (places bytes : List ℕ) → length slots ≡ n → ArePushed n slots places bytes → AreStatesOf slots places bytes
+all_pushed n slots places bytes long is =
+    let p : ArePushed (length slots) slots places bytes = subst (λ m. ArePushed m slots places bytes) (sym long) is in
+    record { count = p.count; first = p.first; heaps = p.heaps; last = p.last }
+
+-- what the bytes of a state have
+pub record HasParts (hs : Heaps) (ps bs : List ℕ) : Type 0 where
+  pub form : number_at bs 0 ≡ 1397244239
+  pub version : number_at bs 1 ≡ 1
+  pub size : number_at bs 2 ≡ hs.limits.size
+  pub limit : number_at bs 3 ≡ hs.limits.max_allocs
+  pub most : number_at bs 4 ≡ hs.limits.most
+  pub larger : number_at bs 5 ≡ hs.limits.most_larger
+  pub made : number_at bs 6 ≡ hs.made
+  pub realm : number_at bs 7 ≡ hs.realm
+  pub places : (i : ℕ) → i < length hs.slots + 1 → number_at bs (8 + i) ≡ cell i ps
+  pub sum : number_at bs (9 + length hs.slots) ≡ checksum_from 0 (guarded.numbers (9 + length hs.slots) bs)
+
+pub parts : (hs : Heaps) (bs : List ℕ) (st : IsStateOf hs bs) → HasParts hs st.places bs
+parts hs bs st =
+    let n : ℕ = length hs.slots in
+    let p : List ℕ = st.places in
+    let s : ℕ = checksum_from 0 (heaps_numbers hs p) in
+    let count : length p ≡ n + 1 = st.heaps.count in
+    let at : (i : ℕ) → i < 10 + n → number_at bs i ≡ get_or (heaps_numbers hs p ++ s ∷ []) i 0 = λ i l. sym (number_in (10 + n) i bs l) ∙ ap (λ l. get_or l i 0) st.head in
+    let long : length (guarded.numbers (9 + n) bs) ≡ length (heaps_numbers hs p) = length-numbers (9 + n) bs ∙ omega (arith, count) in
+    let seam : guarded.numbers (9 + n) bs ++ number_at bs (9 + n) ∷ [] ≡ heaps_numbers hs p ++ s ∷ [] =
+    sym (numbers_more (9 + n) bs) ∙ ap (λ m. guarded.numbers m bs) {x = 9 + n + 1} {y = 10 + n} (omega arith) ∙ st.head in
+    let first : guarded.numbers (9 + n) bs ≡ heaps_numbers hs p =
+    sym (take-append_seam (guarded.numbers (9 + n) bs) (number_at bs (9 + n) ∷ [])) ∙ ap₂ (λ (k : ℕ) (l : List ℕ). take k l) long seam ∙ take-append_seam (heaps_numbers hs p) (s ∷ []) in
+    record {
+      form = at 0 (omega arith);
+      version = at 1 (omega arith);
+      size = at 2 (omega arith);
+      limit = at 3 (omega arith);
+      most = at 4 (omega arith);
+      larger = at 5 (omega arith);
+      made = at 6 (omega arith);
+      realm = at 7 (omega arith);
+      places = λ i l.
+          at (8 + i) (omega (arith, l)) ∙ get_or_append_left (heaps_numbers hs p) (s ∷ []) 0 (8 + i) (omega (arith, l, count))
+          ∙ get_or-append-add (1397244239 ∷ 1 ∷ hs.limits.size ∷ hs.limits.max_allocs ∷ hs.limits.most ∷ hs.limits.most_larger ∷ hs.made ∷ hs.realm ∷ []) p i 0;
+      sum = at (9 + n) (omega arith) ∙ get_or_push (heaps_numbers hs p) s 0 (9 + n) (omega (arith, count)) ∙ ap (checksum_from 0) (sym first);
+    }
+
+-- the heap of each number is between two of the places
+pub heap_between : (hs : Heaps) (bs : List ℕ) → IsStateOf hs bs → (k : ℕ) → k < length hs.slots
+    → IsHeapAt (slot k hs.slots) (number_at bs (8 + k)) (number_at bs (9 + k)) (drop (80 + 8 * length hs.slots) bs)
+heap_between hs bs st k l =
+    let p = parts hs bs st in
+    let from : number_at bs (8 + k) ≡ cell k st.places = p.places k (omega (arith, l)) in
+    let to : number_at bs (9 + k) ≡ cell (k + 1) st.places = ap (number_at bs) {x = 9 + k} {y = 8 + (k + 1)} (omega arith) ∙ p.places (k + 1) (omega (arith, l)) in
+    subst (λ a. IsHeapAt (slot k hs.slots) a (number_at bs (9 + k)) (drop (80 + 8 * length hs.slots) bs)) (sym from)
+    (subst (λ b. IsHeapAt (slot k hs.slots) (cell k st.places) b (drop (80 + 8 * length hs.slots) bs)) (sym to) (st.heaps.heaps k l))
+
+-- bytes are of one heap
+same_heap : (o p : Option Guard) (bytes : List ℕ) → IsHeapState o bytes → IsHeapState p bytes → quiet p ≡ quiet o
+same_heap None None bytes s t = refl
+same_heap None (Some g) bytes s t = absurd (omega (arith, ap length s, (guards.parts g bytes t).long))
+same_heap (Some g) None bytes s t = absurd (omega (arith, ap length t, (guards.parts g bytes s).long))
+same_heap (Some g) (Some h) bytes s t =
+    ap (λ (o : Option Guard). quiet o) {x = Some h} {y = Some (record g { space = record g.space { accesses = h.space.accesses } })}
+    (ap Some (guards.one_guard g h bytes s t (λ bs a b. one_view g.space h.space (words_in bs) a.text b.text)))
+
+-- and of many heaps
+pub one_of_many : (hs ks : Heaps) (bs : List ℕ) → IsStateOf hs bs → IsStateOf ks bs → SameHeaps hs ks
+one_of_many hs ks bs s t =
+    let p = parts hs bs s in
+    let q = parts ks bs t in
+    let size : ks.limits.size ≡ hs.limits.size = sym q.size ∙ p.size in
+    let limit : ks.limits.max_allocs ≡ hs.limits.max_allocs = sym q.limit ∙ p.limit in
+    let most : ks.limits.most ≡ hs.limits.most = sym q.most ∙ p.most in
+    let larger : ks.limits.most_larger ≡ hs.limits.most_larger = sym q.larger ∙ p.larger in
+    let made : ks.made ≡ hs.made = sym q.made ∙ p.made in
+    let realm : ks.realm ≡ hs.realm = sym q.realm ∙ p.realm in
+    let long : length ks.slots ≡ length hs.slots = t.count ∙ ap₂ (λ a b. a + b) most larger ∙ sym s.count in
+    let each : (k : ℕ) → k < length hs.slots → quiet (slot k ks.slots) ≡ quiet (slot k hs.slots) = λ k l.
+    same_heap (slot k hs.slots) (slot k ks.slots) _ (heap_between hs bs s k l).state
+    (subst (λ n. IsHeapState (slot k ks.slots) (take (number_at bs (9 + k) - number_at bs (8 + k)) (drop (number_at bs (8 + k)) (drop (80 + 8 * n) bs)))) long
+    (heap_between ks bs t k (omega (arith, l, long))).state) in
+    let slots : map quiet ks.slots ≡ map quiet hs.slots =
+    ext_get_or None (map quiet ks.slots) (map quiet hs.slots) (length-map ks.slots quiet ∙ long ∙ sym (length-map hs.slots quiet))
+    (λ k l. slot_quiet k ks.slots ∙ each k (omega (arith, l, long, length-map ks.slots quiet)) ∙ sym (slot_quiet k hs.slots)) in
+    λ i. record {
+      slots = slots i;
+      limits = record { size = size i; max_allocs = limit i; most = most i; most_larger = larger i };
+      made = made i;
+      realm = realm i;
+      accesses = 0;
+    }
+
+-- the numbers before the places
+eight : (bs : List ℕ) → guarded.numbers 8 bs
+    ≡ number_at bs 0 ∷ number_at bs 1 ∷ number_at bs 2 ∷ number_at bs 3 ∷ number_at bs 4 ∷ number_at bs 5 ∷ number_at bs 6 ∷ number_at bs 7 ∷ []
+eight bs =
+    let a = number_in 8 0 bs (omega arith) in
+    let b = number_in 8 1 bs (omega arith) in
+    let c = number_in 8 2 bs (omega arith) in
+    let d = number_in 8 3 bs (omega arith) in
+    let e = number_in 8 4 bs (omega arith) in
+    let f = number_in 8 5 bs (omega arith) in
+    let g = number_in 8 6 bs (omega arith) in
+    let h = number_in 8 7 bs (omega arith) in
+    λ i. a i ∷ b i ∷ c i ∷ d i ∷ e i ∷ f i ∷ g i ∷ h i ∷ []
+
+-- what is true of the heaps of all numbers, is true of no heap behind them
+past_too : (P : Option Guard → Type 0) (slots : List (Option Guard)) → P None → ((k : ℕ) → k < length slots → P (slot k slots)) → (k : ℕ) → P (slot k slots)
+past_too P slots none each k = elim (cases_lt k (length slots)) [ inl l ↦ each k l | inr past ↦ subst P (sym (slot_past slots k past)) none ]
+
+-- what was read is of these bytes
+module _ (max mh ma : ℕ) (bs : List ℕ) (h : Header) (slots : List (Option Guard)) (accesses : ℕ) (hd : IsHeader max mh ma bs h)
+    (start : number_at bs 8 ≡ 0) (end : number_at bs (8 + (h.limits.most + h.limits.most_larger)) ≡ length (drop (80 + 8 * (h.limits.most + h.limits.most_larger)) bs))
+    (are : AreRead max h.made ma (h.limits.most + h.limits.most_larger) bs (drop (80 + 8 * (h.limits.most + h.limits.most_larger)) bs) slots) (none : accesses ≡ 0) where
+  abbrev pub m : ℕ
+  m = h.limits.most + h.limits.most_larger
+
+  abbrev pub v : Heaps
+  v = shown slots h.limits h.made h.realm accesses
+
+  abbrev pub places : List ℕ
+  places = guarded.numbers (m + 1) (drop 64 bs)
+
+  place : (k : ℕ) → k < m + 1 → cell k places ≡ number_at bs (8 + k)
+  place k l = number_in (m + 1) k (drop 64 bs) l ∙ ap (λ (b : List ℕ). from_le_bytes w64 (take 8 b)) (drop-drop (8 * k) 64 bs ∙ ap (λ i. drop i bs) (omega arith))
+
+  -- all numbers but the checksum
+  all : guarded.numbers (9 + m) bs ≡ heaps_numbers v places
+  all =
+      let a = hd.form in
+      let b = hd.version in
+      let c = hd.size in
+      let d = hd.limit in
+      let e = hd.most in
+      let f = hd.larger in
+      let g = hd.made in
+      let r = hd.realm in
+      ap (λ i. guarded.numbers i bs) {x = 9 + m} {y = 8 + (m + 1)} (omega arith) ∙ numbers-add 8 (m + 1) bs ∙ ap (λ l. l ++ places) (eight bs)
+      ∙ (λ i. a i ∷ b i ∷ c i ∷ d i ∷ e i ∷ f i ∷ g i ∷ r i ∷ places)
+
+  pub read_state_of : IsStateOf v bs
+  read_state_of =
+      let many : length slots ≡ m = are.many in
+      record {
+        places = places;
+        count = many;
+        long = omega (arith, hd.long, many);
+        head = ap (λ i. guarded.numbers i bs) {x = 10 + length slots} {y = 9 + m + 1} (omega (arith, many)) ∙ numbers_more (9 + m) bs
+            ∙ ap₂ (λ (l : List ℕ) (i : ℕ). l ++ i ∷ []) all (hd.sum ∙ ap (checksum_from 0) all);
+        heaps = subst (λ n. AreStatesOf slots places (drop (80 + 8 * n) bs)) (sym many) record {
+          count = length-numbers (m + 1) (drop 64 bs) ∙ omega (arith, many);
+          first = place 0 (omega arith) ∙ start;
+          heaps = λ k l.
+              subst (λ a. IsHeapAt (slot k slots) a (cell (k + 1) places) (drop (80 + 8 * m) bs)) (sym (place k (omega (arith, l, many))))
+              (subst (λ b. IsHeapAt (slot k slots) (number_at bs (8 + k)) b (drop (80 + 8 * m) bs))
+              (ap (number_at bs) {x = 9 + k} {y = 8 + (k + 1)} (omega arith) ∙ sym (place (k + 1) (omega (arith, l, many)))) (are.heaps k (omega (arith, l, many))).state);
+          last = ap (λ k. cell k places) many ∙ place m (omega arith) ∙ end;
+        };
+      }
+
+  pub read_admitted : IsAdmitted max mh ma v
+  read_admitted = record {
+    few = hd.few;
+    limit = hd.limit_max;
+    heaps = past_too (λ o. IsHeapAdmitted max ma o) slots tt (λ k l. (are.heaps k (omega (arith, l, are.many))).admitted);
+  }
+
+  pub read_restored : IsRestored bs max mh ma v
+  read_restored = record {
+    state = read_state_of;
+    admitted = read_admitted;
+    rests = ap₂ (λ s a. record v { slots = s; accesses = a }) (sym (all_quiet slots slots refl (λ k l. sym (are.heaps k (omega (arith, l, are.many))).rests))) (sym none);
+  }
+
+  read_formed : (k : ℕ) → IsHeapFormed h.made (slot k slots)
+  read_formed = past_too (λ o. IsHeapFormed h.made o) slots tt (λ k l. (are.heaps k (omega (arith, l, are.many))).formed)
+
+  pub read_well_formed : mh ≤ 4294967295 → IsWellFormed v
+  read_well_formed few = record {
+    count = are.many;
+    few = omega (arith, are.many, hd.few, few);
+    size = hd.fits.0;
+    limit = hd.limit_min;
+    made = hd.fits.1;
+    realm = hd.fits.2;
+    heaps = read_formed;
+  }
+
+  realm_formed : (o : Option Guard) → IsHeapFormed h.made o → IfSome o (λ g. g.realm ≤ h.made)
+  realm_formed None f = tt
+  realm_formed (Some g) f = f.1
+
+  pub read_sound : (index : Index) → mh ≤ 4294967295 → IsWide slots index → ((k : ℕ) → IsNoted h.limits slots index k) → ((bits : ℕ) → length slots ≤ 2 ^ bits → index.one.height ≤ bits)
+      → IsSound max slots h.limits h.made index
+  read_sound index few wide noted low = record {
+    wide = wide;
+    noted = noted;
+    numbers = are.many;
+    few = omega (arith, are.many, hd.few, few);
+    low = low;
+    limit_min = hd.limit_min;
+    limit_max = hd.limit_max.0;
+    realms = λ k. realm_formed (slot k slots) (read_formed k);
+  }
+
+-- each of many heaps is well formed
+pub formed : (max : ℕ) (slots : List (Option Guard)) (limits : Limits) (made realm accesses : ℕ) (index : Index) → IsSound max slots limits made index
+    → ((k : ℕ) → k < length slots → IfSome (slot k slots) (λ g. guarded.IsWellFormed g × (g.space.max_allocs + 1 < max)))
+    → limits.size ≤ 4294967295 → made ≤ 4294967295 → realm ≤ 4294967295 → IsWellFormed (shown slots limits made realm accesses)
+formed max slots limits made realm accesses index is each size few small = record {
+  count = is.numbers;
+  few = omega (arith, is.few);
+  size = size;
+  limit = is.limit_min;
+  made = few;
+  realm = small;
+  heaps = past_too (λ o. IsHeapFormed made o) slots tt (λ k l. both (slot k slots) (each k l) (is.realms k));
+}
+  where
+    both : (o : Option Guard) → IfSome o (λ g. guarded.IsWellFormed g × (g.space.max_allocs + 1 < max)) → IfSome o (λ g. g.realm ≤ made) → IsHeapFormed made o
+    both None a b = tt
+    both (Some g) a b = (a.0, b)
+
+pub within_limit : (max : ℕ) (slots : List (Option Guard)) → ((k : ℕ) → k < length slots → IfSome (slot k slots) (λ g. guarded.IsWellFormed g × (g.space.max_allocs + 1 < max)))
+    → (k : ℕ) → IfSome (slot k slots) (λ g. g.space.max_allocs + 1 < max)
+within_limit max slots each = past_too (λ o. IfSome o (λ g. g.space.max_allocs + 1 < max)) slots tt (λ k l. second (slot k slots) (each k l))
+  where
+    second : (o : Option Guard) → IfSome o (λ g. guarded.IsWellFormed g × (g.space.max_allocs + 1 < max)) → IfSome o (λ g. g.space.max_allocs + 1 < max)
+    second None a = tt
+    second (Some g) a = a.1

@@ -1,0 +1,62 @@
+use Rattle.std.proofs.Common.{◌≡◌, ◌∙◌, ◌+◌, sym, subst, arith, length, List, ℕ}
+use Rattle.offset_guarded.specs.State.{checksum_from, number_at, numbers}
+use Rattle.offset_heaps.proofs.States.{parts}
+use Rattle.offset_heaps.proofs.restoring.header_of.Goals.{then-number-ne1397244239-via-then-number-ne1397244239, then-number-ne1397244239-via-else-number-ne1397244239+then-number-ne1}
+use Rattle.offset_heaps.proofs.restoring.header_of.Goals.{then-limit-lt4-via-then-limit-lt4, then-limit-lt4-via-else-limit-lt4+then-limit-most_allocs, then-limit-lt4-via-else-limit-lt4+else-limit-most_allocs+then-limit-MAX}
+use Rattle.offset_heaps.proofs.restoring.header_of.Goals as goal
+
+pub returns-then-number-ne1397244239-clause-wrong : goal.returns-then-number-ne1397244239-clause-wrong
+returns-then-number-ne1397244239-clause-wrong g c _ hs w adm st =
+    let p = parts hs c.args.bytes.now st in
+    elim c.then-number-ne1397244239.branch [
+      | then-number-ne1397244239-via-then-number-ne1397244239 w ↦ w.if-number-ne1397244239.true (c.number.ensures ∙ p.form)
+      | then-number-ne1397244239-via-else-number-ne1397244239+then-number-ne1 w ↦ w.if-number-ne1.true (w.number-else-number-ne1397244239.ensures ∙ p.version)
+    ]
+
+pub returns-then-size-clause-wrong : goal.returns-then-size-clause-wrong
+returns-then-size-clause-wrong g c _ hs w adm st =
+    let p = parts hs c.args.bytes.now st in
+    omega (arith, c.if-size.true, c.number-size.ensures, p.size, w.size)
+
+pub returns-then-limit-lt4-clause-wrong : goal.returns-then-limit-lt4-clause-wrong
+returns-then-limit-lt4-clause-wrong g c _ hs w adm st =
+    let p = parts hs c.args.bytes.now st in
+    let is = c.number-limit.ensures in
+    elim c.then-limit-lt4.branch [
+      | then-limit-lt4-via-then-limit-lt4 v ↦ omega (arith, v.if-limit-lt4, is, p.limit, w.limit)
+      | then-limit-lt4-via-else-limit-lt4+then-limit-most_allocs v ↦ omega (arith, v.if-limit-most_allocs, is, p.limit, adm.limit.1)
+      | then-limit-lt4-via-else-limit-lt4+else-limit-most_allocs+then-limit-MAX v ↦ omega (arith, v.if-limit-MAX, v.MAX.ensures, is, p.limit, adm.limit.0)
+    ]
+
+pub returns-then-most-most_heaps-clause-wrong : goal.returns-then-most-most_heaps-clause-wrong
+returns-then-most-most_heaps-clause-wrong g c _ hs w adm st =
+    let p = parts hs c.args.bytes.now st in
+    omega (arith, c.if-most-most_heaps.true, c.number-most.ensures, p.most, adm.few)
+
+pub returns-then-larger-most_heaps-clause-wrong : goal.returns-then-larger-most_heaps-clause-wrong
+returns-then-larger-most_heaps-clause-wrong g c _ hs w adm st =
+    let p = parts hs c.args.bytes.now st in
+    omega (arith, c.if-larger-most_heaps.true, c.number-most.ensures, c.number-larger.ensures, p.most, p.larger, adm.few)
+
+pub returns-then-made-clause-wrong : goal.returns-then-made-clause-wrong
+returns-then-made-clause-wrong g c _ hs w adm st =
+    let p = parts hs c.args.bytes.now st in
+    omega (arith, c.if-made.true, c.number-made.ensures, p.made, w.made)
+
+pub returns-then-realm-clause-wrong : goal.returns-then-realm-clause-wrong
+returns-then-realm-clause-wrong g c _ hs w adm st =
+    let p = parts hs c.args.bytes.now st in
+    omega (arith, c.if-realm.true, c.number-realm.ensures, p.realm, w.realm)
+
+pub returns-then-count-bytes-clause-wrong : goal.returns-then-count-bytes-clause-wrong
+returns-then-count-bytes-clause-wrong g c _ hs w adm st =
+    let p = parts hs c.args.bytes.now st in
+    omega (arith, c.if-count-bytes.true, c.number-most.ensures, c.number-larger.ensures, p.most, p.larger, st.long, st.count)
+
+pub returns-then-checksum-number-clause-wrong : goal.returns-then-checksum-number-clause-wrong
+returns-then-checksum-number-clause-wrong g c _ hs w adm st =
+    let bs : List ℕ = c.args.bytes.now in
+    let p = parts hs bs st in
+    let count : length hs.slots ≡ c.number-most.result + c.number-larger.result = omega (arith, st.count, p.most, p.larger, c.number-most.ensures, c.number-larger.ensures) in
+    c.if-checksum-number.true
+    (c.checksum.ensures ∙ subst (λ n. checksum_from 0 (numbers (9 + n) bs) ≡ number_at bs (9 + n)) count (sym p.sum) ∙ sym c.number-2.ensures)

@@ -1,0 +1,50 @@
+use Rattle.std.proofs.Common.{◌≡◌, ◌∙◌, ◌+◌, ◌-◌, ap, arith, drop, length, refl, subst, sym, take, List, ℕ}
+use Rattle.std.proofs.lemmas.List.{length-set}
+use Rattle.offset_guarded.specs.State.{number_at}
+use Rattle.offset_heaps.specs.Heaps.{slot}
+use Rattle.offset_heaps.specs.State.{IsHeapReadAt, IsHeapState}
+use Rattle.offset_heaps.proofs.States.{put_more}
+use Rattle.offset_heaps.proofs.restoring.read_slots.Goals.{then-from-to-via-then-from-to, then-from-to-via-else-from-to+then-to-states}
+use Rattle.offset_heaps.proofs.restoring.read_slots.Goals as goal
+
+pub returns-then-from-to-clause-refused : goal.returns-then-from-to-clause-refused
+returns-then-from-to-clause-refused g c _ slots long heaps formed admitted =
+    let at = heaps c.loop-k.k c.loop-k-test.true in
+    elim c.then-from-to.branch [
+      | then-from-to-via-then-from-to w ↦ omega (arith, w.if-from-to, at.order, c.number-from.ensures, c.number-to.ensures)
+      | then-from-to-via-else-from-to+then-to-states w ↦ omega (arith, w.if-to-states, at.within, c.number-to.ensures)
+    ]
+
+pub returns-in-Err-clause-refused : goal.returns-in-Err-clause-refused
+returns-in-Err-clause-refused g c _ slots long heaps formed admitted =
+    let k : ℕ = c.loop-k.k in
+    let bs : List ℕ = c.args.bytes.now in
+    let states : List ℕ = c.args.states.now in
+    let at = heaps k c.loop-k-test.true in
+    let b = rw c.in-Err.is at c.in_ok-wrong.ensures.refused in
+    b refl (slot k slots) (formed k) (admitted k)
+    (subst (λ a. IsHeapState (slot k slots) (take (c.number-to.result - a) (drop a states))) (sym c.number-from.ensures)
+    (subst (λ t. IsHeapState (slot k slots) (take (t - number_at bs (8 + k)) (drop (number_at bs (8 + k)) states))) (sym c.number-to.ensures) at.state))
+
+pub loop-k-preserved : goal.loop-k-preserved
+loop-k-preserved g c =
+    let k : ℕ = c.loop-k.k in
+    let bs : List ℕ = c.args.bytes.now in
+    let states : List ℕ = c.args.states.now in
+    let old = c.loop-k.slots.items in
+    let made : ℕ = c.args.made in
+    let most : ℕ = c.args.most_allocs in
+    let r = rw c.in-Ok.is at c.in_ok-wrong.ensures.read in
+    let here : IsHeapReadAt g.T.Index.NodeIndex.MAX made most (number_at bs (8 + k)) (number_at bs (9 + k)) states c.in-Ok.heap =
+    subst (λ a. IsHeapReadAt g.T.Index.NodeIndex.MAX made most a (number_at bs (9 + k)) states c.in-Ok.heap) c.number-from.ensures
+    (subst (λ t. IsHeapReadAt g.T.Index.NodeIndex.MAX made most c.number-from.result t states c.in-Ok.heap) c.number-to.ensures record {
+      state = record { order = omega (arith, c.if-from-to.false); within = omega (arith, c.if-to-states.false); state = r.state };
+      formed = r.formed;
+      admitted = r.admitted;
+      rests = r.rests;
+    }) in
+    record {
+      long = ap length c.put.ensures.heaps ∙ length-set old k c.in-Ok.heap ∙ c.loop-k.invariant.long;
+      read = rw c.put.ensures.heaps (put_more (λ i o. IsHeapReadAt g.T.Index.NodeIndex.MAX made most (number_at bs (8 + i)) (number_at bs (9 + i)) states o) old k c.in-Ok.heap
+          (omega (arith, c.loop-k.invariant.long, c.loop-k-test.true)) here c.loop-k.invariant.read);
+    }
