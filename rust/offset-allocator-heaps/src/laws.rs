@@ -22,3 +22,22 @@ pub fn room_is_reported() {}
 pub fn realms_are_given<T: Tables>(heaps: &HeapsOf<T>) {
     let _ = &heaps.made;
 }
+
+// How many heaps were made.
+fn made<T: Tables>(heaps: &HeapsOf<T>) -> u32 {
+    heaps.made
+}
+
+/// Bytes are those of a state of one `Heaps` at most, however many accesses were counted; and those of these
+/// are refused by no `read_state` that admits their limits. So `read_state` of what `write_state` returned
+/// are the same heaps, and each place is live there exactly if it is live here. It looks at each slot.
+pub fn a_state_is_read_back<T: Tables>(heaps: &HeapsOf<T>) {
+    // what is read recalls the invariant, and that numbers have 32 bits
+    let limits = heaps.limits;
+    let _ = (heaps.realm(), made(heaps));
+    for number in 0..limits.most + limits.most_larger {
+        if let Some(heap) = heaps.heap(number) {
+            offset_guarded::laws::a_state_is_read_back(heap);
+        }
+    }
+}

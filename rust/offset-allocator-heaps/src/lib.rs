@@ -38,6 +38,7 @@ mod traits;
 pub use memory::{AllocError, Global};
 pub use offset_guarded::Ticket;
 
+mod copying;
 mod dropping;
 mod granting;
 mod index;
@@ -47,7 +48,10 @@ mod making;
 mod maxima;
 mod place;
 mod refusal;
+mod restoring;
+mod saving;
 mod slots;
+mod state;
 mod totals;
 
 use index::Index;
@@ -57,6 +61,7 @@ use offset_guarded::GuardedOf;
 pub use place::{Granted, Place};
 pub use refusal::Refusal;
 use slots::Slots;
+pub use state::{StateFault, StateFaultKind};
 use core::fmt;
 pub use totals::Totals;
 

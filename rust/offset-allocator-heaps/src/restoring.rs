@@ -1,0 +1,210 @@
+// Printed by rust/erase from crates/offset_heaps/src/restoring.rt: change it there.
+
+//! Many heaps from the bytes of their state, or what is wrong with them. It makes heaps, and their index.
+
+use crate::HeapsOf;
+use crate::copying::index_of;
+use crate::limits::Limits;
+use crate::slots::{self, Slots};
+use crate::state::{StateFault, StateFaultKind, checksum, number};
+use offset_allocator::{Accesses, NodeIndex, Tables};
+use offset_guarded::GuardedOf;
+use offset_guarded::laws::a_state_is_read_back;
+use crate::memory::{AllocError, Global};
+
+// What the numbers before the places say.
+#[derive(Clone, Copy)]
+pub(crate) struct Header {
+    pub(crate) limits: Limits,
+    // how many heaps were made
+    pub(crate) made: u32,
+    pub(crate) realm: u32,
+}
+
+// A fault of the numbers.
+fn fault<V>(at: usize, kind: StateFaultKind) -> Result<V, StateFault> {
+    Err(StateFault { at, kind })
+}
+
+// The header of these bytes, where all numbers of many heaps are there, the limits are admitted and the
+// checksum is right.
+fn header_of<T: Tables>(
+    bytes: &[u8],
+    most_heaps: u32,
+    most_allocs: u32,
+) -> Result<Header, StateFault> {
+    if bytes.len() < 80 {
+        return fault(bytes.len(), StateFaultKind::Length);
+    }
+    if number(bytes, 0) != 1397244239 || number(bytes, 1) != 1 {
+        return fault(0, StateFaultKind::Form);
+    }
+    let size = number(bytes, 2);
+    if size > u32::MAX as u64 {
+        return fault(16, StateFaultKind::Limits);
+    }
+    let limit = number(bytes, 3);
+    if limit < 4 || limit > most_allocs as u64 || limit + 1 >= T::Index::MAX as u64 {
+        return fault(24, StateFaultKind::Limits);
+    }
+    let most = number(bytes, 4);
+    if most > most_heaps as u64 {
+        return fault(32, StateFaultKind::Limits);
+    }
+    let larger = number(bytes, 5);
+    if larger > most_heaps as u64 - most {
+        return fault(40, StateFaultKind::Limits);
+    }
+    let made = number(bytes, 6);
+    if made > u32::MAX as u64 {
+        return fault(48, StateFaultKind::Counts);
+    }
+    let realm = number(bytes, 7);
+    if realm > u32::MAX as u64 {
+        return fault(56, StateFaultKind::Counts);
+    }
+    let count = (most + larger) as usize;
+    if count > (bytes.len() - 80) / 8 {
+        return fault(bytes.len(), StateFaultKind::Length);
+    }
+    if checksum(bytes, 9 + count) != number(bytes, 9 + count) {
+        return fault(72 + 8 * count, StateFaultKind::Checksum);
+    }
+    Ok(Header {
+        limits: Limits {
+            size: size as u32,
+            max_allocs: limit as u32,
+            most: most as u32,
+            most_larger: larger as u32,
+        },
+        made: made as u32,
+        realm: realm as u32,
+    })
+}
+
+// The heap of these bytes, or none where there are none.
+fn read_heap<T: Tables>(
+    alloc: Global,
+    bytes: &[u8],
+    made: u32,
+    most_allocs: u32,
+) -> Result<Result<Option<GuardedOf<T>>, StateFault>, AllocError> {
+    if bytes.len() == 0 {
+        return Ok(Ok(None));
+    }
+    let heap = match GuardedOf::read_state(alloc, bytes, most_allocs)? {
+        Err(fault) => {
+            return Ok(Err(StateFault {
+                at: fault.at,
+                kind: StateFaultKind::Heap(fault.kind),
+            }));
+        }
+        Ok(heap) => heap,
+    };
+    // A step of the proof, which does nothing: no other heap has these bytes.
+    a_state_is_read_back(&heap);
+    if heap.realm() > made {
+        return Ok(Err(StateFault {
+            at: 32,
+            kind: StateFaultKind::Realm,
+        }));
+    }
+    Ok(Ok(Some(heap)))
+}
+
+// The heaps of these states, whose places are in the bytes before them.
+fn read_slots<T: Tables>(
+    alloc: Global,
+    bytes: &[u8],
+    states: &[u8],
+    count: u32,
+    made: u32,
+    most_allocs: u32,
+) -> Result<Result<Slots<T>, StateFault>, AllocError> {
+    let start = 80 + 8 * count as usize;
+    let mut slots = slots::none(alloc, count)?;
+    for k in 0..count {
+        let from = number(bytes, 8 + k as usize);
+        let to = number(bytes, 9 + k as usize);
+        if from > to || to > states.len() as u64 {
+            return Ok(Err(StateFault {
+                at: 72 + 8 * k as usize,
+                kind: StateFaultKind::Place,
+            }));
+        }
+        let heap = match read_heap(
+            alloc,
+            &states[from as usize..to as usize],
+            made,
+            most_allocs,
+        )? {
+            Err(wrong) => {
+                let at = start.wrapping_add(from as usize).wrapping_add(wrong.at);
+                return Ok(Err(StateFault {
+                    at: at,
+                    kind: wrong.kind,
+                }));
+            }
+            Ok(heap) => heap,
+        };
+        slots::put(&mut slots, k, heap, &mut Accesses::new());
+    }
+    Ok(Ok(slots))
+}
+
+impl<T: Tables> HeapsOf<T> {
+    /// The heaps of these bytes, which `write_state` has made, or what is wrong with them, and where: any
+    /// bytes are read. They have the same limits, realm and heaps, by number, as those that were written: so
+    /// each place that was live there is live here, with its range, and no other is. The index is made again.
+    /// Make the buffer of each number that has a heap, of the size that `heap` says.
+    ///
+    /// Serials and the realms of heaps go on from the numbers that were stored, as they do in the heaps that
+    /// were written: so a later grant of one may have a place that is live in the other, for another range.
+    /// Use one in place of the other. A place that was freed after the bytes were written is live again here.
+    ///
+    /// `most_heaps` is the largest `most + most_larger` that is accepted, and `most_allocs` the largest node
+    /// limit, of the limits and of each heap, since memory for these is reserved, as by `new` and by
+    /// `GuardedOf::with_max_allocs`; and for a number only where 8 bytes were given for it. It takes time for
+    /// the bytes, and some steps for each bit of the numbers for each of them. An error is returned only
+    /// where an allocation failed; then nothing is made.
+    pub fn read_state(
+        alloc: Global,
+        bytes: &[u8],
+        most_heaps: u32,
+        most_allocs: u32,
+    ) -> Result<Result<Self, StateFault>, AllocError> {
+        let header = match header_of::<T>(bytes, most_heaps, most_allocs) {
+            Err(fault) => return Ok(Err(fault)),
+            Ok(header) => header,
+        };
+        let limits = header.limits;
+        let count = limits.most + limits.most_larger;
+        let states = &bytes[80 + 8 * count as usize..];
+        if number(bytes, 8) != 0 {
+            return Ok(Err(StateFault {
+                at: 64,
+                kind: StateFaultKind::Place,
+            }));
+        }
+        if number(bytes, 8 + count as usize) != states.len() as u64 {
+            return Ok(Err(StateFault {
+                at: 64 + 8 * count as usize,
+                kind: StateFaultKind::Place,
+            }));
+        }
+        let slots = match read_slots(alloc, bytes, states, count, header.made, most_allocs)? {
+            Err(fault) => return Ok(Err(fault)),
+            Ok(slots) => slots,
+        };
+        let index = index_of(alloc, &slots, limits)?;
+        Ok(Ok(HeapsOf {
+            alloc,
+            slots,
+            index,
+            limits,
+            made: header.made,
+            realm: header.realm,
+            accesses: Accesses::new(),
+        }))
+    }
+}

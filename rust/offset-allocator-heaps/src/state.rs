@@ -1,0 +1,89 @@
+// Printed by rust/erase from crates/offset_heaps/src/state.rt: change it there.
+
+//! The numbers of a state of many heaps: their bytes, their checksum, and faults. It touches no heap.
+
+use crate::memory::Vec;
+use crate::memory::AllocError;
+use core::fmt;
+
+/// What is wrong with the bytes of a state, and where.
+#[derive(Clone, Copy, PartialEq, Debug)]
+pub struct StateFault {
+    /// The place of the byte from which on the bytes are wrong; or their number, where there are too few.
+    pub at: usize,
+    /// What is wrong there.
+    pub kind: StateFaultKind,
+}
+
+/// What is wrong with the bytes of a state.
+#[derive(Clone, Copy, PartialEq, Debug)]
+pub enum StateFaultKind {
+    /// They are fewer than the numbers of many heaps, of which they say how many there are.
+    Length,
+    /// They do not begin as a state of many heaps does, or are of another version.
+    Form,
+    /// The limits are none that `new` takes, or more than the caller admits.
+    Limits,
+    /// The number of heaps that were made, or the realm, has more than 32 bits.
+    Counts,
+    /// The checksum is not that of the numbers of many heaps.
+    Checksum,
+    /// The place of a heap's state: the first is not 0, one is before the one before it or behind the bytes,
+    /// or the last is not their end.
+    Place,
+    /// The realm of a heap, of which fewer were made.
+    Realm,
+    /// The state of a heap has this fault.
+    Heap(offset_guarded::StateFaultKind),
+}
+
+impl fmt::Display for StateFaultKind {
+    fn fmt(&self, f: &mut fmt::Formatter<'_>) -> fmt::Result {
+        match self {
+            StateFaultKind::Length => write!(f, "fewer bytes than the counts say"),
+            StateFaultKind::Form => write!(f, "no state of many heaps, or one of another version"),
+            StateFaultKind::Limits => write!(f, "limits that are not admitted"),
+            StateFaultKind::Counts => write!(f, "a realm or a count of more than 32 bits"),
+            StateFaultKind::Checksum => { write!(f, "a checksum that is not that of the numbers") }
+            StateFaultKind::Place => write!(
+                f,
+                "the place of a heap that is not behind the one before it, or not in the bytes"
+            ),
+            StateFaultKind::Realm => write!(f, "the realm of a heap that was not made"),
+            StateFaultKind::Heap(kind) => write!(f, "{kind}"),
+        }
+    }
+}
+
+/// The number of 64 bits at a place, the lowest byte first.
+pub(crate) fn number(bytes: &[u8], place: usize) -> u64 {
+    let at = 8 * place;
+    let mut eight = [0; 8];
+    eight.copy_from_slice(&bytes[at..at + 8]);
+    u64::from_le_bytes(eight)
+}
+
+/// The checksum of the first numbers.
+pub(crate) fn checksum(bytes: &[u8], count: usize) -> u64 {
+    let mut sum = 0u64;
+    for place in 0..count {
+        sum = sum
+            .wrapping_mul(1099511628211)
+            .wrapping_add(number(bytes, place));
+    }
+    sum
+}
+
+// Adds a number at the end.
+fn push_number(bytes: &mut Vec<u8>, number: u64) -> Result<(), AllocError> {
+    bytes.extend_from_slice(&number.to_le_bytes())?;
+    Ok(())
+}
+
+/// Adds numbers at the end.
+pub(crate) fn push_numbers(bytes: &mut Vec<u8>, more: &[u64]) -> Result<(), AllocError> {
+    for number in more {
+        push_number(bytes, *number)?;
+    }
+    Ok(())
+}
