@@ -53,7 +53,7 @@ extern crate alloc;
 mod memory;
 mod traits;
 
-pub use memory::{AllocError, Global};
+pub use memory::{AllocError, Global, Vec};
 pub use offset_guarded::Ticket;
 """,
     "offset_script": """#![doc = include_str!("../README.md")]

@@ -35,7 +35,7 @@ extern crate alloc;
 mod memory;
 mod traits;
 
-pub use memory::{AllocError, Global};
+pub use memory::{AllocError, Global, Vec};
 pub use offset_guarded::Ticket;
 
 mod copying;

@@ -1,0 +1,283 @@
+//! States of many heaps: bytes of random ones, read back, and bytes that were changed or made up. None panics; what is wrong
+//! with them, and where, is worked out here anew; each that is read is written back; and heaps that were read, or copied,
+//! give the same answers as those that were written, places included.
+//!
+//! `STATES=10000000 cargo test --release --test states` tries as many changed states.
+
+use offset_allocator::{ByField, ByNode, Tables};
+use offset_allocator_heaps::{Global, HeapsOf, Limits, Place, StateFault, StateFaultKind};
+use std::collections::BTreeMap;
+
+/// splitmix64
+struct Random(u64);
+
+impl Random {
+    fn next(&mut self) -> u64 {
+        self.0 = self.0.wrapping_add(0x9e37_79b9_7f4a_7c15);
+        let mut z = self.0;
+        z = (z ^ (z >> 30)).wrapping_mul(0xbf58_476d_1ce4_e5b9);
+        z = (z ^ (z >> 27)).wrapping_mul(0x94d0_49bb_1331_11eb);
+        z ^ (z >> 31)
+    }
+
+    fn below(&mut self, n: u32) -> u32 {
+        (self.next() % u64::from(n)) as u32
+    }
+}
+
+fn count() -> u64 {
+    std::env::var("STATES").map_or(100_000, |it| it.parse().expect("a number"))
+}
+
+// The numbers of 64 bits that a state begins with, without the checksum, and the bytes behind that: written here anew.
+fn parts(state: &[u8]) -> (Vec<u64>, Vec<u8>) {
+    let number = |place: usize| u64::from_le_bytes(state[8 * place..8 * place + 8].try_into().unwrap());
+    let slots = (number(4) + number(5)) as usize;
+    ((0..9 + slots).map(number).collect(), state[80 + 8 * slots..].to_vec())
+}
+
+fn joined(numbers: &[u64], rest: &[u8]) -> Vec<u8> {
+    let sum = numbers.iter().fold(0u64, |sum, it| sum.wrapping_mul(1_099_511_628_211).wrapping_add(*it));
+    let all = numbers.iter().chain([&sum]).flat_map(|it| it.to_le_bytes());
+    all.chain(rest.iter().copied()).collect()
+}
+
+// Heaps, and the places that they granted.
+struct Worked<T: Tables<Index = u32>> {
+    heaps: HeapsOf<T>,
+    held: Vec<Place>,
+    made: u64,
+}
+
+impl<T: Tables<Index = u32>> Worked<T> {
+    // One random call, and the answer. Places that were freed stay in the list.
+    fn call(&mut self, random: &mut Random) -> String {
+        let bits = random.below(12);
+        let size = random.below(1 << bits);
+        let (kind, align) = (random.below(10), 1 << random.below(4));
+        let chosen = (!self.held.is_empty()).then(|| self.held[random.below(self.held.len() as u32) as usize]);
+        match (kind, chosen) {
+            (0..=4, _) => {
+                let granted = self.heaps.allocate_aligned(size, if kind < 3 { 1 } else { align });
+                if let Ok(it) = granted {
+                    self.held.push(it.place);
+                    self.made += u64::from(it.is_new);
+                }
+                format!("{granted:?}")
+            }
+            (5..=7, Some(place)) => format!("{}", self.heaps.free(place)),
+            (8, _) => format!("{:?}", self.heaps.drop_empty(random.below(2))),
+            _ => match random.below(20) {
+                0 => {
+                    self.heaps.reset();
+                    String::new()
+                }
+                1 => format!("{}", self.heaps.give_up(random.below(6))),
+                _ => format!("{:?}", self.heaps.totals()),
+            },
+        }
+    }
+}
+
+fn worked<T: Tables<Index = u32>>(random: &mut Random) -> Worked<T> {
+    let limits = Limits {
+        size: random.below(1_500),
+        max_allocs: 4 + random.below(12),
+        most: random.below(6),
+        most_larger: random.below(4),
+    };
+    let heaps = HeapsOf::new(Global, limits, random.next() as u32).unwrap();
+    let mut made = Worked { heaps, held: Vec::new(), made: 0 };
+    for _ in 0..random.below(150) {
+        made.call(random);
+    }
+    made
+}
+
+fn written<T: Tables>(heaps: &HeapsOf<T>) -> Vec<u8> {
+    heaps.write_state(Global).unwrap().into()
+}
+
+fn goes_on<T: Tables<Index = u32>>(seed: u64, rounds: u64) {
+    let mut random = Random(seed);
+    for round in 0..rounds {
+        let mut own = worked::<T>(&mut random);
+        let state = written(&own.heaps);
+        // the numbers, as the calls so far have them, and the states of the heaps
+        let limits = own.heaps.limits();
+        let slots = limits.most + limits.most_larger;
+        let mut wanted = vec![0x5348_414f, 1, limits.size.into(), limits.max_allocs.into(), limits.most.into()];
+        wanted.extend([limits.most_larger.into(), own.made, own.heaps.realm().into(), 0]);
+        let mut states = Vec::new();
+        for number in 0..slots {
+            if let Some(heap) = own.heaps.heap(number) {
+                states.extend(Vec::from(heap.write_state(Global).unwrap()));
+            }
+            wanted.push(states.len() as u64);
+        }
+        assert_eq!(parts(&state), (wanted.clone(), states.clone()));
+        assert_eq!(joined(&wanted, &states), state);
+        let heaps = if round % 2 == 0 {
+            HeapsOf::<T>::read_state(Global, &state, slots, limits.max_allocs).unwrap().unwrap()
+        } else {
+            own.heaps.try_clone(Global).unwrap()
+        };
+        assert_eq!(written(&heaps), state);
+        let mut other = Worked { heaps, held: own.held.clone(), made: own.made };
+        for place in &own.held {
+            assert_eq!(other.heaps.is_live(*place), own.heaps.is_live(*place));
+            let range = (own.heaps.size_of(*place), own.heaps.offset_of(*place));
+            assert_eq!((other.heaps.size_of(*place), other.heaps.offset_of(*place)), range);
+        }
+        let start = random.next();
+        let (mut one, mut two) = (Random(start), Random(start));
+        for _ in 0..100 {
+            assert_eq!(other.call(&mut two), own.call(&mut one));
+        }
+        assert_eq!(written(&other.heaps), written(&own.heaps));
+    }
+}
+
+#[test]
+fn heaps_that_were_read_or_copied_go_on_alike() {
+    goes_on::<ByNode<u32>>(1, 1_000);
+    goes_on::<ByField<u32>>(2, 1_000);
+}
+
+const MOST: u64 = 40;
+
+// What is wrong with the numbers before states of so many bytes, if anything is but the realm or the state of a heap.
+fn fault_of(numbers: &[u64], rest: usize) -> Option<(usize, StateFaultKind)> {
+    if (numbers[0], numbers[1]) != (1_397_244_239, 1) {
+        return Some((0, StateFaultKind::Form));
+    }
+    let length = 8 * numbers.len() + 8 + rest;
+    let bad = |place: usize, is_bad: bool, kind| is_bad.then_some((8 * place, kind));
+    let slots = numbers[4].wrapping_add(numbers[5]);
+    None.or_else(|| bad(2, numbers[2] >= 1 << 32, StateFaultKind::Limits))
+        .or_else(|| bad(3, numbers[3] < 4 || numbers[3] > MOST, StateFaultKind::Limits))
+        .or_else(|| bad(4, numbers[4] > MOST, StateFaultKind::Limits))
+        .or_else(|| bad(5, numbers[5] > MOST || slots > MOST, StateFaultKind::Limits))
+        .or_else(|| bad(6, numbers[6] >= 1 << 32, StateFaultKind::Counts))
+        .or_else(|| bad(7, numbers[7] >= 1 << 32, StateFaultKind::Counts))
+        .or_else(|| (slots > (length as u64 - 80) / 8).then_some((length, StateFaultKind::Length)))
+        .or_else(|| bad(9 + slots as usize, slots != numbers.len() as u64 - 9, StateFaultKind::Checksum))
+        .or_else(|| bad(8, numbers[8] != 0, StateFaultKind::Place))
+        .or_else(|| bad(8 + slots as usize, numbers[8 + slots as usize] != rest as u64, StateFaultKind::Place))
+}
+
+// Changes some of the numbers.
+fn change(numbers: &mut Vec<u64>, random: &mut Random) {
+    for _ in 0..random.below(4) {
+        let place = random.below(numbers.len() as u32) as usize;
+        match random.below(8) {
+            0 => numbers[place] = u64::from(random.below(50)),
+            1 => numbers[place] = random.next(),
+            2 => numbers[place] = numbers[place].wrapping_add(1),
+            3 => numbers[place] = numbers[place].wrapping_sub(1),
+            // the number of heaps that were made, and the realm
+            4 => numbers[6] = u64::from(random.below(90)),
+            5 => numbers[7] = u64::from(random.next() as u32),
+            // one larger heap more, which has no state, or two in another order
+            6 => {
+                numbers.push(*numbers.last().unwrap());
+                numbers[5] = numbers[5].wrapping_add(1);
+            }
+            _ => {
+                let other = random.below(numbers.len() as u32) as usize;
+                numbers.swap(place, other);
+            }
+        }
+    }
+}
+
+#[test]
+fn changed_states_are_read_or_refused() {
+    let mut random = Random(3);
+    let (mut read, mut kinds) = (0u64, BTreeMap::<String, u64>::new());
+    let mut own = worked::<ByNode<u32>>(&mut random);
+    let (mut old, mut rest) = parts(&written(&own.heaps));
+    for round in 0..count() {
+        if round % 16 == 0 {
+            own = worked(&mut random);
+            (old, rest) = parts(&written(&own.heaps));
+        }
+        let mut numbers = old.clone();
+        change(&mut numbers, &mut random);
+        let state = joined(&numbers, &rest);
+        let wanted = fault_of(&numbers, rest.len());
+        match HeapsOf::<ByNode<u32>>::read_state(Global, &state, MOST as u32, MOST as u32).unwrap() {
+            Err(StateFault { at, kind }) => {
+                assert!(at <= state.len());
+                match wanted {
+                    Some(wanted) => assert_eq!((at, kind), wanted, "{numbers:?}"),
+                    None => assert!(matches!(kind, StateFaultKind::Place | StateFaultKind::Realm | StateFaultKind::Heap(_))),
+                }
+                *kinds.entry(format!("{kind:?}").split('(').next().unwrap().into()).or_default() += 1;
+            }
+            Ok(heaps) => {
+                read += 1;
+                assert_eq!(wanted, None, "{numbers:?}");
+                assert_eq!(written(&heaps), state);
+                let made = numbers[6];
+                for number in 0..heaps.limits().most + heaps.limits().most_larger {
+                    assert!(!heaps.heap(number).is_some_and(|it| u64::from(it.realm()) > made));
+                }
+                let mut other = Worked { heaps, held: own.held.clone(), made };
+                for _ in 0..6 {
+                    other.call(&mut random);
+                }
+            }
+        }
+    }
+    println!("{read} of {} read; faults: {kinds:?}", count());
+    assert!(read > count() / 20);
+    let all = ["Checksum", "Counts", "Form", "Heap", "Length", "Limits", "Place", "Realm"];
+    assert_eq!(kinds.keys().map(String::as_str).collect::<Vec<_>>(), all);
+}
+
+// Some bytes fewer, one more, or another bit.
+#[test]
+fn changed_bytes_are_refused() {
+    let mut random = Random(4);
+    for _ in 0..count() / 50 {
+        let own = worked::<ByNode<u32>>(&mut random);
+        let mut state = written(&own.heaps);
+        let read = |state: &[u8]| HeapsOf::<ByNode<u32>>::read_state(Global, state, 100, 100).unwrap();
+        let last = 8 * parts(&state).0.len() - 8;
+        let cut = random.below(state.len() as u32) as usize;
+        let fault = read(&state[..cut]).err().unwrap();
+        let wanted = if cut < last + 16 { (cut, StateFaultKind::Length) } else { (last, StateFaultKind::Place) };
+        assert_eq!((fault.at, fault.kind), wanted);
+        state.push(0);
+        assert_eq!(read(&state).err(), Some(StateFault { at: last, kind: StateFaultKind::Place }));
+        state.pop();
+        let place = random.below(state.len() as u32) as usize;
+        state[place] ^= 1 << random.below(8);
+        let fault = read(&state).err().unwrap();
+        assert!(fault.at <= state.len());
+        assert_eq!(matches!(fault.kind, StateFaultKind::Heap(_)), place >= last + 16);
+    }
+}
+
+#[test]
+fn made_up_bytes_are_refused() {
+    let mut random = Random(5);
+    for _ in 0..count() / 4 {
+        let length = random.below(200) as usize;
+        let mut made: Vec<u8> = (0..length).map(|_| if random.below(3) == 0 { random.next() as u8 } else { 0 }).collect();
+        if length >= 16 && random.below(2) == 0 {
+            made[..16].copy_from_slice(b"OAHS\0\0\0\0\x01\0\0\0\0\0\0\0");
+        }
+        assert!(HeapsOf::<ByNode<u32>>::read_state(Global, &made, u32::MAX, u32::MAX).unwrap().is_err());
+    }
+    // no limit is a number to request memory by before the caller admits it
+    let limits = Limits { size: 10, max_allocs: 100, most: 3, most_larger: 2 };
+    let heaps = HeapsOf::<ByNode<u32>>::new(Global, limits, 7).unwrap();
+    let state = written(&heaps);
+    let fault = |most, allocs| HeapsOf::<ByNode<u32>>::read_state(Global, &state, most, allocs).unwrap().err();
+    assert_eq!(fault(5, 100), None);
+    assert_eq!(fault(5, 99), Some(StateFault { at: 24, kind: StateFaultKind::Limits }));
+    assert_eq!(fault(4, 100), Some(StateFault { at: 40, kind: StateFaultKind::Limits }));
+    assert_eq!(fault(2, 100), Some(StateFault { at: 32, kind: StateFaultKind::Limits }));
+}
