@@ -1,9 +1,8 @@
 -- The bytes of a state, and the heaps that they are of.
-use Rattle.std.proofs.Common.{◌≡◌, ◌≢◌, ℕ, zero, suc, ◌+◌, ◌*◌, ◌-◌, ◌%◌, ◌^◌, ◌<◌, ◌≤◌, ◌⊎◌, [], ◌∷◌, ◌++◌, length, List, Option, Some, None, IfSome, map, replicate, slice_set, take, drop, get_or, refl, sym, ap, ap₂, ◌∙◌, subst, inl, inr, arith, length-append, ext_get_or, le-ltb}
+use Rattle.std.proofs.Common.{◌≡◌, ℕ, zero, suc, ◌+◌, ◌*◌, ◌-◌, ◌^◌, ◌<◌, ◌≤◌, [], ◌∷◌, ◌++◌, length, List, Option, Some, None, IfSome, map, replicate, slice_set, take, drop, get_or, refl, sym, ap, ap₂, ◌∙◌, subst, inl, inr, arith, length-append, ext_get_or, le-ltb}
 use Rattle.std.proofs.lemmas.Bool.{cases_eq, cases_lt}
 use Rattle.std.proofs.Math.Seq.{drop-append_seam, take-append_seam}
-use Rattle.std.proofs.lemmas.List.{drop-drop, get_or_append_left, get_or-append-add, get_or_push, take_all, length-drop, length-map, length-replicate, length-set, take-append-le, drop-append-le}
-use Rattle.offset_allocator.specs.State as allocator
+use Rattle.std.proofs.lemmas.List.{drop-drop, get_or_append_left, get_or-append-add, get_or_push, take_all, length-drop, length-map, length-replicate, take-append-le, drop-append-le}
 use Rattle.offset_allocator.specs.State.{words_in}
 use Rattle.offset_allocator.proofs.Restored.{one_view}
 use Rattle.offset_guarded.specs.Guard.{Guard}
@@ -15,10 +14,10 @@ use Rattle.offset_guarded.proofs.Numbers.{length-numbers, number_in, numbers-add
 use Rattle.offset_heaps.specs.declared.limits.Limits.{Limits}
 use Rattle.offset_heaps.specs.declared.index.Index.{Index}
 use Rattle.offset_heaps.specs.declared.restoring.Header.{Header}
-use Rattle.offset_heaps.specs.Heaps.{Heaps, heap_at, numbers, room_of, slot}
+use Rattle.offset_heaps.specs.Heaps.{Heaps, slot}
 use Rattle.offset_heaps.specs.Maxima.{cell}
-use Rattle.offset_heaps.specs.Soundness.{IsNoted, IsSound, IsWide, spare_of}
-use Rattle.offset_heaps.specs.State.{AreRead, AreStatesOf, IsAdmitted, IsHeader, IsHeapAdmitted, IsHeapAt, IsHeapFormed, IsHeapReadAt, IsHeapState, IsRestored, IsStateOf, IsWellFormed, SameHeaps, heaps_numbers, quiet, uncounted}
+use Rattle.offset_heaps.specs.Soundness.{IsNoted, IsSound, IsWide}
+use Rattle.offset_heaps.specs.State.{AreRead, AreStatesOf, IsAdmitted, IsHeader, IsHeapAdmitted, IsHeapAt, IsHeapFormed, IsHeapState, IsRestored, IsStateOf, IsWellFormed, SameHeaps, heaps_numbers, quiet}
 use Rattle.offset_heaps.proofs.Numbers.{slot_other, slot_past, slot_same}
 use Rattle.offset_heaps.proofs.Places.{shown}
 use Rattle.offset_heaps.proofs.Sound.{empty_cell}

@@ -1,4 +1,4 @@
-use Rattle.std.proofs.Common.{◌≡◌, ◌∙◌, ◌+◌, ◌-◌, ap, arith, drop, length, refl, subst, sym, take, List, ℕ}
+use Rattle.std.proofs.Common.{◌∙◌, ◌+◌, ◌-◌, ap, arith, drop, length, refl, subst, sym, take, List, ℕ}
 use Rattle.std.proofs.lemmas.List.{length-set}
 use Rattle.offset_guarded.specs.State.{number_at}
 use Rattle.offset_heaps.specs.Heaps.{slot}
