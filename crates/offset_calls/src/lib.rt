@@ -1,5 +1,5 @@
-//! Lists of calls to an allocator, played on it: every call that changes a space, but `make_room`, and the questions
-//! beside them.
+//! Lists of calls to an allocator, played on it: every call that changes a space, but `make_room`, and the questions beside
+//! them.
 //!
 //! `offset_script` plays the commands of a script. Here `shrink`, `grow_in_place` and `compact`, and the questions for
 //! an offset and for the reason of a refusal, are calls too. The answers are proved to be those of the plain stamped
