@@ -77,6 +77,17 @@ public:
 
     explicit operator bool() const noexcept { return heaps != nullptr; }
 
+    // A copy, to be used in place of this one; it has none where memory is out.
+    Heaps clone() const { return Heaps(oah_clone(heaps)); }
+
+    // Assigns the bytes of the state to a vector, say. False where memory for them is out.
+    template <class Bytes> bool save(Bytes &bytes) const { return detail::assign(oah_write_state(heaps), bytes); }
+
+    // The heaps of bytes that save has assigned, with the same places, or none and what is wrong with the bytes, and where.
+    // They are to be used in place of the ones that were saved: later grants of both may have the same place.
+    struct Loaded;
+    static Loaded load(const void *bytes, size_t size, uint32 mostHeaps, uint32 mostAllocs);
+
     void reset() { oah_reset(heaps); }
 
     // Where it is refused, it converts to false.
@@ -123,8 +134,24 @@ private:
         return granted;
     }
 
+    explicit Heaps(oah_heaps *made) noexcept : heaps(made) {}
     oah_heaps *heaps;
 };
+
+// Heaps that were loaded, or none and what is wrong with the bytes, and where.
+struct Heaps::Loaded {
+    Heaps heaps;
+    oa_found found;
+    size_t at;
+};
+
+inline Heaps::Loaded Heaps::load(const void *bytes, size_t size, uint32 mostHeaps, uint32 mostAllocs) {
+    const detail::State state(oa_state_new(size));
+    if (!state.held) return Loaded{Heaps(static_cast<oah_heaps *>(nullptr)), OA_OUT_OF_MEMORY, 0};
+    if (size != 0) std::memcpy(oa_state_bytes(state.held), bytes, size);
+    oah_read read = oah_read_state(state.held, mostHeaps, mostAllocs);
+    return Loaded{Heaps(read.heaps), read.found, read.at};
+}
 
 inline void swap(Heaps &a, Heaps &b) noexcept { a.swap(b); }
 

@@ -131,7 +131,7 @@ typedef struct oa_blocks oa_blocks;
 /* The bytes of a state. */
 typedef struct oa_state oa_state;
 
-/* What oa_read_state and oag_read_state found: a space, no memory for it, or what is wrong with the bytes. */
+/* What oa_read_state, oag_read_state and oah_read_state found: a space, no memory for it, or what is wrong with the bytes. */
 typedef enum oa_found {
     OA_SPACE_READ = 0,
     OA_OUT_OF_MEMORY = 1,
@@ -145,7 +145,8 @@ typedef enum oa_found {
     OA_BAD_FREE = 9,       /* The name of no block, or of a free one that was listed before. */
     OA_BAD_NEIGHBOURS = 10, /* This block and the one after it are both free. */
     OA_BAD_REALM = 11,     /* A realm of more than 32 bits. */
-    OA_BAD_SERIAL = 12     /* A serial that is above the number of grants, or none for a live range. */
+    OA_BAD_SERIAL = 12,    /* A serial that is above the number of grants, or none for a live range. */
+    OA_BAD_PLACE = 13      /* Of many heaps: the state of a heap does not begin where the one before it ends. */
 } oa_found;
 
 /* A space that was read, or null, and what is wrong. at: the place of the byte from which on the bytes are wrong, or their

@@ -10,8 +10,9 @@
  *
  * Heaps of the usual size have the numbers below most, larger ones those from most on. Nothing is known of the buffers.
  * Every call takes any place: one that is stale, altered, made up, or of other heaps with another realm is refused by the
- * result, and nothing changes. No call takes memory but oah_new and a request that makes a heap. Any pointer to heaps may
- * be null. Several threads may read at a time; none may read or write while another writes. */
+ * result, and nothing changes. No call takes memory but a request that makes a heap and oah_new, oah_clone, oah_write_state
+ * and oah_read_state. Any pointer to heaps may be null. Several threads may read at a time; none may read or write while
+ * another writes. */
 #ifndef OFFSET_ALLOCATOR_HEAPS_H
 #define OFFSET_ALLOCATOR_HEAPS_H
 
@@ -76,6 +77,28 @@ oah_heaps *oah_new(oah_limits limits, uint32_t realm);
 
 /* Frees the memory of all heaps. A null pointer is allowed. */
 void oah_drop(oah_heaps *heaps);
+
+/* A copy, where each place that is live is live too, for which the buffers are those of the same numbers. Use it in place of
+ * the one that was copied: later grants of both may have the same place. Null where memory is out, or heaps is null. */
+oah_heaps *oah_clone(const oah_heaps *heaps);
+
+/* The bytes of the state of all heaps: 80, 8 for each number, and those of oag_write_state for each heap. Null where memory
+ * is out, or heaps is null. To be dropped by oa_state_drop. */
+oa_state *oah_write_state(const oah_heaps *heaps);
+
+/* Heaps that were read, or null, and what is wrong, and where: OA_BAD_LIMIT of limits that are not admitted, OA_BAD_COUNTS of
+ * a realm or a count of more than 32 bits, OA_BAD_REALM of a heap that was not made, too. */
+typedef struct oah_read {
+    oah_heaps *heaps;
+    oa_found found;
+    size_t at;
+} oah_read;
+
+/* The heaps of these bytes, which go on as the ones that were written: with their limits and realm, and the same places are
+ * live. Make the buffer of each number that has a heap. Any bytes are read, as by oa_read_state. More numbers than
+ * most_heaps and a node limit above most_allocs are refused, since memory for them is reserved. Use them in place of the
+ * ones that were written: later grants of both may have the same place. The state is not dropped. */
+oah_read oah_read_state(const oa_state *state, uint32_t most_heaps, uint32_t most_allocs);
 
 /* Makes the space of each heap free. No earlier place is live then. All heaps stay, for oah_drop_empty. */
 void oah_reset(oah_heaps *heaps);

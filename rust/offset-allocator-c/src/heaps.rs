@@ -1,8 +1,8 @@
 //! The C interface of `offset-allocator-heaps`. `include/offset_allocator_heaps.h` documents each function.
 
-use offset_allocator_heaps::{Granted, Heaps, Limits, Place, Refusal, Ticket};
+use offset_allocator_heaps::{Global, Granted, Heaps, Limits, Place, Refusal, StateFaultKind, Ticket};
 
-use crate::{boxed, short, totals, Guard, Report, Totals, NO_REPORT, NO_SPACE, NO_TICKET};
+use crate::{boxed, guarded_fault, short, totals, Found, Guard, Report, State, Totals, NO_REPORT, NO_SPACE, NO_TICKET};
 
 /// Many heaps, as C holds them.
 pub type ManyHeaps = [Heaps; 1];
@@ -58,6 +58,14 @@ pub struct All {
     free_units: u64,
 }
 
+/// Heaps that were read, or what is wrong with the bytes, and where.
+#[repr(C)]
+pub struct HeapsRead {
+    heaps: Option<Box<ManyHeaps>>,
+    found: Found,
+    at: usize,
+}
+
 const NOWHERE: At = At { ticket: NO_TICKET, heap: NO_SPACE, realm: 0 };
 
 const BAD_CALL: Answer = Answer { place: NOWHERE, is_new: false, refusal: Why::BadCall };
@@ -84,6 +92,32 @@ fn place(at: At) -> Place {
     Place { heap: at.heap, realm: at.realm, ticket: Ticket { offset: 0, name, serial, realm } }
 }
 
+fn fault(kind: StateFaultKind) -> Found {
+    match kind {
+        StateFaultKind::Length => Found::Length,
+        StateFaultKind::Form => Found::Form,
+        StateFaultKind::Limits => Found::Limit,
+        StateFaultKind::Counts => Found::Counts,
+        StateFaultKind::Checksum => Found::Checksum,
+        StateFaultKind::Place => Found::Place,
+        StateFaultKind::Realm => Found::Realm,
+        StateFaultKind::Heap(kind) => guarded_fault(kind),
+    }
+}
+
+// The heaps of these bytes, or what is wrong with them.
+fn read(state: &[u8], most_heaps: u32, most_allocs: u32) -> HeapsRead {
+    let lost = |found, at| HeapsRead { heaps: None, found, at };
+    match Heaps::read_state(Global, state, most_heaps, most_allocs) {
+        Err(_) => lost(Found::OutOfMemory, 0),
+        Ok(Ok(heaps)) => match boxed(heaps) {
+            None => lost(Found::OutOfMemory, 0),
+            heaps => HeapsRead { heaps, found: Found::Space, at: state.len() },
+        },
+        Ok(Err(wrong)) => lost(fault(wrong.kind), wrong.at),
+    }
+}
+
 exports! {
     fn oah_new(limits: HeapLimits, realm: u32) -> Option<Box<ManyHeaps>> {
         let HeapLimits { size, max_allocs, most, most_larger } = limits;
@@ -91,10 +125,20 @@ exports! {
         if !(4..=u32::MAX - 2).contains(&max_allocs) || most.checked_add(most_larger).is_none() {
             return None;
         }
-        boxed(Heaps::new(offset_allocator_heaps::Global, Limits { size, max_allocs, most, most_larger }, realm).ok()?)
+        boxed(Heaps::new(Global, Limits { size, max_allocs, most, most_larger }, realm).ok()?)
     } else ();
 
     fn oah_drop(heaps: Option<Box<ManyHeaps>>) -> () { drop(heaps) } else ();
+
+    fn oah_clone([heaps: &ManyHeaps],) -> Option<Box<ManyHeaps>> { boxed(heaps.try_clone(Global).ok()?) } else None;
+
+    fn oah_write_state([heaps: &ManyHeaps],) -> Option<Box<State>> {
+        boxed(heaps.write_state(Global).ok()?.into())
+    } else None;
+
+    fn oah_read_state([state: &State], most_heaps: u32, most_allocs: u32) -> HeapsRead {
+        read(state, most_heaps, most_allocs)
+    } else HeapsRead { heaps: None, found: Found::Length, at: 0 };
 
     fn oah_reset([heaps: &mut ManyHeaps],) -> () { heaps.reset() } else ();
 

@@ -132,7 +132,7 @@ pub type Blocks = [Vec<Block>; 1];
 /// The bytes of a state.
 pub type State = [Vec<u8>; 1];
 
-/// What `oa_read_state` and `oag_read_state` found.
+/// What `oa_read_state`, `oag_read_state` and `oah_read_state` found.
 #[repr(C)]
 pub enum Found {
     Space,
@@ -148,6 +148,7 @@ pub enum Found {
     Neighbours,
     Realm,
     Serial,
+    Place,
 }
 
 /// A space that was read, or what is wrong with the bytes, and where.

@@ -3,6 +3,7 @@
 
 #include <stdio.h>
 #include <stdlib.h>
+#include <string.h>
 
 static int checks;
 #define CHECK(x) do { checks++; if (!(x)) { fprintf(stderr, "%s:%d: not so: %s\n", __FILE__, __LINE__, #x); exit(1); } } while (0)
@@ -57,6 +58,81 @@ static void grows_and_drops(void) {
     oah_drop(heaps);
 }
 
+/* Two heaps of 100 units and room for a larger one, of which number 1 was given up: written by hand. */
+static void states(void) {
+    oah_limits limits = {100, 4, 2, 1};
+    oah_heaps *heaps = oah_new(limits, 9);
+    oah_place a = oah_allocate(heaps, 60).place;
+    CHECK(oah_allocate(heaps, 60).is_new && oah_give_up(heaps, 1));
+    oa_state *state = oah_write_state(heaps);
+    /* one block is live and one is free, and each of 2 nodes was granted or may be: 48 and at most 16, and 32, 16 and 4 */
+    size_t own = oa_state_size(state) - 80 - 3 * 8;
+    CHECK(own == 48 + 8 * 2 + 32 + 2 * 8 + 4);
+    uint64_t numbers[] = {1397244239, 1, 100, 4, 2, 1, 2, 9, 0, own, own, own}, sum = 0;
+    for (int i = 0; i < 12; i++) {
+        sum = sum * 1099511628211u + numbers[i];
+        for (int j = 0; j < 8; j++) CHECK(oa_state_bytes(state)[8 * i + j] == (uint8_t) (numbers[i] >> 8 * j));
+    }
+    for (int j = 0; j < 8; j++) CHECK(oa_state_bytes(state)[96 + j] == (uint8_t) (sum >> 8 * j));
+    CHECK(memcmp(oa_state_bytes(state) + 104, "OATK", 4) == 0);
+    oah_heaps *copy = oah_clone(heaps);
+    CHECK(copy && oah_is_live(copy, a) && oah_free(heaps, a) && oah_is_live(copy, a));
+    oah_drop(heaps);
+    oah_drop(copy);
+    oah_read read = oah_read_state(state, 3, 4);
+    CHECK(read.found == OA_SPACE_READ && read.at == oa_state_size(state) && oah_has(read.heaps, 0) && !oah_has(read.heaps, 1));
+    /* a place that was freed after the state was written is live there, and the third heap has the third realm */
+    CHECK(oah_size_of(read.heaps, a) == 60 && oah_offset_of(read.heaps, a) == 0);
+    oah_granted next = oah_allocate(read.heaps, 60);
+    CHECK(next.is_new && next.place.heap == 1 && next.place.ticket.realm == 3 && next.place.realm == 9);
+    CHECK(oah_free(read.heaps, a) && !oah_free(read.heaps, a));
+    oah_drop(read.heaps);
+    read = oah_read_state(state, 2, 4);
+    CHECK(!read.heaps && read.found == OA_BAD_LIMIT && read.at == 40);
+    read = oah_read_state(state, 3, 3);
+    CHECK(!read.heaps && read.found == OA_BAD_LIMIT && read.at == 24);
+    for (size_t i = 0; i < oa_state_size(state); i++) {
+        oa_state_bytes(state)[i] ^= 128;
+        read = oah_read_state(state, 1000, 1000);
+        CHECK(!read.heaps && read.found != OA_SPACE_READ && read.found != OA_OUT_OF_MEMORY && read.at <= oa_state_size(state));
+        oa_state_bytes(state)[i] ^= 128;
+    }
+    /* numbers that are wrong, with the checksum of them */
+    static const struct { int place; uint64_t number; oa_found found; size_t at; } wrong[] = {
+        {0, 1397244240, OA_BAD_FORM, 0}, {1, 2, OA_BAD_FORM, 0}, {2, 1ull << 32, OA_BAD_LIMIT, 16},
+        {3, 3, OA_BAD_LIMIT, 24}, {4, 1ull << 63, OA_BAD_LIMIT, 32}, {5, 1001, OA_BAD_LIMIT, 40},
+        {6, 1ull << 32, OA_BAD_COUNTS, 48}, {6, 0, OA_BAD_REALM, 104 + 32}, {7, 1ull << 32, OA_BAD_COUNTS, 56},
+        {8, 1, OA_BAD_PLACE, 64}, {9, 1000, OA_BAD_PLACE, 72}, {9, 0, OA_BAD_PLACE, 0}, {11, 0, OA_BAD_PLACE, 88},
+    };
+    for (size_t n = 0; n < sizeof wrong / sizeof *wrong; n++) {
+        oa_state *changed = oa_state_new(oa_state_size(state));
+        memcpy(oa_state_bytes(changed), oa_state_bytes(state), oa_state_size(state));
+        sum = 0;
+        for (int i = 0; i < 13; i++) {
+            uint64_t number = i == 12 ? sum : i == wrong[n].place ? wrong[n].number : numbers[i];
+            sum = sum * 1099511628211u + number;
+            for (int j = 0; j < 8; j++) oa_state_bytes(changed)[8 * i + j] = (uint8_t) (number >> 8 * j);
+        }
+        read = oah_read_state(changed, 1000, 1000);
+        if (wrong[n].place == 9 && wrong[n].number == 0) {
+            /* the bytes are those of heap 1 then */
+            CHECK(read.found == OA_SPACE_READ && !oah_has(read.heaps, 0) && oah_has(read.heaps, 1) && !oah_is_live(read.heaps, a));
+            oah_drop(read.heaps);
+        } else {
+            CHECK(!read.heaps && read.found == wrong[n].found && read.at == wrong[n].at);
+        }
+        oa_state_drop(changed);
+    }
+    CHECK(!oah_write_state(NULL) && !oah_clone(NULL) && oah_read_state(NULL, 1, 4).found == OA_BAD_LENGTH);
+    /* a state of tickets is none of many heaps */
+    oa_state_drop(state);
+    oag_allocator *one = oag_new(100, 4, 9);
+    state = oag_write_state(one);
+    CHECK(oah_read_state(state, 3, 4).found == OA_BAD_FORM);
+    oa_state_drop(state);
+    oag_drop(one);
+}
+
 static void nulls(void) {
     oah_limits few = {100, 3, 1, 0}, many = {100, 4, 4294967295u, 1};
     CHECK(!oah_new(few, 0) && !oah_new(many, 0));
@@ -72,6 +148,7 @@ static void nulls(void) {
 
 int main(void) {
     grows_and_drops();
+    states();
     nulls();
     printf("C: %d checks of heaps pass\n", checks);
     return 0;

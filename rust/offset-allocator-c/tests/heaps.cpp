@@ -52,5 +52,15 @@ int main() {
     heaps.reset();
     CHECK(heaps.statistics(0).liveRanges == 0 && heaps.statistics(0).freeUnits == 1024);
     CHECK(!Heaps({1, 3, 1, 1}));
+    Granted kept = heaps.allocate(7);
+    std::vector<unsigned char> bytes;
+    CHECK(kept && heaps.save(bytes) && bytes.size() > 80);
+    Heaps copy = heaps.clone();
+    CHECK(heaps.free(kept.place) && copy.isLive(kept.place));
+    Heaps::Loaded loaded = Heaps::load(bytes.data(), bytes.size(), 6, 64);
+    CHECK(loaded.found == OA_SPACE_READ && loaded.heaps.sizeOf(kept.place) == 7 && loaded.heaps.totals().heaps == 1);
+    Heaps::Loaded lost = Heaps::load(bytes.data(), bytes.size() - 1, 6, 64);
+    CHECK(!lost.heaps && lost.found == OA_BAD_PLACE && lost.at == 64 + 8 * 6);
+    CHECK(Heaps::load(bytes.data(), bytes.size(), 5, 64).found == OA_BAD_LIMIT && !Heaps::load(nullptr, 0, 6, 64).heaps);
     std::printf("C++: %d checks of heaps pass\n", checks);
 }
