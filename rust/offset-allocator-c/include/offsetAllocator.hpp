@@ -332,8 +332,8 @@ public:
         each.finish();
     }
     template <class F> RoomCost makeRoom(uint32 size, F &&moved) {
-        detail::Moving<F> each(moved);
-        RoomCost cost = detail::of(oa_make_room(space, size, detail::Moving<F>::call, &each));
+        detail::Calling<F> each(moved);
+        RoomCost cost = detail::of(oa_make_room(space, size, detail::Calling<F>::moved, &each));
         each.finish();
         return cost;
     }
@@ -482,8 +482,8 @@ public:
         each.finish();
     }
     template <class F> RoomCost makeRoom(uint32 size, F &&moved) {
-        detail::Moving<F> each(moved);
-        RoomCost cost = detail::of(oag_make_room(space, size, detail::Moving<F>::call, &each));
+        detail::Calling<F> each(moved);
+        RoomCost cost = detail::of(oag_make_room(space, size, detail::Calling<F>::moved, &each));
         each.finish();
         return cost;
     }
