@@ -27,8 +27,8 @@ public:
     static const VkMemoryPropertyFlags LOCAL = VK_MEMORY_PROPERTY_DEVICE_LOCAL_BIT;
     static const VkMemoryPropertyFlags HOST =
         VK_MEMORY_PROPERTY_HOST_VISIBLE_BIT | VK_MEMORY_PROPERTY_HOST_COHERENT_BIT;
-
     static const uint32_t PRINTED = 3; // messages
+
     VkPhysicalDeviceProperties properties;
 
     explicit Device(uint32_t &messages) {
@@ -39,50 +39,42 @@ public:
             .messageType = VK_DEBUG_UTILS_MESSAGE_TYPE_GENERAL_BIT_EXT |
                            VK_DEBUG_UTILS_MESSAGE_TYPE_VALIDATION_BIT_EXT |
                            VK_DEBUG_UTILS_MESSAGE_TYPE_PERFORMANCE_BIT_EXT,
-            .pfnUserCallback = heard,
-            .pUserData = &messages};
+            .pfnUserCallback = heard, .pUserData = &messages};
         const VkValidationFeatureEnableEXT on = VK_VALIDATION_FEATURE_ENABLE_SYNCHRONIZATION_VALIDATION_EXT;
-        const VkValidationFeaturesEXT validation{.sType = VK_STRUCTURE_TYPE_VALIDATION_FEATURES_EXT,
-                                                 .pNext = &listener,
-                                                 .enabledValidationFeatureCount = 1,
-                                                 .pEnabledValidationFeatures = &on};
+        const VkValidationFeaturesEXT validation{
+            .sType = VK_STRUCTURE_TYPE_VALIDATION_FEATURES_EXT, .pNext = &listener,
+            .enabledValidationFeatureCount = 1, .pEnabledValidationFeatures = &on};
         const char *layer = "VK_LAYER_KHRONOS_validation";
         const char *extensions[] = {VK_EXT_DEBUG_UTILS_EXTENSION_NAME,
                                     VK_EXT_VALIDATION_FEATURES_EXTENSION_NAME};
-        const VkApplicationInfo application{.sType = VK_STRUCTURE_TYPE_APPLICATION_INFO,
-                                            .apiVersion = VK_API_VERSION_1_1};
-        const VkInstanceCreateInfo of_instance{.sType = VK_STRUCTURE_TYPE_INSTANCE_CREATE_INFO,
-                                               .pNext = &validation,
-                                               .pApplicationInfo = &application,
-                                               .enabledLayerCount = 1,
-                                               .ppEnabledLayerNames = &layer,
-                                               .enabledExtensionCount = 2,
-                                               .ppEnabledExtensionNames = extensions};
+        const VkApplicationInfo application{
+            .sType = VK_STRUCTURE_TYPE_APPLICATION_INFO, .apiVersion = VK_API_VERSION_1_1};
+        const VkInstanceCreateInfo of_instance{
+            .sType = VK_STRUCTURE_TYPE_INSTANCE_CREATE_INFO, .pNext = &validation,
+            .pApplicationInfo = &application, .enabledLayerCount = 1, .ppEnabledLayerNames = &layer,
+            .enabledExtensionCount = 2, .ppEnabledExtensionNames = extensions};
         MUST(vkCreateInstance(&of_instance, nullptr, &instance));
         const auto listen = PFN_vkCreateDebugUtilsMessengerEXT(at("vkCreateDebugUtilsMessengerEXT"));
         MUST(listen(instance, &listener, nullptr, &messenger));
 
-        uint32_t count = 1; // the first device, and its first queue: each family of Mesa's driver copies
+        uint32_t count = 1; // the first device, and its first queue: each that draws or computes also copies
         const VkResult found = vkEnumeratePhysicalDevices(instance, &count, &physical);
         must((found == VK_SUCCESS || found == VK_INCOMPLETE) && count == 1, "to find a device");
         vkGetPhysicalDeviceProperties(physical, &properties);
         const float priority = 1;
-        const VkDeviceQueueCreateInfo of_queue{.sType = VK_STRUCTURE_TYPE_DEVICE_QUEUE_CREATE_INFO,
-                                               .queueFamilyIndex = 0,
-                                               .queueCount = 1,
-                                               .pQueuePriorities = &priority};
-        const VkDeviceCreateInfo of_device{.sType = VK_STRUCTURE_TYPE_DEVICE_CREATE_INFO,
-                                           .queueCreateInfoCount = 1,
-                                           .pQueueCreateInfos = &of_queue};
+        const VkDeviceQueueCreateInfo of_queue{
+            .sType = VK_STRUCTURE_TYPE_DEVICE_QUEUE_CREATE_INFO,
+            .queueCount = 1, .pQueuePriorities = &priority};
+        const VkDeviceCreateInfo of_device{
+            .sType = VK_STRUCTURE_TYPE_DEVICE_CREATE_INFO,
+            .queueCreateInfoCount = 1, .pQueueCreateInfos = &of_queue};
         MUST(vkCreateDevice(physical, &of_device, nullptr, &device));
         vkGetDeviceQueue(device, 0, 0, &queue);
-        const VkCommandPoolCreateInfo of_pool{.sType = VK_STRUCTURE_TYPE_COMMAND_POOL_CREATE_INFO,
-                                              .flags = VK_COMMAND_POOL_CREATE_RESET_COMMAND_BUFFER_BIT,
-                                              .queueFamilyIndex = 0};
+        const VkCommandPoolCreateInfo of_pool{
+            .sType = VK_STRUCTURE_TYPE_COMMAND_POOL_CREATE_INFO,
+            .flags = VK_COMMAND_POOL_CREATE_RESET_COMMAND_BUFFER_BIT};
         MUST(vkCreateCommandPool(device, &of_pool, nullptr, &pool));
     }
-    Device(const Device &) = delete;
-    Device &operator=(const Device &) = delete;
 
     ~Device() {
         vkDestroyCommandPool(device, pool, nullptr);
@@ -95,22 +87,23 @@ public:
     Buffer make(VkDeviceSize size, VkMemoryPropertyFlags wanted) {
         Buffer made{.buffer = {}, .memory = {}, .size = size, .bytes = nullptr};
         const VkBufferCreateInfo of_buffer{
-            .sType = VK_STRUCTURE_TYPE_BUFFER_CREATE_INFO,
-            .size = size,
+            .sType = VK_STRUCTURE_TYPE_BUFFER_CREATE_INFO, .size = size,
             .usage = VK_BUFFER_USAGE_TRANSFER_SRC_BIT | VK_BUFFER_USAGE_TRANSFER_DST_BIT};
         MUST(vkCreateBuffer(device, &of_buffer, nullptr, &made.buffer));
         VkMemoryRequirements needs;
         vkGetBufferMemoryRequirements(device, made.buffer, &needs);
         VkPhysicalDeviceMemoryProperties has;
         vkGetPhysicalDeviceMemoryProperties(physical, &has);
+        const auto fits = [&](uint32_t type) {
+            const VkMemoryPropertyFlags flags = has.memoryTypes[type].propertyFlags;
+            return (needs.memoryTypeBits >> type & 1) && (flags & wanted) == wanted;
+        };
         uint32_t type = 0;
-        while (type < has.memoryTypeCount && (!(needs.memoryTypeBits >> type & 1) ||
-                                              (has.memoryTypes[type].propertyFlags & wanted) != wanted))
-            type++;
+        while (type < has.memoryTypeCount && !fits(type)) type++;
         must(type < has.memoryTypeCount, "to find a type of memory");
-        const VkMemoryAllocateInfo of_memory{.sType = VK_STRUCTURE_TYPE_MEMORY_ALLOCATE_INFO,
-                                             .allocationSize = needs.size,
-                                             .memoryTypeIndex = type};
+        const VkMemoryAllocateInfo of_memory{
+            .sType = VK_STRUCTURE_TYPE_MEMORY_ALLOCATE_INFO,
+            .allocationSize = needs.size, .memoryTypeIndex = type};
         MUST(vkAllocateMemory(device, &of_memory, nullptr, &made.memory));
         MUST(vkBindBufferMemory(device, made.buffer, made.memory, 0));
         void *bytes = nullptr;
@@ -119,16 +112,10 @@ public:
         return made;
     }
 
-    void drop(const Buffer &made) {
-        vkDestroyBuffer(device, made.buffer, nullptr);
-        vkFreeMemory(device, made.memory, nullptr);
-    }
-
     VkCommandBuffer commands() {
-        const VkCommandBufferAllocateInfo one{.sType = VK_STRUCTURE_TYPE_COMMAND_BUFFER_ALLOCATE_INFO,
-                                              .commandPool = pool,
-                                              .level = VK_COMMAND_BUFFER_LEVEL_PRIMARY,
-                                              .commandBufferCount = 1};
+        const VkCommandBufferAllocateInfo one{
+            .sType = VK_STRUCTURE_TYPE_COMMAND_BUFFER_ALLOCATE_INFO, .commandPool = pool,
+            .level = VK_COMMAND_BUFFER_LEVEL_PRIMARY, .commandBufferCount = 1};
         VkCommandBuffer made;
         MUST(vkAllocateCommandBuffers(device, &one, &made));
         return made;
@@ -142,18 +129,22 @@ public:
     }
 
     void drop(VkFence made) { vkDestroyFence(device, made, nullptr); }
+    void drop(const Buffer &made) {
+        vkDestroyBuffer(device, made.buffer, nullptr);
+        vkFreeMemory(device, made.memory, nullptr);
+    }
 
     void begin(VkCommandBuffer commands) {
-        const VkCommandBufferBeginInfo once{.sType = VK_STRUCTURE_TYPE_COMMAND_BUFFER_BEGIN_INFO,
-                                            .flags = VK_COMMAND_BUFFER_USAGE_ONE_TIME_SUBMIT_BIT};
+        const VkCommandBufferBeginInfo once{
+            .sType = VK_STRUCTURE_TYPE_COMMAND_BUFFER_BEGIN_INFO,
+            .flags = VK_COMMAND_BUFFER_USAGE_ONE_TIME_SUBMIT_BIT};
         MUST(vkBeginCommandBuffer(commands, &once));
     }
 
     void submit(VkCommandBuffer commands, VkFence fence) {
         MUST(vkEndCommandBuffer(commands));
-        const VkSubmitInfo submitted{.sType = VK_STRUCTURE_TYPE_SUBMIT_INFO,
-                                     .commandBufferCount = 1,
-                                     .pCommandBuffers = &commands};
+        const VkSubmitInfo submitted{
+            .sType = VK_STRUCTURE_TYPE_SUBMIT_INFO, .commandBufferCount = 1, .pCommandBuffers = &commands};
         MUST(vkQueueSubmit(queue, 1, &submitted, fence));
     }
 
@@ -190,8 +181,7 @@ inline void copy(VkCommandBuffer commands, const Buffer &from, VkDeviceSize at, 
 inline void barrier(VkCommandBuffer commands, VkPipelineStageFlags stage = VK_PIPELINE_STAGE_TRANSFER_BIT,
                     VkAccessFlags access = VK_ACCESS_TRANSFER_READ_BIT | VK_ACCESS_TRANSFER_WRITE_BIT) {
     const VkMemoryBarrier written{.sType = VK_STRUCTURE_TYPE_MEMORY_BARRIER,
-                                  .srcAccessMask = VK_ACCESS_TRANSFER_WRITE_BIT,
-                                  .dstAccessMask = access};
-    vkCmdPipelineBarrier(commands, VK_PIPELINE_STAGE_TRANSFER_BIT, stage, 0, 1, &written, 0, nullptr, 0,
-                         nullptr);
+                                  .srcAccessMask = VK_ACCESS_TRANSFER_WRITE_BIT, .dstAccessMask = access};
+    const VkPipelineStageFlags copies = VK_PIPELINE_STAGE_TRANSFER_BIT;
+    vkCmdPipelineBarrier(commands, copies, stage, 0, 1, &written, 0, nullptr, 0, nullptr);
 }

@@ -265,8 +265,8 @@ private:
         gpu.begin(frame->commands);
     }
 
-    // Slides as few bytes as make one free block for the request. All frames are done, so no barrier is before
-    // the first copy.
+    // Slides as few bytes as make one free block for the request. All frames are done, so no barrier is
+    // needed before the first copy.
     void makeRoom(uint32_t size) {
         const uint32_t none = UINT32_MAX;
         uint32_t read = none; // the lowest byte that was read since the last barrier
