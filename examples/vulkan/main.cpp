@@ -23,7 +23,7 @@ static const uint32_t FRAMES_A_CHECK = 100;
 static const uint32_t MOST_A_COPY = 1 << 20;  // in bytes
 static const uint32_t MOST_A_FRAME = 1 << 20; // to be relocated, in bytes
 
-// A recorded program: requests, numbered from 1, and which of them it frees when.
+// A recorded program: requests, numbered from 1, and which of them it frees when. Other lines are skipped.
 struct Program {
     struct Call {
         uint32_t size;  // of a request
@@ -142,7 +142,7 @@ public:
     // waits: the old ranges stay until the frames in flight are done. True once all above `keep` is free, and
     // taken off.
     bool emptyEnd(uint32_t keep) {
-        if (counts.compact == 0) counts.compact = compacted();
+        if (counts.compact == 0) counts.compact = compacted(); // in place of all moves from here on
         const uint32_t above = space.size() - keep;
         if (space.retract(above)) {
             counts.retracted += above;
