@@ -5,3 +5,5 @@
 mod asserts;
 #[cfg(test)]
 mod heaps;
+#[cfg(test)]
+mod states;

@@ -1,0 +1,225 @@
+//! The state of many heaps: its bytes, each fault of its numbers, and that the same places are live in heaps
+//! that were read or copied.
+
+use crate::asserts::{assert_same, assert_that};
+use offset_allocator::{ByField, ByNode, Tables};
+use offset_guarded::StateFaultKind as HeapFault;
+use offset_heaps::StateFaultKind::{
+    Checksum, Counts, Form, Heap, Length, Limits as OfLimits, Place as OfPlace, Realm,
+};
+use offset_heaps::{HeapsOf, Limits, Place, StateFault, StateFaultKind};
+use std::alloc::Global;
+use std::process::Abort;
+use std::test::Fail;
+
+// The first numbers of the states: "OAHS", "OATK" and "OAST".
+const HEAPS: u64 = 0x5348_414F;
+
+const TICKETS: u64 = 0x4B54_414F;
+
+const SPACE: u32 = 0x5453_414F;
+
+// The numbers of many heaps, the number that their checksum begins with, and what is wrong with them before
+// the state of one heap, of 64 + 52 bytes.
+struct Case {
+    numbers: &'static [u64],
+    start: u64,
+    fault: Option<(usize, StateFaultKind)>,
+}
+
+// The limits, how many heaps were made, the realm, and the places: of one heap of the usual size, and of a
+// larger one that is not there. The state of the heap begins behind 8 * 12 bytes.
+const CASES: [Case; 16] = [
+    Case {
+        numbers: &[HEAPS, 1, 100, 4, 1, 1, 1, 9, 0, 116, 116],
+        start: 0,
+        fault: None,
+    },
+    // no other limits are compared with those of the heaps, and it may be the heap of another number
+    Case {
+        numbers: &[HEAPS, 1, 0xFFFF_FFFF, 5, 0, 2, 0xFFFF_FFFF, 0, 0, 0, 116],
+        start: 0,
+        fault: None,
+    },
+    Case {
+        numbers: &[HEAPS + 1, 1, 100, 4, 1, 1, 1, 9, 0, 116, 116],
+        start: 0,
+        fault: Some((0, Form)),
+    },
+    Case {
+        numbers: &[HEAPS, 2, 100, 4, 1, 1, 1, 9, 0, 116, 116],
+        start: 0,
+        fault: Some((0, Form)),
+    },
+    Case {
+        numbers: &[HEAPS, 1, 0x1_0000_0000, 4, 1, 1, 1, 9, 0, 116, 116],
+        start: 0,
+        fault: Some((16, OfLimits)),
+    },
+    Case {
+        numbers: &[HEAPS, 1, 100, 3, 1, 1, 1, 9, 0, 116, 116],
+        start: 0,
+        fault: Some((24, OfLimits)),
+    },
+    // a node limit of 6, and 41 numbers, are more than the caller admits
+    Case {
+        numbers: &[HEAPS, 1, 100, 6, 1, 1, 1, 9, 0, 116, 116],
+        start: 0,
+        fault: Some((24, OfLimits)),
+    },
+    Case {
+        numbers: &[HEAPS, 1, 100, 4, 1, 40, 1, 9, 0, 116, 116],
+        start: 0,
+        fault: Some((40, OfLimits)),
+    },
+    Case {
+        numbers: &[HEAPS, 1, 100, 4, u64::MAX, 2, 1, 9, 0, 116, 116],
+        start: 0,
+        fault: Some((32, OfLimits)),
+    },
+    Case {
+        numbers: &[HEAPS, 1, 100, 4, 1, 1, 1, 0x1_0000_0000, 0, 116, 116],
+        start: 0,
+        fault: Some((56, Counts)),
+    },
+    // 212 bytes have 80 and those of 16 numbers, and not of 17
+    Case {
+        numbers: &[HEAPS, 1, 100, 4, 1, 16, 1, 9, 0, 116, 116],
+        start: 0,
+        fault: Some((212, Length)),
+    },
+    Case {
+        numbers: &[HEAPS, 1, 100, 4, 1, 1, 1, 9, 0, 116, 116],
+        start: 1,
+        fault: Some((88, Checksum)),
+    },
+    // a heap of the first realm, where none was made
+    Case {
+        numbers: &[HEAPS, 1, 100, 4, 1, 1, 0, 9, 0, 116, 116],
+        start: 0,
+        fault: Some((96 + 32, Realm)),
+    },
+    Case {
+        numbers: &[HEAPS, 1, 100, 4, 1, 1, 1, 9, 0, 117, 116],
+        start: 0,
+        fault: Some((72, OfPlace)),
+    },
+    Case {
+        numbers: &[HEAPS, 1, 100, 4, 1, 1, 1, 9, 0, 116, 115],
+        start: 0,
+        fault: Some((80, OfPlace)),
+    },
+    // 8 bytes are no state of a heap
+    Case {
+        numbers: &[HEAPS, 1, 100, 4, 1, 1, 1, 9, 0, 8, 116],
+        start: 0,
+        fault: Some((96 + 8, Heap(HeapFault::Length))),
+    },
+];
+
+fn add_numbers(rt: &impl Abort, bytes: &mut Vec<u8>, numbers: &[u64], start: u64) {
+    let mut sum = start;
+    for number in numbers {
+        bytes
+            .extend_from_slice(&number.to_le_bytes())
+            .expect(rt, "memory");
+        sum = sum.wrapping_mul(1_099_511_628_211).wrapping_add(*number);
+    }
+    bytes
+        .extend_from_slice(&sum.to_le_bytes())
+        .expect(rt, "memory");
+}
+
+fn add_words(rt: &impl Abort, bytes: &mut Vec<u8>, words: &[u32]) {
+    let mut sum = 0u32;
+    for word in words {
+        bytes
+            .extend_from_slice(&word.to_le_bytes())
+            .expect(rt, "memory");
+        sum = sum.wrapping_mul(16_777_619).wrapping_add(*word);
+    }
+    bytes
+        .extend_from_slice(&sum.to_le_bytes())
+        .expect(rt, "memory");
+}
+
+// These numbers, and a heap of 100 units with the first realm: a free block of 40 with the name 1 is at the
+// end, behind a used one of 60 with the name 0, which has the first serial.
+fn state_of(rt: &impl Abort, alloc: Global, numbers: &[u64], start: u64) -> Vec<u8> {
+    let mut bytes = Vec::new(alloc);
+    add_numbers(rt, &mut bytes, numbers, start);
+    add_numbers(rt, &mut bytes, &[TICKETS, 1, 2, 1, 1, 1, 0], 0);
+    add_words(
+        rt,
+        &mut bytes,
+        &[SPACE, 1, 100, 4, 2, 1, 0, 1, 40, 0, 60, 1],
+    );
+    bytes
+}
+
+// What is wrong with each case; what is read is written back.
+fn expect_faults<T: Tables>(rt: &impl Abort, alloc: Global) {
+    for case in &CASES {
+        let bytes = state_of(rt, alloc, case.numbers, case.start);
+        match HeapsOf::<T>::read_state(alloc, &bytes, 40, 5).expect(rt, "memory") {
+            Err(StateFault { at, kind }) => assert_same(rt, &Some((at, kind)), &case.fault),
+            Ok(heaps) => {
+                assert_same(rt, &None, &case.fault);
+                let written = heaps.write_state(alloc).expect(rt, "memory");
+                assert_same(rt, &written.as_slice(), &bytes.as_slice());
+            }
+        }
+    }
+}
+
+// The place of the used block is live, and the next heap has the second realm.
+fn expect_place<T: Tables>(rt: &impl Abort, heaps: &mut HeapsOf<T>, place: Place) {
+    assert_same(rt, &heaps.size_of(place), &Some(60));
+    assert_same(rt, &heaps.totals().free_units, &40);
+    match heaps.allocate(97) {
+        Err(_) => assert_that(rt, false),
+        Ok(granted) => {
+            assert_same(rt, &granted.place.heap, &1);
+            assert_same(rt, &granted.place.ticket.realm, &2);
+        }
+    }
+    assert_that(rt, heaps.free(place));
+}
+
+fn expect_state<T: Tables>(rt: &impl Abort, alloc: Global, heaps: &mut HeapsOf<T>) {
+    let Ok(granted) = heaps.allocate(60) else {
+        assert_that(rt, false);
+        return;
+    };
+    let bytes = state_of(rt, alloc, &[HEAPS, 1, 100, 4, 1, 1, 1, 9, 0, 116, 116], 0);
+    let written = heaps.write_state(alloc).expect(rt, "memory");
+    assert_same(rt, &written.as_slice(), &bytes.as_slice());
+    let mut copy = heaps.try_clone(alloc).expect(rt, "memory");
+    expect_place(rt, &mut copy, granted.place);
+    match HeapsOf::<T>::read_state(alloc, &bytes, 2, 4).expect(rt, "memory") {
+        Err(_) => assert_that(rt, false),
+        Ok(read) => {
+            let mut read = read;
+            expect_place(rt, &mut read, granted.place);
+        }
+    }
+    // neither was a step of these
+    expect_place(rt, heaps, granted.place);
+}
+
+#[test]
+fn states(rt: HostRuntime) -> Result<(), Fail> {
+    let limits = Limits {
+        size: 100,
+        max_allocs: 4,
+        most: 1,
+        most_larger: 1,
+    };
+    let mut by_node: HeapsOf<ByNode<u32>> = HeapsOf::new(rt.alloc(), limits, 9)?;
+    expect_state(&rt, rt.alloc(), &mut by_node);
+    expect_faults::<ByNode<u32>>(&rt, rt.alloc());
+    let mut by_field: HeapsOf<ByField<u16>> = HeapsOf::new(rt.alloc(), limits, 9)?;
+    expect_state(&rt, rt.alloc(), &mut by_field);
+    expect_faults::<ByField<u16>>(&rt, rt.alloc());
+    Ok(())
+}
