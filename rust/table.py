@@ -90,6 +90,8 @@ LINTS = {
     },
     "offset_heaps": {
         "clippy::len_zero": "the proof speaks of the length, which no call hides",
+        "clippy::manual_find": "a loop over places needs no closure, whose calls would need a proof",
+        "clippy::manual_map": "a `match` needs no closure, whose calls would need a proof",
         "clippy::redundant_field_names": "a field and the place that it is of have one name",
         "clippy::redundant_pattern_matching": "a `match` needs no call, whose contract a proof would need",
         "clippy::single_match": "both cases are proved",

@@ -69,8 +69,13 @@ pub const PLAY: Call = call("play", "play");
 pub const LIST: Call = with_hints("list", "a list of calls");
 pub const TICKETS: Call = with_hints("tickets", "a list of calls with tickets");
 pub const GUARDED: Call = call("guarded", "guarded with_max_allocs, 1,000 calls and a copy");
+pub const GUARDED_STORE: Call = call(
+    "guarded_store",
+    "guarded with_max_allocs, 1,000 calls and a state",
+);
 pub const HEAPS: Call = call("heaps", "heaps");
 pub const HEAPS_CALLS: Call = call("heaps_calls", "heaps and 1,000 calls");
+pub const HEAPS_STORE: Call = call("heaps_store", "heaps, 1,000 calls, a copy and a state");
 // and the others
 pub const PARSE: Call = call("parse", "parse");
 pub const RUN: Call = call("run", "run");

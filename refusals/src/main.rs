@@ -33,20 +33,29 @@ const REPLIES: &[u64] = &[
 /// The serials of its two grants.
 const SERIALS: &[u64] = &[1, 2];
 
-/// Whether a constructor first requests the bytes of all tables in one piece, and frees it, before it
-/// requests each table.
-const REQUESTS_ALL_FIRST: bool = true;
+/// From so many bytes on a constructor first requests those of all tables in one piece, and frees it.
+const ALL_FIRST: usize = 1 << 24;
 
 /// The bytes of each request that a constructor makes. An index has `bits` bits.
 fn table_requests(layout: Layout, nodes: usize, bits: usize) -> Vec<usize> {
     let tables = (layout.tables)(nodes, bits / 8);
-    let all = REQUESTS_ALL_FIRST.then(|| tables.iter().sum());
+    let all = Some(tables.iter().sum()).filter(|all: &usize| *all >= ALL_FIRST);
     all.into_iter().chain(tables).collect()
 }
 
 /// The same with tickets: a serial for each node first.
 fn guarded_requests(layout: Layout, nodes: usize, bits: usize) -> Vec<usize> {
     [vec![8 * nodes], table_requests(layout, nodes, bits)].concat()
+}
+
+/// What is left of requests without these, each as often as it is there; `None` where one is missing.
+fn without(requested: &[usize], some: &[usize]) -> Option<Vec<usize>> {
+    let mut left = requested.to_vec();
+    for size in some {
+        let at = left.iter().position(|it| it == size)?;
+        left.remove(at);
+    }
+    Some(left)
 }
 
 /// No request fails.
@@ -165,6 +174,7 @@ impl Check<'_> {
         self.expect_requests(GUARDED.on(layout), header, &both);
         self.fail_each_as_by_node(GUARDED, layout, header, 0);
         self.stored(layout, header, &tables);
+        self.guarded_stored(layout, header, &guarded_requests(layout, nodes, bits));
         let nothing = Outcome::new(ANSWERED, &[]);
         self.fail_each(PLAY.on(layout), header, 0, &nothing);
     }
@@ -188,6 +198,23 @@ impl Check<'_> {
         };
         self.must(is_right, call, header, format!("{found:?}, {requested:?}"));
         self.fail_each_as_by_node(STORE, layout, header, 0);
+    }
+
+    /// The same with tickets: a guarded allocator that is written and read. The numbers are a checksum, the
+    /// bytes, and a checksum of further calls on what is read and on what was written.
+    fn guarded_stored(&mut self, layout: Layout, header: &str, guarded: &[usize]) {
+        let call = GUARDED_STORE.on(layout);
+        let (found, requested) = self.with_ample_memory(call, header);
+        let is_right = match found.numbers[..] {
+            [_, bytes, one, other] => {
+                let left = without(&requested, &[guarded, guarded].concat());
+                let are_short = |rows: Vec<usize>| rows.iter().all(|row| *row as u64 <= 2 * bytes);
+                one == other && requested.starts_with(guarded) && left.is_some_and(are_short)
+            }
+            _ => false,
+        };
+        self.must(is_right, call, header, format!("{found:?}, {requested:?}"));
+        self.fail_each_as_by_node(GUARDED_STORE, layout, header, 0);
     }
 
     /// An allocator for a script that has no commands, filled and reset twice: no reset makes a request.
@@ -232,6 +259,35 @@ impl Check<'_> {
         let what = format!("{found:?}, {requested:?}, not {wanted:?}");
         self.must(is_right, call, header, what);
         self.fail_each_as_by_node(HEAPS_CALLS, layout, header, 0);
+        self.heaps_stored(layout, header, nodes, bits);
+    }
+
+    /// Heaps that are copied, written and read: what the calls request first, then for the copy and for what
+    /// is read the room for seven heaps and what each heap requests, and rows, of which none is longer than
+    /// twice the bytes. The numbers are that of the heaps of the usual size, the totals of the copy (heaps,
+    /// units, live ones, the largest region), the bytes, and the totals of what is read.
+    fn heaps_stored(&mut self, layout: Layout, header: &str, nodes: usize, bits: usize) {
+        let call = HEAPS_STORE.on(layout);
+        let (_, room) = self.with_ample_memory(HEAPS.on(layout), header);
+        let (_, first) = self.with_ample_memory(HEAPS_CALLS.on(layout), header);
+        let (found, requested) = self.with_ample_memory(call, header);
+        let is_right = match found.numbers[..] {
+            [usual, heaps, units, live, largest, bytes, ref again @ ..] if heaps >= usual => {
+                let copy = [
+                    room,
+                    guarded_requests(layout, nodes, bits).repeat(usual as usize),
+                    guarded_requests(layout, 4, bits).repeat((heaps - usual) as usize),
+                ]
+                .concat();
+                let rest = requested.strip_prefix(&first[..]);
+                let left = rest.and_then(|rest| without(rest, &[&copy[..], &copy[..]].concat()));
+                let are_short = |rows: Vec<usize>| rows.iter().all(|row| *row as u64 <= 2 * bytes);
+                heaps > 1 && *again == [heaps, units, live, largest] && left.is_some_and(are_short)
+            }
+            _ => false,
+        };
+        self.must(is_right, call, header, format!("{found:?}, {requested:?}"));
+        self.fail_each_as_by_node(HEAPS_STORE, layout, header, 0);
     }
 
     /// A list of calls for a script; it takes one request, and with tickets two, which are no call's.

@@ -1,6 +1,6 @@
 -- The last block of a space goes.
-use Rattle.offset_allocator.proofs.Common.{◌≡◌, ℕ, ◌+◌, ◌≤◌, Bool, true, false, not, List, [], ◌∷◌, ◌++◌, None, Some, if◌then◌else◌, refl, sym, ap, subst, ◌∙◌, arith}
-use Rattle.offset_allocator.proofs.Common.{ChainCells, Node, node, HasPlace, Block, Place, units, last_or, first_or, coalesced_after}
+use Rattle.offset_allocator.proofs.Common.{◌≡◌, ℕ, ◌+◌, Bool, false, not, List, [], ◌∷◌, None, Some, if◌then◌else◌, sym, ap, subst, ◌∙◌, arith}
+use Rattle.offset_allocator.proofs.Common.{ChainCells, Node, node, HasPlace, Block, units, coalesced_after}
 use Rattle.offset_allocator.proofs.{Rows.last_or-append, Places.at_place, Places.last_place}
 
 some_same : (a b : ℕ) → Some a ≡ Some b → a ≡ b

@@ -73,11 +73,11 @@ abbrev pub IsRelinked : Option ℕ → (Node → Node) → ChainCells → ChainC
 IsRelinked link f w d = MatchOption link (d ≡ w) (λ z. d ≡ put w z (f (node w z)))
 
 module _ (f : Node → Node) (w d : ChainCells) where
-  relinked_at : (link : Option ℕ) (z : ℕ) → IsRelinked link f w d → link ≡ Some z → z < length w.nodes → node d z ≡ f (node w z)
+  pub relinked_at : (link : Option ℕ) (z : ℕ) → IsRelinked link f w d → link ≡ Some z → z < length w.nodes → node d z ≡ f (node w z)
   relinked_at None z e q l = cc
   relinked_at (Some z') z e q l = let same : z' ≡ z = cc in rw (← same, e) (node-put w z' _ (rw same l))
 
-  relinked_other : (link : Option ℕ) (k : ℕ) → IsRelinked link f w d → link ≢ Some k → node d k ≡ node w k
+  pub relinked_other : (link : Option ℕ) (k : ℕ) → IsRelinked link f w d → link ≢ Some k → node d k ≡ node w k
   relinked_other None k e ne = rw e
   relinked_other (Some z) k e ne = rw e (node-put_other w z _ k (λ q. ne (ap (λ v. Some v) (sym q))))
 
@@ -93,7 +93,7 @@ module _ (f : Node → Node) (w d : ChainCells) where
   relinked_memory None e = rw e
   relinked_memory (Some z) e = rw e (reserved-put w z _)
 
-node_same : (c d : ChainCells) (k : ℕ) → d.nodes ≡ c.nodes → node d k ≡ node c k
+pub node_same : (c d : ChainCells) (k : ℕ) → d.nodes ≡ c.nodes → node d k ≡ node c k
 unfolding node
 node_same c d k e = rw e
 

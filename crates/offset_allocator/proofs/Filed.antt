@@ -2,9 +2,9 @@
 use Rattle.offset_allocator.proofs.Common.{not, ◌≡◌, ℕ, ◌+◌, ◌≤◌, Bool, true, false, ◌&&◌, Some, None, List, [], ◌∷◌, ◌++◌, length, nat_eq, refl, sym, ap, ◌∙◌, arith, inl, inr, down, ChainCells}
 use Rattle.offset_allocator.proofs.Common.{Node, node}
 use Rattle.offset_allocator.proofs.Common.{Block, Place, one, count_named, count_in_bin, bin_at, free_end, without_end, free_start, without_start, remove_all, HasPlace, first_or, IsAmong}
-use Rattle.offset_allocator.proofs.Common.{IsUnlisted, AreInBins, AreUnlisted}
+use Rattle.offset_allocator.proofs.Common.{remove, IsUnlisted, AreInBins, AreUnlisted}
 use Rattle.offset_allocator.proofs.Tallies.{listed_named, tally_append, hit_cases, one-eq, times-append}
-use Rattle.offset_allocator.proofs.{Exchange.each-le, Places.at_place, Places.next_place, Places.previous_place, ViewOrders.times_remove_all, ViewTaken.tally_end, ViewTaken.tally_start}
+use Rattle.offset_allocator.proofs.{Exchange.each-le, Places.at_place, Places.next_place, Places.previous_place, ViewOrders.times_remove_all, ViewTaken.tally_end, ViewTaken.tally_start, Joints.remove_free}
 
 -- the sum that `count_in_bin` takes, of one block
 abbrev pub share : ℕ → ℕ → Block → ℕ
@@ -24,6 +24,25 @@ counts_once {c} {y = y} {p = p} h u =
     both : (a b : Bool) → one a ≡ 1 → one b ≡ 1 → one (a && b) ≡ 1
     both true b e f = f
     both false b e f = absurd (omega arith)
+
+pub counts_idle : (b : Block) → b.used ≡ false → share (down b.size) b.name b ≡ 1
+counts_idle b u = rw u (elim (hit_cases (down b.size) (down b.size)) [ inl d ↦ elim (hit_cases b.name b.name) [ inl e ↦ both _ _ d.1 e.1 | inr e ↦ absurd (e.0 refl) ] | inr d ↦ absurd (d.0 refl) ])
+  where
+    both : (d e : Bool) → one d ≡ 1 → one e ≡ 1 → one (d && e) ≡ 1
+    both true e f h = h
+    both false e f h = absurd (omega arith)
+
+-- a free block of a list leaves its bin
+module _ (fs cs : List Block) (b : Block) (ls : List (List ℕ)) (f : AreInBins (fs ++ b ∷ cs) ls) (u : b.used ≡ false) where
+  pub filed_in : IsAmong b.name (bin_at ls (down b.size))
+  filed_in = let k : ℕ = down b.size in omega (arith, f k b.name, tally_append (share k b.name) fs (b ∷ cs), counts_idle b u)
+
+  pub filed_out : length ls ≡ 256 → ((y : ℕ) → count_named y (fs ++ b ∷ cs) ≤ 1) → AreInBins (fs ++ cs) (remove (down b.size) b.name ls)
+  filed_out long once k y =
+      let parts : (k y : ℕ) → count_in_bin k y (fs ++ b ∷ cs) ≡ count_in_bin k y fs + (count_in_bin k y (b ∷ []) + count_in_bin k y cs) =
+      λ k y. omega (arith, tally_append (share k y) fs (b ∷ cs)) in
+      let left = times_remove_all (b ∷ []) ls long (λ k y. omega (arith, f k y, listed_named k y (fs ++ b ∷ cs), once y)) (λ k y. omega (arith, f k y, parts k y)) in
+      omega (arith, f k y, parts k y, rw (remove_free b ls u) at (left k y), tally_append (share k y) fs cs)
 
 pub few : {c : ChainCells} {m last count x : ℕ} {p : Place} → HasPlace c m last count x p → (y : ℕ) → count_named y (p.before ++ p.after) + one (nat_eq y p.block.name) ≤ 1
 few {c} {m} {last} {count} {p = p} h y = omega (arith, each-le c m last count _ h.chain y, times-append y p.before p.after, times-append y p.before (p.block ∷ p.after))

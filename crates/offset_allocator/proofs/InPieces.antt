@@ -1,5 +1,5 @@
 -- The pieces of a move.
-use Rattle.offset_allocator.proofs.Common.{◌≡◌, ℕ, zero, suc, true, false, cond, ◌+◌, ◌-◌, ◌<◌, ◌≤◌, ◌&&◌, List, [], ◌∷◌, nat_eq, nat_le, nat_lt, if◌then◌else◌, refl, sym, ap, ◌∙◌, arith, common_steps, nat_tests, cases_eq, AllByRecursion}
+use Rattle.offset_allocator.proofs.Common.{◌≡◌, ℕ, zero, suc, true, false, ◌+◌, ◌-◌, ◌<◌, ◌≤◌, List, [], ◌∷◌, nat_eq, if◌then◌else◌, refl, ap, ◌∙◌, arith, common_steps, nat_tests, AllByRecursion}
 use Rattle.std.specs.Prelude.{min}
 use Rattle.offset_allocator.specs.Copies.{pieces, copied, all_copied, ArePieces}
 use Rattle.offset_allocator.specs.declared.copies.Piece.{Piece}

@@ -20,9 +20,11 @@ pub mod Exchange
 pub mod Extending
 pub mod Filed
 pub mod Find
+pub mod Foremost
 pub mod Freed
 pub mod Freeing
 pub mod Fresh
+pub mod Gaps
 pub mod Stretches
 pub mod Granting
 pub mod Joints

@@ -1,9 +1,9 @@
 -- The live ranges up to a block, and from one on.
-use Rattle.offset_allocator.proofs.Common.{◌≡◌, ℕ, ◌+◌, ◌<◌, length, Bool, true, false, not, ◌&&◌, List, [], ◌∷◌, ◌++◌, Option, None, Some, if◌then◌else◌, reverse, reverse-append, refl, sym, ap, subst, ◌∙◌, arith, append_assoc, false≢true}
-use Rattle.offset_allocator.proofs.Common.{ChainCells, Node, node, HasPlace, Block, Place, Grant, units, IsApart, starts_free, Placed, placed, placed_at, last_or, first_or, View, IsLive, place_of, is_used_at, blocks}
+use Rattle.offset_allocator.proofs.Common.{◌≡◌, ℕ, ◌+◌, ◌<◌, length, Bool, true, false, not, ◌&&◌, List, [], ◌∷◌, ◌++◌, Option, None, Some, reverse, reverse-append, refl, sym, ap, subst, ◌∙◌, arith, append_assoc, false≢true}
+use Rattle.offset_allocator.proofs.Common.{ChainCells, Node, node, HasPlace, Block, Place, Grant, units, IsApart, Placed, placed, placed_at, first_or, View, IsLive, place_of, is_used_at, blocks}
 use Rattle.offset_allocator.specs.Beside.{first_grant, last_live, live_before, live_after}
 use Rattle.offset_allocator.proofs.{Sound.Fields, Sound.AreSound, Sound.shown, Reading.live_used, Reading.used_live, ViewSteps.place_at, Ends.ended, Places.end_place, Places.located}
-use Rattle.offset_allocator.proofs.{Listing.placed-push, Ends.last_none, Places.at_place, Places.previous_place, Places.next_place, ViewApart.apart_parts, ViewApart.ends_free, ViewApart.left_false, Tallies.units-append}
+use Rattle.offset_allocator.proofs.{Listing.placed-push, Ends.last_none, Places.at_place, Places.previous_place, Places.next_place, ViewApart.ends_free, ViewApart.left_false, Tallies.units-append}
 
 -- the grants of blocks from the last one back
 pub back : (fs : List Block) (b : Block) → reverse (placed 0 (fs ++ b ∷ [])) ≡ placed_at (units fs) b ∷ reverse (placed 0 fs)

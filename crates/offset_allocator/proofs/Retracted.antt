@@ -1,11 +1,11 @@
 -- The last block of a space has fewer units, or goes.
-use Rattle.offset_allocator.proofs.Common.{◌≡◌, ℕ, zero, suc, ◌+◌, ◌-◌, ◌<◌, ◌≤◌, Bool, true, false, not, ◌&&◌, List, [], ◌∷◌, ◌++◌, length, sum, if◌then◌else◌, refl, sym, ap, subst, ◌∙◌, arith, inl, inr, append-nil, append_assoc, length-append, common_steps}
-use Rattle.offset_allocator.proofs.Common.{Block, View, Cells, ChainCells, Node, node, units, one, down, free_block, free_part, used_of, count_named, free_sizes, IsApart, IsWellFormed, IsChain, IsBinned, bins_in, blocks, push, push_all, remove_all, replace, HasPlace, SameSpace, ends_used, KeepsAll, true≢false}
+use Rattle.offset_allocator.proofs.Common.{◌≡◌, ℕ, zero, suc, ◌+◌, ◌-◌, ◌<◌, ◌≤◌, Bool, true, false, not, ◌&&◌, List, [], ◌∷◌, ◌++◌, length, refl, sym, ap, subst, ◌∙◌, arith, inl, inr, append-nil, append_assoc, length-append}
+use Rattle.offset_allocator.proofs.Common.{Block, View, Cells, units, one, down, free_block, used_of, IsApart, IsWellFormed, IsChain, IsBinned, bins_in, blocks, push, push_all, remove_all, replace, ends_used, KeepsAll, true≢false}
 use Rattle.offset_allocator.specs.Retracting.{CanRetract, Cuts, Retracts, end_part}
-use Rattle.offset_allocator.proofs.{Sound.Fields, Sound.AreSound, Sound.shown, Joints.stepped, Joints.free_units-append, Joints.free_units-free, Joints.free_units-used, Joints.free_most, Ends.Ended, Tallies.free_units, Tallies.free_sum, Tallies.units-append, Tallies.tally_append, Tallies.hit_cases}
+use Rattle.offset_allocator.proofs.{Sound.Fields, Sound.AreSound, Sound.shown, Joints.stepped, Joints.free_units-append, Joints.free_units-free, Tallies.free_units, Tallies.free_sum, Tallies.units-append, Tallies.tally_append, Tallies.hit_cases}
 use Rattle.offset_allocator.proofs.{ViewApart.apart_parts, ViewApart.apart_append, ViewApart.ends_free, ViewReplaced.well_replaced, Nearby.one_used, Nearby.other_used}
 use Rattle.offset_allocator.proofs.{Sound.well_same, Ranges.cuts_keep, Extending.ends_last}
-use Rattle.offset_allocator.proofs.Extending.{EndsFree, last_of, known_of, last_held, last_size, last_free, last_left, last_removed}
+use Rattle.offset_allocator.proofs.Extending.{EndsFree, last_of, known_of, last_free, last_left, last_removed}
 
 -- what is left at the end
 end_some : (fs : List Block) (x n : ℕ) → (n ≡ 0 → fs ≡ []) → end_part fs x n ≡ free_block x n ∷ []

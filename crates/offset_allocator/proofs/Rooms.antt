@@ -1,5 +1,6 @@
 -- The whole allocator after a run has slid to its front.
 use Rattle.offset_allocator.proofs.Common.{◌%◌, ◌*◌, value, up, moves, Move, FoldsTo, CanGrant}
+use Rattle.std.specs.Prelude.{drop}
 use Rattle.offset_allocator.proofs.{Sliding.moves_idle, Compacting.live_whole, Classes.down_law, Classes.down_small, ViewOrders.names_same, ViewOrders.length_remove_all}
 use Rattle.offset_allocator.proofs.{Advice.free_within, Refusals.total_is, Runs.cheapest_cost, Runs.want_is}
 use Rattle.offset_allocator.proofs.Common.{◌≡◌, ◌≢◌, ℕ, ◌+◌, ◌^◌, ◌<◌, ◌≤◌, ◌⊎◌, Bool, true, false, not, ◌&&◌, Some, None, List, [], ◌∷◌, ◌++◌, length, sum, if◌then◌else◌, nat_eq, refl, sym, ap, ap₂}
@@ -16,7 +17,7 @@ use Rattle.offset_allocator.proofs.{Sliding.live_idle, Compacting.live_append, C
 use Rattle.offset_allocator.proofs.{Compacting.live_are_used, Places.at_place}
 use Rattle.offset_allocator.specs.declared.room.RoomCost.{RoomCost}
 use Rattle.offset_allocator.specs.declared.room.Run.{Run}
-use Rattle.offset_allocator.specs.Room.{IsRun, IsCheapest, IsLeastCost, IsStretch, MakesRoom, SlidesRun, cost_of}
+use Rattle.offset_allocator.specs.Room.{IsRun, IsCheapest, IsLeastCost, CostMore, IsStretch, MakesRoom, SlidesRun, cost_of}
 
 -- a run that is not one block alone
 pub record IsOpened (want : ℕ) (bs : List Block) (r : Run) : Type 0 where
@@ -31,16 +32,18 @@ pub record IsOpened (want : ℕ) (bs : List Block) (r : Run) : Type 0 where
   pub free : ends_used rest ≡ false
   pub cost : r.cost ≡ cost_of (block ∷ rest)
   pub serves : want ≤ sum (free_sizes (block ∷ rest))
+  pub later : CostMore want r.cost (rest ++ back)
 
 pub opened : (want : ℕ) (bs : List Block) (r : Run) → IsCheapest want bs (Some r) → 1 ≤ r.cost.ranges → IsOpened want bs r
-opened want bs r h some = go h.0.0 h.0.1 h.0.2 h.0.3 h.0.4 h.0.5
+opened want bs r h some = go h.0.0 h.0.1 h.0.2 h.0.3 h.0.4 h.0.5 h.0.6
   where
-    go : (run : List Block) → IsRun run bs → want ≤ sum (free_sizes run) → r.cost ≡ cost_of run → first_or None run ≡ Some r.first → last_or None run ≡ Some r.end → IsOpened want bs r
-    go [] k l c f e = absurd (true≢false (sym k.begins))
-    go (b ∷ []) k l c f e =
+    go : (run : List Block) (k : IsRun run bs) → want ≤ sum (free_sizes run) → r.cost ≡ cost_of run → first_or None run ≡ Some r.first → last_or None run ≡ Some r.end
+        → CostMore want r.cost (drop 1 (run ++ k.back)) → IsOpened want bs r
+    go [] k l c f e m = absurd (true≢false (sym k.begins))
+    go (b ∷ []) k l c f e m =
         let idle : b.used ≡ false = not-true b.used k.begins in
         absurd (omega (arith, some, ap (λ (v : RoomCost). v.ranges) c, ap one idle))
-    go (b ∷ d ∷ rest) k l c f e = record {
+    go (b ∷ d ∷ rest) k l c f e m = record {
       front = k.front;
       rest = d ∷ rest;
       back = k.back;
@@ -52,6 +55,7 @@ opened want bs r h some = go h.0.0 h.0.1 h.0.2 h.0.3 h.0.4 h.0.5
       free = k.ends;
       cost = c;
       serves = l;
+      later = m;
     }
 
 -- used blocks are in no bin
@@ -368,6 +372,7 @@ module _ (f : Fields) (s : AreSound f) (want : ℕ) (r : Run) (o : IsOpened want
               begins = ap not o.idle;
               ends = run_ends;
               serves = o.serves;
+              later = subst (λ (c : RoomCost). CostMore want c (o.rest ++ o.back)) o.cost o.later;
               name = x;
               below = omega (arith, there.below, there.chain.within, s.memory);
               absent = omega (

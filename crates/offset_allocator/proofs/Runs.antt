@@ -3,6 +3,7 @@ use Rattle.offset_allocator.proofs.Common.{◌^◌, ◌%◌, is_some, get_or_pas
 use Rattle.offset_allocator.proofs.Classes.{down_law, value_grows, value_down}
 use Rattle.offset_allocator.proofs.{Taken.HasFit, Taken.fitting}
 use Rattle.offset_allocator.specs.Bins.{IsFoundFrom}
+use Rattle.std.specs.Prelude.{drop}
 use Rattle.offset_allocator.proofs.Common.{◌≡◌, ℕ, ◌+◌, ◌-◌, ◌*◌, ◌<◌, ◌≤◌, ◌⊎◌, Bool, true, false, not, Option, None}
 use Rattle.offset_allocator.proofs.Common.{Some, IfSome, List, [], ◌∷◌, ◌++◌, length, sum, if◌then◌else◌, refl, sym, ap, subst, ◌∙◌}
 use Rattle.offset_allocator.proofs.Common.{inl, inr, arith, append_assoc, append-nil, length-append, cases_lt, true≢false, not-true, Block, free_sizes, units}
@@ -12,7 +13,7 @@ use Rattle.offset_allocator.proofs.{Ends.Ended, Ends.ended, Ends.last_none, Plac
 use Rattle.offset_allocator.specs.declared.room.RoomCost.{RoomCost}
 use Rattle.offset_allocator.specs.declared.room.Run.{Run}
 use Rattle.offset_allocator.specs.declared.room.Window.{Window}
-use Rattle.offset_allocator.specs.Room.{IsRun, IsAtMost, IsCheapest, IsLeastCost, IsShrunk, IsWindow, cost_of, end_of, end_room}
+use Rattle.offset_allocator.specs.Room.{IsRun, IsAtMost, IsLess, IsCheapest, IsLeastCost, CostMore, IsShrunk, IsWindow, cost_of, end_of, end_room}
 
 pub used_units-append : (xs ys : List Block) → used_units (xs ++ ys) ≡ used_units xs + used_units ys
 used_units-append xs ys = tally_append (λ (b : Block). if b.used then b.size else 0) xs ys
@@ -40,6 +41,9 @@ used_few (b ∷ bs) = let ih = used_few bs in elim b.used as (λ u. one u + used
 -- costs
 pub at_most_trans : (a b c : RoomCost) → IsAtMost a b → IsAtMost b c → IsAtMost a c
 at_most_trans a b c l m = grind arith
+
+pub less_trans : (a b c : RoomCost) → IsLess a b → IsAtMost b c → IsLess a c
+less_trans a b c l m = grind arith
 
 pub longer : (xs ys : List Block) → IsAtMost (cost_of xs) (cost_of (xs ++ ys))
 longer xs ys = elim (cases_lt 0 (used_units ys)) [
@@ -256,12 +260,17 @@ pub record IsFound (name : ℕ) (w : Window) (r : Run) : Type 0 where
   pub units : r.cost.units ≡ w.units
   pub ranges : r.cost.ranges ≡ w.ranges
 
+-- a run that was found is taken where it costs less than the known one, else that
+abbrev pub IsTaken : Option Run → Run → Run → Type 0
+IsTaken known c r = ((r ≡ c) × IfSome known (λ k. IsLess c.cost k.cost)) ⊎ (known ≡ Some r)
+
 -- one more block, at which no run begins that serves
 module _ (want : ℕ) (b : Block) (rest : List Block) where
   carried : (known : Option Run) → ((run : List Block) → IsRun run (b ∷ rest) → want ≤ sum (free_sizes run) → IsRun run rest)
       → IsCheapest want rest known → IsCheapest want (b ∷ rest) known
+  unfolding run_after
   carried None k h = λ run r. elim (cases_lt (sum (free_sizes run)) want) [ inl l ↦ l | inr l ↦ h run (k run r l) ]
-  carried (Some c) k h = ((h.0.0, run_after b h.0.1, h.0.2, h.0.3, h.0.4, h.0.5), λ run r l. h.1 run (k run r l) l)
+  carried (Some c) k h = ((h.0.0, run_after b h.0.1, h.0.2, h.0.3, h.0.4, h.0.5, h.0.6), λ run r l. h.1 run (k run r l) l)
 
   pub met_used : (known : Option Run) → b.used ≡ true → IsCheapest want rest known → IsCheapest want (b ∷ rest) known
   met_used known u h = carried known later h
@@ -318,25 +327,35 @@ module _ (want : ℕ) (b : Block) (rest : List Block) where
     last_named : last_or None us ≡ Some w.end
     last_named = ap (last_or None) h.is ∙ last_or-append None h.front (end_of w ∷ [])
 
-    pub met_run : (known : Option Run) (c r : Run) → IsFound b.name w c → (r ≡ c) ⊎ (known ≡ Some r) → IsAtMost r.cost c.cost → IfSome known (λ k. IsAtMost r.cost k.cost)
+    pub met_run : (known : Option Run) (c r : Run) → IsFound b.name w c → IsTaken known c r → IsAtMost r.cost c.cost → IfSome known (λ k. IsAtMost r.cost k.cost)
         → IsCheapest want rest known → IsCheapest want (b ∷ rest) (Some r)
-    met_run known c r f one most less k = (taken known one k, each known less k)
+    unfolding window_run run_after
+    met_run known c r f found most less k = (taken known found k, each known less k)
       where
         here : c.cost ≡ cost_of us
         here = cost_is c.cost f.units f.ranges
 
-        taken : (known : Option Run) → (r ≡ c) ⊎ (known ≡ Some r) → IsCheapest want rest known → (run : List Block) × IsRun run (b ∷ rest) × (want ≤ sum (free_sizes run)) × (r.cost ≡ cost_of run)
-            × (first_or None run ≡ Some r.first) × (last_or None run ≡ Some r.end)
-        taken known (inl q) k = (
+        -- the runs that begin later
+        rest_is : drop 1 (us ++ back) ≡ rest
+        rest_is = sym (ap (λ (l : List Block). drop 1 l) is)
+
+        more : (known : Option Run) → IfSome known (λ k. IsLess c.cost k.cost) → IsCheapest want rest known → CostMore want c.cost rest
+        more None less k run m l = absurd (let f = k run m in omega (arith, f, l))
+        more (Some d) less k run m l = less_trans c.cost d.cost (cost_of run) less (k.1 run m l)
+
+        taken : (known : Option Run) → IsTaken known c r → IsCheapest want rest known → (run : List Block) × (k : IsRun run (b ∷ rest)) × (want ≤ sum (free_sizes run)) × (r.cost ≡ cost_of run)
+            × (first_or None run ≡ Some r.first) × (last_or None run ≡ Some r.end) × CostMore want r.cost (drop 1 (run ++ k.back))
+        taken known (inl (q, less)) k = (
           us,
           window_run,
           omega (arith, serves, h.room),
           ap (λ (v : Run). v.cost) q ∙ here,
           first_named ∙ ap (λ n. Some n) (sym f.first ∙ sym (ap (λ (v : Run). v.first) q)),
           last_named ∙ ap (λ n. Some n) (sym f.end ∙ sym (ap (λ (v : Run). v.end) q)),
+          subst (λ (v : Run). CostMore want v.cost (drop 1 (us ++ back))) (sym q) (subst (CostMore want c.cost) (sym rest_is) (more known less k)),
         )
         taken None (inr q) k = absurd (cc)
-        taken (Some d) (inr q) k = let same : r ≡ d = cc in (k.0.0, run_after b k.0.1, k.0.2, rw same k.0.3, rw same k.0.4, rw same k.0.5)
+        taken (Some d) (inr q) k = let same : r ≡ d = cc in (k.0.0, run_after b k.0.1, k.0.2, rw same k.0.3, rw same k.0.4, rw same k.0.5, rw same k.0.6)
 
         each : (known : Option Run) → IfSome known (λ k. IsAtMost r.cost k.cost) → IsCheapest want rest known → (run : List Block) → IsRun run (b ∷ rest) → want ≤ sum (free_sizes run)
             → IsAtMost r.cost (cost_of run)
@@ -368,7 +387,7 @@ module _ (want : ℕ) (some : 1 ≤ want) (w : Window) (b : Block) (h : IsWindow
         units = omega (arith, ap (λ (v : Run). v.cost.units) e, h.units, ap (λ (v : Bool). if v then b.size else 0) free);
         ranges = omega (arith, ap (λ (v : Run). v.cost.ranges) e, h.ranges, ap one free);
       } in
-      met_run want b [] w (b ∷ []) [] free refl h l (omega (arith, some, alone_tight)) None r r found (inl refl) (inr (refl, omega arith)) tt (none_yet want)
+      met_run want b [] w (b ∷ []) [] free refl h l (omega (arith, some, alone_tight)) None r r found (inl (refl, tt)) (inr (refl, omega arith)) tt (none_yet want)
     where
       free : b.used ≡ false
       free = go b.used refl
@@ -434,7 +453,7 @@ module _ {want : ℕ} {bs front : List Block} {w : Window} {known : Option Run} 
           | inr m ↦ absurd (omega (arith, l, m, grown))
         ]
 
-    pub met_shrunk : {u : Window} {count' : ℕ} → f.last.used ≡ false → (s : IsShrunk want u (f.last ∷ i.met)) → (c r : Run) → IsFound f.last.name u c → (r ≡ c) ⊎ (known ≡ Some r)
+    pub met_shrunk : {u : Window} {count' : ℕ} → f.last.used ≡ false → (s : IsShrunk want u (f.last ∷ i.met)) → (c r : Run) → IsFound f.last.name u c → IsTaken known c r
         → IsAtMost r.cost c.cost → IfSome known (λ k. IsAtMost r.cost k.cost) → count' ≡ count + 3 + 3 * length s.gone → IsMet want bs f.front u (Some r) start count'
     met_shrunk {u} free s c r found one most less e = record {
       met = s.left;

@@ -1,28 +1,31 @@
 -- A free block that slides to the end of a run: used blocks pass it, and free ones leave their bins and go into it.
 use Rattle.offset_allocator.proofs.Common.{◌≡◌, ℕ, ◌+◌, ◌*◌, ◌<◌, ◌≤◌, Bool, true, false, Some, None, List, [], ◌∷◌, ◌++◌, length, refl, sym, ap, ap₂, subst, ◌∙◌, arith, append_assoc, append-nil}
-use Rattle.offset_allocator.proofs.Common.{length-append, FoldsTo, true≢false, ChainCells, IsChain, Node, node, Block, Place, free_block, units, HasPlace, last_or, Move, live, moves, move_of}
-use Rattle.offset_allocator.proofs.Common.{coalesced_after, remove_all, remove, down, free_start, without_start, ends_used, sum, free_sizes, AreInBins, count_named}
-use Rattle.offset_allocator.proofs.{Places.placed, Places.at_place, Rows.last_or-append, Rows.times-end, Tallies.units-append, Tallies.one-same, Tallies.times-append, Exchange.each-le}
+use Rattle.offset_allocator.proofs.Common.{length-append, FoldsTo, true≢false, ChainCells, node, Block, Place, free_block, units, HasPlace, last_or, Move, live, moves, move_of}
+use Rattle.offset_allocator.proofs.Common.{remove_all, remove, down, first_or, Option, IsAmong, bin_at, ends_used, sum, free_sizes, AreInBins, count_named}
+use Rattle.offset_allocator.proofs.{Rows.last_or-append, Rows.times-end, Tallies.units-append, Tallies.one-same, Tallies.times-append}
 use Rattle.offset_allocator.proofs.{Joints.free_units-append, Joints.free_units-free, Joints.free_units-used, Joints.remove_free, Tallies.free_units, Tallies.free_sum}
-use Rattle.offset_allocator.proofs.{Freeing.remove_all-append, Freeing.remove_used, Filed.filed_after, Runs.ends_used-end}
-use Rattle.offset_allocator.proofs.Sliding.{absorbed, folds_append, live_used, live_idle, moves_used, moves_idle}
+use Rattle.offset_allocator.proofs.{Freeing.remove_all-append, Freeing.remove_used, Filed.filed_in, Filed.filed_out, Runs.ends_used-end}
+use Rattle.offset_allocator.proofs.Gaps.{follows, next_after, seen}
+use Rattle.offset_allocator.proofs.Sliding.{folds_append, live_used, live_idle, moves_used, moves_idle}
 use Rattle.offset_allocator.proofs.Compacting.{live_append, live_units}
-use Rattle.offset_allocator.specs.Room.{IsStretch}
+use Rattle.offset_allocator.specs.Gaps.{HasGap, IsGap}
+use Rattle.offset_allocator.specs.declared.gap.Gap.{Gap}
 
--- the blocks in `done` were met, those in `rest` not yet
-pub record IsGathering {F : Type 0} (R : F → Move → F → Type 0) (m : ℕ) (p : Place) (run back : List Block) (f : F) (order : List (List ℕ)) (accesses : ℕ)
-    (t : ChainCells) (lists : List (List ℕ)) (last count hole size : ℕ) (g : F) (used : ℕ) : Type 0 where
+-- how far a gap has come over a run of blocks: those in `done` were met, those in `rest` not yet, and `at` is the link to
+-- the next one
+pub record IsOnTheWay {F A B : Type 0} (R : F → Move → F → Type 0) (p : Place) (run back : List Block) (f : F) (accesses : ℕ) (cost : ℕ → ℕ)
+    (max : ℕ) (number : A → ℕ) (t : ChainCells) (m last count : ℕ) (gap : Gap A B) (at : Option ℕ) (g : F) (used : ℕ) : Type 0 where
   pub done : List Block
   pub rest : List Block
   pub is : run ≡ done ++ rest
-  pub there : HasPlace t m last count hole (record { before = p.before ++ live done; block = free_block hole size; after = rest ++ back })
-  pub sized : size ≡ p.block.size + free_units done
+  pub there : IsGap max number gap t m last count (record { before = p.before ++ live done; block = free_block gap.name gap.size; after = rest ++ back })
+  pub next : at ≡ first_or None (rest ++ back)
+  pub sized : gap.size ≡ p.block.size + free_units done
   pub calls : FoldsTo R f (moves (units p.before + p.block.size) (units p.before) done) g
-  pub bins : lists ≡ remove_all done order
-  pub filed : AreInBins ((p.before ++ live done) ++ (rest ++ back)) lists
-  pub bounded : used ≤ accesses + 20 * length done
+  pub bounded : used ≤ accesses + cost (length done)
+  pub least : accesses + 4 * length done ≤ used
 
-moves-append : (i j : ℕ) (xs ys : List Block) → moves i j (xs ++ ys) ≡ moves i j xs ++ moves (i + units xs) (j + units (live xs)) ys
+pub moves-append : (i j : ℕ) (xs ys : List Block) → moves i j (xs ++ ys) ≡ moves i j xs ++ moves (i + units xs) (j + units (live xs)) ys
 moves-append i j [] ys = ap₂ (λ a b. moves a b ys) (omega arith) (omega arith)
 moves-append i j (x ∷ xs) ys = go x.used refl (λ k l. moves-append k l xs ys)
   where
@@ -39,77 +42,72 @@ moves-append i j (x ∷ xs) ys = go x.used refl (λ k l. moves-append k l xs ys)
         moves_idle i j x (xs ++ ys) e ∙ ih (i + x.size) j ∙ ap₂ (λ (l k : List Move). l ++ k) (sym (moves_idle i j x xs e)) (ap₂ (λ a b. moves a b ys) from to)
 
 -- at first
-pub gather_start : {F : Type 0} {R : F → Move → F → Type 0} {m : ℕ} {p : Place} {run back : List Block} {end : ℕ} {f : F} {order : List (List ℕ)} {accesses : ℕ} {t : ChainCells}
-    {last count hole size : ℕ}
-    → HasPlace t m last count hole p → IsStretch p run back end → size ≡ (node t hole).size → AreInBins (p.before ++ p.after) order
-    → (s : IsGathering R m p run back f order accesses t order last count hole size f accesses) × (s.rest ≡ run)
-gather_start {m = m} {p = p} {run = run} {back = back} {order = order} {t = t} {last = last} {count = count} {hole = hole} {size = size} h s e filed = (
-  record {
-    done = [];
-    rest = run;
-    is = refl;
-    there = placed (subst (IsChain t m last count) whole h.chain) refl;
-    sized = omega (arith, sized);
-    calls = refl;
-    bins = refl;
-    filed = subst (λ l. AreInBins l order) list filed;
-    bounded = omega arith;
-  },
-  refl,
-)
+abbrev pub way_start : {F A B : Type 0} {R : F → Move → F → Type 0} {p : Place} {run back : List Block} {f : F} {accesses : ℕ} (cost : ℕ → ℕ) {max : ℕ} {number : A → ℕ} {t : ChainCells} {m last count : ℕ}
+    {gap : Gap A B} {at : Option ℕ}
+    → IsGap max number gap t m last count p → p.after ≡ run ++ back → at ≡ first_or None p.after
+    → IsOnTheWay R p run back f accesses cost max number t m last count gap at f accesses
+way_start {p = p} {run = run} {back = back} cost {max = max} {number = number} {t = t} {m = m} {last = last} {count = count} {gap = gap} i e at_is = record {
+  done = [];
+  rest = run;
+  is = refl;
+  there = subst (λ (q : Place). IsGap max number gap t m last count q) whole i;
+  next = at_is ∙ ap (first_or None) e;
+  sized = omega (arith, i.size);
+  calls = refl;
+  bounded = omega arith;
+  least = omega arith;
+}
   where
-    sized : size ≡ p.block.size
-    sized = e ∙ ap (λ (v : Node). v.size) (at_place h)
+    block : p.block ≡ free_block gap.name gap.size
+    block = rw (i.size, ← i.there.name, ← i.there.free) refl
 
-    block : p.block ≡ free_block hole size
-    block = rw (sized, ← h.name, ← s.idle) refl
+    whole : p ≡ record { before = p.before ++ live []; block = free_block gap.name gap.size; after = run ++ back }
+    whole = ap₂ (λ (l : List Block) (b : Block). record { before = l; block = b; after = p.after }) (sym (append-nil p.before)) block
+        ∙ ap (λ (l : List Block). record { before = p.before ++ live []; block = free_block gap.name gap.size; after = l }) e
 
-    whole : p.before ++ (p.block ∷ p.after) ≡ (p.before ++ live []) ++ (free_block hole size ∷ (run ++ back))
-    whole = ap₂ (λ (b : Block) (l : List Block). p.before ++ (b ∷ l)) block s.is ∙ ap (λ l. l ++ (free_block hole size ∷ (run ++ back))) (sym (append-nil p.before))
-
-    list : p.before ++ p.after ≡ (p.before ++ live []) ++ (run ++ back)
-    list = ap (λ l. p.before ++ l) s.is ∙ ap (λ l. l ++ (run ++ back)) (sym (append-nil p.before))
-
-module _ {F : Type 0} {R : F → Move → F → Type 0} {m : ℕ} {p : Place} {run back : List Block} {f : F} {order : List (List ℕ)} {accesses : ℕ} {t : ChainCells} {lists : List (List ℕ)}
-    {last count hole size : ℕ} {g : F} {used : ℕ} (s : IsGathering R m p run back f order accesses t lists last count hole size g used) (b : Block) (bs : List Block) (e : s.rest ≡ b ∷ bs) where
-  abbrev q : Place
-  q = record { before = p.before ++ live s.done; block = free_block hole size; after = s.rest ++ back }
-
+module _ {F A B : Type 0} {R : F → Move → F → Type 0} {p : Place} {run back : List Block} {f : F} {accesses : ℕ} {cost : ℕ → ℕ} {max : ℕ} {number : A → ℕ} {t : ChainCells} {m last count : ℕ}
+    {gap : Gap A B} {at : Option ℕ} {g : F} {used : ℕ} (s : IsOnTheWay R p run back f accesses cost max number t m last count gap at g used) (b : Block) (bs : List Block) (e : s.rest ≡ b ∷ bs) where
   pub after_is : s.rest ++ back ≡ b ∷ (bs ++ back)
   after_is = ap (λ l. l ++ back) e
 
-  split : run ≡ (s.done ++ b ∷ []) ++ bs
+  -- the gap, before the next block
+  pub held : HasGap t m last count gap.name (record { before = p.before ++ live s.done; block = free_block gap.name gap.size; after = b ∷ (bs ++ back) })
+  held = follows s.there.there after_is
+
+  pub named : {y : ℕ} → at ≡ Some y → b.name ≡ y
+  named q = let h = sym (s.next ∙ ap (first_or None) after_is) ∙ q in cc
+
+  pub split : run ≡ (s.done ++ b ∷ []) ++ bs
   split = s.is ∙ ap (λ l. s.done ++ l) e ∙ sym (append_assoc s.done (b ∷ []) bs)
 
-  live_more : (u : List Block) → live (b ∷ []) ≡ u → live (s.done ++ b ∷ []) ≡ live s.done ++ u
+  pub live_more : (u : List Block) → live (b ∷ []) ≡ u → live (s.done ++ b ∷ []) ≡ live s.done ++ u
   live_more u k = live_append s.done (b ∷ []) ∙ ap (λ l. live s.done ++ l) k
 
-  from : units (p.before ++ live s.done) + size ≡ (units p.before + p.block.size) + units s.done
+  pub from : units (p.before ++ live s.done) + gap.size ≡ (units p.before + p.block.size) + units s.done
   from = omega (arith, units-append p.before (live s.done), s.sized, live_units s.done)
 
-  to : units (p.before ++ live s.done) ≡ units p.before + units (live s.done)
+  pub to : units (p.before ++ live s.done) ≡ units p.before + units (live s.done)
   to = units-append p.before (live s.done)
 
   -- a used block passes it
-  pub gather_past : {t' : ChainCells} {last' count' hole' : ℕ} {g' : F} {used' : ℕ} → b.used ≡ true
-      → HasPlace t' m last' count' hole' (record { before = (p.before ++ live s.done) ++ b ∷ []; block = free_block hole' size; after = bs ++ back })
-      → FoldsTo R g (move_of (units (p.before ++ live s.done) + size) (units (p.before ++ live s.done)) b) g' → used' ≤ used + 20
-      → (k : IsGathering R m p run back f order accesses t' lists last' count' hole' size g' used') × (k.rest ≡ bs)
-  gather_past {t'} {last'} {count'} {hole'} {g'} {used'} u h call more = (
-    record {
-      done = s.done ++ b ∷ [];
-      rest = bs;
-      is = split;
-      there = subst (λ l. HasPlace t' m last' count' hole' (record { before = l; block = free_block hole' size; after = bs ++ back })) before h;
-      sized = omega (arith, s.sized, free_units-append s.done (b ∷ []), free_units-used b [] u);
-      calls = subst (λ l. FoldsTo R f l g') (sym all) (folds_append R _ _ f g g' s.calls (rw (from, to) at call));
-      bins = s.bins ∙ sym (remove_all-append s.done (b ∷ []) order ∙ remove_used b [] (remove_all s.done order) u);
-      filed = subst (λ l. AreInBins l lists) (ap (λ l. (p.before ++ live s.done) ++ l) after_is ∙ sym (append_assoc (p.before ++ live s.done) (b ∷ []) (bs ++ back)) ∙ ap (λ l. l ++
-          (bs ++ back)) before) s.filed;
-      bounded = omega (arith, s.bounded, more, length-append s.done (b ∷ []));
-    },
-    refl,
-  )
+  abbrev pub way_past : {t' : ChainCells} {last' count' : ℕ} {gap' : Gap A B} {at' : Option ℕ} {g' : F} {used' : ℕ} → b.used ≡ true
+      → IsGap max number gap' t' m last' count' (record { before = (p.before ++ live s.done) ++ b ∷ []; block = free_block gap.name gap.size; after = bs ++ back })
+      → at' ≡ (node t b.name).after
+      → FoldsTo R g (move_of (gap.offset + gap.size) gap.offset b) g' → used' + cost (length s.done) ≤ used + cost (length s.done + 1) → used + 4 ≤ used'
+      → IsOnTheWay R p run back f accesses cost max number t' m last' count' gap' at' g' used'
+  way_past {t'} {last'} {count'} {gap'} {at'} {g'} {used'} u h q call more some = record {
+    done = s.done ++ b ∷ [];
+    rest = bs;
+    is = split;
+    there = subst (λ (l : List Block). IsGap max number gap' t' m last' count' (record { before = l; block = free_block gap'.name gap'.size; after = bs ++ back })) before
+        (subst (λ (d : Block). IsGap max number gap' t' m last' count' (record { before = (p.before ++ live s.done) ++ b ∷ []; block = d; after = bs ++ back }))
+        (ap₂ free_block h.there.name (sym h.size)) h);
+    next = q ∙ next_after _ _ b (bs ++ back) held;
+    sized = omega (arith, s.sized, h.size, free_units-append s.done (b ∷ []), free_units-used b [] u);
+    calls = subst (λ l. FoldsTo R f l g') (sym all) (folds_append R _ _ f g g' s.calls (rw (s.there.offset, from, to) at call));
+    bounded = omega (arith, s.bounded, more, ap cost (length-append s.done (b ∷ [])));
+    least = omega (arith, s.least, some, length-append s.done (b ∷ []));
+  }
     where
       before : (p.before ++ live s.done) ++ b ∷ [] ≡ p.before ++ live (s.done ++ b ∷ [])
       before = append_assoc p.before (live s.done) (b ∷ []) ∙ ap (λ l. p.before ++ l) (sym (live_more (b ∷ []) (live_used b [] u)))
@@ -119,39 +117,54 @@ module _ {F : Type 0} {R : F → Move → F → Type 0} {m : ℕ} {p : Place} {r
       all = moves-append _ _ s.done (b ∷ []) ∙ ap (λ l. moves (units p.before + p.block.size) (units p.before) s.done ++ l) (moves_used _ _ b [] u ∙ append-nil _)
 
   -- a free block goes into it
-  pub gather_into : {t' : ChainCells} {lists' : List (List ℕ)} {last' count' size' used' : ℕ} → b.used ≡ false → size' ≡ size + b.size → HasPlace t' m last' count' hole (coalesced_after q)
-      → length lists ≡ 256 → lists' ≡ remove (down b.size) b.name lists → used' ≤ used + 20
-      → (k : IsGathering R m p run back f order accesses t' lists' last' count' hole size' g used') × (k.rest ≡ bs)
-  gather_into {t'} {lists'} {last'} {count'} {size'} {used'} u n h long out more = (
-    record {
-      done = s.done ++ b ∷ [];
-      rest = bs;
-      is = split;
-      there = subst (λ l. HasPlace t' m last' count' hole (record { before = l; block = free_block hole size'; after = bs ++ back })) before
-          (rw n (absorbed q b (bs ++ back) u after_is h));
-      sized = omega (arith, s.sized, n, free_units-append s.done (b ∷ []), free_units-free b [] u);
-      calls = subst (λ l. FoldsTo R f l g) (sym all) s.calls;
-      bins = out ∙ ap (remove (down b.size) b.name) s.bins ∙ sym (remove_all-append s.done (b ∷ []) order ∙ remove_free b (remove_all s.done order) u);
-      filed = subst (λ l. AreInBins l lists') (ap (λ l. l ++ (bs ++ back)) before)
-          (subst (λ o. AreInBins ((p.before ++ live s.done) ++ (bs ++ back)) o) (sym out) left);
-      bounded = omega (arith, s.bounded, more, length-append s.done (b ∷ []));
-    },
-    refl,
-  )
+  abbrev pub way_into : {t' : ChainCells} {last' count' : ℕ} {gap' : Gap A B} {at' : Option ℕ} {used' : ℕ} → b.used ≡ false
+      → IsGap max number gap' t' m last' count' (record { before = p.before ++ live s.done; block = record (free_block gap.name gap.size) { size = gap.size + b.size }; after = bs ++ back })
+      → at' ≡ (node t b.name).after → used' + cost (length s.done) ≤ used + cost (length s.done + 1) → used + 4 ≤ used'
+      → IsOnTheWay R p run back f accesses cost max number t' m last' count' gap' at' g used'
+  way_into {t'} {last'} {count'} {gap'} {at'} {used'} u h q more some = record {
+    done = s.done ++ b ∷ [];
+    rest = bs;
+    is = split;
+    there = subst (λ (l : List Block). IsGap max number gap' t' m last' count' (record { before = l; block = free_block gap'.name gap'.size; after = bs ++ back })) (ap (λ l. p.before ++ l) kept)
+        (subst (λ (d : Block). IsGap max number gap' t' m last' count' (record { before = p.before ++ live s.done; block = d; after = bs ++ back })) (ap₂ free_block h.there.name (sym h.size)) h);
+    next = q ∙ next_after _ _ b (bs ++ back) held;
+    sized = omega (arith, s.sized, h.size, free_units-append s.done (b ∷ []), free_units-free b [] u);
+    calls = subst (λ l. FoldsTo R f l g) (sym all) s.calls;
+    bounded = omega (arith, s.bounded, more, ap cost (length-append s.done (b ∷ [])));
+    least = omega (arith, s.least, some, length-append s.done (b ∷ []));
+  }
     where
-      before : p.before ++ live s.done ≡ p.before ++ live (s.done ++ b ∷ [])
-      before = ap (λ l. p.before ++ l) (sym (live_more [] (live_idle b [] u) ∙ append-nil (live s.done)))
+      kept : live s.done ≡ live (s.done ++ b ∷ [])
+      kept = sym (live_more [] (live_idle b [] u) ∙ append-nil (live s.done))
 
       all : moves (units p.before + p.block.size) (units p.before) (s.done ++ b ∷ []) ≡ moves (units p.before + p.block.size) (units p.before) s.done
       all = moves-append _ _ s.done (b ∷ []) ∙ ap (λ l. moves (units p.before + p.block.size) (units p.before) s.done ++ l) (moves_idle _ _ b [] u) ∙ append-nil _
 
-      starts : (free_start (s.rest ++ back) ≡ b ∷ []) × (without_start (s.rest ++ back) ≡ bs ++ back)
-      starts = rw after_is (rw u (refl, refl))
+  -- the bins
+  pub filed_past : (lists : List (List ℕ)) → b.used ≡ true → AreInBins ((p.before ++ live s.done) ++ (s.rest ++ back)) lists
+      → AreInBins ((p.before ++ live (s.done ++ b ∷ [])) ++ (bs ++ back)) lists
+  filed_past lists u filed =
+      let before = append_assoc p.before (live s.done) (b ∷ []) ∙ ap (λ l. p.before ++ l) (sym (live_more (b ∷ []) (live_used b [] u))) in
+      subst (λ l. AreInBins l lists)
+      (ap (λ l. (p.before ++ live s.done) ++ l) after_is ∙ sym (append_assoc (p.before ++ live s.done) (b ∷ []) (bs ++ back)) ∙ ap (λ l. l ++ (bs ++ back)) before) filed
 
-      left : AreInBins ((p.before ++ live s.done) ++ (bs ++ back)) (remove (down b.size) b.name lists)
-      left = subst (λ l. AreInBins ((p.before ++ live s.done) ++ l) (remove (down b.size) b.name lists)) starts.1
-          (subst (λ o. AreInBins ((p.before ++ live s.done) ++ without_start (s.rest ++ back)) o) (ap (λ l. remove_all l lists) starts.0 ∙ remove_free b lists u)
-          (filed_after s.there lists s.filed long))
+  pub filed_next : (lists : List (List ℕ)) → b.used ≡ false → AreInBins ((p.before ++ live s.done) ++ (s.rest ++ back)) lists → IsAmong b.name (bin_at lists (down b.size))
+  filed_next lists u filed = filed_in (p.before ++ live s.done) (bs ++ back) b lists (subst (λ l. AreInBins ((p.before ++ live s.done) ++ l) lists) after_is filed) u
+
+  pub filed_into : (lists : List (List ℕ)) → b.used ≡ false → length lists ≡ 256 → AreInBins ((p.before ++ live s.done) ++ (s.rest ++ back)) lists
+      → AreInBins ((p.before ++ live (s.done ++ b ∷ [])) ++ (bs ++ back)) (remove (down b.size) b.name lists)
+  filed_into lists u long filed =
+      let kept = sym (live_more [] (live_idle b [] u) ∙ append-nil (live s.done)) in
+      subst (λ l. AreInBins ((p.before ++ l) ++ (bs ++ back)) (remove (down b.size) b.name lists)) kept
+      (filed_out (p.before ++ live s.done) (bs ++ back) b lists (subst (λ l. AreInBins ((p.before ++ live s.done) ++ l) lists) after_is filed) u long
+      (λ y. omega (arith, seen _ _ (b ∷ (bs ++ back)) held y, times-append y (p.before ++ live s.done) (b ∷ (bs ++ back)))))
+
+  pub out_past : (order lists : List (List ℕ)) → b.used ≡ true → lists ≡ remove_all s.done order → lists ≡ remove_all (s.done ++ b ∷ []) order
+  out_past order lists u out = out ∙ sym (remove_all-append s.done (b ∷ []) order ∙ remove_used b [] (remove_all s.done order) u)
+
+  pub out_into : (order lists lists' : List (List ℕ)) → b.used ≡ false → lists' ≡ remove (down b.size) b.name lists → lists ≡ remove_all s.done order
+      → lists' ≡ remove_all (s.done ++ b ∷ []) order
+  out_into order lists lists' u n out = n ∙ ap (remove (down b.size) b.name) out ∙ sym (remove_all-append s.done (b ∷ []) order ∙ remove_free b (remove_all s.done order) u)
 
   -- the run ends in a free block
   pub goes_on : ends_used run ≡ false → b.used ≡ true → bs ≡ [] → ⊥
@@ -173,46 +186,63 @@ module _ {F : Type 0} {R : F → Move → F → Type 0} {m : ℕ} {p : Place} {r
           absurd (omega (
             arith,
             two,
-            each-le _ _ _ _ _ s.there.chain b.name,
-            times-append b.name (p.before ++ live s.done) (free_block hole size ∷ (s.rest ++ back)),
-            ap (count_named b.name) (after_is ∙ ap (λ k. b ∷ (k ++ back)) is),
+            seen _ _ (b ∷ (bs ++ back)) held b.name,
+            ap (λ k. count_named b.name (k ++ back)) is,
             times-append b.name (d ∷ l) back,
             one-same b.name,
           ))
+
+pub run_some : {run : List Block} {end : ℕ} → last_or None run ≡ Some end → run ≡ [] → ⊥
+run_some k e = let h = sym (ap (last_or None) e) ∙ k in absurd (cc)
 
 pub first_part : (l : List Block) → (l ≡ [] → ⊥) → (b : Block) × (bs : List Block) × (l ≡ b ∷ bs)
 first_part [] n = absurd (n refl)
 first_part (b ∷ bs) n = (b, bs, refl)
 
--- not all nodes are those of blocks that were met
-pub gather_within : {F : Type 0} {R : F → Move → F → Type 0} {m : ℕ} {p : Place} {run back : List Block} {f : F} {order : List (List ℕ)} {accesses : ℕ} {t : ChainCells} {lists : List (List ℕ)}
-    {last count hole size : ℕ} {g : F} {used : ℕ} {c : ChainCells} {last₀ count₀ hole₀ end : ℕ} (s : IsGathering R m p run back f order accesses t lists last count hole size g used)
-    → (s.rest ≡ [] → ⊥) → HasPlace c m last₀ count₀ hole₀ p → IsStretch p run back end → used < accesses + 20 * length c.nodes
-gather_within {p = p} {run = run} {back = back} s some h st = let f = first_part s.rest some in omega (
-  arith,
-  s.bounded,
-  ap (λ (l : List Block). length l) f.2,
-  h.chain.full,
-  length-append p.before (p.block ∷ p.after),
-  ap (λ (l : List Block). length l) st.is,
-  length-append run back,
-  ap (λ (l : List Block). length l) s.is,
-  length-append s.done s.rest,
-)
+module _ {F A B : Type 0} {R : F → Move → F → Type 0} {p : Place} {run back : List Block} {f : F} {accesses : ℕ} {cost : ℕ → ℕ} {max : ℕ} {number : A → ℕ} {t : ChainCells} {m last count : ℕ}
+    {gap : Gap A B} {at : Option ℕ} {g : F} {used : ℕ} (s : IsOnTheWay R p run back f accesses cost max number t m last count gap at g used) where
+  -- a block is left where a link leads to it
+  pub way_next : {y : ℕ} → back ≡ [] → at ≡ Some y → s.rest ≡ [] → ⊥
+  way_next none q e = let h = sym (s.next ∙ ap (first_or None) (ap₂ (λ (l k : List Block). l ++ k) e none)) ∙ q in absurd (cc)
 
--- at the end
-pub gathered_all : {F : Type 0} {R : F → Move → F → Type 0} {m : ℕ} {p : Place} {run back : List Block} {f : F} {order : List (List ℕ)} {accesses : ℕ} {t : ChainCells} {lists : List (List ℕ)}
-    {last count hole size : ℕ} {g : F} {used : ℕ} (s : IsGathering R m p run back f order accesses t lists last count hole size g used) → s.rest ≡ []
-    → HasPlace t m last count hole (record { before = p.before ++ live run; block = free_block hole size; after = back }) × (size ≡ p.block.size + sum (free_sizes run))
-    × FoldsTo R f (moves (units p.before + p.block.size) (units p.before) run) g × (lists ≡ remove_all run order) × AreInBins ((p.before ++ live run) ++ back) lists ×
-    (used ≤ accesses + 20 * length run)
-gathered_all {R = R} {m} {p} {run} {back} {f} {order} {accesses} {t} {lists} {last} {count} {hole} {size} {g} {used} s none =
-    let all : s.done ≡ run = sym (s.is ∙ ap (λ l. s.done ++ l) none ∙ append-nil s.done) in (
-      subst (λ l. HasPlace t m last count hole (record { before = p.before ++ live l; block = free_block hole size; after = back })) all
-          (subst (λ l. HasPlace t m last count hole (record { before = p.before ++ live s.done; block = free_block hole size; after = l ++ back })) none s.there),
-      omega (arith, s.sized, ap free_units all, free_sum run),
-      subst (λ l. FoldsTo R f (moves (units p.before + p.block.size) (units p.before) l) g) all s.calls,
-      s.bins ∙ ap (λ l. remove_all l order) all,
-      subst (λ l. AreInBins ((p.before ++ live l) ++ back) lists) all (subst (λ l. AreInBins ((p.before ++ live s.done) ++ (l ++ back)) lists) none s.filed),
-      omega (arith, s.bounded, ap (λ (l : List Block). length l) all),
-    )
+  pub way_more : (s.rest ≡ [] → ⊥) → at ≡ None → ⊥
+  way_more some q = let f = first_part s.rest some in let h = sym (s.next ∙ ap (λ (k : List Block). first_or None (k ++ back)) f.2) ∙ q in absurd (cc)
+
+  -- none is left where it leads to none
+  pub way_end : back ≡ [] → at ≡ None → s.rest ≡ []
+  way_end none q = go s.rest refl
+    where
+      go : (l : List Block) → s.rest ≡ l → s.rest ≡ []
+      go [] e = e
+      go (d ∷ l) e = let h = sym (s.next ∙ ap (λ (k : List Block). first_or None (k ++ back)) e) ∙ q in absurd (cc)
+
+  -- not all nodes are those of blocks that were met
+  pub way_within : {c : ChainCells} {last₀ count₀ x : ℕ} → (s.rest ≡ [] → ⊥) → HasPlace c m last₀ count₀ x p → p.after ≡ run ++ back → length s.done < length c.nodes
+  way_within some h e = let r = first_part s.rest some in omega (
+    arith,
+    ap (λ (l : List Block). length l) r.2,
+    h.chain.full,
+    length-append p.before (p.block ∷ p.after),
+    ap (λ (l : List Block). length l) e,
+    length-append run back,
+    ap (λ (l : List Block). length l) s.is,
+    length-append s.done s.rest,
+  )
+
+  -- at the end
+  pub way_done : s.rest ≡ [] → IsGap max number gap t m last count (record { before = p.before ++ live run; block = free_block gap.name gap.size; after = back })
+      × (at ≡ first_or None back) × (gap.size ≡ p.block.size + sum (free_sizes run)) × FoldsTo R f (moves (units p.before + p.block.size) (units p.before) run) g
+      × (used ≤ accesses + cost (length run)) × (accesses + 4 * length run ≤ used) × (s.done ≡ run)
+  way_done none = let all : s.done ≡ run = sym (s.is ∙ ap (λ l. s.done ++ l) none ∙ append-nil s.done) in (
+    subst (λ l. IsGap max number gap t m last count (record { before = p.before ++ live l; block = free_block gap.name gap.size; after = back })) all
+        (subst (λ l. IsGap max number gap t m last count (record { before = p.before ++ live s.done; block = free_block gap.name gap.size; after = l ++ back })) none s.there),
+    s.next ∙ ap (λ (l : List Block). first_or None (l ++ back)) none,
+    omega (arith, s.sized, ap free_units all, free_sum run),
+    subst (λ l. FoldsTo R f (moves (units p.before + p.block.size) (units p.before) l) g) all s.calls,
+    omega (arith, s.bounded, ap (λ (l : List Block). cost (length l)) all),
+    omega (arith, s.least, ap (λ (l : List Block). length l) all),
+    all,
+  )
+
+pub same_move : (to' to n x k : ℕ) (b : Block) → to' ≡ to → x ≡ b.name → k ≡ b.size → move_of (to' + n) to' (record { name = x; size = k; used = b.used }) ≡ move_of (to + n) to b
+same_move to' to n x k b e f h = rw (e, f, h) refl

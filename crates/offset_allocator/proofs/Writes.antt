@@ -6,7 +6,7 @@ use Rattle.offset_allocator.proofs.Exchange.{IsTop, IsExchange, IsRelinked, back
 use Rattle.offset_allocator.proofs.Tallies.{one-eq, one-other, times-append, units-append}
 use Rattle.offset_allocator.proofs.{Nodes.nodes-with_spare, Nodes.reserved-with_spare, Ends.end_free, Places.placed, Places.at_place, Places.next_place, Places.previous_place}
 
-spare-with_spare : (c : ChainCells) (i v : ℕ) → (with_spare c i v).spare ≡ set c.spare i v
+pub spare-with_spare : (c : ChainCells) (i v : ℕ) → (with_spare c i v).spare ≡ set c.spare i v
 unfolding with_spare
 spare-with_spare c i v = refl
 

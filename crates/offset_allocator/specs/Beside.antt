@@ -9,6 +9,10 @@ abbrev pub first_grant : List Placed → Option Grant
 first_grant [] = None
 first_grant (b ∷ bs) = option_or b.grant (first_grant bs)
 
+-- the first live range
+abbrev pub first_live : View → Option Grant
+first_live v = first_grant (placed 0 v.blocks)
+
 -- the last live range
 abbrev pub last_live : View → Option Grant
 last_live v = first_grant (listing v)

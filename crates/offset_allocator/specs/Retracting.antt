@@ -1,5 +1,5 @@
 -- Units taken off the end of a space.
-use Rattle.std.specs.Prelude.{◌≡◌, ℕ, ◌+◌, ◌-◌, ◌≤◌, ◌⊎◌, List, [], ◌∷◌, ◌++◌, Bool, true, false}
+use Rattle.std.specs.Prelude.{◌≡◌, ℕ, ◌-◌, ◌≤◌, ◌⊎◌, List, [], ◌∷◌, ◌++◌, Bool, true, false}
 use Rattle.offset_allocator.specs.Relations.{SameSpace}
 use Rattle.offset_allocator.specs.View.{View, Block, free_block, free_part, replace}
 

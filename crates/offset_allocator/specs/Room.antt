@@ -1,6 +1,6 @@
 -- Runs of neighbouring blocks, and what it costs to make one free block of all free units of a run.
 use Rattle.std.specs.Prelude.{◌≡◌, ℕ, ◌+◌, ◌<◌, ◌≤◌, ◌⊎◌, true, false, if◌then◌else◌, List, [], ◌∷◌, ◌++◌}
-use Rattle.std.specs.Prelude.{Option, Some, None, sum}
+use Rattle.std.specs.Prelude.{Option, Some, None, drop, sum}
 use Rattle.offset_allocator.specs.declared.room.RoomCost.{RoomCost}
 use Rattle.offset_allocator.specs.declared.room.Run.{Run}
 use Rattle.offset_allocator.specs.declared.room.Window.{Window}
@@ -27,6 +27,14 @@ cost_of run = record { units = used_units run; ranges = used_of run }
 abbrev pub IsAtMost : RoomCost → RoomCost → Type 0
 IsAtMost c d = (c.units < d.units) ⊎ ((c.units ≡ d.units) × (c.ranges ≤ d.ranges))
 
+-- a cost is less than another: it has fewer units, or as many and fewer ranges
+abbrev pub IsLess : RoomCost → RoomCost → Type 0
+IsLess c d = (c.units < d.units) ⊎ ((c.units ≡ d.units) × (c.ranges < d.ranges))
+
+-- each run of these blocks with at least so many free units costs more
+abbrev pub CostMore : ℕ → RoomCost → List Block → Type 0
+CostMore want c bs = (run : List Block) → IsRun run bs → want ≤ sum (free_sizes run) → IsLess c (cost_of run)
+
 -- the ranges that have to move, none where no run is found
 abbrev pub ranges_of : Option RoomCost → ℕ
 ranges_of None = 0
@@ -40,8 +48,8 @@ IsLeastCost want bs (Some c) =
     ((run : List Block) × IsRun run bs × (want ≤ sum (free_sizes run)) × (c ≡ cost_of run))
     × ((run : List Block) → IsRun run bs → want ≤ sum (free_sizes run) → IsAtMost c (cost_of run))
 
--- a run with at least so many free units slides to its front: its live blocks keep their order, and its free units are
--- one block after them, the newest of its bin; all else stays
+-- a run with at least so many free units, where each such run that begins later costs more, slides to its front: its
+-- live blocks keep their order, and its free units are one block after them, the newest of its bin; all else stays
 pub record SlidesRun (want : ℕ) (v w : View) : Type 0 where
   pub front : List Block
   pub run : List Block
@@ -50,6 +58,7 @@ pub record SlidesRun (want : ℕ) (v w : View) : Type 0 where
   pub begins : starts_free run ≡ true
   pub ends : ends_used run ≡ false
   pub serves : want ≤ sum (free_sizes run)
+  pub later : CostMore want (cost_of run) (drop 1 (run ++ back))
   pub name : ℕ
   pub below : name < v.max_allocs
   pub absent : count_named name (front ++ (live run ++ back)) ≡ 0
@@ -64,13 +73,14 @@ MakesRoom R want v f (Some c) w g =
     × (1 ≤ c.ranges → (s : SlidesRun want v w) × (c ≡ cost_of s.run)
     × FoldsTo R f (moves (units s.front) (units s.front) s.run) g)
 
--- the cheapest run with at least so many free units: the names of its first and last block, and its cost; or nothing,
--- where no run has so many
+-- the cheapest run with at least so many free units, of several the last one: the names of its first and last block,
+-- and its cost; or nothing, where no run has so many
 abbrev pub IsCheapest : ℕ → List Block → Option Run → Type 0
 IsCheapest want bs None = (run : List Block) → IsRun run bs → sum (free_sizes run) < want
 IsCheapest want bs (Some r) =
-    ((run : List Block) × IsRun run bs × (want ≤ sum (free_sizes run)) × (r.cost ≡ cost_of run)
-    × (first_or None run ≡ Some r.first) × (last_or None run ≡ Some r.end))
+    ((run : List Block) × (k : IsRun run bs) × (want ≤ sum (free_sizes run)) × (r.cost ≡ cost_of run)
+    × (first_or None run ≡ Some r.first) × (last_or None run ≡ Some r.end)
+    × CostMore want r.cost (drop 1 (run ++ k.back)))
     × ((run : List Block) → IsRun run bs → want ≤ sum (free_sizes run) → IsAtMost r.cost (cost_of run))
 
 -- after the free block of a place come these blocks, the last of which is free and has this name, and then others

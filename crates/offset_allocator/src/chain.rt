@@ -104,7 +104,7 @@ pub(crate) fn point_back<T: Tables>(
 
 // Makes `name` the block after the one that `link` names, if any.
 #[tactic(auto, using(crate::proofs::Nodes::lengths))]
-fn point_on<T: Tables>(tables: &mut T, link: T::Index, name: u32, count: &mut Accesses)
+pub(crate) fn point_on<T: Tables>(tables: &mut T, link: T::Index, name: u32, count: &mut Accesses)
     requires link { IfSome (link_of T.Index.MAX (T.Index.number link))
         (λ before. before < length (T.cells tables.old).chain.nodes) }
     requires name { name < length (T.cells tables.old).chain.nodes }

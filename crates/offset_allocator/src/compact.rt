@@ -4,7 +4,7 @@ ghost use Rattle.std.specs.Prelude.{sum, unwrap_or};
 ghost use Rattle.std.specs.List.{FoldsTo};
 ghost use Rattle.offset_allocator.specs.Accesses.{Costs};
 ghost use Rattle.offset_allocator.specs.Cells.{node};
-ghost use Rattle.offset_allocator.specs.View.{Place, Block, free_block, free_sizes, units};
+ghost use Rattle.offset_allocator.specs.View.{Place, free_block, free_sizes, units};
 ghost use Rattle.offset_allocator.specs.Bins.{IsBinned, bins_in};
 ghost use Rattle.offset_allocator.specs.Chain.{IsSpace, HasPlace, blocks};
 ghost use Rattle.offset_allocator.specs.Compacting.{live, moves, move_of, Compacts, KeepsSizes, IsCalledWith};
@@ -13,12 +13,13 @@ ghost use Rattle.offset_allocator.specs.Soundness.{AreInBins};
 ghost use Rattle.offset_allocator.specs.Store.{IsPlaceIn, SameBins};
 
 use crate::accesses::Accesses;
+use crate::gap::Gap;
 use crate::handle::Allocation;
-use crate::index::{NodeIndex, NodeIndexNonMax};
+use crate::index::{NodeIndex, NodeIndexNonMax, linked};
 use crate::small_float::uint_to_float_round_down;
 use crate::store::Store;
 use crate::tables::Tables;
-use crate::{AllocatorOf, bins, chain};
+use crate::{AllocatorOf, bins, chain, gap};
 use std::marker::PhantomData;
 
 /// A range that `compact` moves: `size` units from the offset `from` to the offset `to`, which is smaller.
@@ -106,42 +107,6 @@ fn first_free<T: Tables>(tables: &T, last: u32, start: u32, count: &mut Accesses
     first
 }
 
-// The free block that takes up the free units, while the used blocks after it pass it.
-#[derive(Clone, Copy)]
-pub(crate) struct Hole {
-    pub(crate) name: u32,
-    pub(crate) size: u32,
-}
-
-// Exchanges a free block, which begins at `offset`, with the used block `next` of `more` units directly after it. The
-// name that the free block has then is returned.
-pub(crate) fn pass<T: Tables>(
-    store: &mut Store<T>,
-    hole: Hole,
-    offset: u32,
-    next: u32,
-    more: u32,
-) -> u32
-    requires place { (m : ℕ) × (p : Place) × IsPlaceIn T.cells store.old m hole.name p × (p.block.used ≡ false) }
-    requires offset { offset ≡ (node (T.cells store.old.tables).chain hole.name).offset }
-    requires size { hole.size ≡ (node (T.cells store.old.tables).chain hole.name).size }
-    requires next { Some next ≡ (node (T.cells store.old.tables).chain hole.name).after }
-    requires more { more ≡ (node (T.cells store.old.tables).chain next).size }
-    ensures place { (m : ℕ) (p : Place) (b : Block) (bs : List Block)
-        → IsPlaceIn T.cells store.old m hole.name p → p.block.used
-        ≡ false → p.after ≡ b ∷ bs → IsPlaceIn T.cells store.new m result (record {
-          before = p.before ++ b ∷ [];
-          block = free_block result p.block.size;
-          after = bs;
-        }) }
-    ensures bins { SameBins T.cells store.old store.new }
-    ensures accesses { Costs 14 16 store.old.accesses store.new.accesses }
-{
-    let whole = hole.size + more;
-    chain::coalesce_before(store, hole.name, next, whole);
-    chain::split(store, next, offset, whole, more)
-}
-
 // Calls the closure with the move of a block, where it gets another offset.
 pub(crate) fn report<NI: NodeIndex, F: FnMut(Move<NI>)>(
     moved: &mut F,
@@ -173,16 +138,18 @@ pub(crate) fn report<NI: NodeIndex, F: FnMut(Move<NI>)>(
 }
 
 // Slides the used blocks after a free block to the front, and coalesces it with the free ones, until it is the last
-// block: as such it is returned. The bins stay as they are.
+// block of the space.
 fn slide<T: Tables, F: FnMut(Move<T::Index>)>(
     store: &mut Store<T>,
-    mut hole: Hole,
+    name: u32,
+    size: u32,
     moved: &mut F,
-) -> Hole
-    requires place { (m : ℕ) × (p : Place) × IsPlaceIn T.cells store.old m hole.name p × (p.block.used ≡ false) }
-    requires size { hole.size ≡ (node (T.cells store.old.tables).chain hole.name).size }
+) -> Gap<T::Index>
+    requires place { (m : ℕ) × (p : Place) × IsPlaceIn T.cells store.old m name p × (p.block.used ≡ false) }
+    requires size { size ≡ (node (T.cells store.old.tables).chain name).size }
     requires callable { F.IsAlwaysCallable moved.old }
-    ensures place { (m : ℕ) (p : Place) → IsPlaceIn T.cells store.old m hole.name p → p.block.used ≡ false
+    ensures callable { F.IsAlwaysCallable moved.new }
+    ensures place { (m : ℕ) (p : Place) → IsPlaceIn T.cells store.old m name p → p.block.used ≡ false
         → IsPlaceIn T.cells store.new m result.name (record {
           before = p.before ++ live p.after;
           block = free_block result.name result.size;
@@ -191,24 +158,26 @@ fn slide<T: Tables, F: FnMut(Move<T::Index>)>(
         × (result.size ≡ p.block.size + sum (free_sizes p.after))
         × FoldsTo (IsCalledWith T.Index.NonMax.number (λ f range g. F.step f range tt g)) moved.old
         (moves (units p.before + p.block.size) (units p.before) p.after) moved.new
-        × (store.new.accesses ≤ store.old.accesses + 20 * length p.after + 1) }
+        × (store.new.accesses ≤ store.old.accesses + 7 * length p.after + 9) }
     ensures bins { SameBins T.cells store.old store.new }
-    ensures accesses_min { (m : ℕ) (p : Place) → IsPlaceIn T.cells store.old m hole.name p → p.block.used ≡ false
-        → store.old.accesses + 2 * length p.after + 1 ≤ store.new.accesses }
+    ensures accesses_min { (m : ℕ) (p : Place) → IsPlaceIn T.cells store.old m name p → p.block.used ≡ false
+        → store.old.accesses + 4 * length p.after + 7 ≤ store.new.accesses }
 {
     store.tables.shape();
-    while let Some(next) = chain::after(&store.tables, hole.name, &mut store.accesses) {
+    let mut gap = gap::open(&store.tables, name, size, &mut store.accesses);
+    let mut at = store.tables.after(name, &mut store.accesses);
+    while let Some(next) = linked(at) {
         let more = store.tables.size(next, &mut store.accesses);
+        at = store.tables.after(next, &mut store.accesses);
         if chain::is_used(&store.tables, next, &mut store.accesses) {
-            let to = store.tables.offset(hole.name, &mut store.accesses);
-            hole.name = pass(store, hole, to, next, more);
-            report(moved, next, to + hole.size, to, more);
+            report(moved, next, gap.offset + gap.size, gap.offset, more);
+            gap::pass(store, &mut gap, next, more);
         } else {
-            hole.size += more;
-            chain::coalesce_after(store, hole.name, next, hole.size);
+            gap::gather(store, &mut gap, next, more);
         }
     }
-    hole
+    gap::close(store, gap, at);
+    gap
 }
 
 impl<T: Tables> AllocatorOf<T> {
@@ -218,8 +187,8 @@ impl<T: Tables> AllocatorOf<T> {
     ///
     /// Every handle stays live, with its name and its size; only the public `offset` of a moved one is that of before,
     /// and `allocation_offset` returns the new one. The name of the free block at the end is left open. `moved` has to
-    /// be callable with any move: its contract may require nothing of it. It makes at most 24 accesses to the tables
-    /// for each block, and 512, and takes no memory.
+    /// be callable with any move: its contract may require nothing of it. It makes at most 10 accesses to the tables
+    /// for each block, and 384, and takes no memory.
     pub fn compact<F: FnMut(Move<T::Index>)>(&mut self, moved: &mut F)
         requires callable { F.IsAlwaysCallable moved.old }
         // The live blocks keep their names, their sizes and their order: so every handle stays live, with its size.
@@ -228,10 +197,10 @@ impl<T: Tables> AllocatorOf<T> {
         // The closure is called with the moves, in space order.
         ensures moved { FoldsTo (IsCalledWith T.Index.NonMax.number (λ f range g. F.step f range tt g)) moved.old
             (moves 0 0 self.old.blocks) moved.new }
-        // It makes at least 2 accesses to table cells for each block, and 267 more where a block is free; at most 24
-        // for each, and 512.
+        // It makes at least 2 accesses to table cells for each block, and 267 more where a block is free; at most 10
+        // for each, and 384.
         ensures accesses { Costs (2 * length self.old.blocks)
-            (24 * length self.old.blocks + 512) self.old.accesses self.new.accesses }
+            (10 * length self.old.blocks + 384) self.old.accesses self.new.accesses }
         ensures accesses_some { free_sizes self.old.blocks ≢ []
             → self.old.accesses + 2 * length self.old.blocks + 267 ≤ self.new.accesses }
         // The step as a whole: the live blocks, and after them one free block of all free units, alone in its bin.
@@ -253,7 +222,7 @@ impl<T: Tables> AllocatorOf<T> {
         };
         let size = self.store.tables.size(first, &mut self.store.accesses);
         bins::empty(&mut self.store);
-        let hole = slide(&mut self.store, Hole { name: first, size }, moved);
+        let hole = slide(&mut self.store, first, size, moved);
         let class = uint_to_float_round_down(hole.size);
         bins::push(&mut self.store, hole.name, class);
     }

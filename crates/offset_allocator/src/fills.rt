@@ -20,10 +20,19 @@ fn table_bytes<NI: NodeIndex>(nodes: u32) -> usize
     (8 + 5 * link) * nodes as usize
 }
 
-/// Allocates the bytes of all tables in one piece and frees them: a system that promises more memory than it has would
-/// grant each table, and end the program when they are written; the one request for all bytes it refuses.
+// Tables of fewer bytes than these are not probed.
+const PROBED: usize = 1 << 24;
+
+/// Allocates the bytes of all tables in one piece and frees them: a system that promises more memory than it has
+/// would grant each table, and end the program when they are written; the one request for all bytes it refuses. Small
+/// tables are not probed: many would have to be promised before one ends the program, and the C library, once a large
+/// block was freed, begins later ones anywhere in a page, so that each touches a page more.
 pub(crate) fn probe<NI: NodeIndex>(alloc: Global, nodes: u32) -> Result<(), AllocError> {
-    let _all: Vec<u8> = reserved(alloc, table_bytes::<NI>(nodes))?;
+    let bytes = table_bytes::<NI>(nodes);
+    if bytes < PROBED {
+        return Ok(());
+    }
+    let _all: Vec<u8> = reserved(alloc, bytes)?;
     Ok(())
 }
 

@@ -25,7 +25,9 @@ ghost use Rattle.offset_allocator.specs.Copies.{pieces, copied, all_copied, AreP
 
 use crate::AllocatorOf;
 use crate::accesses::Accesses;
-pub use crate::beside::{last_live_counted, live_after_counted, live_before_counted};
+pub use crate::beside::{
+    first_live_counted, last_live_counted, live_after_counted, live_before_counted,
+};
 pub use crate::blocks::next_block_counted;
 pub use crate::reports::{
     allocation_offset_counted, allocation_size_counted, is_live_counted, refusal_aligned_counted,

@@ -41,6 +41,7 @@ mod copies;
 mod copying;
 pub mod ext;
 mod fills;
+mod gap;
 mod gathering;
 mod handle;
 mod index;

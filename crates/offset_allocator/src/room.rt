@@ -4,7 +4,8 @@ ghost use Rattle.std.specs.Prelude.{◌≡◌, ◌≤◌, ◌<◌, ◌+◌, ◌*
 ghost use Rattle.offset_allocator.specs.Accesses.{Costs};
 ghost use Rattle.offset_allocator.specs.Chain.{IsSpace, blocks};
 ghost use Rattle.offset_allocator.specs.Classes.{value, up};
-ghost use Rattle.offset_allocator.specs.Room.{IsAtMost, IsCheapest, IsLeastCost, IsShrunk, IsWindow, end_of, end_room};
+ghost use Rattle.offset_allocator.specs.Room.{IsAtMost, IsCheapest, IsLeastCost, IsLess, IsShrunk, IsWindow};
+ghost use Rattle.offset_allocator.specs.Room.{end_of, end_room};
 ghost use Rattle.offset_allocator.specs.View.{Block, units};
 
 use crate::accesses::Accesses;
@@ -128,9 +129,9 @@ fn shrink<T: Tables>(tables: &T, want: u32, mut window: Window, count: &mut Acce
     window
 }
 
-// The cheaper of two runs, or the only one.
+// The cheaper of two runs, or the only one; the known one where they cost as much.
 fn cheaper(known: Option<Run>, run: Run) -> Run
-    ensures one { (result ≡ run) ⊎ (known ≡ Some result) }
+    ensures one { ((result ≡ run) × IfSome known (λ k. IsLess run.cost k.cost)) ⊎ (known ≡ Some result) }
     ensures cost { IsAtMost result.cost run.cost }
     ensures known { IfSome known (λ k. IsAtMost result.cost k.cost) }
 {
@@ -147,9 +148,10 @@ fn cheaper(known: Option<Run>, run: Run) -> Run
     }
 }
 
-// The cheapest run with at least `want` free units. The walk goes back over the blocks from the last one on; the window
-// has those that were met, without the last ones, which are no longer needed: from each free block on, the shortest run
-// with enough free units is the cheapest, and ends no later than that of the free block after.
+// The cheapest run with at least `want` free units, of several the one that begins last. The walk goes back over the
+// blocks from the last one on; the window has those that were met, without the last ones, which are no longer needed:
+// from each free block on, the shortest run with enough free units is the cheapest, and ends no later than that of the
+// free block after.
 pub(crate) fn cheapest<T: Tables>(
     tables: &T,
     last: u32,

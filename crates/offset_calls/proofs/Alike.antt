@@ -16,8 +16,21 @@ use Rattle.offset_script.proofs.Pairs.{AreAllAgreed, same_tests}
 use Rattle.offset_script.proofs.Tests.{same_and}
 use Rattle.offset_script.specs.Machine.{is_taken_before}
 use Rattle.offset_calls.specs.Calls.{answered}
+use Rattle.offset_script.proofs.Members.{in_parts}
+use Rattle.offset_calls.specs.declared.calls.LiveRange.{LiveRange}
+use Rattle.offset_calls.specs.Calls.{Beside, beside}
+use Rattle.offset_calls.specs.Ending.{first_live, last_live, live_before, live_after}
+use Rattle.offset_calls.specs.Histories.{raise_range}
+use Rattle.offset_calls.proofs.EndPairs.{same_can, retracted_alike, same_relocated, IsSent, AreSent, sent_first, sent_last}
+use Rattle.offset_calls.proofs.Common.{option_map}
 use Rattle.offset_calls.specs.Tight.{holds, better, holding_place, request_tight, allocate_tight, lack, reason_held}
 use Rattle.offset_calls.proofs.Common.{Some, Nodes, and_parts, is_short_of, total}
+use Rattle.offset_allocator.specs.{Classes.value, Classes.up, declared.room.RoomCost.RoomCost}
+use Rattle.offset_script.proofs.{Labels.map_three, Pairs.same_sizes}
+use Rattle.offset_calls.specs.Calls.{make_room, remakes, Made_room, Room_costs}
+use Rattle.offset_calls.specs.Room.{Split, cheapest, slid}
+use Rattle.offset_calls.specs.Room as room
+use Rattle.offset_calls.proofs.Splits.{IsSameSplit, no_split, same_split, same_cost, same_cheapest, same_room_cost}
 use Rattle.offset_script.specs.Machine as machine
 use Rattle.offset_calls.specs.declared.calls.Call.TheVariants as call
 
@@ -278,6 +291,55 @@ module _ (r : ℕ → ℕ) (g d : ℕ) (back : (k : ℕ) → r (number_with g d 
       (some_place _ _ (held_places n align))
       ∙ ap₂ (λ m f. if is_short_of k t then Some Nodes else if is_some (holding_place n align 0 t.blocks) then None else Some (lack n m f)) units free
 
+  -- making room
+  runs_same : (want : ℕ) → IsSameSplit a.pairs (cheapest want s.blocks) (cheapest want t.blocks)
+  runs_same want = subst₂ (λ x y. IsSameSplit a.pairs (cheapest want x) (cheapest want y)) (sym a.left_blocks) (sym a.right_blocks) (same_cheapest want a.pairs)
+
+  slid_same : (f k b : List Pair) → a.pairs ≡ f ++ (k ++ b) → AreSame r g d
+      (remakes s (slid (stamp_of_call s) (record { front = lefts f; run = lefts k; back = lefts b }))
+      (Made_room (Some (room.cost_of (lefts k))) (moves (total (lefts f)) (total (lefts f)) (lefts k))))
+      (remakes t (slid (stamp_of_call t) (record { front = rights f; run = rights k; back = rights b }))
+      (Made_room (Some (room.cost_of (rights k))) (moves (total (rights f)) (total (rights f)) (rights k))))
+  slid_same f k b e =
+      let new = pair (sum (free_sizes (lefts k))) (Frees (2 * (s.calls + 1) + 1) (2 * (t.calls + 1) + 1)) in
+      record {
+        reply = ap₂ (λ c l. Made_room (Some c) l) (same_cost k)
+            (moves_same (total (lefts f)) (total (lefts f)) k (λ q i. subst (IsIn q) (sym e) (in_right q f (k ++ b) (in_left q k b i)))
+            ∙ ap (λ n. map (raise_move g d) (moves n n (rights k))) (same_total f));
+        state = (same_leaves r d s t a machine.Gone machine.Gone (f ++ (live_pairs k ++ (new ∷ b))) _ _ refl
+            (ap₂ (λ x y. lefts f ++ (x ++ y)) (sym (lefts_live k)) refl ∙ sym (map_three left f (live_pairs k) (new ∷ b)))
+            (ap₂ (λ x (n : ℕ). rights f ++ (x ++ (machine.block n (machine.Free (stamp_of_call t)) ∷ rights b))) (sym (rights_live k)) (ap sum (sym (same_sizes k)))
+            ∙ sym (map_three right f (live_pairs k) (new ∷ b)))
+            (λ q i. elim (in_append q f _ i) [
+              | inl h ↦ inl (subst (IsIn q) (sym e) (in_left q f (k ++ b) h))
+              | inr h ↦ elim (in_append q (live_pairs k) (new ∷ b) h) [
+                | inl z ↦ inl (subst (IsIn q) (sym e) (in_right q f (k ++ b) (in_left q k b (in_live q k z))))
+                | inr (inl z) ↦ inr (fresh_kinds s.grants t.grants s.calls t.calls q (inr (inr (ap (λ (y : Pair). y.kind) z))))
+                | inr (inr z) ↦ inl (subst (IsIn q) (sym e) (in_right q f (k ++ b) (in_right q k b z)))
+              ]
+            ])).state;
+      }
+
+  made_same : (o o' : Option Split) → IsSameSplit a.pairs o o' → AreSame r g d (make_room s o) (make_room t o')
+  made_same None None no_split = quiet _ _ refl
+  made_same o o' (same_split f k b e) = if_same (AreSame r g d) _ _ _ _ _ _ (ap (λ (c : RoomCost). nat_eq c.ranges 0) (same_cost k))
+      (λ z. quiet _ _ (ap (λ c. Made_room (Some c) []) (same_cost k))) (slid_same f k b e)
+
+  -- live ranges beside one another
+  sent_kind : (k : Kind) → (is_free (left_tag k) ≡ false → number (left_tag k) ≡ number_with g d (number (right_tag k))) → IsSent (number_with g d) k
+  sent_kind (Lives i j) h = h refl
+  sent_kind (Frees x y) h = tt
+
+  sent_pairs : AreSent (number_with g d) a.pairs
+  sent_pairs q i = sent_kind q.kind (number_back q i)
+
+  beside_same : (f f' : machine.Place → Option LiveRange)
+      → ((xs : List Pair) (q : Pair) (ys : List Pair) → ((x : Pair) → IsIn x xs ⊎ IsIn x ys → IsIn x a.pairs)
+      → f (record { before = lefts xs; block = left q; after = lefts ys }) ≡ option_map (raise_range g d) (f' (record { before = rights xs; block = right q; after = rights ys })))
+      → (o o' : Option machine.Place) → IsSamePlace (λ q. Unit {0}) a.pairs o o' → beside f o ≡ raise g d (beside f' o')
+  beside_same f f' same None None neither = refl
+  beside_same f f' same o o' (both xs q ys e u) = ap Beside (same xs q ys (λ x i. subst (IsIn x) (sym e) (in_parts x xs q ys i)))
+
   pub same_call : (c : Call) → AreSame r g d (step c s) (step (renumber r c) t)
   same_call (call.Command c) = let o = alike_step r d c s t a in record { reply = ap Answer o.answer; state = o.state }
   same_call (call.Shrink k n) = resize_same k n _ _ _ _ refl (same_placed r d s t a k)
@@ -290,6 +352,19 @@ module _ (r : ℕ → ℕ) (g d : ℕ) (back : (k : ℕ) → r (number_with g d 
   same_call (call.TightAligned n align) = tight_same n align
   same_call (call.RefusalTight n) = quiet _ _ (ap Refused_for (held_reason 1 n 1))
   same_call (call.RefusalTightAligned n align) = quiet _ _ (ap Refused_for (held_reason (if nat_le align 1 then 1 else 2) n align))
+  same_call (call.MakeRoom n) = made_same _ _ (runs_same (value (up n)))
+  same_call (call.RoomCost n) = quiet _ _ (ap Room_costs (same_room_cost a.pairs _ _ (runs_same (value (up n)))))
+  same_call (call.Relocate k) = let o = same_relocated r d s t a _ _ (same_placed r d s t a k) in record { reply = ap Answer o.answer; state = o.state }
+  same_call (call.Retract n) = if_same (AreSame r g d) _ _ _ _ _ _ (same_can r d s t a n) (λ e. record { reply = refl; state = retracted_alike r d s t a n }) (quiet _ _ refl)
+  same_call call.First = quiet _ _ (ap Beside (ap (first_live 0) a.left_blocks ∙ sent_first (number_with g d) 0 a.pairs sent_pairs
+      ∙ ap (λ bs. option_map (raise_range g d) (first_live 0 bs)) (sym a.right_blocks)))
+  same_call call.Last = quiet _ _ (ap Beside (ap (last_live 0) a.left_blocks ∙ sent_last (number_with g d) 0 a.pairs sent_pairs
+      ∙ ap (λ bs. option_map (raise_range g d) (last_live 0 bs)) (sym a.right_blocks)))
+  same_call (call.Before k) = quiet _ _ (beside_same live_before live_before
+      (λ xs q ys i. sent_last (number_with g d) 0 xs (λ x j. sent_pairs x (i x (inl j)))) _ _ (same_placed r d s t a k))
+  same_call (call.After k) = quiet _ _ (beside_same live_after live_after
+      (λ xs q ys i. sent_first (number_with g d) (total (lefts xs) + q.size) ys (λ x j. sent_pairs x (i x (inr j)))
+      ∙ ap (λ m. option_map (raise_range g d) (first_live (m + q.size) (rights ys))) (same_total xs)) _ _ (same_placed r d s t a k))
   same_call (call.RefusalAligned n align) = quiet _ _ (ap₂ (λ x y. Refused_for (if nat_le align 1 then x else y)) (reason_same 1 n) (reason_same 2 (n + align - 1)))
 
 -- alike states give the same replies to any calls

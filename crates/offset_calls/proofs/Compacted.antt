@@ -15,11 +15,11 @@ use Rattle.offset_script.specs.Machine as machine
 
 -- lists of live blocks
 
-count_live : (t : Tag) (bs : List machine.Block) → count t (live bs) ≤ count t bs
+pub count_live : (t : Tag) (bs : List machine.Block) → count t (live bs) ≤ count t bs
 count_live t [] = omega arith
 count_live t (b ∷ bs) = search (arith, (count_live t bs), not)
 
-length_live : (bs : List machine.Block) → length (live bs) + length (free_sizes bs) ≡ length bs
+pub length_live : (bs : List machine.Block) → length (live bs) + length (free_sizes bs) ≡ length bs
 length_live [] = refl
 length_live (b ∷ bs) = search (arith, (length_live bs), not, length)
 
@@ -27,7 +27,7 @@ length_live (b ∷ bs) = search (arith, (length_live bs), not, length)
 apart_cons : (b : machine.Block) (bs : List machine.Block) → is_free b.tag ≡ false → AreApart bs → AreApart (b ∷ bs)
 apart_cons b bs e a = (ap (λ x. x && starts_free bs) e, a)
 
-apart_live : (bs : List machine.Block) → AreApart (live bs)
+pub apart_live : (bs : List machine.Block) → AreApart (live bs)
 apart_live [] = tt
 apart_live (b ∷ bs) = search (arith, (apart_live bs), not, apart_cons)
 
@@ -35,7 +35,7 @@ ends_cons : (b : machine.Block) (bs : List machine.Block) → is_free b.tag ≡ 
 ends_cons b [] e f = e
 ends_cons b (c ∷ bs) e f = f
 
-ends_of_live : (bs : List machine.Block) → ends_free (live bs) ≡ false
+pub ends_of_live : (bs : List machine.Block) → ends_free (live bs) ≡ false
 ends_of_live [] = refl
 ends_of_live (b ∷ bs) = search (arith, (ends_of_live bs), ends_free, not, ends_cons)
 
@@ -48,15 +48,15 @@ pub well_compact : (s : State) → IsWell s → IsWell (compact s).state
 well_compact s w = well_gathered s w (free_sizes s.blocks) refl
 
 -- labels of live blocks
-abbrev live_labels : List Label → List Label
+abbrev pub live_labels : List Label → List Label
 live_labels [] = []
 live_labels (l ∷ ls) = if is_free l.tag then live_labels ls else l ∷ live_labels ls
 
-live_names : (ls : List Label) → names (live_labels ls) ≡ named_moves.live (names ls)
+pub live_names : (ls : List Label) → names (live_labels ls) ≡ named_moves.live (names ls)
 live_names [] = refl
 live_names (l ∷ ls) = search (arith, (live_names ls), not)
 
-live_tags : (ls : List Label) → tags (live_labels ls) ≡ live (tags ls)
+pub live_tags : (ls : List Label) → tags (live_labels ls) ≡ live (tags ls)
 live_tags [] = refl
 live_tags (l ∷ ls) = search (arith, (live_tags ls), not)
 
@@ -64,7 +64,7 @@ no_number : (k : ℕ) (t : Tag) → is_free t ≡ true → has_number k t ≡ fa
 no_number k (Live j) e = absurd (false≢true e)
 no_number k (Free s) e = refl
 
-live_name_of : (k : ℕ) (ls : List Label) → name_of k (live_labels ls) ≡ name_of k ls
+pub live_name_of : (k : ℕ) (ls : List Label) → name_of k (live_labels ls) ≡ name_of k ls
 live_name_of k [] = refl
 live_name_of k (l ∷ ls) = search (arith, (live_name_of k ls), name_of, no_number)
 
@@ -200,7 +200,7 @@ moves_agree handles from to (l ∷ ls) ms h a = go l.tag refl (nat_eq from to) r
         ∙ sym (ap₂ (plain_step from to l ls) t e)
 
 module _ (v : View) (handles : List (Option Grant)) (s : State) (w : IsWellFormed v) (ws : IsWell s) (g : HasBlocksOf v (kept_name handles) s) where
-  one_number : (l : Label) → IsIn l g.labels → (k : ℕ) → l.tag ≡ Live k → (j : ℕ) → kept_name handles j ≡ Some l.name → j ≡ k
+  pub one_number : (l : Label) → IsIn l g.labels → (k : ℕ) → l.tag ≡ Live k → (j : ℕ) → kept_name handles j ≡ Some l.name → j ≡ k
   one_number l i k t j e = only_number j k g.labels l (subst (λ bs. count_named l.name bs ≤ 1) g.view (w.distinct l.name)) (sym (g.handles j) ∙ e) i t
 
   pub moves_are : (ms : List Move) → AreNumbered handles (named_moves.moves 0 0 v.blocks) ms → ms ≡ moves 0 0 s.blocks

@@ -19,6 +19,16 @@ use Rattle.offset_calls.specs.Steps.{IsReasonTight, TakesTight}
 use Rattle.offset_calls.specs.Tight.{holding_place, request_tight, allocate_tight, lack, reason_held, reason_tight}
 use Rattle.offset_calls.specs.Calls.{answered}
 use Rattle.offset_calls.proofs.{Held.held_at, Filled.held_spot, Filled.held_there, Filled.there, Filled.tight_agrees}
+use Rattle.offset_calls.specs.{Calls.Room_costs, Room.cheapest}
+use Rattle.offset_calls.proofs.Rooms.{well_room, room_cost_is, room_taken}
+use Rattle.offset_allocator.specs.{Beside.live_before, Beside.live_after, Relocating.Relocates, Retracting.Retracts, Retracting.Cuts}
+use Rattle.offset_calls.specs.Calls.{Beside, beside, remakes}
+use Rattle.offset_calls.specs.Ending.{begins_before, relocate, can_retract, retracted}
+use Rattle.offset_calls.specs.Ending as plain
+use Rattle.offset_calls.specs.Steps.{Finds}
+use Rattle.offset_calls.proofs.Common.{IsKept, stamp_of_call}
+use Rattle.offset_calls.proofs.{Beside.first_same, Beside.last_same, Beside.before_same, Beside.after_same, Relocated.relocated, Retracted.well_retract, Retracted.can_too, Retracted.can_there, Retracted.cut_agrees}
+use Rattle.offset_script.specs.declared.scripts.Command.TheVariants as command
 use Rattle.offset_calls.proofs.Compacted.{well_compact, compact_agrees, moves_are}
 use Rattle.offset_calls.proofs.Resized.{well_resized, found, spot, size_found, can_shrink_is, shrink_can, can_grow_is, grow_can, resized_agrees}
 use Rattle.offset_allocator.specs.View as named
@@ -109,6 +119,12 @@ well_tight s w n align = cond_both (nat_le align 1) _ _ (λ (o : machine.Outcome
     no_padding (suc zero) o l = omega arith
     no_padding (suc (suc k)) o l = absurd (omega arith)
 
+-- a second grant
+well_relocate : (s : State) → IsWell s → (o : Option machine.Place) → IsWell (relocate s o).state
+well_relocate s w None = well_quiet s w machine.Gone
+well_relocate s w (Some p) = cond_both (begins_before (total p.before) (machine.allocate p.block.size s).answer) _ _ (λ (o : machine.Outcome). IsWell o.state)
+    (λ e. well_step (command.Alloc p.block.size) s w) (λ e. well_quiet s w machine.Refused)
+
 pub well_call : (c : Call) (s : State) → IsWell s → IsWell (step c s).state
 well_call (call.Command c) s w = well_step c s w
 well_call (call.Shrink k n) s w = well_resize s w k n (can_shrink n s) (λ p d c. shrink_fits s n p d c) (machine.place_of k s.blocks) refl
@@ -116,6 +132,9 @@ well_call (call.Grow k n) s w = well_resize s w k n (can_grow n) (λ p d c. grow
 well_call call.Compact s w = well_compact s w
 well_call (call.Tight n) s w = well_tight s w n 1
 well_call (call.TightAligned n align) s w = well_tight s w n align
+well_call (call.MakeRoom n) s w = well_room s w (value (up n)) (cheapest (value (up n)) s.blocks) refl
+well_call (call.Relocate k) s w = well_relocate s w (machine.place_of k s.blocks)
+well_call (call.Retract n) s w = well_retract s w n
 well_call other s w = well_quiet s w machine.Gone
 
 pub well_calls : (cs : List Call) (s : State) → IsWell s → IsWell (after cs s)
@@ -351,6 +370,40 @@ module _ (v w : View) (hs left : List (Option Grant)) (r : Reply) (s : State) (f
         ∙ sym (ap (λ b. if b then reason 1 n s else reason 2 (n + align - 1) s) (le-leb align 1 l))
   ]
 
+  -- calls at the end of the space
+  relocate_step : (k : ℕ) (o : Option ℕ) → kept_name hs k ≡ o
+      → IfNamed o (λ x. (g : Option Grant) × (a : machine.Answer) × Relocates x v w g × IsKept g hs left a × (r ≡ Answer a)) (Stays v hs w left × (r ≡ Answer machine.Gone))
+      → Follows (step (call.Relocate k) s) w left r
+  relocate_step k None e t = quiet _ (Answer machine.Gone) (ap (λ o. answered (relocate s o)) (gone_there k e)) t.0 t.1
+  relocate_step k (Some x) e t = relocated v w hs left r s formed ws p k x e t.0 t.1 t.2 t.3 t.4
+
+  retract_if : (n : ℕ) (b : Bool) → can_retract n s.blocks ≡ b
+      → step (call.Retract n) s ≡ (if b then remakes s (retracted n (stamp_of_call s) s.blocks) Resized else replies_only s (Answer machine.Refused))
+  retract_if n b e = ap (λ b. if b then remakes s (retracted n (stamp_of_call s) s.blocks) Resized else replies_only s (Answer machine.Refused)) e
+
+  cut_step : (n : ℕ) → 1 ≤ n → Cuts n v w → left ≡ hs → r ≡ Resized → Follows (step (call.Retract n) s) w left r
+  cut_step zero some t f is = absurd (omega arith)
+  cut_step (suc n) some t f is =
+      let agrees = cut_agrees v (kept_name hs) s p.formed ws p.agrees (suc n) w formed t machine.Freed in
+      subst (λ (o : Outcome). Follows o w left r) (sym (retract_if (suc n) true (can_there v (kept_name hs) s p.formed ws p.agrees (suc n) w formed t)))
+      (is, subst (λ l. IsAtState w l (remakes s (retracted (suc n) (stamp_of_call s) s.blocks) Resized).state) (sym f) (record { formed = formed; agrees = agrees; grants = p.grants }))
+
+  retract_step : (n : ℕ) (done : Bool) → Retracts n v w done → left ≡ hs → r ≡ (if done then Resized else Answer machine.Refused) → Follows (step (call.Retract n) s) w left r
+  retract_step n true (inl t) f is = stays _ Resized (ap (λ m. step (call.Retract m) s) t.0 ∙ retract_if 0 true (le-leb 0 (machine.free_end s.blocks) (omega arith))) t.1 f is
+  retract_step n true (inr t) f is = cut_step n t.0 t.1 f is
+  retract_step n false t f is = stays _ (Answer machine.Refused)
+      (retract_if n false (not_true _ (λ e. t.1 (can_too v (kept_name hs) s p.formed ws p.agrees n t.0 e)))) t.2 f is
+
+  before_step : (k : ℕ) (o : Option ℕ) → kept_name hs k ≡ o → IfNamed o (λ x. Finds hs (live_before x v) r) (r ≡ Answer machine.Gone)
+      → r ≡ beside plain.live_before (machine.place_of k s.blocks)
+  before_step k None e t = t ∙ sym (ap (beside plain.live_before) (gone_there k e))
+  before_step k (Some x) e t = t.2 ∙ ap Beside (before_same v hs s p.formed ws p.agrees k x e t.0 t.1) ∙ sym (ap (beside plain.live_before) (at k x 0 e))
+
+  after_step : (k : ℕ) (o : Option ℕ) → kept_name hs k ≡ o → IfNamed o (λ x. Finds hs (live_after x v) r) (r ≡ Answer machine.Gone)
+      → r ≡ beside plain.live_after (machine.place_of k s.blocks)
+  after_step k None e t = t ∙ sym (ap (beside plain.live_after) (gone_there k e))
+  after_step k (Some x) e t = t.2 ∙ ap Beside (after_same v hs s p.formed ws p.agrees k x e t.0 t.1) ∙ sym (ap (beside plain.live_after) (at k x 0 e))
+
   -- the plain machine follows each call
   pub follows : (c : Call) → IsTrue (is_valid c) → Takes c v hs w left r → Follows (step c s) w left r
   follows (call.Command c) valid t = let f = script.follows v w hs left t.0 s formed ws p c valid t.1 in (t.2 ∙ ap Answer f.0, f.1)
@@ -368,3 +421,11 @@ module _ (v w : View) (hs left : List (Option Grant)) (r : Reply) (s : State) (f
   follows (call.TightAligned n align) valid t = tight_step n align (not_zero align (inr (inl valid))) t
   follows (call.RefusalTight n) valid t = quiet _ _ refl t.0 (tight_reason_step n 1 (omega arith) t.1.0 t.1.1 t.1.2)
   follows (call.RefusalTightAligned n align) valid t = quiet _ _ refl t.0 (tight_reason_step n align (not_zero align (inr (inl valid))) t.1.0 t.1.1 t.1.2)
+  follows (call.MakeRoom n) valid t = room_taken v w hs left r s formed ws p t.1 (value (up n)) t.0
+  follows (call.RoomCost n) valid t = quiet _ _ refl t.0 (t.1.2 ∙ ap Room_costs (room_cost_is v w hs left r s formed ws p t.0.1 (value (up n)) t.1.0 t.1.1))
+  follows (call.Relocate k) valid t = relocate_step k (kept_name hs k) refl t
+  follows (call.Retract n) valid t = retract_step n t.0 t.1 t.2 t.3
+  follows call.First valid t = quiet _ _ refl t.0 (t.1.2 ∙ ap Beside (first_same v hs s p.formed ws p.agrees t.1.0 t.1.1))
+  follows call.Last valid t = quiet _ _ refl t.0 (t.1.2 ∙ ap Beside (last_same v hs s p.formed ws p.agrees t.1.0 t.1.1))
+  follows (call.Before k) valid t = quiet _ _ refl t.0 (before_step k (kept_name hs k) refl t.1)
+  follows (call.After k) valid t = quiet _ _ refl t.0 (after_step k (kept_name hs k) refl t.1)

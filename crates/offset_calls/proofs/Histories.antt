@@ -4,6 +4,11 @@ use Rattle.offset_calls.proofs.Common.{total, Call, Reply, Answer, Compacted, af
 use Rattle.offset_calls.proofs.{Along.replies-append, Alike.same_replies, Alike.number_back_again, Followed.well_call, Followed.well_calls}
 use Rattle.offset_script.proofs.{Fresh.IsOneFree, Fresh.one_free, Fresh.alike_fresh, Fresh.raise_none, Fresh.renumber_same, Members.map_same, Nests.AreTraceless, Nests.traceless, Nests.alike_after}
 use Rattle.offset_script.proofs.{Nests.number_without_none, Similar.similar_refl, Lists.count, Lists.hit_self, Well.IsWell, Well.well_start, Well.well_after}
+use Rattle.offset_calls.specs.Calls.{Made_room}
+use Rattle.offset_calls.proofs.Common.{Option, Some, None, option_map}
+use Rattle.offset_calls.specs.declared.calls.LiveRange.{LiveRange}
+use Rattle.offset_calls.specs.Calls.{Beside}
+use Rattle.offset_calls.specs.Histories.{raise_range}
 use Rattle.offset_script.specs.declared.scripts.Command.TheVariants as command
 use Rattle.offset_script.specs.Machine as machine
 use Rattle.offset_calls.specs.declared.calls.Call.TheVariants as call
@@ -19,7 +24,7 @@ fresh_law size limit h cs none =
     (alike_fresh s f.0 f.1 (s.grants - 0) (omega arith) f.2 (w.old (Free f.1) (let c = ap (count (Free f.1)) f.2 in let h = hit_self (Free f.1) in omega arith)))
 
 -- what leaves no trace
-traceless_replies : (s t : State) → IsWell s → IsWell t → AreTraceless s t → (next : List Call) → replies next t ≡ replies_renumbered s t next
+pub traceless_replies : (s t : State) → IsWell s → IsWell t → AreTraceless s t → (next : List Call) → replies next t ≡ replies_renumbered s t next
 traceless_replies s t w v m next = search (arith, same_replies, number_back_again, alike_after)
 
 pub nest_law : (size limit : ℕ) → 2 ≤ limit → (cs : List Call) (nest : List Command) → let s = after cs (start size limit) in
@@ -33,6 +38,13 @@ with_none g k = search (arith, cases_lt, lt-leb, le-leb)
 raised_none : (g : ℕ) (r : Reply) → raise g 0 r ≡ r
 raised_none g (Answer a) = ap Answer (raise_none a)
 raised_none g (Compacted ms) = ap Compacted (map_same (raise_move g 0) (λ m. ap (λ (k : ℕ). record { number = k; from = m.from; to = m.to; size = m.size }) (with_none g m.number)) ms)
+raised_none g (Made_room c ms) =
+    ap (Made_room c) (map_same (raise_move g 0) (λ m. ap (λ (k : ℕ). record { number = k; from = m.from; to = m.to; size = m.size }) (with_none g m.number)) ms)
+raised_none g (Beside r) = ap Beside (same_range r)
+  where
+    same_range : (r : Option LiveRange) → option_map (raise_range g 0) r ≡ r
+    same_range None = refl
+    same_range (Some r) = ap (λ k. Some (record { number = k; offset = r.offset })) (with_none g r.number)
 raised_none g other = refl
 
 renumbered_none : (g : ℕ) (c : Call) → renumber (number_without g 0) c ≡ c
@@ -40,9 +52,12 @@ renumbered_none g (call.Command c) = ap call.Command (renumber_same (number_with
 renumbered_none g (call.Shrink k n) = ap (λ k. call.Shrink k n) (number_without_none g k)
 renumbered_none g (call.Grow k n) = ap (λ k. call.Grow k n) (number_without_none g k)
 renumbered_none g (call.Offset k) = ap call.Offset (number_without_none g k)
+renumbered_none g (call.Relocate k) = ap call.Relocate (number_without_none g k)
+renumbered_none g (call.Before k) = ap call.Before (number_without_none g k)
+renumbered_none g (call.After k) = ap call.After (number_without_none g k)
 renumbered_none g other = refl
 
-as_before : (g j : ℕ) (cs : List Call) (s : State) → j ≡ 0 → map (raise g j) (replies (map (renumber (number_without g j)) cs) s) ≡ replies cs s
+pub as_before : (g j : ℕ) (cs : List Call) (s : State) → j ≡ 0 → map (raise g j) (replies (map (renumber (number_without g j)) cs) s) ≡ replies cs s
 as_before g j cs s e = rw e (map_same (raise g 0) (raised_none g) _ ∙ ap (λ l. replies l s) (map_same (renumber (number_without g 0)) (renumbered_none g) cs))
 
 -- a question only counts as a call
@@ -56,6 +71,11 @@ counts_only (call.Refusal n) s h = refl
 counts_only (call.RefusalAligned n align) s h = refl
 counts_only (call.RefusalTight n) s h = refl
 counts_only (call.RefusalTightAligned n align) s h = refl
+counts_only (call.RoomCost n) s h = refl
+counts_only call.First s h = refl
+counts_only call.Last s h = refl
+counts_only (call.Before k) s h = refl
+counts_only (call.After k) s h = refl
 counts_only other s h = absurd h
 
 pub question_law : (size limit : ℕ) → 2 ≤ limit → (before : List Call) (q : Call) (rest : List Call) → IsQuestion q

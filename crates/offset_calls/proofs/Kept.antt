@@ -6,6 +6,7 @@ use Rattle.std.specs.List.{slice_index}
 use Rattle.std.proofs.lemmas.List.{get_or_default, get_or-set_other, get_or-set_same, set_past, length-set}
 use Rattle.offset_allocator.specs.{Relations.Splits, Relations.Allocates, Relations.Aligns}
 use Rattle.offset_allocator.specs.Tight.{AlignsTight}
+use Rattle.offset_allocator.specs.Relocating.{Relocates}
 use Rattle.offset_allocator.proofs.{Holding.grants_tight, Powers.not_zero, Ranges.split_grants}
 use Rattle.offset_script.specs.Steps.{AreLive}
 use Rattle.offset_script.proofs.Simulation.{kept_push}
@@ -112,6 +113,10 @@ module _ (v w : View) (hs left : List (Option Grant)) (before : IsWellFormed v) 
   next_tight n align some a None t k = next_same hs left k.0
   next_tight n align some a (Some h) t k = inr (h, k.0, λ j e. let none = (grants_tight n align v w before some (Some h) t).not_live in let kept = live j h.name e in cc)
 
+  next_relocated : (x : ℕ) (a : machine.Answer) (r : Option Grant) → Relocates x v w r → IsKept r hs left a → IsNext hs left
+  next_relocated x a None t k = next_same hs left k.0
+  next_relocated x a (Some h) t k = next_granted _ _ _ h t.0.1 k.0
+
   -- what is so where a name is kept, and where none is
   either : (o : Option ℕ) (P : ℕ → Type 0) (Q A : Type 0) → ((x : ℕ) → P x → A) → (Q → A) → IfNamed o P Q → A
   either None P Q A f g t = g t
@@ -139,6 +144,14 @@ module _ (v w : View) (hs left : List (Option Grant)) (before : IsWellFormed v) 
   next_call (call.TightAligned n align) r valid t = next_tight n align (not_zero align (inr (inl valid))) t.1 t.0 t.2 t.3
   next_call (call.RefusalTight n) r valid t = next_same hs left t.0.1
   next_call (call.RefusalTightAligned n align) r valid t = next_same hs left t.0.1
+  next_call (call.MakeRoom n) r valid t = next_same hs left t.1
+  next_call (call.RoomCost n) r valid t = next_same hs left t.0.1
+  next_call (call.Relocate k) r valid t = either (kept_name hs k) _ _ _ (λ x u. next_relocated x u.1 u.0 u.2 u.3) (λ u. next_same hs left u.0.1) t
+  next_call (call.Retract n) r valid t = next_same hs left t.2
+  next_call call.First r valid t = next_same hs left t.0.1
+  next_call call.Last r valid t = next_same hs left t.0.1
+  next_call (call.Before k) r valid t = next_same hs left t.0.1
+  next_call (call.After k) r valid t = next_same hs left t.0.1
 
 -- the numbers that were read stay right
 pub numbers_next : (hs left : List (Option Grant)) (read : ℕ) (numbers : List ℕ) → IsNext hs left → AreNumbers hs read numbers → AreNumbers left read numbers

@@ -1,5 +1,11 @@
+mod Beside
+mod EndPairs
+mod EndServed
 mod Kept
 mod Numbering
+mod Relocated
+mod Retracted
+mod Undone
 pub mod Alike
 pub mod Along
 pub mod Common
@@ -9,5 +15,9 @@ pub mod Followed
 pub mod Held
 pub mod Histories
 pub mod Resized
+pub mod Rooms
 pub mod Rows
+pub mod Runs
+pub mod Slid
+pub mod Splits
 pub mod Tickets

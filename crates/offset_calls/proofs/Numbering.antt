@@ -133,7 +133,7 @@ kept-append : (handles : List (Option Grant)) (ps qs : List Placed) → AreAllKe
 kept-append handles [] qs a b = b
 kept-append handles (p ∷ ps) qs a b = (a.0, kept-append handles ps qs a.1 b)
 
-kept-reverse : (handles : List (Option Grant)) (ps : List Placed) → AreAllKept handles ps → AreAllKept handles (reverse ps)
+pub kept-reverse : (handles : List (Option Grant)) (ps : List Placed) → AreAllKept handles ps → AreAllKept handles (reverse ps)
 kept-reverse handles [] a = tt
 kept-reverse handles (p ∷ ps) a = subst (AreAllKept handles) (sym (reverse-append (p ∷ []) ps)) (kept-append handles (reverse ps) (p ∷ []) (kept-reverse handles ps a.1) (a.0, tt))
 
@@ -141,7 +141,7 @@ kept-reverse handles (p ∷ ps) a = subst (AreAllKept handles) (sym (reverse-app
 abbrev grant_if : Bool → ℕ → ℕ → Option Grant
 grant_if u x o = if u then Some (record { name = x; offset = o }) else None
 
-kept-placed : (handles : List (Option Grant)) (o : ℕ) (bs : List Block) → AllByRecursion (λ (b : Block). b.used ≡ true → (k : ℕ) × (kept_name handles k ≡ Some b.name)) bs
+pub kept-placed : (handles : List (Option Grant)) (o : ℕ) (bs : List Block) → AllByRecursion (λ (b : Block). b.used ≡ true → (k : ℕ) × (kept_name handles k ≡ Some b.name)) bs
     → AreAllKept handles (placed o bs)
 kept-placed handles o [] a = tt
 kept-placed handles o (b ∷ bs) a = (go b.used refl, kept-placed handles (o + b.size) bs a.1)

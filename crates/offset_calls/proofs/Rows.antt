@@ -11,8 +11,21 @@ use Rattle.offset_allocator.specs.View.{padding_to}
 use Rattle.std.specs.Option.{option_or}
 use Rattle.offset_script.proofs.Commute.{same_granted}
 use Rattle.offset_calls.specs.Calls.{answered}
+use Rattle.offset_script.proofs.Members.{in_parts}
+use Rattle.offset_calls.specs.declared.calls.LiveRange.{LiveRange}
+use Rattle.offset_calls.specs.Calls.{Beside, beside}
+use Rattle.offset_calls.specs.Ending.{first_live, last_live, live_before, live_after}
+use Rattle.offset_calls.specs.Histories.{relocates}
+use Rattle.offset_calls.proofs.EndPairs.{same_free_end, IsSent, AreSent, sent, sent_first, sent_last}
+use Rattle.offset_calls.proofs.Common.{◌⊎◌, false, option_map, subst}
 use Rattle.offset_calls.specs.Tight.{holds, better, holding_place, request_tight, allocate_tight, lack, reason_held}
 use Rattle.offset_calls.proofs.Common.{Some, is_some, true≢false, false≢true, Nodes, total, free_sizes, chosen_place}
+use Rattle.offset_calls.proofs.Common.{◌++◌, subst}
+use Rattle.offset_allocator.specs.{Classes.value, Classes.up, declared.room.RoomCost.RoomCost}
+use Rattle.offset_script.proofs.Members.{in_left, in_right}
+use Rattle.offset_calls.specs.Calls.{make_room, Made_room, Room_costs}
+use Rattle.offset_calls.specs.Room.{Split, cheapest}
+use Rattle.offset_calls.proofs.Splits.{IsSameSplit, no_split, same_split, same_cost, same_cheapest, same_room_cost}
 use Rattle.offset_script.specs.Histories as script
 use Rattle.offset_script.specs.Machine as machine
 use Rattle.offset_calls.specs.declared.calls.Call.TheVariants as call
@@ -89,25 +102,68 @@ module _ (s t : State) (a : IsSameSpace s t) where
       ap₂ (λ b h. if b then Some Nodes else if h then None else Some (lack n (total s.blocks) (sum (free_sizes s.blocks)))) (short k) (held_same n align)
       ∙ ap₂ (λ m f. if is_short_of k t then Some Nodes else if is_some (holding_place n align 0 t.blocks) then None else Some (lack n m f)) units free
 
-  next_reply : (c : Call) → without_offset (step c s).reply ≡ without_offset (step c t).reply
-  next_reply (call.Command c) = ap Answer (same_next s t a c)
-  next_reply (call.Shrink k n) = resize_reply n _ _ _ _ (placed k) (λ xs q ys. ap₂ (λ x y. nat_le n q.size && (x || not y)) (same_starts ys) (short 1))
-  next_reply (call.Grow k n) = resize_reply n _ _ _ _ (placed k) (λ xs q ys. ap (λ f. nat_le q.size n && nat_le n (q.size + f)) (same_free_start ys))
-  next_reply call.Compact = ap Compacted (ap (moves 0 0) a.blocks.left_blocks ∙ same_moves 0 0 a.blocks.pairs a.blocks.numbers ∙ ap (moves 0 0) (sym a.blocks.right_blocks))
-  next_reply (call.Offset k) = ap without_offset (offset_reply _ _ (placed k))
-  next_reply (call.Refusal n) = ap Refused_for (reason_reply 1 n)
-  next_reply (call.Tight n) = tight_reply n 1
-  next_reply (call.TightAligned n align) = tight_reply n align
-  next_reply (call.RefusalTight n) = ap Refused_for (held_reason 1 n 1)
-  next_reply (call.RefusalTightAligned n align) = ap Refused_for (held_reason (if nat_le align 1 then 1 else 2) n align)
-  next_reply (call.RefusalAligned n align) = ap₂ (λ x y. Refused_for (if nat_le align 1 then x else y)) (reason_reply 1 n) (reason_reply 2 (n + align - 1))
+  -- making room
+  runs_same : (want : ℕ) → IsSameSplit a.blocks.pairs (cheapest want s.blocks) (cheapest want t.blocks)
+  runs_same want = subst₂ (λ x y. IsSameSplit a.blocks.pairs (cheapest want x) (cheapest want y)) (sym a.blocks.left_blocks) (sym a.blocks.right_blocks) (same_cheapest want a.blocks.pairs)
+
+  made_reply : (o o' : Option Split) → IsSameSplit a.blocks.pairs o o' → (make_room s o).reply ≡ (make_room t o').reply
+  made_reply None None no_split = refl
+  made_reply o o' (same_split f r b e) = if_same (λ (x y : Outcome). x.reply ≡ y.reply) _ _ _ _ _ _ (ap (λ (c : RoomCost). nat_eq c.ranges 0) (same_cost r))
+      (λ z. ap (λ c. Made_room (Some c) []) (same_cost r))
+      (ap₂ (λ c l. Made_room (Some c) l) (same_cost r)
+      (same_moves (total (lefts f)) (total (lefts f)) r (λ q i. a.blocks.numbers q (subst (IsIn q) (sym e) (in_right q f (r ++ b) (in_left q r b i))))
+      ∙ ap (λ n. moves n n (rights r)) (same_total f)))
+
+  sent_same : (k : Kind) → HasSameNumber k → IsSent (λ n. n) k
+  sent_same (Lives i j) e = e
+  sent_same (Frees x y) e = tt
+
+  sent_all : AreSent (λ n. n) a.blocks.pairs
+  sent_all q i = sent_same q.kind (a.blocks.numbers q i)
+
+  sent_none : (r : Option LiveRange) → option_map (sent (λ n. n)) r ≡ r
+  sent_none None = refl
+  sent_none (Some r) = refl
+
+  beside_reply : (f : machine.Place → Option LiveRange)
+      → ((xs : List Pair) (q : Pair) (ys : List Pair) → ((x : Pair) → IsIn x xs ⊎ IsIn x ys → IsIn x a.blocks.pairs)
+      → f (record { before = lefts xs; block = left q; after = lefts ys }) ≡ f (record { before = rights xs; block = right q; after = rights ys }))
+      → (o o' : Option machine.Place) → IsSamePlace (λ q. Unit {0}) a.blocks.pairs o o' → without_offset (beside f o) ≡ without_offset (beside f o')
+  beside_reply f same None None neither = refl
+  beside_reply f same o o' (both xs q ys e u) = ap Beside (same xs q ys (λ x i. subst (IsIn x) (sym e) (in_parts x xs q ys i)))
+
+  next_reply : (c : Call) → relocates c ≡ false → without_offset (step c s).reply ≡ without_offset (step c t).reply
+  next_reply (call.Command c) other = ap Answer (same_next s t a c)
+  next_reply (call.Shrink k n) other = resize_reply n _ _ _ _ (placed k) (λ xs q ys. ap₂ (λ x y. nat_le n q.size && (x || not y)) (same_starts ys) (short 1))
+  next_reply (call.Grow k n) other = resize_reply n _ _ _ _ (placed k) (λ xs q ys. ap (λ f. nat_le q.size n && nat_le n (q.size + f)) (same_free_start ys))
+  next_reply call.Compact other = ap Compacted (ap (moves 0 0) a.blocks.left_blocks ∙ same_moves 0 0 a.blocks.pairs a.blocks.numbers ∙ ap (moves 0 0) (sym a.blocks.right_blocks))
+  next_reply (call.Offset k) other = ap without_offset (offset_reply _ _ (placed k))
+  next_reply (call.Refusal n) other = ap Refused_for (reason_reply 1 n)
+  next_reply (call.Tight n) other = tight_reply n 1
+  next_reply (call.TightAligned n align) other = tight_reply n align
+  next_reply (call.RefusalTight n) other = ap Refused_for (held_reason 1 n 1)
+  next_reply (call.RefusalTightAligned n align) other = ap Refused_for (held_reason (if nat_le align 1 then 1 else 2) n align)
+  next_reply (call.MakeRoom n) other = ap without_offset (made_reply _ _ (runs_same (value (up n))))
+  next_reply (call.RoomCost n) other = ap Room_costs (same_room_cost a.blocks.pairs _ _ (runs_same (value (up n))))
+  next_reply (call.Relocate k) other = absurd (true≢false other)
+  next_reply (call.Retract n) other = if_same (λ (x y : Outcome). without_offset x.reply ≡ without_offset y.reply) _ _ _ _ _ _
+      (ap (nat_le n) (ap machine.free_end a.blocks.left_blocks ∙ same_free_end a.blocks.pairs ∙ ap machine.free_end (sym a.blocks.right_blocks))) (λ z. refl) refl
+  next_reply call.First other = ap Beside (ap (first_live 0) a.blocks.left_blocks ∙ sent_first (λ n. n) 0 a.blocks.pairs sent_all ∙ sent_none (first_live 0 (rights a.blocks.pairs))
+      ∙ ap (first_live 0) (sym a.blocks.right_blocks))
+  next_reply call.Last other = ap Beside (ap (last_live 0) a.blocks.left_blocks ∙ sent_last (λ n. n) 0 a.blocks.pairs sent_all ∙ sent_none (last_live 0 (rights a.blocks.pairs))
+      ∙ ap (last_live 0) (sym a.blocks.right_blocks))
+  next_reply (call.Before k) other = beside_reply live_before (λ xs q ys i. sent_last (λ n. n) 0 xs (λ x j. sent_all x (i x (inl j))) ∙ sent_none (last_live 0 (rights xs))) _ _ (placed k)
+  next_reply (call.After k) other = beside_reply live_after
+      (λ xs q ys i. sent_first (λ n. n) (total (lefts xs) + q.size) ys (λ x j. sent_all x (i x (inr j))) ∙ sent_none (first_live (total (lefts xs) + q.size) (rights ys))
+      ∙ ap (λ m. first_live (m + q.size) (rights ys)) (same_total xs)) _ _ (placed k)
+  next_reply (call.RefusalAligned n align) other = ap₂ (λ x y. Refused_for (if nat_le align 1 then x else y)) (reason_reply 1 n) (reason_reply 2 (n + align - 1))
 
 pub rows_space : (size limit : ℕ) → 2 ≤ limit → (cs : List Call) (ks : List ℕ) → let s = after cs (start size limit) in
     outline (machine.after (releases ks) s).blocks ≡ collapse ks (outline s.blocks)
 rows_space size limit h cs ks = releases_outline ks (after cs (start size limit)) (well_calls cs (start size limit) (well_start size limit h))
 
 pub rows_next : (size limit : ℕ) → 2 ≤ limit → (cs : List Call) (ks : List ℕ) (t : State) → let s = after cs (start size limit) in
-    IsCollapse ks s t → (c : Call) → without_offset (step c (machine.after (releases ks) s)).reply ≡ without_offset (step c t).reply
+    IsCollapse ks s t → (c : Call) → relocates c ≡ false → without_offset (step c (machine.after (releases ks) s)).reply ≡ without_offset (step c t).reply
 rows_next size limit h cs ks t is =
     let s = after cs (start size limit) in
     let scalars = releases_scalars ks s in

@@ -1,7 +1,7 @@
 -- The plain stamped machine over every call: beside the commands of a script, the calls that resize a range, compact
--- the space, take any free block that is large enough, and ask for an offset or for the reason of a refusal. States and
--- stamps are those of the script's machine.
-use Rattle.std.specs.Prelude.{ℕ, ◌+◌, ◌-◌, max, Bool, true, false, not, ◌&&◌, ◌||◌, List, [], ◌∷◌, ◌++◌, map, sum, Option, Some, None, is_some, nat_eq, nat_lt, nat_le, if◌then◌else◌}
+-- the space, make room for a request, take any free block that is large enough, and ask for an offset, for the reason of
+-- a refusal, or for what room would cost. States and stamps are those of the script's machine.
+use Rattle.std.specs.Prelude.{ℕ, ◌+◌, ◌-◌, max, Bool, true, false, not, ◌&&◌, ◌||◌, List, [], ◌∷◌, ◌++◌, length, map, sum, Option, Some, None, is_some, nat_eq, nat_lt, nat_le, if◌then◌else◌}
 use Rattle.std.specs.Int.{is_power_of_two}
 use Rattle.offset_allocator.specs.declared.reports.Refusal.{Refusal}
 use Rattle.offset_allocator.specs.declared.reports.Refusal.TheVariants.{Nodes, TooLarge, Space, Fragmented}
@@ -14,7 +14,11 @@ use Rattle.offset_script.specs.Totals.{live}
 use Rattle.offset_calls.specs.declared.calls.Call.{Call}
 use Rattle.offset_calls.specs.declared.calls.Call.TheVariants as call
 use Rattle.offset_calls.specs.declared.calls.Moved.{Moved}
+use Rattle.offset_allocator.specs.declared.room.RoomCost.{RoomCost}
+use Rattle.offset_calls.specs.Room.{Split, cost_of, cheapest, room_cost, slid}
 use Rattle.offset_calls.specs.Tight.{allocate_tight, reason_tight}
+use Rattle.offset_calls.specs.Ending.{relocate, can_retract, retracted, first_live, last_live, live_before, live_after}
+use Rattle.offset_calls.specs.declared.calls.LiveRange.{LiveRange}
 use Rattle.offset_calls.specs.declared.calls.Reply as program
 use Rattle.offset_calls.specs.declared.calls.Reply.TheVariants as program_reply
 
@@ -35,6 +39,9 @@ pub data Reply : Type 0 where
   Compacted : List Move → Reply
   Offset : ℕ → Reply
   Refused_for : Option Refusal → Reply
+  Made_room : Option RoomCost → List Move → Reply
+  Room_costs : Option RoomCost → Reply
+  Beside : Option LiveRange → Reply
 
 -- the state that a call leaves, and the reply
 pub record Outcome : Type 0 where
@@ -82,6 +89,14 @@ resize can n s (Some p) =
     else if can p then resized n s p
     else replies_only s (Answer machine.Refused)
 
+-- ---- the end of the space
+
+-- n units go off the end, where they can
+abbrev pub retract : ℕ → State → Outcome
+retract n s =
+    if can_retract n s.blocks then remakes s (retracted n (stamp_of_call s) s.blocks) Resized
+    else replies_only s (Answer machine.Refused)
+
 -- ---- compacting
 
 -- the number of the grant of a live block
@@ -112,12 +127,27 @@ abbrev pub compact : State → Outcome
 compact s = remakes s (live s.blocks ++ gathered (stamp_of_call s) (free_sizes s.blocks))
     (Compacted (moves 0 0 s.blocks))
 
+-- ---- making room
+
+-- a run slides, where it has live blocks; else nothing changes
+abbrev pub make_room : State → Option Split → Outcome
+make_room s None = replies_only s (Made_room None [])
+make_room s (Some p) =
+    if nat_eq (length (live p.run)) 0 then replies_only s (Made_room (Some (cost_of p.run)) [])
+    else remakes s (slid (stamp_of_call s) p)
+    (Made_room (Some (cost_of p.run)) (moves (total p.front) (total p.front) p.run))
+
 -- ---- questions
 
 -- where the block at a place begins
 abbrev pub offset_at : Option Place → Reply
 offset_at None = Answer machine.Gone
 offset_at (Some p) = Offset (total p.before)
+
+-- the live range beside the block at a place
+abbrev pub beside : (Place → Option LiveRange) → Option Place → Reply
+beside f None = Answer machine.Gone
+beside f (Some p) = Beside (f p)
 
 -- why no block is chosen for n units, in a space of this size with this many units free
 abbrev pub shortage : ℕ → ℕ → ℕ → Refusal
@@ -149,6 +179,14 @@ step (call.Tight n) s = answered (allocate_tight n 1 s)
 step (call.TightAligned n align) s = answered (allocate_tight n align s)
 step (call.RefusalTight n) s = replies_only s (Refused_for (reason_tight n 1 s))
 step (call.RefusalTightAligned n align) s = replies_only s (Refused_for (reason_tight n align s))
+step (call.MakeRoom n) s = make_room s (cheapest (value (up n)) s.blocks)
+step (call.RoomCost n) s = replies_only s (Room_costs (room_cost (value (up n)) s.blocks))
+step (call.Relocate k) s = answered (relocate s (place_of k s.blocks))
+step (call.Retract n) s = retract n s
+step call.First s = replies_only s (Beside (first_live 0 s.blocks))
+step call.Last s = replies_only s (Beside (last_live 0 s.blocks))
+step (call.Before k) s = replies_only s (beside live_before (place_of k s.blocks))
+step (call.After k) s = replies_only s (beside live_after (place_of k s.blocks))
 
 -- the replies to calls in order
 abbrev pub replies : List Call → State → List Reply
@@ -181,3 +219,6 @@ reply_view program_reply.Resized = Resized
 reply_view (program_reply.Compacted ms) = Compacted (map move_view ms.items)
 reply_view (program_reply.Offset n) = Offset n
 reply_view (program_reply.Refusal r) = Refused_for r
+reply_view (program_reply.RoomMade c ms) = Made_room c (map move_view ms.items)
+reply_view (program_reply.RoomCost c) = Room_costs c
+reply_view (program_reply.Beside r) = Beside r

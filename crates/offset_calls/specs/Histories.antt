@@ -1,11 +1,13 @@
 -- Laws over whole histories of calls.
-use Rattle.std.specs.Prelude.{ℕ, ◌+◌, ◌-◌, List, map, nat_le, if◌then◌else◌}
+use Rattle.std.specs.Prelude.{ℕ, ◌+◌, ◌-◌, Bool, true, false, List, map, nat_le, option_map, if◌then◌else◌}
 use Rattle.offset_script.specs.Histories.{number_without, raise_number}
 use Rattle.offset_script.specs.Histories as script
 use Rattle.offset_script.specs.Machine.{State}
 use Rattle.offset_calls.specs.declared.calls.Call.{Call}
 use Rattle.offset_calls.specs.declared.calls.Call.TheVariants as call
-use Rattle.offset_calls.specs.Calls.{Move, Reply, Answer, Compacted, replies}
+use Rattle.offset_calls.specs.declared.calls.LiveRange.{LiveRange}
+use Rattle.offset_calls.specs.Calls.{Move, Reply, Answer, Compacted, Made_room, Beside, Outcome, replies, step}
+use Rattle.offset_script.specs.declared.scripts.Command.TheVariants as command
 
 -- a call with the function r applied to its grant number, if it has one
 abbrev pub renumber : (ℕ → ℕ) → Call → Call
@@ -13,6 +15,9 @@ renumber r (call.Command c) = call.Command (script.renumber r c)
 renumber r (call.Shrink k n) = call.Shrink (r k) n
 renumber r (call.Grow k n) = call.Grow (r k) n
 renumber r (call.Offset k) = call.Offset (r k)
+renumber r (call.Relocate k) = call.Relocate (r k)
+renumber r (call.Before k) = call.Before (r k)
+renumber r (call.After k) = call.After (r k)
 renumber r other = other
 
 -- a grant number as it is with j further grants after the first g
@@ -23,10 +28,16 @@ number_with g j k = if nat_le k g then k else k + j
 abbrev pub raise_move : ℕ → ℕ → Move → Move
 raise_move g j m = record { number = number_with g j m.number; from = m.from; to = m.to; size = m.size }
 
+-- a live range with the number that its grant has with j further grants after the first g
+abbrev pub raise_range : ℕ → ℕ → LiveRange → LiveRange
+raise_range g j r = record { number = number_with g j r.number; offset = r.offset }
+
 -- a reply to a call after j further grants after the first g: a new grant has a number larger by j
 abbrev pub raise : ℕ → ℕ → Reply → Reply
 raise g j (Answer a) = Answer (raise_number j a)
 raise g j (Compacted ms) = Compacted (map (raise_move g j) ms)
+raise g j (Made_room c ms) = Made_room c (map (raise_move g j) ms)
+raise g j (Beside r) = Beside (option_map (raise_range g j) r)
 raise g j other = other
 
 -- the replies from s on, numbered as those from t on, where t has made more grants
@@ -42,9 +53,23 @@ IsQuestion (call.Refusal n) = Unit {0}
 IsQuestion (call.RefusalAligned n align) = Unit {0}
 IsQuestion (call.RefusalTight n) = Unit {0}
 IsQuestion (call.RefusalTightAligned n align) = Unit {0}
+IsQuestion (call.RoomCost n) = Unit {0}
+IsQuestion call.First = Unit {0}
+IsQuestion call.Last = Unit {0}
+IsQuestion (call.Before k) = Unit {0}
+IsQuestion (call.After k) = Unit {0}
 IsQuestion other = ⊥
 
 -- a reply without the offset of a new grant
 abbrev pub without_offset : Reply → Reply
 without_offset (Answer a) = Answer (script.without_offset a)
 without_offset other = other
+
+-- what `Retract` of n units does after `Extend` by as many
+abbrev pub retract_again : ℕ → State → Outcome
+retract_again n s = step (call.Retract n) (step (call.Command (command.Extend n)) s).state
+
+-- whether a call is `Relocate`, which goes by where a grant would begin
+abbrev pub relocates : Call → Bool
+relocates (call.Relocate k) = true
+relocates other = false

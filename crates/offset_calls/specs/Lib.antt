@@ -1,6 +1,9 @@
 pub mod Calls
+pub mod Ending
 pub mod Histories
 pub mod Playing
+pub mod Room
+pub mod Slides
 pub mod Steps
 pub mod Tickets
 pub mod Tight

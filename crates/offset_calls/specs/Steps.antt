@@ -8,6 +8,12 @@ use Rattle.offset_allocator.specs.Requests.{CanGrant, IsWhy, blocks_needed, unit
 use Rattle.offset_allocator.specs.Resizing.{Shrinks, Grows}
 use Rattle.offset_allocator.specs.Compacting.{Compacts, moves}
 use Rattle.offset_allocator.specs.Compacting as named
+use Rattle.offset_allocator.specs.declared.room.RoomCost.{RoomCost}
+use Rattle.offset_allocator.specs.Classes.{value, up}
+use Rattle.offset_allocator.specs.Room.{IsLeastCost}
+use Rattle.offset_allocator.specs.Beside as named_beside
+use Rattle.offset_allocator.specs.Relocating.{Relocates}
+use Rattle.offset_allocator.specs.Retracting.{Retracts}
 use Rattle.offset_allocator.specs.Tight.{AlignsTight, CanHold, IsWhyTight}
 use Rattle.offset_script.specs.Steps.{kept_name, IfNamed, IsKept, Stays}
 use Rattle.offset_script.specs.Machine as machine
@@ -15,7 +21,9 @@ use Rattle.offset_script.specs.Steps as script
 use Rattle.offset_calls.specs.declared.calls.Call.{Call}
 use Rattle.offset_calls.specs.declared.calls.Call.TheVariants as call
 use Rattle.offset_calls.specs.declared.calls.Moved.{Moved}
-use Rattle.offset_calls.specs.Calls.{Move, Reply, Answer, Resized, Compacted, Offset, Refused_for}
+use Rattle.offset_calls.specs.Calls.{Move, Reply, Answer, Resized, Compacted, Offset, Refused_for, Made_room, Room_costs, Beside}
+use Rattle.offset_calls.specs.Slides.{IsMade}
+use Rattle.offset_calls.specs.declared.calls.LiveRange.{LiveRange}
 
 -- these are the moves of a compaction, in order, whatever their numbers
 abbrev pub AreMoves : List Moved → List named.Move → Type 0
@@ -48,6 +56,21 @@ abbrev pub TakesTight : ℕ → ℕ → View → List (Option Grant) → View �
 TakesTight n align v handles w left r = (g : Option Grant) × (a : machine.Answer) × AlignsTight n align v w g
     × IsKept g handles left a × (r ≡ Answer a)
 
+-- room is made for a request, and the moves are replied with the numbers of their grants
+abbrev pub TakesRoom : ℕ → View → List (Option Grant) → View → Reply → Type 0
+TakesRoom want v handles w r = (c : Option RoomCost) × IsLeastCost want v.blocks c × (xs : List named.Move)
+    × IsMade want v c w xs × (ms : List Move) × AreNumbered handles xs ms × (r ≡ Made_room c ms)
+
+-- a live range, or none, with the number of the grant whose handle has its name
+abbrev pub IsNumbered : List (Option Grant) → Option Grant → Option LiveRange → Type 0
+IsNumbered handles None None = Unit {0}
+IsNumbered handles (Some g) (Some r) = (kept_name handles r.number ≡ Some g.name) × (r.offset ≡ g.offset)
+IsNumbered handles g r = ⊥
+
+-- the reply to a question for this live range, or for none
+abbrev pub Finds : List (Option Grant) → Option Grant → Reply → Type 0
+Finds handles g r = (found : Option LiveRange) × IsNumbered handles g found × (r ≡ Beside found)
+
 -- the step of a call from the view v to the view w, with this reply: the handles of the grants so far are those in
 -- `handles` before it, and in `left` after it, that of grant k at k - 1 while the grant is live
 abbrev pub Takes : Call → View → List (Option Grant) → View → List (Option Grant) → Reply → Type 0
@@ -75,11 +98,32 @@ Takes (call.RefusalTight n) v handles w left r = Stays v handles w left
     × ((why : Option Refusal) × IsReasonTight n 1 v why × (r ≡ Refused_for why))
 Takes (call.RefusalTightAligned n align) v handles w left r = Stays v handles w left
     × ((why : Option Refusal) × IsReasonTight n align v why × (r ≡ Refused_for why))
+Takes (call.MakeRoom n) v handles w left r = TakesRoom (value (up n)) v handles w r × (left ≡ handles)
+Takes (call.RoomCost n) v handles w left r = Stays v handles w left
+    × ((c : Option RoomCost) × IsLeastCost (value (up n)) v.blocks c × (r ≡ Room_costs c))
+Takes (call.Relocate k) v handles w left r = IfNamed (kept_name handles k)
+    (λ x. (g : Option Grant) × (a : machine.Answer) × Relocates x v w g
+    × IsKept g handles left a × (r ≡ Answer a))
+    (Stays v handles w left × (r ≡ Answer machine.Gone))
+Takes (call.Retract n) v handles w left r = (done : Bool) × Retracts n v w done × (left ≡ handles)
+    × (r ≡ (if done then Resized else Answer machine.Refused))
+Takes call.First v handles w left r = Stays v handles w left × Finds handles (named_beside.first_live v) r
+Takes call.Last v handles w left r = Stays v handles w left × Finds handles (named_beside.last_live v) r
+Takes (call.Before k) v handles w left r = Stays v handles w left
+    × IfNamed (kept_name handles k) (λ x. Finds handles (named_beside.live_before x v) r)
+    (r ≡ Answer machine.Gone)
+Takes (call.After k) v handles w left r = Stays v handles w left
+    × IfNamed (kept_name handles k) (λ x. Finds handles (named_beside.live_after x v) r)
+    (r ≡ Answer machine.Gone)
 
 -- each used block has a handle that is kept
 abbrev pub AreKept : View → List (Option Grant) → Type 0
 AreKept v handles =
     AllByRecursion (λ (b : Block). b.used ≡ true → (k : ℕ) × (kept_name handles k ≡ Some b.name)) v.blocks
+
+-- a grant, if there is one, has the name of a handle that is kept
+abbrev pub IsKeptSome : List (Option Grant) → Option Grant → Type 0
+IsKeptSome handles o = (g : Grant) → o ≡ Some g → (k : ℕ) × (kept_name handles k ≡ Some g.name)
 
 -- No two handles that are kept have one name, and at the name of each of the first `read` that is kept is the number of
 -- its grant.

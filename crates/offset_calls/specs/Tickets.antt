@@ -49,6 +49,9 @@ number_in (call.Command c) = number_in_command c
 number_in (call.Shrink k n) = k
 number_in (call.Grow k n) = k
 number_in (call.Offset k) = k
+number_in (call.Relocate k) = k
+number_in (call.Before k) = k
+number_in (call.After k) = k
 number_in other = 0
 
 -- the ticket that a call passes, if there is one

@@ -3,7 +3,7 @@
 ghost use Rattle.std.specs.Prelude.{◌≡◌, ◌↔◌, All, IsTrue};
 ghost use Rattle.offset_calls.specs.Calls.{is_valid};
 
-use offset_allocator::Refusal;
+use offset_allocator::{Refusal, RoomCost};
 use offset_script::{Answer, Command};
 
 /// A call to an allocator. Sizes are in units of the space. A range is named by the number of its grant: grants are
@@ -33,6 +33,25 @@ pub enum Call {
     RefusalTight(u32),
     /// Asks why `TightAligned` of these numbers would be refused now.
     RefusalTightAligned(u32, u32),
+    /// Slides the live ranges with the fewest units so that a request for this many units finds its block.
+    MakeRoom(u32),
+    /// Asks what `MakeRoom` of this many units would have to move now.
+    RoomCost(u32),
+    /// Requests a second range of as many units as that of this number, which begins before it, as
+    /// `relocate` does. The old one stays live.
+    Relocate(u32),
+    /// Takes this many free units off the end of the space. Where `Extend` has just added as many, the
+    /// blocks are as they were before both, but that a free one at the end is the newest of its bin, or
+    /// gone where it has no units and is not the only one.
+    Retract(u32),
+    /// Asks which live range is the first one in space.
+    First,
+    /// Asks which live range is the last one in space.
+    Last,
+    /// Asks which live range is directly before that of this number.
+    Before(u32),
+    /// Asks which live range is directly after that of this number.
+    After(u32),
 }
 
 impl Call {
@@ -57,7 +76,7 @@ pub fn are_valid(calls: &[Call]) -> bool
     calls.iter().all(|call| call.is_valid())
 }
 
-/// A range that `Call::Compact` moves to another offset.
+/// A range that `Call::Compact` or `Call::MakeRoom` moves to another offset.
 #[derive(Clone, Copy, PartialEq, Debug)]
 pub struct Moved {
     /// The number of its grant.
@@ -70,13 +89,23 @@ pub struct Moved {
     pub size: u32,
 }
 
+/// A live range: the number of its grant, and where it begins.
+#[derive(Clone, Copy, PartialEq, Debug)]
+pub struct LiveRange {
+    /// The number of its grant.
+    pub number: u64,
+    /// Its offset.
+    pub offset: u32,
+}
+
 /// The reply to one call.
 #[derive(Drop, Debug)]
 pub enum Reply {
-    /// The answer to a command. Of another call, `Gone`: no grant of that number is live; or `Refused`: the range
-    /// cannot shrink or grow to that size. Then the space is as it was.
+    /// The answer to a command. Of another call, `Grant`: the range that was requested; `Gone`: no grant of
+    /// that number is live; or `Refused`: no such range is granted, the range cannot shrink or grow to that
+    /// size, or the end has not that many free units. After `Gone` and `Refused` the space is as it was.
     Answer(Answer),
-    /// The range has the new size.
+    /// The range, or the space, has the new size.
     Resized,
     /// The ranges that the compaction moved, in space order.
     Compacted(Vec<Moved>),
@@ -84,4 +113,11 @@ pub enum Reply {
     Offset(u32),
     /// Why the request would be refused, or `None` where it would be granted.
     Refusal(Option<Refusal>),
+    /// What was moved to make room, or `None` where all free units together are not enough; and the ranges
+    /// that were moved, in space order.
+    RoomMade(Option<RoomCost>, Vec<Moved>),
+    /// What would have to be moved, or `None` where all free units together are not enough.
+    RoomCost(Option<RoomCost>),
+    /// The live range that was asked for, or `None` where there is none.
+    Beside(Option<LiveRange>),
 }

@@ -14,7 +14,9 @@ ghost use Rattle.offset_calls.specs.Steps.{AreKept, AreMoves};
 ghost use Rattle.offset_calls.specs.Tickets.{IsLedger, IsStored, Serves, IsNumberOf, handles_of};
 
 use crate::calls::{Call, Reply};
+use crate::ending_desk;
 use crate::playing::{Moves, numbered, resized};
+use crate::room::make_room_guarded;
 use offset_allocator::{Move, NodeIndex, Tables};
 use offset_guarded::{GuardedOf, Ticket};
 use offset_script::{Answer, Command, full_answer};
@@ -28,7 +30,7 @@ pub(crate) struct Desk<T: Tables> {
 }
 
 // The answer to a request with this result. The ticket of a grant is kept.
-fn keep(tickets: &mut Vec<Ticket>, granted: Option<Ticket>) -> Result<Answer, AllocError>
+pub(crate) fn keep(tickets: &mut Vec<Ticket>, granted: Option<Ticket>) -> Result<Answer, AllocError>
     ensures { IfOk result (λ a. IsStored granted tickets.old.items tickets.new.items (answer_view a)) }
 {
     match granted {
@@ -300,5 +302,13 @@ pub(crate) fn reply<T: Tables>(
         Call::RefusalTightAligned(size, align) => Ok(Reply::Refusal(
             desk.space.allocator().refusal_tight_aligned(size, align),
         )),
+        Call::MakeRoom(size) => make_room_guarded(alloc, desk, size),
+        Call::RoomCost(size) => Ok(Reply::RoomCost(desk.space.allocator().room_cost(size))),
+        Call::Relocate(_) => ending_desk::relocate(desk, ticket),
+        Call::Retract(less) => Ok(ending_desk::retract(&mut desk.space, less)),
+        Call::First => Ok(ending_desk::first(desk)),
+        Call::Last => Ok(ending_desk::last(desk)),
+        Call::Before(_) => Ok(ending_desk::before(desk, ticket)),
+        Call::After(_) => Ok(ending_desk::after(desk, ticket)),
     }
 }

@@ -42,6 +42,9 @@ fn number_in(call: &Call) -> u32
         Call::Shrink(number, _) => *number,
         Call::Grow(number, _) => *number,
         Call::Offset(number) => *number,
+        Call::Relocate(number) => *number,
+        Call::Before(number) => *number,
+        Call::After(number) => *number,
         _ => 0,
     }
 }

@@ -1,15 +1,18 @@
 //! Laws on the replies of `play_calls`. The functions do nothing.
 
-ghost use Rattle.std.specs.Prelude.{◌≡◌, ◌≤◌, ◌++◌, ◌∷◌, ℕ, List, map};
+ghost use Rattle.std.specs.Prelude.{◌≡◌, ◌≤◌, ◌+◌, ◌++◌, ◌∷◌, IsTrue, ℕ, List, false, map};
 ghost use Rattle.offset_script.specs.declared.scripts.Command.{Command};
 ghost use Rattle.offset_script.specs.Histories.{HasNoLive, IsCollapse, IsNest, collapse, outline, releases};
 ghost use Rattle.offset_script.specs.Machine as machine;
-ghost use Rattle.offset_script.specs.Machine.{State, start, total};
+ghost use Rattle.offset_script.specs.Machine.{State, ends_live, free_end, stamp_of_call, start, total};
+ghost use Rattle.offset_script.specs.declared.scripts.Command.TheVariants as command;
 ghost use Rattle.offset_calls.specs.declared.calls.Call.{Call};
 ghost use Rattle.offset_calls.specs.declared.calls.Call.TheVariants as call;
 ghost use Rattle.offset_calls.specs.Calls as plain;
 ghost use Rattle.offset_calls.specs.Calls.{after, replies, step};
-ghost use Rattle.offset_calls.specs.Histories.{IsQuestion, replies_renumbered, without_offset};
+ghost use Rattle.offset_calls.specs.Ending.{with_end};
+ghost use Rattle.offset_calls.specs.Histories.{IsQuestion, relocates, replies_renumbered, without_offset};
+ghost use Rattle.offset_calls.specs.Histories.{retract_again};
 
 /// The replies to calls that are commands of a script are the answers to the script.
 pub fn commands_have_their_answers()
@@ -41,10 +44,10 @@ pub fn releases_commute()
         → let s = after cs (start size limit) in
         outline (machine.after (releases ks) s).blocks ≡ collapse ks (outline s.blocks) }
     // A next call, also one that resizes or compacts, has the same reply as there, except for the offset of a new
-    // grant.
+    // grant. `Relocate` is granted or refused by such an offset, so it is not among them.
     ensures next { (size limit : ℕ) → 2 ≤ limit → (cs : List Call) (ks : List ℕ) (t : State)
         → let s = after cs (start size limit) in
-        IsCollapse ks s t → (c : Call)
+        IsCollapse ks s t → (c : Call) → relocates c ≡ false
         → without_offset (step c (machine.after (releases ks) s)).reply ≡ without_offset (step c t).reply }
 {}
 
@@ -55,4 +58,29 @@ pub fn a_question_changes_nothing()
         → let s = after before (start size limit) in
         replies (before ++ q ∷ rest) (start size limit)
         ≡ replies before (start size limit) ++ ((step q s).reply ∷ replies rest s) }
+{}
+
+/// `Retract` of as many units as `Extend` has just added leaves the blocks as they were, but for a free one
+/// at the end: that is the newest of its bin then, or gone where it has no units and is not the only block.
+pub fn retract_undoes_extend()
+    ensures state { (size limit : ℕ) → 2 ≤ limit → (cs : List Call) (n : ℕ) → 1 ≤ n
+        → let s = after cs (start size limit) in
+        let grown = step (call.Command (command.Extend n)) s in
+        grown.reply ≡ plain.Answer machine.Extended
+        → ((retract_again n s).reply ≡ plain.Resized)
+        × ((retract_again n s).state ≡ record s {
+          calls = s.calls + 2;
+          blocks = with_end (free_end s.blocks) (stamp_of_call grown.state) s.blocks;
+        }) }
+    // Where the last block was live, no later reply is another.
+    ensures live { (size limit : ℕ) → 2 ≤ limit → (cs : List Call) (n : ℕ) → 1 ≤ n
+        → let s = after cs (start size limit) in
+        (step (call.Command (command.Extend n)) s).reply ≡ plain.Answer machine.Extended
+        → IsTrue (ends_live s.blocks) → (next : List Call)
+        → replies next (retract_again n s).state ≡ replies next s }
+    // Where a free last block has units, sizes and live grants are as they were.
+    ensures free { (size limit : ℕ) → 2 ≤ limit → (cs : List Call) (n : ℕ) → 1 ≤ n
+        → let s = after cs (start size limit) in
+        (step (call.Command (command.Extend n)) s).reply ≡ plain.Answer machine.Extended
+        → 1 ≤ free_end s.blocks → outline (retract_again n s).state.blocks ≡ outline s.blocks }
 {}

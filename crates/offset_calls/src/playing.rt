@@ -11,7 +11,9 @@ ghost use Rattle.offset_calls.specs.Playing.{AreReplies};
 ghost use Rattle.offset_calls.specs.Steps.{AreKept, AreMoves, AreNumbers, Takes, joined};
 
 use crate::calls::{Call, Moved, Reply};
+use crate::ending;
 use crate::numbers::Numbers;
+use crate::room::make_room;
 use offset_allocator::laws::is_well_formed;
 use offset_allocator::{AllocatorOf, ByNode, Move, NodeIndex, Tables};
 use offset_script::{Answer, PlayerOf};
@@ -215,16 +217,25 @@ fn reply<T: Tables>(
         Call::RefusalTightAligned(size, align) => Ok(Reply::Refusal(
             player.space.refusal_tight_aligned(size, align),
         )),
+        Call::MakeRoom(size) => make_room(alloc, player, numbers, size),
+        Call::RoomCost(size) => Ok(Reply::RoomCost(player.space.room_cost(size))),
+        Call::Relocate(number) => ending::relocate(player, number),
+        Call::Retract(less) => Ok(ending::retract(player, less)),
+        Call::First => ending::first(player, numbers),
+        Call::Last => ending::last(player, numbers),
+        Call::Before(number) => ending::before(player, numbers, number),
+        Call::After(number) => ending::after(player, numbers, number),
     }
 }
 
 /// Plays calls on an allocator of `size` units with the node limit `max_allocs`, and returns the replies in order, one
 /// for each.
 ///
-/// The limit has to be 2 to `T::Index::MAX - 2`, and each alignment a power of two. All replies are kept in memory, and
-/// from the first compaction on 8 bytes for each node that was made, twice that while a later compaction finds that
-/// there are more nodes. It fails only where an allocation fails. Each call costs what it costs in the allocator; a
-/// compaction also reads the grants since the last one.
+/// The limit has to be 2 to `T::Index::MAX - 2`, and each alignment a power of two. All replies are kept in
+/// memory, and from the first `Compact`, `MakeRoom`, `First`, `Last`, `Before` or `After` on 8 bytes for each
+/// node that was made, twice that while a later one finds that there are more nodes. It fails only where an
+/// allocation fails. Each call costs what it costs in the allocator; these also read the grants since the
+/// last one of them.
 pub fn play_calls_of<T: Tables>(
     alloc: Global,
     size: u32,

@@ -99,7 +99,7 @@ impl<T: Tables> GuardedOf<T> {
         ensures step { Compacts self.old.space self.new.space }
         ensures serials { self.new ≡ record self.old { space = self.new.space } }
         ensures accesses_max { self.new.space.accesses
-            ≤ self.old.space.accesses + 24 * length self.old.space.blocks + 512 }
+            ≤ self.old.space.accesses + 10 * length self.old.space.blocks + 384 }
     {
         self.space.compact(moved);
     }

@@ -1,7 +1,7 @@
 //! The live ranges beside one another in space, and what goes off its end.
 
 ghost use Rattle.std.specs.Prelude.{◌≡◌, ◌↔◌, ◌+◌, ◌≤◌, None, false, IsTrue, option_map};
-ghost use Rattle.offset_allocator.specs.Beside.{last_live, live_after, live_before};
+ghost use Rattle.offset_allocator.specs.Beside.{first_live, last_live, live_after, live_before};
 ghost use Rattle.offset_allocator.specs.Retracting.{CanRetract, Retracts};
 ghost use Rattle.offset_allocator.specs.View.{Grant};
 ghost use Rattle.offset_guarded.specs.Guard.{IsLive, IsSame, KeepsAll, ticket_at};
@@ -21,6 +21,17 @@ impl<T: Tables> GuardedOf<T> {
             name,
             serial: self.serials.at(name),
             realm: self.realm,
+        }
+    }
+
+    /// The ticket of the live range that is the first one in space, as `Allocator::first_live` finds it, or
+    /// `None` where none is live. Its offset is where the range begins now, as in what `ticket` returns.
+    pub fn first_live(&self) -> Option<Ticket>
+        ensures { result ≡ option_map (λ (h : Grant). ticket_at h self.now) (first_live self.now.space) }
+    {
+        match self.space.first_live() {
+            None => None,
+            Some(handle) => Some(self.ticket_at(handle)),
         }
     }
 

@@ -1,10 +1,14 @@
+pub mod Emptiest
 pub mod Empties
 pub mod Finding
 pub mod Grants
 pub mod Numbers
 pub mod Places
 pub mod Rooms
+pub mod Shapes
 pub mod Sound
 pub mod States
 pub mod Sums
+pub mod Takers
 pub mod Trees
+pub mod Walks

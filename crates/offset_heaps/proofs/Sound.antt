@@ -1,12 +1,13 @@
 -- The index stays right when the heap of one number changes.
-use Rattle.std.proofs.Common.{◌≡◌, ◌≢◌, ℕ, ◌+◌, ◌^◌, ◌<◌, ◌≤◌, ◌⊎◌, length, List, Option, Some, None, IfSome, replicate, slice_set, sym, ap, ◌∙◌, subst, inl, inr, arith}
+use Rattle.std.proofs.Common.{◌≡◌, ◌≢◌, ℕ, ◌+◌, ◌^◌, ◌<◌, ◌≤◌, ◌⊎◌, length, List, Option, Some, None, IfSome, replicate, slice_set, refl, sym, ap, ◌∙◌, subst, inl, inr, arith}
 use Rattle.std.proofs.lemmas.Bool.{cases_eq, cases_lt, le-ltb}
 use Rattle.std.proofs.lemmas.List.{get_or-replicate, get_or_past, length-replicate, length-set}
+use Rattle.offset_allocator.specs.View.{View}
 use Rattle.offset_guarded.specs.Guard.{Guard}
 use Rattle.offset_heaps.specs.declared.limits.Limits.{Limits}
 use Rattle.offset_heaps.specs.declared.index.Index.{Index}
 use Rattle.offset_guarded.specs.declared.ticket.Ticket.{Ticket}
-use Rattle.offset_heaps.specs.Heaps.{range_in, slot, room_of}
+use Rattle.offset_heaps.specs.Heaps.{IsOfKind, range_in, slot, room_of}
 use Rattle.offset_heaps.specs.Slots.{Changes, ResetsIn}
 use Rattle.offset_heaps.specs.Soundness.{IsNoted, IsSound, IsWide, spare_of}
 use Rattle.offset_heaps.specs.Maxima.{cell}
@@ -41,10 +42,16 @@ module _ (max : ℕ) (slots : List (Option Guard)) (limits : Limits) (made then 
       weaker None h = tt
       weaker (Some g) h = omega (arith, h, later)
 
-  pub sound_put : IfSome o (λ g. g.realm ≤ then) → k < length slots → IsWide (slice_set slots k o) new → IsNoted limits (slice_set slots k o) new k
+  kinds_put : IfSome o (IsOfKind limits k) → k < length slots → (j : ℕ) → IfSome (slot j (slice_set slots k o)) (IsOfKind limits j)
+  kinds_put kind l j = elim (cases_eq j k) [
+    | inl e ↦ rw (e, slot_same slots k o l) kind
+    | inr n ↦ rw (slot_other slots k j o n) (is.kinds j)
+  ]
+
+  pub sound_put : IfSome o (λ g. g.realm ≤ then) → IfSome o (IsOfKind limits k) → k < length slots → IsWide (slice_set slots k o) new → IsNoted limits (slice_set slots k o) new k
       → ((j : ℕ) → (j ≡ k → ⊥) → IsNoted limits (slice_set slots k o) old j → IsNoted limits (slice_set slots k o) new j)
       → new.one.height ≡ old.one.height → IsSound max (slice_set slots k o) limits then new
-  sound_put below l wide here others levels =
+  sound_put below kind l wide here others levels =
       let same = length-set slots k o in
       record {
         wide = wide;
@@ -58,12 +65,22 @@ module _ (max : ℕ) (slots : List (Option Guard)) (limits : Limits) (made then 
         limit_min = is.limit_min;
         limit_max = is.limit_max;
         realms = realms_put below l;
+        kinds = kinds_put kind l;
       }
 
 -- what a heap that was there is changed to has the same realm
 pub realm_kept : (made : ℕ) (old new : Option Guard) (before after : Guard) → old ≡ Some before → new ≡ Some after → after.realm ≡ before.realm
     → IfSome old (λ g. g.realm ≤ made) → IfSome new (λ g. g.realm ≤ made)
 realm_kept made old new before after was is same below = rw is (let l = rw was at below in omega (arith, l, same))
+
+-- and the same size and node limit
+pub kind_kept : (limits : Limits) (k : ℕ) (old new : Option Guard) (before after : Guard) → old ≡ Some before → new ≡ Some after → after.space.size ≡ before.space.size
+    → after.space.max_allocs ≡ before.space.max_allocs → IfSome old (IsOfKind limits k) → IfSome new (IsOfKind limits k)
+kind_kept limits k old new before after was is size limit kind = rw is (same (subst (λ o. IfSome o (IsOfKind limits k)) was kind))
+  where
+    same : IsOfKind limits k before → IsOfKind limits k after
+    same (inl u) = inl (u.0, size ∙ u.1, limit ∙ u.2)
+    same (inr l) = let some = l.1 in inr (l.0, omega (arith, size, some), limit ∙ l.2)
 
 -- with no heap and keys of 0, what is behind the last number is noted
 pub empty_cell : (p k : ℕ) → cell k (replicate p 0) ≡ 0
@@ -142,6 +159,10 @@ noted_reset limits slots now n old new change noted here others k = elim (cases_
 pub realm_reset : (made : ℕ) (old new : Option Guard) → ResetsIn old new → IfSome old (λ g. g.realm ≤ made) → IfSome new (λ g. g.realm ≤ made)
 realm_reset made None new e h = rw e tt
 realm_reset made (Some before) new r h = rw r.1 (let same : r.0.realm ≡ before.realm = ap (λ (g : Guard). g.realm) r.3 in omega (arith, same, h))
+
+pub kind_reset : (limits : Limits) (k : ℕ) (old new : Option Guard) → ResetsIn old new → IfSome old (IsOfKind limits k) → IfSome new (IsOfKind limits k)
+kind_reset limits k None new e h = rw e tt
+kind_reset limits k (Some before) new r h = kind_kept limits k (Some before) new before r.0 refl r.1 (ap (λ (v : View). v.size) r.2.view) (ap (λ (v : View). v.max_allocs) r.2.view) h
 
 -- no ticket of it is live
 pub range_reset : (t : Ticket) (old new : Option Guard) → ResetsIn old new → range_in t new ≡ None

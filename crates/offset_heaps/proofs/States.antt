@@ -14,7 +14,7 @@ use Rattle.offset_guarded.proofs.Numbers.{length-numbers, number_in, numbers-add
 use Rattle.offset_heaps.specs.declared.limits.Limits.{Limits}
 use Rattle.offset_heaps.specs.declared.index.Index.{Index}
 use Rattle.offset_heaps.specs.declared.restoring.Header.{Header}
-use Rattle.offset_heaps.specs.Heaps.{Heaps, slot}
+use Rattle.offset_heaps.specs.Heaps.{Heaps, IsOfKind, slot}
 use Rattle.offset_heaps.specs.Maxima.{cell}
 use Rattle.offset_heaps.specs.Soundness.{IsNoted, IsSound, IsWide}
 use Rattle.offset_heaps.specs.State.{AreRead, AreStatesOf, IsAdmitted, IsHeader, IsHeapAdmitted, IsHeapAt, IsHeapFormed, IsHeapState, IsRestored, IsStateOf, IsWellFormed, SameHeaps, heaps_numbers, quiet}
@@ -69,6 +69,10 @@ realm_quiet : (made : ℕ) (o : Option Guard) → IfSome o (λ g. g.realm ≤ ma
 realm_quiet made None h = tt
 realm_quiet made (Some g) h = h
 
+kind_quiet : (limits : Limits) (k : ℕ) (o : Option Guard) → IfSome o (IsOfKind limits k) → IfSome (quiet o) (IsOfKind limits k)
+kind_quiet limits k None h = tt
+kind_quiet limits k (Some g) h = h
+
 pub copied_sound : (max : ℕ) (slots copies : List (Option Guard)) (limits : Limits) (made : ℕ) (old new : Index) → IsSound max slots limits made old → copies ≡ map quiet slots
     → IsWide copies new → ((k : ℕ) → IsNoted limits copies new k) → ((bits : ℕ) → length copies ≤ 2 ^ bits → new.one.height ≤ bits) → IsSound max copies limits made new
 copied_sound max slots copies limits made old new is same wide noted low =
@@ -82,6 +86,7 @@ copied_sound max slots copies limits made old new is same wide noted low =
       limit_min = is.limit_min;
       limit_max = is.limit_max;
       realms = λ k. rw (same, slot_quiet k slots) (realm_quiet made (slot k slots) (is.realms k));
+      kinds = λ k. rw (same, slot_quiet k slots) (kind_quiet limits k (slot k slots) (is.kinds k));
     }
 
 -- the states of the first n heaps
@@ -238,13 +243,13 @@ eight bs =
     λ i. a i ∷ b i ∷ c i ∷ d i ∷ e i ∷ f i ∷ g i ∷ h i ∷ []
 
 -- what is true of the heaps of all numbers, is true of no heap behind them
-past_too : (P : Option Guard → Type 0) (slots : List (Option Guard)) → P None → ((k : ℕ) → k < length slots → P (slot k slots)) → (k : ℕ) → P (slot k slots)
-past_too P slots none each k = elim (cases_lt k (length slots)) [ inl l ↦ each k l | inr past ↦ subst P (sym (slot_past slots k past)) none ]
+past_too : (P : ℕ → Option Guard → Type 0) (slots : List (Option Guard)) → ((k : ℕ) → P k None) → ((k : ℕ) → k < length slots → P k (slot k slots)) → (k : ℕ) → P k (slot k slots)
+past_too P slots none each k = elim (cases_lt k (length slots)) [ inl l ↦ each k l | inr past ↦ subst (P k) (sym (slot_past slots k past)) (none k) ]
 
 -- what was read is of these bytes
 module _ (max mh ma : ℕ) (bs : List ℕ) (h : Header) (slots : List (Option Guard)) (accesses : ℕ) (hd : IsHeader max mh ma bs h)
     (start : number_at bs 8 ≡ 0) (end : number_at bs (8 + (h.limits.most + h.limits.most_larger)) ≡ length (drop (80 + 8 * (h.limits.most + h.limits.most_larger)) bs))
-    (are : AreRead max h.made ma (h.limits.most + h.limits.most_larger) bs (drop (80 + 8 * (h.limits.most + h.limits.most_larger)) bs) slots) (none : accesses ≡ 0) where
+    (are : AreRead h.limits max h.made ma (h.limits.most + h.limits.most_larger) bs (drop (80 + 8 * (h.limits.most + h.limits.most_larger)) bs) slots) (none : accesses ≡ 0) where
   abbrev pub m : ℕ
   m = h.limits.most + h.limits.most_larger
 
@@ -295,7 +300,7 @@ module _ (max mh ma : ℕ) (bs : List ℕ) (h : Header) (slots : List (Option Gu
   read_admitted = record {
     few = hd.few;
     limit = hd.limit_max;
-    heaps = past_too (λ o. IsHeapAdmitted max ma o) slots tt (λ k l. (are.heaps k (omega (arith, l, are.many))).admitted);
+    heaps = past_too (λ k o. IsHeapAdmitted max ma o) slots (λ k. tt) (λ k l. (are.heaps k (omega (arith, l, are.many))).admitted);
   }
 
   pub read_restored : IsRestored bs max mh ma v
@@ -305,8 +310,8 @@ module _ (max mh ma : ℕ) (bs : List ℕ) (h : Header) (slots : List (Option Gu
     rests = ap₂ (λ s a. record v { slots = s; accesses = a }) (sym (all_quiet slots slots refl (λ k l. sym (are.heaps k (omega (arith, l, are.many))).rests))) (sym none);
   }
 
-  read_formed : (k : ℕ) → IsHeapFormed h.made (slot k slots)
-  read_formed = past_too (λ o. IsHeapFormed h.made o) slots tt (λ k l. (are.heaps k (omega (arith, l, are.many))).formed)
+  read_formed : (k : ℕ) → IsHeapFormed h.limits h.made k (slot k slots)
+  read_formed = past_too (λ k o. IsHeapFormed h.limits h.made k o) slots (λ k. tt) (λ k l. (are.heaps k (omega (arith, l, are.many))).formed)
 
   pub read_well_formed : mh ≤ 4294967295 → IsWellFormed v
   read_well_formed few = record {
@@ -319,9 +324,13 @@ module _ (max mh ma : ℕ) (bs : List ℕ) (h : Header) (slots : List (Option Gu
     heaps = read_formed;
   }
 
-  realm_formed : (o : Option Guard) → IsHeapFormed h.made o → IfSome o (λ g. g.realm ≤ h.made)
-  realm_formed None f = tt
-  realm_formed (Some g) f = f.1
+  realm_formed : (k : ℕ) (o : Option Guard) → IsHeapFormed h.limits h.made k o → IfSome o (λ g. g.realm ≤ h.made)
+  realm_formed k None f = tt
+  realm_formed k (Some g) f = f.1
+
+  kind_formed : (k : ℕ) (o : Option Guard) → IsHeapFormed h.limits h.made k o → IfSome o (IsOfKind h.limits k)
+  kind_formed k None f = tt
+  kind_formed k (Some g) f = f.2
 
   pub read_sound : (index : Index) → mh ≤ 4294967295 → IsWide slots index → ((k : ℕ) → IsNoted h.limits slots index k) → ((bits : ℕ) → length slots ≤ 2 ^ bits → index.one.height ≤ bits)
       → IsSound max slots h.limits h.made index
@@ -333,7 +342,8 @@ module _ (max mh ma : ℕ) (bs : List ℕ) (h : Header) (slots : List (Option Gu
     low = low;
     limit_min = hd.limit_min;
     limit_max = hd.limit_max.0;
-    realms = λ k. realm_formed (slot k slots) (read_formed k);
+    realms = λ k. realm_formed k (slot k slots) (read_formed k);
+    kinds = λ k. kind_formed k (slot k slots) (read_formed k);
   }
 
 -- each of many heaps is well formed
@@ -347,16 +357,17 @@ formed max slots limits made realm accesses index is each size few small = recor
   limit = is.limit_min;
   made = few;
   realm = small;
-  heaps = past_too (λ o. IsHeapFormed made o) slots tt (λ k l. both (slot k slots) (each k l) (is.realms k));
+  heaps = past_too (λ k o. IsHeapFormed limits made k o) slots (λ k. tt) (λ k l. both k (slot k slots) (each k l) (is.realms k) (is.kinds k));
 }
   where
-    both : (o : Option Guard) → IfSome o (λ g. guarded.IsWellFormed g × (g.space.max_allocs + 1 < max)) → IfSome o (λ g. g.realm ≤ made) → IsHeapFormed made o
-    both None a b = tt
-    both (Some g) a b = (a.0, b)
+    both : (k : ℕ) (o : Option Guard) → IfSome o (λ g. guarded.IsWellFormed g × (g.space.max_allocs + 1 < max)) → IfSome o (λ g. g.realm ≤ made) → IfSome o (IsOfKind limits k)
+        → IsHeapFormed limits made k o
+    both k None a b c = tt
+    both k (Some g) a b c = (a.0, b, c)
 
 pub within_limit : (max : ℕ) (slots : List (Option Guard)) → ((k : ℕ) → k < length slots → IfSome (slot k slots) (λ g. guarded.IsWellFormed g × (g.space.max_allocs + 1 < max)))
     → (k : ℕ) → IfSome (slot k slots) (λ g. g.space.max_allocs + 1 < max)
-within_limit max slots each = past_too (λ o. IfSome o (λ g. g.space.max_allocs + 1 < max)) slots tt (λ k l. second (slot k slots) (each k l))
+within_limit max slots each = past_too (λ k o. IfSome o (λ g. g.space.max_allocs + 1 < max)) slots (λ k. tt) (λ k l. second (slot k slots) (each k l))
   where
     second : (o : Option Guard) → IfSome o (λ g. guarded.IsWellFormed g × (g.space.max_allocs + 1 < max)) → IfSome o (λ g. g.space.max_allocs + 1 < max)
     second None a = tt

@@ -110,6 +110,12 @@ pub record IsNew (size max_allocs number : ℕ) (g : Guard) : Type 0 where
   pub serials : (g.given ≡ 0) × (g.serials ≡ [])
   pub realm : g.realm ≡ number
 
+-- the heap of a number has the size and the node limit of its kind: those that the limits say of a heap of the usual size,
+-- where the number is below most, and else those of a larger one, which has the units of some request
+abbrev pub IsOfKind : Limits → ℕ → Guard → Type 0
+IsOfKind limits k g = ((k < limits.most) × (g.space.size ≡ limits.size) × (g.space.max_allocs ≡ limits.max_allocs))
+    ⊎ ((limits.most ≤ k) × (1 ≤ g.space.size) × (g.space.max_allocs ≡ larger_limit))
+
 -- the heap of a grant, as it was before: one that was there, a new one of the usual size, or one of the request's own size
 abbrev pub IsBefore : ℕ → ℕ → Heaps → Granted → Guard → Type 0
 IsBefore size align hs grant g = ((grant.is_new ≡ false) × (heap_at grant.place.heap hs ≡ Some g))

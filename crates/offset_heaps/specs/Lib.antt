@@ -1,5 +1,6 @@
 pub mod Heaps
 pub mod Maxima
+pub mod Relocating
 pub mod Slots
 pub mod Soundness
 pub mod State

@@ -1,5 +1,5 @@
 -- What a call leaves of the heap of one number.
-use Rattle.std.specs.Prelude.{◌≡◌, ℕ, ◌+◌, ◌*◌, ◌%◌, ◌<◌, ◌≤◌, ◌⊎◌, List, Option, Some, None, true, false, length, take, slice_set}
+use Rattle.std.specs.Prelude.{◌≡◌, ℕ, ◌+◌, ◌*◌, ◌%◌, ◌<◌, ◌≤◌, ◌⊎◌, List, Option, Some, None, true, false, length, nat_lt, take, slice_set, if◌then◌else◌}
 use Rattle.offset_allocator.specs.Classes.{down}
 use Rattle.offset_allocator.specs.Relations.{Aligns, Frees, Resets}
 use Rattle.offset_allocator.specs.Tight.{AlignsTight, CanHold}
@@ -71,3 +71,9 @@ pub record HasEmpty (n found at : ℕ) (slots : List (Option Guard)) : Type 0 wh
   pub count : found ≡ empties (take n slots)
   pub few : found ≤ n
   pub last : 1 ≤ found → (at < n) × (is_empty (slot at slots) ≡ true) × ((j : ℕ) → at < j → j < n → is_empty (slot j slots) ≡ false)
+
+-- of two heaps with so many live units, where there are two, the one with fewer, or else the second
+abbrev pub IsMore : Option (ℕ × ℕ) → ℕ → Option ℕ → Option (ℕ × ℕ) → Type 0
+IsMore found k None kept = kept ≡ found
+IsMore None k (Some n) kept = kept ≡ Some (k, n)
+IsMore (Some f) k (Some n) kept = kept ≡ (if nat_lt f.1 n then Some f else Some (k, n))

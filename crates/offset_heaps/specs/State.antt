@@ -4,11 +4,12 @@ use Rattle.offset_guarded.specs.Faults as texts
 use Rattle.offset_guarded.specs.Guard.{Guard}
 use Rattle.offset_guarded.specs.State.{checksum_from, number_at}
 use Rattle.offset_guarded.specs.State as guarded
-use Rattle.offset_heaps.specs.Heaps.{Heaps, heap_at, numbers, slot}
+use Rattle.offset_heaps.specs.Heaps.{Heaps, IsOfKind, heap_at, numbers, slot}
+use Rattle.offset_heaps.specs.declared.limits.Limits.{Limits}
 use Rattle.offset_heaps.specs.Maxima.{cell}
 use Rattle.offset_heaps.specs.declared.restoring.Header.{Header}
 use Rattle.offset_heaps.specs.declared.state.StateFaultKind.{StateFaultKind}
-use Rattle.offset_heaps.specs.declared.state.StateFaultKind.TheVariants.{Length, Form, Limits as OfLimits, Counts, Checksum, Place, Realm, Heap}
+use Rattle.offset_heaps.specs.declared.state.StateFaultKind.TheVariants.{Length, Form, Limits as OfLimits, Counts, Checksum, Place, Realm, Size, Heap}
 
 -- the bytes of the heap of a number: those of its state, or none where there is no heap
 abbrev pub IsHeapState : Option Guard → List ℕ → Type 0
@@ -59,9 +60,9 @@ IsCopy hs ks = ks ≡ uncounted hs
 abbrev pub SameHeaps : Heaps → Heaps → Type 0
 SameHeaps hs ks = uncounted ks ≡ uncounted hs
 
--- what is true of each heap, of so many that were made
-abbrev pub IsHeapFormed : ℕ → Option Guard → Type 0
-IsHeapFormed made o = IfSome o (λ g. guarded.IsWellFormed g × (g.realm ≤ made))
+-- what is true of the heap of a number, of so many that were made
+abbrev pub IsHeapFormed : Limits → ℕ → ℕ → Option Guard → Type 0
+IsHeapFormed limits made k o = IfSome o (λ g. guarded.IsWellFormed g × (g.realm ≤ made) × IsOfKind limits k g)
 
 -- what is true of many heaps
 pub record IsWellFormed (hs : Heaps) : Type 0 where
@@ -71,8 +72,8 @@ pub record IsWellFormed (hs : Heaps) : Type 0 where
   pub limit : 4 ≤ hs.limits.max_allocs
   pub made : hs.made ≤ 4294967295
   pub realm : hs.realm ≤ 4294967295
-  -- each heap is well formed, and a later one has another realm
-  pub heaps : (k : ℕ) → IsHeapFormed hs.made (heap_at k hs)
+  -- each heap is well formed and of the kind of its number, and a later one has another realm
+  pub heaps : (k : ℕ) → IsHeapFormed hs.limits hs.made k (heap_at k hs)
 
 -- the node limit of a heap is one of the index type, and the caller's
 abbrev pub IsHeapAdmitted : ℕ → ℕ → Option Guard → Type 0
@@ -111,30 +112,30 @@ pub record IsHeader (max most_heaps most_allocs : ℕ) (bytes : List ℕ) (h : H
   pub few : h.limits.most + h.limits.most_larger ≤ most_heaps
   pub fits : (h.limits.size ≤ 4294967295) × (h.made ≤ 4294967295) × (h.realm ≤ 4294967295)
 
--- a heap that was read of these bytes
-pub record IsHeapRead (max made most_allocs : ℕ) (bytes : List ℕ) (o : Option Guard) : Type 0 where
+-- the heap of a number that was read of these bytes
+pub record IsHeapRead (limits : Limits) (max made most_allocs k : ℕ) (bytes : List ℕ) (o : Option Guard) : Type 0 where
   pub state : IsHeapState o bytes
-  pub formed : IsHeapFormed made o
+  pub formed : IsHeapFormed limits made k o
   pub admitted : IsHeapAdmitted max most_allocs o
   pub rests : quiet o ≡ o
 
 -- the same, of the bytes from one place to another
-pub record IsHeapReadAt (max made most_allocs from to : ℕ) (bytes : List ℕ) (o : Option Guard) : Type 0 where
+pub record IsHeapReadAt (limits : Limits) (max made most_allocs k from to : ℕ) (bytes : List ℕ) (o : Option Guard) : Type 0 where
   pub state : IsHeapAt o from to bytes
-  pub formed : IsHeapFormed made o
+  pub formed : IsHeapFormed limits made k o
   pub admitted : IsHeapAdmitted max most_allocs o
   pub rests : quiet o ≡ o
 
 -- all heaps that were read: the place of each is one of the numbers
-pub record AreRead (max made most_allocs count : ℕ) (bytes states : List ℕ) (slots : List (Option Guard)) : Type 0 where
+pub record AreRead (limits : Limits) (max made most_allocs count : ℕ) (bytes states : List ℕ) (slots : List (Option Guard)) : Type 0 where
   pub many : length slots ≡ count
-  pub heaps : (k : ℕ) → k < count → IsHeapReadAt max made most_allocs (number_at bytes (8 + k)) (number_at bytes (9 + k)) states (slot k slots)
+  pub heaps : (k : ℕ) → k < count → IsHeapReadAt limits max made most_allocs k (number_at bytes (8 + k)) (number_at bytes (9 + k)) states (slot k slots)
 
 -- no heaps have these bytes
-abbrev pub AreNone : ℕ → ℕ → ℕ → ℕ → List ℕ → List ℕ → Type 0
-AreNone max made most_allocs count bytes states = (slots : List (Option Guard)) → length slots ≡ count
+abbrev pub AreNone : Limits → ℕ → ℕ → ℕ → ℕ → List ℕ → List ℕ → Type 0
+AreNone limits max made most_allocs count bytes states = (slots : List (Option Guard)) → length slots ≡ count
     → ((k : ℕ) → k < count → IsHeapAt (slot k slots) (number_at bytes (8 + k)) (number_at bytes (9 + k)) states)
-    → ((k : ℕ) → IsHeapFormed made (slot k slots)) → ((k : ℕ) → IsHeapAdmitted max most_allocs (slot k slots)) → ⊥
+    → ((k : ℕ) → IsHeapFormed limits made k (slot k slots)) → ((k : ℕ) → IsHeapAdmitted max most_allocs (slot k slots)) → ⊥
 
 -- the texts of what is wrong with the bytes of a state
 abbrev pub fault_words : StateFaultKind → List ℕ
@@ -145,4 +146,5 @@ fault_words Counts = codes "a realm or a count of more than 32 bits"
 fault_words Checksum = codes "a checksum that is not that of the numbers"
 fault_words Place = codes "the place of a heap that is not behind the one before it, or not in the bytes"
 fault_words Realm = codes "the realm of a heap that was not made"
+fault_words Size = codes "a heap of another size or node limit than the limits say"
 fault_words (Heap kind) = texts.fault_words kind

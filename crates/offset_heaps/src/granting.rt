@@ -33,10 +33,10 @@ impl<T: Tables> HeapsOf<T> {
     ghost use Rattle.offset_heaps.specs.Heaps.{IsNext, IsSame};
     ghost use Rattle.offset_heaps.specs.Heaps.{IsSpareLarger, IsSpareUsual, IsUsual, IsWhy, NoneFits};
     ghost use Rattle.offset_heaps.specs.Heaps.{TakesFewSteps};
-    ghost use Rattle.offset_heaps.specs.Heaps.{Adds, IsForRoom, IsWhyNotMade, last_realm, numbers, room_of};
+    ghost use Rattle.offset_heaps.specs.Heaps.{Adds, IsForRoom, IsOfKind, IsWhyNotMade, last_realm, numbers, room_of};
 
     // The first heap that has room for a request.
-    fn first_fit(&mut self, units: u64, align: u32) -> Option<u32>
+    pub(crate) fn first_fit(&mut self, units: u64, align: u32) -> Option<u32>
         requires some { 1 ≤ units }
         requires power { 1 ≤ align }
         ensures first { MatchOption result (NoneFits (blocks_needed align) units self.old)
@@ -85,7 +85,7 @@ impl<T: Tables> HeapsOf<T> {
     }
 
     // Grants a request in the heap of a number, which has room for it.
-    fn grant_at(&mut self, number: u32, size: u32, align: u32) -> Granted
+    pub(crate) fn grant_at(&mut self, number: u32, size: u32, align: u32) -> Granted
         requires there { number < length self.old.slots }
         requires some { 1 ≤ units_needed size align }
         requires power { IsAlignment align }
@@ -115,6 +115,7 @@ impl<T: Tables> HeapsOf<T> {
         requires there { number < length self.old.slots }
         requires left { self.old.made < last_realm }
         requires realm { IfSome slot (λ g. g.realm ≡ self.old.made + 1) }
+        requires kind { IfSome slot (IsOfKind self.old.limits number) }
         ensures heaps { Adds number slot self.old self.new }
         ensures granted { result ≡ record {
           place = record { heap = number; realm = self.old.realm; ticket = ticket };
@@ -164,6 +165,7 @@ impl<T: Tables> HeapsOf<T> {
     // Makes a heap of the size of a request.
     fn grant_larger(&mut self, number: u32, size: u32, align: u32) -> Result<Granted, Refusal>
         requires spare { IsSpareLarger number self.old }
+        requires units { 1 ≤ size }
         requires some { 1 ≤ align }
         requires unusual { IsUsual (units_needed size align) self.old → ⊥ }
         ensures why { IfErr result (IsWhyNotMade self.old) }
@@ -186,6 +188,7 @@ impl<T: Tables> HeapsOf<T> {
 
     // Makes a heap for a request that none has room for.
     fn grant_new(&mut self, size: u32, align: u32, units: u64) -> Result<Granted, Refusal>
+        requires size { 1 ≤ size }
         requires units { units ≡ units_needed size align }
         requires some { 1 ≤ units_needed size align }
         requires power { IsAlignment align }

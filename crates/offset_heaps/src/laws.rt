@@ -9,6 +9,7 @@ ghost use Rattle.offset_heaps.specs.State.{IsStateOf, IsWellFormed, SameHeaps};
 ghost use Rattle.offset_heaps.specs.declared.place.Place.{Place};
 
 use crate::HeapsOf;
+pub use crate::relocating::emptiest_counted;
 use offset_allocator::Tables;
 use offset_allocator::laws::ranges_are_disjoint;
 

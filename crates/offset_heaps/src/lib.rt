@@ -20,7 +20,7 @@
 #![tactic(auto)]
 
 ghost use Rattle.std.specs.Prelude.{◌≡◌, ◌↔◌, ◌+◌, ◌^◌, ◌<◌, ◌≤◌, None, IsTrue, IfOk, option_copied};
-ghost use Rattle.std.specs.Prelude.{option_map};
+ghost use Rattle.std.specs.Prelude.{IsSome, option_map};
 ghost use Rattle.std.specs.Prelude.{replicate};
 ghost use Rattle.offset_allocator.specs.Ranges.{Range};
 
@@ -34,6 +34,7 @@ mod making;
 mod maxima;
 mod place;
 mod refusal;
+mod relocating;
 mod restoring;
 mod saving;
 mod slots;
@@ -148,7 +149,8 @@ impl<T: Tables> HeapsOf<T> {
 
     // The heap of a place.
     fn heap_of(&self, place: Place) -> Option<&GuardedOf<T>>
-        ensures { range_of place self.now ≡ range_in place.ticket (option_copied result) }
+        ensures range { range_of place self.now ≡ range_in place.ticket (option_copied result) }
+        ensures heap { IsSome result → option_copied result ≡ heap_at place.heap self.now }
     {
         if place.realm != self.realm {
             return None;

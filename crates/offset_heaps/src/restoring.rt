@@ -1,12 +1,14 @@
 //! Many heaps from the bytes of their state, or what is wrong with them. It makes heaps, and their index.
-ghost use Rattle.std.specs.Prelude.{ℕ, ◌≡◌, ◌+◌, ◌*◌, ◌<◌, ◌≤◌, IfOk, IsErr, Option, length};
+ghost use Rattle.std.specs.Prelude.{ℕ, ◌≡◌, ◌↔◌, ◌+◌, ◌*◌, ◌<◌, ◌≤◌, IfOk, IsErr, IsTrue, Option, length};
 ghost use Rattle.offset_guarded.specs.Guard.{Guard};
+ghost use Rattle.offset_heaps.specs.Heaps.{IsOfKind};
 ghost use Rattle.offset_heaps.specs.State.{AreNone, AreRead, IsHeader, IsHeapAdmitted, IsHeapFormed};
 ghost use Rattle.offset_heaps.specs.State.{IsHeapRead, IsHeapState, IsNoState, IsRestored, IsWellFormed};
 
 use crate::HeapsOf;
 use crate::copying::index_of;
 use crate::limits::Limits;
+use crate::making::LARGER_LIMIT;
 use crate::slots::{self, Slots};
 use crate::state::{StateFault, StateFaultKind, checksum, number};
 use offset_allocator::{Accesses, NodeIndex, Tables};
@@ -89,15 +91,30 @@ fn header_of<T: Tables>(
     })
 }
 
-// The heap of these bytes, or none where there are none.
+// Whether a heap has the size and the node limit of the kind of a number.
+fn is_of_kind<T: Tables>(heap: &GuardedOf<T>, number: u32, limits: Limits) -> bool
+    ensures { IsTrue result ↔ IsOfKind limits number heap.now }
+{
+    let space = heap.allocator();
+    if number < limits.most {
+        space.size() == limits.size && space.max_allocs() == limits.max_allocs
+    } else {
+        space.size() >= 1 && space.max_allocs() == LARGER_LIMIT
+    }
+}
+
+// The heap of a number from these bytes, or none where there are none.
 fn read_heap<T: Tables>(
     alloc: Global,
     bytes: &[u8],
+    number: u32,
+    limits: Limits,
     made: u32,
     most_allocs: u32,
 ) -> Result<Result<Option<GuardedOf<T>>, StateFault>, AllocError>
-    ensures read { IfOk result (λ r. IfOk r (IsHeapRead T.Index.MAX made most_allocs bytes.now)) }
-    ensures refused { IfOk result (λ r. IsErr r → (o : Option Guard) → IsHeapFormed made o
+    ensures read { IfOk result (λ r. IfOk r
+        (IsHeapRead limits T.Index.MAX made most_allocs number bytes.now)) }
+    ensures refused { IfOk result (λ r. IsErr r → (o : Option Guard) → IsHeapFormed limits made number o
         → IsHeapAdmitted T.Index.MAX most_allocs o → IsHeapState o bytes.now → ⊥) }
 {
     if bytes.len() == 0 {
@@ -120,6 +137,12 @@ fn read_heap<T: Tables>(
             kind: StateFaultKind::Realm,
         }));
     }
+    if !is_of_kind(&heap, number, limits) {
+        return Ok(Err(StateFault {
+            at: 0,
+            kind: StateFaultKind::Size,
+        }));
+    }
     Ok(Ok(Some(heap)))
 }
 
@@ -129,12 +152,15 @@ fn read_slots<T: Tables>(
     bytes: &[u8],
     states: &[u8],
     count: u32,
+    limits: Limits,
     made: u32,
     most_allocs: u32,
 ) -> Result<Result<Slots<T>, StateFault>, AllocError>
     requires long { 80 + 8 * count ≤ length bytes.now }
-    ensures read { IfOk result (λ r. IfOk r (λ s. AreRead T.Index.MAX made most_allocs count bytes.now states.now s.items)) }
-    ensures refused { IfOk result (λ r. IsErr r → AreNone T.Index.MAX made most_allocs count bytes.now states.now) }
+    ensures read { IfOk result (λ r. IfOk r (λ s. AreRead limits T.Index.MAX made most_allocs count
+        bytes.now states.now s.items)) }
+    ensures refused { IfOk result (λ r. IsErr r
+        → AreNone limits T.Index.MAX made most_allocs count bytes.now states.now) }
 {
     let start = 80 + 8 * count as usize;
     let mut slots = slots::none(alloc, count)?;
@@ -150,6 +176,8 @@ fn read_slots<T: Tables>(
         let heap = match read_heap(
             alloc,
             &states[from as usize..to as usize],
+            k,
+            limits,
             made,
             most_allocs,
         )? {
@@ -214,7 +242,15 @@ impl<T: Tables> HeapsOf<T> {
                 kind: StateFaultKind::Place,
             }));
         }
-        let slots = match read_slots(alloc, bytes, states, count, header.made, most_allocs)? {
+        let slots = match read_slots(
+            alloc,
+            bytes,
+            states,
+            count,
+            limits,
+            header.made,
+            most_allocs,
+        )? {
             Err(fault) => return Ok(Err(fault)),
             Ok(slots) => slots,
         };

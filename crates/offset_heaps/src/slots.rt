@@ -1,15 +1,18 @@
 //! The heaps by their numbers: no other module reads or writes them. Each function counts the slots that it
 //! touches.
 ghost use Rattle.std.specs.Prelude.{◌≡◌, ◌↔◌, ◌+◌, ◌^◌, ◌<◌, ◌≤◌, IsTrue, IsSome, None, Some, false, length};
-ghost use Rattle.std.specs.Prelude.{IfOk, is_some, option_copied, replicate, slice_set, true, if◌then◌else◌};
+ghost use Rattle.std.specs.Prelude.{IfOk, MatchOption, is_some, option_copied, replicate};
+ghost use Rattle.std.specs.Prelude.{ℕ, slice_set, true, if◌then◌else◌};
 ghost use Rattle.offset_allocator.specs.Relations.{IsAlignment};
 ghost use Rattle.offset_allocator.specs.Requests.{blocks_needed, units_needed};
 ghost use Rattle.offset_allocator.specs.Tight.{CanHold};
 ghost use Rattle.offset_guarded.specs.Guard.{Guard, HasSerialLeft};
-ghost use Rattle.offset_heaps.specs.Heaps.{is_empty, range_in, room_of, slot};
+ghost use Rattle.offset_heaps.specs.Heaps.{is_empty, live_of, part, range_in, room_of, slot};
+ghost use Rattle.offset_heaps.specs.Relocating.{HasLive, IsEmptiest, NoneLive, Takes, units_in};
 ghost use Rattle.offset_heaps.specs.Slots.{CanHoldIn, Changes, FreesIn, HasEmpty, KeepsOthersIn};
-ghost use Rattle.offset_heaps.specs.Slots.{ResetsIn, Serves, ServesTight};
+ghost use Rattle.offset_heaps.specs.Slots.{IsMore, ResetsIn, Serves, ServesTight};
 
+use crate::index::rooms;
 use offset_allocator::laws::is_well_formed;
 use offset_allocator::{Accesses, Tables};
 use offset_guarded::{GuardedOf, Ticket};
@@ -215,4 +218,132 @@ pub(crate) fn last_empty<T: Tables>(
         seen = with_number(seen, number, empty);
     }
     seen
+}
+
+/// The units of the range of a ticket in the heap of a number, or 0, and the units that are live there.
+pub(crate) fn units_at<T: Tables>(
+    slots: &Slots<T>,
+    number: u32,
+    ticket: Ticket,
+    count: &mut Accesses,
+) -> (u32, u32)
+    ensures units { result.0 ≡ units_in (range_in ticket (slot number slots.now.items)) }
+    ensures live { result.1 ≡ part live_of (slot number slots.now.items) }
+    ensures accesses { count.new ≡ count.old + 1 }
+{
+    match at(slots, number, count) {
+        None => (0, 0),
+        Some(heap) => (
+            heap.size_of(ticket).unwrap_or(0),
+            heap.allocator().live_units(),
+        ),
+    }
+}
+
+// Whether the heap of a number takes units of another one, in which so many are live.
+fn takes<T: Tables>(
+    slots: &Slots<T>,
+    number: u32,
+    own: u32,
+    units: u32,
+    live: u32,
+    count: &mut Accesses,
+) -> bool
+    requires { 1 ≤ units }
+    ensures takes { IsTrue result ↔ Takes own units live slots.now.items number }
+    ensures accesses { count.new ≡ count.old + 1 }
+{
+    match at(slots, number, count) {
+        None => false,
+        Some(heap) => {
+            let (room, _) = rooms(Some(heap));
+            number != own && room >= units && heap.allocator().live_units() >= live
+        }
+    }
+}
+
+/// The first heap, from a number on, that takes units of another one, in which so many are live.
+pub(crate) fn taker<T: Tables>(
+    slots: &Slots<T>,
+    from: u32,
+    numbers: u32,
+    own: u32,
+    units: u32,
+    live: u32,
+    count: &mut Accesses,
+) -> Option<u32>
+    requires some { 1 ≤ units }
+    requires from { from ≤ numbers }
+    requires numbers { numbers ≤ length slots.now.items }
+    ensures first { MatchOption result
+        ((k : ℕ) → from ≤ k → k < numbers → Takes own units live slots.now.items k → ⊥)
+        (λ k. (k < numbers) × Takes own units live slots.now.items k
+        × ((j : ℕ) → from ≤ j → j < k → Takes own units live slots.now.items j → ⊥)) }
+    ensures accesses { count.new ≤ count.old + numbers }
+{
+    for number in from..numbers {
+        if takes(slots, number, own, units, live, count) {
+            return Some(number);
+        }
+    }
+    None
+}
+
+// The live units of the heap of a number, or `None` where nothing is live in it.
+fn live_at<T: Tables>(slots: &Slots<T>, number: u32, count: &mut Accesses) -> Option<u32>
+    ensures live { MatchOption result (HasLive (slot number slots.now.items) → ⊥)
+        (λ n. HasLive (slot number slots.now.items) × (n ≡ part live_of (slot number slots.now.items))) }
+    ensures accesses { count.new ≡ count.old + 1 }
+{
+    match at(slots, number, count) {
+        None => None,
+        Some(heap) => {
+            let space = heap.allocator();
+            if space.is_empty() {
+                None
+            } else {
+                Some(space.live_units())
+            }
+        }
+    }
+}
+
+// The emptiest heap so far, and its live units, with those of one more heap.
+fn with_live(found: Option<(u32, u32)>, number: u32, live: Option<u32>) -> Option<(u32, u32)>
+    ensures { IsMore found number live result }
+{
+    match (found, live) {
+        (_, None) => found,
+        (None, Some(units)) => Some((number, units)),
+        (Some((_, fewest)), Some(units)) => {
+            if units <= fewest {
+                Some((number, units))
+            } else {
+                found
+            }
+        }
+    }
+}
+
+/// The heap with the fewest live units, of the first `numbers` numbers whose heaps have a live range, and the
+/// last such.
+pub(crate) fn emptiest<T: Tables>(
+    slots: &Slots<T>,
+    numbers: u32,
+    count: &mut Accesses,
+) -> Option<u32>
+    requires { numbers ≤ length slots.now.items }
+    ensures emptiest { MatchOption result (NoneLive numbers slots.now.items)
+        (IsEmptiest numbers slots.now.items) }
+    ensures accesses { count.new ≡ count.old + numbers }
+{
+    let mut found = None;
+    for number in 0..numbers {
+        let live = live_at(slots, number, count);
+        found = with_live(found, number, live);
+    }
+    match found {
+        None => None,
+        Some((number, _)) => Some(number),
+    }
 }

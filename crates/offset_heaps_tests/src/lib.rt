@@ -6,4 +6,6 @@ mod asserts;
 #[cfg(test)]
 mod heaps;
 #[cfg(test)]
+mod relocating;
+#[cfg(test)]
 mod states;

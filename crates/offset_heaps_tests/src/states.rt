@@ -5,7 +5,7 @@ use crate::asserts::{assert_same, assert_that};
 use offset_allocator::{ByField, ByNode, Tables};
 use offset_guarded::StateFaultKind as HeapFault;
 use offset_heaps::StateFaultKind::{
-    Checksum, Counts, Form, Heap, Length, Limits as OfLimits, Place as OfPlace, Realm,
+    Checksum, Counts, Form, Heap, Length, Limits as OfLimits, Place as OfPlace, Realm, Size,
 };
 use offset_heaps::{HeapsOf, Limits, Place, StateFault, StateFaultKind};
 use std::alloc::Global;
@@ -29,13 +29,13 @@ struct Case {
 
 // The limits, how many heaps were made, the realm, and the places: of one heap of the usual size, and of a
 // larger one that is not there. The state of the heap begins behind 8 * 12 bytes.
-const CASES: [Case; 16] = [
+const CASES: [Case; 20] = [
     Case {
         numbers: &[HEAPS, 1, 100, 4, 1, 1, 1, 9, 0, 116, 116],
         start: 0,
         fault: None,
     },
-    // no other limits are compared with those of the heaps, and it may be the heap of another number
+    // it may be a larger heap, whose units are those of any request
     Case {
         numbers: &[HEAPS, 1, 0xFFFF_FFFF, 5, 0, 2, 0xFFFF_FFFF, 0, 0, 0, 116],
         start: 0,
@@ -92,6 +92,28 @@ const CASES: [Case; 16] = [
         numbers: &[HEAPS, 1, 100, 4, 1, 1, 1, 9, 0, 116, 116],
         start: 1,
         fault: Some((88, Checksum)),
+    },
+    // the heap has 100 units, and the node limit 4
+    Case {
+        numbers: &[HEAPS, 1, 99, 4, 1, 1, 1, 9, 0, 116, 116],
+        start: 0,
+        fault: Some((96, Size)),
+    },
+    Case {
+        numbers: &[HEAPS, 1, 101, 4, 0, 2, 1, 9, 0, 116, 116],
+        start: 0,
+        fault: None,
+    },
+    Case {
+        numbers: &[HEAPS, 1, 100, 5, 1, 1, 1, 9, 0, 116, 116],
+        start: 0,
+        fault: Some((96, Size)),
+    },
+    // the second number is that of a heap of the usual size too
+    Case {
+        numbers: &[HEAPS, 1, 100, 5, 2, 0, 1, 9, 0, 0, 116],
+        start: 0,
+        fault: Some((96, Size)),
     },
     // a heap of the first realm, where none was made
     Case {

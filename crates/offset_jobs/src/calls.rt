@@ -1,10 +1,27 @@
 //! Lists of calls, by handles and by tickets, with compactions among them.
 
 use crate::random::{Digest, Random};
-use offset_allocator::ByNode;
-use offset_calls::{Call, Reply, TicketCall, are_valid, play_calls, play_guarded};
+use offset_allocator::{ByNode, RoomCost};
+use offset_calls::{Call, Moved, Reply, TicketCall, are_valid, play_calls, play_guarded};
 use offset_script::{Answer, Command};
 use std::alloc::{AllocError, Global};
+
+// Adds the numbers of moves.
+fn add_moves(moves: &[Moved], digest: &mut Digest) {
+    for range in moves {
+        digest.add(range.number);
+        digest.add(u64::from(range.from) << 32 | u64::from(range.to));
+        digest.add(u64::from(range.size));
+    }
+}
+
+// Adds what room costs.
+fn add_cost(cost: &Option<RoomCost>, digest: &mut Digest) {
+    match cost {
+        None => digest.add(12),
+        Some(cost) => digest.add(u64::from(cost.units) << 32 | u64::from(cost.ranges)),
+    }
+}
 
 // Adds the answer to a command.
 fn add_answer(answer: &Answer, digest: &mut Digest) {
@@ -38,16 +55,20 @@ pub fn add_replies(replies: &[Reply], digest: &mut Digest) {
         match reply {
             Reply::Answer(answer) => add_answer(answer, digest),
             Reply::Resized => digest.add(6),
-            Reply::Compacted(moves) => {
-                for range in moves {
-                    digest.add(range.number);
-                    digest.add(u64::from(range.from) << 32 | u64::from(range.to));
-                    digest.add(u64::from(range.size));
-                }
-            }
+            Reply::Compacted(moves) => add_moves(moves, digest),
             Reply::Offset(offset) => digest.add(u64::from(*offset)),
             Reply::Refusal(None) => digest.add(7),
             Reply::Refusal(Some(why)) => digest.add(8 + *why as u64),
+            Reply::RoomMade(cost, moves) => {
+                add_cost(cost, digest);
+                add_moves(moves, digest);
+            }
+            Reply::RoomCost(cost) => add_cost(cost, digest),
+            Reply::Beside(None) => digest.add(13),
+            Reply::Beside(Some(range)) => {
+                digest.add(range.number);
+                digest.add(u64::from(range.offset));
+            }
         }
     }
 }

@@ -4,7 +4,7 @@ use crate::layouts::{Kept, Work};
 use crate::numbers::{Cells, put};
 use crate::outcomes::Failure;
 use offset_allocator::{NodeIndex, Tables};
-use offset_heaps::{HeapsOf, Limits, Place, Refusal};
+use offset_heaps::{HeapsOf, Limits, Place, Refusal, Totals};
 use offset_script::Script;
 use std::alloc::Global;
 
@@ -79,7 +79,11 @@ fn request<T: Tables>(
 // Makes another call on a place that was granted. It returns the result as a number.
 fn call<T: Tables>(heaps: &mut HeapsOf<T>, place: Place, kind: u32, number: u32) -> u64 {
     match kind {
-        0..=9 => u64::from(heaps.free(place)),
+        0..=8 => u64::from(heaps.free(place)),
+        9 => match heaps.relocate(place) {
+            None => 9,
+            Some(second) => u64::from(heaps.free(second)),
+        },
         10 => u64::from(heaps.drop_heap(place.heap)),
         11 => u64::from(heaps.drop_empty(1).unwrap_or(9)),
         12 => u64::from(heaps.give_up(place.heap)),
@@ -141,6 +145,59 @@ impl Work for MakeHeapsAndCall {
         put(cells, made.usual);
         put(cells, made.larger);
         put(cells, sum);
+        Ok(())
+    }
+}
+
+// Puts what is live and free in all heaps into the cells.
+fn put_totals(cells: &mut Cells<'_>, totals: Totals) {
+    put(cells, u64::from(totals.heaps));
+    put(cells, totals.units);
+    put(cells, totals.live_units);
+    put(cells, u64::from(totals.largest_free_region));
+}
+
+// How many heaps of the usual size there are.
+fn usual<T: Tables>(heaps: &HeapsOf<T>) -> u64 {
+    let mut found = 0u64;
+    for number in 0..4u32 {
+        if heaps.heap(number).is_some() {
+            found = found.wrapping_add(1);
+        }
+    }
+    found
+}
+
+/// Makes the heaps and 1,000 calls, copies them, writes their state and reads that. It puts the number of
+/// heaps of the usual size, the totals of the copy, the number of bytes, and the totals of what is read into
+/// the cells.
+pub struct MakeHeapsAndStore;
+
+impl Work for MakeHeapsAndStore {
+    fn run<T: Tables>(
+        &self,
+        alloc: Global,
+        script: &Script,
+        _kept: &mut [Kept<T::Index>],
+        cells: &mut Cells<'_>,
+    ) -> Result<(), Failure> {
+        let mut heaps = made::<T>(alloc, script)?;
+        let mut counts = Counts {
+            usual: 0,
+            larger: 0,
+        };
+        let _sum = checksum(&mut heaps, &mut counts)?;
+        let copy = heaps.try_clone(alloc)?;
+        let bytes = heaps.write_state(alloc)?;
+        let read = HeapsOf::<T>::read_state(alloc, &bytes, 7, script.max_allocs)?;
+        // nothing is put before the last request
+        put(cells, usual(&heaps));
+        put_totals(cells, copy.totals());
+        put(cells, bytes.len() as u64);
+        match read {
+            Ok(read) => put_totals(cells, read.totals()),
+            Err(fault) => put(cells, fault.at as u64),
+        }
         Ok(())
     }
 }

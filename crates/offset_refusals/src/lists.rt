@@ -21,7 +21,7 @@ const SHORT: [Call; 7] = [
 
 // What is called after the command at a place.
 fn between(place: u32) -> Call {
-    match place % 8 {
+    match place % 16 {
         0 => Call::Refusal(place),
         1 => Call::Shrink(place / 2, 3),
         2 => Call::Grow(place / 2, 20),
@@ -29,7 +29,15 @@ fn between(place: u32) -> Call {
         4 => Call::RefusalAligned(place, 8),
         5 => Call::Compact,
         6 => Call::Grow(place / 3, 30),
-        _ => Call::Shrink(place / 3, 5),
+        7 => Call::Shrink(place / 3, 5),
+        8 => Call::MakeRoom(place % 40),
+        9 => Call::First,
+        10 => Call::Relocate(place / 2),
+        11 => Call::Last,
+        12 => Call::Before(place / 2),
+        13 => Call::Retract(1),
+        14 => Call::After(place / 3),
+        _ => Call::RoomCost(place % 60),
     }
 }
 

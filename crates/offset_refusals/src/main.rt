@@ -22,7 +22,7 @@ mod scripts;
 mod tickets;
 
 use allocators::{MakeAndCall, MakeAndFill, MakeAndStore, MakeDefault, MakeLimited, Play};
-use heaps::{MakeHeaps, MakeHeapsAndCall};
+use heaps::{MakeHeaps, MakeHeapsAndCall, MakeHeapsAndStore};
 use layouts::{Layout, Work, run_on};
 use lists::{PlayList, PlayTickets};
 use outcomes::code;
@@ -30,7 +30,7 @@ use std::alloc::{AllocError, Global};
 use std::io::{Read, Write};
 use std::process::ExitCode;
 use std::{env, io};
-use tickets::MakeGuardedAndCall;
+use tickets::{MakeGuardedAndCall, MakeGuardedAndStore};
 
 // More numbers than a call has as results.
 const CELLS: usize = 131_072;
@@ -66,8 +66,10 @@ fn made_on(
         "list" => work_on(layout, &PlayList, alloc, text, cells),
         "tickets" => work_on(layout, &PlayTickets, alloc, text, cells),
         "guarded" => work_on(layout, &MakeGuardedAndCall, alloc, text, cells),
+        "guarded_store" => work_on(layout, &MakeGuardedAndStore, alloc, text, cells),
         "heaps" => work_on(layout, &MakeHeaps, alloc, text, cells),
         "heaps_calls" => work_on(layout, &MakeHeapsAndCall, alloc, text, cells),
+        "heaps_store" => work_on(layout, &MakeHeapsAndStore, alloc, text, cells),
         _ => return None,
     })
 }

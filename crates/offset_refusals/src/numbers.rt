@@ -1,6 +1,6 @@
 //! Results as numbers. A variant of an enum is its place in the declaration, from 0.
 
-use offset_allocator::StorageReport;
+use offset_allocator::{RoomCost, StorageReport};
 use offset_calls::{Moved, Reply};
 use offset_script::{Answer, Command, FullRow, IndexWidth, Script, ScriptFault};
 use std::slice::IterMut;
@@ -108,6 +108,21 @@ fn put_moved(cells: &mut Cells<'_>, moved: &Moved) {
     put_all(cells, &[moved.from, moved.to, moved.size]);
 }
 
+fn put_moves(cells: &mut Cells<'_>, moves: &[Moved]) {
+    put(cells, moves.len() as u64);
+    for moved in moves {
+        put_moved(cells, moved);
+    }
+}
+
+// 0, or 1 with the units and the ranges.
+fn put_cost(cells: &mut Cells<'_>, cost: &Option<RoomCost>) {
+    match cost {
+        None => put(cells, 0),
+        Some(cost) => put_all(cells, &[1, cost.units, cost.ranges]),
+    }
+}
+
 fn put_reply(cells: &mut Cells<'_>, reply: &Reply) {
     match reply {
         Reply::Answer(answer) => {
@@ -117,10 +132,7 @@ fn put_reply(cells: &mut Cells<'_>, reply: &Reply) {
         Reply::Resized => put(cells, 1),
         Reply::Compacted(moves) => {
             put(cells, 2);
-            put(cells, moves.len() as u64);
-            for moved in moves {
-                put_moved(cells, moved);
-            }
+            put_moves(cells, moves);
         }
         Reply::Offset(offset) => put_all(cells, &[3, *offset]),
         Reply::Refusal(None) => put(cells, 4),
@@ -128,10 +140,25 @@ fn put_reply(cells: &mut Cells<'_>, reply: &Reply) {
             put(cells, 5);
             put(cells, u64::from(*why as u8));
         }
+        Reply::RoomMade(cost, moves) => {
+            put(cells, 6);
+            put_cost(cells, cost);
+            put_moves(cells, moves);
+        }
+        Reply::RoomCost(cost) => {
+            put(cells, 7);
+            put_cost(cells, cost);
+        }
+        Reply::Beside(None) => put(cells, 8),
+        Reply::Beside(Some(range)) => {
+            put(cells, 9);
+            put(cells, range.number);
+            put(cells, u64::from(range.offset));
+        }
     }
 }
 
-/// Puts each reply with its numbers; a compaction has the number of its moves before them.
+/// Puts each reply with its numbers; moves have their number before them.
 pub fn put_replies(cells: &mut Cells<'_>, replies: &[Reply]) {
     for reply in replies {
         put_reply(cells, reply);

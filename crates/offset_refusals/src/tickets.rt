@@ -32,7 +32,15 @@ fn call<T: Tables>(
             0..=9 => u64::from(space.free(ticket)),
             10 => u64::from(space.shrink(ticket, number / 2) == Some(true)),
             11 => u64::from(space.grow_in_place(ticket, number) == Some(true)),
-            12 => u64::from(space.extend(number)),
+            12 => match number % 4 {
+                0 => u64::from(space.extend(number)),
+                1 => u64::from(space.retract(number % 8)),
+                2 => match space.relocate(ticket) {
+                    None => 1,
+                    Some(second) => u64::from(space.free(second)),
+                },
+                _ => u64::from(space.last_live() == Some(ticket)),
+            },
             13 => u64::from(space.size_of(ticket).unwrap_or(0)),
             14 => u64::from(space.offset_of(ticket).unwrap_or(0)),
             _ => {
@@ -87,6 +95,41 @@ impl Work for MakeGuardedAndCall {
         let mut copy = space.try_clone(alloc)?;
         put(cells, sum);
         put(cells, checksum(&mut copy));
+        Ok(())
+    }
+}
+
+/// Makes a guarded allocator, makes 1,000 calls with tickets, writes its state and reads that, and puts a
+/// checksum of their results, the number of bytes, and the same of what is read into the cells.
+pub struct MakeGuardedAndStore;
+
+impl Work for MakeGuardedAndStore {
+    fn run<T: Tables>(
+        &self,
+        alloc: Global,
+        script: &Script,
+        _kept: &mut [Kept<T::Index>],
+        cells: &mut Cells<'_>,
+    ) -> Result<(), Failure> {
+        let limit = script.max_allocs;
+        if limit >= T::Index::MAX - 1 {
+            return Err(Failure::Unfit);
+        }
+        let mut space = GuardedOf::<T>::with_max_allocs(alloc, script.size, limit, 1)?;
+        let sum = checksum(&mut space);
+        let bytes = space.write_state(alloc)?;
+        let read = GuardedOf::<T>::read_state(alloc, &bytes, limit)?;
+        // nothing is put before the last request
+        put(cells, sum);
+        put(cells, bytes.len() as u64);
+        match read {
+            Ok(read) => {
+                let mut read = read;
+                put(cells, checksum(&mut read));
+                put(cells, checksum(&mut space));
+            }
+            Err(fault) => put(cells, fault.at as u64),
+        }
         Ok(())
     }
 }

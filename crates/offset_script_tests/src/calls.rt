@@ -215,6 +215,403 @@ const TIGHT: List = List {
     ],
 };
 
+// A second grant for a range, units off the end, and the live ranges beside one another.
+const ENDING: List = List {
+    size: 100,
+    limit: 16,
+    rows: &[
+        (Call::First, "Beside(None)"),
+        (Call::Last, "Beside(None)"),
+        (Call::Retract(101), "Answer(Refused)"),
+        (Call::Retract(0), "Resized"),
+        (Call::Relocate(1), "Answer(Gone)"),
+        (Call::Before(1), "Answer(Gone)"),
+        (Call::After(0), "Answer(Gone)"),
+        (
+            Call::Command(Command::Alloc(10)),
+            "Answer(Grant { number: 1, offset: 0 })",
+        ),
+        (
+            Call::Command(Command::Alloc(20)),
+            "Answer(Grant { number: 2, offset: 10 })",
+        ),
+        (
+            Call::Command(Command::Alloc(10)),
+            "Answer(Grant { number: 3, offset: 30 })",
+        ),
+        // 10, 20 and 10 live, 60 free
+        (
+            Call::Last,
+            "Beside(Some(LiveRange { number: 3, offset: 30 }))",
+        ),
+        (
+            Call::Before(3),
+            "Beside(Some(LiveRange { number: 2, offset: 10 }))",
+        ),
+        (
+            Call::After(1),
+            "Beside(Some(LiveRange { number: 2, offset: 10 }))",
+        ),
+        (Call::Before(1), "Beside(None)"),
+        (Call::After(3), "Beside(None)"),
+        // the only free block begins after it
+        (Call::Relocate(3), "Answer(Refused)"),
+        (Call::Command(Command::Free(1)), "Answer(Freed)"),
+        (Call::Before(2), "Beside(None)"),
+        (
+            Call::First,
+            "Beside(Some(LiveRange { number: 2, offset: 10 }))",
+        ),
+        (Call::Before(1), "Answer(Gone)"),
+        (Call::Relocate(3), "Answer(Grant { number: 4, offset: 0 })"),
+        (
+            Call::First,
+            "Beside(Some(LiveRange { number: 4, offset: 0 }))",
+        ),
+        // the old range is still live
+        (Call::Offset(3), "Offset(30)"),
+        (
+            Call::Before(2),
+            "Beside(Some(LiveRange { number: 4, offset: 0 }))",
+        ),
+        (Call::Command(Command::Free(3)), "Answer(Freed)"),
+        (Call::Relocate(3), "Answer(Gone)"),
+        // 10 and 20 live, 70 free
+        (
+            Call::Last,
+            "Beside(Some(LiveRange { number: 2, offset: 10 }))",
+        ),
+        (Call::Retract(71), "Answer(Refused)"),
+        (Call::Retract(30), "Resized"),
+        (
+            Call::Command(Command::Report),
+            "Answer(Report(StorageReport { total_free_space: 40, largest_free_region: 40 }))",
+        ),
+        (
+            Call::Command(Command::Alloc(40)),
+            "Answer(Grant { number: 5, offset: 30 })",
+        ),
+        (Call::Retract(1), "Answer(Refused)"),
+        (Call::Retract(0), "Resized"),
+        (Call::Command(Command::Extend(5)), "Answer(Extended)"),
+        (Call::Retract(5), "Resized"),
+        (Call::Retract(1), "Answer(Refused)"),
+        (Call::Command(Command::Extend(4)), "Answer(Extended)"),
+        (
+            Call::Command(Command::Alloc(4)),
+            "Answer(Grant { number: 6, offset: 70 })",
+        ),
+        (Call::Command(Command::Free(4)), "Answer(Freed)"),
+        // 10 free, 20, 40 and 4 live
+        (Call::Relocate(2), "Answer(Refused)"),
+        (
+            Call::After(2),
+            "Beside(Some(LiveRange { number: 5, offset: 30 }))",
+        ),
+        (Call::Command(Command::Free(5)), "Answer(Freed)"),
+        // over a free block
+        (
+            Call::After(2),
+            "Beside(Some(LiveRange { number: 6, offset: 70 }))",
+        ),
+        (
+            Call::Before(6),
+            "Beside(Some(LiveRange { number: 2, offset: 10 }))",
+        ),
+        (Call::Relocate(6), "Answer(Grant { number: 7, offset: 0 })"),
+        (Call::Command(Command::Reset), "Answer(Reset)"),
+        (Call::Last, "Beside(None)"),
+        (Call::Before(6), "Answer(Gone)"),
+        // nothing is left but a block of no units
+        (Call::Retract(74), "Resized"),
+        (Call::Retract(1), "Answer(Refused)"),
+        (
+            Call::Command(Command::Report),
+            "Answer(Report(StorageReport { total_free_space: 0, largest_free_region: 0 }))",
+        ),
+        (
+            Call::Command(Command::Alloc(0)),
+            "Answer(Grant { number: 8, offset: 0 })",
+        ),
+        (
+            Call::Last,
+            "Beside(Some(LiveRange { number: 8, offset: 0 }))",
+        ),
+        (Call::Command(Command::Extend(3)), "Answer(Extended)"),
+        (
+            Call::Command(Command::Alloc(3)),
+            "Answer(Grant { number: 9, offset: 0 })",
+        ),
+        (
+            Call::Before(9),
+            "Beside(Some(LiveRange { number: 8, offset: 0 }))",
+        ),
+    ],
+};
+
+// What is left at the end is the newest block of its bin.
+const NEWEST_AT_THE_END: List = List {
+    size: 32,
+    limit: 16,
+    rows: &[
+        (
+            Call::Command(Command::Alloc(10)),
+            "Answer(Grant { number: 1, offset: 0 })",
+        ),
+        (
+            Call::Command(Command::Alloc(10)),
+            "Answer(Grant { number: 2, offset: 10 })",
+        ),
+        (Call::Command(Command::Free(1)), "Answer(Freed)"),
+        (Call::Retract(2), "Resized"),
+        // 10 free, 10 live, 10 free: a request takes the last ones, which begin after the range
+        (Call::Relocate(2), "Answer(Refused)"),
+        (
+            Call::Command(Command::Alloc(10)),
+            "Answer(Grant { number: 3, offset: 20 })",
+        ),
+        (Call::Relocate(3), "Answer(Grant { number: 4, offset: 0 })"),
+        (Call::Retract(1), "Answer(Refused)"),
+        (Call::Compact, "Compacted([])"),
+    ],
+};
+
+// A second grant, and a block that goes, at the node limit.
+const ENDING_AT_THE_LIMIT: List = List {
+    size: 15,
+    limit: 4,
+    rows: &[
+        (
+            Call::Command(Command::Alloc(5)),
+            "Answer(Grant { number: 1, offset: 0 })",
+        ),
+        (
+            Call::Command(Command::Alloc(5)),
+            "Answer(Grant { number: 2, offset: 5 })",
+        ),
+        (Call::Command(Command::Free(1)), "Answer(Freed)"),
+        // three blocks, so no further one
+        (Call::Relocate(2), "Answer(Refused)"),
+        (Call::Retract(5), "Resized"),
+        // two blocks
+        (Call::Relocate(2), "Answer(Grant { number: 3, offset: 0 })"),
+        (
+            Call::Last,
+            "Beside(Some(LiveRange { number: 2, offset: 5 }))",
+        ),
+    ],
+};
+
+// Room is made by the run with the fewest units to move, of several the last one.
+const ROOM: List = List {
+    size: 100,
+    limit: 16,
+    rows: &[
+        // one free block of 100 units; the class of 97 units has the value 104
+        (
+            Call::RoomCost(96),
+            "RoomCost(Some(RoomCost { units: 0, ranges: 0 }))",
+        ),
+        (Call::RoomCost(97), "RoomCost(None)"),
+        (Call::MakeRoom(97), "RoomMade(None, [])"),
+        (
+            Call::Command(Command::Alloc(10)),
+            "Answer(Grant { number: 1, offset: 0 })",
+        ),
+        (
+            Call::Command(Command::Alloc(10)),
+            "Answer(Grant { number: 2, offset: 10 })",
+        ),
+        (
+            Call::Command(Command::Alloc(10)),
+            "Answer(Grant { number: 3, offset: 20 })",
+        ),
+        (
+            Call::Command(Command::Alloc(10)),
+            "Answer(Grant { number: 4, offset: 30 })",
+        ),
+        (
+            Call::Command(Command::Alloc(10)),
+            "Answer(Grant { number: 5, offset: 40 })",
+        ),
+        (
+            Call::Command(Command::Alloc(10)),
+            "Answer(Grant { number: 6, offset: 50 })",
+        ),
+        (
+            Call::Command(Command::Alloc(40)),
+            "Answer(Grant { number: 7, offset: 60 })",
+        ),
+        // nothing is free
+        (Call::RoomCost(0), "RoomCost(None)"),
+        (Call::MakeRoom(0), "RoomMade(None, [])"),
+        (Call::Command(Command::Free(1)), "Answer(Freed)"),
+        (Call::Command(Command::Free(3)), "Answer(Freed)"),
+        (Call::Command(Command::Free(5)), "Answer(Freed)"),
+        // free: 10 units at 0, at 20 and at 40
+        (
+            Call::MakeRoom(10),
+            "RoomMade(Some(RoomCost { units: 0, ranges: 0 }), [])",
+        ),
+        (
+            Call::RoomCost(20),
+            "RoomCost(Some(RoomCost { units: 10, ranges: 1 }))",
+        ),
+        (
+            Call::MakeRoom(20),
+            "RoomMade(Some(RoomCost { units: 10, ranges: 1 }), [Moved { number: 4, from: 30, to: 20, size: 10 }])",
+        ),
+        (Call::Offset(4), "Offset(20)"),
+        (Call::Offset(2), "Offset(10)"),
+        (
+            Call::Command(Command::Alloc(20)),
+            "Answer(Grant { number: 8, offset: 30 })",
+        ),
+        (Call::MakeRoom(11), "RoomMade(None, [])"),
+        (Call::Command(Command::Free(7)), "Answer(Freed)"),
+        // 10 free, 10, 10, 20 and 10 live, 40 free; the class of 41 units has the value 44
+        (
+            Call::RoomCost(41),
+            "RoomCost(Some(RoomCost { units: 50, ranges: 4 }))",
+        ),
+        (
+            Call::MakeRoom(41),
+            "RoomMade(Some(RoomCost { units: 50, ranges: 4 }), [Moved { number: 2, from: 10, to: 0, size: 10 }, Moved { number: 4, from: 20, to: 10, size: 10 }, Moved { number: 8, from: 30, to: 20, size: 20 }, Moved { number: 6, from: 50, to: 40, size: 10 }])",
+        ),
+        (Call::Compact, "Compacted([])"),
+        (
+            Call::Command(Command::Alloc(48)),
+            "Answer(Grant { number: 9, offset: 50 })",
+        ),
+    ],
+};
+
+// Fewer units cost less, also of more ranges. The limit is reached.
+const COSTS: List = List {
+    size: 40,
+    limit: 9,
+    rows: &[
+        (
+            Call::Command(Command::Alloc(4)),
+            "Answer(Grant { number: 1, offset: 0 })",
+        ),
+        (
+            Call::Command(Command::Alloc(5)),
+            "Answer(Grant { number: 2, offset: 4 })",
+        ),
+        (
+            Call::Command(Command::Alloc(4)),
+            "Answer(Grant { number: 3, offset: 9 })",
+        ),
+        (
+            Call::Command(Command::Alloc(9)),
+            "Answer(Grant { number: 4, offset: 13 })",
+        ),
+        (
+            Call::Command(Command::Alloc(4)),
+            "Answer(Grant { number: 5, offset: 22 })",
+        ),
+        (
+            Call::Command(Command::Alloc(5)),
+            "Answer(Grant { number: 6, offset: 26 })",
+        ),
+        (
+            Call::Command(Command::Alloc(0)),
+            "Answer(Grant { number: 7, offset: 31 })",
+        ),
+        // the last block that there may be, of 9 units
+        (Call::Refusal(1), "Refusal(Some(Nodes))"),
+        (Call::Command(Command::Free(1)), "Answer(Freed)"),
+        (Call::Command(Command::Free(3)), "Answer(Freed)"),
+        (Call::Command(Command::Free(5)), "Answer(Freed)"),
+        // 4 free, 5 live, 4 free, 9 live, 4 free, 5 and 0 live, 9 free
+        (
+            Call::RoomCost(13),
+            "RoomCost(Some(RoomCost { units: 5, ranges: 2 }))",
+        ),
+        (
+            Call::RoomCost(8),
+            "RoomCost(Some(RoomCost { units: 0, ranges: 0 }))",
+        ),
+        (Call::Grow(7, 5), "Resized"),
+        (Call::Shrink(7, 0), "Resized"),
+        // the same blocks
+        (
+            Call::MakeRoom(13),
+            "RoomMade(Some(RoomCost { units: 5, ranges: 2 }), [Moved { number: 6, from: 26, to: 22, size: 5 }, Moved { number: 7, from: 31, to: 27, size: 0 }])",
+        ),
+        (
+            Call::Command(Command::Alloc(9)),
+            "Answer(Grant { number: 8, offset: 27 })",
+        ),
+        // 4 free, 5 live, 4 free, 9, 5, 0 and 9 live, 4 free
+        (
+            Call::RoomCost(8),
+            "RoomCost(Some(RoomCost { units: 5, ranges: 1 }))",
+        ),
+        (
+            Call::RoomCost(12),
+            "RoomCost(Some(RoomCost { units: 28, ranges: 5 }))",
+        ),
+        (
+            Call::MakeRoom(8),
+            "RoomMade(Some(RoomCost { units: 5, ranges: 1 }), [Moved { number: 2, from: 4, to: 0, size: 5 }])",
+        ),
+        (
+            Call::MakeRoom(9),
+            "RoomMade(Some(RoomCost { units: 23, ranges: 4 }), [Moved { number: 4, from: 13, to: 5, size: 9 }, Moved { number: 6, from: 22, to: 14, size: 5 }, Moved { number: 7, from: 27, to: 19, size: 0 }, Moved { number: 8, from: 27, to: 19, size: 9 }])",
+        ),
+        (Call::Offset(7), "Offset(19)"),
+        (
+            Call::Command(Command::Report),
+            "Answer(Report(StorageReport { total_free_space: 12, largest_free_region: 12 }))",
+        ),
+    ],
+};
+
+// Of as many units fewer ranges cost less, also before the last run.
+const RANGES: List = List {
+    size: 13,
+    limit: 16,
+    rows: &[
+        (
+            Call::Command(Command::Alloc(2)),
+            "Answer(Grant { number: 1, offset: 0 })",
+        ),
+        (
+            Call::Command(Command::Alloc(3)),
+            "Answer(Grant { number: 2, offset: 2 })",
+        ),
+        (
+            Call::Command(Command::Alloc(2)),
+            "Answer(Grant { number: 3, offset: 5 })",
+        ),
+        (
+            Call::Command(Command::Alloc(3)),
+            "Answer(Grant { number: 4, offset: 7 })",
+        ),
+        (
+            Call::Command(Command::Alloc(0)),
+            "Answer(Grant { number: 5, offset: 10 })",
+        ),
+        (Call::Command(Command::Free(1)), "Answer(Freed)"),
+        (Call::Command(Command::Free(3)), "Answer(Freed)"),
+        // 2 free, 3 live, 2 free, 3 and 0 live, 3 free
+        (
+            Call::MakeRoom(4),
+            "RoomMade(Some(RoomCost { units: 3, ranges: 1 }), [Moved { number: 2, from: 2, to: 0, size: 3 }])",
+        ),
+        (
+            Call::MakeRoom(5),
+            "RoomMade(Some(RoomCost { units: 3, ranges: 2 }), [Moved { number: 4, from: 7, to: 3, size: 3 }, Moved { number: 5, from: 10, to: 6, size: 0 }])",
+        ),
+        (
+            Call::Command(Command::Alloc(7)),
+            "Answer(Grant { number: 6, offset: 6 })",
+        ),
+    ],
+};
+
 fn calls_of(rt: &impl Abort, alloc: Global, list: &List) -> Vec<Call> {
     let mut calls = Vec::new(alloc);
     for (call, _) in list.rows {
@@ -247,7 +644,18 @@ pub fn expect_replies<T: Tables>(rt: &impl Abort, alloc: Global, list: &List) {
 
 #[test]
 fn resizes_and_compacts(rt: HostRuntime) {
-    for list in [RESIZES, AT_THE_LIMIT, OF_NO_UNITS, TIGHT] {
+    for list in [
+        RESIZES,
+        AT_THE_LIMIT,
+        OF_NO_UNITS,
+        TIGHT,
+        ENDING,
+        NEWEST_AT_THE_END,
+        ENDING_AT_THE_LIMIT,
+        ROOM,
+        COSTS,
+        RANGES,
+    ] {
         expect_of_each(&rt, rt.alloc(), Trial::Replies(&list));
     }
 }

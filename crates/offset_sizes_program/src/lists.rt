@@ -10,16 +10,22 @@ use std::alloc::{AllocError, Global};
 fn call_at(place: u32) -> Call {
     let number = place / 3 + 1;
     match place % 32 {
+        2 => Call::Relocate(number),
         3 => Call::Command(Command::Free(number)),
         5 => Call::Command(Command::Size(number)),
+        4 => Call::First,
+        6 => Call::Last,
         7 => Call::Command(Command::Report),
         9 => Call::Shrink(number, 3),
+        10 => Call::Before(number),
         11 => Call::Grow(number, 9),
         13 => Call::Offset(number),
+        14 => Call::After(number),
         15 => Call::Refusal(place),
         17 => Call::RefusalAligned(place, 64),
         19 => Call::Command(Command::Align(5, 1u32.wrapping_shl(place / 32 % 32))),
         21 => Call::Command(Command::Extend(1)),
+        22 => Call::Retract(1),
         23 => Call::Command(Command::Free(number)),
         25 => Call::Tight(place % 5),
         27 => Call::TightAligned(3, 1u32.wrapping_shl(place / 32 % 32)),
@@ -36,6 +42,8 @@ fn list(alloc: Global, count: u32) -> Result<Vec<Call>, AllocError> {
         calls.push(match place % 4096 {
             200 => Call::Compact,
             400 => Call::Command(Command::Full),
+            600 => Call::MakeRoom(place),
+            800 => Call::RoomCost(place),
             _ => call_at(place),
         })?;
     }

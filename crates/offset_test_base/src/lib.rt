@@ -3,7 +3,6 @@
 
 pub mod devices;
 pub mod flat;
-pub mod groups;
 mod living;
 pub mod mixed;
 pub mod tiny;

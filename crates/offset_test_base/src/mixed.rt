@@ -6,7 +6,7 @@ use offset_allocator::laws::{
     undo,
 };
 use offset_allocator::{
-    Accesses, Allocation, AllocatorOf, StorageReport, StorageReportFull, Tables,
+    Accesses, Allocation, AllocatorOf, Move, StorageReport, StorageReportFull, Tables,
 };
 
 // Larger than any offset of the spaces here.
@@ -99,6 +99,33 @@ fn report_counted<T: Tables>(
     }
 }
 
+// Adds units at the end or takes some off, makes room, or gives the kept handle a second range for a moment.
+fn ends<T: Tables>(
+    allocator: &mut AllocatorOf<T>,
+    kept: Option<Allocation<T::Index>>,
+    number: u32,
+) -> u32 {
+    match number % 8 {
+        0..=2 => u32::from(allocator.extend(number % 10)),
+        3 => u32::from(allocator.retract(number % 10)),
+        4..=5 => match allocator.make_room(number % 500, &mut |_range: Move<T::Index>| ()) {
+            None => NONE,
+            Some(cost) => cost.units.wrapping_mul(31).wrapping_add(cost.ranges),
+        },
+        _ => match kept {
+            Some(handle) if allocator.is_live(handle) => match allocator.relocate(handle) {
+                None => NONE,
+                Some(second) => {
+                    let offset = second.offset;
+                    allocator.free(second);
+                    offset
+                }
+            },
+            _ => GONE,
+        },
+    }
+}
+
 // Makes one call. It returns the result as a number.
 fn call<T: Tables>(
     allocator: &mut AllocatorOf<T>,
@@ -112,7 +139,7 @@ fn call<T: Tables>(
         11 => report(allocator, number as usize).wrapping_add(fold_statistics(allocator)),
         12 => report_counted(allocator, *kept, number as usize),
         13 => u32::from(undo(allocator, number % 500)),
-        14 => u32::from(allocator.extend(number % 10)),
+        14 => ends(allocator, *kept, number),
         _ => {
             if number % 8 == 0 {
                 allocator.reset();

@@ -244,7 +244,7 @@ pub fn compact<T: Tables, F: FnMut(Move<T::Index>)>(space: &mut AllocatorOf<T>, 
     ensures moved { FoldsTo (IsCalledWith T.Index.NonMax.number (λ f range g. F.step f range tt g)) moved.old
         (moves 0 0 space.old.blocks) moved.new }
     ensures accesses { Costs (2 * length space.old.blocks)
-        (24 * length space.old.blocks + 512) space.old.accesses space.new.accesses }
+        (10 * length space.old.blocks + 384) space.old.accesses space.new.accesses }
     ensures accesses_some { free_sizes space.old.blocks ≢ []
         → space.old.accesses + 2 * length space.old.blocks + 267 ≤ space.new.accesses }
     ensures step { Compacts space.old space.new }

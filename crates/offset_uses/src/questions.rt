@@ -1,7 +1,7 @@
 //! Each call that leaves an allocator as it is, with every clause of its contract once more: what a caller may rely on.
 //! Where a clause is taken back there, the function here is not proved.
 
-ghost use Rattle.offset_allocator.specs.Beside.{last_live, live_after, live_before};
+ghost use Rattle.offset_allocator.specs.Beside.{first_live, last_live, live_after, live_before};
 ghost use Rattle.offset_allocator.specs.Classes.{up, value};
 ghost use Rattle.offset_allocator.specs.Listing.{listing};
 ghost use Rattle.offset_allocator.specs.Ranges.{IsLive, Range, range_of, size_of};
@@ -192,6 +192,13 @@ pub fn write_state<T: Tables>(space: &AllocatorOf<T>, alloc: Global) -> Result<V
     ensures { IfOk result (λ bytes. IsStateOf space.now bytes.items) }
 {
     space.write_state(alloc)
+}
+
+/// `first_live`, with each clause of its contract.
+pub fn first_live<T: Tables>(space: &AllocatorOf<T>) -> Option<Allocation<T::Index>>
+    ensures { result ≡ first_live space.now }
+{
+    space.first_live()
 }
 
 /// `last_live`, with each clause of its contract.

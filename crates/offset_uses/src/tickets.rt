@@ -6,7 +6,7 @@ ghost use Rattle.std.specs.Prelude.{◌%◌, ◌*◌, ◌+◌, ◌-◌, ◌<◌,
 ghost use Rattle.std.specs.Prelude.{IsSome};
 ghost use Rattle.std.specs.Prelude.{IsTrue, MatchOption, None, Some, [], false, length, min, option_map};
 ghost use Rattle.std.specs.Prelude.{true};
-ghost use Rattle.offset_allocator.specs.Beside.{last_live, live_after, live_before};
+ghost use Rattle.offset_allocator.specs.Beside.{first_live, last_live, live_after, live_before};
 ghost use Rattle.offset_allocator.specs.Compacting.{Compacts, IsCalledWith, moves};
 ghost use Rattle.offset_allocator.specs.Ranges.{Range, size_of};
 ghost use Rattle.offset_allocator.specs.Relations.{Aligns, Allocates, CanExtend, Extends, Frees, IsAlignment};
@@ -341,6 +341,13 @@ pub fn relocate<T: Tables>(space: &mut GuardedOf<T>, ticket: Ticket) -> Option<T
     space.relocate(ticket)
 }
 
+/// `first_live`, with each clause of its contract.
+pub fn first_live<T: Tables>(space: &GuardedOf<T>) -> Option<Ticket>
+    ensures { result ≡ option_map (λ (h : Grant). ticket_at h space.now) (first_live space.now.space) }
+{
+    space.first_live()
+}
+
 /// `last_live`, with each clause of its contract.
 pub fn last_live<T: Tables>(space: &GuardedOf<T>) -> Option<Ticket>
     ensures { result ≡ option_map (λ (h : Grant). ticket_at h space.now) (last_live space.now.space) }
@@ -388,7 +395,7 @@ pub fn compact<T: Tables, F: FnMut(Move<T::Index>)>(space: &mut GuardedOf<T>, mo
     ensures step { Compacts space.old.space space.new.space }
     ensures serials { space.new ≡ record space.old { space = space.new.space } }
     ensures accesses_max { space.new.space.accesses
-        ≤ space.old.space.accesses + 24 * length space.old.space.blocks + 512 }
+        ≤ space.old.space.accesses + 10 * length space.old.space.blocks + 384 }
 {
     space.compact(moved);
 }

@@ -320,9 +320,27 @@ public:
     Allocation relocate(Allocation allocation) { return detail::of(oa_relocate(space, detail::in(allocation))); }
 
     // The live ranges in space; where there is none, both parts are NO_SPACE.
+    Allocation firstLive() const { return detail::of(oa_first_live(space)); }
     Allocation lastLive() const { return detail::of(oa_last_live(space)); }
     Allocation liveBefore(Allocation allocation) const { return detail::of(oa_live_before(space, detail::in(allocation))); }
     Allocation liveAfter(Allocation allocation) const { return detail::of(oa_live_after(space, detail::in(allocation))); }
+
+    // Calls seen(Allocation) for each live range, from the first one on or from the last one back, until it returns false.
+    // It takes no memory. The next range is asked for before, so seen may free the one that it is called with.
+    template <class F> void eachLive(F &&seen) const {
+        for (Allocation at = firstLive(); at.offset != Allocation::NO_SPACE;) {
+            const Allocation next = liveAfter(at);
+            if (!seen(at)) return;
+            at = next;
+        }
+    }
+    template <class F> void eachLiveBack(F &&seen) const {
+        for (Allocation at = lastLive(); at.offset != Allocation::NO_SPACE;) {
+            const Allocation next = liveBefore(at);
+            if (!seen(at)) return;
+            at = next;
+        }
+    }
 
     // Calls moved(Move) for each range that moves. An exception of it goes on to the caller when all ranges have moved;
     // after it, moved is not called again.
@@ -468,9 +486,24 @@ public:
 
     // Where there is none, the ticket converts to false.
     Ticket relocate(Ticket ticket) { return of(oag_relocate(space, in(ticket))); }
+    Ticket firstLive() const { return of(oag_first_live(space)); }
     Ticket lastLive() const { return of(oag_last_live(space)); }
     Ticket liveBefore(Ticket ticket) const { return of(oag_live_before(space, in(ticket))); }
     Ticket liveAfter(Ticket ticket) const { return of(oag_live_after(space, in(ticket))); }
+    template <class F> void eachLive(F &&seen) const {
+        for (Ticket at = firstLive(); at;) {
+            const Ticket next = liveAfter(at);
+            if (!seen(at)) return;
+            at = next;
+        }
+    }
+    template <class F> void eachLiveBack(F &&seen) const {
+        for (Ticket at = lastLive(); at;) {
+            const Ticket next = liveBefore(at);
+            if (!seen(at)) return;
+            at = next;
+        }
+    }
 
     // The ticket of the allocation of a block or of a move; it converts to false where that is not live.
     Ticket ticketOf(Allocation allocation) const { return of(oag_ticket_of(space, detail::in(allocation))); }

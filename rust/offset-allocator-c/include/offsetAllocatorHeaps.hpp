@@ -101,6 +101,15 @@ public:
     uint32 sizeOf(const Place &place) const { return oah_size_of(heaps, in(place)); }
     uint32 offsetOf(const Place &place) const { return oah_offset_of(heaps, in(place)); }
 
+    // The place of a second range in another heap in which at least as many units are live, whose serial is 0 where none
+    // takes it; the old one stays live. It begins at any multiple.
+    Place relocate(const Place &place) { return of(oah_relocate(heaps, in(place))); }
+
+    // The number of the heap that is emptied with the least copies, or NO_SPACE, and its live ranges from the last on.
+    uint32 emptiest() const { return oah_emptiest(heaps); }
+    Place lastLive(uint32 number) const { return of(oah_last_live(heaps, number)); }
+    Place liveBefore(const Place &place) const { return of(oah_live_before(heaps, in(place))); }
+
     bool giveUp(uint32 number) { return oah_give_up(heaps, number); }
 
     // Drops empty heaps, the last first, until at most `keep` are empty, and calls dropped(number) for each.
@@ -122,13 +131,18 @@ private:
     static oah_place in(const Place &place) {
         return {{place.ticket.serial, place.ticket.name, place.ticket.realm}, place.heap, place.realm};
     }
+    static Place of(const oah_place &from) {
+        Place place;
+        place.ticket.serial = from.ticket.serial;
+        place.ticket.name = from.ticket.name;
+        place.ticket.realm = from.ticket.realm;
+        place.heap = from.heap;
+        place.realm = from.realm;
+        return place;
+    }
     static Granted of(const oah_granted &from) {
         Granted granted;
-        granted.place.ticket.serial = from.place.ticket.serial;
-        granted.place.ticket.name = from.place.ticket.name;
-        granted.place.ticket.realm = from.place.ticket.realm;
-        granted.place.heap = from.place.heap;
-        granted.place.realm = from.place.realm;
+        granted.place = of(from.place);
         granted.isNew = from.is_new;
         granted.refusal = HeapRefusal(from.refusal);
         return granted;

@@ -146,7 +146,8 @@ typedef enum oa_found {
     OA_BAD_NEIGHBOURS = 10, /* This block and the one after it are both free. */
     OA_BAD_REALM = 11,     /* A realm of more than 32 bits. */
     OA_BAD_SERIAL = 12,    /* A serial that is above the number of grants, or none for a live range. */
-    OA_BAD_PLACE = 13      /* Of many heaps: the state of a heap does not begin where the one before it ends. */
+    OA_BAD_PLACE = 13,     /* Of many heaps: the state of a heap does not begin where the one before it ends. */
+    OA_BAD_SIZE = 14       /* Of many heaps: a heap of another size or node limit than the limits say. */
 } oa_found;
 
 /* A space that was read, or null, and what is wrong. at: the place of the byte from which on the bytes are wrong, or their
@@ -250,7 +251,7 @@ oa_allocation oa_relocate(oa_allocator *space, oa_allocation allocation);
 /* Moves all live ranges to the front of the space, in order, so that all free units are one block. Handles stay live.
  * `moved`, if it is not null, is called with `user` and each range that moves, in the order in which they can be copied
  * one after the other. It must return: no exception, no longjmp; and it must not use this allocator.
- * Nothing is done where the allocator is null. Cost: at most 24 accesses a block, and 512. */
+ * Nothing is done where the allocator is null. Cost: at most 10 accesses a block, and 384. */
 void oa_compact(oa_allocator *space, void (*moved)(void *user, oa_move range), void *user);
 
 /* The copies that make a move of `size` units from `from` to `to` where a copy may not overlap, as on a device: `copy`, if it
@@ -260,8 +261,10 @@ void oa_compact(oa_allocator *space, void (*moved)(void *user, oa_move range), v
 bool oa_copy_in_pieces(uint32_t from, uint32_t to, uint32_t size, uint32_t most,
                        void (*copy)(void *user, uint32_t from, uint32_t to, uint32_t size), void *user);
 
-/* The live ranges in space: the last one, and the one before or after that of a live handle. Both parts are OA_NO_SPACE where
- * there is none, if the handle is not live, or if the allocator is null. Bounded. */
+/* The live ranges in space: the first one, the last one, and the one before or after that of a live handle. Both parts are
+ * OA_NO_SPACE where there is none, if the handle is not live, or if the allocator is null. Bounded, but for the first one: 2
+ * accesses a block, and 1. */
+oa_allocation oa_first_live(const oa_allocator *space);
 oa_allocation oa_last_live(const oa_allocator *space);
 oa_allocation oa_live_before(const oa_allocator *space, oa_allocation allocation);
 oa_allocation oa_live_after(const oa_allocator *space, oa_allocation allocation);
@@ -429,7 +432,8 @@ bool oag_retract(oag_allocator *space, uint32_t less);
 /* As oa_relocate: the ticket of the second range; the old one stays live. Its serial is 0 where there is none. */
 oag_ticket oag_relocate(oag_allocator *space, oag_ticket ticket);
 
-/* As oa_last_live, oa_live_before and oa_live_after. The serial of the ticket is 0 where there is none. */
+/* As oa_first_live, oa_last_live, oa_live_before and oa_live_after. The serial of the ticket is 0 where there is none. */
+oag_ticket oag_first_live(const oag_allocator *space);
 oag_ticket oag_last_live(const oag_allocator *space);
 oag_ticket oag_live_before(const oag_allocator *space, oag_ticket ticket);
 oag_ticket oag_live_after(const oag_allocator *space, oag_ticket ticket);

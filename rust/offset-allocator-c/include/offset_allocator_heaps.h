@@ -87,7 +87,8 @@ oah_heaps *oah_clone(const oah_heaps *heaps);
 oa_state *oah_write_state(const oah_heaps *heaps);
 
 /* Heaps that were read, or null, and what is wrong, and where: OA_BAD_LIMIT of limits that are not admitted, OA_BAD_COUNTS of
- * a realm or a count of more than 32 bits, OA_BAD_REALM of a heap that was not made, too. */
+ * a realm or a count of more than 32 bits, OA_BAD_REALM of a heap that was not made, OA_BAD_SIZE of one of another size or
+ * node limit than the limits say, too. */
 typedef struct oah_read {
     oah_heaps *heaps;
     oa_found found;
@@ -122,6 +123,31 @@ uint32_t oah_size_of(const oah_heaps *heaps, oah_place place);
 
 /* Where the range of a place begins in its heap; OA_NO_SPACE where it is not live. */
 uint32_t oah_offset_of(const oah_heaps *heaps, oah_place place);
+
+/* Grants a second range of as many units as that of a place, in the first other heap, by number, that has room and in which
+ * at least as many units are live, and returns its place; the old one stays live. Its serial is 0 where no heap takes the
+ * range, or the place is not live; then nothing changes. No heap is made, and calls of it alone never bring a range
+ * back. The range begins at any multiple: one that was granted at an alignment is given none. Done for each live
+ * range of the emptiest heap, it empties that heap, for oah_drop_empty:
+ *
+ *     uint32_t from = oah_emptiest(heaps);
+ *     for (oah_place old = oah_last_live(heaps, from), next; old.ticket.serial; old = next) {
+ *         next = oah_live_before(heaps, old);
+ *         oah_place to = oah_relocate(heaps, old);
+ *         if (to.ticket.serial) ...      // copy the units, and oah_free(heaps, old) when no frame reads the old ones
+ *     }
+ *
+ * Cost: that of oah_allocate, and at most one read of each number. */
+oah_place oah_relocate(oah_heaps *heaps, oah_place place);
+
+/* The number of the heap with the fewest live units, of those that have a live range, the last such; OA_NO_SPACE where
+ * nothing is live, or for null. Cost: each number is read once. */
+uint32_t oah_emptiest(const oah_heaps *heaps);
+
+/* The place of the live range that is the last one in the heap of a number, and of the one directly before that of a place.
+ * Its serial is 0 where there is none, or the place is not live. */
+oah_place oah_last_live(const oah_heaps *heaps, uint32_t number);
+oah_place oah_live_before(const oah_heaps *heaps, oah_place place);
 
 /* Takes back the heap of a number, with all that it granted. True if there was one. No place of it is ever live again. */
 bool oah_give_up(oah_heaps *heaps, uint32_t number);

@@ -72,12 +72,16 @@ const BAD_CALL: Answer = Answer { place: NOWHERE, is_new: false, refusal: Why::B
 
 const NOTHING_AT_ALL: All = All { heaps: 0, largest_free_region: 0, units: 0, live_units: 0, free_units: 0 };
 
+fn at(found: Option<Place>) -> At {
+    found.map_or(NOWHERE, |Place { heap, realm, ticket }| {
+        let ticket = Guard { serial: ticket.serial, name: ticket.name, realm: ticket.realm };
+        At { ticket, heap, realm }
+    })
+}
+
 fn answer(result: Result<Granted, Refusal>) -> Answer {
     let refusal = match result {
-        Ok(Granted { place: Place { heap, realm, ticket }, is_new }) => {
-            let ticket = Guard { serial: ticket.serial, name: ticket.name, realm: ticket.realm };
-            return Answer { place: At { ticket, heap, realm }, is_new, refusal: Why::Granted };
-        }
+        Ok(Granted { place, is_new }) => return Answer { place: at(Some(place)), is_new, refusal: Why::Granted },
         Err(Refusal::Empty) => Why::Empty,
         Err(Refusal::TooLarge) => Why::TooLarge,
         Err(Refusal::Full) => Why::Full,
@@ -101,6 +105,7 @@ fn fault(kind: StateFaultKind) -> Found {
         StateFaultKind::Checksum => Found::Checksum,
         StateFaultKind::Place => Found::Place,
         StateFaultKind::Realm => Found::Realm,
+        StateFaultKind::Size => Found::Size,
         StateFaultKind::Heap(kind) => guarded_fault(kind),
     }
 }
@@ -157,6 +162,14 @@ exports! {
     fn oah_offset_of([heaps: &ManyHeaps], at: At) -> u32 {
         heaps.offset_of(place(at)).unwrap_or(NO_SPACE)
     } else NO_SPACE;
+
+    fn oah_relocate([heaps: &mut ManyHeaps], from: At) -> At { at(heaps.relocate(place(from))) } else NOWHERE;
+
+    fn oah_emptiest([heaps: &ManyHeaps],) -> u32 { heaps.emptiest().unwrap_or(NO_SPACE) } else NO_SPACE;
+
+    fn oah_last_live([heaps: &ManyHeaps], number: u32) -> At { at(heaps.last_live(number)) } else NOWHERE;
+
+    fn oah_live_before([heaps: &ManyHeaps], from: At) -> At { at(heaps.live_before(place(from))) } else NOWHERE;
 
     fn oah_give_up([heaps: &mut ManyHeaps], number: u32) -> bool { heaps.give_up(number) } else false;
 

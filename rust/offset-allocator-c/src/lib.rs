@@ -149,6 +149,7 @@ pub enum Found {
     Realm,
     Serial,
     Place,
+    Size,
 }
 
 /// A space that was read, or what is wrong with the bytes, and where.
@@ -475,6 +476,8 @@ exports! {
         true
     } else false;
 
+    fn oa_first_live([space: &Space],) -> Handle { handle(space.first_live()) } else NOTHING;
+
     fn oa_last_live([space: &Space],) -> Handle { handle(space.last_live()) } else NOTHING;
 
     fn oa_live_before([space: &Space], allocation: Handle) -> Handle {
@@ -616,6 +619,8 @@ exports! {
     fn oag_relocate([space: &mut GuardedSpace], allocation: Guard) -> Guard {
         guard(space.relocate(ticket(allocation)))
     } else NO_TICKET;
+
+    fn oag_first_live([space: &GuardedSpace],) -> Guard { guard(space.first_live()) } else NO_TICKET;
 
     fn oag_last_live([space: &GuardedSpace],) -> Guard { guard(space.last_live()) } else NO_TICKET;
 

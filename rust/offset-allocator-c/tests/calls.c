@@ -254,16 +254,17 @@ static bool same(oa_allocation a, oa_allocation b) { return a.offset == b.offset
 /* three ranges of 10 units, of which the second is freed: the third finds room there, and then the end can go */
 static void from_the_end(void) {
     oa_allocator *space = oa_new(100, 8);
-    CHECK(is_nothing(oa_last_live(space)));
+    CHECK(is_nothing(oa_last_live(space)) && is_nothing(oa_first_live(space)));
     oa_allocation a = oa_allocate(space, 10), b = oa_allocate(space, 10), c = oa_allocate(space, 10);
     CHECK(same(oa_last_live(space), c) && same(oa_live_before(space, c), b) && same(oa_live_after(space, a), b));
-    CHECK(is_nothing(oa_live_before(space, a)) && is_nothing(oa_live_after(space, c)));
+    CHECK(is_nothing(oa_live_before(space, a)) && is_nothing(oa_live_after(space, c)) && same(oa_first_live(space), a));
     CHECK(is_nothing(oa_relocate(space, c)) && oa_free(space, b));
     CHECK(same(oa_live_before(space, c), a) && same(oa_live_after(space, a), c) && is_nothing(oa_live_before(space, b)));
     CHECK(is_nothing(oa_live_after(space, b)) && is_nothing(oa_relocate(space, b)) && is_nothing(oa_relocate(space, a)));
     oa_allocation d = oa_relocate(space, c);
     CHECK(d.offset == 10 && oa_is_live(space, c) && oa_allocation_size(space, d) == 10 && oa_free(space, c));
-    CHECK(same(oa_last_live(space), d) && is_nothing(oa_relocate(space, d)));
+    CHECK(same(oa_last_live(space), d) && is_nothing(oa_relocate(space, d)) && oa_free(space, a) && same(oa_first_live(space), d));
+    CHECK(oa_allocate(space, 10).offset == 0);
     CHECK(!oa_retract(space, 81) && oa_retract(space, 0) && oa_retract(space, 30) && oa_size(space) == 70);
     CHECK(oa_block_count(space) == 3 && oa_retract(space, 50) && oa_block_count(space) == 2 && oa_size(space) == 20);
     CHECK(!oa_retract(space, 1) && oa_extend(space, 5) && oa_allocate(space, 5).offset == 20);
@@ -345,7 +346,7 @@ static void nulls(void) {
     CHECK(is_nothing(oa_allocate_tight(NULL, 1)) && is_nothing(oa_allocate_tight_aligned(NULL, 1, 1)));
     CHECK(oa_refusal_tight(NULL, 0) == OA_BAD_CALL && oa_refusal_tight_aligned(NULL, 0, 1) == OA_BAD_CALL);
     CHECK(!oa_room_cost(NULL, 0).possible && !oa_make_room(NULL, 0, copy, NULL).possible);
-    CHECK(!oa_retract(NULL, 0) && is_nothing(oa_relocate(NULL, a)) && is_nothing(oa_last_live(NULL)));
+    CHECK(!oa_retract(NULL, 0) && is_nothing(oa_relocate(NULL, a)) && is_nothing(oa_last_live(NULL)) && is_nothing(oa_first_live(NULL)));
     CHECK(is_nothing(oa_live_before(NULL, a)) && is_nothing(oa_live_after(NULL, a)));
     CHECK(!oa_free(NULL, a) && !oa_is_live(NULL, a) && !oa_allocation_size(NULL, a));
     CHECK(oa_allocation_offset(NULL, a) == OA_NO_SPACE && !oa_shrink(NULL, a, 0) && !oa_grow_in_place(NULL, a, 0));

@@ -58,6 +58,35 @@ static void grows_and_drops(void) {
     oah_drop(heaps);
 }
 
+static int same(oah_place a, oah_place b) {
+    return a.ticket.serial == b.ticket.serial && a.ticket.name == b.ticket.name && a.ticket.realm == b.ticket.realm
+        && a.heap == b.heap && a.realm == b.realm;
+}
+
+/* Three heaps of 96 units, of which live ranges of 70, 30 and 50 stay: the second is emptied into the others. */
+static void relocates(void) {
+    oah_limits limits = {96, 8, 3, 0};
+    oah_heaps *heaps = oah_new(limits, 9);
+    CHECK(oah_emptiest(heaps) == OA_NO_SPACE && !oah_last_live(heaps, 0).ticket.serial);
+    oah_place a = oah_allocate(heaps, 70).place, gone = oah_allocate(heaps, 26).place;
+    oah_place c = oah_allocate(heaps, 20).place, d = oah_allocate(heaps, 10).place, also = oah_allocate(heaps, 64).place;
+    oah_place e = oah_allocate(heaps, 50).place;
+    CHECK(a.heap == 0 && c.heap == 1 && also.heap == 1 && e.heap == 2 && oah_free(heaps, gone) && oah_free(heaps, also));
+    CHECK(oah_emptiest(heaps) == 1 && same(oah_last_live(heaps, 1), d) && same(oah_live_before(heaps, d), c));
+    CHECK(!oah_live_before(heaps, c).ticket.serial && !oah_last_live(heaps, 3).ticket.serial);
+    /* 10 units fit behind the 70 of heap 0, which has 16 left then; so 20 go behind the 50 of heap 2 */
+    oah_place d2 = oah_relocate(heaps, d), c2 = oah_relocate(heaps, c);
+    CHECK(d2.heap == 0 && oah_offset_of(heaps, d2) == 70 && oah_size_of(heaps, d2) == 10 && d2.realm == 9);
+    CHECK(c2.heap == 2 && oah_offset_of(heaps, c2) == 50 && oah_size_of(heaps, c2) == 20 && oah_is_live(heaps, c));
+    CHECK(oah_free(heaps, c) && oah_free(heaps, d) && oah_drop_empty(heaps, 0) == 1);
+    CHECK(!oah_relocate(heaps, d).ticket.serial && !oah_live_before(heaps, d).ticket.serial);
+    /* 80 and 70 live units; heap 2 has room for 26, but fewer are live there, and heap 0 has none for 50 */
+    CHECK(oah_emptiest(heaps) == 2 && !oah_relocate(heaps, d2).ticket.serial && !oah_relocate(heaps, e).ticket.serial);
+    CHECK(!oah_relocate(NULL, e).ticket.serial && oah_emptiest(NULL) == OA_NO_SPACE);
+    CHECK(!oah_last_live(NULL, 0).ticket.serial && !oah_live_before(NULL, e).ticket.serial);
+    oah_drop(heaps);
+}
+
 /* Two heaps of 100 units and room for a larger one, of which number 1 was given up: written by hand. */
 static void states(void) {
     oah_limits limits = {100, 4, 2, 1};
@@ -100,7 +129,7 @@ static void states(void) {
     /* numbers that are wrong, with the checksum of them */
     static const struct { int place; uint64_t number; oa_found found; size_t at; } wrong[] = {
         {0, 1397244240, OA_BAD_FORM, 0}, {1, 2, OA_BAD_FORM, 0}, {2, 1ull << 32, OA_BAD_LIMIT, 16},
-        {3, 3, OA_BAD_LIMIT, 24}, {4, 1ull << 63, OA_BAD_LIMIT, 32}, {5, 1001, OA_BAD_LIMIT, 40},
+        {2, 99, OA_BAD_SIZE, 104}, {3, 5, OA_BAD_SIZE, 104}, {3, 3, OA_BAD_LIMIT, 24}, {4, 1ull << 63, OA_BAD_LIMIT, 32}, {5, 1001, OA_BAD_LIMIT, 40},
         {6, 1ull << 32, OA_BAD_COUNTS, 48}, {6, 0, OA_BAD_REALM, 104 + 32}, {7, 1ull << 32, OA_BAD_COUNTS, 56},
         {8, 1, OA_BAD_PLACE, 64}, {9, 1000, OA_BAD_PLACE, 72}, {9, 0, OA_BAD_PLACE, 0}, {11, 0, OA_BAD_PLACE, 88},
     };
@@ -148,6 +177,7 @@ static void nulls(void) {
 
 int main(void) {
     grows_and_drops();
+    relocates();
     states();
     nulls();
     printf("C: %d checks of heaps pass\n", checks);

@@ -62,5 +62,16 @@ int main() {
     Heaps::Loaded lost = Heaps::load(bytes.data(), bytes.size() - 1, 6, 64);
     CHECK(!lost.heaps && lost.found == OA_BAD_PLACE && lost.at == 64 + 8 * 6);
     CHECK(Heaps::load(bytes.data(), bytes.size(), 5, 64).found == OA_BAD_LIMIT && !Heaps::load(nullptr, 0, 6, 64).heaps);
+    // heaps 0 and 1 have 70 and 30 live units of 96: the second is emptied into the first, as far as that has room
+    Heaps two({96, 8, 2, 0}, 1);
+    Place first = two.allocate(70).place, gone = two.allocate(26).place, old = two.allocate(20).place, last = two.allocate(10).place;
+    CHECK(two.free(gone) && two.emptiest() == 1 && two.lastLive(1) == last && two.liveBefore(last) == old);
+    CHECK(two.liveBefore(old).ticket.serial == 0 && two.lastLive(2).ticket.serial == 0);
+    Place second = two.relocate(last);
+    CHECK(second.heap == 0 && two.offsetOf(second) == 70 && two.isLive(last) && two.free(last));
+    // 16 units are left there
+    CHECK(two.relocate(old).ticket.serial == 0 && two.relocate(first).ticket.serial == 0 && two.relocate(last).ticket.serial == 0);
+    CHECK(two.free(second) && two.relocate(old).heap == 0);
+    CHECK(moved.emptiest() == Allocation::NO_SPACE && moved.relocate(old).ticket.serial == 0);
     std::printf("C++: %d checks of heaps pass\n", checks);
 }

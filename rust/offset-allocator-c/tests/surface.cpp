@@ -144,6 +144,13 @@ static void emptyTheEnd() {
     Allocation last = heap.lastLive();
     CHECK(last.offset == 20 && heap.liveBefore(last).offset == 10 && heap.liveAfter(heap.liveBefore(last)).offset == 20);
     CHECK(heap.retract(70) && heap.size() == 30 && !heap.retract(1));
+    // a walk from either end, which can stop, and free what it meets
+    std::vector<uint32> met;
+    heap.eachLive([&](Allocation at) { met.push_back(at.offset); return true; });
+    heap.eachLiveBack([&](Allocation at) { met.push_back(at.offset); return at.offset != 10; });
+    CHECK(heap.firstLive().offset == 0 && met == (std::vector<uint32>{0, 10, 20, 20, 10}));
+    heap.eachLive([&](Allocation at) { return at.offset == 20 || heap.free(at); });
+    CHECK(heap.firstLive().offset == 20 && heap.lastLive().offset == 20);
     CHECK(std::string(bytes.begin() + 10, bytes.begin() + 20) == "eeeeeeeeee");
     CHECK(!copyInPieces(Move{4, 4, 1, last}, 1, [](Piece) {}));
 }

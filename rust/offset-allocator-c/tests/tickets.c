@@ -61,7 +61,7 @@ static bool same(oag_ticket a, oag_ticket b) { return a.serial == b.serial && a.
 /* the third range finds a place where the second one was, and the end can go */
 static void from_the_end(void) {
     oag_allocator *space = oag_new(64, 16, 9);
-    CHECK(!oag_last_live(space).serial);
+    CHECK(!oag_last_live(space).serial && !oag_first_live(space).serial);
     oag_ticket a = oag_allocate(space, 8), b = oag_allocate(space, 8), c = oag_allocate(space, 8);
     CHECK(same(oag_last_live(space), c) && same(oag_live_before(space, c), b) && same(oag_live_after(space, a), b));
     CHECK(!oag_live_before(space, a).serial && !oag_live_after(space, c).serial && !oag_relocate(space, c).serial);
@@ -69,8 +69,8 @@ static void from_the_end(void) {
     oag_ticket d = oag_relocate(space, c);
     CHECK(d.serial == 4 && d.realm == 9 && oag_offset_of(space, d) == 8 && oag_is_live(space, c) && oag_free(space, c));
     CHECK(!oag_retract(space, 49) && oag_retract(space, 48) && !oag_retract(space, 1) && oag_size(space) == 16);
-    CHECK(same(oag_last_live(space), d) && same(oag_live_before(space, d), a));
-    CHECK(!oag_retract(NULL, 0) && !oag_relocate(NULL, d).serial && !oag_last_live(NULL).serial);
+    CHECK(same(oag_last_live(space), d) && same(oag_live_before(space, d), a) && same(oag_first_live(space), a));
+    CHECK(!oag_retract(NULL, 0) && !oag_relocate(NULL, d).serial && !oag_last_live(NULL).serial && !oag_first_live(NULL).serial);
     CHECK(!oag_live_before(NULL, d).serial && !oag_live_after(NULL, d).serial);
     oag_drop(space);
 }

@@ -18,6 +18,15 @@ impl<T: Tables> GuardedOf<T> {
         }
     }
 
+    /// The ticket of the live range that is the first one in space, as `Allocator::first_live` finds it, or
+    /// `None` where none is live. Its offset is where the range begins now, as in what `ticket` returns.
+    pub fn first_live(&self) -> Option<Ticket> {
+        match self.space.first_live() {
+            None => None,
+            Some(handle) => Some(self.ticket_at(handle)),
+        }
+    }
+
     /// The ticket of the live range that is the last one in space, as `Allocator::last_live` finds it, or
     /// `None` where none is live. Its offset is where the range begins now, as in what `ticket` returns.
     pub fn last_live(&self) -> Option<Ticket> {

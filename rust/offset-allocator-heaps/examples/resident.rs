@@ -23,6 +23,6 @@ fn main() {
     assert_eq!(places[99_999].heap, 999);
     assert!(places.iter().all(|&place| heaps.is_live(place)));
     println!("{:.1} MB with no heap, {:.1} MB with 1,000", empty as f64 / 1e6, full as f64 / 1e6);
-    // a page for each of three tables, or two where one begins at the end of a page; and 1.2 KB for each number
-    assert!(full < 20_000_000);
+    // a page for each of three tables, and 1.2 KB for each number
+    assert!(full < 14_000_000);
 }

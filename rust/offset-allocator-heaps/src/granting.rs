@@ -24,7 +24,7 @@ fn below(found: Option<u32>, limit: u32) -> Option<u32> {
 
 impl<T: Tables> HeapsOf<T> {
     // The first heap that has room for a request.
-    fn first_fit(&mut self, units: u64, align: u32) -> Option<u32> {
+    pub(crate) fn first_fit(&mut self, units: u64, align: u32) -> Option<u32> {
         self.index.first_fit(units, align, &mut self.accesses)
     }
 
@@ -50,7 +50,7 @@ impl<T: Tables> HeapsOf<T> {
     }
 
     // Grants a request in the heap of a number, which has room for it.
-    fn grant_at(&mut self, number: u32, size: u32, align: u32) -> Granted {
+    pub(crate) fn grant_at(&mut self, number: u32, size: u32, align: u32) -> Granted {
         let ticket = slots::grant(&mut self.slots, number, size, align, &mut self.accesses);
         self.index
             .note(&self.slots, number, self.limits, &mut self.accesses);

@@ -3,6 +3,7 @@
 //! Laws: what holds of all heaps. Its functions do nothing.
 
 use crate::HeapsOf;
+pub use crate::relocating::emptiest_counted;
 use offset_allocator::Tables;
 use offset_allocator::laws::ranges_are_disjoint;
 

@@ -27,6 +27,8 @@
 #![forbid(unsafe_code)]
 #![warn(missing_docs)]
 #![expect(clippy::len_zero)] // the proof speaks of the length, which no call hides
+#![expect(clippy::manual_find)] // a loop over places needs no closure, whose calls would need a proof
+#![expect(clippy::manual_map)] // a `match` needs no closure, whose calls would need a proof
 #![expect(clippy::redundant_field_names)] // a field and the place that it is of have one name
 #![expect(clippy::redundant_pattern_matching)] // a `match` needs no call, whose contract a proof would need
 #![expect(clippy::single_match)] // both cases are proved
@@ -50,6 +52,7 @@ mod making;
 mod maxima;
 mod place;
 mod refusal;
+mod relocating;
 mod restoring;
 mod saving;
 mod slots;

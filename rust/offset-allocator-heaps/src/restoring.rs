@@ -5,6 +5,7 @@
 use crate::HeapsOf;
 use crate::copying::index_of;
 use crate::limits::Limits;
+use crate::making::LARGER_LIMIT;
 use crate::slots::{self, Slots};
 use crate::state::{StateFault, StateFaultKind, checksum, number};
 use offset_allocator::{Accesses, NodeIndex, Tables};
@@ -82,10 +83,22 @@ fn header_of<T: Tables>(
     })
 }
 
-// The heap of these bytes, or none where there are none.
+// Whether a heap has the size and the node limit of the kind of a number.
+fn is_of_kind<T: Tables>(heap: &GuardedOf<T>, number: u32, limits: Limits) -> bool {
+    let space = heap.allocator();
+    if number < limits.most {
+        space.size() == limits.size && space.max_allocs() == limits.max_allocs
+    } else {
+        space.size() >= 1 && space.max_allocs() == LARGER_LIMIT
+    }
+}
+
+// The heap of a number from these bytes, or none where there are none.
 fn read_heap<T: Tables>(
     alloc: Global,
     bytes: &[u8],
+    number: u32,
+    limits: Limits,
     made: u32,
     most_allocs: u32,
 ) -> Result<Result<Option<GuardedOf<T>>, StateFault>, AllocError> {
@@ -109,6 +122,12 @@ fn read_heap<T: Tables>(
             kind: StateFaultKind::Realm,
         }));
     }
+    if !is_of_kind(&heap, number, limits) {
+        return Ok(Err(StateFault {
+            at: 0,
+            kind: StateFaultKind::Size,
+        }));
+    }
     Ok(Ok(Some(heap)))
 }
 
@@ -118,6 +137,7 @@ fn read_slots<T: Tables>(
     bytes: &[u8],
     states: &[u8],
     count: u32,
+    limits: Limits,
     made: u32,
     most_allocs: u32,
 ) -> Result<Result<Slots<T>, StateFault>, AllocError> {
@@ -135,6 +155,8 @@ fn read_slots<T: Tables>(
         let heap = match read_heap(
             alloc,
             &states[from as usize..to as usize],
+            k,
+            limits,
             made,
             most_allocs,
         )? {
@@ -192,7 +214,15 @@ impl<T: Tables> HeapsOf<T> {
                 kind: StateFaultKind::Place,
             }));
         }
-        let slots = match read_slots(alloc, bytes, states, count, header.made, most_allocs)? {
+        let slots = match read_slots(
+            alloc,
+            bytes,
+            states,
+            count,
+            limits,
+            header.made,
+            most_allocs,
+        )? {
             Err(fault) => return Ok(Err(fault)),
             Ok(slots) => slots,
         };

@@ -4,6 +4,7 @@
 //! touches.
 
 use crate::memory::Vec;
+use crate::index::rooms;
 use offset_allocator::laws::is_well_formed;
 use offset_allocator::{Accesses, Tables};
 use offset_guarded::{GuardedOf, Ticket};
@@ -151,4 +152,104 @@ pub(crate) fn last_empty<T: Tables>(
         seen = with_number(seen, number, empty);
     }
     seen
+}
+
+/// The units of the range of a ticket in the heap of a number, or 0, and the units that are live there.
+pub(crate) fn units_at<T: Tables>(
+    slots: &Slots<T>,
+    number: u32,
+    ticket: Ticket,
+    count: &mut Accesses,
+) -> (u32, u32) {
+    match at(slots, number, count) {
+        None => (0, 0),
+        Some(heap) => (
+            heap.size_of(ticket).unwrap_or(0),
+            heap.allocator().live_units(),
+        ),
+    }
+}
+
+// Whether the heap of a number takes units of another one, in which so many are live.
+fn takes<T: Tables>(
+    slots: &Slots<T>,
+    number: u32,
+    own: u32,
+    units: u32,
+    live: u32,
+    count: &mut Accesses,
+) -> bool {
+    match at(slots, number, count) {
+        None => false,
+        Some(heap) => {
+            let (room, _) = rooms(Some(heap));
+            number != own && room >= units && heap.allocator().live_units() >= live
+        }
+    }
+}
+
+/// The first heap, from a number on, that takes units of another one, in which so many are live.
+pub(crate) fn taker<T: Tables>(
+    slots: &Slots<T>,
+    from: u32,
+    numbers: u32,
+    own: u32,
+    units: u32,
+    live: u32,
+    count: &mut Accesses,
+) -> Option<u32> {
+    for number in from..numbers {
+        if takes(slots, number, own, units, live, count) {
+            return Some(number);
+        }
+    }
+    None
+}
+
+// The live units of the heap of a number, or `None` where nothing is live in it.
+fn live_at<T: Tables>(slots: &Slots<T>, number: u32, count: &mut Accesses) -> Option<u32> {
+    match at(slots, number, count) {
+        None => None,
+        Some(heap) => {
+            let space = heap.allocator();
+            if space.is_empty() {
+                None
+            } else {
+                Some(space.live_units())
+            }
+        }
+    }
+}
+
+// The emptiest heap so far, and its live units, with those of one more heap.
+fn with_live(found: Option<(u32, u32)>, number: u32, live: Option<u32>) -> Option<(u32, u32)> {
+    match (found, live) {
+        (_, None) => found,
+        (None, Some(units)) => Some((number, units)),
+        (Some((_, fewest)), Some(units)) => {
+            if units <= fewest {
+                Some((number, units))
+            } else {
+                found
+            }
+        }
+    }
+}
+
+/// The heap with the fewest live units, of the first `numbers` numbers whose heaps have a live range, and the
+/// last such.
+pub(crate) fn emptiest<T: Tables>(
+    slots: &Slots<T>,
+    numbers: u32,
+    count: &mut Accesses,
+) -> Option<u32> {
+    let mut found = None;
+    for number in 0..numbers {
+        let live = live_at(slots, number, count);
+        found = with_live(found, number, live);
+    }
+    match found {
+        None => None,
+        Some((number, _)) => Some(number),
+    }
 }

@@ -33,6 +33,10 @@ pub enum StateFaultKind {
     Place,
     /// The realm of a heap, of which fewer were made.
     Realm,
+    /// The size or the node limit of a heap: not those of the limits, where its number is below `most`; else
+    /// no unit, or another node limit than a larger heap has. The place is where the state of the heap
+    /// begins.
+    Size,
     /// The state of a heap has this fault.
     Heap(offset_guarded::StateFaultKind),
 }
@@ -50,6 +54,12 @@ impl fmt::Display for StateFaultKind {
                 "the place of a heap that is not behind the one before it, or not in the bytes"
             ),
             StateFaultKind::Realm => write!(f, "the realm of a heap that was not made"),
+            StateFaultKind::Size => {
+                write!(
+                    f,
+                    "a heap of another size or node limit than the limits say"
+                )
+            }
             StateFaultKind::Heap(kind) => write!(f, "{kind}"),
         }
     }

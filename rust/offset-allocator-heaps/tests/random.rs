@@ -67,7 +67,7 @@ struct Run<T: Tables> {
     // the last places that were given
     given: Vec<Place>,
     made: u32,
-    counts: [u64; 8],
+    counts: [u64; 10],
     numbers: Numbers,
 }
 
@@ -83,7 +83,7 @@ impl<T: Tables> Run<T> {
             places: HashMap::new(),
             given: vec![nowhere; 64],
             made: 0,
-            counts: [0; 8],
+            counts: [0; 10],
             numbers: Numbers(state),
         }
     }
@@ -133,24 +133,83 @@ impl<T: Tables> Run<T> {
                     assert_eq!(place.ticket.realm, self.made);
                     self.counts[1 + !usual as usize] += 1;
                 }
-                let heap = self.model[number].as_mut().unwrap();
-                let offset = place.ticket.offset;
-                assert!(offset as u64 + size as u64 <= heap.units as u64);
-                assert_eq!(offset % align, 0);
-                if let Some((&from, &units)) = heap.ranges.range(..=offset).next_back() {
-                    assert!(from + units <= offset);
-                }
-                if let Some((&from, _)) = heap.ranges.range(offset..).next() {
-                    assert!(offset + size <= from);
-                }
-                heap.ranges.insert(offset, size);
-                assert!(self.live.insert(key(place), (offset, size)).is_none());
-                self.places.insert(key(place), place);
-                let at = self.numbers.below(64) as usize;
-                self.given[at] = place;
+                self.grant(place, size, align);
                 self.counts[3] += 1;
             }
             (expected, result) => panic!("{expected:?} expected of {size} at {align}: {result:?}"),
+        }
+    }
+
+    // A range that was granted in a heap that is there.
+    fn grant(&mut self, place: Place, size: u32, align: u32) {
+        let heap = self.model[place.heap as usize].as_mut().unwrap();
+        let offset = place.ticket.offset;
+        assert!(offset as u64 + size as u64 <= heap.units as u64);
+        assert_eq!(offset % align, 0);
+        if let Some((&from, &units)) = heap.ranges.range(..=offset).next_back() {
+            assert!(from + units <= offset);
+        }
+        if let Some((&from, _)) = heap.ranges.range(offset..).next() {
+            assert!(offset + size <= from);
+        }
+        heap.ranges.insert(offset, size);
+        assert!(self.live.insert(key(place), (offset, size)).is_none());
+        self.places.insert(key(place), place);
+        let at = self.numbers.below(64) as usize;
+        self.given[at] = place;
+    }
+
+    fn live_units(&self, number: usize) -> u64 {
+        self.model[number].iter().flat_map(|h| h.ranges.values()).map(|&n| n as u64).sum()
+    }
+
+    // The first other heap that has room, and at least as many live units.
+    fn relocate(&mut self, place: Place) -> Option<Place> {
+        let live = self.live.get(&key(place)).copied();
+        let own = place.heap as usize;
+        let takes = |n: usize, size: u32| n != own && self.fits(n, size as u64, 1) && self.live_units(n) >= self.live_units(own);
+        let expected = live.and_then(|(_, size)| (0..self.model.len()).find(|&n| takes(n, size)));
+        let second = self.heaps.relocate(place);
+        assert_eq!(second.map(|p| p.heap as usize), expected);
+        if let (Some(second), Some((_, size))) = (second, live) {
+            assert_eq!((second.realm, second.ticket.realm <= self.made), (REALM, true));
+            self.grant(second, size, 1);
+            self.counts[8] += 1;
+        }
+        self.ask(place);
+        second
+    }
+
+    // The places of a heap from its end on.
+    fn walk(&self, number: u32) -> Vec<Place> {
+        let mut found = vec![];
+        let mut next = self.heaps.last_live(number);
+        while let Some(place) = next {
+            found.push(place);
+            next = self.heaps.live_before(place);
+        }
+        let ranges: Vec<(u32, u32)> = found.iter().map(|&p| self.live[&key(p)]).collect();
+        let heap = self.model.get(number as usize).and_then(|h| h.as_ref());
+        let expected: Vec<(u32, u32)> = heap.iter().flat_map(|h| h.ranges.iter().rev()).map(|(&at, &n)| (at, n)).collect();
+        assert_eq!(ranges, expected);
+        assert!(found.iter().all(|p| p.heap == number && p.realm == REALM && p.ticket.offset == self.live[&key(*p)].0));
+        found
+    }
+
+    // Empties the heap with the fewest live units into others, as far as these have room.
+    fn pass(&mut self) {
+        let used = (0..self.model.len()).filter(|&n| self.model[n].as_ref().is_some_and(|h| !h.ranges.is_empty()));
+        let emptiest = used.min_by_key(|&n| (self.live_units(n), usize::MAX - n));
+        assert_eq!(self.heaps.emptiest(), emptiest.map(|n| n as u32));
+        let Some(number) = emptiest else { return };
+        let places = self.walk(number as u32);
+        let moved: Vec<bool> = places.iter().map(|&place| self.relocate(place).is_some()).collect();
+        places.iter().zip(&moved).filter(|(_, &moved)| moved).for_each(|(&place, _)| self.free_place(place));
+        let empty = moved.iter().all(|&moved| moved);
+        assert_eq!(self.heaps.drop_heap(number as u32), empty);
+        if empty {
+            self.forget(number);
+            self.counts[9] += 1;
         }
     }
 
@@ -271,7 +330,16 @@ impl<T: Tables> Run<T> {
                 93 | 94 => self.drop_heap(),
                 95 => self.give_up(),
                 96 => self.empty(),
-                97 if self.numbers.below(200) == 0 => {
+                98 if self.numbers.below(4) == 0 => self.pass(),
+                98 | 99 => {
+                    let place = self.place();
+                    self.relocate(place);
+                    let number = self.numbers.below(self.model.len() as u64 + 2) as u32;
+                    self.walk(number);
+                    let before = self.place();
+                    assert!(self.heaps.is_live(before) || self.heaps.live_before(before).is_none());
+                }
+                97 if self.numbers.below(50) == 0 => {
                     self.heaps.reset();
                     self.live.clear();
                     self.model.iter_mut().flatten().for_each(|h| h.ranges.clear());
@@ -294,9 +362,10 @@ fn runs<T: Tables>(calls: u64) {
     for (limits, state) in [(limits(1_000, 8, 5, 3), 1), (limits(64, 4, 37, 11), 2), (limits(4_096, 60, 3, 0), 3), (limits(500, 20, 0, 4), 4)] {
         let mut run = Run::<T>::new(limits, 0x9E37_79B9_7F4A_7C15 + state);
         run.run(calls / 4);
-        println!("{limits:?}: {:?} refused, new, larger, granted, freed, dropped, given up, reset", run.counts);
+        println!("{limits:?}: {:?} refused, new, larger, granted, freed, dropped, given up, reset, relocated, emptied", run.counts);
         assert!(run.counts[0] > 0 && run.counts[3] > 0 && run.counts[4] > 0 && run.counts[6] > 0 && run.counts[7] > 0);
         assert!(run.counts[5] > 0, "an empty heap is dropped");
+        assert!(run.counts[8] > 0 && run.counts[9] > 0, "a heap is emptied into others");
         assert_eq!(run.counts[1] > 0, limits.most > 0);
         assert_eq!(run.counts[2] > 0, limits.most_larger > 0);
     }

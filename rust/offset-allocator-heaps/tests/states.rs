@@ -211,7 +211,17 @@ fn changed_states_are_read_or_refused() {
                 assert!(at <= state.len());
                 match wanted {
                     Some(wanted) => assert_eq!((at, kind), wanted, "{numbers:?}"),
-                    None => assert!(matches!(kind, StateFaultKind::Place | StateFaultKind::Realm | StateFaultKind::Heap(_))),
+                    None => assert!(matches!(
+                        kind,
+                        StateFaultKind::Place | StateFaultKind::Realm | StateFaultKind::Size | StateFaultKind::Heap(_)
+                    )),
+                }
+                if kind == StateFaultKind::Size {
+                    // at the start of a heap, and the limits were changed, or which heaps there are
+                    let start = 8 * numbers.len() + 8;
+                    let slots = numbers.len() - 9;
+                    assert!((0..slots).any(|k| numbers[9 + k] > numbers[8 + k] && start as u64 + numbers[8 + k] == at as u64));
+                    assert!(numbers[2..6] != old[2..6] || numbers[8..] != old[8..]);
                 }
                 *kinds.entry(format!("{kind:?}").split('(').next().unwrap().into()).or_default() += 1;
             }
@@ -220,8 +230,16 @@ fn changed_states_are_read_or_refused() {
                 assert_eq!(wanted, None, "{numbers:?}");
                 assert_eq!(written(&heaps), state);
                 let made = numbers[6];
-                for number in 0..heaps.limits().most + heaps.limits().most_larger {
-                    assert!(!heaps.heap(number).is_some_and(|it| u64::from(it.realm()) > made));
+                let limits = heaps.limits();
+                for number in 0..limits.most + limits.most_larger {
+                    let Some(heap) = heaps.heap(number) else { continue };
+                    let (size, limit) = (heap.allocator().size(), heap.allocator().max_allocs());
+                    assert!(u64::from(heap.realm()) <= made);
+                    if number < limits.most {
+                        assert_eq!((size, limit), (limits.size, limits.max_allocs));
+                    } else {
+                        assert!(size > 0 && limit == 4);
+                    }
                 }
                 let mut other = Worked { heaps, held: own.held.clone(), made };
                 for _ in 0..6 {
@@ -232,7 +250,7 @@ fn changed_states_are_read_or_refused() {
     }
     println!("{read} of {} read; faults: {kinds:?}", count());
     assert!(read > count() / 20);
-    let all = ["Checksum", "Counts", "Form", "Heap", "Length", "Limits", "Place", "Realm"];
+    let all = ["Checksum", "Counts", "Form", "Heap", "Length", "Limits", "Place", "Realm", "Size"];
     assert_eq!(kinds.keys().map(String::as_str).collect::<Vec<_>>(), all);
 }
 

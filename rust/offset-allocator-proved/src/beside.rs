@@ -32,6 +32,31 @@ fn live_from<T: Tables>(tables: &T, name: u32, count: &mut Accesses) -> Option<A
     Some(handle_of(tables.offset(following, count), following))
 }
 
+// The name of the first used block, if there is one. It is found by a walk back from the last block,
+// since the first block of the space is not known.
+fn first_used<T: Tables>(tables: &T, last: u32, count: &mut Accesses) -> Option<u32> {
+    let mut first = None;
+    let mut at = Some(last);
+    while let Some(name) = at {
+        if chain::is_used(tables, name, count) {
+            first = Some(name);
+        }
+        at = chain::before(tables, name, count);
+    }
+    first
+}
+
+/// As `Allocator::first_live`. The count grows by 2 for each block, and 1 where there is such a range.
+pub fn first_live_counted<T: Tables>(
+    allocator: &AllocatorOf<T>,
+    count: &mut Accesses,
+) -> Option<Allocation<T::Index>> {
+    let tables = &allocator.store.tables;
+    tables.shape();
+    let name = first_used(tables, allocator.store.last, count)?;
+    Some(handle_of(tables.offset(name, count), name))
+}
+
 /// As `Allocator::last_live`. The count grows by at most 8.
 pub fn last_live_counted<T: Tables>(
     allocator: &AllocatorOf<T>,
@@ -69,6 +94,14 @@ pub fn live_after_counted<T: Tables>(
 }
 
 impl<T: Tables> AllocatorOf<T> {
+    /// The handle of the live range that is the first one in space, or `None` where none is live. It
+    /// makes 2 accesses to the tables for each block, and one more: the first block of a space is not
+    /// known, so it walks back from the last one. With `live_after` a walk from here meets all live
+    /// ranges, as one with `live_before` does from `last_live`.
+    pub fn first_live(&self) -> Option<Allocation<T::Index>> {
+        first_live_counted(self, &mut Accesses::new())
+    }
+
     /// The handle of the live range that is the last one in space, or `None` where none is live. It makes at most 8
     /// accesses to the tables.
     pub fn last_live(&self) -> Option<Allocation<T::Index>> {

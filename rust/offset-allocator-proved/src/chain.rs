@@ -56,7 +56,7 @@ pub(crate) fn point_back<T: Tables>(
 }
 
 // Makes `name` the block after the one that `link` names, if any.
-fn point_on<T: Tables>(tables: &mut T, link: T::Index, name: u32, count: &mut Accesses) {
+pub(crate) fn point_on<T: Tables>(tables: &mut T, link: T::Index, name: u32, count: &mut Accesses) {
     if let Some(before) = linked(link) {
         let on = tables.link_to(name);
         tables.set_after(before, on, count);

@@ -3,39 +3,44 @@
 //! Makes room for a request: slides the live ranges of a run of blocks to its front, so that its free units are one
 //! block after them.
 
-use crate::compact::{Hole, Move, pass, report};
+use crate::compact::{Move, report};
+use crate::gap::Gap;
+use crate::index::linked;
 use crate::room::{RoomCost, cheapest};
 use crate::small_float::{float_to_uint, uint_to_float_round_down, uint_to_float_round_up};
 use crate::store::Store;
 use crate::tables::Tables;
-use crate::{AllocatorOf, bins, chain};
+use crate::{AllocatorOf, bins, chain, gap};
 
 // Slides the used blocks after a free block to the front, and coalesces it with the free ones, which leave their bins,
 // until the free block `end` is coalesced.
 fn slide_to<T: Tables, F: FnMut(Move<T::Index>)>(
     store: &mut Store<T>,
-    mut hole: Hole,
+    name: u32,
+    size: u32,
     end: u32,
     moved: &mut F,
-) -> Hole {
+) -> Gap<T::Index> {
     store.tables.shape();
-    while let Some(next) = chain::after(&store.tables, hole.name, &mut store.accesses) {
+    let mut gap = gap::open(&store.tables, name, size, &mut store.accesses);
+    let mut at = store.tables.after(name, &mut store.accesses);
+    while let Some(next) = linked(at) {
         let more = store.tables.size(next, &mut store.accesses);
+        at = store.tables.after(next, &mut store.accesses);
         if chain::is_used(&store.tables, next, &mut store.accesses) {
-            let to = store.tables.offset(hole.name, &mut store.accesses);
-            hole.name = pass(store, hole, to, next, more);
-            report(moved, next, to + hole.size, to, more);
+            report(moved, next, gap.offset + gap.size, gap.offset, more);
+            gap::pass(store, &mut gap, next, more);
         } else {
-            hole.size += more;
             bins::remove(store, next, more);
-            chain::coalesce_after(store, hole.name, next, hole.size);
+            gap::gather(store, &mut gap, next, more);
             if next == end {
-                return hole;
+                gap::close(store, gap, at);
+                return gap;
             }
         }
     }
     // not reached: the block `end` comes before
-    hole
+    gap
 }
 
 impl<T: Tables> AllocatorOf<T> {
@@ -48,9 +53,9 @@ impl<T: Tables> AllocatorOf<T> {
     /// Every handle stays live, with its name and its size; only the public `offset` of a moved one is that of before.
     /// Nothing changes, and `moved` is not called, where no range has to move: where `None` is returned, since all free
     /// units together are not enough, and where the cost has no ranges, since one free block is large enough. Else the
-    /// request is granted afterwards, also at the node limit. For an aligned request ask with `size + align - 1`. Which
-    /// of several runs that cost as much it is, and the name of the free block, are left open. It makes at most 6
-    /// accesses to the tables for each block, 40 for each range that moves, and 20, and takes no memory.
+    /// request is granted afterwards, also at the node limit. For an aligned request ask with `size + align - 1`. Of
+    /// several runs that cost as much it is the last in space; the name of the free block is left open. It makes at
+    /// most 6 accesses to the tables for each block, 40 for each range that moves, and 20, and takes no memory.
     pub fn make_room<F: FnMut(Move<T::Index>)>(
         &mut self,
         size: u32,
@@ -85,15 +90,7 @@ impl<T: Tables> AllocatorOf<T> {
         }
         let first = self.store.tables.size(run.first, &mut self.store.accesses);
         bins::remove(&mut self.store, run.first, first);
-        let hole = slide_to(
-            &mut self.store,
-            Hole {
-                name: run.first,
-                size: first,
-            },
-            run.end,
-            moved,
-        );
+        let hole = slide_to(&mut self.store, run.first, first, run.end, moved);
         let class = uint_to_float_round_down(hole.size);
         bins::push(&mut self.store, hole.name, class);
         Some(run.cost)

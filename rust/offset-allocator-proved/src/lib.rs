@@ -50,6 +50,7 @@ mod copies;
 mod copying;
 pub mod ext;
 mod fills;
+mod gap;
 mod gathering;
 mod handle;
 mod index;

@@ -102,7 +102,7 @@ fn shrink<T: Tables>(tables: &T, want: u32, mut window: Window, count: &mut Acce
     window
 }
 
-// The cheaper of two runs, or the only one.
+// The cheaper of two runs, or the only one; the known one where they cost as much.
 fn cheaper(known: Option<Run>, run: Run) -> Run {
     match known {
         None => run,
@@ -117,9 +117,10 @@ fn cheaper(known: Option<Run>, run: Run) -> Run {
     }
 }
 
-// The cheapest run with at least `want` free units. The walk goes back over the blocks from the last one on; the window
-// has those that were met, without the last ones, which are no longer needed: from each free block on, the shortest run
-// with enough free units is the cheapest, and ends no later than that of the free block after.
+// The cheapest run with at least `want` free units, of several the one that begins last. The walk goes back over the
+// blocks from the last one on; the window has those that were met, without the last ones, which are no longer needed:
+// from each free block on, the shortest run with enough free units is the cheapest, and ends no later than that of the
+// free block after.
 pub(crate) fn cheapest<T: Tables>(
     tables: &T,
     last: u32,

@@ -56,6 +56,7 @@ fn random_space<T: Tables<Index = u32>>(random: &mut Random) -> (AllocatorOf<T>,
 fn expect_neighbours<T: Tables<Index = u32>>(space: &AllocatorOf<T>, blocks: &[Listed]) {
     let live: Vec<_> = blocks.iter().filter_map(|it| it.2).collect();
     assert_eq!(space.last_live(), live.last().copied());
+    assert_eq!(space.first_live(), live.first().copied());
     for (at, &handle) in live.iter().enumerate() {
         assert_eq!(space.live_before(handle), at.checked_sub(1).map(|at| live[at]));
         assert_eq!(space.live_after(handle), live.get(at + 1).copied());

@@ -126,16 +126,16 @@ fn try_to_make<T: Tables<Index = u32>>(mut space: AllocatorOf<T>, size: u32, wan
     }
     assert_eq!(space.refusal(size), None);
     let after: Vec<_> = blocks_of(&space).iter().map(|it| (it.offset, it.size, it.allocation.map(|it| it.name()))).collect();
-    let is_free = |at: usize| before[at].allocation.is_none();
-    let made = (0..before.len()).filter(|first| is_free(*first)).any(|first| {
-        (first + 1..before.len()).filter(|last| is_free(*last)).any(|last| {
-            let run = &before[first..=last];
-            let live = run.iter().filter(|it| it.allocation.is_some());
-            let room: u64 = run.iter().filter(|it| it.allocation.is_none()).map(|it| u64::from(it.size)).sum();
-            room >= want && live.map(|it| it.size).sum::<u32>() == moved.0 && slid(&before, first, last) == after
-        })
-    });
-    assert!(made, "{size} in {before:?}: {after:?}");
+    // of all runs of this cost the last in space has slid
+    let costs_as_much = |&(first, last): &(usize, usize)| {
+        let (live, free): (Vec<&Block>, Vec<&Block>) = before[first..=last].iter().partition(|it| it.allocation.is_some());
+        let room: u64 = free.iter().map(|it| u64::from(it.size)).sum();
+        let is_run = before[first].allocation.is_none() && before[last].allocation.is_none();
+        is_run && room >= want && (live.iter().map(|it| it.size).sum(), live.len() as u32) == moved
+    };
+    let mut runs = (0..before.len()).flat_map(|first| (first + 1..before.len()).map(move |last| (first, last)));
+    let (first, last) = runs.rfind(costs_as_much).unwrap();
+    assert_eq!(slid(&before, first, last), after, "{size} in {before:?}");
     for it in &moves {
         assert!(it.to < it.from && space.allocation_offset(it.allocation()) == Some(it.to));
         if !data.is_empty() {

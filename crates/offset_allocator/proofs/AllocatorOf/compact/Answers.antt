@@ -95,7 +95,7 @@ returns-clause-moved g c =
 
 -- the accesses, where a block is free
 counted : (g : Over) (c : After-push g) → (c.args.self.now.accesses + 2 * length c.args.self.now.blocks + 267 ≤ c.push.new.store.accesses)
-    × (c.push.new.store.accesses ≤ c.args.self.now.accesses + (24 * length c.args.self.now.blocks + 512))
+    × (c.push.new.store.accesses ≤ c.args.self.now.accesses + (10 * length c.args.self.now.blocks + 384))
 counted g c =
     let f : Fields = fields_of g.T.Tables.cells g.T.Index.NodeIndex.MAX c.self.inside in
     let o : IsFirst (blocks (g.T.Tables.cells c.self.inside.store.tables).chain c.self.inside.store.last) c.in-Some.first = first_is _ _ (sym c.first_free.ensures.first ∙ c.in-Some.is) in

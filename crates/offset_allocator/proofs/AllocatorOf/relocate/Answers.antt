@@ -1,6 +1,6 @@
-use Rattle.offset_allocator.proofs.Common.{◌≡◌, ◌≤◌, ℕ, None, Some, refl, sym, ap, subst, ◌∙◌, arith, View, Grant, Allocates, Aligns, SameSpace, IsLive, IsWellFormed, Option, Range, range_of, option_map, unwrap_or, size_of}
+use Rattle.offset_allocator.proofs.Common.{◌≡◌, ℕ, Some, sym, ap, subst, ◌∙◌, arith, View, Grant, Allocates, Aligns, SameSpace, IsLive, IsWellFormed, Option, unwrap_or, size_of}
 use Rattle.offset_allocator.specs.Relocating.{offset_of, Relocates}
-use Rattle.offset_allocator.proofs.{Sound.shown, Sound.Fields, Sound.fields_of, Sound.known_sound, Reading.live_below, Reading.live_size, Reading.live_offset}
+use Rattle.offset_allocator.proofs.{Sound.fields_of, Sound.known_sound, Reading.live_below, Reading.live_size, Reading.live_offset}
 use Rattle.offset_allocator.proofs.{Begins.Begins, Begins.none_relocates, Begins.later_relocates, Begins.earlier_relocates, Begins.relocated_grants, Begins.relocated_before}
 use Rattle.offset_allocator.proofs.AllocatorOf.relocate.Goals as goal
 use Rattle.offset_allocator.proofs.AllocatorOf.relocate.{Goals.After-would_begin, Goals.After-serve, Given.Over}

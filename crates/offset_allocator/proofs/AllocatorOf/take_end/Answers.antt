@@ -1,6 +1,6 @@
-use Rattle.offset_allocator.proofs.Common.{Option, IfSome, ◌≡◌, ◌+◌, ◌-◌, ◌≤◌, ◌<◌, ◌∙◌, ℕ, [], ◌∷◌, ◌++◌, length, refl, sym, ap, subst, arith, inr, Some, None, false, true, Node, node, ChainCells, View, Block, last_or}
+use Rattle.offset_allocator.proofs.Common.{◌≡◌, ◌-◌, ◌≤◌, ◌∙◌, ℕ, [], length, refl, sym, ap, subst, arith, inr, false, Node, node, ChainCells, View}
 use Rattle.offset_allocator.specs.Retracting.{Retracts}
-use Rattle.offset_allocator.proofs.{Sound.Fields, Sound.shown, Sound.fields_of, Classes.down_small, Ends.last_none, Places.at_place, Places.end_place, Places.previous_place, Places.kept_place}
+use Rattle.offset_allocator.proofs.{Sound.shown, Sound.fields_of, Classes.down_small, Ends.last_none, Places.at_place, Places.end_place, Places.previous_place, Places.kept_place}
 use Rattle.offset_allocator.proofs.Extending.{EndsFree, last_of, last_held, last_size, last_free, last_listed, last_unlisted}
 use Rattle.offset_allocator.proofs.Retracted.{Cut, size_fits, free_fits, narrowed_to, dropped, too_few}
 use Rattle.offset_allocator.proofs.AllocatorOf.take_end.Goals as goal

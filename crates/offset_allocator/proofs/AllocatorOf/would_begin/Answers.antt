@@ -1,4 +1,4 @@
-use Rattle.offset_allocator.proofs.Common.{◌≡◌, ◌<◌, ℕ, None, Some, Option, length, sym, ap, subst, ◌∙◌, arith, node, up, View, Grant, Allocates, IsFoundFrom, bins_in}
+use Rattle.offset_allocator.proofs.Common.{◌≡◌, ◌<◌, ℕ, None, Some, Option, length, sym, ap, subst, ◌∙◌, arith, node, View, Grant, Allocates, IsFoundFrom, bins_in}
 use Rattle.offset_allocator.proofs.{Sound.fields_of, Classes.below_value_up, Begins.head_below, Begins.some_begins, Begins.none_begins}
 use Rattle.offset_allocator.proofs.AllocatorOf.would_begin.Goals as goal
 

@@ -1,4 +1,4 @@
-use Rattle.offset_allocator.proofs.Common.{◌≡◌, ◌+◌, ℕ, sym, ap, subst, ◌∙◌, arith, [], ◌∷◌, Node, HasPlace}
+use Rattle.offset_allocator.proofs.Common.{◌≡◌, ℕ, sym, ap, subst, ◌∙◌, arith, [], Node, HasPlace}
 use Rattle.offset_allocator.proofs.{Places.at_place, Places.after_fits, Dropped.next_is, Dropped.end_node, Dropped.joined, Dropped.joined_last}
 use Rattle.offset_allocator.proofs.chain.drop_end.Goals as goal
 

@@ -1,5 +1,5 @@
-use Rattle.offset_allocator.proofs.Common.{◌≡◌, ℕ, ◌+◌, ◌-◌, ◌*◌, ◌≤◌, false, length, Place, HasPlace, IsCalledWith}
-use Rattle.offset_allocator.proofs.Sliding.{IsSliding}
+use Rattle.offset_allocator.proofs.Common.{◌≡◌, ℕ, ◌+◌, ◌-◌, ◌*◌, [], false, length, Place, HasPlace, IsCalledWith, link_of}
+use Rattle.offset_allocator.proofs.Stretches.{IsOnTheWay}
 use Rattle.offset_allocator.specs.Store.{SameBins}
 use Rattle.offset_allocator.proofs.compact.slide.Given as goal
 
@@ -7,11 +7,11 @@ abbrev pub invariant-loop-next : goal.invariant-loop-next
 invariant-loop-next g l = record {
   callable : goal.F-IsAlwaysCallable g l.moved;
   bins : SameBins g.T.Tables.cells l.initial.store l.store;
-  grows : l.initial.store.accesses ≤ l.store.accesses;
-  at : (m : ℕ) (p : Place) → HasPlace (g.T.Tables.cells l.initial.store.tables).chain m l.initial.store.last l.initial.store.spare_count l.initial.hole.name p → p.block.used ≡ false
-      → IsSliding (IsCalledWith g.T.Index.NonMax.NodeIndexNonMax.number (λ f range h. goal.F-step g f range tt h)) m p l.initial.moved l.initial.store.accesses (g.T.Tables.cells l.store.tables)
-      l.store.last l.store.spare_count l.hole.name l.hole.size l.moved l.store.accesses;
+  at : (m : ℕ) (p : Place) → HasPlace (g.T.Tables.cells l.initial.store.tables).chain m l.initial.store.last l.initial.store.spare_count l.name p → p.block.used ≡ false
+      → IsOnTheWay (IsCalledWith g.T.Index.NonMax.NodeIndexNonMax.number (λ f range h. goal.F-step g f range tt h)) p p.after [] l.initial.moved l.initial.store.accesses (λ n. 7 * n)
+      g.T.Index.NodeIndex.MAX g.T.Index.NodeIndex.number (g.T.Tables.cells l.store.tables).chain m l.store.last l.store.spare_count l.gap
+      (link_of g.T.Index.NodeIndex.MAX (g.T.Index.NodeIndex.number l.at)) l.moved l.store.accesses;
 }
 
 abbrev pub decreases-loop-next : goal.decreases-loop-next
-decreases-loop-next g l = (l.initial.store.accesses + 20 * length (g.T.Tables.cells l.initial.store.tables).chain.nodes) - l.store.accesses
+decreases-loop-next g l = (l.initial.store.accesses + 7 * length (g.T.Tables.cells l.initial.store.tables).chain.nodes) - l.store.accesses

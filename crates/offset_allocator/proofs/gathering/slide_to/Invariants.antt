@@ -1,5 +1,5 @@
-use Rattle.offset_allocator.proofs.Common.{◌≡◌, ◌≤◌, ℕ, ◌+◌, ◌-◌, ◌*◌, ◌++◌, [], List, length, Place, Block, HasPlace, IsCalledWith, IsBinned, bins_in, AreInBins}
-use Rattle.offset_allocator.proofs.Stretches.{IsGathering}
+use Rattle.offset_allocator.proofs.Common.{◌≡◌, ◌≤◌, ℕ, ◌+◌, ◌-◌, ◌*◌, ◌++◌, [], List, length, Place, Block, HasPlace, IsCalledWith, IsBinned, bins_in, AreInBins, live, remove_all, link_of}
+use Rattle.offset_allocator.proofs.Stretches.{IsOnTheWay}
 use Rattle.offset_allocator.specs.Room.{IsStretch}
 use Rattle.offset_allocator.proofs.gathering.slide_to.Given as goal
 
@@ -8,12 +8,15 @@ invariant-loop-next g l = record {
   callable : goal.F-IsAlwaysCallable g l.moved;
   binned : IsBinned g.T.Index.NodeIndex.MAX (g.T.Tables.cells l.store.tables).bins l.store.top_mask;
   grows : l.initial.store.accesses ≤ l.store.accesses;
-  at : (m : ℕ) (p : Place) (run back : List Block) → HasPlace (g.T.Tables.cells l.initial.store.tables).chain m l.initial.store.last l.initial.store.spare_count l.initial.hole.name p
+  at : (m : ℕ) (p : Place) (run back : List Block) → HasPlace (g.T.Tables.cells l.initial.store.tables).chain m l.initial.store.last l.initial.store.spare_count l.name p
       → IsStretch p run back l.end → AreInBins (p.before ++ p.after) (bins_in g.T.Index.NodeIndex.MAX (g.T.Tables.cells l.initial.store.tables).bins)
-      → (s : IsGathering (IsCalledWith g.T.Index.NonMax.NodeIndexNonMax.number (λ f range h. goal.F-step g f range tt h)) m p run back l.initial.moved
-      (bins_in g.T.Index.NodeIndex.MAX (g.T.Tables.cells l.initial.store.tables).bins) l.initial.store.accesses (g.T.Tables.cells l.store.tables).chain
-      (bins_in g.T.Index.NodeIndex.MAX (g.T.Tables.cells l.store.tables).bins) l.store.last l.store.spare_count l.hole.name l.hole.size l.moved l.store.accesses) × (s.rest ≡ [] → ⊥);
+      → (s : IsOnTheWay (IsCalledWith g.T.Index.NonMax.NodeIndexNonMax.number (λ f range h. goal.F-step g f range tt h)) p run back l.initial.moved l.initial.store.accesses (λ n. 15 * n)
+      g.T.Index.NodeIndex.MAX g.T.Index.NodeIndex.number (g.T.Tables.cells l.store.tables).chain m l.store.last l.store.spare_count l.gap
+      (link_of g.T.Index.NodeIndex.MAX (g.T.Index.NodeIndex.number l.at)) l.moved l.store.accesses)
+      × (bins_in g.T.Index.NodeIndex.MAX (g.T.Tables.cells l.store.tables).bins ≡ remove_all s.done (bins_in g.T.Index.NodeIndex.MAX (g.T.Tables.cells l.initial.store.tables).bins))
+      × AreInBins ((p.before ++ live s.done) ++ (s.rest ++ back)) (bins_in g.T.Index.NodeIndex.MAX (g.T.Tables.cells l.store.tables).bins)
+      × (s.rest ≡ [] → ⊥);
 }
 
 abbrev pub decreases-loop-next : goal.decreases-loop-next
-decreases-loop-next g l = (l.initial.store.accesses + 20 * length (g.T.Tables.cells l.initial.store.tables).chain.nodes) - l.store.accesses
+decreases-loop-next g l = (l.initial.store.accesses + 15 * length (g.T.Tables.cells l.initial.store.tables).chain.nodes) - l.store.accesses

@@ -1,9 +1,10 @@
 use Rattle.std.proofs.Common.{refl, arith, sym, subst, ap, ◌∙◌}
 use Rattle.std.proofs.lemmas.Bool.{false≢true}
+use Rattle.offset_allocator.specs.View.{View}
 use Rattle.offset_guarded.specs.Guard.{Guard}
 use Rattle.offset_heaps.specs.Heaps.{Heaps, IsLive}
 use Rattle.offset_heaps.proofs.Places.{freed_gone, freed_others, freed_step, live_place, live_ticket, not_live_elsewhere, other_realm, same_slots, shown}
-use Rattle.offset_heaps.proofs.Sound.{realm_kept, sound_put, wide_put}
+use Rattle.offset_heaps.proofs.Sound.{kind_kept, realm_kept, sound_put, wide_put}
 use Rattle.offset_heaps.proofs.HeapsOf.free.Goals as goal
 
 pub returns-then-place-self-clause-done : goal.returns-then-place-self-clause-done
@@ -44,8 +45,10 @@ invariant_of-self-2 g c =
     let by = change.by.2 in
     let e = change.slots in
     let below = realm_kept c.self.inside.made _ change.now by.before by.after by.was by.is (ap (λ (a : Guard). a.realm) by.serials) (c.self.invariant.realms c.args.place.heap) in
+    let kind = kind_kept c.self.inside.limits c.args.place.heap _ change.now by.before by.after by.was by.is (ap (λ (v : View). v.size) by.step.view) (ap (λ (v : View). v.max_allocs) by.step.view)
+    (c.self.invariant.kinds c.args.place.heap) in
     rw e (sound_put g.T.Index.NodeIndex.MAX c.self.inside.slots.items c.self.inside.limits c.self.inside.made c.self.inside.made c.self.inside.index c.note.new.self c.args.place.heap change.now
-    c.self.invariant (omega arith) below there (rw e at c.note.ensures.wide) (rw e at c.note.ensures.here) (rw e at c.note.ensures.others) c.note.ensures.levels)
+    c.self.invariant (omega arith) below kind there (rw e at c.note.ensures.wide) (rw e at c.note.ensures.here) (rw e at c.note.ensures.others) c.note.ensures.levels)
 
 pub returns-clause-done : goal.returns-clause-done
 returns-clause-done g c = (

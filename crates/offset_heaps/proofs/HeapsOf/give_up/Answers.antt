@@ -8,7 +8,7 @@ pub invariant_of-self-2 : goal.invariant_of-self-2
 invariant_of-self-2 g c = let there = c.has.ensures.there c.if-not-has.false in
     let e = c.put.ensures.heaps in
     rw e (sound_put g.T.Index.NodeIndex.MAX c.self.inside.slots.items c.self.inside.limits c.self.inside.made c.self.inside.made c.self.inside.index c.note.new.self c.args.number None
-    c.self.invariant (omega arith) tt there
+    c.self.invariant (omega arith) tt tt there
     (rw e at c.note.ensures.wide) (rw e at c.note.ensures.here) (rw e at c.note.ensures.others) c.note.ensures.levels)
 
 pub returns-clause-done : goal.returns-clause-done

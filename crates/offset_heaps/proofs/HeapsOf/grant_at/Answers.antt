@@ -1,8 +1,9 @@
 use Rattle.std.proofs.Common.{◌<◌, length, ap, arith}
+use Rattle.offset_allocator.specs.View.{View}
 use Rattle.offset_heaps.specs.Heaps.{Heaps, slot}
 use Rattle.offset_heaps.proofs.Finding.{levels}
 use Rattle.offset_heaps.proofs.Grants.{granted_at}
-use Rattle.offset_heaps.proofs.Sound.{realm_kept, sound_put}
+use Rattle.offset_heaps.proofs.Sound.{kind_kept, realm_kept, sound_put}
 use Rattle.offset_heaps.proofs.HeapsOf.grant_at.Goals as goal
 
 pub invariant_of-self : goal.invariant_of-self
@@ -12,8 +13,10 @@ invariant_of-self g c =
     let by = change.by in
     let e = change.slots in
     let below = realm_kept c.self.inside.made (slot c.args.number c.self.inside.slots.items) change.now by.before by.after by.was by.is by.grants.realm.1 (c.self.invariant.realms c.args.number) in
+    let kind = kind_kept c.self.inside.limits c.args.number (slot c.args.number c.self.inside.slots.items) change.now by.before by.after by.was by.is
+    (ap (λ (v : View). v.size) by.step.1.view) (ap (λ (v : View). v.max_allocs) by.step.1.view) (c.self.invariant.kinds c.args.number) in
     rw e (sound_put g.T.Index.NodeIndex.MAX c.self.inside.slots.items c.self.inside.limits c.self.inside.made c.self.inside.made c.self.inside.index c.note.new.self c.args.number change.now
-    c.self.invariant (omega arith) below there (rw e at c.note.ensures.wide) (rw e at c.note.ensures.here) (rw e at c.note.ensures.others) c.note.ensures.levels)
+    c.self.invariant (omega arith) below kind there (rw e at c.note.ensures.wide) (rw e at c.note.ensures.here) (rw e at c.note.ensures.others) c.note.ensures.levels)
 
 pub returns-clause-grants : goal.returns-clause-grants
 returns-clause-grants g c =

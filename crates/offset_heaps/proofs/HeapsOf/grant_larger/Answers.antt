@@ -1,6 +1,7 @@
-use Rattle.std.proofs.Common.{◌+◌, ◌<◌, length, ap, arith, subst}
-use Rattle.offset_heaps.specs.Heaps.{Heaps, IsNew, larger_limit, numbers}
+use Rattle.std.proofs.Common.{◌+◌, ◌<◌, ◌≤◌, IfSome, length, ap, arith, subst}
+use Rattle.offset_heaps.specs.Heaps.{Heaps, IsNew, IsOfKind, larger_limit, numbers}
 use Rattle.offset_heaps.proofs.Grants.{granted_larger}
+use Rattle.offset_heaps.proofs.Shapes.{kind_larger}
 use Rattle.offset_heaps.proofs.HeapsOf.grant_larger.Goals as goal
 
 pub returns-in-Ok-clause-grants : goal.returns-in-Ok-clause-grants
@@ -14,3 +15,11 @@ returns-in-Ok-clause-grants g c =
     let new = subst (λ (h : Heaps). IsNew c.args.size larger_limit (h.made + 1) w.0) c.self.view_is w.1 in
     rw c.add.ensures.granted (granted_larger c.args.self.now c.add.new.self c.args.number c.args.size c.args.align c.in-Ok.slot c.in-Ok.ticket there c.add.ensures.heaps w.0 c.requires.spare
     c.requires.unusual new w.2)
+
+pub add-requires-clause-kind : goal.add-requires-clause-kind
+add-requires-clause-kind g c =
+    let w = c.in-Ok.ensures.grants in
+    let most = ap (λ (h : Heaps). h.limits.most) c.self.view_is in
+    let past : c.self.inside.limits.most ≤ c.args.number = omega (arith, c.requires.spare.0, most) in
+    subst (λ (h : Heaps). IfSome c.in-Ok.slot (IsOfKind h.limits c.args.number)) c.self.view_is
+    (kind_larger c.self.inside.limits c.args.number (c.self.inside.made + 1) c.args.size w.0 c.in-Ok.slot c.in-Ok.ticket past c.requires.units w.1 w.2)

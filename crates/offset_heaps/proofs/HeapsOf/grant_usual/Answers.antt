@@ -1,6 +1,7 @@
-use Rattle.std.proofs.Common.{◌+◌, ◌<◌, length, ap, arith, subst}
-use Rattle.offset_heaps.specs.Heaps.{Heaps, IsNew}
+use Rattle.std.proofs.Common.{◌+◌, ◌<◌, IfSome, length, ap, arith, subst}
+use Rattle.offset_heaps.specs.Heaps.{Heaps, IsNew, IsOfKind}
 use Rattle.offset_heaps.proofs.Grants.{granted_usual}
+use Rattle.offset_heaps.proofs.Shapes.{kind_usual}
 use Rattle.offset_heaps.proofs.HeapsOf.grant_usual.Goals as goal
 
 pub returns-in-Ok-clause-grants : goal.returns-in-Ok-clause-grants
@@ -14,3 +15,11 @@ returns-in-Ok-clause-grants g c =
     let new = subst (λ (h : Heaps). IsNew h.limits.size h.limits.max_allocs (h.made + 1) w.0) c.self.view_is w.1 in
     rw c.add.ensures.granted (granted_usual c.args.self.now c.add.new.self c.args.number c.args.size c.args.align c.in-Ok.slot c.in-Ok.ticket there c.add.ensures.heaps w.0 c.requires.spare
     c.requires.usual new w.2)
+
+pub add-requires-clause-kind : goal.add-requires-clause-kind
+add-requires-clause-kind g c =
+    let w = c.in-Ok.ensures in
+    let most = ap (λ (h : Heaps). h.limits.most) c.self.view_is in
+    let low : c.args.number < c.self.inside.limits.most = omega (arith, c.requires.spare.0, most) in
+    subst (λ (h : Heaps). IfSome c.in-Ok.slot (IsOfKind h.limits c.args.number)) c.self.view_is
+    (kind_usual c.self.inside.limits c.args.number (c.self.inside.made + 1) c.args.size c.args.align w.0 c.in-Ok.slot c.in-Ok.ticket low w.1 w.2)

@@ -1,6 +1,7 @@
 use Rattle.std.proofs.Common.{◌≡◌, ◌∙◌, ◌+◌, ◌*◌, ap, arith, drop, length, refl, subst, sym, List, ℕ}
 use Rattle.offset_guarded.specs.State.{number_at}
 use Rattle.offset_guarded.proofs.Numbers.{rest_of}
+use Rattle.offset_heaps.specs.declared.limits.Limits.{Limits}
 use Rattle.offset_heaps.specs.Heaps.{slot}
 use Rattle.offset_heaps.specs.State.{AreRead, IsHeapAt, IsHeapFormed}
 use Rattle.offset_heaps.proofs.States.{heap_between, parts, read_restored, read_sound, read_well_formed}
@@ -31,11 +32,16 @@ returns-in-Err-2-clause-refused g c _ hs w adm st =
     let hd = c.in-Ok.ensures.header in
     let count : length hs.slots ≡ m = omega (arith, st.count, p.most, p.larger, hd.most, hd.larger) in
     let made : hs.made ≡ c.in-Ok.header.made = sym p.made ∙ hd.made in
+    let size : hs.limits.size ≡ lim.size = sym p.size ∙ hd.size in
+    let limit : hs.limits.max_allocs ≡ lim.max_allocs = sym p.limit ∙ hd.limit in
+    let most : hs.limits.most ≡ lim.most = sym p.most ∙ hd.most in
+    let larger : hs.limits.most_larger ≡ lim.most_larger = sym p.larger ∙ hd.larger in
+    let limits : hs.limits ≡ lim = λ i. record { size = size i; max_allocs = limit i; most = most i; most_larger = larger i } in
     let b = rw c.in-Err-2.is at c.in_ok-fault.ensures.refused in
     b refl hs.slots count
     (λ k l. subst (λ r. IsHeapAt (slot k hs.slots) (number_at bs (8 + k)) (number_at bs (9 + k)) r) (sym (rest_of (80 + 8 * m) bs))
     (subst (λ n. IsHeapAt (slot k hs.slots) (number_at bs (8 + k)) (number_at bs (9 + k)) (drop (80 + 8 * n) bs)) count (heap_between hs bs st k (omega (arith, l, count)))))
-    (λ k. subst (λ n. IsHeapFormed n (slot k hs.slots)) made (w.heaps k)) adm.heaps
+    (λ k. subst (λ (l : Limits). IsHeapFormed l c.in-Ok.header.made k (slot k hs.slots)) limits (subst (λ n. IsHeapFormed hs.limits n k (slot k hs.slots)) made (w.heaps k))) adm.heaps
 
 pub invariant_of-result : goal.invariant_of-result
 invariant_of-result g c =
@@ -43,8 +49,8 @@ invariant_of-result g c =
     let h = c.in-Ok.header in
     let m : ℕ = h.limits.most + h.limits.most_larger in
     let b = rw c.in-Ok-2.is at c.in_ok-fault.ensures.read in
-    let are : AreRead g.T.Index.NodeIndex.MAX h.made c.args.most_allocs m bs (drop (80 + 8 * m) bs) c.in-Ok-2.slots.items =
-    subst (λ r. AreRead g.T.Index.NodeIndex.MAX h.made c.args.most_allocs m bs r c.in-Ok-2.slots.items) (rest_of (80 + 8 * m) bs) b in
+    let are : AreRead h.limits g.T.Index.NodeIndex.MAX h.made c.args.most_allocs m bs (drop (80 + 8 * m) bs) c.in-Ok-2.slots.items =
+    subst (λ r. AreRead h.limits g.T.Index.NodeIndex.MAX h.made c.args.most_allocs m bs r c.in-Ok-2.slots.items) (rest_of (80 + 8 * m) bs) b in
     read_sound g.T.Index.NodeIndex.MAX c.args.most_heaps c.args.most_allocs bs h c.in-Ok-2.slots.items 0 c.in-Ok.ensures.header (sym c.number.ensures ∙ c.if-number-ne0.false)
     (sym c.number-2.ensures ∙ c.if-number-states.false ∙ ap length (rest_of (80 + 8 * m) bs)) are refl c.in_ok-index.index (omega (arith, c.ranges.most_heaps)) c.in_ok-index.ensures.wide
     c.in_ok-index.ensures.noted c.in_ok-index.ensures.low
@@ -55,8 +61,8 @@ returns-clause-read g c =
     let h = c.in-Ok.header in
     let m : ℕ = h.limits.most + h.limits.most_larger in
     let b = rw c.in-Ok-2.is at c.in_ok-fault.ensures.read in
-    let are : AreRead g.T.Index.NodeIndex.MAX h.made c.args.most_allocs m bs (drop (80 + 8 * m) bs) c.in-Ok-2.slots.items =
-    subst (λ r. AreRead g.T.Index.NodeIndex.MAX h.made c.args.most_allocs m bs r c.in-Ok-2.slots.items) (rest_of (80 + 8 * m) bs) b in
+    let are : AreRead h.limits g.T.Index.NodeIndex.MAX h.made c.args.most_allocs m bs (drop (80 + 8 * m) bs) c.in-Ok-2.slots.items =
+    subst (λ r. AreRead h.limits g.T.Index.NodeIndex.MAX h.made c.args.most_allocs m bs r c.in-Ok-2.slots.items) (rest_of (80 + 8 * m) bs) b in
     read_restored g.T.Index.NodeIndex.MAX c.args.most_heaps c.args.most_allocs bs h c.in-Ok-2.slots.items c.new.result c.in-Ok.ensures.header (sym c.number.ensures ∙ c.if-number-ne0.false)
     (sym c.number-2.ensures ∙ c.if-number-states.false ∙ ap length (rest_of (80 + 8 * m) bs)) are c.new.ensures
 
@@ -66,7 +72,7 @@ returns-clause-formed g c =
     let h = c.in-Ok.header in
     let m : ℕ = h.limits.most + h.limits.most_larger in
     let b = rw c.in-Ok-2.is at c.in_ok-fault.ensures.read in
-    let are : AreRead g.T.Index.NodeIndex.MAX h.made c.args.most_allocs m bs (drop (80 + 8 * m) bs) c.in-Ok-2.slots.items =
-    subst (λ r. AreRead g.T.Index.NodeIndex.MAX h.made c.args.most_allocs m bs r c.in-Ok-2.slots.items) (rest_of (80 + 8 * m) bs) b in
+    let are : AreRead h.limits g.T.Index.NodeIndex.MAX h.made c.args.most_allocs m bs (drop (80 + 8 * m) bs) c.in-Ok-2.slots.items =
+    subst (λ r. AreRead h.limits g.T.Index.NodeIndex.MAX h.made c.args.most_allocs m bs r c.in-Ok-2.slots.items) (rest_of (80 + 8 * m) bs) b in
     read_well_formed g.T.Index.NodeIndex.MAX c.args.most_heaps c.args.most_allocs bs h c.in-Ok-2.slots.items c.new.result c.in-Ok.ensures.header (sym c.number.ensures ∙ c.if-number-ne0.false)
     (sym c.number-2.ensures ∙ c.if-number-states.false ∙ ap length (rest_of (80 + 8 * m) bs)) are c.new.ensures (omega (arith, c.ranges.most_heaps))

@@ -1,6 +1,6 @@
 use Rattle.std.proofs.Common.{◌≤◌, ◌^◌, ◌∙◌, subst}
 use Rattle.offset_heaps.specs.Heaps.{slot}
-use Rattle.offset_heaps.proofs.Sound.{realm_reset}
+use Rattle.offset_heaps.proofs.Sound.{kind_reset, realm_reset}
 use Rattle.offset_heaps.proofs.HeapsOf.reset.Goals as goal
 
 pub invariant_of-self : goal.invariant_of-self
@@ -16,6 +16,7 @@ invariant_of-self g c =
       limit_min = is.limit_min;
       limit_max = is.limit_max;
       realms = λ k. realm_reset c.self.inside.made (slot k c.self.inside.slots.items) (slot k c.reset_all.new.slots.items) (all.done k) (is.realms k);
+      kinds = λ k. kind_reset c.self.inside.limits k (slot k c.self.inside.slots.items) (slot k c.reset_all.new.slots.items) (all.done k) (is.kinds k);
     }
 
 pub returns-clause-heaps : goal.returns-clause-heaps

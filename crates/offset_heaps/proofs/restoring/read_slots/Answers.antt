@@ -35,9 +35,9 @@ loop-k-preserved g c =
     let made : ℕ = c.args.made in
     let most : ℕ = c.args.most_allocs in
     let r = rw c.in-Ok.is at c.in_ok-wrong.ensures.read in
-    let here : IsHeapReadAt g.T.Index.NodeIndex.MAX made most (number_at bs (8 + k)) (number_at bs (9 + k)) states c.in-Ok.heap =
-    subst (λ a. IsHeapReadAt g.T.Index.NodeIndex.MAX made most a (number_at bs (9 + k)) states c.in-Ok.heap) c.number-from.ensures
-    (subst (λ t. IsHeapReadAt g.T.Index.NodeIndex.MAX made most c.number-from.result t states c.in-Ok.heap) c.number-to.ensures record {
+    let here : IsHeapReadAt c.args.limits g.T.Index.NodeIndex.MAX made most k (number_at bs (8 + k)) (number_at bs (9 + k)) states c.in-Ok.heap =
+    subst (λ a. IsHeapReadAt c.args.limits g.T.Index.NodeIndex.MAX made most k a (number_at bs (9 + k)) states c.in-Ok.heap) c.number-from.ensures
+    (subst (λ t. IsHeapReadAt c.args.limits g.T.Index.NodeIndex.MAX made most k c.number-from.result t states c.in-Ok.heap) c.number-to.ensures record {
       state = record { order = omega (arith, c.if-from-to.false); within = omega (arith, c.if-to-states.false); state = r.state };
       formed = r.formed;
       admitted = r.admitted;
@@ -45,6 +45,6 @@ loop-k-preserved g c =
     }) in
     record {
       long = ap length c.put.ensures.heaps ∙ length-set old k c.in-Ok.heap ∙ c.loop-k.invariant.long;
-      read = rw c.put.ensures.heaps (put_more (λ i o. IsHeapReadAt g.T.Index.NodeIndex.MAX made most (number_at bs (8 + i)) (number_at bs (9 + i)) states o) old k c.in-Ok.heap
+      read = rw c.put.ensures.heaps (put_more (λ i o. IsHeapReadAt c.args.limits g.T.Index.NodeIndex.MAX made most i (number_at bs (8 + i)) (number_at bs (9 + i)) states o) old k c.in-Ok.heap
           (omega (arith, c.loop-k.invariant.long, c.loop-k-test.true)) here c.loop-k.invariant.read);
     }

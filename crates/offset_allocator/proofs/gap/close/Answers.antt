@@ -1,0 +1,33 @@
+use Rattle.offset_allocator.proofs.Common.{ap, refl, None, first_or, last_or, Cells, ChainCells}
+use Rattle.offset_allocator.proofs.Nodes.{length-put}
+use Rattle.offset_allocator.proofs.Gaps.{gap_below, before_some, after_some, closed}
+use Rattle.offset_allocator.proofs.gap.close.Goals as goal
+
+pub set_block-requires-clause-name : goal.set_block-requires-clause-name
+set_block-requires-clause-name g c = let r = c.requires.place in gap_below r.1.before r.1.block r.1.after r.2.there
+
+pub point_on-requires-clause-link : goal.point_on-requires-clause-link
+point_on-requires-clause-link g c =
+    let r = c.requires.place in
+    rw (r.2.link, c.set_block.ensures.cells, length-put) (before_some r.1.before r.1.block r.1.after r.2.there (last_or None r.1.before) refl)
+
+pub point_on-requires-clause-name : goal.point_on-requires-clause-name
+point_on-requires-clause-name g c =
+    let r = c.requires.place in
+    rw (c.set_block.ensures.cells, length-put) (gap_below r.1.before r.1.block r.1.after r.2.there)
+
+pub point_back-requires-clause-link : goal.point_back-requires-clause-link
+point_back-requires-clause-link g c =
+    let r = c.requires.place in
+    rw (r.3, c.point_on.ensures.nodes, c.set_block.ensures.cells, length-put) (after_some r.1.before r.1.block r.1.after r.2.there (first_or None r.1.after) refl)
+
+pub point_back-requires-clause-name : goal.point_back-requires-clause-name
+point_back-requires-clause-name g c =
+    let r = c.requires.place in
+    rw (c.point_on.ensures.nodes, c.set_block.ensures.cells, length-put) (gap_below r.1.before r.1.block r.1.after r.2.there)
+
+pub returns-clause-place : goal.returns-clause-place
+returns-clause-place g c m p i l =
+    let room : Cells → ChainCells = λ v. v.chain in
+    closed (g.T.Tables.cells c.point_on.new.tables).chain p.before p.block p.after i.there (rw (i.offset, i.size, i.link, l) at (ap room c.set_block.ensures.cells)) (rw i.link at c.point_on.ensures.cells)
+    (rw l at c.point_back.ensures.cells) (rw l at c.point_back.ensures.last)

@@ -1,0 +1,27 @@
+use Rattle.offset_allocator.proofs.Common.{◌∙◌, ap, sym, arith, Cells, ChainCells, node}
+use Rattle.offset_allocator.proofs.Gaps.{follows, next_node, next_below, next_fits, taken_in}
+use Rattle.offset_allocator.proofs.gap.gather.Goals as goal
+
+pub link_to-requires : goal.link_to-requires
+link_to-requires g c =
+    let r = c.requires.place in
+    omega (arith, r.6, c.shape.ensures.within, c.shape.ensures.limit, next_below r.1.before r.1.block r.2 r.3 (follows r.4.there r.5))
+
+pub overflow_add-gap : goal.overflow_add-gap
+overflow_add-gap g c =
+    let r = c.requires.place in
+    let h = follows r.4.there r.5 in
+    let size = c.requires.more ∙ ap (λ n. (node (g.T.Tables.cells c.args.store.now.tables).chain n).size) (sym r.6) ∙ next_node r.1.before r.1.block r.2 r.3 h in
+    omega (arith, r.4.size, size, next_fits r.1.before r.1.block r.2 r.3 h)
+
+pub returns-clause-gap : goal.returns-clause-gap
+returns-clause-gap g c m p b bs i e named idle =
+    let room : Cells → ChainCells = λ v. v.chain in
+    let h = follows i.there e in
+    let size = c.requires.more ∙ ap (λ n. (node (g.T.Tables.cells c.args.store.now.tables).chain n).size) (sym named) ∙ next_node p.before p.block b bs h in
+    record {
+      there = taken_in p.before p.block b bs h idle (rw (c.link_to.ensures.number, ← named) at (ap room c.set_spare.ensures.cells));
+      offset = i.offset;
+      size = omega (arith, i.size, size);
+      link = i.link;
+    }

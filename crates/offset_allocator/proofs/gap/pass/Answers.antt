@@ -1,0 +1,41 @@
+use Rattle.offset_allocator.proofs.Common.{◌∷◌, [], ◌∙◌, ap, refl, sym, arith, Some, last_or, None, Cells, ChainCells, node}
+use Rattle.offset_allocator.proofs.{Nodes.length-put, Rows.last_or-append, Tallies.units-append}
+use Rattle.offset_allocator.proofs.Gaps.{follows, before_some, next_node, next_below, next_fits, passed_by}
+use Rattle.offset_allocator.proofs.gap.pass.Goals as goal
+
+pub set_start-requires : goal.set_start-requires
+set_start-requires g c = let r = c.requires.place in omega (arith, r.6, next_below r.1.before r.1.block r.2 r.3 (follows r.4.there r.5))
+
+pub point_on-requires-clause-link : goal.point_on-requires-clause-link
+point_on-requires-clause-link g c =
+    let r = c.requires.place in
+    rw (r.4.link, c.set_start.ensures.cells, length-put) (before_some r.1.before r.1.block r.1.after r.4.there (last_or None r.1.before) refl)
+
+pub point_on-requires-clause-name : goal.point_on-requires-clause-name
+point_on-requires-clause-name g c =
+    let r = c.requires.place in
+    rw (c.set_start.ensures.cells, length-put) (omega (arith, r.6, next_below r.1.before r.1.block r.2 r.3 (follows r.4.there r.5)))
+
+pub link_to-gap-requires : goal.link_to-gap-requires
+link_to-gap-requires g c =
+    let r = c.requires.place in
+    rw (c.point_on.ensures.nodes, c.set_start.ensures.cells, length-put) (omega (arith, r.6, next_below r.1.before r.1.block r.2 r.3 (follows r.4.there r.5)))
+
+pub overflow_add-gap : goal.overflow_add-gap
+overflow_add-gap g c =
+    let r = c.requires.place in
+    let h = follows r.4.there r.5 in
+    let size = c.requires.more ∙ ap (λ n. (node (g.T.Tables.cells c.args.store.now.tables).chain n).size) (sym r.6) ∙ next_node r.1.before r.1.block r.2 r.3 h in
+    omega (arith, r.4.offset, size, next_fits r.1.before r.1.block r.2 r.3 h)
+
+pub returns-clause-gap : goal.returns-clause-gap
+returns-clause-gap g c m p b bs i e named =
+    let room : Cells → ChainCells = λ v. v.chain in
+    let h = follows i.there e in
+    let size = c.requires.more ∙ ap (λ n. (node (g.T.Tables.cells c.args.store.now.tables).chain n).size) (sym named) ∙ next_node p.before p.block b bs h in
+    record {
+      there = passed_by p.before p.block b bs h (rw (← named, i.offset, size, i.link) at (ap room c.set_start.ensures.cells)) (rw (i.link, ← named) at c.point_on.ensures.cells);
+      offset = omega (arith, i.offset, size, units-append p.before (b ∷ []));
+      size = i.size;
+      link = c.link_to-gap.ensures ∙ ap (λ n. Some n) (sym named) ∙ sym (last_or-append None p.before (b ∷ []));
+    }

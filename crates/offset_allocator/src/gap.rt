@@ -1,0 +1,131 @@
+//! A free block that is out of the chain while the used blocks after it slide to the front of its units, and the free
+//! ones go into it: so each node is written once. It touches the chain, and leaves the bins as they are.
+ghost use Rattle.std.specs.Prelude.{ℕ, ◌≡◌, ◌+◌, List, ◌∷◌, ◌++◌, [], length, false};
+ghost use Rattle.offset_allocator.specs.Accesses.{Costs};
+ghost use Rattle.offset_allocator.specs.Cells.{link_of, node};
+ghost use Rattle.offset_allocator.specs.Chain.{HasPlace, first_or};
+ghost use Rattle.offset_allocator.specs.Gaps.{IsGap};
+ghost use Rattle.offset_allocator.specs.Store.{IsPlaceIn, SameBins};
+ghost use Rattle.offset_allocator.specs.View.{Block, Place};
+
+use crate::accesses::Accesses;
+use crate::chain::{point_back, point_on};
+use crate::index::{NodeIndex, link_to};
+use crate::store::Store;
+use crate::tables::Tables;
+
+/// The free block: its units are between those of the blocks before and after it.
+#[derive(Clone, Copy)]
+pub(crate) struct Gap<NI: NodeIndex> {
+    pub(crate) name: u32,
+    pub(crate) offset: u32,
+    pub(crate) size: u32,
+    // the link to the block before it
+    pub(crate) before: NI,
+}
+
+/// Takes a free block out of the chain: nothing is written.
+pub(crate) fn open<T: Tables>(
+    tables: &T,
+    name: u32,
+    size: u32,
+    count: &mut Accesses,
+) -> Gap<T::Index>
+    requires place { (m last spare : ℕ) × (p : Place) × HasPlace (T.cells tables.now).chain m last spare name p }
+    requires size { size ≡ (node (T.cells tables.now).chain name).size }
+    ensures gap { (m last spare : ℕ) (p : Place) → HasPlace (T.cells tables.now).chain m last spare name p
+        → p.block.used ≡ false
+        → IsGap T.Index.MAX T.Index.number result (T.cells tables.now).chain m last spare p }
+    ensures accesses { count.new ≡ count.old + 2 }
+{
+    Gap {
+        name,
+        offset: tables.offset(name, count),
+        size,
+        before: tables.before(name, count),
+    }
+}
+
+/// Slides the block `next` of `more` units, which is directly after the gap, to its front.
+#[tactic(auto, using(crate::proofs::Nodes::lengths))]
+pub(crate) fn pass<T: Tables>(store: &mut Store<T>, gap: &mut Gap<T::Index>, next: u32, more: u32)
+    requires place { (m : ℕ) × (p : Place) × (b : Block) × (bs : List Block)
+        × IsGap T.Index.MAX T.Index.number gap.old (T.cells store.old.tables).chain m store.old.last
+        store.old.spare_count p × (p.after ≡ b ∷ bs) × (b.name ≡ next) }
+    requires more { more ≡ (node (T.cells store.old.tables).chain next).size }
+    ensures gap { (m : ℕ) (p : Place) (b : Block) (bs : List Block)
+        → IsGap T.Index.MAX T.Index.number gap.old (T.cells store.old.tables).chain m store.old.last
+        store.old.spare_count p → p.after ≡ b ∷ bs → b.name ≡ next
+        → IsGap T.Index.MAX T.Index.number gap.new (T.cells store.new.tables).chain m store.new.last
+        store.new.spare_count (record { before = p.before ++ b ∷ []; block = p.block; after = bs }) }
+    ensures bins { SameBins T.cells store.old store.new }
+    ensures accesses { Costs 3 4 store.old.accesses store.new.accesses }
+{
+    store.tables.shape();
+    store
+        .tables
+        .set_start(next, gap.offset, more, gap.before, &mut store.accesses);
+    point_on(&mut store.tables, gap.before, next, &mut store.accesses);
+    gap.before = store.tables.link_to(next);
+    gap.offset += more;
+}
+
+/// Coalesces the free block `next` of `more` units, which is directly after the gap and in no bin, with it.
+pub(crate) fn gather<T: Tables>(store: &mut Store<T>, gap: &mut Gap<T::Index>, next: u32, more: u32)
+    requires place { (m : ℕ) × (p : Place) × (b : Block) × (bs : List Block)
+        × IsGap T.Index.MAX T.Index.number gap.old (T.cells store.old.tables).chain m store.old.last
+        store.old.spare_count p × (p.after ≡ b ∷ bs) × (b.name ≡ next) × (b.used ≡ false) }
+    requires more { more ≡ (node (T.cells store.old.tables).chain next).size }
+    ensures gap { (m : ℕ) (p : Place) (b : Block) (bs : List Block)
+        → IsGap T.Index.MAX T.Index.number gap.old (T.cells store.old.tables).chain m store.old.last
+        store.old.spare_count p → p.after ≡ b ∷ bs → b.name ≡ next → b.used ≡ false
+        → IsGap T.Index.MAX T.Index.number gap.new (T.cells store.new.tables).chain m store.new.last
+        store.new.spare_count (record {
+          before = p.before;
+          block = record p.block { size = p.block.size + b.size };
+          after = bs;
+        }) }
+    ensures bins { SameBins T.cells store.old store.new }
+    ensures accesses { store.new.accesses ≡ store.old.accesses + 1 }
+{
+    store.tables.shape();
+    store
+        .tables
+        .set_spare(store.spare_count, link_to(next), &mut store.accesses);
+    store.spare_count += 1;
+    gap.size += more;
+}
+
+/// Puts the free block back into the chain, before the one that the link `after` names.
+#[tactic(auto, using(crate::proofs::Nodes::lengths))]
+pub(crate) fn close<T: Tables>(store: &mut Store<T>, gap: Gap<T::Index>, after: T::Index)
+    requires place { (m : ℕ) × (p : Place)
+        × IsGap T.Index.MAX T.Index.number gap (T.cells store.old.tables).chain m store.old.last
+        store.old.spare_count p
+        × (link_of T.Index.MAX (T.Index.number after) ≡ first_or None p.after) }
+    ensures place { (m : ℕ) (p : Place)
+        → IsGap T.Index.MAX T.Index.number gap (T.cells store.old.tables).chain m store.old.last
+        store.old.spare_count p
+        → link_of T.Index.MAX (T.Index.number after) ≡ first_or None p.after
+        → IsPlaceIn T.cells store.new m gap.name p }
+    ensures bins { SameBins T.cells store.old store.new }
+    ensures accesses { Costs 4 6 store.old.accesses store.new.accesses }
+{
+    store.tables.shape();
+    store.tables.set_block(
+        gap.name,
+        gap.offset,
+        gap.size,
+        gap.before,
+        after,
+        &mut store.accesses,
+    );
+    point_on(&mut store.tables, gap.before, gap.name, &mut store.accesses);
+    point_back(
+        &mut store.tables,
+        &mut store.last,
+        after,
+        gap.name,
+        &mut store.accesses,
+    );
+}

@@ -1,0 +1,173 @@
+-- The moves that make room, as a closure collects them, and the numbers of the ranges that move.
+use Rattle.offset_calls.proofs.Common.{◌≡◌, ℕ, ◌+◌, ◌<◌, Bool, true, false, List, [], ◌∷◌, ◌++◌, map, length, get_or, All, Option, Some, None, zero, suc, refl, sym, ap, subst, ◌∙◌, arith}
+use Rattle.offset_calls.proofs.Common.{inl, inr, append_assoc, append-nil, cases_eq, AllByRecursion, FoldsTo, Block, Grant, View, kept_name, AreNumbered}
+use Rattle.offset_allocator.specs.declared.room.RoomCost.{RoomCost}
+use Rattle.offset_allocator.specs.Compacting.{Move, moves, move_of}
+use Rattle.offset_allocator.specs.Room.{MakesRoom}
+use Rattle.offset_allocator.proofs.Sliding.{moves_used, moves_idle}
+use Rattle.offset_calls.specs.declared.calls.Moved.{Moved}
+use Rattle.offset_calls.proofs.Common.{move_view, drop, drop-cons, add-one, map-append, nat_eq, if◌then◌else◌}
+use Rattle.std.proofs.lemmas.List.{get_or_default}
+use Rattle.offset_allocator.specs.{Room.SlidesRun, Room.cost_of, View.units}
+use Rattle.offset_allocator.specs.Room.{IsLeastCost}
+use Rattle.offset_allocator.specs.{Classes.value, Classes.up}
+use Rattle.offset_calls.proofs.Common.{Call, Guard, IsLedger, Serves, Ticket, renumber}
+use Rattle.offset_calls.specs.declared.calls.Call.TheVariants as call
+use Rattle.offset_calls.specs.Calls.{Move as Numbered, Made_room, Room_costs}
+use Rattle.offset_calls.specs.Steps.{AreKept, TakesRoom}
+use Rattle.offset_calls.specs.Slides.{IsMade, Notes, named_move, numbered_move}
+
+-- ---- the moves that a closure has seen
+
+notes_all : (acc ms : List Move) → FoldsTo Notes acc ms (acc ++ ms)
+notes_all acc [] = sym (append-nil acc)
+notes_all acc (m ∷ ms) = (acc ++ m ∷ [], refl, subst (FoldsTo Notes (acc ++ m ∷ []) ms) (append_assoc acc (m ∷ []) ms) (notes_all (acc ++ m ∷ []) ms))
+
+module _ {P S N : Type 0} (R : P → Move → P → Type 0) (see : P → S) (place : P → N) (is_refused : S → Bool) (found : S → List Move)
+    (each : (p : P) (x : Move) (q : P) → R p x q
+    → (is_refused (see q) ≡ false → (is_refused (see p) ≡ false) × (m : Move) × (x ≡ m) × (found (see q) ≡ found (see p) ++ m ∷ [])) × (place q ≡ place p)) where
+  seen_all : (xs : List Move) (p q : P) → FoldsTo R p xs q → (is_refused (see q) ≡ false → (is_refused (see p) ≡ false) × (found (see q) ≡ found (see p) ++ xs)) × (place q ≡ place p)
+  seen_all [] p q e = ((λ h. (ap (λ x. is_refused (see x)) e ∙ h, ap (λ x. found (see x)) (sym e) ∙ sym (append-nil (found (see p))))), ap place (sym e))
+  seen_all (x ∷ xs) p q f =
+      let one = each p x f.0 f.1 in
+      let rest = seen_all xs f.0 q f.2 in (
+        (λ h.
+            let r = rest.0 h in
+            let o = one.0 r.0 in
+            (o.0, r.1 ∙ ap (λ l. l ++ xs) (o.3 ∙ ap (λ y. found (see p) ++ y ∷ []) (sym o.2)) ∙ append_assoc (found (see p)) (x ∷ []) xs)),
+        rest.1 ∙ one.1,
+      )
+
+  -- room is made with the moves that were seen
+  pub room_noted : (want : ℕ) (v w : View) (c : Option RoomCost) (p q : P) → MakesRoom R want v p c w q → found (see p) ≡ []
+      → (is_refused (see q) ≡ false → MakesRoom Notes want v [] c w (found (see q))) × (place q ≡ place p)
+  room_noted want v w None p q m none = ((λ h. (m.0, ap (λ x. found (see x)) m.1 ∙ none)), ap place m.1)
+  room_noted want v w (Some c) p q m none = (λ h. (λ z. let t = m.0 z in (t.0, ap (λ x. found (see x)) t.1 ∙ none), λ z. some (m.1 z) h), placed)
+    where
+      some : (t : (s : SlidesRun want v w) × (c ≡ cost_of s.run)
+          × FoldsTo R p (moves (units s.front) (units s.front) s.run) q) → is_refused (see q) ≡ false
+          → (s : SlidesRun want v w) × (c ≡ cost_of s.run)
+          × FoldsTo Notes [] (moves (units s.front) (units s.front) s.run) (found (see q))
+      some t h =
+          let r = (seen_all _ p q t.2).0 h in
+          let ms = moves (units t.0.front) (units t.0.front) t.0.run in
+          (t.0, t.1, subst (FoldsTo Notes [] ms) (sym (r.1 ∙ ap (λ l. l ++ ms) none)) (notes_all [] ms))
+
+      placed : place q ≡ place p
+      placed = elim (cases_eq c.ranges 0) [ inl z ↦ ap place (m.0 z).1 | inr z ↦ (seen_all _ p q (m.1 (omega (arith, z))).2).1 ]
+
+-- what follows from a fact that is long to write out
+pub given : {A B : Type 0} → A → (A → B) → B
+given a f = f a
+
+-- ---- their numbers
+
+-- what is so of each name of a used block is so of each name that moves
+module _ (P : ℕ → Type 0) where
+  all_split : (xs ys : List Block) → AllByRecursion (λ (b : Block). b.used ≡ true → P b.name) (xs ++ ys)
+      → AllByRecursion (λ (b : Block). b.used ≡ true → P b.name) xs × AllByRecursion (λ (b : Block). b.used ≡ true → P b.name) ys
+  all_split [] ys a = (tt, a)
+  all_split (x ∷ xs) ys a = let r = all_split xs ys a.1 in ((a.0, r.0), r.1)
+
+  move_named : (from to : ℕ) (b : Block) (ms : List Move) → P b.name → AllByRecursion (λ (m : Move). P m.name) ms → AllByRecursion (λ (m : Move). P m.name) (move_of from to b ++ ms)
+  move_named from to b ms p a = elim (nat_eq from to)
+      as (λ x. AllByRecursion (λ (m : Move). P m.name) ((if x then [] else record { name = b.name; from = from; to = to; size = b.size } ∷ []) ++ ms)) [ true ↦ a | false ↦ (p, a) ]
+
+  moves_named : (from to : ℕ) (bs : List Block) → AllByRecursion (λ (b : Block). b.used ≡ true → P b.name) bs → AllByRecursion (λ (m : Move). P m.name) (moves from to bs)
+  moves_named from to [] a = tt
+  moves_named from to (b ∷ bs) a = go b.used refl (λ t. moves_named (from + b.size) t bs a.1)
+    where
+      go : (u : Bool) → b.used ≡ u → ((t : ℕ) → AllByRecursion (λ (m : Move). P m.name) (moves (from + b.size) t bs)) → AllByRecursion (λ (m : Move). P m.name) (moves from to (b ∷ bs))
+      go true e ih = subst (AllByRecursion (λ (m : Move). P m.name)) (sym (moves_used from to b bs e)) (move_named from to b _ (a.0 e) (ih (to + b.size)))
+      go false e ih = subst (AllByRecursion (λ (m : Move). P m.name)) (sym (moves_idle from to b bs e)) (ih to)
+
+  noted_named : (ms acc xs : List Move) → FoldsTo Notes acc ms xs → AllByRecursion (λ (m : Move). P m.name) acc
+      → AllByRecursion (λ (m : Move). P m.name) ms → AllByRecursion (λ (m : Move). P m.name) xs
+  noted_named [] acc xs f a b = subst (AllByRecursion (λ (m : Move). P m.name)) f a
+  noted_named (m ∷ ms) acc xs f a b = noted_named ms f.0 xs f.2 (subst (AllByRecursion (λ (m : Move). P m.name)) (sym f.1) (more acc a)) b.1
+    where
+      more : (acc : List Move) → AllByRecursion (λ (m : Move). P m.name) acc → AllByRecursion (λ (m : Move). P m.name) (acc ++ m ∷ [])
+      more [] a = (b.0, tt)
+      more (x ∷ acc) a = (a.0, more acc a.1)
+
+  room_named : (want : ℕ) (v w : View) (c : Option RoomCost) (xs : List Move) → MakesRoom Notes want v [] c w xs → AllByRecursion (λ (b : Block). b.used ≡ true → P b.name) v.blocks
+      → AllByRecursion (λ (m : Move). P m.name) xs
+  room_named want v w None xs m a = subst (AllByRecursion (λ (m : Move). P m.name)) (sym m.1) tt
+  room_named want v w (Some c) xs m a = elim (cases_eq c.ranges 0) [
+    | inl z ↦ subst (AllByRecursion (λ (m : Move). P m.name)) (sym (m.0 z).1) tt
+    | inr z ↦
+        let t = m.1 (omega (arith, z)) in
+        let parts = all_split t.0.front (t.0.run ++ t.0.back) (subst (AllByRecursion (λ (b : Block). b.used ≡ true → P b.name)) t.0.is a) in
+        noted_named _ [] xs t.2 tt (moves_named _ _ t.0.run (all_split t.0.run t.0.back parts.1).0)
+  ]
+
+  slides_named : (ss : List (Grant × Moved)) → AllByRecursion (λ (m : Move). P m.name) (map named_move ss) → AllByRecursion (λ (s : Grant × Moved). P s.0.name) ss
+  slides_named [] a = tt
+  slides_named (s ∷ ss) a = (a.0, slides_named ss a.1)
+
+  pub all_slides : (want : ℕ) (v w : View) (c : Option RoomCost) (ss : List (Grant × Moved)) → MakesRoom Notes want v [] c w (map named_move ss)
+      → AllByRecursion (λ (b : Block). b.used ≡ true → P b.name) v.blocks → AllByRecursion (λ (s : Grant × Moved). P s.0.name) ss
+  all_slides want v w c ss m a = slides_named ss (room_named want v w c (map named_move ss) m a)
+
+-- each of a list, by its place
+pub each_at : {A : Type 0} (P : A → Type 0) (xs : List A) → AllByRecursion P xs → All P xs
+each_at P [] a i d l = absurd (omega (arith, l))
+each_at P (x ∷ xs) a zero d l = a.0
+each_at P (x ∷ xs) a (suc i) d l = each_at P xs a.1 i d (omega (arith, l))
+
+-- moves with the numbers of their names
+pub all_numbered : (hs : List (Option Grant)) (number : ℕ → ℕ) → ((k x : ℕ) → kept_name hs k ≡ Some x → number x ≡ k) → (ss : List (Grant × Moved))
+    → AllByRecursion (λ (s : Grant × Moved). (k : ℕ) × (kept_name hs k ≡ Some s.0.name)) ss → AreNumbered hs (map named_move ss) (map (numbered_move number) ss)
+all_numbered hs number each [] a = tt
+all_numbered hs number each (s ∷ ss) a = (ap (kept_name hs) (each a.0.0 s.0.name a.0.1) ∙ a.0.1, refl, refl, refl, all_numbered hs number each ss a.1)
+
+-- one more move of a loop over slides
+pub one_more : (number : ℕ → ℕ) (ss : List (Grant × Moved)) (found left : List Moved) (i : ℕ) (d d' : Grant × Moved) (n : ℕ) → i < length ss
+    → map move_view found ++ map (numbered_move number) (drop i ss) ≡ map (numbered_move number) ss
+    → left ≡ found ++ record { number = n; from = (get_or ss i d).1.from; to = (get_or ss i d).1.to; size = (get_or ss i d).1.size } ∷ [] → n ≡ number (get_or ss i d').0.name
+    → map move_view left ++ map (numbered_move number) (drop (i + 1) ss) ≡ map (numbered_move number) ss
+one_more number ss found left i d d' n l e more is =
+    let f = numbered_move number in
+    let s = get_or ss i d in
+    let m : Moved = record { number = n; from = s.1.from; to = s.1.to; size = s.1.size } in
+    let rest : f s ∷ map f (drop (i + 1) ss) ≡ map f (drop i ss) = ap (λ k. f s ∷ map f (drop k ss)) (add-one i) ∙ ap (map f) (sym (drop-cons ss i d l)) in
+    let front : map move_view left ≡ map move_view found ++ move_view m ∷ [] = ap (map move_view) more ∙ map-append move_view found (m ∷ []) in
+    let named : n ≡ number s.0.name = is ∙ ap (λ (t : Grant × Moved). number t.0.name) (get_or_default ss i d' d l) in
+    let same : move_view m ≡ f s = ap (λ (k : ℕ). record { number = k; from = s.1.from; to = s.1.to; size = s.1.size }) named in
+    ap (λ k. k ++ map f (drop (i + 1) ss)) front ∙ append_assoc (map move_view found) (move_view m ∷ []) (map f (drop (i + 1) ss))
+    ∙ ap (λ x. map move_view found ++ x ∷ map f (drop (i + 1) ss)) same ∙ ap (λ k. map move_view found ++ k) rest ∙ e
+
+-- ---- the step
+
+-- room is made, with the moves that were collected
+pub room_takes : (want : ℕ) (v w : View) (c : Option RoomCost) (hs : List (Option Grant)) (number : ℕ → ℕ) (ss : List (Grant × Moved)) (ms : List Numbered)
+    → ((k x : ℕ) → kept_name hs k ≡ Some x → number x ≡ k) → IsLeastCost want v.blocks c → IsMade want v c w (map named_move ss) → AreKept v hs
+    → ms ≡ map (numbered_move number) ss → TakesRoom want v hs w (Made_room c ms)
+room_takes want v w c hs number ss ms each least makes kept is = (
+  c,
+  least,
+  map named_move ss,
+  makes,
+  map (numbered_move number) ss,
+  all_numbered hs number each ss (all_slides (λ x. (k : ℕ) × (kept_name hs k ≡ Some x)) want v w c ss makes.made kept),
+  ap (Made_room c) is,
+)
+
+-- each range that moves has a live name then
+pub slides_live : (want : ℕ) (v w : View) (c : Option RoomCost) (hs : List (Option Grant)) (ss : List (Grant × Moved)) (P : ℕ → Type 0) → ((k x : ℕ) → kept_name hs k ≡ Some x → P x)
+    → IsMade want v c w (map named_move ss) → AreKept v hs → All (λ (s : Grant × Moved). P s.0.name) ss
+slides_live want v w c hs ss P each makes kept = each_at (λ (s : Grant × Moved). P s.0.name) ss (also ss (all_slides (λ x. (k : ℕ) × (kept_name hs k ≡ Some x)) want v w c ss makes.made kept))
+  where
+    also : (ss : List (Grant × Moved)) → AllByRecursion (λ (s : Grant × Moved). (k : ℕ) × (kept_name hs k ≡ Some s.0.name)) ss → AllByRecursion (λ (s : Grant × Moved). P s.0.name) ss
+    also [] a = tt
+    also (s ∷ ss) a = (each a.0.0 s.0.name a.0.1, also ss a.1)
+
+-- what room costs, of a guarded allocator
+pub room_cost_serves : (g : Guard) (ts : List Ticket) (c : Call) (k n : ℕ) (v : View) (cost : Option RoomCost) → IsLedger g ts → c ≡ call.RoomCost n → v ≡ g.space
+    → IsLeastCost (value (up n)) v.blocks cost → Serves (renumber (λ j. k) c) g ts g ts (Room_costs cost)
+room_cost_serves g ts c k n v cost is e f r = subst (λ c. Serves (renumber (λ j. k) c) g ts g ts (Room_costs cost)) (sym e) (record {
+  takes = ((refl, refl), (cost, subst (λ (v : View). IsLeastCost (value (up n)) v.blocks cost) f r, refl));
+  ledger = is;
+  grown = inl refl;
+  realm = refl;
+})

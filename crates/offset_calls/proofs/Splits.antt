@@ -1,0 +1,60 @@
+-- The run that is found to make room is at the same place in two lists that differ only in numbers and stamps.
+use Rattle.offset_calls.proofs.Common.{◌≡◌, ℕ, ◌-◌, not, List, [], ◌∷◌, ◌++◌, length, Option, Some, None, option_map, nat_le, if◌then◌else◌, refl, ap, ap₂, subst₂, arith}
+use Rattle.offset_calls.proofs.Common.{total}
+use Rattle.offset_script.proofs.Pairs.{Pair, left, right, lefts, rights, same_free}
+use Rattle.offset_script.proofs.Tests.{if_same}
+use Rattle.offset_script.specs.Totals.{live}
+use Rattle.offset_calls.specs.Room.{Split, from_first, free_units, shortest, cost_of, is_less, cheaper, cheapest}
+
+-- runs on both sides: of the same pairs, or none
+pub data IsSameSplit (ps : List Pair) : Option Split → Option Split → Type 0 where
+  no_split : IsSameSplit ps None None
+  same_split : (f r b : List Pair) → ps ≡ f ++ (r ++ b)
+      → IsSameSplit ps (Some (record { front = lefts f; run = lefts r; back = lefts b })) (Some (record { front = rights f; run = rights r; back = rights b }))
+
+-- the same of runs at the start
+data IsSameStart (ps : List Pair) : Option Split → Option Split → Type 0 where
+  no_start : IsSameStart ps None None
+  same_start : (r b : List Pair) → ps ≡ r ++ b
+      → IsSameStart ps (Some (record { front = []; run = lefts r; back = lefts b })) (Some (record { front = []; run = rights r; back = rights b }))
+
+from_both : (q : Pair) (ps : List Pair) (o o' : Option Split) → IsSameStart ps o o' → IsSameStart (q ∷ ps) (option_map (from_first (left q)) o) (option_map (from_first (right q)) o')
+from_both q ps None None no_start = no_start
+from_both q ps o o' (same_start r b e) = same_start (q ∷ r) b (ap (λ l. q ∷ l) e)
+
+units_same : (q : Pair) → free_units (left q) ≡ free_units (right q)
+units_same q = ap (λ x. if x then q.size else 0) (same_free q.kind)
+
+shortest_same : (n : ℕ) (ps : List Pair) → IsSameStart ps (shortest n (lefts ps)) (shortest n (rights ps))
+shortest_same n [] = no_start
+shortest_same n (q ∷ ps) = if_same (IsSameStart (q ∷ ps)) _ _ _ _ _ _ (ap (nat_le n) (units_same q)) (λ e. same_start (q ∷ []) ps refl)
+    (subst₂ (λ x y. IsSameStart (q ∷ ps) (option_map (from_first (left q)) (shortest (n - x) (lefts ps))) (option_map (from_first (right q)) (shortest (n - y) (rights ps)))) refl (units_same q)
+    (from_both q ps _ _ (shortest_same (n - free_units (left q)) ps)))
+
+-- what a run costs
+live_total : (ps : List Pair) → total (live (lefts ps)) ≡ total (live (rights ps))
+live_total [] = refl
+live_total (q ∷ ps) = search (arith, (live_total ps), not, same_free)
+
+live_length : (ps : List Pair) → length (live (lefts ps)) ≡ length (live (rights ps))
+live_length [] = refl
+live_length (q ∷ ps) = search (arith, (live_length ps), not, same_free)
+
+pub same_cost : (ps : List Pair) → cost_of (lefts ps) ≡ cost_of (rights ps)
+same_cost ps = ap₂ (λ (u r : ℕ). record { units = u; ranges = r }) (live_total ps) (live_length ps)
+
+cheaper_same : (q : Pair) (ps : List Pair) (p p' o o' : Option Split) → IsSameStart (q ∷ ps) p p' → IsSameSplit ps o o' → IsSameSplit (q ∷ ps) (cheaper (left q) p o) (cheaper (right q) p' o')
+cheaper_same q ps None None None None no_start no_split = no_split
+cheaper_same q ps p p' None None (same_start r b e) no_split = same_split [] r b e
+cheaper_same q ps None None o o' no_start (same_split f r b e) = same_split (q ∷ f) r b (ap (λ l. q ∷ l) e)
+cheaper_same q ps p p' o o' (same_start r b e) (same_split f k c d) = if_same (IsSameSplit (q ∷ ps)) _ _ _ _ _ _ (ap₂ is_less (same_cost r) (same_cost k))
+    (λ z. same_split [] r b e) (same_split (q ∷ f) k c (ap (λ l. q ∷ l) d))
+
+pub same_cheapest : (n : ℕ) (ps : List Pair) → IsSameSplit ps (cheapest n (lefts ps)) (cheapest n (rights ps))
+same_cheapest n [] = no_split
+same_cheapest n (q ∷ ps) = cheaper_same q ps _ _ _ _ (if_same (IsSameStart (q ∷ ps)) _ _ _ _ _ _ (same_free q.kind) (λ e. shortest_same n (q ∷ ps)) no_start) (same_cheapest n ps)
+
+-- what room costs
+pub same_room_cost : (ps : List Pair) (o o' : Option Split) → IsSameSplit ps o o' → option_map (λ (p : Split). cost_of p.run) o ≡ option_map (λ (p : Split). cost_of p.run) o'
+same_room_cost ps None None no_split = refl
+same_room_cost ps o o' (same_split f r b e) = ap Some (same_cost r)

@@ -1,0 +1,136 @@
+//! The replies of a player to calls at the end of a space.
+
+ghost use Rattle.std.specs.Prelude.{IfOk, OnOk};
+ghost use Rattle.offset_script.specs.Steps.{AreLive};
+ghost use Rattle.offset_calls.specs.declared.calls.Call.{Call};
+ghost use Rattle.offset_calls.specs.Calls.{reply_view};
+ghost use Rattle.offset_calls.specs.Steps.{AreKept, AreNumbers, Finds, IsKeptSome, Takes};
+
+use crate::calls::{LiveRange, Reply};
+use crate::numbers::Numbers;
+use crate::playing::resized;
+use offset_allocator::{Allocation, NodeIndex, Tables};
+use offset_script::{Answer, PlayerOf};
+use std::alloc::AllocError;
+
+// The reply to `Relocate`. The handle of a grant is kept.
+pub(crate) fn relocate<T: Tables>(
+    player: &mut PlayerOf<T>,
+    number: u32,
+) -> Result<Reply, AllocError>
+    requires { AreLive player.old.space player.old.handles.items }
+    ensures { IfOk result (λ r. Takes (Call.Relocate number) player.old.space player.old.handles.items
+        player.new.space player.new.handles.items (reply_view r)) }
+{
+    let Some(handle) = player.handle(number) else {
+        return Ok(Reply::Answer(Answer::Gone));
+    };
+    let granted = player.space.relocate(handle);
+    Ok(Reply::Answer(player.keep(granted)?))
+}
+
+// The reply to `Retract`.
+pub(crate) fn retract<T: Tables>(player: &mut PlayerOf<T>, less: u32) -> Reply
+    ensures { Takes (Call.Retract less) player.old.space player.old.handles.items
+        player.new.space player.new.handles.items (reply_view result) }
+{
+    resized(player.space.retract(less))
+}
+
+// The reply to a question for this live range, or for none: with the number at its name.
+fn find<NI: NodeIndex>(
+    handles: &[Option<Allocation<NI>>],
+    names: u32,
+    numbers: &mut Numbers,
+    found: Option<Allocation<NI>>,
+) -> Result<Reply, AllocError>
+    requires kept { IsKeptSome handles.now found }
+    requires numbers { AreNumbers handles.now numbers.old.grants numbers.old.by_name.items }
+    ensures finds { IfOk result (λ r. Finds handles.now found (reply_view r)) }
+    ensures numbers { OnOk result
+        (AreNumbers handles.now numbers.new.grants numbers.new.by_name.items) }
+{
+    numbers.read(handles, names)?;
+    match found {
+        None => Ok(Reply::Beside(None)),
+        Some(handle) => {
+            let (offset, name) = handle.to_parts();
+            Ok(Reply::Beside(Some(LiveRange {
+                number: numbers.of(name),
+                offset,
+            })))
+        }
+    }
+}
+
+// The reply to `First`.
+pub(crate) fn first<T: Tables>(
+    player: &PlayerOf<T>,
+    numbers: &mut Numbers,
+) -> Result<Reply, AllocError>
+    requires kept { AreKept player.now.space player.now.handles.items }
+    requires numbers { AreNumbers player.now.handles.items numbers.old.grants numbers.old.by_name.items }
+    ensures takes { IfOk result (λ r. Takes Call.First player.now.space player.now.handles.items
+        player.now.space player.now.handles.items (reply_view r)) }
+    ensures numbers { OnOk result
+        (AreNumbers player.now.handles.items numbers.new.grants numbers.new.by_name.items) }
+{
+    let found = player.space.first_live();
+    find(&player.handles, player.space.node_count(), numbers, found)
+}
+
+// The reply to `Last`.
+pub(crate) fn last<T: Tables>(
+    player: &PlayerOf<T>,
+    numbers: &mut Numbers,
+) -> Result<Reply, AllocError>
+    requires kept { AreKept player.now.space player.now.handles.items }
+    requires numbers { AreNumbers player.now.handles.items numbers.old.grants numbers.old.by_name.items }
+    ensures takes { IfOk result (λ r. Takes Call.Last player.now.space player.now.handles.items
+        player.now.space player.now.handles.items (reply_view r)) }
+    ensures numbers { OnOk result
+        (AreNumbers player.now.handles.items numbers.new.grants numbers.new.by_name.items) }
+{
+    let found = player.space.last_live();
+    find(&player.handles, player.space.node_count(), numbers, found)
+}
+
+// The reply to `Before`.
+pub(crate) fn before<T: Tables>(
+    player: &PlayerOf<T>,
+    numbers: &mut Numbers,
+    number: u32,
+) -> Result<Reply, AllocError>
+    requires kept { AreKept player.now.space player.now.handles.items }
+    requires numbers { AreNumbers player.now.handles.items numbers.old.grants numbers.old.by_name.items }
+    ensures takes { IfOk result (λ r. Takes (Call.Before number) player.now.space player.now.handles.items
+        player.now.space player.now.handles.items (reply_view r)) }
+    ensures numbers { OnOk result
+        (AreNumbers player.now.handles.items numbers.new.grants numbers.new.by_name.items) }
+{
+    let Some(handle) = player.handle(number) else {
+        return Ok(Reply::Answer(Answer::Gone));
+    };
+    let found = player.space.live_before(handle);
+    find(&player.handles, player.space.node_count(), numbers, found)
+}
+
+// The reply to `After`.
+pub(crate) fn after<T: Tables>(
+    player: &PlayerOf<T>,
+    numbers: &mut Numbers,
+    number: u32,
+) -> Result<Reply, AllocError>
+    requires kept { AreKept player.now.space player.now.handles.items }
+    requires numbers { AreNumbers player.now.handles.items numbers.old.grants numbers.old.by_name.items }
+    ensures takes { IfOk result (λ r. Takes (Call.After number) player.now.space player.now.handles.items
+        player.now.space player.now.handles.items (reply_view r)) }
+    ensures numbers { OnOk result
+        (AreNumbers player.now.handles.items numbers.new.grants numbers.new.by_name.items) }
+{
+    let Some(handle) = player.handle(number) else {
+        return Ok(Reply::Answer(Answer::Gone));
+    };
+    let found = player.space.live_after(handle);
+    find(&player.handles, player.space.node_count(), numbers, found)
+}

@@ -1,0 +1,74 @@
+-- Which heap takes a range of another one, which one is the emptiest, and the places of the live ranges of a heap.
+use Rattle.std.specs.Prelude.{◌≡◌, ◌≢◌, ℕ, ◌+◌, ◌<◌, ◌≤◌, List, Option, Some, None, false, option_map, unwrap_or}
+use Rattle.offset_allocator.specs.Beside.{last_live, live_before}
+use Rattle.offset_allocator.specs.Ranges.{Range}
+use Rattle.offset_allocator.specs.View.{Grant, used_of}
+use Rattle.offset_guarded.specs.Guard.{Guard, ticket_at}
+use Rattle.offset_guarded.specs.declared.ticket.Ticket.{Ticket}
+use Rattle.offset_heaps.specs.declared.place.Place.{Place}
+use Rattle.offset_heaps.specs.declared.place.Granted.{Granted}
+use Rattle.offset_heaps.specs.Heaps.{Heaps, Grants, IsSame, heap_at, live_of, part, range_in, range_of, room_of, slot}
+
+-- the units of a range, or 0 where there is none
+abbrev pub units_in : Option Range → ℕ
+units_in r = unwrap_or (option_map (λ (r : Range). r.size) r) 0
+
+-- the units of the range of a place, or 0 where it is not live
+abbrev pub units_of : Place → Heaps → ℕ
+units_of p hs = units_in (range_of p hs)
+
+-- the live units of the heap of a number
+abbrev pub live_at : ℕ → Heaps → ℕ
+live_at k hs = part live_of (heap_at k hs)
+
+-- a heap takes units of another one, in which so many are live: it has room for them, and as many are live in it, or more
+pub record Takes (own units live : ℕ) (slots : List (Option Guard)) (k : ℕ) : Type 0 where
+  pub other : k ≢ own
+  pub room : units ≤ room_of 1 (slot k slots)
+  pub full : live ≤ part live_of (slot k slots)
+
+-- a heap takes the range of a place
+abbrev pub TakesRange : Place → Heaps → ℕ → Type 0
+TakesRange p hs k = (1 ≤ units_of p hs) × Takes p.heap (units_of p hs) (live_at p.heap hs) hs.slots k
+
+-- it is the first one that does
+abbrev pub IsTaker : Place → Heaps → ℕ → Type 0
+IsTaker p hs k = TakesRange p hs k × ((j : ℕ) → j < k → TakesRange p hs j → ⊥)
+
+-- none does
+abbrev pub NoneTakes : Place → Heaps → Type 0
+NoneTakes p hs = (k : ℕ) → TakesRange p hs k → ⊥
+
+-- a grant in a heap that was there
+abbrev pub granted : Place → Granted
+granted p = record { place = p; is_new = false }
+
+-- a heap has a live range
+abbrev pub HasLive : Option Guard → Type 0
+HasLive None = ⊥
+HasLive (Some g) = 1 ≤ used_of g.space.blocks
+
+-- of the first n numbers whose heaps have a live range, it has the fewest live units, and is the last such
+pub record IsEmptiest (n : ℕ) (slots : List (Option Guard)) (k : ℕ) : Type 0 where
+  pub before : k < n
+  pub live : HasLive (slot k slots)
+  pub fewest : (j : ℕ) → j < n → HasLive (slot j slots) → part live_of (slot k slots) ≤ part live_of (slot j slots)
+  pub last : (j : ℕ) → k < j → j < n → HasLive (slot j slots) → part live_of (slot k slots) < part live_of (slot j slots)
+
+-- of the first n numbers none has a heap with a live range
+abbrev pub NoneLive : ℕ → List (Option Guard) → Type 0
+NoneLive n slots = (k : ℕ) → k < n → HasLive (slot k slots) → ⊥
+
+-- the place that a handle has now in the heap of a number
+abbrev pub place_in : ℕ → ℕ → Guard → Grant → Place
+place_in k realm g h = record { heap = k; realm = realm; ticket = ticket_at h g }
+
+-- the place of the live range that is the last one in its heap
+abbrev pub last_place : ℕ → ℕ → Option Guard → Option Place
+last_place k realm None = None
+last_place k realm (Some g) = option_map (place_in k realm g) (last_live g.space)
+
+-- the place of the live range directly before that of a ticket in its heap
+abbrev pub place_before : ℕ → ℕ → Ticket → Option Guard → Option Place
+place_before k realm t None = None
+place_before k realm t (Some g) = option_map (place_in k realm g) (live_before t.name g.space)

@@ -1,0 +1,226 @@
+//! Tickets that are stale, freed twice, altered or of another space.
+
+use super::asserts::{assert_same, assert_that};
+use super::layouts::{check_each, Expectation, Layout};
+use offset_allocator::Global;
+use offset_allocator::{Move, NodeIndex, Tables};
+use offset_allocator_guarded::{GuardedOf, Refusal, Ticket};
+
+fn make<T: Tables>(size: u32, realm: u32) -> GuardedOf<T> {
+    GuardedOf::new(Global, size, realm).expect("memory")
+}
+
+fn grant<T: Tables>(space: &mut GuardedOf<T>, size: u32) -> Ticket {
+    space.allocate(size).expect("a grant")
+}
+
+// A ticket that is not live changes nothing.
+fn expect_dead<T: Tables>(space: &mut GuardedOf<T>, ticket: Ticket) {
+    assert_that(!space.is_live(ticket));
+    assert_same(&space.size_of(ticket), &None);
+    assert_same(&space.offset_of(ticket), &None);
+    assert_same(&space.shrink(ticket, 0), &None);
+    assert_same(&space.grow_in_place(ticket, 64), &None);
+    assert_same(&space.relocate(ticket), &None);
+    assert_same(&space.live_before(ticket), &None);
+    assert_same(&space.live_after(ticket), &None);
+    assert_that(!space.free(ticket));
+}
+
+fn expect_altered<T: Tables>(space: &mut GuardedOf<T>, ticket: Ticket) {
+    let mut altered = ticket;
+    for serial in [0, 1, 3, u64::MAX] {
+        altered.serial = serial;
+        expect_dead(space, altered);
+    }
+    altered = ticket;
+    for name in [1, 63, 65_535, u32::MAX] {
+        altered.name = name;
+        expect_dead(space, altered);
+    }
+    altered = ticket;
+    altered.realm = 8;
+    expect_dead(space, altered);
+    // no call reads the offset
+    altered = ticket;
+    altered.offset = 60;
+    assert_same(&space.offset_of(altered), &Some(0));
+}
+
+// The ticket has this offset, this serial and this realm.
+fn expect_ticket(ticket: Ticket, offset: u32, serial: u64, realm: u32) {
+    assert_same(&ticket.offset, &offset);
+    assert_same(&ticket.serial, &serial);
+    assert_same(&ticket.realm, &realm);
+}
+
+fn stale_or_altered<T: Tables>() {
+    let mut space = make::<T>(64, 7);
+    let first = grant(&mut space, 8);
+    expect_ticket(first, 0, 1, 7);
+    assert_that(space.free(first));
+    expect_dead(&mut space, first);
+    let second = grant(&mut space, 8);
+    expect_ticket(second, 0, 2, 7);
+    // a handle of the allocator would be live again
+    assert_same(&second.name, &first.name);
+    expect_dead(&mut space, first);
+    expect_altered(&mut space, second);
+    assert_same(&space.size_of(second), &Some(8));
+    space.reset();
+    expect_dead(&mut space, second);
+    let third = grant(&mut space, 8);
+    assert_same(&third.serial, &3);
+    expect_dead(&mut space, second);
+    assert_that(space.is_live(third));
+}
+
+fn of_another_space<T: Tables>() {
+    let mut left = make::<T>(64, 1);
+    let mut right = make::<T>(64, 2);
+    let ticket = grant(&mut left, 8);
+    let other = grant(&mut right, 8);
+    assert_same(&left.realm(), &1);
+    assert_same(&right.realm(), &2);
+    expect_dead(&mut right, ticket);
+    expect_dead(&mut left, other);
+    // two spaces of one realm do not distinguish their tickets
+    let mut twin = make::<T>(64, 1);
+    let _twin_ticket = grant(&mut twin, 8);
+    assert_that(twin.is_live(ticket));
+}
+
+// Counts the units that move, from the offset 8 to the offset 0.
+fn compacted<T: Tables>(space: &mut GuardedOf<T>) -> u32 {
+    let mut moved = 0u32;
+    space.compact(&mut |range: Move<T::Index>| {
+        if range.from == 8 && range.to == 0 {
+            moved = moved.wrapping_add(range.size);
+        }
+    });
+    moved
+}
+
+fn of_ranges_that_change<T: Tables>() {
+    let mut space = make::<T>(64, 0);
+    let first = grant(&mut space, 8);
+    let second = grant(&mut space, 8);
+    assert_that(space.free(first));
+    assert_same(&compacted(&mut space), &8);
+    assert_same(&second.offset, &8);
+    assert_same(&space.offset_of(second), &Some(0));
+    assert_same(&space.shrink(second, 9), &Some(false));
+    assert_same(&space.shrink(second, 4), &Some(true));
+    assert_same(&space.grow_in_place(second, 65), &Some(false));
+    assert_same(&space.grow_in_place(second, 6), &Some(true));
+    assert_same(&space.size_of(second), &Some(6));
+    assert_that(space.extend(10));
+    assert_same(&space.allocator().size(), &74);
+    let third = space.allocate_aligned(4, 32).expect("a grant");
+    expect_ticket(third, 32, 3, 0);
+}
+
+// The third range finds a place where the second one was, and the end can go.
+fn of_ranges_from_the_end<T: Tables>() {
+    let mut space = make::<T>(64, 9);
+    assert_same(&space.last_live(), &None);
+    let first = grant(&mut space, 8);
+    let second = grant(&mut space, 8);
+    let third = grant(&mut space, 8);
+    assert_same(&space.last_live(), &Some(third));
+    assert_same(&space.live_before(third), &Some(second));
+    assert_same(&space.live_after(first), &Some(second));
+    assert_same(&space.live_before(first), &None);
+    assert_same(&space.relocate(third), &None);
+    assert_that(space.free(second));
+    let fourth = space.relocate(third).expect("a grant");
+    expect_ticket(fourth, 8, 4, 9);
+    assert_that(space.is_live(third));
+    assert_same(&space.live_after(fourth), &Some(third));
+    assert_that(space.free(third));
+    expect_dead(&mut space, third);
+    assert_that(!space.retract(49) && space.retract(48) && !space.retract(1));
+    assert_same(&space.allocator().size(), &16);
+    assert_same(&space.offset_of(fourth), &Some(8));
+    // where a range moved, its present ticket has another offset
+    assert_that(space.free(first));
+    assert_same(&compacted(&mut space), &8);
+    let mut present = fourth;
+    present.offset = 0;
+    assert_same(&space.last_live(), &Some(present));
+}
+
+// The tickets of the blocks of a space, from its end to its start.
+fn walked<T: Tables>(space: &GuardedOf<T>) -> Vec<Option<Ticket>> {
+    let mut tickets = Vec::new();
+    for block in space.allocator().blocks() {
+        if let Some(handle) = block.allocation {
+            tickets.push(space.ticket(handle));
+        }
+    }
+    tickets
+}
+
+fn of_a_walk<T: Tables>() {
+    let mut space = make::<T>(64, 5);
+    let first = grant(&mut space, 8);
+    let second = grant(&mut space, 8);
+    let last = space.allocator().blocks().last();
+    let handle = last
+        .and_then(|block| block.allocation)
+        .expect("the first range");
+    assert_same(
+        &walked(&space).as_slice(),
+        &[Some(second), Some(first)].as_slice(),
+    );
+    assert_same(&space.ticket(handle), &Some(first));
+    assert_that(space.free(first));
+    assert_same(&space.ticket(handle), &None);
+}
+
+fn requests_that_are_refused<T: Tables>() {
+    assert_that(3 < T::Index::MAX);
+    let full = GuardedOf::<T>::with_max_allocs(Global, 64, 2, 0);
+    let mut full = full.expect("memory");
+    let why = Some(Refusal::Allocator(offset_allocator::Refusal::Nodes));
+    assert_that(full.allocate(1).is_none());
+    assert_same(&full.refusal(1), &why);
+    assert_same(&full.refusal_aligned(1, 4), &why);
+}
+
+fn requests_that_are_granted<T: Tables>() {
+    let space = make::<T>(64, 0);
+    assert_same(&space.refusal(64), &None);
+    assert_same(&space.refusal_aligned(1, 4), &None);
+    assert_that(!space.is_spent());
+}
+
+// A space with many nodes makes them as they are used.
+fn nodes_that_are_made<T: Tables>() {
+    let mut space = make::<T>(64, 0);
+    for _ in 0..8u32 {
+        let _ticket = grant(&mut space, 1);
+    }
+    let nodes = space.allocator().node_count();
+    assert_that((9..=10).contains(&nodes));
+}
+
+struct Guards;
+
+impl Expectation for Guards {
+    fn check<T: Tables>(&self) {
+        stale_or_altered::<T>();
+        of_another_space::<T>();
+        of_ranges_that_change::<T>();
+        of_ranges_from_the_end::<T>();
+        of_a_walk::<T>();
+        requests_that_are_refused::<T>();
+        requests_that_are_granted::<T>();
+        nodes_that_are_made::<T>();
+    }
+}
+
+#[test]
+fn tickets() {
+    check_each(&[Layout::Wide, Layout::Narrow], &Guards);
+}
