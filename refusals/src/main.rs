@@ -228,6 +228,14 @@ impl Check<'_> {
         self.fail_each(FILL.on(layout), header, 0, &wanted);
     }
 
+    /// A constructor whose tables take this many nodes of 28 bytes.
+    fn large(&mut self, layout: Layout, nodes: usize) {
+        let header = &format!("space 100 nodes {nodes} index 32");
+        let call = LIMITED.on(layout);
+        self.expect_requests(call, header, &table_requests(layout, nodes, 32));
+        self.fail_each(call, header, 0, &Outcome::new(ANSWERED, &[100, 96]));
+    }
+
     /// The constructor `new`, whose node limit is `most`.
     fn default(&mut self, layout: Layout, most: usize, bits: usize) {
         let header = format!("space 100 nodes 4 index {bits}");
@@ -396,6 +404,11 @@ fn main() {
     let program = Program { file, memory };
     let mut all = parts(16, 65_533);
     all.extend(parts(32, 131_072));
+    // 8 bytes fewer than 16 MiB, and 20 more
+    for nodes in [599_186, 599_187] {
+        all.push(part(move |it| it.large(BY_NODE, nodes)));
+        all.push(part(move |it| it.large(BY_FIELD, nodes)));
+    }
     for call in [PARSE, RUN] {
         all.push(part(move |it| {
             it.fail_each(call, BAD, 0, &Outcome::new(FAULTY, FAULT));
