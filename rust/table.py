@@ -4,6 +4,8 @@ No entry depends on what a crate computes. Texts are compared by their tokens, s
 An entry that is not used by the sources stops `erase`, so that none outlives its reason.
 """
 
+import re
+
 # Crate of the sources, folder of the erased crate, and the modules that are written by hand there.
 CRATES = [
     ("offset_allocator", "offset-allocator-proved", {"accesses", "memory", "nonmax", "traits"}),
@@ -201,6 +203,14 @@ def assertion(test, message, *shown):
     return f'assert!({test}, "{message}"{"".join(", " + value for value in shown)});'
 
 
+def holds(message):
+    """What is so where the test passes, in the words of its message."""
+    said = {"MAX is the name of no node": "the number is below MAX"}.get(message, message).replace(": {:?}", "")
+    for must, does in {"must be": "is", "must go": "goes", "must end": "ends", "must have": "has", "may be": "are", "may end": "ends"}.items():
+        said = said.replace(must, does)
+    return re.sub(r"\b(max_allocs|align|needed_object_size|float_value|NI::MAX - 2|MAX)\b", r"`\1`", said)
+
+
 # What a public function requires, and always holds in plain Rust, each with the reason. It needs no assertion.
 ALWAYS = {
     "3 ≤ count": "only this crate calls it, and it is proved that it keeps the condition; so it is of those without another reason below",
@@ -222,19 +232,26 @@ ALWAYS = {
 # Whoever else calls one meets the tests of Rust's own indices.
 INSIDE = {"Tables"}
 
-# Lines around each example in the documentation, so that `cargo test` runs it. Those after a `#` are hidden.
+# Lines around each example in the documentation, so that `cargo test` runs it, and the line that makes what an example
+# names and does not make itself. Those after a `#` are hidden.
 EXAMPLES = {
     "offset_allocator": (
         ["use offset_allocator_proved::*;", "let alloc = Global;"],
         ["# Ok::<(), AllocError>(())"],
+        {"space": "let mut space = Allocator::<u32>::new(alloc, 1000)?;"},
     ),
     "offset_guarded": (
         ["use offset_allocator_guarded::*;", "let alloc = Global;"],
         ["# Ok::<(), AllocError>(())"],
+        {"guarded": "let mut guarded = Guarded::<u32>::new(alloc, 1000, 1)?;"},
     ),
     "offset_heaps": (
         ["use offset_allocator_heaps::*;", "let alloc = Global;"],
         ["# Ok::<(), AllocError>(())"],
+        {
+            "heaps": "let limits = Limits { size: 1000, max_allocs: 100, most: 2, most_larger: 1 };\n"
+            "let mut heaps = Heaps::<u32>::new(alloc, limits, 1)?;",
+        },
     ),
 }
 

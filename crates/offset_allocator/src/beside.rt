@@ -134,6 +134,12 @@ impl<T: Tables> AllocatorOf<T> {
     /// makes 2 accesses to the tables for each block, and one more: the first block of a space is not
     /// known, so it walks back from the last one. With `live_after` a walk from here meets all live
     /// ranges, as one with `live_before` does from `last_live`.
+    ///
+    /// ```
+    /// let mesh = space.allocate(300);
+    /// space.allocate(100);
+    /// assert_eq!(space.first_live(), mesh);
+    /// ```
     pub fn first_live(&self) -> Option<Allocation<T::Index>>
         ensures { result ≡ first_live self.now }
     {
@@ -142,6 +148,12 @@ impl<T: Tables> AllocatorOf<T> {
 
     /// The handle of the live range that is the last one in space, or `None` where none is live. It makes at most 8
     /// accesses to the tables.
+    ///
+    /// ```
+    /// space.allocate(300);
+    /// let texture = space.allocate(100);
+    /// assert_eq!(space.last_live(), texture);
+    /// ```
     pub fn last_live(&self) -> Option<Allocation<T::Index>>
         ensures { result ≡ last_live self.now }
     {
@@ -153,6 +165,12 @@ impl<T: Tables> AllocatorOf<T> {
     /// tables.
     ///
     /// From `last_live` on, this walks all live ranges; they may be freed on the way, after the next one is asked for.
+    ///
+    /// ```
+    /// let mesh = space.allocate(300);
+    /// let texture = space.allocate(100).unwrap();
+    /// assert_eq!(space.live_before(texture), mesh);
+    /// ```
     pub fn live_before(&self, allocation: Allocation<T::Index>) -> Option<Allocation<T::Index>>
         ensures { result ≡ live_before allocation.name self.now }
     {
@@ -162,6 +180,12 @@ impl<T: Tables> AllocatorOf<T> {
     /// The handle of the live range directly after that of a handle, with at most a free block between them. `None` where
     /// there is none, or where the handle is not live, of which only the name counts. It makes at most 8 accesses to the
     /// tables.
+    ///
+    /// ```
+    /// let mesh = space.allocate(300).unwrap();
+    /// let texture = space.allocate(100);
+    /// assert_eq!(space.live_after(mesh), texture);
+    /// ```
     pub fn live_after(&self, allocation: Allocation<T::Index>) -> Option<Allocation<T::Index>>
         ensures { result ≡ live_after allocation.name self.now }
     {

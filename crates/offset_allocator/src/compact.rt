@@ -38,6 +38,13 @@ pub struct Move<NI: NodeIndex = u32, N: NodeIndexNonMax = <NI as NodeIndex>::Non
 impl<NI: NodeIndex, N: NodeIndexNonMax> Move<NI, N> {
     /// The handle of the range as it is after the move. Every older handle of the range is live too; only its `offset`
     /// is that of before.
+    ///
+    /// ```
+    /// let hole = space.allocate(300).unwrap();
+    /// let mesh = space.allocate(100).unwrap();
+    /// space.free(hole);
+    /// space.compact(&mut |it| assert_eq!(it.allocation().name(), mesh.name()));
+    /// ```
     pub fn allocation(&self) -> Allocation<NI, N>
         ensures { result ≡ record { name = N.number self.now.name; offset = self.now.to } }
     {
@@ -189,6 +196,14 @@ impl<T: Tables> AllocatorOf<T> {
     /// and `allocation_offset` returns the new one. The name of the free block at the end is left open. `moved` has to
     /// be callable with any move: its contract may require nothing of it. It makes at most 10 accesses to the tables
     /// for each block, and 384, and takes no memory.
+    ///
+    /// ```
+    /// let hole = space.allocate(300).unwrap();
+    /// let mesh = space.allocate(100).unwrap();
+    /// space.free(hole);
+    /// space.compact(&mut |it| assert_eq!((it.from, it.to, it.size), (300, 0, 100)));
+    /// assert_eq!(space.allocation_offset(mesh), Some(0));
+    /// ```
     pub fn compact<F: FnMut(Move<T::Index>)>(&mut self, moved: &mut F)
         requires callable { F.IsAlwaysCallable moved.old }
         // The live blocks keep their names, their sizes and their order: so every handle stays live, with its size.

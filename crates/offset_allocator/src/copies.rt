@@ -87,6 +87,12 @@ impl FusedIterator for MovePieces {}
 
 impl MovePieces {
     /// As `pieces` of a move of `size` units from the offset `from` to the offset `to`.
+    ///
+    /// ```
+    /// let mut pieces = MovePieces::of(300, 0, 100, 64);
+    /// assert_eq!(pieces.next(), Some(Piece { from: 300, to: 0, size: 64 }));
+    /// assert_eq!(pieces.next(), Some(Piece { from: 364, to: 64, size: 36 }));
+    /// ```
     pub fn of(from: u32, to: u32, size: u32, most: u32) -> Self
         requires some { 0 < most }
         requires down { to < from }
@@ -105,6 +111,13 @@ impl MovePieces {
 impl<NI: NodeIndex, N: NodeIndexNonMax> Move<NI, N> {
     /// Whether the units that are read and those that are written have none in common. Then one copy makes the move on a
     /// device whose copies may not overlap; `pieces` are for all moves.
+    ///
+    /// ```
+    /// let hole = space.allocate(300).unwrap();
+    /// space.allocate(100);
+    /// space.free(hole);
+    /// space.compact(&mut |it| assert!(it.is_apart()));
+    /// ```
     pub fn is_apart(&self) -> bool
         ensures { IsTrue result ↔ ((self.now.to + self.now.size ≤ self.now.from)
             ⊎ (self.now.from + self.now.size ≤ self.now.to)) }
@@ -122,6 +135,13 @@ impl<NI: NodeIndex, N: NodeIndexNonMax> Move<NI, N> {
     ///
     /// The move has to be one to a smaller offset, with all its units below 4294967295, as those that `compact` yields
     /// are; and `most` at least 1. It takes no memory.
+    ///
+    /// ```
+    /// let hole = space.allocate(300).unwrap();
+    /// space.allocate(100);
+    /// space.free(hole);
+    /// space.compact(&mut |it| assert_eq!(it.pieces(64).map(|piece| piece.size).sum::<u32>(), 100));
+    /// ```
     pub fn pieces(&self, most: u32) -> MovePieces
         requires some { 0 < most }
         requires down { self.now.to < self.now.from }

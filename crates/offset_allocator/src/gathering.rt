@@ -87,6 +87,16 @@ impl<T: Tables> AllocatorOf<T> {
     /// request is granted afterwards, also at the node limit. For an aligned request ask with `size + align - 1`. Of
     /// several runs that cost as much it is the last in space; the name of the free block is left open. It makes at
     /// most 6 accesses to the tables for each block, 40 for each range that moves, and 20, and takes no memory.
+    ///
+    /// ```
+    /// let hole = space.allocate(300).unwrap();
+    /// space.allocate(100);
+    /// space.free(hole);
+    /// assert!(space.allocate(800).is_none());
+    /// let cost = space.make_room(800, &mut |it| assert_eq!((it.from, it.to, it.size), (300, 0, 100)));
+    /// assert_eq!(cost, Some(RoomCost { units: 100, ranges: 1 }));
+    /// assert!(space.allocate(800).is_some());
+    /// ```
     pub fn make_room<F: FnMut(Move<T::Index>)>(
         &mut self,
         size: u32,

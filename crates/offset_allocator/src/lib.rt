@@ -122,7 +122,14 @@ impl<T: Tables> AllocatorOf<T> {
     /// A space of `size` units, all free, with the smaller of 131072 and `T::Index::MAX - 2` as the node limit. A node
     /// costs as much as in `with_max_allocs`.
     ///
+    /// # Errors
+    ///
     /// An error is returned only where an allocation failed; then nothing is made.
+    ///
+    /// ```
+    /// let space = Allocator::<u32>::new(alloc, 1 << 20)?;
+    /// assert_eq!(space.free_units(), 1 << 20);
+    /// ```
     #[track_caller]
     pub fn new(alloc: Global, size: u32) -> Result<Self, AllocError>
         ensures { IfOk result (IsFresh size (min 131072 (T.Index.MAX - 2))) }
@@ -136,7 +143,15 @@ impl<T: Tables> AllocatorOf<T> {
     /// 4294967293 for `u32`. `ByNode` and `ByField` reserve 28 bytes a node with `u32`, 18 with `u16`, all of
     /// them here; those of a node are written when it is made, which `node_count` counts.
     ///
+    /// # Errors
+    ///
     /// An error is returned only where an allocation failed; then nothing is made.
+    ///
+    /// ```
+    /// let mut space = Allocator::<u16>::with_max_allocs(alloc, 1000, 3)?;
+    /// assert!(space.allocate(10).is_some());
+    /// assert!(space.allocate(10).is_none());
+    /// ```
     pub fn with_max_allocs(alloc: Global, size: u32, max_allocs: u32) -> Result<Self, AllocError>
         requires limit_min { 2 ≤ max_allocs }
         requires limit_max { max_allocs + 1 < T.Index.MAX }
@@ -167,6 +182,12 @@ impl<T: Tables> AllocatorOf<T> {
     /// It takes no memory and always succeeds, and the space keeps what `extend` added. If at most 5 blocks exist, it
     /// frees each live range; otherwise it forgets all nodes and empties the bins: about 1 KB is written, whatever the
     /// node limit.
+    ///
+    /// ```
+    /// let mesh = space.allocate(300).unwrap();
+    /// space.reset();
+    /// assert!(!space.is_live(mesh));
+    /// ```
     pub fn reset(&mut self)
         // The space keeps its size, and no name is live.
         ensures size { self.new.size ≡ self.old.size }
@@ -187,6 +208,10 @@ impl<T: Tables> AllocatorOf<T> {
     }
 
     /// The units of the space, with what `extend` added.
+    ///
+    /// ```
+    /// assert_eq!(space.size(), 1000);
+    /// ```
     pub fn size(&self) -> u32
         ensures { result ≡ self.now.size }
     {
@@ -194,6 +219,10 @@ impl<T: Tables> AllocatorOf<T> {
     }
 
     /// The node limit. At most `max_allocs - 1` blocks exist at a time, free ones included.
+    ///
+    /// ```
+    /// assert_eq!(space.max_allocs(), 131_072);
+    /// ```
     pub fn max_allocs(&self) -> u32
         ensures { result ≡ self.now.max_allocs }
     {
@@ -201,6 +230,11 @@ impl<T: Tables> AllocatorOf<T> {
     }
 
     /// The number of blocks, used and free.
+    ///
+    /// ```
+    /// space.allocate(300);
+    /// assert_eq!(space.block_count(), 2);
+    /// ```
     pub fn block_count(&self) -> u32
         ensures { result ≡ length self.now.blocks }
     {
@@ -210,6 +244,11 @@ impl<T: Tables> AllocatorOf<T> {
     /// The number of nodes that were made: each block's name is below it. Contracts leave it open, as some names, and no
     /// other answer depends on it: `grow_in_place` and a call that may add a block can make it larger by 1 or 2, also
     /// where they leave the space as it was, and only `reset` makes it smaller.
+    ///
+    /// ```
+    /// space.allocate(300);
+    /// assert!(space.node_count() >= space.block_count());
+    /// ```
     pub fn node_count(&self) -> u32
         ensures names { (x : ℕ) → 1 ≤ count_named x self.now.blocks → x < result }
         ensures limit { result ≤ self.now.max_allocs }
@@ -219,6 +258,12 @@ impl<T: Tables> AllocatorOf<T> {
 
     /// Whether `max_allocs - 1` blocks exist. Then every request is refused, and the short report is 0, 0, until blocks
     /// coalesce (by `free`, `compact` or `reset`) or `grow_in_place` takes the whole of a free block.
+    ///
+    /// ```
+    /// let mut space = Allocator::<u32>::with_max_allocs(alloc, 1000, 3)?;
+    /// space.allocate(300);
+    /// assert!(space.is_full());
+    /// ```
     pub fn is_full(&self) -> bool
         ensures limit { IsTrue result ↔ (length self.now.blocks + 1 ≡ self.now.max_allocs) }
         ensures full { result ≡ is_full self.now }
@@ -234,6 +279,12 @@ impl<T: Tables> AllocatorOf<T> {
     /// a class; then the space is as it was. A request of at least one unit is granted exactly when it is at most the
     /// `largest_free_region` that `storage_report` returns just before. One of 0 units takes a node too, and needs a
     /// free block of any size. It makes at most 64 accesses to the tables, and takes no memory.
+    ///
+    /// ```
+    /// let mesh = space.allocate(300).unwrap();
+    /// assert_eq!(mesh.offset, 0);
+    /// assert!(space.allocate(701).is_none());
+    /// ```
     pub fn allocate(&mut self, size: u32) -> Option<Allocation<T::Index>>
         // A request of at least one unit is granted exactly when `size` is at most the `largest_free_region` of the
         // report, which is 0 at the node limit. Any request, of 0 units too, is granted exactly when there is room for
@@ -265,6 +316,12 @@ impl<T: Tables> AllocatorOf<T> {
     /// The handle has to be live, which `is_live` reports. Only its name counts, and not its public `offset`: a stale
     /// handle whose name was granted again is live, and frees that range. It makes at most 128 accesses to the tables,
     /// and takes no memory.
+    ///
+    /// ```
+    /// let mesh = space.allocate(300).unwrap();
+    /// space.free(mesh);
+    /// assert_eq!(space.free_units(), 1000);
+    /// ```
     pub fn free(&mut self, allocation: Allocation<T::Index>)
         requires live { IsLive allocation.name self.old }
         // The name holds no range any more, and all other ranges stay.
@@ -282,6 +339,13 @@ impl<T: Tables> AllocatorOf<T> {
     ///
     /// A handle whose block was freed is live again where a newer grant has its name. It makes at most 8 accesses to
     /// the tables.
+    ///
+    /// ```
+    /// let mesh = space.allocate(300).unwrap();
+    /// assert!(space.is_live(mesh));
+    /// space.free(mesh);
+    /// assert!(!space.is_live(mesh));
+    /// ```
     pub fn is_live(&self, allocation: Allocation<T::Index>) -> bool
         ensures { IsTrue result ↔ IsLive allocation.name self.now }
     {
@@ -291,6 +355,11 @@ impl<T: Tables> AllocatorOf<T> {
     /// The units of the range that a live handle has: exactly those that `allocate`, `allocate_aligned`, `shrink` or
     /// `grow_in_place` last gave it. It is 0 where the handle is not live, and for a live range of no units too. It
     /// makes at most 8 accesses to the tables.
+    ///
+    /// ```
+    /// let mesh = space.allocate(300).unwrap();
+    /// assert_eq!(space.allocation_size(mesh), 300);
+    /// ```
     pub fn allocation_size(&self, allocation: Allocation<T::Index>) -> u32
         ensures { result ≡ size_of allocation.name self.now }
     {
@@ -302,6 +371,11 @@ impl<T: Tables> AllocatorOf<T> {
     ///
     /// The public `offset` of a handle is a copy: a caller may have changed it, `compact` leaves it as it was, and a
     /// stale handle keeps it. It makes at most 8 accesses to the tables.
+    ///
+    /// ```
+    /// let mesh = space.allocate(300).unwrap();
+    /// assert_eq!(space.allocation_offset(mesh), Some(0));
+    /// ```
     pub fn allocation_offset(&self, allocation: Allocation<T::Index>) -> Option<u32>
         ensures { result ≡ option_map (λ (r : Range). r.offset) (range_of allocation.name self.now) }
     {
@@ -310,6 +384,13 @@ impl<T: Tables> AllocatorOf<T> {
 
     /// The blocks of the space, used and free, from its end to its start. It takes no memory, and each block costs at
     /// most 5 accesses to the tables.
+    ///
+    /// ```
+    /// let mesh = space.allocate(300).unwrap();
+    /// let mut blocks = space.blocks();
+    /// assert_eq!(blocks.next().unwrap().size, 700);
+    /// assert_eq!(blocks.next().unwrap().allocation, Some(mesh));
+    /// ```
     pub fn blocks(&self) -> BlocksOf<'_, T>
         ensures { result ≡ listing self.now }
     {
@@ -323,6 +404,12 @@ impl<T: Tables> AllocatorOf<T> {
     /// The free space in short: the units of all free blocks, and the largest request that would be granted, or 0 where
     /// none of at least one unit would be. Both are 0 where `max_allocs - 1` blocks exist or no block is free, and then
     /// a request of 0 units is refused too. It makes at most 8 accesses to the tables.
+    ///
+    /// ```
+    /// space.allocate(300);
+    /// let report = space.storage_report();
+    /// assert_eq!((report.total_free_space, report.largest_free_region), (700, 640));
+    /// ```
     pub fn storage_report(&self) -> StorageReport
         ensures { IsReport result self.now }
     {
@@ -331,6 +418,12 @@ impl<T: Tables> AllocatorOf<T> {
 
     /// The free blocks, class by class, at the node limit too. It makes at most 512 accesses to the tables, and 2 for
     /// each free block.
+    ///
+    /// ```
+    /// let report = space.storage_report_full();
+    /// let free: u32 = report.free_regions.iter().map(|class| class.count).sum();
+    /// assert_eq!(free, 1);
+    /// ```
     pub fn storage_report_full(&self) -> StorageReportFull
         ensures { IsFullReport result self.now }
     {
@@ -340,6 +433,11 @@ impl<T: Tables> AllocatorOf<T> {
     /// Why `allocate(size)` would be refused now, or `None` exactly where it would be granted.
     ///
     /// It makes at most 8 accesses to the tables.
+    ///
+    /// ```
+    /// assert_eq!(space.refusal(300), None);
+    /// assert_eq!(space.refusal(1001), Some(Refusal::TooLarge));
+    /// ```
     pub fn refusal(&self, size: u32) -> Option<Refusal>
         ensures granted { result ≡ None ↔ CanGrant 1 size self.now }
         ensures why { IfSome result (IsWhy 1 size self.now) }
@@ -351,6 +449,11 @@ impl<T: Tables> AllocatorOf<T> {
     ///
     /// `align` has to be a power of two. If it is above 1, the request needs room for two more blocks, and a block for
     /// `size + align - 1` units. It makes at most 8 accesses to the tables.
+    ///
+    /// ```
+    /// assert_eq!(space.refusal_aligned(900, 4), None);
+    /// assert_eq!(space.refusal_aligned(900, 256), Some(Refusal::TooLarge));
+    /// ```
     pub fn refusal_aligned(&self, size: u32, align: u32) -> Option<Refusal>
         requires power { IsAlignment align }
         ensures granted { result ≡ None ↔ CanGrant (blocks_needed align) (units_needed size align) self.now }
@@ -370,6 +473,12 @@ impl<T: Tables> AllocatorOf<T> {
     ///
     /// A fresh space of 1,048,576 units grants 64 KiB at a multiple of 256 only 15 times. Where all requests have one
     /// alignment, let a unit be as large as that, and call `allocate`: then it grants all 16.
+    ///
+    /// ```
+    /// space.allocate(10);
+    /// let uniforms = space.allocate_aligned(300, 256).unwrap();
+    /// assert_eq!(uniforms.offset, 256);
+    /// ```
     pub fn allocate_aligned(&mut self, size: u32, align: u32) -> Option<Allocation<T::Index>>
         requires power { IsAlignment align }
         // The units needed are `size + align - 1`; the blocks needed are 1 with `align` 1, and 2 above. If at least one
@@ -407,6 +516,11 @@ impl<T: Tables> AllocatorOf<T> {
     /// `false` is returned where the space would have more than 4294967295 units, or where its last block is used and
     /// no further block may exist; then the space is as it was. With 0 units it is `true`, and the space is as it was
     /// too. It makes at most 128 accesses to the tables, and takes no memory.
+    ///
+    /// ```
+    /// assert!(space.extend(24));
+    /// assert_eq!(space.size(), 1024);
+    /// ```
     pub fn extend(&mut self, more: u32) -> bool
         // It is done exactly when the space can have that many more units.
         ensures done { IsTrue result ↔ (1 ≤ more → CanExtend more self.old) }

@@ -38,6 +38,15 @@ impl<T: Tables> AllocatorOf<T> {
     /// The block is the one that `allocate` takes for these units. `None` is returned where that would refuse them, or
     /// where the block begins after the range; then the space is as it was. The handle has to be live, and only its name
     /// counts. It makes at most 80 accesses to the tables, and takes no memory.
+    ///
+    /// ```
+    /// let hole = space.allocate(320).unwrap();
+    /// let mesh = space.allocate(320).unwrap();
+    /// space.free(hole);
+    /// let moved = space.relocate(mesh).unwrap();
+    /// assert_eq!((mesh.offset, moved.offset), (320, 0));
+    /// space.free(mesh);
+    /// ```
     pub fn relocate(&mut self, allocation: Allocation<T::Index>) -> Option<Allocation<T::Index>>
         requires live { IsLive allocation.name self.old }
         // A grant as of `allocate`: under a name that was not live, with as many units, and all live ranges stay.

@@ -36,6 +36,12 @@ impl<T: Tables> AllocatorOf<T> {
     /// may exist and no free block is directly after the range; then the space is as it was. With exactly the units of
     /// the range it is `true`, at the node limit too, and the space is as it was. The handle has to be live, and only
     /// its name counts, as in `free`. It makes at most 128 accesses to the tables, and takes no memory.
+    ///
+    /// ```
+    /// let mesh = space.allocate(300).unwrap();
+    /// assert!(space.shrink(mesh, 200));
+    /// assert_eq!(space.allocation_size(mesh), 200);
+    /// ```
     pub fn shrink(&mut self, allocation: Allocation<T::Index>, size: u32) -> bool
         requires live { IsLive allocation.name self.old }
         // It is done exactly when the range has at least `size` units, and, if it has more, a free block is directly
@@ -69,6 +75,12 @@ impl<T: Tables> AllocatorOf<T> {
     /// directly after it has as many; then the space is as it was. With exactly the units of the range it is `true`,
     /// and the space is as it was. The handle has to be live, and only its name counts, as in `free`. It makes at most
     /// 128 accesses to the tables, and takes no memory.
+    ///
+    /// ```
+    /// let mesh = space.allocate(300).unwrap();
+    /// assert!(space.grow_in_place(mesh, 400));
+    /// assert_eq!(space.allocation_size(mesh), 400);
+    /// ```
     pub fn grow_in_place(&mut self, allocation: Allocation<T::Index>, size: u32) -> bool
         requires live { IsLive allocation.name self.old }
         // It is done exactly when the range has at most `size` units, and at least `size` with those of the free block

@@ -61,6 +61,13 @@ impl<T: Tables> AllocatorOf<T> {
     ///
     /// `false` is returned where the last block is used or has fewer units; then the space is as it was. With 0 units it is
     /// `true`, and the space is as it was too. It makes at most 64 accesses to the tables, and takes no memory.
+    ///
+    /// ```
+    /// space.allocate(300);
+    /// assert!(space.retract(700));
+    /// assert_eq!(space.size(), 300);
+    /// assert!(!space.retract(1));
+    /// ```
     pub fn retract(&mut self, less: u32) -> bool
         // It is done exactly when the last block is free and has that many units.
         ensures done { IsTrue result ↔ (1 ≤ less → CanRetract less self.old) }

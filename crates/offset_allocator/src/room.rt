@@ -237,6 +237,14 @@ impl<T: Tables> AllocatorOf<T> {
     /// numbers are 0 where one free block is large enough: nothing has to move then, though the request is refused at
     /// the node limit. For an aligned request ask with `size + align - 1`. It makes at most 6 accesses to the tables
     /// for each block, and 2.
+    ///
+    /// ```
+    /// let hole = space.allocate(300).unwrap();
+    /// space.allocate(100);
+    /// space.free(hole);
+    /// assert_eq!(space.room_cost(800), Some(RoomCost { units: 100, ranges: 1 }));
+    /// assert_eq!(space.room_cost(1000), None);
+    /// ```
     pub fn room_cost(&self, size: u32) -> Option<RoomCost>
         // Of all runs of blocks that begin and end with a free one and have enough free units, which is the value of
         // the class that the request needs, one costs this, and none costs less. `None`: there is no such run.

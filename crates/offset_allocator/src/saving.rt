@@ -149,7 +149,16 @@ impl<T: Tables> AllocatorOf<T> {
     /// names of free blocks, bin by bin, the newest first; the unused names, the next one last; and a
     /// checksum.
     ///
-    /// It takes time for the nodes that were made. An error is returned only where an allocation failed.
+    /// It takes time for the nodes that were made.
+    ///
+    /// # Errors
+    ///
+    /// An error is returned only where an allocation failed.
+    ///
+    /// ```
+    /// let bytes = space.write_state(alloc)?;
+    /// assert_eq!(bytes.len(), 44);
+    /// ```
     pub fn write_state(&self, alloc: Global) -> Result<Vec<u8>, AllocError>
         ensures { IfOk result (λ bytes. IsStateOf self.now bytes.items) }
     {

@@ -13,6 +13,11 @@ pub const MANTISSA_MASK: u32 = 7;
 
 /// The smallest class whose value is at least `size` units. For a size above 4026531840 it is 240, a class that no
 /// block has.
+///
+/// ```
+/// let class = small_float::uint_to_float_round_up(1000);
+/// assert_eq!(small_float::float_to_uint(class), 1024);
+/// ```
 #[inline]
 pub fn uint_to_float_round_up(size: u32) -> u32
     ensures is { result ≡ up size }
@@ -27,6 +32,11 @@ pub fn uint_to_float_round_up(size: u32) -> u32
 }
 
 /// The largest class whose value is at most `size` units: the class of a free block of this size. It is at most 239.
+///
+/// ```
+/// let class = small_float::uint_to_float_round_down(1000);
+/// assert_eq!(small_float::float_to_uint(class), 960);
+/// ```
 #[inline]
 pub fn uint_to_float_round_down(size: u32) -> u32
     ensures is { result ≡ down size }
@@ -49,6 +59,11 @@ fn class_of(size: u32, exponent: u32) -> u32
 
 /// The value of a class below 256 in units, of which the low 32 bits are returned: the values of the classes
 /// from 240 on are larger.
+///
+/// ```
+/// assert_eq!(small_float::float_to_uint(7), 7);
+/// assert_eq!(small_float::float_to_uint(239), 4_026_531_840);
+/// ```
 pub fn float_to_uint(float_value: u32) -> u32
     requires { float_value < 256 }
     ensures is { result ≡ value float_value % 2 ^ 32 }

@@ -114,6 +114,11 @@ pub fn statistics_counted<T: Tables>(allocator: &AllocatorOf<T>, count: &mut Acc
 impl<T: Tables> AllocatorOf<T> {
     /// The units of all free blocks together, at the node limit too, where a report has 0. It makes no access to the
     /// tables.
+    ///
+    /// ```
+    /// space.allocate(300);
+    /// assert_eq!(space.free_units(), 700);
+    /// ```
     pub fn free_units(&self) -> u32
         ensures { result ≡ sum (free_sizes self.now.blocks) }
     {
@@ -121,6 +126,11 @@ impl<T: Tables> AllocatorOf<T> {
     }
 
     /// The units of all live ranges together. With `free_units` they add up to `size`. It makes no access to the tables.
+    ///
+    /// ```
+    /// space.allocate(300);
+    /// assert_eq!(space.live_units(), 300);
+    /// ```
     pub fn live_units(&self) -> u32
         ensures { result ≡ used_units self.now.blocks }
     {
@@ -130,6 +140,13 @@ impl<T: Tables> AllocatorOf<T> {
 
     /// Whether no range is live, not even one of no units. It is right at every node limit, and makes at most 8 accesses
     /// to the tables.
+    ///
+    /// ```
+    /// let nothing = space.allocate(0).unwrap();
+    /// assert!(!space.is_empty());
+    /// space.free(nothing);
+    /// assert!(space.is_empty());
+    /// ```
     pub fn is_empty(&self) -> bool
         ensures { IsTrue result ↔ (used_of self.now.blocks ≡ 0) }
     {
@@ -138,6 +155,12 @@ impl<T: Tables> AllocatorOf<T> {
 
     /// What is live and what is free, exactly, at the node limit too. It makes at most 520 accesses to the tables, and 4
     /// for each free block.
+    ///
+    /// ```
+    /// space.allocate(300);
+    /// let statistics = space.statistics();
+    /// assert_eq!((statistics.live_ranges, statistics.largest_free_block), (1, 700));
+    /// ```
     pub fn statistics(&self) -> Statistics
         ensures { AreStatistics result self.now }
     {

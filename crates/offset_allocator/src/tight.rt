@@ -222,6 +222,12 @@ impl<T: Tables> AllocatorOf<T> {
     /// as it was. A request of at least one unit is granted exactly when it is at most the `largest_free_block` of
     /// `statistics` and there is room for one more block. It takes no memory, and makes at most 140 accesses to the
     /// tables, and 6 for each free block of the class of `size`.
+    ///
+    /// ```
+    /// space.allocate(300);
+    /// assert!(space.allocate(700).is_none());
+    /// assert!(space.allocate_tight(700).is_some());
+    /// ```
     pub fn allocate_tight(&mut self, size: u32) -> Option<Allocation<T::Index>>
         // A request of at least one unit is granted exactly when there is room for one more block and the largest free
         // block has `size` units; any request, when there is room, and some free block has `size` units.
@@ -253,6 +259,12 @@ impl<T: Tables> AllocatorOf<T> {
     /// `None` is returned where no free block holds them, or where there is no room for one more block, or for two more if
     /// `align` is above 1; then the space is as it was. It takes no memory, and makes at most 140 accesses to the tables,
     /// and 6 for each free block of the class of `size` or above.
+    ///
+    /// ```
+    /// space.allocate(256);
+    /// assert!(space.allocate_aligned(700, 256).is_none());
+    /// assert_eq!(space.allocate_tight_aligned(700, 256).unwrap().offset, 256);
+    /// ```
     pub fn allocate_tight_aligned(&mut self, size: u32, align: u32) -> Option<Allocation<T::Index>>
         requires power { IsAlignment align }
         // It is granted exactly when there is room for the blocks that it may add, and some free block holds it.
@@ -276,6 +288,12 @@ impl<T: Tables> AllocatorOf<T> {
     /// has fewer units. `Space`: so are all free units together, or there are none. `Fragmented`: they are enough, and
     /// after `compact` the request is granted. It makes at most 2 accesses to the tables, and 6 for each free block of the
     /// class of `size` or above.
+    ///
+    /// ```
+    /// space.allocate(300);
+    /// assert_eq!(space.refusal_tight(700), None);
+    /// assert_eq!(space.refusal_tight(701), Some(Refusal::Space));
+    /// ```
     pub fn refusal_tight(&self, size: u32) -> Option<Refusal>
         ensures granted { result ≡ None ↔ CanHold size 1 self.now }
         ensures why { IfSome result (IsWhyTight size 1 self.now) }
@@ -286,6 +304,12 @@ impl<T: Tables> AllocatorOf<T> {
     /// Why `allocate_tight_aligned(size, align)` would be refused now, or `None` exactly where it would be granted.
     /// `align` has to be a power of two. The reasons are those of `refusal_tight`; but after `compact` the request is
     /// granted only if the free block, where it begins then, holds it.
+    ///
+    /// ```
+    /// space.allocate(300);
+    /// assert_eq!(space.refusal_tight_aligned(400, 256), None);
+    /// assert_eq!(space.refusal_tight_aligned(700, 256), Some(Refusal::Fragmented));
+    /// ```
     pub fn refusal_tight_aligned(&self, size: u32, align: u32) -> Option<Refusal>
         requires power { IsAlignment align }
         ensures granted { result ≡ None ↔ CanHold size align self.now }

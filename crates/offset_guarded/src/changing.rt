@@ -20,6 +20,13 @@ use offset_allocator::{Move, RoomCost, Tables};
 impl<T: Tables> GuardedOf<T> {
     /// Makes the range of a ticket smaller in place, as `Allocator::shrink` does, and returns whether it did;
     /// or `None` where the ticket is not live, and then nothing changes.
+    ///
+    /// ```
+    /// let mesh = guarded.allocate(300).unwrap();
+    /// assert_eq!(guarded.shrink(mesh, 200), Some(true));
+    /// guarded.free(mesh);
+    /// assert_eq!(guarded.shrink(mesh, 100), None);
+    /// ```
     pub fn shrink(&mut self, ticket: Ticket, size: u32) -> Option<bool>
         ensures live { IsSome result ↔ IsLive ticket self.old }
         ensures done { IfSome result (λ done. IsTrue done ↔ CanShrink ticket.name size self.old.space) }
@@ -47,6 +54,12 @@ impl<T: Tables> GuardedOf<T> {
 
     /// Makes the range of a ticket larger in place, as `Allocator::grow_in_place` does, and returns whether
     /// it did; or `None` where the ticket is not live, and then nothing changes.
+    ///
+    /// ```
+    /// let mesh = guarded.allocate(300).unwrap();
+    /// assert_eq!(guarded.grow_in_place(mesh, 400), Some(true));
+    /// assert_eq!(guarded.grow_in_place(mesh, 1001), Some(false));
+    /// ```
     pub fn grow_in_place(&mut self, ticket: Ticket, size: u32) -> Option<bool>
         ensures live { IsSome result ↔ IsLive ticket self.old }
         ensures done { IfSome result (λ done. IsTrue done ↔ CanGrow ticket.name size self.old.space) }
@@ -73,6 +86,11 @@ impl<T: Tables> GuardedOf<T> {
     }
 
     /// Adds `more` units at the end of the space, as `Allocator::extend` does, and returns whether it did.
+    ///
+    /// ```
+    /// assert!(guarded.extend(24));
+    /// assert_eq!(guarded.allocator().size(), 1024);
+    /// ```
     pub fn extend(&mut self, more: u32) -> bool
         ensures done { IsTrue result ↔ (1 ≤ more → CanExtend more self.old.space) }
         // Every ticket keeps its range, and a refusal leaves all as it was.
@@ -90,6 +108,14 @@ impl<T: Tables> GuardedOf<T> {
 
     /// Slides every live range to the front of the space, as `Allocator::compact` does. Every ticket stays
     /// live, with its size; `offset_of` returns where its range begins.
+    ///
+    /// ```
+    /// let hole = guarded.allocate(300).unwrap();
+    /// let mesh = guarded.allocate(100).unwrap();
+    /// guarded.free(hole);
+    /// guarded.compact(&mut |it| assert_eq!((it.from, it.to, it.size), (300, 0, 100)));
+    /// assert_eq!(guarded.offset_of(mesh), Some(0));
+    /// ```
     pub fn compact<F: FnMut(Move<T::Index>)>(&mut self, moved: &mut F)
         requires callable { F.IsAlwaysCallable moved.old }
         ensures sizes { KeepsSizes self.old self.new }
@@ -106,6 +132,15 @@ impl<T: Tables> GuardedOf<T> {
 
     /// Makes room for a request of `size` units, where ranges have to move for it, as `Allocator::make_room` does. Every
     /// ticket stays live, with its size; `offset_of` returns where its range begins.
+    ///
+    /// ```
+    /// let hole = guarded.allocate(300).unwrap();
+    /// guarded.allocate(100);
+    /// guarded.free(hole);
+    /// assert!(guarded.allocate(800).is_none());
+    /// guarded.make_room(800, &mut |it| assert_eq!((it.from, it.to, it.size), (300, 0, 100)));
+    /// assert!(guarded.allocate(800).is_some());
+    /// ```
     pub fn make_room<F: FnMut(Move<T::Index>)>(
         &mut self,
         size: u32,

@@ -26,6 +26,12 @@ impl<T: Tables> GuardedOf<T> {
 
     /// The ticket of the live range that is the first one in space, as `Allocator::first_live` finds it, or
     /// `None` where none is live. Its offset is where the range begins now, as in what `ticket` returns.
+    ///
+    /// ```
+    /// let mesh = guarded.allocate(300);
+    /// guarded.allocate(100);
+    /// assert_eq!(guarded.first_live(), mesh);
+    /// ```
     pub fn first_live(&self) -> Option<Ticket>
         ensures { result ≡ option_map (λ (h : Grant). ticket_at h self.now) (first_live self.now.space) }
     {
@@ -37,6 +43,12 @@ impl<T: Tables> GuardedOf<T> {
 
     /// The ticket of the live range that is the last one in space, as `Allocator::last_live` finds it, or
     /// `None` where none is live. Its offset is where the range begins now, as in what `ticket` returns.
+    ///
+    /// ```
+    /// guarded.allocate(300);
+    /// let texture = guarded.allocate(100);
+    /// assert_eq!(guarded.last_live(), texture);
+    /// ```
     pub fn last_live(&self) -> Option<Ticket>
         ensures { result ≡ option_map (λ (h : Grant). ticket_at h self.now) (last_live self.now.space) }
     {
@@ -48,6 +60,12 @@ impl<T: Tables> GuardedOf<T> {
 
     /// The ticket of the live range directly before that of a ticket. `None` where there is none, or where
     /// the ticket is not live.
+    ///
+    /// ```
+    /// let mesh = guarded.allocate(300);
+    /// let texture = guarded.allocate(100).unwrap();
+    /// assert_eq!(guarded.live_before(texture), mesh);
+    /// ```
     pub fn live_before(&self, ticket: Ticket) -> Option<Ticket>
         ensures before { IsLive ticket self.now → result
             ≡ option_map (λ (h : Grant). ticket_at h self.now) (live_before ticket.name self.now.space) }
@@ -64,6 +82,12 @@ impl<T: Tables> GuardedOf<T> {
 
     /// The ticket of the live range directly after that of a ticket. `None` where there is none, or where
     /// the ticket is not live.
+    ///
+    /// ```
+    /// let mesh = guarded.allocate(300).unwrap();
+    /// let texture = guarded.allocate(100);
+    /// assert_eq!(guarded.live_after(mesh), texture);
+    /// ```
     pub fn live_after(&self, ticket: Ticket) -> Option<Ticket>
         ensures after { IsLive ticket self.now → result
             ≡ option_map (λ (h : Grant). ticket_at h self.now) (live_after ticket.name self.now.space) }
@@ -80,6 +104,12 @@ impl<T: Tables> GuardedOf<T> {
 
     /// Takes `less` free units off the end of the space, as `Allocator::retract` does, and returns whether it
     /// did.
+    ///
+    /// ```
+    /// guarded.allocate(300);
+    /// assert!(guarded.retract(700));
+    /// assert_eq!(guarded.allocator().size(), 300);
+    /// ```
     pub fn retract(&mut self, less: u32) -> bool
         ensures done { IsTrue result ↔ (1 ≤ less → CanRetract less self.old.space) }
         // Every ticket keeps its range, and a refusal leaves all as it was.

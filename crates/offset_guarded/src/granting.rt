@@ -59,6 +59,12 @@ impl<T: Tables> GuardedOf<T> {
     ///
     /// `None` is returned where that call returns `None`, or where all serials are given; then all is as it
     /// was.
+    ///
+    /// ```
+    /// let mesh = guarded.allocate(300).unwrap();
+    /// assert_eq!(guarded.offset_of(mesh), Some(0));
+    /// assert!(guarded.allocate(701).is_none());
+    /// ```
     #[inline(always)]
     pub fn allocate(&mut self, size: u32) -> Option<Ticket>
         // It is granted exactly when a serial is left and the allocator can grant it: for at least one unit,
@@ -90,6 +96,12 @@ impl<T: Tables> GuardedOf<T> {
     ///
     /// `None` is returned where that call returns `None`, or where all serials are given; then all is as it
     /// was.
+    ///
+    /// ```
+    /// guarded.allocate(10);
+    /// let uniforms = guarded.allocate_aligned(300, 256).unwrap();
+    /// assert_eq!(guarded.offset_of(uniforms), Some(256));
+    /// ```
     pub fn allocate_aligned(&mut self, size: u32, align: u32) -> Option<Ticket>
         requires power { IsAlignment align }
         ensures can_grant { IsSome result ↔ (HasSerialLeft self.old
@@ -115,6 +127,12 @@ impl<T: Tables> GuardedOf<T> {
     ///
     /// `None` is returned where that call returns `None`, or where all serials are given; then all is as it
     /// was.
+    ///
+    /// ```
+    /// guarded.allocate(300);
+    /// assert!(guarded.allocate(700).is_none());
+    /// assert!(guarded.allocate_tight(700).is_some());
+    /// ```
     pub fn allocate_tight(&mut self, size: u32) -> Option<Ticket>
         // It is granted exactly when a serial is left and there is room for one more block and a free block
         // of `size` units.
@@ -140,6 +158,12 @@ impl<T: Tables> GuardedOf<T> {
     ///
     /// `None` is returned where that call returns `None`, or where all serials are given; then all is as it
     /// was.
+    ///
+    /// ```
+    /// guarded.allocate(256);
+    /// assert!(guarded.allocate_aligned(700, 256).is_none());
+    /// assert_eq!(guarded.allocate_tight_aligned(700, 256).unwrap().offset, 256);
+    /// ```
     pub fn allocate_tight_aligned(&mut self, size: u32, align: u32) -> Option<Ticket>
         requires power { IsAlignment align }
         ensures can_hold { IsSome result ↔ (HasSerialLeft self.old × CanHold size align self.old.space) }
@@ -165,6 +189,15 @@ impl<T: Tables> GuardedOf<T> {
     ///
     /// `None` is returned where that call returns `None`, where the ticket is not live, or where all serials
     /// are given; then all is as it was.
+    ///
+    /// ```
+    /// let hole = guarded.allocate(320).unwrap();
+    /// let mesh = guarded.allocate(320).unwrap();
+    /// guarded.free(hole);
+    /// let moved = guarded.relocate(mesh).unwrap();
+    /// assert_eq!((mesh.offset, moved.offset), (320, 0));
+    /// guarded.free(mesh);
+    /// ```
     pub fn relocate(&mut self, ticket: Ticket) -> Option<Ticket>
         ensures live { IsSome result → IsLive ticket self.old × HasSerialLeft self.old }
         ensures grants { IfSome result (Grants (size_of ticket.name self.old.space) self.old self.new) }
@@ -188,6 +221,11 @@ impl<T: Tables> GuardedOf<T> {
     }
 
     /// Why `allocate(size)` would be refused now, or `None` exactly where it would be granted.
+    ///
+    /// ```
+    /// assert_eq!(guarded.refusal(300), None);
+    /// assert_eq!(guarded.refusal(1001).unwrap().to_string(), "the request is too large for the space");
+    /// ```
     pub fn refusal(&self, size: u32) -> Option<Refusal>
         ensures granted { result ≡ None ↔ (HasSerialLeft self.now × CanGrant 1 size self.now.space) }
         ensures why { IfSome result (IsWhy 1 size self.now) }
@@ -202,6 +240,11 @@ impl<T: Tables> GuardedOf<T> {
     }
 
     /// Why `allocate_aligned(size, align)` would be refused now, or `None` exactly where it would be granted.
+    ///
+    /// ```
+    /// assert_eq!(guarded.refusal_aligned(900, 4), None);
+    /// assert!(guarded.refusal_aligned(900, 256).is_some());
+    /// ```
     pub fn refusal_aligned(&self, size: u32, align: u32) -> Option<Refusal>
         requires power { IsAlignment align }
         ensures granted { result ≡ None ↔ (HasSerialLeft self.now
@@ -218,6 +261,12 @@ impl<T: Tables> GuardedOf<T> {
     }
 
     /// Why `allocate_tight(size)` would be refused now, or `None` exactly where it would be granted.
+    ///
+    /// ```
+    /// guarded.allocate(300);
+    /// assert_eq!(guarded.refusal_tight(700), None);
+    /// assert!(guarded.refusal_tight(701).is_some());
+    /// ```
     pub fn refusal_tight(&self, size: u32) -> Option<Refusal>
         ensures granted { result ≡ None ↔ (HasSerialLeft self.now × CanHold size 1 self.now.space) }
         ensures why { IfSome result (IsWhyTight size 1 self.now) }
@@ -233,6 +282,12 @@ impl<T: Tables> GuardedOf<T> {
 
     /// Why `allocate_tight_aligned(size, align)` would be refused now, or `None` exactly where it would be
     /// granted.
+    ///
+    /// ```
+    /// guarded.allocate(300);
+    /// assert_eq!(guarded.refusal_tight_aligned(400, 256), None);
+    /// assert!(guarded.refusal_tight_aligned(700, 256).is_some());
+    /// ```
     pub fn refusal_tight_aligned(&self, size: u32, align: u32) -> Option<Refusal>
         requires power { IsAlignment align }
         ensures granted { result ≡ None ↔ (HasSerialLeft self.now × CanHold size align self.now.space) }

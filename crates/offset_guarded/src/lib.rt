@@ -76,7 +76,14 @@ impl<T: Tables> GuardedOf<T> {
     /// A space of `size` units, all free, with the smaller of 131072 and `T::Index::MAX - 2` as the node
     /// limit. The realm is kept in its tickets: a ticket of another realm is never live here.
     ///
+    /// # Errors
+    ///
     /// An error is returned only where an allocation failed; then nothing is made.
+    ///
+    /// ```
+    /// let mut guarded = Guarded::<u32>::new(alloc, 1 << 20, 7)?;
+    /// assert_eq!(guarded.allocate(300).unwrap().realm, 7);
+    /// ```
     #[track_caller]
     pub fn new(alloc: Global, size: u32, realm: u32) -> Result<Self, AllocError>
         ensures space { IfOk result (λ g. IsFresh size (min 131072 (T.Index.MAX - 2)) g.space) }
@@ -89,7 +96,15 @@ impl<T: Tables> GuardedOf<T> {
     /// `T::Index::MAX - 2`. It reserves what an `AllocatorOf<T>` does and 8 bytes a node, all of them here;
     /// those of a node are written by the first call after it was made that may make nodes.
     ///
+    /// # Errors
+    ///
     /// An error is returned only where an allocation failed; then nothing is made.
+    ///
+    /// ```
+    /// let mut guarded = Guarded::<u16>::with_max_allocs(alloc, 1000, 3, 1)?;
+    /// assert!(guarded.allocate(10).is_some());
+    /// assert!(guarded.allocate(10).is_none());
+    /// ```
     pub fn with_max_allocs(
         alloc: Global,
         size: u32,
@@ -116,7 +131,16 @@ impl<T: Tables> GuardedOf<T> {
     /// grant of one may have a ticket that is live in the other, for another range: use one copy in place of
     /// the other, as a snapshot, and not beside it.
     ///
+    /// # Errors
+    ///
     /// An error is returned only where an allocation failed; then nothing is made.
+    ///
+    /// ```
+    /// let mesh = guarded.allocate(300).unwrap();
+    /// let copy = guarded.try_clone(alloc)?;
+    /// guarded.free(mesh);
+    /// assert!(copy.is_live(mesh));
+    /// ```
     pub fn try_clone(&self, alloc: Global) -> Result<Self, AllocError>
         ensures { IfOk result (IsCopy self.now) }
     {
@@ -131,6 +155,11 @@ impl<T: Tables> GuardedOf<T> {
 
     /// The allocator, to read: its reports and statistics, whether nothing is live, its blocks, its sizes,
     /// and why it refuses a request.
+    ///
+    /// ```
+    /// guarded.allocate(300);
+    /// assert_eq!(guarded.allocator().live_units(), 300);
+    /// ```
     pub fn allocator(&self) -> &AllocatorOf<T>
         ensures { result.now ≡ self.now.space }
     {
@@ -138,6 +167,10 @@ impl<T: Tables> GuardedOf<T> {
     }
 
     /// The realm of its tickets.
+    ///
+    /// ```
+    /// assert_eq!(guarded.realm(), 1);
+    /// ```
     pub fn realm(&self) -> u32
         ensures { result ≡ self.now.realm }
     {
@@ -145,6 +178,10 @@ impl<T: Tables> GuardedOf<T> {
     }
 
     /// Whether all serials are given, after 18446744073709551615 grants. Then every request is refused.
+    ///
+    /// ```
+    /// assert!(!guarded.is_spent());
+    /// ```
     pub fn is_spent(&self) -> bool
         ensures { IsTrue result ↔ (self.now.given ≡ last_serial) }
     {
@@ -175,6 +212,13 @@ impl<T: Tables> GuardedOf<T> {
 
     /// Whether a ticket is live here: it has the realm, and the grant that gave it was neither freed nor
     /// reset since.
+    ///
+    /// ```
+    /// let mesh = guarded.allocate(300).unwrap();
+    /// guarded.free(mesh);
+    /// guarded.allocate(300);
+    /// assert!(!guarded.is_live(mesh));
+    /// ```
     pub fn is_live(&self, ticket: Ticket) -> bool
         ensures { IsTrue result ↔ IsLive ticket self.now }
     {
@@ -182,6 +226,11 @@ impl<T: Tables> GuardedOf<T> {
     }
 
     /// The units of the range of a ticket, or `None` where it is not live.
+    ///
+    /// ```
+    /// let mesh = guarded.allocate(300).unwrap();
+    /// assert_eq!(guarded.size_of(mesh), Some(300));
+    /// ```
     pub fn size_of(&self, ticket: Ticket) -> Option<u32>
         ensures { result ≡ option_map (λ (r : Range). r.size) (range_of ticket self.now) }
     {
@@ -196,6 +245,13 @@ impl<T: Tables> GuardedOf<T> {
     ///
     /// The `offset` of the ticket is where the range began when the ticket was made. `compact` does not
     /// change it.
+    ///
+    /// ```
+    /// let mesh = guarded.allocate(300).unwrap();
+    /// assert_eq!(guarded.offset_of(mesh), Some(0));
+    /// guarded.reset();
+    /// assert_eq!(guarded.offset_of(mesh), None);
+    /// ```
     pub fn offset_of(&self, ticket: Ticket) -> Option<u32>
         ensures { result ≡ option_map (λ (r : Range). r.offset) (range_of ticket self.now) }
     {
@@ -209,6 +265,12 @@ impl<T: Tables> GuardedOf<T> {
     /// `None` where the handle is not live. Its offset is where the range begins now: the ticket that the
     /// grant returned has another one where `compact` moved the range, and is live as well, but not equal to
     /// this one.
+    ///
+    /// ```
+    /// let mesh = guarded.allocate(300).unwrap();
+    /// let block = guarded.allocator().blocks().last().unwrap();
+    /// assert_eq!(guarded.ticket(block.allocation.unwrap()), Some(mesh));
+    /// ```
     pub fn ticket(&self, handle: Allocation<T::Index>) -> Option<Ticket>
         ensures { MatchOption result (named.range_of handle.name self.now.space ≡ None)
             (λ t. (t ≡ record {
@@ -237,6 +299,12 @@ impl<T: Tables> GuardedOf<T> {
     ///
     /// It reads at most one serial, and makes at most 136 accesses to the tables of the allocator: 8 to see
     /// whether the name is live, and 128 to free it.
+    ///
+    /// ```
+    /// let mesh = guarded.allocate(300).unwrap();
+    /// assert!(guarded.free(mesh));
+    /// assert!(!guarded.free(mesh));
+    /// ```
     #[inline(always)]
     pub fn free(&mut self, ticket: Ticket) -> bool
         // It is done exactly when the ticket is live.
@@ -262,6 +330,12 @@ impl<T: Tables> GuardedOf<T> {
 
     /// Makes the whole space one free block again, as `Allocator::reset` does. No earlier ticket is ever live
     /// again.
+    ///
+    /// ```
+    /// let mesh = guarded.allocate(300).unwrap();
+    /// guarded.reset();
+    /// assert!(!guarded.is_live(mesh));
+    /// ```
     pub fn reset(&mut self)
         ensures gone { (t : Ticket) → range_of t self.new ≡ None }
         ensures size { self.new.space.size ≡ self.old.space.size }

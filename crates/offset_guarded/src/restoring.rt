@@ -119,8 +119,18 @@ impl<T: Tables> GuardedOf<T> {
     ///
     /// `most_allocs` is the largest node limit that is accepted, since memory for the limit is reserved, as
     /// by `with_max_allocs`. Nothing else that is requested is more than 8 bytes for each 8 that were given.
-    /// It takes time for the bytes. An error is returned only where an allocation failed; then nothing is
-    /// made.
+    /// It takes time for the bytes.
+    ///
+    /// # Errors
+    ///
+    /// An error is returned only where an allocation failed; then nothing is made.
+    ///
+    /// ```
+    /// let mesh = guarded.allocate(300).unwrap();
+    /// let bytes = guarded.write_state(alloc)?;
+    /// let same = Guarded::<u32>::read_state(alloc, &bytes, 131_072)?.unwrap();
+    /// assert!(same.is_live(mesh));
+    /// ```
     pub fn read_state(
         alloc: Global,
         bytes: &[u8],

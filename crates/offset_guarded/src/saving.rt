@@ -35,7 +35,17 @@ impl<T: Tables> GuardedOf<T> {
     /// 64 bits, the lowest byte of each first: 1263812943 and the version 1, how many serials are stored and
     /// how many were given, the realm, the serials by name, and a checksum.
     ///
-    /// It takes time for the nodes that were made. An error is returned only where an allocation failed.
+    /// It takes time for the nodes that were made.
+    ///
+    /// # Errors
+    ///
+    /// An error is returned only where an allocation failed.
+    ///
+    /// ```
+    /// let bytes = guarded.write_state(alloc)?;
+    /// let same = Guarded::<u32>::read_state(alloc, &bytes, 131_072)?.unwrap();
+    /// assert_eq!(same.realm(), 1);
+    /// ```
     pub fn write_state(&self, alloc: Global) -> Result<Vec<u8>, AllocError>
         ensures { IfOk result (λ bytes. IsStateOf self.now bytes.items) }
     {

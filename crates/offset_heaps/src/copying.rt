@@ -64,7 +64,16 @@ impl<T: Tables> HeapsOf<T> {
     /// place of the other, as a snapshot, and not beside it. Nothing is known of the buffers: the copy has
     /// those of the heaps that it has.
     ///
+    /// # Errors
+    ///
     /// An error is returned only where an allocation failed; then nothing is made.
+    ///
+    /// ```
+    /// let mesh = heaps.allocate(300).unwrap().place;
+    /// let copy = heaps.try_clone(alloc)?;
+    /// heaps.free(mesh);
+    /// assert!(copy.is_live(mesh));
+    /// ```
     pub fn try_clone(&self, alloc: Global) -> Result<Self, AllocError>
         ensures { IfOk result (IsCopy self.now) }
     {

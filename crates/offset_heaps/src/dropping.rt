@@ -47,6 +47,13 @@ impl<T: Tables> HeapsOf<T> {
     ///
     /// No place loses its range, and a place that the heap granted is never live again, though a later heap
     /// may have its number. It reads the slot of each number once.
+    ///
+    /// ```
+    /// let mesh = heaps.allocate(300).unwrap().place;
+    /// assert_eq!(heaps.drop_empty(0), None);
+    /// heaps.free(mesh);
+    /// assert_eq!(heaps.drop_empty(0), Some(mesh.heap));
+    /// ```
     pub fn drop_empty(&mut self, keep: u32) -> Option<u32>
         ensures kept { result ≡ None ↔ (empties self.old.slots ≤ keep) }
         ensures same { result ≡ None → IsSame self.old self.new }
@@ -70,6 +77,13 @@ impl<T: Tables> HeapsOf<T> {
 
     /// Drops the heap of a number, if it is empty, and returns whether it did: then drop its buffer. A caller
     /// that asks this of the heap of each place that it frees keeps no empty heap, and walks over none.
+    ///
+    /// ```
+    /// let mesh = heaps.allocate(300).unwrap().place;
+    /// assert!(!heaps.drop_heap(mesh.heap));
+    /// heaps.free(mesh);
+    /// assert!(heaps.drop_heap(mesh.heap));
+    /// ```
     pub fn drop_heap(&mut self, number: u32) -> bool
         ensures done { IsTrue result ↔ (is_empty (heap_at number self.old) ≡ true) }
         ensures heaps { result ≡ true → Puts number None self.old self.new }
@@ -86,6 +100,12 @@ impl<T: Tables> HeapsOf<T> {
     /// Takes back the heap of a number, with all that it granted, and returns whether there was one: where
     /// the buffer of a new heap can't be made, or is lost. No place of it is ever live again, and all other
     /// heaps stay.
+    ///
+    /// ```
+    /// let mesh = heaps.allocate(300).unwrap().place;
+    /// assert!(heaps.give_up(mesh.heap));
+    /// assert!(!heaps.is_live(mesh));
+    /// ```
     pub fn give_up(&mut self, number: u32) -> bool
         ensures done { IsTrue result ↔ IsSome (heap_at number self.old) }
         // Then its number has no heap, and all else stays.
@@ -108,6 +128,12 @@ impl<T: Tables> HeapsOf<T> {
     /// Frees the range of a place, as `GuardedOf::free` does in its heap, and returns `true`; or `false`
     /// where the place is not live, and then nothing changes. The heap stays, also where it is empty then:
     /// `drop_empty` drops it.
+    ///
+    /// ```
+    /// let mesh = heaps.allocate(300).unwrap().place;
+    /// assert!(heaps.free(mesh));
+    /// assert!(!heaps.free(mesh));
+    /// ```
     pub fn free(&mut self, place: Place) -> bool
         // It is done exactly when the place is live.
         ensures done { IsTrue result ↔ IsLive place self.old }
@@ -137,6 +163,13 @@ impl<T: Tables> HeapsOf<T> {
 
     /// Makes the space of each heap one free block again. No earlier place is ever live again. All heaps
     /// stay, for `drop_empty`.
+    ///
+    /// ```
+    /// let mesh = heaps.allocate(300).unwrap().place;
+    /// heaps.reset();
+    /// assert!(!heaps.is_live(mesh));
+    /// assert_eq!(heaps.totals().heaps, 1);
+    /// ```
     pub fn reset(&mut self)
         ensures gone { (p : Place) → range_of p self.new ≡ None }
         ensures heaps { (k : ℕ) → ResetsIn (heap_at k self.old) (heap_at k self.new) }

@@ -248,6 +248,13 @@ impl<T: Tables> HeapsOf<T> {
     ///
     /// A heap has room exactly for requests up to the `largest_free_region` of its report, while it has a
     /// serial left: see `laws::room_is_reported`.
+    ///
+    /// ```
+    /// let mesh = heaps.allocate(300).unwrap();
+    /// assert!(mesh.is_new);
+    /// let level = heaps.allocate(5000).unwrap();
+    /// assert_eq!(heaps.size_of(level.place), Some(5000));
+    /// ```
     pub fn allocate(&mut self, size: u32) -> Result<Granted, Refusal>
         ensures no_room { IsForRoom result
             ↔ ((1 ≤ size) × NoneFits 1 size self.old × ((k : ℕ) → IsNext size k self.old → ⊥)) }
@@ -276,6 +283,12 @@ impl<T: Tables> HeapsOf<T> {
     /// then memory is requested.
     ///
     /// Where the request is refused, all is as it was, and the `Refusal` says why.
+    ///
+    /// ```
+    /// heaps.allocate(10).unwrap();
+    /// let uniforms = heaps.allocate_aligned(300, 256).unwrap().place;
+    /// assert_eq!(heaps.offset_of(uniforms), Some(256));
+    /// ```
     pub fn allocate_aligned(&mut self, size: u32, align: u32) -> Result<Granted, Refusal>
         requires power { IsAlignment align }
         // It is refused for room exactly when no heap has room, and no other may be made for it.

@@ -98,7 +98,15 @@ impl<T: Tables> HeapsOf<T> {
     /// first request that none has room for. The realm is kept in places: a place of another realm is never
     /// live here.
     ///
+    /// # Errors
+    ///
     /// An error is returned only where an allocation failed; then nothing is made.
+    ///
+    /// ```
+    /// let limits = Limits { size: 1 << 24, max_allocs: 4096, most: 64, most_larger: 16 };
+    /// let heaps = Heaps::<u32>::new(alloc, limits, 1)?;
+    /// assert_eq!(heaps.totals().heaps, 0);
+    /// ```
     pub fn new(alloc: Global, limits: Limits, realm: u32) -> Result<Self, AllocError>
         requires limit_min { 4 ≤ limits.max_allocs }
         requires limit_max { limits.max_allocs + 1 < T.Index.MAX }
@@ -126,6 +134,10 @@ impl<T: Tables> HeapsOf<T> {
     }
 
     /// The limits.
+    ///
+    /// ```
+    /// assert_eq!(heaps.limits().most, 2);
+    /// ```
     pub fn limits(&self) -> Limits
         ensures { result ≡ self.now.limits }
     {
@@ -133,6 +145,10 @@ impl<T: Tables> HeapsOf<T> {
     }
 
     /// The realm of its places.
+    ///
+    /// ```
+    /// assert_eq!(heaps.realm(), 1);
+    /// ```
     pub fn realm(&self) -> u32
         ensures { result ≡ self.now.realm }
     {
@@ -141,6 +157,11 @@ impl<T: Tables> HeapsOf<T> {
 
     /// The heap of a number, to read: its reports, its statistics, its blocks. `None` is returned where the
     /// number has no heap.
+    ///
+    /// ```
+    /// let mesh = heaps.allocate(300).unwrap().place;
+    /// assert_eq!(heaps.heap(mesh.heap).unwrap().allocator().live_units(), 300);
+    /// ```
     pub fn heap(&self, number: u32) -> Option<&GuardedOf<T>>
         ensures { option_copied result ≡ heap_at number self.now }
     {
@@ -160,6 +181,12 @@ impl<T: Tables> HeapsOf<T> {
 
     /// Whether a place is live here: it has the realm, and its range was not freed, its heap not given up and
     /// nothing was reset since.
+    ///
+    /// ```
+    /// let mesh = heaps.allocate(300).unwrap().place;
+    /// heaps.free(mesh);
+    /// assert!(!heaps.is_live(mesh));
+    /// ```
     pub fn is_live(&self, place: Place) -> bool
         ensures { IsTrue result ↔ IsLive place self.now }
     {
@@ -170,6 +197,11 @@ impl<T: Tables> HeapsOf<T> {
     }
 
     /// The units of the range of a place, or `None` where it is not live.
+    ///
+    /// ```
+    /// let mesh = heaps.allocate(300).unwrap().place;
+    /// assert_eq!(heaps.size_of(mesh), Some(300));
+    /// ```
     pub fn size_of(&self, place: Place) -> Option<u32>
         ensures { result ≡ option_map (λ (r : Range). r.size) (range_of place self.now) }
     {
@@ -181,6 +213,11 @@ impl<T: Tables> HeapsOf<T> {
 
     /// Where the range of a place begins, in units from the start of its heap, or `None` where it is not
     /// live.
+    ///
+    /// ```
+    /// let mesh = heaps.allocate(300).unwrap().place;
+    /// assert_eq!(heaps.offset_of(mesh), Some(0));
+    /// ```
     pub fn offset_of(&self, place: Place) -> Option<u32>
         ensures { result ≡ option_map (λ (r : Range). r.offset) (range_of place self.now) }
     {

@@ -81,6 +81,15 @@ impl<T: Tables> HeapsOf<T> {
     /// `None` is returned where no heap takes the range, and where the place is not live; then nothing
     /// changes. It looks for the first heap that has room as `allocate` does, and from there on reads each
     /// slot once, up to the one that takes the range.
+    ///
+    /// ```
+    /// heaps.allocate(500).unwrap();
+    /// let old = heaps.allocate(400).unwrap().place;
+    /// let mesh = heaps.allocate(300).unwrap().place;
+    /// heaps.free(old);
+    /// let moved = heaps.relocate(mesh).unwrap();
+    /// assert_eq!((mesh.heap, moved.heap), (1, 0));
+    /// ```
     pub fn relocate(&mut self, place: Place) -> Option<Place>
         // It is refused exactly where no heap takes the range, and then all is as it was.
         ensures none { result ≡ None ↔ NoneTakes place self.old }
@@ -119,6 +128,12 @@ impl<T: Tables> HeapsOf<T> {
     /// The number of the heap with the fewest live units of those that have a live range, the last such by
     /// number, or `None` where nothing is live: the heap that is emptied with the least copies. It reads the
     /// slot of each number once.
+    ///
+    /// ```
+    /// assert_eq!(heaps.emptiest(), None);
+    /// let mesh = heaps.allocate(300).unwrap().place;
+    /// assert_eq!(heaps.emptiest(), Some(mesh.heap));
+    /// ```
     pub fn emptiest(&self) -> Option<u32>
         ensures { MatchOption result (NoneLive (numbers self.now) self.now.slots)
             (IsEmptiest (numbers self.now) self.now.slots) }
@@ -129,6 +144,12 @@ impl<T: Tables> HeapsOf<T> {
     /// The place of the live range that is the last one in the heap of a number, or `None` where nothing is
     /// live in it, or the number has no heap. From it on, `live_before` walks all live ranges of the heap;
     /// they may be freed on the way, after the next one is asked for.
+    ///
+    /// ```
+    /// let mesh = heaps.allocate(300).unwrap().place;
+    /// let texture = heaps.allocate(100).unwrap().place;
+    /// assert_eq!(heaps.last_live(mesh.heap), Some(texture));
+    /// ```
     pub fn last_live(&self, heap: u32) -> Option<Place>
         ensures { result ≡ last_place heap self.now.realm (heap_at heap self.now) }
     {
@@ -140,6 +161,12 @@ impl<T: Tables> HeapsOf<T> {
 
     /// The place of the live range directly before that of a place in its heap. `None` where there is none,
     /// or where the place is not live.
+    ///
+    /// ```
+    /// let mesh = heaps.allocate(300).unwrap().place;
+    /// let texture = heaps.allocate(100).unwrap().place;
+    /// assert_eq!(heaps.live_before(texture), Some(mesh));
+    /// ```
     pub fn live_before(&self, place: Place) -> Option<Place>
         ensures before { IsLive place self.now → result
             ≡ place_before place.heap self.now.realm place.ticket (heap_at place.heap self.now) }

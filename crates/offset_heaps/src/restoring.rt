@@ -208,8 +208,18 @@ impl<T: Tables> HeapsOf<T> {
     /// `most_heaps` is the largest `most + most_larger` that is accepted, and `most_allocs` the largest node
     /// limit, of the limits and of each heap, since memory for these is reserved, as by `new` and by
     /// `GuardedOf::with_max_allocs`; and for a number only where 8 bytes were given for it. It takes time for
-    /// the bytes, and some steps for each bit of the numbers for each of them. An error is returned only
-    /// where an allocation failed; then nothing is made.
+    /// the bytes, and some steps for each bit of the numbers for each of them.
+    ///
+    /// # Errors
+    ///
+    /// An error is returned only where an allocation failed; then nothing is made.
+    ///
+    /// ```
+    /// let mesh = heaps.allocate(300).unwrap().place;
+    /// let bytes = heaps.write_state(alloc)?;
+    /// let same = Heaps::<u32>::read_state(alloc, &bytes, 100, 1000)?.unwrap();
+    /// assert!(same.is_live(mesh));
+    /// ```
     pub fn read_state(
         alloc: Global,
         bytes: &[u8],

@@ -54,8 +54,17 @@ impl<T: Tables> HeapsOf<T> {
     /// state of each number's heap begins behind these numbers, and where the last one ends, so that a number
     /// without a heap has no bytes; and a checksum. The index of the heaps is not stored.
     ///
-    /// It takes time for the numbers, and for the nodes that were made. An error is returned only where an
-    /// allocation failed.
+    /// It takes time for the numbers, and for the nodes that were made.
+    ///
+    /// # Errors
+    ///
+    /// An error is returned only where an allocation failed.
+    ///
+    /// ```
+    /// let bytes = heaps.write_state(alloc)?;
+    /// let same = Heaps::<u32>::read_state(alloc, &bytes, 100, 1000)?.unwrap();
+    /// assert_eq!(same.limits(), heaps.limits());
+    /// ```
     pub fn write_state(&self, alloc: Global) -> Result<Vec<u8>, AllocError>
         ensures { IfOk result (λ bytes. IsStateOf self.now bytes.items) }
     {

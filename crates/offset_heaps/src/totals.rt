@@ -78,6 +78,12 @@ impl<T: Tables> HeapsOf<T> {
     ghost use Rattle.offset_heaps.specs.Heaps.{AreTotals};
 
     /// What is live and what is free, in all heaps together.
+    ///
+    /// ```
+    /// heaps.allocate(300).unwrap();
+    /// let totals = heaps.totals();
+    /// assert_eq!((totals.heaps, totals.live_units, totals.free_units), (1, 300, 700));
+    /// ```
     pub fn totals(&self) -> Totals
         ensures totals { AreTotals result self.now.slots }
         // No unit is lost.

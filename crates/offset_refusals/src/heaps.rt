@@ -6,6 +6,7 @@ use crate::outcomes::Failure;
 use offset_allocator::{NodeIndex, Tables};
 use offset_heaps::{HeapsOf, Limits, Place, Refusal, Totals};
 use offset_script::Script;
+use offset_test_base::random::Random;
 use std::alloc::Global;
 
 // Room for four heaps of a script's size and node limit, and for three larger ones.
@@ -101,14 +102,13 @@ fn call<T: Tables>(heaps: &mut HeapsOf<T>, place: Place, kind: u32, number: u32)
 // Makes 1,000 calls of every kind, and returns a checksum of their results.
 fn checksum<T: Tables>(heaps: &mut HeapsOf<T>, made: &mut Counts) -> Result<u64, Failure> {
     let mut kept: [Option<Place>; 16] = [None; 16];
-    let mut state = 1u64;
+    let mut random = Random::new(1);
     let mut sum = 0u64;
     for _ in 0..1_000u32 {
-        state = state.wrapping_mul(1_103_515_245).wrapping_add(12_345) % 2_147_483_648;
-        let number = state / 65_536;
+        let number = random.advance();
         if let Some(kept) = kept.get_mut((number / 16 % 16) as usize) {
-            let kind = (number % 16) as u32;
-            let size = (number / 256 % 100) as u32;
+            let kind = number % 16;
+            let size = number / 256 % 100;
             let answer = match *kept {
                 None => request(heaps, kept, made, kind, size)?,
                 Some(place) => {

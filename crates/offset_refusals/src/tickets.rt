@@ -6,6 +6,7 @@ use crate::outcomes::Failure;
 use offset_allocator::{NodeIndex, Tables};
 use offset_guarded::{GuardedOf, Ticket};
 use offset_script::Script;
+use offset_test_base::random::Random;
 use std::alloc::Global;
 
 // Makes one call. It returns the result as a number.
@@ -57,18 +58,12 @@ fn call<T: Tables>(
 // Makes 1,000 calls of every kind, and returns a checksum of their results.
 fn checksum<T: Tables>(space: &mut GuardedOf<T>) -> u64 {
     let mut kept: [Option<Ticket>; 16] = [None; 16];
-    let mut state = 1u64;
+    let mut random = Random::new(1);
     let mut sum = 0u64;
     for _ in 0..1_000u32 {
-        state = state.wrapping_mul(1_103_515_245).wrapping_add(12_345) % 2_147_483_648;
-        let number = state / 65_536;
+        let number = random.advance();
         if let Some(kept) = kept.get_mut((number / 16 % 16) as usize) {
-            let answer = call(
-                space,
-                kept,
-                (number % 16) as u32,
-                (number / 256 % 100) as u32,
-            );
+            let answer = call(space, kept, number % 16, number / 256 % 100);
             sum = sum.wrapping_mul(31).wrapping_add(answer);
         }
     }

@@ -8,8 +8,6 @@ mod calls;
 #[cfg(test)]
 mod layouts;
 #[cfg(test)]
-mod numbers;
-#[cfg(test)]
 mod pictures;
 #[cfg(test)]
 mod playing;

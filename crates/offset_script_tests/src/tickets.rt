@@ -2,9 +2,9 @@
 ghost use Rattle.std.specs.Prelude.{◌<◌};
 
 use crate::asserts::{assert_same, assert_that};
-use crate::numbers::Numbers;
 use offset_allocator::{ByNode, NodeIndex, Tables};
 use offset_guarded::{GuardedOf, Ticket};
+use offset_test_base::random::Random;
 use std::alloc::Global;
 use std::process::Abort;
 
@@ -50,15 +50,15 @@ impl Plain {
 }
 
 // A ticket: one of those given, stale or live, as it is or altered, or random numbers.
-fn any_ticket(numbers: &mut Numbers, given: &[Ticket]) -> Ticket {
+fn any_ticket(random: &mut Random, given: &[Ticket]) -> Ticket {
     let mut ticket = Ticket {
-        offset: numbers.advance(),
-        name: numbers.advance() % 80,
-        serial: u64::from(numbers.advance() % 2_000),
-        realm: numbers.advance() % 3,
+        offset: random.advance(),
+        name: random.advance() % 80,
+        serial: u64::from(random.advance() % 2_000),
+        realm: random.advance() % 3,
     };
-    let kind = numbers.advance() % 8;
-    let place = numbers.place(given.len());
+    let kind = random.advance() % 8;
+    let place = random.place(given.len());
     if let Some(known) = given.get(place).filter(|_| kind > 0) {
         match kind {
             1 => ticket = Ticket {
@@ -92,17 +92,17 @@ fn any_ticket(numbers: &mut Numbers, given: &[Ticket]) -> Ticket {
 }
 
 // The last tickets are more often live.
-fn recent_ticket(numbers: &mut Numbers, plain: &Plain) -> Ticket {
+fn recent_ticket(random: &mut Random, plain: &Plain) -> Ticket {
     let first = plain.given.len().saturating_sub(64);
     match plain.given.get(first..) {
-        None => any_ticket(numbers, &plain.given),
-        Some(last) => any_ticket(numbers, last),
+        None => any_ticket(random, &plain.given),
+        Some(last) => any_ticket(random, last),
     }
 }
 
 // Any ticket, also one of the first.
-fn old_ticket(numbers: &mut Numbers, plain: &Plain) -> Ticket {
-    any_ticket(numbers, &plain.given)
+fn old_ticket(random: &mut Random, plain: &Plain) -> Ticket {
+    any_ticket(random, &plain.given)
 }
 
 fn keep(rt: &impl Abort, plain: &mut Plain, granted: Option<Ticket>, size: u32) {
@@ -173,23 +173,23 @@ fn step<T: Tables>(
     rt: &impl Abort,
     space: &mut GuardedOf<T>,
     plain: &mut Plain,
-    numbers: &mut Numbers,
+    random: &mut Random,
 ) {
-    let number = numbers.advance();
+    let number = random.advance();
     let size = number / 32 % 40 + 1;
     match number % 32 {
         0..=9 => keep(rt, plain, allocate(space, size), size),
         10 => keep(rt, plain, allocate_aligned(space, size), size),
         11..=24 => {
-            let ticket = recent_ticket(numbers, plain);
+            let ticket = recent_ticket(random, plain);
             free(rt, space, plain, ticket)
         }
         25..=28 => {
-            let ticket = recent_ticket(numbers, plain);
+            let ticket = recent_ticket(random, plain);
             resize(rt, space, plain, ticket, size)
         }
         29 => {
-            let ticket = old_ticket(numbers, plain);
+            let ticket = old_ticket(random, plain);
             free(rt, space, plain, ticket)
         }
         30 => extend(space, number / 32 % 4),
@@ -226,10 +226,10 @@ fn expect_step<T: Tables>(
     rt: &impl Abort,
     space: &mut GuardedOf<T>,
     plain: &mut Plain,
-    numbers: &mut Numbers,
+    random: &mut Random,
 ) {
-    step(rt, space, plain, numbers);
-    let ticket = any_ticket(numbers, &plain.given);
+    step(rt, space, plain, random);
+    let ticket = any_ticket(random, &plain.given);
     assert_same(rt, &space.size_of(ticket), &plain.size_of(ticket));
     expect_same(rt, space, plain);
 }
@@ -237,7 +237,7 @@ fn expect_step<T: Tables>(
 fn expect_plain<T: Tables>(rt: &impl Abort, alloc: Global, state: u64)
     requires { 71 < T.Index.MAX }
 {
-    let mut numbers = Numbers::new(state);
+    let mut random = Random::new(state);
     let space = GuardedOf::<T>::with_max_allocs(alloc, 1_000, 70, REALM);
     let mut space = space.expect(rt, "memory");
     let mut plain = Plain {
@@ -245,7 +245,7 @@ fn expect_plain<T: Tables>(rt: &impl Abort, alloc: Global, state: u64)
         given: Vec::new(alloc),
     };
     for _ in 0..STEPS {
-        expect_step(rt, &mut space, &mut plain, &mut numbers);
+        expect_step(rt, &mut space, &mut plain, &mut random);
     }
 }
 

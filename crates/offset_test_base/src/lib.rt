@@ -5,4 +5,5 @@ pub mod devices;
 pub mod flat;
 mod living;
 pub mod mixed;
+pub mod random;
 pub mod tiny;

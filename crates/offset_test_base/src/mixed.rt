@@ -1,6 +1,7 @@
 //! Calls of every kind on one allocator.
 
 use crate::living::living_calls;
+use crate::random::Random;
 use offset_allocator::laws::{
     allocation_size_counted, is_live_counted, storage_report_counted, storage_report_full_counted,
     undo,
@@ -154,13 +155,12 @@ pub fn mixed_calls<T: Tables>(
     allocator: &mut AllocatorOf<T>,
     kept: &mut [Option<Allocation<T::Index>>],
 ) -> u64 {
-    let mut state = 1u64;
+    let mut random = Random::new(1);
     let mut sum = 0u64;
     for _ in 0..1_000u32 {
-        state = state.wrapping_mul(1_103_515_245).wrapping_add(12_345) % 2_147_483_648;
-        let number = state / 65_536;
+        let number = random.advance();
         if let Some(kept) = kept.get_mut((number / 16 % 16) as usize) {
-            let answer = call(allocator, kept, (number % 16) as u32, (number / 256) as u32);
+            let answer = call(allocator, kept, number % 16, number / 256);
             sum = sum.wrapping_mul(31).wrapping_add(u64::from(answer));
         }
     }

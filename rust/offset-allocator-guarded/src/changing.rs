@@ -9,6 +9,17 @@ use offset_allocator::{Move, RoomCost, Tables};
 impl<T: Tables> GuardedOf<T> {
     /// Makes the range of a ticket smaller in place, as `Allocator::shrink` does, and returns whether it did;
     /// or `None` where the ticket is not live, and then nothing changes.
+    ///
+    /// ```
+    /// # use offset_allocator_guarded::*;
+    /// # let alloc = Global;
+    /// let mut guarded = Guarded::<u32>::new(alloc, 1000, 1)?;
+    /// let mesh = guarded.allocate(300).unwrap();
+    /// assert_eq!(guarded.shrink(mesh, 200), Some(true));
+    /// guarded.free(mesh);
+    /// assert_eq!(guarded.shrink(mesh, 100), None);
+    /// # Ok::<(), AllocError>(())
+    /// ```
     pub fn shrink(&mut self, ticket: Ticket, size: u32) -> Option<bool> {
         match self.handle(ticket) {
             None => None,
@@ -22,6 +33,16 @@ impl<T: Tables> GuardedOf<T> {
 
     /// Makes the range of a ticket larger in place, as `Allocator::grow_in_place` does, and returns whether
     /// it did; or `None` where the ticket is not live, and then nothing changes.
+    ///
+    /// ```
+    /// # use offset_allocator_guarded::*;
+    /// # let alloc = Global;
+    /// let mut guarded = Guarded::<u32>::new(alloc, 1000, 1)?;
+    /// let mesh = guarded.allocate(300).unwrap();
+    /// assert_eq!(guarded.grow_in_place(mesh, 400), Some(true));
+    /// assert_eq!(guarded.grow_in_place(mesh, 1001), Some(false));
+    /// # Ok::<(), AllocError>(())
+    /// ```
     pub fn grow_in_place(&mut self, ticket: Ticket, size: u32) -> Option<bool> {
         match self.handle(ticket) {
             None => None,
@@ -34,6 +55,15 @@ impl<T: Tables> GuardedOf<T> {
     }
 
     /// Adds `more` units at the end of the space, as `Allocator::extend` does, and returns whether it did.
+    ///
+    /// ```
+    /// # use offset_allocator_guarded::*;
+    /// # let alloc = Global;
+    /// let mut guarded = Guarded::<u32>::new(alloc, 1000, 1)?;
+    /// assert!(guarded.extend(24));
+    /// assert_eq!(guarded.allocator().size(), 1024);
+    /// # Ok::<(), AllocError>(())
+    /// ```
     pub fn extend(&mut self, more: u32) -> bool {
         let done = self.space.extend(more);
         self.serials.cover(self.space.node_count());
@@ -42,12 +72,37 @@ impl<T: Tables> GuardedOf<T> {
 
     /// Slides every live range to the front of the space, as `Allocator::compact` does. Every ticket stays
     /// live, with its size; `offset_of` returns where its range begins.
+    ///
+    /// ```
+    /// # use offset_allocator_guarded::*;
+    /// # let alloc = Global;
+    /// let mut guarded = Guarded::<u32>::new(alloc, 1000, 1)?;
+    /// let hole = guarded.allocate(300).unwrap();
+    /// let mesh = guarded.allocate(100).unwrap();
+    /// guarded.free(hole);
+    /// guarded.compact(&mut |it| assert_eq!((it.from, it.to, it.size), (300, 0, 100)));
+    /// assert_eq!(guarded.offset_of(mesh), Some(0));
+    /// # Ok::<(), AllocError>(())
+    /// ```
     pub fn compact<F: FnMut(Move<T::Index>)>(&mut self, moved: &mut F) {
         self.space.compact(moved);
     }
 
     /// Makes room for a request of `size` units, where ranges have to move for it, as `Allocator::make_room` does. Every
     /// ticket stays live, with its size; `offset_of` returns where its range begins.
+    ///
+    /// ```
+    /// # use offset_allocator_guarded::*;
+    /// # let alloc = Global;
+    /// let mut guarded = Guarded::<u32>::new(alloc, 1000, 1)?;
+    /// let hole = guarded.allocate(300).unwrap();
+    /// guarded.allocate(100);
+    /// guarded.free(hole);
+    /// assert!(guarded.allocate(800).is_none());
+    /// guarded.make_room(800, &mut |it| assert_eq!((it.from, it.to, it.size), (300, 0, 100)));
+    /// assert!(guarded.allocate(800).is_some());
+    /// # Ok::<(), AllocError>(())
+    /// ```
     pub fn make_room<F: FnMut(Move<T::Index>)>(
         &mut self,
         size: u32,

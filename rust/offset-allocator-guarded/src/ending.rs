@@ -20,6 +20,16 @@ impl<T: Tables> GuardedOf<T> {
 
     /// The ticket of the live range that is the first one in space, as `Allocator::first_live` finds it, or
     /// `None` where none is live. Its offset is where the range begins now, as in what `ticket` returns.
+    ///
+    /// ```
+    /// # use offset_allocator_guarded::*;
+    /// # let alloc = Global;
+    /// let mut guarded = Guarded::<u32>::new(alloc, 1000, 1)?;
+    /// let mesh = guarded.allocate(300);
+    /// guarded.allocate(100);
+    /// assert_eq!(guarded.first_live(), mesh);
+    /// # Ok::<(), AllocError>(())
+    /// ```
     pub fn first_live(&self) -> Option<Ticket> {
         match self.space.first_live() {
             None => None,
@@ -29,6 +39,16 @@ impl<T: Tables> GuardedOf<T> {
 
     /// The ticket of the live range that is the last one in space, as `Allocator::last_live` finds it, or
     /// `None` where none is live. Its offset is where the range begins now, as in what `ticket` returns.
+    ///
+    /// ```
+    /// # use offset_allocator_guarded::*;
+    /// # let alloc = Global;
+    /// let mut guarded = Guarded::<u32>::new(alloc, 1000, 1)?;
+    /// guarded.allocate(300);
+    /// let texture = guarded.allocate(100);
+    /// assert_eq!(guarded.last_live(), texture);
+    /// # Ok::<(), AllocError>(())
+    /// ```
     pub fn last_live(&self) -> Option<Ticket> {
         match self.space.last_live() {
             None => None,
@@ -38,6 +58,16 @@ impl<T: Tables> GuardedOf<T> {
 
     /// The ticket of the live range directly before that of a ticket. `None` where there is none, or where
     /// the ticket is not live.
+    ///
+    /// ```
+    /// # use offset_allocator_guarded::*;
+    /// # let alloc = Global;
+    /// let mut guarded = Guarded::<u32>::new(alloc, 1000, 1)?;
+    /// let mesh = guarded.allocate(300);
+    /// let texture = guarded.allocate(100).unwrap();
+    /// assert_eq!(guarded.live_before(texture), mesh);
+    /// # Ok::<(), AllocError>(())
+    /// ```
     pub fn live_before(&self, ticket: Ticket) -> Option<Ticket> {
         match self.handle(ticket) {
             None => None,
@@ -50,6 +80,16 @@ impl<T: Tables> GuardedOf<T> {
 
     /// The ticket of the live range directly after that of a ticket. `None` where there is none, or where
     /// the ticket is not live.
+    ///
+    /// ```
+    /// # use offset_allocator_guarded::*;
+    /// # let alloc = Global;
+    /// let mut guarded = Guarded::<u32>::new(alloc, 1000, 1)?;
+    /// let mesh = guarded.allocate(300).unwrap();
+    /// let texture = guarded.allocate(100);
+    /// assert_eq!(guarded.live_after(mesh), texture);
+    /// # Ok::<(), AllocError>(())
+    /// ```
     pub fn live_after(&self, ticket: Ticket) -> Option<Ticket> {
         match self.handle(ticket) {
             None => None,
@@ -62,6 +102,16 @@ impl<T: Tables> GuardedOf<T> {
 
     /// Takes `less` free units off the end of the space, as `Allocator::retract` does, and returns whether it
     /// did.
+    ///
+    /// ```
+    /// # use offset_allocator_guarded::*;
+    /// # let alloc = Global;
+    /// let mut guarded = Guarded::<u32>::new(alloc, 1000, 1)?;
+    /// guarded.allocate(300);
+    /// assert!(guarded.retract(700));
+    /// assert_eq!(guarded.allocator().size(), 300);
+    /// # Ok::<(), AllocError>(())
+    /// ```
     pub fn retract(&mut self, less: u32) -> bool {
         self.space.retract(less)
     }

@@ -32,6 +32,16 @@ impl<T: Tables> GuardedOf<T> {
     ///
     /// `None` is returned where that call returns `None`, or where all serials are given; then all is as it
     /// was.
+    ///
+    /// ```
+    /// # use offset_allocator_guarded::*;
+    /// # let alloc = Global;
+    /// let mut guarded = Guarded::<u32>::new(alloc, 1000, 1)?;
+    /// let mesh = guarded.allocate(300).unwrap();
+    /// assert_eq!(guarded.offset_of(mesh), Some(0));
+    /// assert!(guarded.allocate(701).is_none());
+    /// # Ok::<(), AllocError>(())
+    /// ```
     #[inline(always)]
     pub fn allocate(&mut self, size: u32) -> Option<Ticket> {
         if self.serials.is_spent() {
@@ -48,6 +58,20 @@ impl<T: Tables> GuardedOf<T> {
     ///
     /// `None` is returned where that call returns `None`, or where all serials are given; then all is as it
     /// was.
+    ///
+    /// # Panics
+    ///
+    /// It panics unless `align` is a power of two.
+    ///
+    /// ```
+    /// # use offset_allocator_guarded::*;
+    /// # let alloc = Global;
+    /// let mut guarded = Guarded::<u32>::new(alloc, 1000, 1)?;
+    /// guarded.allocate(10);
+    /// let uniforms = guarded.allocate_aligned(300, 256).unwrap();
+    /// assert_eq!(guarded.offset_of(uniforms), Some(256));
+    /// # Ok::<(), AllocError>(())
+    /// ```
     #[track_caller]
     pub fn allocate_aligned(&mut self, size: u32, align: u32) -> Option<Ticket> {
         assert!(align.is_power_of_two(), "align must be a power of two");
@@ -65,6 +89,16 @@ impl<T: Tables> GuardedOf<T> {
     ///
     /// `None` is returned where that call returns `None`, or where all serials are given; then all is as it
     /// was.
+    ///
+    /// ```
+    /// # use offset_allocator_guarded::*;
+    /// # let alloc = Global;
+    /// let mut guarded = Guarded::<u32>::new(alloc, 1000, 1)?;
+    /// guarded.allocate(300);
+    /// assert!(guarded.allocate(700).is_none());
+    /// assert!(guarded.allocate_tight(700).is_some());
+    /// # Ok::<(), AllocError>(())
+    /// ```
     pub fn allocate_tight(&mut self, size: u32) -> Option<Ticket> {
         if self.serials.is_spent() {
             return None;
@@ -80,6 +114,20 @@ impl<T: Tables> GuardedOf<T> {
     ///
     /// `None` is returned where that call returns `None`, or where all serials are given; then all is as it
     /// was.
+    ///
+    /// # Panics
+    ///
+    /// It panics unless `align` is a power of two.
+    ///
+    /// ```
+    /// # use offset_allocator_guarded::*;
+    /// # let alloc = Global;
+    /// let mut guarded = Guarded::<u32>::new(alloc, 1000, 1)?;
+    /// guarded.allocate(256);
+    /// assert!(guarded.allocate_aligned(700, 256).is_none());
+    /// assert_eq!(guarded.allocate_tight_aligned(700, 256).unwrap().offset, 256);
+    /// # Ok::<(), AllocError>(())
+    /// ```
     #[track_caller]
     pub fn allocate_tight_aligned(&mut self, size: u32, align: u32) -> Option<Ticket> {
         assert!(align.is_power_of_two(), "align must be a power of two");
@@ -97,6 +145,19 @@ impl<T: Tables> GuardedOf<T> {
     ///
     /// `None` is returned where that call returns `None`, where the ticket is not live, or where all serials
     /// are given; then all is as it was.
+    ///
+    /// ```
+    /// # use offset_allocator_guarded::*;
+    /// # let alloc = Global;
+    /// let mut guarded = Guarded::<u32>::new(alloc, 1000, 1)?;
+    /// let hole = guarded.allocate(320).unwrap();
+    /// let mesh = guarded.allocate(320).unwrap();
+    /// guarded.free(hole);
+    /// let moved = guarded.relocate(mesh).unwrap();
+    /// assert_eq!((mesh.offset, moved.offset), (320, 0));
+    /// guarded.free(mesh);
+    /// # Ok::<(), AllocError>(())
+    /// ```
     pub fn relocate(&mut self, ticket: Ticket) -> Option<Ticket> {
         let handle = self.handle(ticket)?;
         if self.serials.is_spent() {
@@ -109,6 +170,15 @@ impl<T: Tables> GuardedOf<T> {
     }
 
     /// Why `allocate(size)` would be refused now, or `None` exactly where it would be granted.
+    ///
+    /// ```
+    /// # use offset_allocator_guarded::*;
+    /// # let alloc = Global;
+    /// let mut guarded = Guarded::<u32>::new(alloc, 1000, 1)?;
+    /// assert_eq!(guarded.refusal(300), None);
+    /// assert_eq!(guarded.refusal(1001).unwrap().to_string(), "the request is too large for the space");
+    /// # Ok::<(), AllocError>(())
+    /// ```
     pub fn refusal(&self, size: u32) -> Option<Refusal> {
         if self.serials.is_spent() {
             return Some(Refusal::Serials);
@@ -120,6 +190,19 @@ impl<T: Tables> GuardedOf<T> {
     }
 
     /// Why `allocate_aligned(size, align)` would be refused now, or `None` exactly where it would be granted.
+    ///
+    /// # Panics
+    ///
+    /// It panics unless `align` is a power of two.
+    ///
+    /// ```
+    /// # use offset_allocator_guarded::*;
+    /// # let alloc = Global;
+    /// let mut guarded = Guarded::<u32>::new(alloc, 1000, 1)?;
+    /// assert_eq!(guarded.refusal_aligned(900, 4), None);
+    /// assert!(guarded.refusal_aligned(900, 256).is_some());
+    /// # Ok::<(), AllocError>(())
+    /// ```
     #[track_caller]
     pub fn refusal_aligned(&self, size: u32, align: u32) -> Option<Refusal> {
         assert!(align.is_power_of_two(), "align must be a power of two");
@@ -133,6 +216,16 @@ impl<T: Tables> GuardedOf<T> {
     }
 
     /// Why `allocate_tight(size)` would be refused now, or `None` exactly where it would be granted.
+    ///
+    /// ```
+    /// # use offset_allocator_guarded::*;
+    /// # let alloc = Global;
+    /// let mut guarded = Guarded::<u32>::new(alloc, 1000, 1)?;
+    /// guarded.allocate(300);
+    /// assert_eq!(guarded.refusal_tight(700), None);
+    /// assert!(guarded.refusal_tight(701).is_some());
+    /// # Ok::<(), AllocError>(())
+    /// ```
     pub fn refusal_tight(&self, size: u32) -> Option<Refusal> {
         if self.serials.is_spent() {
             return Some(Refusal::Serials);
@@ -145,6 +238,20 @@ impl<T: Tables> GuardedOf<T> {
 
     /// Why `allocate_tight_aligned(size, align)` would be refused now, or `None` exactly where it would be
     /// granted.
+    ///
+    /// # Panics
+    ///
+    /// It panics unless `align` is a power of two.
+    ///
+    /// ```
+    /// # use offset_allocator_guarded::*;
+    /// # let alloc = Global;
+    /// let mut guarded = Guarded::<u32>::new(alloc, 1000, 1)?;
+    /// guarded.allocate(300);
+    /// assert_eq!(guarded.refusal_tight_aligned(400, 256), None);
+    /// assert!(guarded.refusal_tight_aligned(700, 256).is_some());
+    /// # Ok::<(), AllocError>(())
+    /// ```
     #[track_caller]
     pub fn refusal_tight_aligned(&self, size: u32, align: u32) -> Option<Refusal> {
         assert!(align.is_power_of_two(), "align must be a power of two");

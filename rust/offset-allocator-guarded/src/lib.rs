@@ -66,7 +66,17 @@ impl<T: Tables> GuardedOf<T> {
     /// A space of `size` units, all free, with the smaller of 131072 and `T::Index::MAX - 2` as the node
     /// limit. The realm is kept in its tickets: a ticket of another realm is never live here.
     ///
+    /// # Errors
+    ///
     /// An error is returned only where an allocation failed; then nothing is made.
+    ///
+    /// ```
+    /// # use offset_allocator_guarded::*;
+    /// # let alloc = Global;
+    /// let mut guarded = Guarded::<u32>::new(alloc, 1 << 20, 7)?;
+    /// assert_eq!(guarded.allocate(300).unwrap().realm, 7);
+    /// # Ok::<(), AllocError>(())
+    /// ```
     #[track_caller]
     pub fn new(alloc: Global, size: u32, realm: u32) -> Result<Self, AllocError> {
         Self::with_max_allocs(alloc, size, 131072u32.min(T::Index::MAX - 2), realm)
@@ -76,7 +86,22 @@ impl<T: Tables> GuardedOf<T> {
     /// `T::Index::MAX - 2`. It reserves what an `AllocatorOf<T>` does and 8 bytes a node, all of them here;
     /// those of a node are written by the first call after it was made that may make nodes.
     ///
+    /// # Errors
+    ///
     /// An error is returned only where an allocation failed; then nothing is made.
+    ///
+    /// # Panics
+    ///
+    /// It panics unless `max_allocs` is at least 2, and `max_allocs` is at most `NI::MAX - 2`.
+    ///
+    /// ```
+    /// # use offset_allocator_guarded::*;
+    /// # let alloc = Global;
+    /// let mut guarded = Guarded::<u16>::with_max_allocs(alloc, 1000, 3, 1)?;
+    /// assert!(guarded.allocate(10).is_some());
+    /// assert!(guarded.allocate(10).is_none());
+    /// # Ok::<(), AllocError>(())
+    /// ```
     #[track_caller]
     pub fn with_max_allocs(
         alloc: Global,
@@ -101,7 +126,20 @@ impl<T: Tables> GuardedOf<T> {
     /// grant of one may have a ticket that is live in the other, for another range: use one copy in place of
     /// the other, as a snapshot, and not beside it.
     ///
+    /// # Errors
+    ///
     /// An error is returned only where an allocation failed; then nothing is made.
+    ///
+    /// ```
+    /// # use offset_allocator_guarded::*;
+    /// # let alloc = Global;
+    /// let mut guarded = Guarded::<u32>::new(alloc, 1000, 1)?;
+    /// let mesh = guarded.allocate(300).unwrap();
+    /// let copy = guarded.try_clone(alloc)?;
+    /// guarded.free(mesh);
+    /// assert!(copy.is_live(mesh));
+    /// # Ok::<(), AllocError>(())
+    /// ```
     pub fn try_clone(&self, alloc: Global) -> Result<Self, AllocError> {
         let serials = self.serials.try_clone(alloc, self.space.max_allocs())?;
         let space = self.space.try_clone(alloc)?;
@@ -114,16 +152,41 @@ impl<T: Tables> GuardedOf<T> {
 
     /// The allocator, to read: its reports and statistics, whether nothing is live, its blocks, its sizes,
     /// and why it refuses a request.
+    ///
+    /// ```
+    /// # use offset_allocator_guarded::*;
+    /// # let alloc = Global;
+    /// let mut guarded = Guarded::<u32>::new(alloc, 1000, 1)?;
+    /// guarded.allocate(300);
+    /// assert_eq!(guarded.allocator().live_units(), 300);
+    /// # Ok::<(), AllocError>(())
+    /// ```
     pub fn allocator(&self) -> &AllocatorOf<T> {
         &self.space
     }
 
     /// The realm of its tickets.
+    ///
+    /// ```
+    /// # use offset_allocator_guarded::*;
+    /// # let alloc = Global;
+    /// let mut guarded = Guarded::<u32>::new(alloc, 1000, 1)?;
+    /// assert_eq!(guarded.realm(), 1);
+    /// # Ok::<(), AllocError>(())
+    /// ```
     pub fn realm(&self) -> u32 {
         self.realm
     }
 
     /// Whether all serials are given, after 18446744073709551615 grants. Then every request is refused.
+    ///
+    /// ```
+    /// # use offset_allocator_guarded::*;
+    /// # let alloc = Global;
+    /// let mut guarded = Guarded::<u32>::new(alloc, 1000, 1)?;
+    /// assert!(!guarded.is_spent());
+    /// # Ok::<(), AllocError>(())
+    /// ```
     pub fn is_spent(&self) -> bool {
         self.serials.is_spent()
     }
@@ -148,11 +211,31 @@ impl<T: Tables> GuardedOf<T> {
 
     /// Whether a ticket is live here: it has the realm, and the grant that gave it was neither freed nor
     /// reset since.
+    ///
+    /// ```
+    /// # use offset_allocator_guarded::*;
+    /// # let alloc = Global;
+    /// let mut guarded = Guarded::<u32>::new(alloc, 1000, 1)?;
+    /// let mesh = guarded.allocate(300).unwrap();
+    /// guarded.free(mesh);
+    /// guarded.allocate(300);
+    /// assert!(!guarded.is_live(mesh));
+    /// # Ok::<(), AllocError>(())
+    /// ```
     pub fn is_live(&self, ticket: Ticket) -> bool {
         self.handle(ticket).is_some()
     }
 
     /// The units of the range of a ticket, or `None` where it is not live.
+    ///
+    /// ```
+    /// # use offset_allocator_guarded::*;
+    /// # let alloc = Global;
+    /// let mut guarded = Guarded::<u32>::new(alloc, 1000, 1)?;
+    /// let mesh = guarded.allocate(300).unwrap();
+    /// assert_eq!(guarded.size_of(mesh), Some(300));
+    /// # Ok::<(), AllocError>(())
+    /// ```
     pub fn size_of(&self, ticket: Ticket) -> Option<u32> {
         match self.handle(ticket) {
             None => None,
@@ -165,6 +248,17 @@ impl<T: Tables> GuardedOf<T> {
     ///
     /// The `offset` of the ticket is where the range began when the ticket was made. `compact` does not
     /// change it.
+    ///
+    /// ```
+    /// # use offset_allocator_guarded::*;
+    /// # let alloc = Global;
+    /// let mut guarded = Guarded::<u32>::new(alloc, 1000, 1)?;
+    /// let mesh = guarded.allocate(300).unwrap();
+    /// assert_eq!(guarded.offset_of(mesh), Some(0));
+    /// guarded.reset();
+    /// assert_eq!(guarded.offset_of(mesh), None);
+    /// # Ok::<(), AllocError>(())
+    /// ```
     pub fn offset_of(&self, ticket: Ticket) -> Option<u32> {
         match self.handle(ticket) {
             None => None,
@@ -176,6 +270,16 @@ impl<T: Tables> GuardedOf<T> {
     /// `None` where the handle is not live. Its offset is where the range begins now: the ticket that the
     /// grant returned has another one where `compact` moved the range, and is live as well, but not equal to
     /// this one.
+    ///
+    /// ```
+    /// # use offset_allocator_guarded::*;
+    /// # let alloc = Global;
+    /// let mut guarded = Guarded::<u32>::new(alloc, 1000, 1)?;
+    /// let mesh = guarded.allocate(300).unwrap();
+    /// let block = guarded.allocator().blocks().last().unwrap();
+    /// assert_eq!(guarded.ticket(block.allocation.unwrap()), Some(mesh));
+    /// # Ok::<(), AllocError>(())
+    /// ```
     pub fn ticket(&self, handle: Allocation<T::Index>) -> Option<Ticket> {
         let (_, name) = handle.to_parts();
         match self.space.allocation_offset(handle) {
@@ -194,6 +298,16 @@ impl<T: Tables> GuardedOf<T> {
     ///
     /// It reads at most one serial, and makes at most 136 accesses to the tables of the allocator: 8 to see
     /// whether the name is live, and 128 to free it.
+    ///
+    /// ```
+    /// # use offset_allocator_guarded::*;
+    /// # let alloc = Global;
+    /// let mut guarded = Guarded::<u32>::new(alloc, 1000, 1)?;
+    /// let mesh = guarded.allocate(300).unwrap();
+    /// assert!(guarded.free(mesh));
+    /// assert!(!guarded.free(mesh));
+    /// # Ok::<(), AllocError>(())
+    /// ```
     #[inline(always)]
     pub fn free(&mut self, ticket: Ticket) -> bool {
         match self.handle(ticket) {
@@ -207,6 +321,16 @@ impl<T: Tables> GuardedOf<T> {
 
     /// Makes the whole space one free block again, as `Allocator::reset` does. No earlier ticket is ever live
     /// again.
+    ///
+    /// ```
+    /// # use offset_allocator_guarded::*;
+    /// # let alloc = Global;
+    /// let mut guarded = Guarded::<u32>::new(alloc, 1000, 1)?;
+    /// let mesh = guarded.allocate(300).unwrap();
+    /// guarded.reset();
+    /// assert!(!guarded.is_live(mesh));
+    /// # Ok::<(), AllocError>(())
+    /// ```
     pub fn reset(&mut self) {
         self.space.reset();
     }

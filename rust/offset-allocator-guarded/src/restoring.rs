@@ -105,8 +105,22 @@ impl<T: Tables> GuardedOf<T> {
     ///
     /// `most_allocs` is the largest node limit that is accepted, since memory for the limit is reserved, as
     /// by `with_max_allocs`. Nothing else that is requested is more than 8 bytes for each 8 that were given.
-    /// It takes time for the bytes. An error is returned only where an allocation failed; then nothing is
-    /// made.
+    /// It takes time for the bytes.
+    ///
+    /// # Errors
+    ///
+    /// An error is returned only where an allocation failed; then nothing is made.
+    ///
+    /// ```
+    /// # use offset_allocator_guarded::*;
+    /// # let alloc = Global;
+    /// let mut guarded = Guarded::<u32>::new(alloc, 1000, 1)?;
+    /// let mesh = guarded.allocate(300).unwrap();
+    /// let bytes = guarded.write_state(alloc)?;
+    /// let same = Guarded::<u32>::read_state(alloc, &bytes, 131_072)?.unwrap();
+    /// assert!(same.is_live(mesh));
+    /// # Ok::<(), AllocError>(())
+    /// ```
     pub fn read_state(
         alloc: Global,
         bytes: &[u8],

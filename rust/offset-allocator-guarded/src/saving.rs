@@ -28,7 +28,21 @@ impl<T: Tables> GuardedOf<T> {
     /// 64 bits, the lowest byte of each first: 1263812943 and the version 1, how many serials are stored and
     /// how many were given, the realm, the serials by name, and a checksum.
     ///
-    /// It takes time for the nodes that were made. An error is returned only where an allocation failed.
+    /// It takes time for the nodes that were made.
+    ///
+    /// # Errors
+    ///
+    /// An error is returned only where an allocation failed.
+    ///
+    /// ```
+    /// # use offset_allocator_guarded::*;
+    /// # let alloc = Global;
+    /// let mut guarded = Guarded::<u32>::new(alloc, 1000, 1)?;
+    /// let bytes = guarded.write_state(alloc)?;
+    /// let same = Guarded::<u32>::read_state(alloc, &bytes, 131_072)?.unwrap();
+    /// assert_eq!(same.realm(), 1);
+    /// # Ok::<(), AllocError>(())
+    /// ```
     pub fn write_state(&self, alloc: Global) -> Result<Vec<u8>, AllocError> {
         let serials = self.serials.cells();
         let mut bytes = Vec::new(alloc);

@@ -52,7 +52,21 @@ impl<T: Tables> HeapsOf<T> {
     /// place of the other, as a snapshot, and not beside it. Nothing is known of the buffers: the copy has
     /// those of the heaps that it has.
     ///
+    /// # Errors
+    ///
     /// An error is returned only where an allocation failed; then nothing is made.
+    ///
+    /// ```
+    /// # use offset_allocator_heaps::*;
+    /// # let alloc = Global;
+    /// let limits = Limits { size: 1000, max_allocs: 100, most: 2, most_larger: 1 };
+    /// let mut heaps = Heaps::<u32>::new(alloc, limits, 1)?;
+    /// let mesh = heaps.allocate(300).unwrap().place;
+    /// let copy = heaps.try_clone(alloc)?;
+    /// heaps.free(mesh);
+    /// assert!(copy.is_live(mesh));
+    /// # Ok::<(), AllocError>(())
+    /// ```
     pub fn try_clone(&self, alloc: Global) -> Result<Self, AllocError> {
         let limits = self.limits;
         let slots = copies_of(alloc, &self.slots, limits.most + limits.most_larger)?;

@@ -29,6 +29,18 @@ impl<T: Tables> HeapsOf<T> {
     ///
     /// No place loses its range, and a place that the heap granted is never live again, though a later heap
     /// may have its number. It reads the slot of each number once.
+    ///
+    /// ```
+    /// # use offset_allocator_heaps::*;
+    /// # let alloc = Global;
+    /// let limits = Limits { size: 1000, max_allocs: 100, most: 2, most_larger: 1 };
+    /// let mut heaps = Heaps::<u32>::new(alloc, limits, 1)?;
+    /// let mesh = heaps.allocate(300).unwrap().place;
+    /// assert_eq!(heaps.drop_empty(0), None);
+    /// heaps.free(mesh);
+    /// assert_eq!(heaps.drop_empty(0), Some(mesh.heap));
+    /// # Ok::<(), AllocError>(())
+    /// ```
     pub fn drop_empty(&mut self, keep: u32) -> Option<u32> {
         let numbers = self.limits.most + self.limits.most_larger;
         let (count, last) = slots::last_empty(&self.slots, numbers, &mut self.accesses);
@@ -41,6 +53,18 @@ impl<T: Tables> HeapsOf<T> {
 
     /// Drops the heap of a number, if it is empty, and returns whether it did: then drop its buffer. A caller
     /// that asks this of the heap of each place that it frees keeps no empty heap, and walks over none.
+    ///
+    /// ```
+    /// # use offset_allocator_heaps::*;
+    /// # let alloc = Global;
+    /// let limits = Limits { size: 1000, max_allocs: 100, most: 2, most_larger: 1 };
+    /// let mut heaps = Heaps::<u32>::new(alloc, limits, 1)?;
+    /// let mesh = heaps.allocate(300).unwrap().place;
+    /// assert!(!heaps.drop_heap(mesh.heap));
+    /// heaps.free(mesh);
+    /// assert!(heaps.drop_heap(mesh.heap));
+    /// # Ok::<(), AllocError>(())
+    /// ```
     pub fn drop_heap(&mut self, number: u32) -> bool {
         if !slots::is_empty_at(&self.slots, number, &mut self.accesses) {
             return false;
@@ -51,6 +75,17 @@ impl<T: Tables> HeapsOf<T> {
     /// Takes back the heap of a number, with all that it granted, and returns whether there was one: where
     /// the buffer of a new heap can't be made, or is lost. No place of it is ever live again, and all other
     /// heaps stay.
+    ///
+    /// ```
+    /// # use offset_allocator_heaps::*;
+    /// # let alloc = Global;
+    /// let limits = Limits { size: 1000, max_allocs: 100, most: 2, most_larger: 1 };
+    /// let mut heaps = Heaps::<u32>::new(alloc, limits, 1)?;
+    /// let mesh = heaps.allocate(300).unwrap().place;
+    /// assert!(heaps.give_up(mesh.heap));
+    /// assert!(!heaps.is_live(mesh));
+    /// # Ok::<(), AllocError>(())
+    /// ```
     pub fn give_up(&mut self, number: u32) -> bool {
         if !slots::has(&self.slots, number, &mut self.accesses) {
             return false;
@@ -64,6 +99,17 @@ impl<T: Tables> HeapsOf<T> {
     /// Frees the range of a place, as `GuardedOf::free` does in its heap, and returns `true`; or `false`
     /// where the place is not live, and then nothing changes. The heap stays, also where it is empty then:
     /// `drop_empty` drops it.
+    ///
+    /// ```
+    /// # use offset_allocator_heaps::*;
+    /// # let alloc = Global;
+    /// let limits = Limits { size: 1000, max_allocs: 100, most: 2, most_larger: 1 };
+    /// let mut heaps = Heaps::<u32>::new(alloc, limits, 1)?;
+    /// let mesh = heaps.allocate(300).unwrap().place;
+    /// assert!(heaps.free(mesh));
+    /// assert!(!heaps.free(mesh));
+    /// # Ok::<(), AllocError>(())
+    /// ```
     pub fn free(&mut self, place: Place) -> bool {
         if place.realm != self.realm {
             return false;
@@ -83,6 +129,18 @@ impl<T: Tables> HeapsOf<T> {
 
     /// Makes the space of each heap one free block again. No earlier place is ever live again. All heaps
     /// stay, for `drop_empty`.
+    ///
+    /// ```
+    /// # use offset_allocator_heaps::*;
+    /// # let alloc = Global;
+    /// let limits = Limits { size: 1000, max_allocs: 100, most: 2, most_larger: 1 };
+    /// let mut heaps = Heaps::<u32>::new(alloc, limits, 1)?;
+    /// let mesh = heaps.allocate(300).unwrap().place;
+    /// heaps.reset();
+    /// assert!(!heaps.is_live(mesh));
+    /// assert_eq!(heaps.totals().heaps, 1);
+    /// # Ok::<(), AllocError>(())
+    /// ```
     pub fn reset(&mut self) {
         reset_all(
             &mut self.slots,

@@ -135,6 +135,18 @@ impl<T: Tables> HeapsOf<T> {
     ///
     /// A heap has room exactly for requests up to the `largest_free_region` of its report, while it has a
     /// serial left: see `laws::room_is_reported`.
+    ///
+    /// ```
+    /// # use offset_allocator_heaps::*;
+    /// # let alloc = Global;
+    /// let limits = Limits { size: 1000, max_allocs: 100, most: 2, most_larger: 1 };
+    /// let mut heaps = Heaps::<u32>::new(alloc, limits, 1)?;
+    /// let mesh = heaps.allocate(300).unwrap();
+    /// assert!(mesh.is_new);
+    /// let level = heaps.allocate(5000).unwrap();
+    /// assert_eq!(heaps.size_of(level.place), Some(5000));
+    /// # Ok::<(), AllocError>(())
+    /// ```
     pub fn allocate(&mut self, size: u32) -> Result<Granted, Refusal> {
         self.allocate_aligned(size, 1)
     }
@@ -148,6 +160,21 @@ impl<T: Tables> HeapsOf<T> {
     /// then memory is requested.
     ///
     /// Where the request is refused, all is as it was, and the `Refusal` says why.
+    ///
+    /// # Panics
+    ///
+    /// It panics unless `align` is a power of two.
+    ///
+    /// ```
+    /// # use offset_allocator_heaps::*;
+    /// # let alloc = Global;
+    /// let limits = Limits { size: 1000, max_allocs: 100, most: 2, most_larger: 1 };
+    /// let mut heaps = Heaps::<u32>::new(alloc, limits, 1)?;
+    /// heaps.allocate(10).unwrap();
+    /// let uniforms = heaps.allocate_aligned(300, 256).unwrap().place;
+    /// assert_eq!(heaps.offset_of(uniforms), Some(256));
+    /// # Ok::<(), AllocError>(())
+    /// ```
     #[track_caller]
     pub fn allocate_aligned(&mut self, size: u32, align: u32) -> Result<Granted, Refusal> {
         assert!(align.is_power_of_two(), "align must be a power of two");

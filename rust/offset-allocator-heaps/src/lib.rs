@@ -93,7 +93,23 @@ impl<T: Tables> HeapsOf<T> {
     /// first request that none has room for. The realm is kept in places: a place of another realm is never
     /// live here.
     ///
+    /// # Errors
+    ///
     /// An error is returned only where an allocation failed; then nothing is made.
+    ///
+    /// # Panics
+    ///
+    /// It panics unless `max_allocs` is at least 4, and `max_allocs` is at most `NI::MAX - 2`, and
+    /// there are at most 4294967295 heaps.
+    ///
+    /// ```
+    /// # use offset_allocator_heaps::*;
+    /// # let alloc = Global;
+    /// let limits = Limits { size: 1 << 24, max_allocs: 4096, most: 64, most_larger: 16 };
+    /// let heaps = Heaps::<u32>::new(alloc, limits, 1)?;
+    /// assert_eq!(heaps.totals().heaps, 0);
+    /// # Ok::<(), AllocError>(())
+    /// ```
     #[track_caller]
     pub fn new(alloc: Global, limits: Limits, realm: u32) -> Result<Self, AllocError> {
         assert!(4 <= limits.max_allocs, "max_allocs must be at least 4");
@@ -118,17 +134,45 @@ impl<T: Tables> HeapsOf<T> {
     }
 
     /// The limits.
+    ///
+    /// ```
+    /// # use offset_allocator_heaps::*;
+    /// # let alloc = Global;
+    /// let limits = Limits { size: 1000, max_allocs: 100, most: 2, most_larger: 1 };
+    /// let mut heaps = Heaps::<u32>::new(alloc, limits, 1)?;
+    /// assert_eq!(heaps.limits().most, 2);
+    /// # Ok::<(), AllocError>(())
+    /// ```
     pub fn limits(&self) -> Limits {
         self.limits
     }
 
     /// The realm of its places.
+    ///
+    /// ```
+    /// # use offset_allocator_heaps::*;
+    /// # let alloc = Global;
+    /// let limits = Limits { size: 1000, max_allocs: 100, most: 2, most_larger: 1 };
+    /// let mut heaps = Heaps::<u32>::new(alloc, limits, 1)?;
+    /// assert_eq!(heaps.realm(), 1);
+    /// # Ok::<(), AllocError>(())
+    /// ```
     pub fn realm(&self) -> u32 {
         self.realm
     }
 
     /// The heap of a number, to read: its reports, its statistics, its blocks. `None` is returned where the
     /// number has no heap.
+    ///
+    /// ```
+    /// # use offset_allocator_heaps::*;
+    /// # let alloc = Global;
+    /// let limits = Limits { size: 1000, max_allocs: 100, most: 2, most_larger: 1 };
+    /// let mut heaps = Heaps::<u32>::new(alloc, limits, 1)?;
+    /// let mesh = heaps.allocate(300).unwrap().place;
+    /// assert_eq!(heaps.heap(mesh.heap).unwrap().allocator().live_units(), 300);
+    /// # Ok::<(), AllocError>(())
+    /// ```
     pub fn heap(&self, number: u32) -> Option<&GuardedOf<T>> {
         slots::at(&self.slots, number, &mut Accesses::new())
     }
@@ -143,6 +187,17 @@ impl<T: Tables> HeapsOf<T> {
 
     /// Whether a place is live here: it has the realm, and its range was not freed, its heap not given up and
     /// nothing was reset since.
+    ///
+    /// ```
+    /// # use offset_allocator_heaps::*;
+    /// # let alloc = Global;
+    /// let limits = Limits { size: 1000, max_allocs: 100, most: 2, most_larger: 1 };
+    /// let mut heaps = Heaps::<u32>::new(alloc, limits, 1)?;
+    /// let mesh = heaps.allocate(300).unwrap().place;
+    /// heaps.free(mesh);
+    /// assert!(!heaps.is_live(mesh));
+    /// # Ok::<(), AllocError>(())
+    /// ```
     pub fn is_live(&self, place: Place) -> bool {
         match self.heap_of(place) {
             None => false,
@@ -151,6 +206,16 @@ impl<T: Tables> HeapsOf<T> {
     }
 
     /// The units of the range of a place, or `None` where it is not live.
+    ///
+    /// ```
+    /// # use offset_allocator_heaps::*;
+    /// # let alloc = Global;
+    /// let limits = Limits { size: 1000, max_allocs: 100, most: 2, most_larger: 1 };
+    /// let mut heaps = Heaps::<u32>::new(alloc, limits, 1)?;
+    /// let mesh = heaps.allocate(300).unwrap().place;
+    /// assert_eq!(heaps.size_of(mesh), Some(300));
+    /// # Ok::<(), AllocError>(())
+    /// ```
     pub fn size_of(&self, place: Place) -> Option<u32> {
         match self.heap_of(place) {
             None => None,
@@ -160,6 +225,16 @@ impl<T: Tables> HeapsOf<T> {
 
     /// Where the range of a place begins, in units from the start of its heap, or `None` where it is not
     /// live.
+    ///
+    /// ```
+    /// # use offset_allocator_heaps::*;
+    /// # let alloc = Global;
+    /// let limits = Limits { size: 1000, max_allocs: 100, most: 2, most_larger: 1 };
+    /// let mut heaps = Heaps::<u32>::new(alloc, limits, 1)?;
+    /// let mesh = heaps.allocate(300).unwrap().place;
+    /// assert_eq!(heaps.offset_of(mesh), Some(0));
+    /// # Ok::<(), AllocError>(())
+    /// ```
     pub fn offset_of(&self, place: Place) -> Option<u32> {
         match self.heap_of(place) {
             None => None,

@@ -55,6 +55,20 @@ impl<T: Tables> HeapsOf<T> {
     /// `None` is returned where no heap takes the range, and where the place is not live; then nothing
     /// changes. It looks for the first heap that has room as `allocate` does, and from there on reads each
     /// slot once, up to the one that takes the range.
+    ///
+    /// ```
+    /// # use offset_allocator_heaps::*;
+    /// # let alloc = Global;
+    /// let limits = Limits { size: 1000, max_allocs: 100, most: 2, most_larger: 1 };
+    /// let mut heaps = Heaps::<u32>::new(alloc, limits, 1)?;
+    /// heaps.allocate(500).unwrap();
+    /// let old = heaps.allocate(400).unwrap().place;
+    /// let mesh = heaps.allocate(300).unwrap().place;
+    /// heaps.free(old);
+    /// let moved = heaps.relocate(mesh).unwrap();
+    /// assert_eq!((mesh.heap, moved.heap), (1, 0));
+    /// # Ok::<(), AllocError>(())
+    /// ```
     pub fn relocate(&mut self, place: Place) -> Option<Place> {
         if place.realm != self.realm {
             return None;
@@ -75,6 +89,17 @@ impl<T: Tables> HeapsOf<T> {
     /// The number of the heap with the fewest live units of those that have a live range, the last such by
     /// number, or `None` where nothing is live: the heap that is emptied with the least copies. It reads the
     /// slot of each number once.
+    ///
+    /// ```
+    /// # use offset_allocator_heaps::*;
+    /// # let alloc = Global;
+    /// let limits = Limits { size: 1000, max_allocs: 100, most: 2, most_larger: 1 };
+    /// let mut heaps = Heaps::<u32>::new(alloc, limits, 1)?;
+    /// assert_eq!(heaps.emptiest(), None);
+    /// let mesh = heaps.allocate(300).unwrap().place;
+    /// assert_eq!(heaps.emptiest(), Some(mesh.heap));
+    /// # Ok::<(), AllocError>(())
+    /// ```
     pub fn emptiest(&self) -> Option<u32> {
         emptiest_counted(self, &mut Accesses::new())
     }
@@ -82,6 +107,17 @@ impl<T: Tables> HeapsOf<T> {
     /// The place of the live range that is the last one in the heap of a number, or `None` where nothing is
     /// live in it, or the number has no heap. From it on, `live_before` walks all live ranges of the heap;
     /// they may be freed on the way, after the next one is asked for.
+    ///
+    /// ```
+    /// # use offset_allocator_heaps::*;
+    /// # let alloc = Global;
+    /// let limits = Limits { size: 1000, max_allocs: 100, most: 2, most_larger: 1 };
+    /// let mut heaps = Heaps::<u32>::new(alloc, limits, 1)?;
+    /// let mesh = heaps.allocate(300).unwrap().place;
+    /// let texture = heaps.allocate(100).unwrap().place;
+    /// assert_eq!(heaps.last_live(mesh.heap), Some(texture));
+    /// # Ok::<(), AllocError>(())
+    /// ```
     pub fn last_live(&self, heap: u32) -> Option<Place> {
         match self.heap(heap) {
             None => None,
@@ -91,6 +127,17 @@ impl<T: Tables> HeapsOf<T> {
 
     /// The place of the live range directly before that of a place in its heap. `None` where there is none,
     /// or where the place is not live.
+    ///
+    /// ```
+    /// # use offset_allocator_heaps::*;
+    /// # let alloc = Global;
+    /// let limits = Limits { size: 1000, max_allocs: 100, most: 2, most_larger: 1 };
+    /// let mut heaps = Heaps::<u32>::new(alloc, limits, 1)?;
+    /// let mesh = heaps.allocate(300).unwrap().place;
+    /// let texture = heaps.allocate(100).unwrap().place;
+    /// assert_eq!(heaps.live_before(texture), Some(mesh));
+    /// # Ok::<(), AllocError>(())
+    /// ```
     pub fn live_before(&self, place: Place) -> Option<Place> {
         match self.heap_of(place) {
             None => None,

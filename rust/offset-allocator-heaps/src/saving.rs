@@ -49,8 +49,22 @@ impl<T: Tables> HeapsOf<T> {
     /// state of each number's heap begins behind these numbers, and where the last one ends, so that a number
     /// without a heap has no bytes; and a checksum. The index of the heaps is not stored.
     ///
-    /// It takes time for the numbers, and for the nodes that were made. An error is returned only where an
-    /// allocation failed.
+    /// It takes time for the numbers, and for the nodes that were made.
+    ///
+    /// # Errors
+    ///
+    /// An error is returned only where an allocation failed.
+    ///
+    /// ```
+    /// # use offset_allocator_heaps::*;
+    /// # let alloc = Global;
+    /// let limits = Limits { size: 1000, max_allocs: 100, most: 2, most_larger: 1 };
+    /// let mut heaps = Heaps::<u32>::new(alloc, limits, 1)?;
+    /// let bytes = heaps.write_state(alloc)?;
+    /// let same = Heaps::<u32>::read_state(alloc, &bytes, 100, 1000)?.unwrap();
+    /// assert_eq!(same.limits(), heaps.limits());
+    /// # Ok::<(), AllocError>(())
+    /// ```
     pub fn write_state(&self, alloc: Global) -> Result<Vec<u8>, AllocError> {
         let limits = self.limits;
         let count = limits.most + limits.most_larger;

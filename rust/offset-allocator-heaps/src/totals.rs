@@ -58,6 +58,17 @@ fn with_heap<T: Tables>(totals: Totals, heap: Option<&GuardedOf<T>>) -> Totals {
 
 impl<T: Tables> HeapsOf<T> {
     /// What is live and what is free, in all heaps together.
+    ///
+    /// ```
+    /// # use offset_allocator_heaps::*;
+    /// # let alloc = Global;
+    /// let limits = Limits { size: 1000, max_allocs: 100, most: 2, most_larger: 1 };
+    /// let mut heaps = Heaps::<u32>::new(alloc, limits, 1)?;
+    /// heaps.allocate(300).unwrap();
+    /// let totals = heaps.totals();
+    /// assert_eq!((totals.heaps, totals.live_units, totals.free_units), (1, 300, 700));
+    /// # Ok::<(), AllocError>(())
+    /// ```
     pub fn totals(&self) -> Totals {
         let mut totals = Totals {
             heaps: 0,

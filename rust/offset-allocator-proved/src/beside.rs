@@ -98,12 +98,32 @@ impl<T: Tables> AllocatorOf<T> {
     /// makes 2 accesses to the tables for each block, and one more: the first block of a space is not
     /// known, so it walks back from the last one. With `live_after` a walk from here meets all live
     /// ranges, as one with `live_before` does from `last_live`.
+    ///
+    /// ```
+    /// # use offset_allocator_proved::*;
+    /// # let alloc = Global;
+    /// let mut space = Allocator::<u32>::new(alloc, 1000)?;
+    /// let mesh = space.allocate(300);
+    /// space.allocate(100);
+    /// assert_eq!(space.first_live(), mesh);
+    /// # Ok::<(), AllocError>(())
+    /// ```
     pub fn first_live(&self) -> Option<Allocation<T::Index>> {
         first_live_counted(self, &mut Accesses::new())
     }
 
     /// The handle of the live range that is the last one in space, or `None` where none is live. It makes at most 8
     /// accesses to the tables.
+    ///
+    /// ```
+    /// # use offset_allocator_proved::*;
+    /// # let alloc = Global;
+    /// let mut space = Allocator::<u32>::new(alloc, 1000)?;
+    /// space.allocate(300);
+    /// let texture = space.allocate(100);
+    /// assert_eq!(space.last_live(), texture);
+    /// # Ok::<(), AllocError>(())
+    /// ```
     pub fn last_live(&self) -> Option<Allocation<T::Index>> {
         last_live_counted(self, &mut Accesses::new())
     }
@@ -113,6 +133,16 @@ impl<T: Tables> AllocatorOf<T> {
     /// tables.
     ///
     /// From `last_live` on, this walks all live ranges; they may be freed on the way, after the next one is asked for.
+    ///
+    /// ```
+    /// # use offset_allocator_proved::*;
+    /// # let alloc = Global;
+    /// let mut space = Allocator::<u32>::new(alloc, 1000)?;
+    /// let mesh = space.allocate(300);
+    /// let texture = space.allocate(100).unwrap();
+    /// assert_eq!(space.live_before(texture), mesh);
+    /// # Ok::<(), AllocError>(())
+    /// ```
     pub fn live_before(&self, allocation: Allocation<T::Index>) -> Option<Allocation<T::Index>> {
         live_before_counted(self, allocation, &mut Accesses::new())
     }
@@ -120,6 +150,16 @@ impl<T: Tables> AllocatorOf<T> {
     /// The handle of the live range directly after that of a handle, with at most a free block between them. `None` where
     /// there is none, or where the handle is not live, of which only the name counts. It makes at most 8 accesses to the
     /// tables.
+    ///
+    /// ```
+    /// # use offset_allocator_proved::*;
+    /// # let alloc = Global;
+    /// let mut space = Allocator::<u32>::new(alloc, 1000)?;
+    /// let mesh = space.allocate(300).unwrap();
+    /// let texture = space.allocate(100);
+    /// assert_eq!(space.live_after(mesh), texture);
+    /// # Ok::<(), AllocError>(())
+    /// ```
     pub fn live_after(&self, allocation: Allocation<T::Index>) -> Option<Allocation<T::Index>> {
         live_after_counted(self, allocation, &mut Accesses::new())
     }

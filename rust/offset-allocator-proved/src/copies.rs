@@ -63,6 +63,20 @@ impl FusedIterator for MovePieces {}
 
 impl MovePieces {
     /// As `pieces` of a move of `size` units from the offset `from` to the offset `to`.
+    ///
+    /// # Panics
+    ///
+    /// It panics unless a piece has at least 1 unit, and a move goes to a smaller offset, and a move
+    /// ends at 4294967295 or before.
+    ///
+    /// ```
+    /// # use offset_allocator_proved::*;
+    /// # let alloc = Global;
+    /// let mut pieces = MovePieces::of(300, 0, 100, 64);
+    /// assert_eq!(pieces.next(), Some(Piece { from: 300, to: 0, size: 64 }));
+    /// assert_eq!(pieces.next(), Some(Piece { from: 364, to: 64, size: 36 }));
+    /// # Ok::<(), AllocError>(())
+    /// ```
     #[track_caller]
     pub fn of(from: u32, to: u32, size: u32, most: u32) -> Self {
         assert!(0 < most, "a piece must have at least 1 unit");
@@ -80,6 +94,17 @@ impl MovePieces {
 impl<NI: NodeIndex, N: NodeIndexNonMax> Move<NI, N> {
     /// Whether the units that are read and those that are written have none in common. Then one copy makes the move on a
     /// device whose copies may not overlap; `pieces` are for all moves.
+    ///
+    /// ```
+    /// # use offset_allocator_proved::*;
+    /// # let alloc = Global;
+    /// let mut space = Allocator::<u32>::new(alloc, 1000)?;
+    /// let hole = space.allocate(300).unwrap();
+    /// space.allocate(100);
+    /// space.free(hole);
+    /// space.compact(&mut |it| assert!(it.is_apart()));
+    /// # Ok::<(), AllocError>(())
+    /// ```
     pub fn is_apart(&self) -> bool {
         if self.to <= self.from {
             self.from - self.to >= self.size
@@ -94,6 +119,22 @@ impl<NI: NodeIndex, N: NodeIndexNonMax> Move<NI, N> {
     ///
     /// The move has to be one to a smaller offset, with all its units below 4294967295, as those that `compact` yields
     /// are; and `most` at least 1. It takes no memory.
+    ///
+    /// # Panics
+    ///
+    /// It panics unless a piece has at least 1 unit, and a move goes to a smaller offset, and a move
+    /// ends at 4294967295 or before.
+    ///
+    /// ```
+    /// # use offset_allocator_proved::*;
+    /// # let alloc = Global;
+    /// let mut space = Allocator::<u32>::new(alloc, 1000)?;
+    /// let hole = space.allocate(300).unwrap();
+    /// space.allocate(100);
+    /// space.free(hole);
+    /// space.compact(&mut |it| assert_eq!(it.pieces(64).map(|piece| piece.size).sum::<u32>(), 100));
+    /// # Ok::<(), AllocError>(())
+    /// ```
     #[track_caller]
     pub fn pieces(&self, most: u32) -> MovePieces {
         assert!(0 < most, "a piece must have at least 1 unit");

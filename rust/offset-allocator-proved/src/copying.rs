@@ -88,8 +88,22 @@ impl<T: Tables> AllocatorOf<T> {
     /// was made.
     ///
     /// It reserves what `with_max_allocs` does, and takes time for the nodes that were made, which
-    /// `node_count` counts, and not for the node limit. An error is returned only where an allocation failed;
-    /// then nothing is made.
+    /// `node_count` counts, and not for the node limit.
+    ///
+    /// # Errors
+    ///
+    /// An error is returned only where an allocation failed; then nothing is made.
+    ///
+    /// ```
+    /// # use offset_allocator_proved::*;
+    /// # let alloc = Global;
+    /// let mut space = Allocator::<u32>::new(alloc, 1000)?;
+    /// let mesh = space.allocate(300).unwrap();
+    /// let copy = space.try_clone(alloc)?;
+    /// space.free(mesh);
+    /// assert!(copy.is_live(mesh));
+    /// # Ok::<(), AllocError>(())
+    /// ```
     pub fn try_clone(&self, alloc: Global) -> Result<Self, AllocError> {
         let mut count = Accesses::new();
         let store = &self.store;

@@ -115,7 +115,17 @@ impl<T: Tables> AllocatorOf<T> {
     /// A space of `size` units, all free, with the smaller of 131072 and `T::Index::MAX - 2` as the node limit. A node
     /// costs as much as in `with_max_allocs`.
     ///
+    /// # Errors
+    ///
     /// An error is returned only where an allocation failed; then nothing is made.
+    ///
+    /// ```
+    /// # use offset_allocator_proved::*;
+    /// # let alloc = Global;
+    /// let space = Allocator::<u32>::new(alloc, 1 << 20)?;
+    /// assert_eq!(space.free_units(), 1 << 20);
+    /// # Ok::<(), AllocError>(())
+    /// ```
     #[track_caller]
     pub fn new(alloc: Global, size: u32) -> Result<Self, AllocError> {
         Self::with_max_allocs(alloc, size, 131072u32.min(T::Index::MAX - 2))
@@ -127,7 +137,22 @@ impl<T: Tables> AllocatorOf<T> {
     /// 4294967293 for `u32`. `ByNode` and `ByField` reserve 28 bytes a node with `u32`, 18 with `u16`, all of
     /// them here; those of a node are written when it is made, which `node_count` counts.
     ///
+    /// # Errors
+    ///
     /// An error is returned only where an allocation failed; then nothing is made.
+    ///
+    /// # Panics
+    ///
+    /// It panics unless `max_allocs` is at least 2, and `max_allocs` is at most `NI::MAX - 2`.
+    ///
+    /// ```
+    /// # use offset_allocator_proved::*;
+    /// # let alloc = Global;
+    /// let mut space = Allocator::<u16>::with_max_allocs(alloc, 1000, 3)?;
+    /// assert!(space.allocate(10).is_some());
+    /// assert!(space.allocate(10).is_none());
+    /// # Ok::<(), AllocError>(())
+    /// ```
     #[track_caller]
     pub fn with_max_allocs(alloc: Global, size: u32, max_allocs: u32) -> Result<Self, AllocError> {
         assert!(2 <= max_allocs, "max_allocs must be at least 2");
@@ -157,6 +182,16 @@ impl<T: Tables> AllocatorOf<T> {
     /// It takes no memory and always succeeds, and the space keeps what `extend` added. If at most 5 blocks exist, it
     /// frees each live range; otherwise it forgets all nodes and empties the bins: about 1 KB is written, whatever the
     /// node limit.
+    ///
+    /// ```
+    /// # use offset_allocator_proved::*;
+    /// # let alloc = Global;
+    /// let mut space = Allocator::<u32>::new(alloc, 1000)?;
+    /// let mesh = space.allocate(300).unwrap();
+    /// space.reset();
+    /// assert!(!space.is_live(mesh));
+    /// # Ok::<(), AllocError>(())
+    /// ```
     pub fn reset(&mut self) {
         // the invariant bounds the number of blocks
         self.formed();
@@ -169,16 +204,41 @@ impl<T: Tables> AllocatorOf<T> {
     }
 
     /// The units of the space, with what `extend` added.
+    ///
+    /// ```
+    /// # use offset_allocator_proved::*;
+    /// # let alloc = Global;
+    /// let mut space = Allocator::<u32>::new(alloc, 1000)?;
+    /// assert_eq!(space.size(), 1000);
+    /// # Ok::<(), AllocError>(())
+    /// ```
     pub fn size(&self) -> u32 {
         self.size
     }
 
     /// The node limit. At most `max_allocs - 1` blocks exist at a time, free ones included.
+    ///
+    /// ```
+    /// # use offset_allocator_proved::*;
+    /// # let alloc = Global;
+    /// let mut space = Allocator::<u32>::new(alloc, 1000)?;
+    /// assert_eq!(space.max_allocs(), 131_072);
+    /// # Ok::<(), AllocError>(())
+    /// ```
     pub fn max_allocs(&self) -> u32 {
         self.max_allocs
     }
 
     /// The number of blocks, used and free.
+    ///
+    /// ```
+    /// # use offset_allocator_proved::*;
+    /// # let alloc = Global;
+    /// let mut space = Allocator::<u32>::new(alloc, 1000)?;
+    /// space.allocate(300);
+    /// assert_eq!(space.block_count(), 2);
+    /// # Ok::<(), AllocError>(())
+    /// ```
     pub fn block_count(&self) -> u32 {
         self.store.tables.len() - self.store.spare_count
     }
@@ -186,12 +246,30 @@ impl<T: Tables> AllocatorOf<T> {
     /// The number of nodes that were made: each block's name is below it. Contracts leave it open, as some names, and no
     /// other answer depends on it: `grow_in_place` and a call that may add a block can make it larger by 1 or 2, also
     /// where they leave the space as it was, and only `reset` makes it smaller.
+    ///
+    /// ```
+    /// # use offset_allocator_proved::*;
+    /// # let alloc = Global;
+    /// let mut space = Allocator::<u32>::new(alloc, 1000)?;
+    /// space.allocate(300);
+    /// assert!(space.node_count() >= space.block_count());
+    /// # Ok::<(), AllocError>(())
+    /// ```
     pub fn node_count(&self) -> u32 {
         self.store.tables.len()
     }
 
     /// Whether `max_allocs - 1` blocks exist. Then every request is refused, and the short report is 0, 0, until blocks
     /// coalesce (by `free`, `compact` or `reset`) or `grow_in_place` takes the whole of a free block.
+    ///
+    /// ```
+    /// # use offset_allocator_proved::*;
+    /// # let alloc = Global;
+    /// let mut space = Allocator::<u32>::with_max_allocs(alloc, 1000, 3)?;
+    /// space.allocate(300);
+    /// assert!(space.is_full());
+    /// # Ok::<(), AllocError>(())
+    /// ```
     pub fn is_full(&self) -> bool {
         self.block_count() == self.max_allocs - 1
     }
@@ -204,6 +282,16 @@ impl<T: Tables> AllocatorOf<T> {
     /// a class; then the space is as it was. A request of at least one unit is granted exactly when it is at most the
     /// `largest_free_region` that `storage_report` returns just before. One of 0 units takes a node too, and needs a
     /// free block of any size. It makes at most 64 accesses to the tables, and takes no memory.
+    ///
+    /// ```
+    /// # use offset_allocator_proved::*;
+    /// # let alloc = Global;
+    /// let mut space = Allocator::<u32>::new(alloc, 1000)?;
+    /// let mesh = space.allocate(300).unwrap();
+    /// assert_eq!(mesh.offset, 0);
+    /// assert!(space.allocate(701).is_none());
+    /// # Ok::<(), AllocError>(())
+    /// ```
     pub fn allocate(&mut self, size: u32) -> Option<Allocation<T::Index>> {
         self.serve(size, 1)
     }
@@ -214,6 +302,20 @@ impl<T: Tables> AllocatorOf<T> {
     /// The handle has to be live, which `is_live` reports. Only its name counts, and not its public `offset`: a stale
     /// handle whose name was granted again is live, and frees that range. It makes at most 128 accesses to the tables,
     /// and takes no memory.
+    ///
+    /// # Panics
+    ///
+    /// It panics unless the handle is live.
+    ///
+    /// ```
+    /// # use offset_allocator_proved::*;
+    /// # let alloc = Global;
+    /// let mut space = Allocator::<u32>::new(alloc, 1000)?;
+    /// let mesh = space.allocate(300).unwrap();
+    /// space.free(mesh);
+    /// assert_eq!(space.free_units(), 1000);
+    /// # Ok::<(), AllocError>(())
+    /// ```
     #[track_caller]
     pub fn free(&mut self, allocation: Allocation<T::Index>) {
         assert!(self.is_live(allocation), "the handle must be live: {:?}", { allocation });
@@ -224,6 +326,17 @@ impl<T: Tables> AllocatorOf<T> {
     ///
     /// A handle whose block was freed is live again where a newer grant has its name. It makes at most 8 accesses to
     /// the tables.
+    ///
+    /// ```
+    /// # use offset_allocator_proved::*;
+    /// # let alloc = Global;
+    /// let mut space = Allocator::<u32>::new(alloc, 1000)?;
+    /// let mesh = space.allocate(300).unwrap();
+    /// assert!(space.is_live(mesh));
+    /// space.free(mesh);
+    /// assert!(!space.is_live(mesh));
+    /// # Ok::<(), AllocError>(())
+    /// ```
     pub fn is_live(&self, allocation: Allocation<T::Index>) -> bool {
         reports::is_live_counted(self, allocation, &mut Accesses::new())
     }
@@ -231,6 +344,15 @@ impl<T: Tables> AllocatorOf<T> {
     /// The units of the range that a live handle has: exactly those that `allocate`, `allocate_aligned`, `shrink` or
     /// `grow_in_place` last gave it. It is 0 where the handle is not live, and for a live range of no units too. It
     /// makes at most 8 accesses to the tables.
+    ///
+    /// ```
+    /// # use offset_allocator_proved::*;
+    /// # let alloc = Global;
+    /// let mut space = Allocator::<u32>::new(alloc, 1000)?;
+    /// let mesh = space.allocate(300).unwrap();
+    /// assert_eq!(space.allocation_size(mesh), 300);
+    /// # Ok::<(), AllocError>(())
+    /// ```
     pub fn allocation_size(&self, allocation: Allocation<T::Index>) -> u32 {
         reports::allocation_size_counted(self, allocation, &mut Accesses::new())
     }
@@ -240,12 +362,32 @@ impl<T: Tables> AllocatorOf<T> {
     ///
     /// The public `offset` of a handle is a copy: a caller may have changed it, `compact` leaves it as it was, and a
     /// stale handle keeps it. It makes at most 8 accesses to the tables.
+    ///
+    /// ```
+    /// # use offset_allocator_proved::*;
+    /// # let alloc = Global;
+    /// let mut space = Allocator::<u32>::new(alloc, 1000)?;
+    /// let mesh = space.allocate(300).unwrap();
+    /// assert_eq!(space.allocation_offset(mesh), Some(0));
+    /// # Ok::<(), AllocError>(())
+    /// ```
     pub fn allocation_offset(&self, allocation: Allocation<T::Index>) -> Option<u32> {
         reports::allocation_offset_counted(self, allocation, &mut Accesses::new())
     }
 
     /// The blocks of the space, used and free, from its end to its start. It takes no memory, and each block costs at
     /// most 5 accesses to the tables.
+    ///
+    /// ```
+    /// # use offset_allocator_proved::*;
+    /// # let alloc = Global;
+    /// let mut space = Allocator::<u32>::new(alloc, 1000)?;
+    /// let mesh = space.allocate(300).unwrap();
+    /// let mut blocks = space.blocks();
+    /// assert_eq!(blocks.next().unwrap().size, 700);
+    /// assert_eq!(blocks.next().unwrap().allocation, Some(mesh));
+    /// # Ok::<(), AllocError>(())
+    /// ```
     pub fn blocks(&self) -> BlocksOf<'_, T> {
         BlocksOf {
             allocator: self,
@@ -257,12 +399,32 @@ impl<T: Tables> AllocatorOf<T> {
     /// The free space in short: the units of all free blocks, and the largest request that would be granted, or 0 where
     /// none of at least one unit would be. Both are 0 where `max_allocs - 1` blocks exist or no block is free, and then
     /// a request of 0 units is refused too. It makes at most 8 accesses to the tables.
+    ///
+    /// ```
+    /// # use offset_allocator_proved::*;
+    /// # let alloc = Global;
+    /// let mut space = Allocator::<u32>::new(alloc, 1000)?;
+    /// space.allocate(300);
+    /// let report = space.storage_report();
+    /// assert_eq!((report.total_free_space, report.largest_free_region), (700, 640));
+    /// # Ok::<(), AllocError>(())
+    /// ```
     pub fn storage_report(&self) -> StorageReport {
         reports::storage_report_counted(self, &mut Accesses::new())
     }
 
     /// The free blocks, class by class, at the node limit too. It makes at most 512 accesses to the tables, and 2 for
     /// each free block.
+    ///
+    /// ```
+    /// # use offset_allocator_proved::*;
+    /// # let alloc = Global;
+    /// let mut space = Allocator::<u32>::new(alloc, 1000)?;
+    /// let report = space.storage_report_full();
+    /// let free: u32 = report.free_regions.iter().map(|class| class.count).sum();
+    /// assert_eq!(free, 1);
+    /// # Ok::<(), AllocError>(())
+    /// ```
     pub fn storage_report_full(&self) -> StorageReportFull {
         reports::storage_report_full_counted(self, &mut Accesses::new())
     }
@@ -270,6 +432,15 @@ impl<T: Tables> AllocatorOf<T> {
     /// Why `allocate(size)` would be refused now, or `None` exactly where it would be granted.
     ///
     /// It makes at most 8 accesses to the tables.
+    ///
+    /// ```
+    /// # use offset_allocator_proved::*;
+    /// # let alloc = Global;
+    /// let mut space = Allocator::<u32>::new(alloc, 1000)?;
+    /// assert_eq!(space.refusal(300), None);
+    /// assert_eq!(space.refusal(1001), Some(Refusal::TooLarge));
+    /// # Ok::<(), AllocError>(())
+    /// ```
     pub fn refusal(&self, size: u32) -> Option<Refusal> {
         reports::refusal_counted(self, size, &mut Accesses::new())
     }
@@ -278,6 +449,19 @@ impl<T: Tables> AllocatorOf<T> {
     ///
     /// `align` has to be a power of two. If it is above 1, the request needs room for two more blocks, and a block for
     /// `size + align - 1` units. It makes at most 8 accesses to the tables.
+    ///
+    /// # Panics
+    ///
+    /// It panics unless `align` is a power of two.
+    ///
+    /// ```
+    /// # use offset_allocator_proved::*;
+    /// # let alloc = Global;
+    /// let mut space = Allocator::<u32>::new(alloc, 1000)?;
+    /// assert_eq!(space.refusal_aligned(900, 4), None);
+    /// assert_eq!(space.refusal_aligned(900, 256), Some(Refusal::TooLarge));
+    /// # Ok::<(), AllocError>(())
+    /// ```
     #[track_caller]
     pub fn refusal_aligned(&self, size: u32, align: u32) -> Option<Refusal> {
         assert!(align.is_power_of_two(), "align must be a power of two");
@@ -295,6 +479,20 @@ impl<T: Tables> AllocatorOf<T> {
     ///
     /// A fresh space of 1,048,576 units grants 64 KiB at a multiple of 256 only 15 times. Where all requests have one
     /// alignment, let a unit be as large as that, and call `allocate`: then it grants all 16.
+    ///
+    /// # Panics
+    ///
+    /// It panics unless `align` is a power of two.
+    ///
+    /// ```
+    /// # use offset_allocator_proved::*;
+    /// # let alloc = Global;
+    /// let mut space = Allocator::<u32>::new(alloc, 1000)?;
+    /// space.allocate(10);
+    /// let uniforms = space.allocate_aligned(300, 256).unwrap();
+    /// assert_eq!(uniforms.offset, 256);
+    /// # Ok::<(), AllocError>(())
+    /// ```
     #[track_caller]
     pub fn allocate_aligned(&mut self, size: u32, align: u32) -> Option<Allocation<T::Index>> {
         assert!(align.is_power_of_two(), "align must be a power of two");
@@ -307,6 +505,15 @@ impl<T: Tables> AllocatorOf<T> {
     /// `false` is returned where the space would have more than 4294967295 units, or where its last block is used and
     /// no further block may exist; then the space is as it was. With 0 units it is `true`, and the space is as it was
     /// too. It makes at most 128 accesses to the tables, and takes no memory.
+    ///
+    /// ```
+    /// # use offset_allocator_proved::*;
+    /// # let alloc = Global;
+    /// let mut space = Allocator::<u32>::new(alloc, 1000)?;
+    /// assert!(space.extend(24));
+    /// assert_eq!(space.size(), 1024);
+    /// # Ok::<(), AllocError>(())
+    /// ```
     pub fn extend(&mut self, more: u32) -> bool {
         let left = self.names_left();
         if more == 0 {

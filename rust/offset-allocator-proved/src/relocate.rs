@@ -30,6 +30,23 @@ impl<T: Tables> AllocatorOf<T> {
     /// The block is the one that `allocate` takes for these units. `None` is returned where that would refuse them, or
     /// where the block begins after the range; then the space is as it was. The handle has to be live, and only its name
     /// counts. It makes at most 80 accesses to the tables, and takes no memory.
+    ///
+    /// # Panics
+    ///
+    /// It panics unless the handle is live.
+    ///
+    /// ```
+    /// # use offset_allocator_proved::*;
+    /// # let alloc = Global;
+    /// let mut space = Allocator::<u32>::new(alloc, 1000)?;
+    /// let hole = space.allocate(320).unwrap();
+    /// let mesh = space.allocate(320).unwrap();
+    /// space.free(hole);
+    /// let moved = space.relocate(mesh).unwrap();
+    /// assert_eq!((mesh.offset, moved.offset), (320, 0));
+    /// space.free(mesh);
+    /// # Ok::<(), AllocError>(())
+    /// ```
     #[track_caller]
     pub fn relocate(&mut self, allocation: Allocation<T::Index>) -> Option<Allocation<T::Index>> {
         assert!(self.is_live(allocation), "the handle must be live: {:?}", { allocation });

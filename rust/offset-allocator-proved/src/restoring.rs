@@ -142,8 +142,22 @@ impl<T: Tables> AllocatorOf<T> {
     ///
     /// `most_allocs` is the largest node limit that is accepted, since memory for the limit is reserved, as
     /// by `with_max_allocs`. Nothing else that is requested is more than 4 bytes for each 4 that were given.
-    /// It takes time for the bytes. An error is returned only where an allocation failed; then nothing is
-    /// made.
+    /// It takes time for the bytes.
+    ///
+    /// # Errors
+    ///
+    /// An error is returned only where an allocation failed; then nothing is made.
+    ///
+    /// ```
+    /// # use offset_allocator_proved::*;
+    /// # let alloc = Global;
+    /// let mut space = Allocator::<u32>::new(alloc, 1000)?;
+    /// let mesh = space.allocate(300).unwrap();
+    /// let bytes = space.write_state(alloc)?;
+    /// let same = Allocator::<u32>::read_state(alloc, &bytes, 131_072)?.unwrap();
+    /// assert!(same.is_live(mesh));
+    /// # Ok::<(), AllocError>(())
+    /// ```
     pub fn read_state(
         alloc: Global,
         bytes: &[u8],

@@ -44,6 +44,17 @@ impl<T: Tables> AllocatorOf<T> {
     ///
     /// `false` is returned where the last block is used or has fewer units; then the space is as it was. With 0 units it is
     /// `true`, and the space is as it was too. It makes at most 64 accesses to the tables, and takes no memory.
+    ///
+    /// ```
+    /// # use offset_allocator_proved::*;
+    /// # let alloc = Global;
+    /// let mut space = Allocator::<u32>::new(alloc, 1000)?;
+    /// space.allocate(300);
+    /// assert!(space.retract(700));
+    /// assert_eq!(space.size(), 300);
+    /// assert!(!space.retract(1));
+    /// # Ok::<(), AllocError>(())
+    /// ```
     pub fn retract(&mut self, less: u32) -> bool {
         if less == 0 {
             return true;

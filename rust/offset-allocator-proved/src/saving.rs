@@ -120,7 +120,20 @@ impl<T: Tables> AllocatorOf<T> {
     /// names of free blocks, bin by bin, the newest first; the unused names, the next one last; and a
     /// checksum.
     ///
-    /// It takes time for the nodes that were made. An error is returned only where an allocation failed.
+    /// It takes time for the nodes that were made.
+    ///
+    /// # Errors
+    ///
+    /// An error is returned only where an allocation failed.
+    ///
+    /// ```
+    /// # use offset_allocator_proved::*;
+    /// # let alloc = Global;
+    /// let mut space = Allocator::<u32>::new(alloc, 1000)?;
+    /// let bytes = space.write_state(alloc)?;
+    /// assert_eq!(bytes.len(), 44);
+    /// # Ok::<(), AllocError>(())
+    /// ```
     pub fn write_state(&self, alloc: Global) -> Result<Vec<u8>, AllocError> {
         let mut words = self.state_numbers(alloc)?;
         let sum = checksum(&words);

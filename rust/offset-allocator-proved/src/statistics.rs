@@ -89,11 +89,29 @@ pub fn statistics_counted<T: Tables>(allocator: &AllocatorOf<T>, count: &mut Acc
 impl<T: Tables> AllocatorOf<T> {
     /// The units of all free blocks together, at the node limit too, where a report has 0. It makes no access to the
     /// tables.
+    ///
+    /// ```
+    /// # use offset_allocator_proved::*;
+    /// # let alloc = Global;
+    /// let mut space = Allocator::<u32>::new(alloc, 1000)?;
+    /// space.allocate(300);
+    /// assert_eq!(space.free_units(), 700);
+    /// # Ok::<(), AllocError>(())
+    /// ```
     pub fn free_units(&self) -> u32 {
         self.free_total
     }
 
     /// The units of all live ranges together. With `free_units` they add up to `size`. It makes no access to the tables.
+    ///
+    /// ```
+    /// # use offset_allocator_proved::*;
+    /// # let alloc = Global;
+    /// let mut space = Allocator::<u32>::new(alloc, 1000)?;
+    /// space.allocate(300);
+    /// assert_eq!(space.live_units(), 300);
+    /// # Ok::<(), AllocError>(())
+    /// ```
     pub fn live_units(&self) -> u32 {
         self.formed();
         self.size - self.free_total
@@ -101,12 +119,33 @@ impl<T: Tables> AllocatorOf<T> {
 
     /// Whether no range is live, not even one of no units. It is right at every node limit, and makes at most 8 accesses
     /// to the tables.
+    ///
+    /// ```
+    /// # use offset_allocator_proved::*;
+    /// # let alloc = Global;
+    /// let mut space = Allocator::<u32>::new(alloc, 1000)?;
+    /// let nothing = space.allocate(0).unwrap();
+    /// assert!(!space.is_empty());
+    /// space.free(nothing);
+    /// assert!(space.is_empty());
+    /// # Ok::<(), AllocError>(())
+    /// ```
     pub fn is_empty(&self) -> bool {
         is_empty_counted(self, &mut Accesses::new())
     }
 
     /// What is live and what is free, exactly, at the node limit too. It makes at most 520 accesses to the tables, and 4
     /// for each free block.
+    ///
+    /// ```
+    /// # use offset_allocator_proved::*;
+    /// # let alloc = Global;
+    /// let mut space = Allocator::<u32>::new(alloc, 1000)?;
+    /// space.allocate(300);
+    /// let statistics = space.statistics();
+    /// assert_eq!((statistics.live_ranges, statistics.largest_free_block), (1, 700));
+    /// # Ok::<(), AllocError>(())
+    /// ```
     pub fn statistics(&self) -> Statistics {
         statistics_counted(self, &mut Accesses::new())
     }

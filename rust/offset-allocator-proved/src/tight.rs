@@ -64,6 +64,10 @@ fn choose<T: Tables>(
 
 /// As `Allocator::refusal_tight_aligned`. The count grows by at most 2, and 6 for each free block of the class of `size`
 /// units or above.
+///
+/// # Panics
+///
+/// It panics unless `align` is a power of two.
 #[track_caller]
 pub fn refusal_tight_aligned_counted<T: Tables>(
     allocator: &AllocatorOf<T>,
@@ -156,6 +160,16 @@ impl<T: Tables> AllocatorOf<T> {
     /// as it was. A request of at least one unit is granted exactly when it is at most the `largest_free_block` of
     /// `statistics` and there is room for one more block. It takes no memory, and makes at most 140 accesses to the
     /// tables, and 6 for each free block of the class of `size`.
+    ///
+    /// ```
+    /// # use offset_allocator_proved::*;
+    /// # let alloc = Global;
+    /// let mut space = Allocator::<u32>::new(alloc, 1000)?;
+    /// space.allocate(300);
+    /// assert!(space.allocate(700).is_none());
+    /// assert!(space.allocate_tight(700).is_some());
+    /// # Ok::<(), AllocError>(())
+    /// ```
     pub fn allocate_tight(&mut self, size: u32) -> Option<Allocation<T::Index>> {
         self.formed();
         self.serve_tight(size, 1)
@@ -168,6 +182,20 @@ impl<T: Tables> AllocatorOf<T> {
     /// `None` is returned where no free block holds them, or where there is no room for one more block, or for two more if
     /// `align` is above 1; then the space is as it was. It takes no memory, and makes at most 140 accesses to the tables,
     /// and 6 for each free block of the class of `size` or above.
+    ///
+    /// # Panics
+    ///
+    /// It panics unless `align` is a power of two.
+    ///
+    /// ```
+    /// # use offset_allocator_proved::*;
+    /// # let alloc = Global;
+    /// let mut space = Allocator::<u32>::new(alloc, 1000)?;
+    /// space.allocate(256);
+    /// assert!(space.allocate_aligned(700, 256).is_none());
+    /// assert_eq!(space.allocate_tight_aligned(700, 256).unwrap().offset, 256);
+    /// # Ok::<(), AllocError>(())
+    /// ```
     #[track_caller]
     pub fn allocate_tight_aligned(&mut self, size: u32, align: u32) -> Option<Allocation<T::Index>> {
         assert!(align.is_power_of_two(), "align must be a power of two");
@@ -178,6 +206,16 @@ impl<T: Tables> AllocatorOf<T> {
     /// has fewer units. `Space`: so are all free units together, or there are none. `Fragmented`: they are enough, and
     /// after `compact` the request is granted. It makes at most 2 accesses to the tables, and 6 for each free block of the
     /// class of `size` or above.
+    ///
+    /// ```
+    /// # use offset_allocator_proved::*;
+    /// # let alloc = Global;
+    /// let mut space = Allocator::<u32>::new(alloc, 1000)?;
+    /// space.allocate(300);
+    /// assert_eq!(space.refusal_tight(700), None);
+    /// assert_eq!(space.refusal_tight(701), Some(Refusal::Space));
+    /// # Ok::<(), AllocError>(())
+    /// ```
     pub fn refusal_tight(&self, size: u32) -> Option<Refusal> {
         refusal_tight_counted(self, size, &mut Accesses::new())
     }
@@ -185,6 +223,20 @@ impl<T: Tables> AllocatorOf<T> {
     /// Why `allocate_tight_aligned(size, align)` would be refused now, or `None` exactly where it would be granted.
     /// `align` has to be a power of two. The reasons are those of `refusal_tight`; but after `compact` the request is
     /// granted only if the free block, where it begins then, holds it.
+    ///
+    /// # Panics
+    ///
+    /// It panics unless `align` is a power of two.
+    ///
+    /// ```
+    /// # use offset_allocator_proved::*;
+    /// # let alloc = Global;
+    /// let mut space = Allocator::<u32>::new(alloc, 1000)?;
+    /// space.allocate(300);
+    /// assert_eq!(space.refusal_tight_aligned(400, 256), None);
+    /// assert_eq!(space.refusal_tight_aligned(700, 256), Some(Refusal::Fragmented));
+    /// # Ok::<(), AllocError>(())
+    /// ```
     #[track_caller]
     pub fn refusal_tight_aligned(&self, size: u32, align: u32) -> Option<Refusal> {
         assert!(align.is_power_of_two(), "align must be a power of two");

@@ -84,6 +84,10 @@ fn body(alloc: Global, course: &Course) -> Result<String, AllocError> {
 ///
 /// It is drawn as the course says, of whichever calls: `course_of` makes that of a script. No life may end
 /// before it begins. It fails only where an allocation fails.
+///
+/// # Panics
+///
+/// It panics unless no life ends before it begins.
 #[track_caller]
 pub fn picture_of(alloc: Global, title: &str, course: &Course) -> Result<String, AllocError> {
     assert!(course.lives.iter().all(|life| life.first <= life.last), "no life may end before it begins");

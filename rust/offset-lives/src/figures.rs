@@ -153,6 +153,10 @@ impl Figures {
 }
 
 /// The numbers of a course.
+///
+/// # Panics
+///
+/// It panics unless no life ends before it begins.
 #[track_caller]
 pub fn figures_of(alloc: Global, course: &Course) -> Result<Figures, AllocError> {
     assert!(course.lives.iter().all(|life| life.first <= life.last), "no life may end before it begins");

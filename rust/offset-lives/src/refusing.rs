@@ -89,6 +89,10 @@ fn refused_call<T: Tables>(space: &AllocatorOf<T>, call: usize, command: Command
 }
 
 /// Adds a call to those that were refused, if its answer is `none`. This is the space after it.
+///
+/// # Panics
+///
+/// It panics unless an alignment is a power of two.
 #[track_caller]
 pub fn note<T: Tables>(
     refused: &mut Vec<Refused>,

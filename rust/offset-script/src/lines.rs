@@ -20,6 +20,10 @@ fn is_skipped(line: &[u8]) -> bool {
 
 impl<'a> Lines<'a> {
     /// All lines of a text.
+    ///
+    /// # Panics
+    ///
+    /// It panics unless a text is shorter than 4294967295 bytes.
     #[track_caller]
     pub fn of(text: &'a [u8]) -> Self {
         assert!(text.len() < u32::MAX as usize, "a text must be shorter than 4294967295 bytes");

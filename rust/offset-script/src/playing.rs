@@ -42,6 +42,10 @@ pub struct PlayerOf<T: Tables> {
 impl<T: Tables> PlayerOf<T> {
     /// A fresh space, and no grants. The limit has to be 2 to `T::Index::MAX - 2`. It fails only where an allocation
     /// fails.
+    ///
+    /// # Panics
+    ///
+    /// It panics unless `max_allocs` is at least 2, and `max_allocs` is at most `NI::MAX - 2`.
     #[track_caller]
     pub fn start(alloc: Global, size: u32, max_allocs: u32) -> Result<Self, AllocError> {
         assert!(2 <= max_allocs, "max_allocs must be at least 2");
@@ -138,6 +142,10 @@ impl<T: Tables> PlayerOf<T> {
 
     /// The answer to one command. The alignment of a request has to be a power of two. It fails only where an
     /// allocation fails.
+    ///
+    /// # Panics
+    ///
+    /// It panics unless an alignment is a power of two.
     #[track_caller]
     pub fn call(&mut self, alloc: Global, command: Command) -> Result<Answer, AllocError> {
         assert!(!matches!(command, Command::Align(_, align) if !align.is_power_of_two()), "an alignment must be a power of two");
@@ -159,6 +167,11 @@ impl<T: Tables> PlayerOf<T> {
 ///
 /// The limit has to be 2 to `T::Index::MAX - 2`, and each alignment a power of two. All answers are kept in memory. It
 /// fails only where an allocation fails: of the allocator's tables, of the list of handles, or of the answers.
+///
+/// # Panics
+///
+/// It panics unless `max_allocs` is at least 2, and `max_allocs` is at most `NI::MAX - 2`, and each
+/// alignment is a power of two.
 #[track_caller]
 pub fn play_of<T: Tables>(
     alloc: Global,
@@ -182,6 +195,11 @@ pub fn play_of<T: Tables>(
 }
 
 /// `play_of` by node, as `Allocator` is. The limit has to be 2 to `NI::MAX - 2`.
+///
+/// # Panics
+///
+/// It panics unless `max_allocs` is at least 2, and `max_allocs` is at most `NI::MAX - 2`, and each
+/// alignment is a power of two.
 #[track_caller]
 pub fn play<NI: NodeIndex>(
     alloc: Global,

@@ -2,14 +2,14 @@
 
 /// Numbers below 32768: the high bits of a linear congruential generator.
 #[derive(Drop)]
-pub struct Numbers {
+pub struct Random {
     state: u64,
 }
 
-impl Numbers {
+impl Random {
     /// The numbers that follow a state.
     pub fn new(state: u64) -> Self {
-        Numbers { state }
+        Random { state }
     }
 
     /// The next number.
