@@ -1,9 +1,11 @@
-"""Prints what bench/run has measured with the programs in the folder $1, and writes it into RESULTS.md and plot.svg. With $2
-it measures the workloads with this text in their names itself, and writes no file; with a further word `counts` it takes
-no times."""
+"""Prints what bench/run has measured with the programs in the folder $1, and writes it into results.txt,
+RESULTS.md, which has the chief of it, and plot.svg. With $2 it measures the workloads with this text in their
+names itself, and writes no file; with a further word `counts` it takes no times."""
 import math, sys
 from typing import NamedTuple
-from measures import BESIDE, COMPACTED, HERE, LIMITS, PREFIXES, RESIDENT, SIDES, WAYS, check, counts, saved, times, works
+import pages
+from measures import BESIDE, COMPACTED, HERE, LIMITS, PREFIXES, RESIDENT, SIDES, WAYS
+from measures import check, counts, saved, times, traces, works
 
 # Larger ratios are bold: ours to the original's time, to its instructions, to C's; erased to the original's time, to its
 # instructions. Some workloads have others of the first two.
@@ -328,16 +330,17 @@ def every_aim(rows, resident, most):
         yield f"resident bytes, *{RESIDENT}*", most, found
     yield "time, ours/original", REACH[0], ratio(usual(REACH_TIME), 0)
     for words, limit in REACH_TIME.items():
-        yield f"the same, *{words}*", limit, ratio(named(words), 0)
+        yield f"time, ours/original, *{words}*", limit, ratio(named(words), 0)
     for words, limit in REACH_WHOLE.items():
-        yield f"the same with the construction, *{words}*", limit, [(row.whole[1] / row.whole[0], row.name) for row in named(words)]
+        yield f"time with the construction, *{words}*", limit, [(row.whole[1] / row.whole[0], row.name) for row in named(words)]
     yield "instructions, ours/original", REACH[1], ratio(usual(REACH_INSTRUCTIONS), 1)
     for words, limit in REACH_INSTRUCTIONS.items():
-        yield f"the same, *{words}*", limit, ratio(named(words), 1)
+        yield f"instructions, ours/original, *{words}*", limit, ratio(named(words), 1)
     yield "instructions, ours/C", REACH[2], ratio(steps, 2)
     yield "time, erased/original", REACH[3], ratio(steps, 3)
     yield "instructions, erased/original, two call sites beside one, random steps", REACH[4], ratio(named("random, "), 4)
-    yield "the same, all others", REACH[4], ratio([row for row in steps if "random, " not in row.name], 4)
+    others = [row for row in steps if "random, " not in row.name]
+    yield "instructions, erased/original, two call sites beside one, other steps", REACH[4], ratio(others, 4)
     for words, limit in REACH_MISSES.items():
         yield f"first-level misses a step, *{words}*", limit, [(row.misses[1], row.name) for row in named(words)]
     for side, base in (("guarded", "erased"), ("ours guarded", "ours")):
@@ -353,6 +356,32 @@ def aims_table(found):
             text = "{:,.0f}" if most >= 100 else "{:.2f}"
             above = sum(value > most for value, _ in values)
             yield f"| {what} | {text.format(most)} | {cell(worst, most, text)} | {where} | {above} of {len(values)} |"
+
+
+# the columns of `table` that the page has, and the workloads beside the recorded programs
+CHIEF = {"workload": 0, "ns: ours": 2, "time/original: ours": 9, "erased": 12, "instructions/original: ours": 10,
+         "erased ": 13}
+AMONG = ("random, 60k live", "random, a million live", "frames of 60,000, each reset")
+
+
+def brief(report):
+    """The page: the aims, and of the steps the recorded programs and some workloads more."""
+    when = next((line for line in report if line.startswith("All times took")), "")
+    # without the place of the most
+    head, *aims = [[*row[:3], row[4]] for row in pages.table(report, "Aims")]
+    missed = [row for row in aims if "**" in row[2]]
+    steps = [row for row in pages.table(report, "A step")[1:] if row[0] in AMONG or row[0] in traces()]
+    return ["# Results", "",
+            "For whoever asks how fast the library is beside the original, and which aims it misses. "
+            "[results.txt](results.txt) has all tables, [README.md](README.md) how they are measured.", "",
+            when, "",
+            "## Aims", "",
+            "Missed ([why](README.md#where-it-falls-short-and-why)):", "",
+            *pages.lines_of(head, missed), "",
+            f"The other {len(aims) - len(missed)} are met.", "",
+            "## A step", "",
+            "Without the construction. All sides returned the same offsets and refusals.", "",
+            *pages.lines_of([*map(str.strip, CHIEF)], [[row[at] for at in CHIEF.values()] for row in steps])]
 
 
 def main():
@@ -379,36 +408,36 @@ def main():
     found = list(aims(rows, resident, most))
     head = [
         "# Results", "",
-        "Nanoseconds and instructions are per step, without the construction ([how](README.md#what-is-measured)). "
+        "Nanoseconds and instructions are per step, without the construction. "
         f"Times are the fastest of {timed['rounds']} runs, or of {min(timed['rounds'], 3)} where a run takes a fifth of a second. "
         "All sides returned the same offsets and refusals.", "",
-        f"In bold: more than {REACH[0]:.2f} of the original's time ({special}), {REACH[1]:.2f} of its instructions ({special_count}), or "
+        f"Marked by *: more than {REACH[0]:.2f} of the original's time ({special}), {REACH[1]:.2f} of its instructions ({special_count}), or "
         f"{REACH[2]:.2f} of C's; for the erased side {REACH[3]:.2f} of the original's time, or {REACH[4]:.2f} of its "
         "instructions.", "",
     ]
     if "seconds" in timed:
         head += [f"All times took {timed['seconds'] / 60:.0f} minutes ({timed['processor']}). Meanwhile other programs took "
                  f"{timed['others']:.2f} of a processor, and the host {timed['steal']:.2f}.", ""]
-    shown = [*head, "## Aims", "", "In bold: above the aim ([why](README.md#where-it-falls-short-and-why)).", "",
+    shown = [*head, "## Aims", "", "Marked by *: above the aim.", "",
              *aims_table(found), "", "## A step", "", *table(work), "", "## Over the size of the tables", "",
              "Random steps, a quarter of the nodes live.", "", *table(growth), "",
              "## What an allocator costs", "",
              "An allocator is made and dropped, without and with 10 grants between. A reset takes too short "
-             f"a time to measure. In bold: more than {REACH_COST:,} instructions, ours or erased, without grants.", "",
+             f"a time to measure. Marked by *: more than {REACH_COST:,} instructions, ours or erased, without grants.", "",
              *costs_table(costs), "",
              "## By field", "",
              "In parts of ours by node.", "", *by_field_table(rows), "",
              "## Tickets", "",
              "In parts of the same side with handles. The bytes are the library's; the caller keeps 24 for a "
-             f"ticket, and 8 for a handle. In bold: more than {REACH_GUARDED:.2f} of the time ([why](README.md#tickets)).", "",
+             f"ticket, and 8 for a handle. Marked by *: more than {REACH_GUARDED:.2f} of the time.", "",
              *guarded_table(rows), ""]
     if resident:
         shown += ["## Resident memory", "",
-                  f"Resident bytes of *{RESIDENT}*, the player's included. In bold: more than "
+                  f"Resident bytes of *{RESIDENT}*, the player's included. Marked by *: more than "
                   f"{REACH_NODE} for each node that was ever used, and {REACH_MORE:,}.", "", *resident_table(resident, most), ""]
     whole = " and ".join(f"{limit:.2f} of the original's in *{name}*" for name, limit in REACH_WHOLE.items())
     shown += ["## With the construction", "",
-              f"The time of a whole run, a step. In bold: more than {whole}.", "",
+              f"The time of a whole run, a step. Marked by *: more than {whole}.", "",
               *whole_table([row for row in steps if row.name in LONG]), "",
               "## Huge pages", "",
               "With `GLIBC_TUNABLES=glibc.malloc.hugetlb=1` the C library asks for huge pages.", "",
@@ -418,7 +447,7 @@ def main():
               "## One call site or two", "",
               "Instructions of a step.", "", *sites_table(work), "",
               "## Cache misses", "",
-              "Misses of a step in a first-level data cache of 32 KiB. In bold: more than "
+              "Misses of a step in a first-level data cache of 32 KiB. Marked by *: more than "
               + " and ".join(f"{most} in *{name}*" for name, most in REACH_MISSES.items()) + ".", "",
               *misses_table(steps), "",
               "## The best and the worst run", "",
@@ -432,12 +461,12 @@ def main():
         compacting = [(live, timed["compacting"].get(str(live), [math.nan] * len(WAYS)), [counted["compacting"][str(live)][way] for way in WAYS])
                       for live in COMPACTED]
         shown += ["", "## Compact", "",
-                  "The erased side, per live range ([how](README.md#compact)).", "",
+                  "The erased side, per live range.", "",
                   *compacting_table(compacting)]
     if not part:
-        (HERE / "RESULTS.md").write_text("\n".join(shown) + "\n")
+        pages.write(HERE, "results", brief(shown), shown)
         (HERE / "plot.svg").write_text(plot(work, growth))
-    print("\n".join(shown))
+    print(pages.text_of(shown))
     missed = sum(value > most for _what, most, values in found for value, _ in values)
     print(f"{len(rows)} workloads, equal answers; {missed} of {sum(len(values) for *_, values in found)} figures miss their aim")
 

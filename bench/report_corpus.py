@@ -1,5 +1,7 @@
-"""Prints what bench/corpus counted in the folder $1, and writes it into CORPUS.md in the folder $2 if a peer is there."""
+"""Prints what bench/corpus counted in the folder $1; if a peer is there, writes it into corpus.txt and CORPUS.md,
+which has the chief of it, in the folder $2."""
 import collections, pathlib, sys
+import pages
 
 OUT, HERE = map(pathlib.Path, sys.argv[1:3])
 NAMES = {"ours": "ours", "tight": "ours, tight", "original": "original", "c": "C", "vma": "VMA", "vma_min": "VMA, least memory", "u_mm": "u_mm",
@@ -119,9 +121,9 @@ SHARES = ", ".join(f"{fits} of {count} at {percent}%" for percent in PERCENT for
 SAVED = listed(t.name for t in traces if t.over(t.once) != t.over(t.least["ours"]))
 shown = [
     "# What recorded programs need", "",
-    f"Counted over the {len(traces)} programs in [traces](traces/README.md) ([how](README.md#corpus)).", "",
+    f"Counted over the {len(traces)} programs in traces.", "",
     "## The least space", "",
-    "The smallest space in which nothing is refused, in percent above the peak of live bytes. In bold: the smallest of a row, "
+    "The smallest space in which nothing is refused, in percent above the peak of live bytes. Marked by *: the smallest of a row, "
     "*best fit* left out.", "",
     *table([NAMES[s] for s in sides], [(t, least_cells(t)) for t in traces]),
     f"- *{NAMES['tight']}* is ours with `allocate_tight` for each request: it needs less than ours for {less('tight')}.",
@@ -191,8 +193,35 @@ shown += [
     "- A `make_room` leaves all other free blocks where they are, so more requests may be refused later: over a whole program the "
     f"calls at each moved more units than those of `compact` for {more('each')} of {len(RUNS)} rows in which something moves, and in "
     f"the least space for {listed(t.name for t in traces if t.retried['room'].units > t.retried['each'].units)}.", "",
-    "Each `make_room` moved what the cheapest of all runs of blocks costs, by a search over them ([how](README.md#corpus)).",
+    "Each `make_room` moved what the cheapest of all runs of blocks costs, by a search over them.",
 ]
+
+
+def brief(report):
+    """The page: the least space, and what moves where room is made."""
+    least, moves = pages.table(report, "The least space"), pages.table(report, "Where ranges move")
+    # the original and C need what ours does
+    kept = [k for k, name in enumerate(least[0]) if name not in [NAMES[side] for side in ("original", "c", "best")]]
+    least = [[row[k] for k in kept] for row in least]
+    rounded = next(line for line in report if line.startswith("Ours, as the original, rounds"))
+    return [report[0], "",
+            "For whoever sizes a buffer. Counted over the [recorded programs](traces/README.md) "
+            "([how](README.md#compact-heaps-corpus-room)); [corpus.txt](corpus.txt) has what is refused in less.", "",
+            "## The least space", "",
+            "In which nothing is refused, in percent above the peak of live bytes; the original's and C's are ours. "
+            "In bold: the smallest of a row.", "",
+            *pages.lines_of(least[0], least[1:]), "",
+            rounded, "",
+            "## Where ranges move", "",
+            "The least space of ours, and with a call of `compact`, or of `make_room`, at each request that is "
+            "refused as `Fragmented`: what is left above the peak is what the rounding costs. Then the units that "
+            "these move in all.", "",
+            *pages.lines_of(["", "none", "where needed", "units by `compact`", "by `make_room`"],
+                            [[row[k] for k in (0, 1, 3, 5, 7)] for row in moves[1:]]), "",
+            "A `make_room` leaves all other free blocks where they are, so later requests may be refused: over a "
+            "whole program it may move more than `compact` would."]
+
+
 if peers:
-    (HERE / "CORPUS.md").write_text("\n".join(shown).strip() + "\n")
-print("\n".join(shown))
+    pages.write(HERE, "corpus", brief(shown), shown)
+print(pages.text_of(shown))

@@ -1,6 +1,7 @@
 """Prints what bench/run has measured of the linked peers, beside the original and ours, with the programs in the folder $1,
-and writes it into PEERS.md and peers.svg."""
+and writes it into peers.txt, PEERS.md, which has the chief of it, and peers.svg."""
 import math, sys
+import pages
 from measures import CAP, HERE, LIVE, PARTS, PEERS_BESIDE, peers, saved, traces, works
 from report import COLOURS, number, page, spread, text
 
@@ -177,6 +178,18 @@ def plot(growth):
             yield text(a - 10 if before else a + 10, b + 4, NAMES[side], "end" if before else "start").replace("<text", f"<text {paint}")
 
 
+def brief(report):
+    """The page: what each side takes, and the versions."""
+    versions = next(line for line in report[1:] if line)
+    head, *rows = pages.table(report)
+    return [report[0], "",
+            "For whoever chooses between allocators. [peers.txt](peers.txt) has each workload, "
+            f"[README.md](README.md#peers) how they are measured. {versions}", "",
+            *pages.lines_of(head, rows), "",
+            "The bytes of ours and of the original are those of a table just large enough.", "",
+            "![Time a step over live ranges](peers.svg)"]
+
+
 def main():
     all_rows = list(measurements())
     rows = [row for row in all_rows if not row[0].startswith("make")]
@@ -186,12 +199,12 @@ def main():
     versions = "; ".join(f"{' and '.join(NAMES[part] for part in PARTS[name])}: {version}" for name, version in VERSIONS.items())
     shown = [
         "# Beside what an engine would use instead", "",
-        f"{versions}. [README.md](README.md#peers) says how this is measured.", "",
+        f"{versions}.", "",
         *short_table(rows, found), "",
         "The bytes of ours and of the original are those of a table just large enough.", "",
         "## Time", "",
         f"Nanoseconds a step. *Over*: the run takes more than {CAP} seconds, and so more than this a step. Marked by ~: the time by "
-        f"the clock and that of the processor differ by more than {100 * NEAR:.0f}%. In bold: a peer that takes less time than ours: "
+        f"the clock and that of the processor differ by more than {100 * NEAR:.0f}%. Marked by *: a peer that takes less time than ours: "
         f"{ahead(rows)}.", "",
         *times_table(rows), "",
         "Nanoseconds of an allocator that is made, grants 10 ranges, and is dropped. The node limit is that of ours and of the original.", "",
@@ -200,9 +213,9 @@ def main():
         "## Memory", "", "The most bytes that `malloc` holds at any time, its headers included, divided by the live ranges. Empty: the run takes too long.", "", *memory_table(found), "",
         "The most bytes with each recorded program. Ours and the original have the node limit of its script.", "", *recorded_table(),
     ]
-    (HERE / "PEERS.md").write_text("\n".join(shown) + "\n")
+    pages.write(HERE, "peers", brief(shown), shown)
     (HERE / "peers.svg").write_text(page(760, 500, "Nanoseconds a step over live ranges, of ours, the original and three peers", plot(growth)))
-    print("\n".join(shown))
+    print(pages.text_of(shown))
     marked = sum(busy(row[4], side) for row in all_rows for side in row[4])
     print(f"{len(PEERS)} peers, ranges apart; {marked} of {sum(len(row[4]) for row in all_rows)} times are those of a busy machine")
 

@@ -1,6 +1,8 @@
-"""Runs the programs that bench/room built in the folder $1, prints what they take, and writes it into ROOM.md in the folder $2."""
+"""Runs the programs that bench/room built in the folder $1, prints what they take, and writes it into room.txt
+and ROOM.md, which has the chief of it, in the folder $2."""
 import os, pathlib, re, sys, time
 
+import pages
 from measures import counted, lines, processors
 
 OUT, HERE = map(pathlib.Path, sys.argv[1:3])
@@ -60,7 +62,7 @@ def whole(blocks):
 
 shown = [
     "# What `room_cost` takes", "",
-    "On the erased side, where every other block is free, and a block has 1 to 1,024 units ([how](README.md#room)). "
+    "On the erased side, where every other block is free, and a block has 1 to 1,024 units. "
     f"Times are the least of {min(RUNS)} runs or more ({PROCESSOR}), beside other work: other programs took {others:.2f} "
     "of a processor meanwhile. So the instructions say more.", "",
     "## A block", "",
@@ -74,5 +76,19 @@ shown = [
     "walk.", "",
     *table(["blocks", "nodes", "ns: `make_room`", "`compact`", "instructions: `make_room`", "`compact`"], rows(of_a_range)),
 ]
-(HERE / "ROOM.md").write_text("\n".join(shown) + "\n")
-print("\n".join(shown))
+
+
+def brief(report):
+    """The page: how long a call takes, and a block and a range."""
+    block, moved = pages.table(report, "A block"), pages.table(report, "A range that moves")
+    head = ["blocks", "nodes", "`room_cost`, a block", "`make_room`, a range that moves", "`compact`"]
+    return [report[0], "",
+            "For whoever asks for it in a frame. Nanoseconds on the erased side, where every other block is free, "
+            "and nodes lie in space order or in none; [room.txt](room.txt) has the instructions, and how busy the "
+            "machine was, [README.md](README.md#compact-heaps-corpus-room) how it is measured.", "",
+            next(line for line in report if line.startswith("A call takes")), "",
+            *pages.lines_of(head, [[*a[:2], a[3], *b[2:4]] for a, b in zip(block[1:], moved[1:])], 2)]
+
+
+pages.write(HERE, "room", brief(shown), shown)
+print(pages.text_of(shown))

@@ -1,7 +1,11 @@
 //! What is run: lists of steps over slots, and makings of tables.
 
+#[path = "../../rust/random.rs"]
+mod random;
+
 pub use crate::traces::Step;
 use crate::traces;
+pub use random::Xorshift as Random;
 
 /// The slot of a step that resets the space. No list of steps has a slot of this number.
 pub const RESET: u32 = u32::MAX;
@@ -60,15 +64,9 @@ impl Workload {
     }
 }
 
-/// Random numbers, the same in each run (xorshift).
-pub struct Random(pub u64);
-
 impl Random {
     pub fn below(&mut self, n: u32) -> u32 {
-        self.0 ^= self.0 << 13;
-        self.0 ^= self.0 >> 7;
-        self.0 ^= self.0 << 17;
-        (((self.0 >> 32) * u64::from(n)) >> 32) as u32
+        (((self.next() >> 32) * u64::from(n)) >> 32) as u32
     }
 
     /// From 1 to 2^bits, small numbers more often.

@@ -1,4 +1,8 @@
 //! Random scripts.
+#[path = "../../rust/random.rs"]
+mod random;
+
+use random::Random;
 use std::fmt::Write;
 
 #[derive(Clone, Copy, PartialEq)]
@@ -59,23 +63,7 @@ pub fn read(text: &str) -> Script {
     Script { space: number(space), max_allocs: number(nodes), width, commands: commands.collect() }
 }
 
-/// Random numbers, the same for the same seed (splitmix64).
-struct Random(u64);
-
 impl Random {
-    fn next(&mut self) -> u64 {
-        self.0 = self.0.wrapping_add(0x9e3779b97f4a7c15);
-        let mut z = self.0;
-        z = (z ^ (z >> 30)).wrapping_mul(0xbf58476d1ce4e5b9);
-        z = (z ^ (z >> 27)).wrapping_mul(0x94d049bb133111eb);
-        z ^ (z >> 31)
-    }
-
-    /// Below n, which is not 0.
-    fn below(&mut self, n: u32) -> u32 {
-        (self.next() % u64::from(n)) as u32
-    }
-
     /// A number of a random number of bits, at most `bits`.
     fn of_bits(&mut self, bits: u32) -> u32 {
         let bits = self.below(bits + 1);

@@ -39,7 +39,8 @@ const ALL_FIRST: usize = 1 << 24;
 /// The bytes of each request that a constructor makes. An index has `bits` bits.
 fn table_requests(layout: Layout, nodes: usize, bits: usize) -> Vec<usize> {
     let tables = (layout.tables)(nodes, bits / 8);
-    let all = Some(tables.iter().sum()).filter(|all: &usize| *all >= ALL_FIRST);
+    // one table is one request, of all bytes
+    let all = Some(tables.iter().sum()).filter(|all: &usize| tables.len() > 1 && *all >= ALL_FIRST);
     all.into_iter().chain(tables).collect()
 }
 
@@ -337,6 +338,11 @@ fn parts(bits: usize, most: usize) -> Vec<Part> {
         }));
         all.push(part(move |it| it.heaps(layout, 100, bits, 300)));
     }
+    // the layout of heaps
+    all.push(part(move |it| {
+        it.allocator(BY_ROW, 100, bits, 1000, &[1000, 960])
+    }));
+    all.push(part(move |it| it.heaps(BY_ROW, 100, bits, 300)));
     let header = format!("space 100 nodes 4 index {bits}");
     let short = format!("{header}\n{COMMANDS}");
     let script = Outcome::new(ANSWERED, &[&[100, 4, bits as u64], SCRIPT].concat());
@@ -408,6 +414,7 @@ fn main() {
     for nodes in [599_186, 599_187] {
         all.push(part(move |it| it.large(BY_NODE, nodes)));
         all.push(part(move |it| it.large(BY_FIELD, nodes)));
+        all.push(part(move |it| it.large(BY_ROW, nodes)));
     }
     for call in [PARSE, RUN] {
         all.push(part(move |it| {

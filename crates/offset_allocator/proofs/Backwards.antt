@@ -1,5 +1,6 @@
 -- A row of blocks that is made from its end on.
-use Rattle.offset_allocator.proofs.Common.{◌≡◌, ◌≢◌, ℕ, ◌+◌, ◌<◌, ◌≤◌, Bool, true, false, Option, None, Some, List, [], ◌∷◌, length, refl, sym, ap, subst, ◌∙◌, arith, cases_eq, cases_lt, IfSome, inl, inr}
+use Rattle.offset_allocator.proofs.Common.{◌≡◌, ◌≢◌, ℕ, ◌+◌, ◌<◌, ◌≤◌, Bool, true, false, Option, None, Some, List, [], ◌∷◌, length, refl, sym, ap, subst, ◌∙◌, arith, cases_eq, cases_lt, IfSome, inl}
+use Rattle.offset_allocator.proofs.Common.{inr}
 use Rattle.offset_allocator.proofs.Common.{Cells, ChainCells, Node, node, put, IsRow, first_or, last_or, Block, used_block, count_named, one, nat_eq, set}
 use Rattle.offset_allocator.proofs.Exchange.{Wrote, wrote, back_to, IsRelinked, relinked_memory}
 use Rattle.offset_allocator.proofs.{Nodes.past_idle, Nodes.length-put, Nodes.reserved-put, Rows.IsRow-moved, Rows.times-first, Tallies.one-same, Tallies.one-other}

@@ -1,8 +1,10 @@
 -- Where a grant would begin, and what a relocation leaves.
 use Rattle.offset_allocator.proofs.Common.{◌≡◌, ℕ, ◌+◌, ◌<◌, ◌≤◌, List, [], ◌∷◌, length, Option, None, Some, IfSome, refl, sym, ap, subst, ◌∙◌, arith, inl, inr, cases_lt, up, down}
-use Rattle.offset_allocator.proofs.Common.{Node, node, View, Grant, Block, HasPlace, IsChain, IsFoundFrom, IsLinked, first_of, bin_at, bins_in, Splits, Allocates, Aligns, SameSpace, IsWellFormed, IsLive, Range, range_of, size_of, Grants, slice_index}
+use Rattle.offset_allocator.proofs.Common.{Node, node, View, Grant, Block, HasPlace, IsChain, IsFoundFrom, IsLinked, first_of, bin_at, bins_in, Splits, Allocates, Aligns, SameSpace, IsWellFormed}
+use Rattle.offset_allocator.proofs.Common.{IsLive, Range, range_of, size_of, Grants, slice_index}
 use Rattle.offset_allocator.specs.Relocating.{offset_of, Relocates}
-use Rattle.offset_allocator.proofs.{Sound.Fields, Sound.AreSound, Sound.shown, Classes.down_small, Places.placed, Places.at_place, Served.split_as, Served.one_aligns, Served.aligns_counted, Served.plain_serves, Served.grants}
+use Rattle.offset_allocator.proofs.{Sound.Fields, Sound.AreSound, Sound.shown, Classes.down_small, Places.placed, Places.at_place, Served.split_as, Served.one_aligns, Served.aligns_counted}
+use Rattle.offset_allocator.proofs.{Served.plain_serves, Served.grants}
 
 module _ (it : Fields) (s : AreSound it) (n : ℕ) (w : View) (g : Grant) (a : Allocates n (shown it) w (Some g)) where
   split : Splits n n (λ (o : ℕ). 0) (shown it) w g

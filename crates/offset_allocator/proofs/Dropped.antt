@@ -21,10 +21,13 @@ module _ {c : ChainCells} {m last count x : ℕ} (fs : List Block) (a b : Block)
 pub joined : {c : ChainCells} {m last count x : ℕ} (fs : List Block) (a b : Block) → HasPlace c m last count x (coalesced_after (record { before = fs; block = a; after = b ∷ [] })) → b.used ≡ false
     → HasPlace c m x count x (record { before = fs; block = record a { size = a.size + units (b ∷ []) }; after = [] })
 joined {c} {m} {last} {count} {x} fs a b h free =
-    let k = subst (λ (u : Bool). HasPlace c m last count x (record { before = fs; block = record a { size = a.size + units (if not u then b ∷ [] else []) }; after = if not u then [] else b ∷ [] })) free h in
+    let k = subst (λ (u : Bool). HasPlace c m last count x (record { before = fs; block = record a { size = a.size + units (if not u then b ∷ [] else []) }; after = if not u then [] else b ∷ [] }))
+    free h in
     subst (λ (l : ℕ). HasPlace c m l count x (record { before = fs; block = record a { size = a.size + units (b ∷ []) }; after = [] })) (is_end fs (record a { size = a.size + units (b ∷ []) }) k) k
 
-pub joined_last : {c : ChainCells} {m last count x : ℕ} (fs : List Block) (a b : Block) → HasPlace c m last count x (coalesced_after (record { before = fs; block = a; after = b ∷ [] })) → b.used ≡ false → last ≡ x
+pub joined_last : {c : ChainCells} {m last count x : ℕ} (fs : List Block) (a b : Block) → HasPlace c m last count x (coalesced_after (record { before = fs; block = a; after = b ∷ [] })) → b.used
+    ≡ false → last ≡ x
 joined_last {c} {m} {last} {count} {x} fs a b h free =
-    let k = subst (λ (u : Bool). HasPlace c m last count x (record { before = fs; block = record a { size = a.size + units (if not u then b ∷ [] else []) }; after = if not u then [] else b ∷ [] })) free h in
+    let k = subst (λ (u : Bool). HasPlace c m last count x (record { before = fs; block = record a { size = a.size + units (if not u then b ∷ [] else []) }; after = if not u then [] else b ∷ [] }))
+    free h in
     is_end fs (record a { size = a.size + units (b ∷ []) }) k

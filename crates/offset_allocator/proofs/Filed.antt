@@ -4,7 +4,8 @@ use Rattle.offset_allocator.proofs.Common.{Node, node}
 use Rattle.offset_allocator.proofs.Common.{Block, Place, one, count_named, count_in_bin, bin_at, free_end, without_end, free_start, without_start, remove_all, HasPlace, first_or, IsAmong}
 use Rattle.offset_allocator.proofs.Common.{remove, IsUnlisted, AreInBins, AreUnlisted}
 use Rattle.offset_allocator.proofs.Tallies.{listed_named, tally_append, hit_cases, one-eq, times-append}
-use Rattle.offset_allocator.proofs.{Exchange.each-le, Places.at_place, Places.next_place, Places.previous_place, ViewOrders.times_remove_all, ViewTaken.tally_end, ViewTaken.tally_start, Joints.remove_free}
+use Rattle.offset_allocator.proofs.{Exchange.each-le, Places.at_place, Places.next_place, Places.previous_place, ViewOrders.times_remove_all, ViewTaken.tally_end, ViewTaken.tally_start}
+use Rattle.offset_allocator.proofs.{Joints.remove_free}
 
 -- the sum that `count_in_bin` takes, of one block
 abbrev pub share : ℕ → ℕ → Block → ℕ

@@ -1,9 +1,11 @@
 -- What the writes leave of a chain without one of its free blocks.
-use Rattle.offset_allocator.proofs.Common.{◌≡◌, ◌≢◌, ℕ, ◌+◌, ◌<◌, ◌≤◌, ◌^◌, false, Option, None, Some, MatchOption, IfSome, List, [], ◌∷◌, ◌++◌, length, refl, sym, ap, ap₂, subst, ◌∙◌, arith, nat_tests, length-append, length-set}
+use Rattle.offset_allocator.proofs.Common.{◌≡◌, ◌≢◌, ℕ, ◌+◌, ◌<◌, ◌≤◌, ◌^◌, false, Option, None, Some, MatchOption, IfSome, List, [], ◌∷◌, ◌++◌, length, refl, sym, ap, ap₂, subst, ◌∙◌, arith}
+use Rattle.offset_allocator.proofs.Common.{nat_tests, length-append, length-set}
 use Rattle.offset_allocator.proofs.Common.{cases_eq, inl, inr, take, nat_eq, one, times, ChainCells, Node, node, put, with_spare, first_or, last_or, IsRow, HasPlace, Block, Place, units, count_named}
 use Rattle.offset_allocator.proofs.Rows.{times-end, times-first, last_or-append, IsRow-front, IsRow-back, IsRow-append, IsRow-kept, IsRow-moved, IsRow-aimed}
 use Rattle.offset_allocator.proofs.Exchange.{IsRelinked, back_to, on_to, wrote, relinked_at, relinked_other, relinked_length, relinked_spare, relinked_memory, kept_names, pushed_names, node_same}
-use Rattle.offset_allocator.proofs.{Nodes.nodes-with_spare, Nodes.reserved-with_spare, Writes.spare-with_spare, Tallies.one-eq, Tallies.one-other, Tallies.one-same, Tallies.times-append, Tallies.units-append, Places.placed}
+use Rattle.offset_allocator.proofs.{Nodes.nodes-with_spare, Nodes.reserved-with_spare, Writes.spare-with_spare, Tallies.one-eq, Tallies.one-other, Tallies.one-same, Tallies.times-append}
+use Rattle.offset_allocator.proofs.{Tallies.units-append, Places.placed}
 use Rattle.offset_allocator.specs.Gaps.{HasGap, IsGap}
 use Rattle.offset_allocator.specs.declared.gap.Gap.{Gap}
 
@@ -175,7 +177,8 @@ module _ {c : ChainCells} {m last count x : ℕ} (fs : List Block) (g b : Block)
       }
 
 -- the block is back in the chain
-pub closed : {c w : ChainCells} (d : ChainCells) {e : ChainCells} {m last last' count x : ℕ} (fs : List Block) (g : Block) (cs : List Block) → HasGap c m last count x (record { before = fs; block = g; after = cs })
+pub closed : {c w : ChainCells} (d : ChainCells) {e : ChainCells} {m last last' count x : ℕ} (fs : List Block) (g : Block) (cs : List Block)
+    → HasGap c m last count x (record { before = fs; block = g; after = cs })
     → w ≡ put c x (record { offset = units fs; size = g.size; used = false; before = last_or None fs; after = first_or None cs })
     → IsRelinked (last_or None fs) (on_to x) w d → IsRelinked (first_or None cs) (back_to x) d e → MatchOption (first_or None cs) (last' ≡ x) (λ _. last' ≡ last)
     → HasPlace e m last' count x (record { before = fs; block = g; after = cs })

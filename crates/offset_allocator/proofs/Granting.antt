@@ -1,11 +1,14 @@
 -- What a grant leaves of the whole allocator.
-use Rattle.offset_allocator.proofs.Common.{◌≡◌, ℕ, zero, suc, ◌+◌, ◌-◌, ◌<◌, ◌≤◌, ◌^◌, List, [], ◌∷◌, ◌++◌, length, refl, sym, ap, ap₂, ◌∙◌, arith, slice_set, append_assoc, le-leb, padding_to, units_needed, times, count_in_bin, nat_eq, value, up, down, ◌%◌}
+use Rattle.offset_allocator.proofs.Common.{◌≡◌, ℕ, zero, suc, ◌+◌, ◌-◌, ◌<◌, ◌≤◌, ◌^◌, List, [], ◌∷◌, ◌++◌, length, refl, sym, ap, ap₂, ◌∙◌, arith, slice_set, append_assoc, le-leb, padding_to}
+use Rattle.offset_allocator.proofs.Common.{units_needed, times, count_in_bin, nat_eq, value, up, down, ◌%◌}
 use Rattle.offset_allocator.proofs.Common.{Cells, ChainCells, Block, View, Place, Grant, one, count_named, bin_at, IsWellFormed, IsNew, free_part, used_block, units, replace, remove_all, push_all}
 use Rattle.offset_allocator.proofs.Common.{remove}
 use Rattle.offset_allocator.proofs.Common.{HasPlace, IsFoundFrom, Some, bins_in, IsBinned, AreUnlisted, SameSpace, Splits, common_steps}
 use Rattle.offset_allocator.proofs.Joints.{stepped, unused_unlisted, free_part_units, remove_free, free_units-append, free_units-free, free_units-used}
-use Rattle.offset_allocator.proofs.{Sound.Fields, Sound.AreSound, Sound.shown, Sound.well_counted, Exchange.each-le, Exchange.there-below, Places.placed, Places.end_fits, Classes.fits_size, Classes.value_clauses}
-use Rattle.offset_allocator.proofs.{Split.well_split, Split.part_room, Taken.Taken, Taken.taken, Taken.listed_block, ViewOrders.unlisted_removed, Tallies.one-same, Tallies.one-eq, Tallies.times-append}
+use Rattle.offset_allocator.proofs.{Sound.Fields, Sound.AreSound, Sound.shown, Sound.well_counted, Exchange.each-le, Exchange.there-below, Places.placed, Places.end_fits, Classes.fits_size}
+use Rattle.offset_allocator.proofs.{Classes.value_clauses}
+use Rattle.offset_allocator.proofs.{Split.well_split, Split.part_room, Taken.Taken, Taken.taken, Taken.listed_block, ViewOrders.unlisted_removed, Tallies.one-same, Tallies.one-eq}
+use Rattle.offset_allocator.proofs.{Tallies.times-append}
 use Rattle.offset_allocator.specs.Tight.{HoldsFirst}
 use Rattle.offset_allocator.proofs.Tallies.{without, counted_none}
 use Rattle.offset_allocator.proofs.Tallies.{free_units, free_sum}
@@ -147,7 +150,8 @@ module _ {f : Fields} {class x : ℕ} (call : Call f class x) where
       unfolding split
       granted {top} {accesses} bins lists =
           let flat : (p.before ++ free_part front padding) ++ (used_block p.block.name n ∷ (free_part rest left ++ p.after)) ≡ p.before ++ (parts ++ p.after) = simp append_assoc in
-          let well = well_split (split (value class) (found_itself class call.classed (bin_at ls class) (λ e. absurd (let q = sym call.newest ∙ e in cc)) ls refl) left_view refl) k w room (part_room front padding k some (two (units p.before))) in
+          let well = well_split (split (value class) (found_itself class call.classed (bin_at ls class) (λ e. absurd (let q = sym call.newest ∙ e in cc)) ls refl) left_view refl) k w room
+          (part_room front padding k some (two (units p.before))) in
           let units_are = ap free_units flat ∙ free_units-append p.before (parts ++ p.after) in
           let parts_are = ap free_units (append_assoc (free_part front padding) (used_block p.block.name n ∷ free_part rest left) p.after) in
           let done = stepped f call.sound left_view d (f.free - n) accesses well refl there.chain flat bins (rw (removed, got.name) lists)

@@ -1,13 +1,17 @@
 -- Requests for any free block that is large enough.
 use Rattle.offset_allocator.proofs.Common.{◌≡◌, ℕ, zero, suc, ◌+◌, ◌-◌, ◌%◌, ◌<◌, ◌≤◌, ◌^◌, ◌↔◌, Bool, true, false, List, [], ◌∷◌, ◌++◌, length, Option, Some, None, IsSome, IfSome, is_some}
 use Rattle.offset_allocator.proofs.Common.{nat_eq, nat_le, cond, refl, sym, ap, ap₂, subst, ◌∙◌, inl, inr, arith, append-nil, get_or_past, cases_lt, le-leb, leb-true, false≢true}
-use Rattle.offset_allocator.proofs.Common.{if◌then◌else◌, value, up, down, Block, View, Place, Grant, one, units, times, count_named, count_in_bin, bin_at, push, remove, place_of, padding_to, free_sizes}
+use Rattle.offset_allocator.proofs.Common.{if◌then◌else◌, value, up, down, Block, View, Place, Grant, one, units, times, count_named, count_in_bin, bin_at, push, remove, place_of, padding_to}
+use Rattle.offset_allocator.proofs.Common.{free_sizes}
 use Rattle.offset_allocator.proofs.Common.{IsWellFormed, Cells, Node, bins_in, IsBinned, IsFoundFrom, HasRoomFor, CanGrant, blocks_needed, units_needed, SameSpace, Splits}
 use Rattle.offset_allocator.proofs.Common.{Aligns, Grants, blocks}
 use Rattle.offset_allocator.proofs.{Sound.Fields, Sound.AreSound, Sound.shown, Sound.known_sound, Joints.stepped, Places.placed, Places.at_place, Taken.taken_among, Taken.fitting, Ranges.beside}
-use Rattle.offset_allocator.proofs.{Classes.down_law, Classes.down_small, Classes.value_down, Classes.fits_size, Classes.value_clauses, ViewSteps.place_here, Tallies.hit_cases, Tallies.one-same, Tallies.one-eq, Tallies.times-join}
-use Rattle.offset_allocator.proofs.{ViewOrders.times_put, ViewOrders.times_remove, ViewOrders.length_put, ViewOrders.length_remove, ViewOrders.names_same, Tallies.free_sum, Tallies.tally_append, Tallies.units-append, Tallies.listed_named}
-use Rattle.offset_allocator.proofs.{Granting.within, Split.well_split, Split.part_room, Ranges.split_grants, Served.split_as, Served.can_grant, Served.grants, Served.multiple, Padding.reaches, Largest.free_most}
+use Rattle.offset_allocator.proofs.{Classes.down_law, Classes.down_small, Classes.value_down, Classes.fits_size, Classes.value_clauses, ViewSteps.place_here, Tallies.hit_cases, Tallies.one-same}
+use Rattle.offset_allocator.proofs.{Tallies.one-eq, Tallies.times-join}
+use Rattle.offset_allocator.proofs.{ViewOrders.times_put, ViewOrders.times_remove, ViewOrders.length_put, ViewOrders.length_remove, ViewOrders.names_same, Tallies.free_sum, Tallies.tally_append}
+use Rattle.offset_allocator.proofs.{Tallies.units-append, Tallies.listed_named}
+use Rattle.offset_allocator.proofs.{Granting.within, Split.well_split, Split.part_room, Ranges.split_grants, Served.split_as, Served.can_grant, Served.grants, Served.multiple, Padding.reaches}
+use Rattle.offset_allocator.proofs.{Largest.free_most}
 use Rattle.offset_allocator.proofs.{Classes.up_after, Classes.up_itself, Classes.up_reached, Classes.value_rises}
 use Rattle.offset_allocator.specs.Statistics.{greatest}
 use Rattle.offset_allocator.specs.Tight.{Holds, CanHold, holds, holds_in, listed_from, first_holding, with_first, AlignsTight, FillsFirst}
@@ -331,10 +335,11 @@ free_of_live (b ∷ bs) cs = grind (arith, common_steps, free_of_live bs cs)
 
 some_free : (bs : List Block) (m : ℕ) (ns : List ℕ) → free_sizes bs ≡ m ∷ ns → (p : Place) × (bs ≡ p.before ++ (p.block ∷ p.after)) × (p.block.used ≡ false)
 some_free [] m ns e = absurd (cc)
-some_free (b ∷ bs) m ns e = elim b.used as (λ u. b.used ≡ u → (if u then free_sizes bs else b.size ∷ free_sizes bs) ≡ m ∷ ns → (p : Place) × (b ∷ bs ≡ p.before ++ (p.block ∷ p.after)) × (p.block.used ≡ false)) [
-  | true ↦ λ u f. let r = some_free bs m ns f in (record { before = b ∷ r.0.before; block = r.0.block; after = r.0.after }, ap (λ (cs : List Block). b ∷ cs) r.1, r.2)
-  | false ↦ λ u f. (record { before = []; block = b; after = bs }, refl, u)
-] refl e
+some_free (b ∷ bs) m ns e =
+    elim b.used as (λ u. b.used ≡ u → (if u then free_sizes bs else b.size ∷ free_sizes bs) ≡ m ∷ ns → (p : Place) × (b ∷ bs ≡ p.before ++ (p.block ∷ p.after)) × (p.block.used ≡ false)) [
+      | true ↦ λ u f. let r = some_free bs m ns f in (record { before = b ∷ r.0.before; block = r.0.block; after = r.0.after }, ap (λ (cs : List Block). b ∷ cs) r.1, r.2)
+      | false ↦ λ u f. (record { before = []; block = b; after = bs }, refl, u)
+    ] refl e
 
 -- the largest free block is at least as large as one that holds a request
 holds_within : (v : View) (n : ℕ) → CanHold n 1 v → n ≤ greatest (free_sizes v.blocks)
@@ -383,7 +388,10 @@ module _ (v : View) (w : IsWellFormed v) (n : ℕ) (room : HasRoomFor 1 v) where
           room,
           elim (cases_lt v.size n) [
             | inl l ↦ l
-            | inr l ↦ absurd (refuses (omega (arith, room, w.some, ap (λ (bs : List Block). length bs) there, ap (λ (x : View). x.max_allocs) f.view), (record { before = []; block = free_block f.name v.size; after = [] }, there, refl, omega (arith, l))))
+            | inr l ↦ absurd (refuses (
+              omega (arith, room, w.some, ap (λ (bs : List Block). length bs) there, ap (λ (x : View). x.max_allocs) f.view),
+              (record { before = []; block = free_block f.name v.size; after = [] }, there, refl, omega (arith, l)),
+            ))
           ],
         ),
       )

@@ -55,7 +55,8 @@ later : (k most from to n m : ℕ) → m ≤ from → AllByRecursion (λ (q : Pi
 later zero most from to n m l = tt
 later (suc k) most from to n m l =
     let ih = later k most (from + min most n) (to + min most n) (n - min most n) m (omega (arith, l)) in
-    elim (nat_eq n 0) as (λ e. AllByRecursion (λ (q : Piece). m ≤ q.from) (if e then [] else record { from = from; to = to; size = min most n } ∷ pieces k most (from + min most n) (to + min most n) (n - min most n))) [
+    elim (nat_eq n 0) as (λ e. AllByRecursion (λ (q : Piece). m ≤ q.from) (if e then [] else record { from = from; to = to; size = min most n }
+    ∷ pieces k most (from + min most n) (to + min most n) (n - min most n))) [
       | true ↦ tt
       | false ↦ (l, ih)
     ]
@@ -65,7 +66,8 @@ apart zero most step from to n some l down = tt
 apart (suc k) most step from to n some l down =
     let ih = apart k most step (from + min step n) (to + min step n) (n - min step n) some l (omega (arith, down)) in
     let rest = later k step (from + min step n) (to + min step n) (n - min step n) (to + min step n) (omega (arith, down)) in
-    elim (nat_eq n 0) as (λ e. nat_eq n 0 ≡ e → ArePieces most (if e then [] else record { from = from; to = to; size = min step n } ∷ pieces k step (from + min step n) (to + min step n) (n - min step n))) [
+    elim (nat_eq n 0) as (λ e. nat_eq n 0 ≡ e
+    → ArePieces most (if e then [] else record { from = from; to = to; size = min step n } ∷ pieces k step (from + min step n) (to + min step n) (n - min step n))) [
       | true ↦ λ _. tt
       | false ↦ λ e. (grind (arith, nat_tests, e, some), omega (arith, l), omega (arith, down), rest, ih)
     ] refl

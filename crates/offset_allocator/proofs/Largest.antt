@@ -5,7 +5,8 @@ use Rattle.offset_allocator.proofs.Common.{bin_at, free_sizes, IsWellFormed, IsF
 use Rattle.offset_allocator.proofs.Common.{sum_by-cons}
 use Rattle.offset_allocator.proofs.Common.{largest, Node, IsRow}
 use Rattle.offset_allocator.proofs.{Sound.Fields, Sound.AreSound, Sound.shown, Rows.node_at, Tallies.units-append}
-use Rattle.offset_allocator.proofs.{Classes.value_small, Classes.value_grows, Classes.value_down, Classes.near_best, Classes.down_law, Taken.taken_among, Tallies.hit_cases, Tallies.one-same, Tallies.tally_append}
+use Rattle.offset_allocator.proofs.{Classes.value_small, Classes.value_grows, Classes.value_down, Classes.near_best, Classes.down_law, Taken.taken_among, Tallies.hit_cases, Tallies.one-same}
+use Rattle.offset_allocator.proofs.{Tallies.tally_append}
 use Rattle.offset_allocator.specs.Statistics.{greatest}
 
 -- ---- a walk along a bin: the names that were met, and those from this one on
@@ -53,7 +54,8 @@ member_most f x (y ∷ xs) l = elim (hit_cases x y) [
 
 pub free_most : (fs : List Block) (b : Block) (cs : List Block) → b.used ≡ false → b.size ≤ greatest (free_sizes (fs ++ b ∷ cs))
 free_most [] b cs u = rw u (grind arith)
-free_most (a ∷ fs) b cs u = let ih = free_most fs b cs u in elim a.used as (λ f. b.size ≤ greatest (if f then free_sizes (fs ++ b ∷ cs) else a.size ∷ free_sizes (fs ++ b ∷ cs))) [ true ↦ ih | false ↦ grind arith ]
+free_most (a ∷ fs) b cs u = let ih = free_most fs b cs u in
+    elim a.used as (λ f. b.size ≤ greatest (if f then free_sizes (fs ++ b ∷ cs) else a.size ∷ free_sizes (fs ++ b ∷ cs))) [ true ↦ ih | false ↦ grind arith ]
 
 pub greatest_within : (ns : List ℕ) → greatest ns ≤ sum ns
 greatest_within [] = grind arith

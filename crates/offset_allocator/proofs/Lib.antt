@@ -73,4 +73,5 @@ pub mod Views
 pub mod Walks
 pub mod Writes
 pub mod Entries
+pub mod RowEntries
 pub mod Fields

@@ -1,5 +1,6 @@
 -- The live ranges up to a block, and from one on.
-use Rattle.offset_allocator.proofs.Common.{◌≡◌, ℕ, ◌+◌, ◌<◌, length, Bool, true, false, not, ◌&&◌, List, [], ◌∷◌, ◌++◌, Option, None, Some, reverse, reverse-append, refl, sym, ap, subst, ◌∙◌, arith, append_assoc, false≢true}
+use Rattle.offset_allocator.proofs.Common.{◌≡◌, ℕ, ◌+◌, ◌<◌, length, Bool, true, false, not, ◌&&◌, List, [], ◌∷◌, ◌++◌, Option, None, Some, reverse, reverse-append, refl, sym, ap, subst, ◌∙◌, arith}
+use Rattle.offset_allocator.proofs.Common.{append_assoc, false≢true}
 use Rattle.offset_allocator.proofs.Common.{ChainCells, Node, node, HasPlace, Block, Place, Grant, units, IsApart, Placed, placed, placed_at, first_or, View, IsLive, place_of, is_used_at, blocks}
 use Rattle.offset_allocator.specs.Beside.{first_grant, last_live, live_before, live_after}
 use Rattle.offset_allocator.proofs.{Sound.Fields, Sound.AreSound, Sound.shown, Reading.live_used, Reading.used_live, ViewSteps.place_at, Ends.ended, Places.end_place, Places.located}

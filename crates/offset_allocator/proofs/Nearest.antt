@@ -140,7 +140,8 @@ module _ (seen : List ℕ) (bs : List Block) (last start lowest : ℕ) (distinct
       unlike x n = elim (hit_cases x q.block.name) [
         | inl h ↦ absurd (
             let p : Place = f.place in
-            let e = ends_before q.before p.before q.after p.after q.block p.block (sym is ∙ f.is) (omega (arith, distinct q.block.name, ap (count_named q.block.name) is)) (omega (arith, n, ap (λ y. count_named y p.before) h.0)) in
+            let e = ends_before q.before p.before q.after p.after q.block p.block (sym is ∙ f.is) (omega (arith, distinct q.block.name, ap (count_named q.block.name) is))
+            (omega (arith, n, ap (λ y. count_named y p.before) h.0)) in
             omega (arith, e, some (omega (arith, f.among, times_few start seen)), l, f.offset)
             )
         | inr h ↦ omega (arith, h.1)
@@ -158,8 +159,14 @@ module _ (seen : List ℕ) (bs : List Block) (last start lowest : ℕ) (distinct
 pub until_last : (front rest : List Block) (x : ℕ) → last_or None front ≡ Some x → count_named x (front ++ rest) ≤ 1 → until x (front ++ rest) ≡ length front
 until_last front rest x e distinct =
     let f : Ended x front = ended front x e in
-    ap (λ (l : List Block). until x (l ++ rest)) f.is ∙ go f.front f.last rest f.name (omega (arith, distinct, ap (λ (l : List Block). count_named x (l ++ rest)) f.is)) ∙ sym (ap (λ (l : List Block). length l) f.is)
+    ap (λ (l : List Block). until x (l ++ rest)) f.is ∙ go f.front f.last rest f.name (omega (arith, distinct, ap (λ (l : List Block). count_named x (l ++ rest)) f.is))
+    ∙ sym (ap (λ (l : List Block). length l) f.is)
   where
     go : (fs : List Block) (b : Block) (rest : List Block) → b.name ≡ x → count_named x ((fs ++ (b ∷ [])) ++ rest) ≤ 1 → until x ((fs ++ (b ∷ [])) ++ rest) ≡ length (fs ++ (b ∷ []))
     go [] b rest n d = elim (hit_cases x b.name) [ inl h ↦ grind arith | inr h ↦ absurd (h.0 (sym n)) ]
-    go (a ∷ fs) b rest n d = elim (hit_cases x a.name) [ inl h ↦ absurd (omega (arith, d, h.1, times-append x (fs ++ (b ∷ [])) rest, times-append x fs (b ∷ []), one-eq x b.name n)) | inr h ↦ grind (arith, go fs b rest n (omega (arith, d))) ]
+    go (a ∷ fs) b rest n d =
+        elim (hit_cases x a.name) [
+          | inl h ↦ absurd (omega (arith, d, h.1, times-append x (fs ++ (b ∷ [])) rest, times-append x fs (b ∷ []), one-eq x b.name n))
+          | inr h ↦ grind
+              (arith, go fs b rest n (omega (arith, d)))
+        ]

@@ -1,5 +1,6 @@
 -- What each call leaves of the ranges of live handles.
-use Rattle.offset_allocator.proofs.Common.{◌-◌, ◌≡◌, ◌≢◌, ℕ, IfSome, zero, suc, ◌+◌, ◌≤◌, Bool, true, false, ◌&&◌, List, [], ◌∷◌, ◌++◌, Option, Some, None, nat_eq, if◌then◌else◌, refl, sym, ap, subst, ◌∙◌}
+use Rattle.offset_allocator.proofs.Common.{◌-◌, ◌≡◌, ◌≢◌, ℕ, IfSome, zero, suc, ◌+◌, ◌≤◌, Bool, true, false, ◌&&◌, List, [], ◌∷◌, ◌++◌, Option, Some, None, nat_eq, if◌then◌else◌, refl, sym, ap}
+use Rattle.offset_allocator.proofs.Common.{subst, ◌∙◌}
 use Rattle.offset_allocator.proofs.Common.{inl, inr, arith, append_assoc, add-zero, add_assoc, eq-eqb, ne_eqb, false≢true, and_right, AllByRecursion, Block, View, Place, Grant, one, units}
 use Rattle.offset_allocator.proofs.Common.{count_named, used_block, free_block, free_part, IsWellFormed, place_of, Range, range_of, AreDisjoint, Grants, KeepsAll, KeepsOthers, KeepsRanges, Resizes}
 use Rattle.offset_allocator.proofs.Common.{HasUnits, SameSpace, Splits, Frees, Adds, common_steps}

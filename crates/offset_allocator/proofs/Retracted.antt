@@ -1,8 +1,11 @@
 -- The last block of a space has fewer units, or goes.
-use Rattle.offset_allocator.proofs.Common.{◌≡◌, ℕ, zero, suc, ◌+◌, ◌-◌, ◌<◌, ◌≤◌, Bool, true, false, not, ◌&&◌, List, [], ◌∷◌, ◌++◌, length, refl, sym, ap, subst, ◌∙◌, arith, inl, inr, append-nil, append_assoc, length-append}
-use Rattle.offset_allocator.proofs.Common.{Block, View, Cells, units, one, down, free_block, used_of, IsApart, IsWellFormed, IsChain, IsBinned, bins_in, blocks, push, push_all, remove_all, replace, ends_used, KeepsAll, true≢false}
+use Rattle.offset_allocator.proofs.Common.{◌≡◌, ℕ, zero, suc, ◌+◌, ◌-◌, ◌<◌, ◌≤◌, Bool, true, false, not, ◌&&◌, List, [], ◌∷◌, ◌++◌, length, refl, sym, ap, subst, ◌∙◌, arith, inl, inr, append-nil}
+use Rattle.offset_allocator.proofs.Common.{append_assoc, length-append}
+use Rattle.offset_allocator.proofs.Common.{Block, View, Cells, units, one, down, free_block, used_of, IsApart, IsWellFormed, IsChain, IsBinned, bins_in, blocks, push, push_all, remove_all, replace}
+use Rattle.offset_allocator.proofs.Common.{ends_used, KeepsAll, true≢false}
 use Rattle.offset_allocator.specs.Retracting.{CanRetract, Cuts, Retracts, end_part}
-use Rattle.offset_allocator.proofs.{Sound.Fields, Sound.AreSound, Sound.shown, Joints.stepped, Joints.free_units-append, Joints.free_units-free, Tallies.free_units, Tallies.free_sum, Tallies.units-append, Tallies.tally_append, Tallies.hit_cases}
+use Rattle.offset_allocator.proofs.{Sound.Fields, Sound.AreSound, Sound.shown, Joints.stepped, Joints.free_units-append, Joints.free_units-free, Tallies.free_units, Tallies.free_sum}
+use Rattle.offset_allocator.proofs.{Tallies.units-append, Tallies.tally_append, Tallies.hit_cases}
 use Rattle.offset_allocator.proofs.{ViewApart.apart_parts, ViewApart.apart_append, ViewApart.ends_free, ViewReplaced.well_replaced, Nearby.one_used, Nearby.other_used}
 use Rattle.offset_allocator.proofs.{Sound.well_same, Ranges.cuts_keep, Extending.ends_last}
 use Rattle.offset_allocator.proofs.Extending.{EndsFree, last_of, known_of, last_free, last_left, last_removed}
@@ -66,7 +69,14 @@ module _ {it : Fields} (r : EndsFree it) (less : ℕ) (enough : less ≤ (last_o
         names = λ x l. inl l;
         apart = apart_append fs (free_block b.name (b.size - less) ∷ []) parts.0 (refl, tt) (ap (λ (u : Bool). ends_free fs && not u) (sym (last_free r)) ∙ parts.2);
         room = omega (arith, w.room, ap (λ (l : List Block). length l) (last_of r).is, length-append fs (b ∷ []), length-append fs (free_block b.name (b.size - less) ∷ []));
-        spare = omega (arith, w.spare, ap used_of (last_of r).is, tally_append (λ (c : Block). one c.used) fs (b ∷ []), tally_append (λ (c : Block). one c.used) fs (free_block b.name (b.size - less) ∷ []));
+        spare = omega (
+          arith,
+          w.spare,
+          ap used_of (last_of r).is,
+          tally_append (λ (c : Block). one c.used) fs (b ∷ []),
+          tally_append (λ (c : Block). one c.used) fs (free_block b.name (b.size - less)
+              ∷ []),
+        );
       })
       (omega (arith, enough, size_fits)) (omega (arith, w.fits))
 
@@ -85,14 +95,19 @@ module _ {it : Fields} (r : EndsFree it) (less : ℕ) (enough : less ≤ (last_o
         free = last_free r;
         enough = enough;
         view = made.1 ∙ ap (λ (new : List Block). record (replace (shown it) fs (b ∷ []) new []) { size = it.size - less; accesses = k }) (sym (end_some fs b.name n rest));
-      } in
-      (made.0, is, cuts_keep (shown it) (shown (record it { size = it.size - less; cells = d; last = it.last; count = count; top = top; free = it.free - less; accesses = k })) w (well_same narrow_view _ made.1 well_narrow) less is)
+      } in (
+        made.0,
+        is,
+        cuts_keep (shown it) (shown (record it { size = it.size - less; cells = d; last = it.last; count = count; top = top; free = it.free - less; accesses = k })) w
+            (well_same narrow_view _ made.1 well_narrow) less is,
+      )
 
   pub narrowed_to : (n : ℕ) → n ≡ (last_of r).last.size - less → (n ≡ 0 → (last_of r).front ≡ []) → (d : Cells) (k : ℕ) {count top : ℕ}
       → IsChain d.chain it.cells.chain.reserved it.last count ((last_of r).front ++ record (last_of r).last { size = n } ∷ []) → IsBinned it.max d.bins top
       → bins_in it.max d.bins ≡ push (down n) it.last (last_left r) → Cut d it.last count top k
   narrowed_to n e rest d k {count} chain bins lists =
-      narrowed (λ q. rest (e ∙ q)) d k (subst (λ (m : ℕ). IsChain d.chain it.cells.chain.reserved it.last count (fs ++ record b { size = m } ∷ [])) e chain) bins (lists ∙ ap (λ (m : ℕ). push (down m) it.last (last_left r)) e)
+      narrowed (λ q. rest (e ∙ q)) d k (subst (λ (m : ℕ). IsChain d.chain it.cells.chain.reserved it.last count (fs ++ record b { size = m } ∷ [])) e chain) bins (lists
+      ∙ ap (λ (m : ℕ). push (down m) it.last (last_left r)) e)
 
   -- nothing of it does
   module _ (gs : List Block) (a : Block) (others : (last_of r).front ≡ gs ++ a ∷ []) (whole : less ≡ (last_of r).last.size) where
@@ -121,7 +136,8 @@ module _ {it : Fields} (r : EndsFree it) (less : ℕ) (enough : less ≤ (last_o
     removed : push_all (a ∷ []) (remove_all (a ∷ (last_of r).last ∷ []) (bins_in it.max it.cells.bins)) ≡ remove_all ((last_of r).last ∷ []) (bins_in it.max it.cells.bins)
     removed = grind (arith, a_used)
 
-    pub dropped : (d : Cells) (k x : ℕ) {count top : ℕ} → IsChain d.chain it.cells.chain.reserved x count (gs ++ a ∷ []) → IsBinned it.max d.bins top → bins_in it.max d.bins ≡ last_left r → Cut d x count top k
+    pub dropped : (d : Cells) (k x : ℕ) {count top : ℕ} → IsChain d.chain it.cells.chain.reserved x count (gs ++ a ∷ []) → IsBinned it.max d.bins top → bins_in it.max d.bins ≡ last_left r
+        → Cut d x count top k
     dropped d k x {count} {top} chain bins lists =
         let made = stepped it s cut_view d (it.free - less) k well_cut refl chain refl bins (lists ∙ last_removed r ∙ sym removed)
         (sym (ap free_units others) ∙ omega (arith, its_free, whole)) in
@@ -134,10 +150,15 @@ module _ {it : Fields} (r : EndsFree it) (less : ℕ) (enough : less ≤ (last_o
           view =
               made.1
               ∙ ap (λ (o : List (List ℕ)). record (shown it) { blocks = gs ++ a ∷ []; order = o; size = it.size - less; accesses = k }) removed
-              ∙ ap (λ (l : List Block). record (shown it) { blocks = l; order = remove_all (b ∷ []) (bins_in it.max it.cells.bins); size = it.size - less; accesses = k }) (sym others ∙ sym (append-nil fs))
+              ∙ ap (λ (l : List Block). record (shown it) { blocks = l; order = remove_all (b ∷ []) (bins_in it.max it.cells.bins); size = it.size - less; accesses = k }) (sym others
+              ∙ sym (append-nil fs))
               ∙ ap (λ (new : List Block). record (replace (shown it) fs (b ∷ []) new []) { size = it.size - less; accesses = k }) (sym (gone (b.size - less) (omega (arith, whole))));
-        } in
-        (made.0, is, cuts_keep (shown it) (shown (record it { size = it.size - less; cells = d; last = x; count = count; top = top; free = it.free - less; accesses = k })) w (well_same cut_view _ made.1 well_cut) less is)
+        } in (
+          made.0,
+          is,
+          cuts_keep (shown it) (shown (record it { size = it.size - less; cells = d; last = x; count = count; top = top; free = it.free - less; accesses = k })) w
+              (well_same cut_view _ made.1 well_cut) less is,
+        )
       where
         gone : (n : ℕ) → n ≡ 0 → end_part (last_of r).front (last_of r).last.name n ≡ []
         gone n e = ap (λ (m : ℕ). end_part fs b.name m) e ∙ ap (λ (l : List Block). end_part l b.name 0) others ∙ end_none gs a b.name

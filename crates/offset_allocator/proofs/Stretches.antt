@@ -42,7 +42,8 @@ moves-append i j (x ∷ xs) ys = go x.used refl (λ k l. moves-append k l xs ys)
         moves_idle i j x (xs ++ ys) e ∙ ih (i + x.size) j ∙ ap₂ (λ (l k : List Move). l ++ k) (sym (moves_idle i j x xs e)) (ap₂ (λ a b. moves a b ys) from to)
 
 -- at first
-abbrev pub way_start : {F A B : Type 0} {R : F → Move → F → Type 0} {p : Place} {run back : List Block} {f : F} {accesses : ℕ} (cost : ℕ → ℕ) {max : ℕ} {number : A → ℕ} {t : ChainCells} {m last count : ℕ}
+abbrev pub way_start : {F A B : Type 0} {R : F → Move → F → Type 0} {p : Place} {run back : List Block} {f : F} {accesses : ℕ} (cost : ℕ → ℕ) {max : ℕ} {number : A
+    → ℕ} {t : ChainCells} {m last count : ℕ}
     {gap : Gap A B} {at : Option ℕ}
     → IsGap max number gap t m last count p → p.after ≡ run ++ back → at ≡ first_or None p.after
     → IsOnTheWay R p run back f accesses cost max number t m last count gap at f accesses

@@ -1,5 +1,6 @@
 -- A walk over the blocks, from the end of the space to its start.
-use Rattle.offset_allocator.proofs.Common.{◌≡◌, ℕ, zero, suc, ◌+◌, ◌-◌, ◌<◌, ◌≤◌, not, Bool, None, Some, List, [], ◌∷◌, ◌++◌, length, take, drop, sum, refl, sym, ap, ap₂, subst, ◌∙◌, arith, true, false, ◌⊎◌, inl, inr, ◌&&◌, true≢false, starts_free, IsApart, length_push, length-take-le, append_assoc, sum_by-cons, common_steps}
+use Rattle.offset_allocator.proofs.Common.{◌≡◌, ℕ, zero, suc, ◌+◌, ◌-◌, ◌<◌, ◌≤◌, not, Bool, None, Some, List, [], ◌∷◌, ◌++◌, length, take, drop, sum, refl, sym, ap, ap₂, subst, ◌∙◌, arith, true}
+use Rattle.offset_allocator.proofs.Common.{false, ◌⊎◌, inl, inr, ◌&&◌, true≢false, starts_free, IsApart, length_push, length-take-le, append_assoc, sum_by-cons, common_steps}
 use Rattle.offset_allocator.proofs.Common.{ChainCells, Node, node, IsChain, IsRow, last_or, Block, units, free_sizes, used_of, one, count_named}
 use Rattle.std.proofs.Math.Seq.{drop-append_seam}
 use Rattle.offset_allocator.proofs.Listing.{ends_in}

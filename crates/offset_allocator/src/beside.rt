@@ -18,7 +18,8 @@ fn live_up_to<T: Tables>(
     name: u32,
     count: &mut Accesses,
 ) -> Option<Allocation<T::Index>>
-    requires place { (m last spare : ℕ) × (p : Place) × HasPlace (T.cells tables.now).chain m last spare name p
+    requires place { (m last spare : ℕ) × (p : Place)
+        × HasPlace (T.cells tables.now).chain m last spare name p
         × IsApart (p.before ++ p.block ∷ p.after) }
     ensures last { (m last spare : ℕ) (p : Place) → HasPlace (T.cells tables.now).chain m last spare name p
         → IsApart (p.before ++ p.block ∷ p.after)
@@ -35,7 +36,8 @@ fn live_up_to<T: Tables>(
 
 // The handle of a block, or of the one after it where it is free.
 fn live_from<T: Tables>(tables: &T, name: u32, count: &mut Accesses) -> Option<Allocation<T::Index>>
-    requires place { (m last spare : ℕ) × (p : Place) × HasPlace (T.cells tables.now).chain m last spare name p
+    requires place { (m last spare : ℕ) × (p : Place)
+        × HasPlace (T.cells tables.now).chain m last spare name p
         × IsApart (p.before ++ p.block ∷ p.after) }
     ensures first { (m last spare : ℕ) (p : Place) → HasPlace (T.cells tables.now).chain m last spare name p
         → IsApart (p.before ++ p.block ∷ p.after)
@@ -146,8 +148,8 @@ impl<T: Tables> AllocatorOf<T> {
         first_live_counted(self, &mut Accesses::new())
     }
 
-    /// The handle of the live range that is the last one in space, or `None` where none is live. It makes at most 8
-    /// accesses to the tables.
+    /// The handle of the live range that is the last one in space, or `None` where none is live. It makes at
+    /// most 8 accesses to the tables.
     ///
     /// ```
     /// space.allocate(300);
@@ -160,11 +162,12 @@ impl<T: Tables> AllocatorOf<T> {
         last_live_counted(self, &mut Accesses::new())
     }
 
-    /// The handle of the live range directly before that of a handle, with at most a free block between them. `None` where
-    /// there is none, or where the handle is not live, of which only the name counts. It makes at most 8 accesses to the
-    /// tables.
+    /// The handle of the live range directly before that of a handle, with at most a free block between them.
+    /// `None` where there is none, or where the handle is not live, of which only the name counts. It makes
+    /// at most 8 accesses to the tables.
     ///
-    /// From `last_live` on, this walks all live ranges; they may be freed on the way, after the next one is asked for.
+    /// From `last_live` on, this walks all live ranges; they may be freed on the way, after the next one is
+    /// asked for.
     ///
     /// ```
     /// let mesh = space.allocate(300);
@@ -177,9 +180,9 @@ impl<T: Tables> AllocatorOf<T> {
         live_before_counted(self, allocation, &mut Accesses::new())
     }
 
-    /// The handle of the live range directly after that of a handle, with at most a free block between them. `None` where
-    /// there is none, or where the handle is not live, of which only the name counts. It makes at most 8 accesses to the
-    /// tables.
+    /// The handle of the live range directly after that of a handle, with at most a free block between them.
+    /// `None` where there is none, or where the handle is not live, of which only the name counts. It makes
+    /// at most 8 accesses to the tables.
     ///
     /// ```
     /// let mesh = space.allocate(300).unwrap();

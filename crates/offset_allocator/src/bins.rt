@@ -1,6 +1,7 @@
-//! A bin for each size class: the names of its free blocks, in a list of links between the nodes, with a two-level
-//! mask.
-ghost use Rattle.std.specs.Prelude.{◌≡◌, ◌+◌, ◌-◌, ◌<◌, ◌≤◌, ◌≢◌, ℕ, false, List, [], ◌∷◌, slice_index, slice_set};
+//! A bin for each size class: the names of its free blocks, in a list of links between the nodes, with a
+//! two-level mask.
+ghost use Rattle.std.specs.Prelude.{◌≡◌, ◌+◌, ◌-◌, ◌<◌, ◌≤◌, ◌≢◌, ℕ, false, List, [], ◌∷◌, slice_index};
+ghost use Rattle.std.specs.Prelude.{slice_set};
 ghost use Rattle.std.specs.Prelude.{length, replicate, MatchOption};
 ghost use Rattle.offset_allocator.specs.Accesses.{Costs};
 ghost use Rattle.offset_allocator.specs.Cells.{AreEmpty, node};
@@ -99,7 +100,8 @@ pub(crate) fn push<T: Tables>(store: &mut Store<T>, name: u32, class: u32)
     requires classed { class < 256 }
     requires unlisted { IsUnlisted name (bins_of T.cells T.Index.MAX store.old) }
     ensures binned { AreBinned T.cells T.Index.MAX store.new }
-    ensures lists { bins_of T.cells T.Index.MAX store.new ≡ push class name (bins_of T.cells T.Index.MAX store.old) }
+    ensures lists { bins_of T.cells T.Index.MAX store.new
+        ≡ push class name (bins_of T.cells T.Index.MAX store.old) }
     ensures chain { SameChain T.cells store.old store.new }
     ensures accesses { Costs 5 6 store.old.accesses store.new.accesses }
 {
@@ -148,7 +150,8 @@ fn clear_bit<T: Tables>(store: &mut Store<T>, class: u32)
 // Sets the link to a newer node of the node that `at` names, if it names one, to `to`.
 fn link_newer<T: Tables>(tables: &mut T, at: T::Index, to: T::Index, count: &mut Accesses)
     requires limit { length (T.cells tables.old).bins.newer ≤ T.Index.MAX }
-    requires named { T.Index.number at ≢ T.Index.MAX → T.Index.number at < length (T.cells tables.old).bins.newer }
+    requires named { T.Index.number at ≢ T.Index.MAX → T.Index.number at
+        < length (T.cells tables.old).bins.newer }
     requires idle { T.Index.number at ≢ T.Index.MAX
         → (node (T.cells tables.old).chain (T.Index.number at)).used ≡ false }
     requires link { T.Index.number to ≢ T.Index.MAX - 1 }
@@ -230,8 +233,8 @@ pub(crate) fn remove<T: Tables>(store: &mut Store<T>, name: u32, size: u32)
     remove_linked(store, name, newer, size);
 }
 
-/// Removes `gone`, the name of a block of `size` units, from its bin, and pushes `name` onto the bin of `class`. Where
-/// both are one bin and `gone` is its newest, `name` takes its place.
+/// Removes `gone`, the name of a block of `size` units, from its bin, and pushes `name` onto the bin of
+/// `class`. Where both are one bin and `gone` is its newest, `name` takes its place.
 #[inline(always)]
 pub(crate) fn exchange<T: Tables>(store: &mut Store<T>, gone: u32, size: u32, name: u32, class: u32)
     requires binned { AreBinned T.cells T.Index.MAX store.old }

@@ -9,8 +9,8 @@ use crate::tables::Tables;
 use std::alloc::{AllocError, Global};
 use std::marker::Model;
 
-/// A table for each field of a node. A used block is in no bin: its link to a newer node is the number below the
-/// largest, which names none.
+/// A table for each field of a node. A used block is in no bin: its link to a newer node is the number below
+/// the largest, which names none.
 #[derive(Drop)]
 pub struct ByField<NI: NodeIndex> {
     offset: Vec<u32>,

@@ -11,9 +11,9 @@ use crate::tables::Tables;
 use std::alloc::{AllocError, Global};
 use std::marker::Model;
 
-/// A block's offset and size, the links to its neighbours in space, and the links to the next nodes of its bin. A link
-/// is the number of a node, or the largest number of its type, which names none. A used block is in no bin: its link to
-/// a newer node is the number below the largest, which names none either.
+/// A block's offset and size, the links to its neighbours in space, and the links to the next nodes of its
+/// bin. A link is the number of a node, or the largest number of its type, which names none. A used block is
+/// in no bin: its link to a newer node is the number below the largest, which names none either.
 #[derive(Clone, Copy)]
 pub(crate) struct Node<NI> {
     pub(crate) offset: u32,
@@ -45,8 +45,8 @@ impl<NI: NodeIndex> Model for ByNode<NI> {
     ghost invariant = { λ t. AreEven NI.MAX t };
 }
 
-// The node of a block of no units that is linked to none.
-fn blank<NI: NodeIndex>() -> Node<NI>
+/// The node of a block of no units that is linked to none.
+pub(crate) fn blank<NI: NodeIndex>() -> Node<NI>
     ensures node { node_of NI.MAX NI.number result ≡ blank }
     ensures newer { NI.number result.newer ≡ NI.MAX }
     ensures older { NI.number result.older ≡ NI.MAX }

@@ -1,14 +1,17 @@
 //! The blocks of the space, linked in space order, and the stack of unused names.
 
-ghost use Rattle.std.specs.Prelude.{ℕ, ◌≡◌, ◌+◌, ◌-◌, ◌<◌, ◌≤◌, ◌^◌, List, [], ◌∷◌, ◌++◌, length, false, Some, IfSome};
+ghost use Rattle.std.specs.Prelude.{ℕ, ◌≡◌, ◌+◌, ◌-◌, ◌<◌, ◌≤◌, ◌^◌, List, [], ◌∷◌, ◌++◌, length, false};
+ghost use Rattle.std.specs.Prelude.{Some, IfSome};
 ghost use Rattle.std.specs.Prelude.{MatchOption};
-ghost use Rattle.offset_allocator.specs.View.{Block, Place, free_block, is_used_at, count_named, place_of, units};
+ghost use Rattle.offset_allocator.specs.View.{Block, Place, free_block, is_used_at, count_named, place_of};
+ghost use Rattle.offset_allocator.specs.View.{units};
 ghost use Rattle.offset_allocator.specs.Accesses.{Costs};
 ghost use Rattle.offset_allocator.specs.Cells.{IsBare, node, put, link_of};
 ghost use Rattle.offset_allocator.specs.Bins.{IsUnlisted, bins_in};
 ghost use Rattle.offset_allocator.specs.Readies.{KeepsBins, Readies};
 ghost use Rattle.offset_allocator.specs.Store.{IsPlaceIn, SameBins};
-ghost use Rattle.offset_allocator.specs.Chain.{IsChain, IsSpace, HasPlace, blocks, coalesced_before, coalesced_after};
+ghost use Rattle.offset_allocator.specs.Chain.{IsChain, IsSpace, HasPlace, blocks, coalesced_before};
+ghost use Rattle.offset_allocator.specs.Chain.{coalesced_after};
 
 use crate::accesses::Accesses;
 use crate::index::{link_to, linked, no_link, number};
@@ -87,7 +90,8 @@ pub(crate) fn point_back<T: Tables>(
     ensures nodes { length (T.cells tables.new).chain.nodes ≡ length (T.cells tables.old).chain.nodes }
     ensures cells { MatchOption (link_of T.Index.MAX (T.Index.number link)) ((T.cells tables.new).chain
         ≡ (T.cells tables.old).chain) (λ x. (T.cells tables.new).chain
-        ≡ put (T.cells tables.old).chain x (record (node (T.cells tables.old).chain x) { before = Some name })) }
+        ≡ put (T.cells tables.old).chain x
+        (record (node (T.cells tables.old).chain x) { before = Some name })) }
     ensures bins { (T.cells tables.new).bins ≡ (T.cells tables.old).bins }
     ensures accesses { Costs 0 1 count.old count.new }
     ensures last { MatchOption (link_of T.Index.MAX (T.Index.number link))
@@ -121,8 +125,8 @@ pub(crate) fn point_on<T: Tables>(tables: &mut T, link: T::Index, name: u32, cou
     }
 }
 
-/// Splits a block, which has this offset and `whole` units, after `size` units. The remainder becomes a free block
-/// directly after it, under the name that is returned. The caller has read the offset and the units.
+/// Splits a block, which has this offset and `whole` units, after `size` units. The remainder becomes a free
+/// block directly after it, under the name that is returned. The caller has read the offset and the units.
 #[tactic(auto, using(crate::proofs::Nodes::lengths))]
 pub(crate) fn split<T: Tables>(
     store: &mut Store<T>,
@@ -142,7 +146,8 @@ pub(crate) fn split<T: Tables>(
           after = free_block result (p.block.size - size) ∷ p.after;
         }) }
     ensures bins { SameBins T.cells store.old store.new }
-    ensures nodes { length (T.cells store.new.tables).chain.nodes ≡ length (T.cells store.old.tables).chain.nodes }
+    ensures nodes { length (T.cells store.new.tables).chain.nodes
+        ≡ length (T.cells store.old.tables).chain.nodes }
     ensures spares { store.new.spare_count + 1 ≡ store.old.spare_count }
     ensures fresh { (m : ℕ) (p : Place) → IsPlaceIn T.cells store.old m name p
         → count_named result (p.before ++ p.block ∷ p.after) ≡ 0 }
@@ -162,8 +167,8 @@ pub(crate) fn split<T: Tables>(
     rest
 }
 
-/// Coalesces the free block `following` into the block directly before it; `whole` is the size of both. The name
-/// `following` is unused again.
+/// Coalesces the free block `following` into the block directly before it; `whole` is the size of both. The
+/// name `following` is unused again.
 #[tactic(auto, using(crate::proofs::Nodes::lengths))]
 pub(crate) fn coalesce_after<T: Tables>(store: &mut Store<T>, name: u32, following: u32, whole: u32)
     requires place { (m : ℕ) × (p : Place) × IsPlaceIn T.cells store.old m name p }
@@ -174,7 +179,8 @@ pub(crate) fn coalesce_after<T: Tables>(store: &mut Store<T>, name: u32, followi
     ensures place { (m : ℕ) (p : Place) → IsPlaceIn T.cells store.old m name p
         → IsPlaceIn T.cells store.new m name (coalesced_after p) }
     ensures bins { SameBins T.cells store.old store.new }
-    ensures nodes { length (T.cells store.new.tables).chain.nodes ≡ length (T.cells store.old.tables).chain.nodes }
+    ensures nodes { length (T.cells store.new.tables).chain.nodes
+        ≡ length (T.cells store.old.tables).chain.nodes }
     ensures spares { store.new.spare_count ≡ store.old.spare_count + 1 }
     ensures accesses { Costs 4 5 store.old.accesses store.new.accesses }
 {
@@ -188,8 +194,8 @@ pub(crate) fn coalesce_after<T: Tables>(store: &mut Store<T>, name: u32, followi
     store.spare_count += 1;
 }
 
-/// Coalesces the free block `previous` into the block directly after it; `whole` is the size of both. The name
-/// `previous` is unused again.
+/// Coalesces the free block `previous` into the block directly after it; `whole` is the size of both. The
+/// name `previous` is unused again.
 #[tactic(auto, using(crate::proofs::Nodes::lengths))]
 pub(crate) fn coalesce_before<T: Tables>(store: &mut Store<T>, previous: u32, name: u32, whole: u32)
     requires place { (m : ℕ) × (p : Place) × IsPlaceIn T.cells store.old m name p }
@@ -200,7 +206,8 @@ pub(crate) fn coalesce_before<T: Tables>(store: &mut Store<T>, previous: u32, na
     ensures place { (m : ℕ) (p : Place) → IsPlaceIn T.cells store.old m name p
         → IsPlaceIn T.cells store.new m name (coalesced_before p) }
     ensures bins { SameBins T.cells store.old store.new }
-    ensures nodes { length (T.cells store.new.tables).chain.nodes ≡ length (T.cells store.old.tables).chain.nodes }
+    ensures nodes { length (T.cells store.new.tables).chain.nodes
+        ≡ length (T.cells store.old.tables).chain.nodes }
     ensures spares { store.new.spare_count ≡ store.old.spare_count + 1 }
     ensures accesses { Costs 6 7 store.old.accesses store.new.accesses }
 {
@@ -220,7 +227,8 @@ pub(crate) fn coalesce_before<T: Tables>(store: &mut Store<T>, previous: u32, na
 pub(crate) fn set_used<T: Tables>(tables: &mut T, name: u32, used: bool, count: &mut Accesses)
     requires { name < length (T.cells tables.old).chain.nodes }
     ensures place { (m last spare : ℕ) (p : Place) → HasPlace (T.cells tables.old).chain m last spare name p
-        → HasPlace (T.cells tables.new).chain m last spare name (record p { block = record p.block { used = used } }) }
+        → HasPlace (T.cells tables.new).chain m last spare name
+        (record p { block = record p.block { used = used } }) }
     ensures bins { (top : ℕ) → IsUnlisted name (bins_in T.Index.MAX (T.cells tables.old).bins)
         → KeepsBins T.Index.MAX (T.cells tables.old) (T.cells tables.new) top }
     ensures nodes { length (T.cells tables.new).chain.nodes ≡ length (T.cells tables.old).chain.nodes }
@@ -229,8 +237,8 @@ pub(crate) fn set_used<T: Tables>(tables: &mut T, name: u32, used: bool, count: 
     tables.set_used(name, used, count);
 }
 
-/// Splits the first `cut` units off a block. They become a free block directly before it, under the name that is
-/// returned.
+/// Splits the first `cut` units off a block. They become a free block directly before it, under the name that
+/// is returned.
 #[tactic(auto, using(crate::proofs::Nodes::lengths))]
 pub(crate) fn split_before<T: Tables>(store: &mut Store<T>, name: u32, cut: u32) -> u32
     requires place { (m : ℕ) × (p : Place) × IsPlaceIn T.cells store.old m name p }
@@ -243,7 +251,8 @@ pub(crate) fn split_before<T: Tables>(store: &mut Store<T>, name: u32, cut: u32)
           after = p.after;
         }) }
     ensures bins { SameBins T.cells store.old store.new }
-    ensures nodes { length (T.cells store.new.tables).chain.nodes ≡ length (T.cells store.old.tables).chain.nodes }
+    ensures nodes { length (T.cells store.new.tables).chain.nodes
+        ≡ length (T.cells store.old.tables).chain.nodes }
     ensures spares { store.new.spare_count + 1 ≡ store.old.spare_count }
     ensures fresh { (m : ℕ) (p : Place) → IsPlaceIn T.cells store.old m name p
         → count_named result (p.before ++ p.block ∷ p.after) ≡ 0 }
@@ -269,10 +278,12 @@ pub(crate) fn split_before<T: Tables>(store: &mut Store<T>, name: u32, cut: u32)
 #[tactic(auto, using(crate::proofs::Nodes::lengths))]
 pub(crate) fn grow<T: Tables>(tables: &mut T, last: u32, more: u32, count: &mut Accesses)
     requires place { (m spare : ℕ) × (before : List Block) × (b : Block)
-        × HasPlace (T.cells tables.old).chain m last spare last (record { before = before; block = b; after = [] }) }
+        × HasPlace (T.cells tables.old).chain m last spare last
+        (record { before = before; block = b; after = [] }) }
     requires fits { units (blocks (T.cells tables.old).chain last) + more < 2 ^ 32 }
     ensures place { (m spare : ℕ) (before : List Block) (b : Block)
-        → HasPlace (T.cells tables.old).chain m last spare last (record { before = before; block = b; after = [] })
+        → HasPlace (T.cells tables.old).chain m last spare last
+        (record { before = before; block = b; after = [] })
         → HasPlace (T.cells tables.new).chain m last spare last (record {
           before = before;
           block = record b { size = b.size + more };
@@ -290,9 +301,11 @@ pub(crate) fn grow<T: Tables>(tables: &mut T, last: u32, more: u32, count: &mut 
 #[tactic(auto, using(crate::proofs::Nodes::lengths))]
 pub(crate) fn trim<T: Tables>(tables: &mut T, last: u32, size: u32, count: &mut Accesses)
     requires place { (m spare : ℕ) × (before : List Block) × (b : Block)
-        × HasPlace (T.cells tables.old).chain m last spare last (record { before = before; block = b; after = [] }) }
+        × HasPlace (T.cells tables.old).chain m last spare last
+        (record { before = before; block = b; after = [] }) }
     ensures place { (m spare : ℕ) (before : List Block) (b : Block)
-        → HasPlace (T.cells tables.old).chain m last spare last (record { before = before; block = b; after = [] })
+        → HasPlace (T.cells tables.old).chain m last spare last
+        (record { before = before; block = b; after = [] })
         → size ≤ b.size → HasPlace (T.cells tables.new).chain m last spare last (record {
           before = before;
           block = record b { size = size };
@@ -312,7 +325,8 @@ pub(crate) fn drop_end<T: Tables>(store: &mut Store<T>, previous: u32, size: u32
         × (b.used ≡ false) × (size ≡ b.size) }
     ensures place { (m : ℕ) (before : List Block) (a b : Block)
         → IsPlaceIn T.cells store.old m previous (record { before = before; block = a; after = b ∷ [] })
-        → b.used ≡ false → IsPlaceIn T.cells store.new m previous (record { before = before; block = a; after = [] }) }
+        → b.used ≡ false → IsPlaceIn T.cells store.new m previous
+        (record { before = before; block = a; after = [] }) }
     ensures bins { SameBins T.cells store.old store.new }
     ensures last { store.new.last ≡ previous }
     ensures accesses { Costs 6 7 store.old.accesses store.new.accesses }

@@ -1,5 +1,6 @@
 //! Slides every live range to the front of the space, so that all free units are one block at its end.
-ghost use Rattle.std.specs.Prelude.{ℕ, ◌≡◌, ◌≢◌, ◌+◌, ◌*◌, ◌<◌, ◌≤◌, [], ◌∷◌, ◌++◌, Some, false, Bool, List, length};
+ghost use Rattle.std.specs.Prelude.{ℕ, ◌≡◌, ◌≢◌, ◌+◌, ◌*◌, ◌<◌, ◌≤◌, [], ◌∷◌, ◌++◌, Some, false, Bool, List};
+ghost use Rattle.std.specs.Prelude.{length};
 ghost use Rattle.std.specs.Prelude.{sum, unwrap_or};
 ghost use Rattle.std.specs.List.{FoldsTo};
 ghost use Rattle.offset_allocator.specs.Accesses.{Costs};
@@ -8,7 +9,8 @@ ghost use Rattle.offset_allocator.specs.View.{Place, free_block, free_sizes, uni
 ghost use Rattle.offset_allocator.specs.Bins.{IsBinned, bins_in};
 ghost use Rattle.offset_allocator.specs.Chain.{IsSpace, HasPlace, blocks};
 ghost use Rattle.offset_allocator.specs.Compacting.{live, moves, move_of, Compacts, KeepsSizes, IsCalledWith};
-ghost use Rattle.offset_allocator.specs.Compacting.{IsStart, first_among, first_free, newest, until, until_free};
+ghost use Rattle.offset_allocator.specs.Compacting.{IsStart, first_among, first_free, newest, until};
+ghost use Rattle.offset_allocator.specs.Compacting.{until_free};
 ghost use Rattle.offset_allocator.specs.Soundness.{AreInBins};
 ghost use Rattle.offset_allocator.specs.Store.{IsPlaceIn, SameBins};
 
@@ -36,8 +38,8 @@ pub struct Move<NI: NodeIndex = u32, N: NodeIndexNonMax = <NI as NodeIndex>::Non
 }
 
 impl<NI: NodeIndex, N: NodeIndexNonMax> Move<NI, N> {
-    /// The handle of the range as it is after the move. Every older handle of the range is live too; only its `offset`
-    /// is that of before.
+    /// The handle of the range as it is after the move. Every older handle of the range is live too; only its
+    /// `offset` is that of before.
     ///
     /// ```
     /// let hole = space.allocate(300).unwrap();
@@ -55,13 +57,15 @@ impl<NI: NodeIndex, N: NodeIndexNonMax> Move<NI, N> {
 // The most bins that are looked into for a free block near the start of the space.
 const MOST_BINS: u32 = 32;
 
-// A block to begin the search for the first free one at, which is this one or before it: of the newest blocks of the
-// first bins that have some, the first in space, or the last block of the space where none is free.
+// A block to begin the search for the first free one at, which is this one or before it: of the newest blocks
+// of the first bins that have some, the first in space, or the last block of the space where none is free.
 fn search_start<T: Tables>(tables: &T, top_mask: u32, last: u32, count: &mut Accesses) -> u32
     requires space { (spare : ℕ) × IsSpace (T.cells tables.now).chain last spare }
     requires binned { IsBinned T.Index.MAX (T.cells tables.now).bins top_mask }
-    requires filed { AreInBins (blocks (T.cells tables.now).chain last) (bins_in T.Index.MAX (T.cells tables.now).bins) }
-    ensures first { result ≡ unwrap_or (first_among (newest 32 (bins_in T.Index.MAX (T.cells tables.now).bins))
+    requires filed { AreInBins (blocks (T.cells tables.now).chain last)
+        (bins_in T.Index.MAX (T.cells tables.now).bins) }
+    ensures first { result
+        ≡ unwrap_or (first_among (newest 32 (bins_in T.Index.MAX (T.cells tables.now).bins))
         (blocks (T.cells tables.now).chain last)) last }
     ensures start { IsStart (blocks (T.cells tables.now).chain last) result }
     ensures accesses { count.new
@@ -90,8 +94,8 @@ fn search_start<T: Tables>(tables: &T, top_mask: u32, last: u32, count: &mut Acc
     start
 }
 
-// The name of the first free block, if there is one. It is found by a walk back from `start`, since the first block of
-// the space is not known.
+// The name of the first free block, if there is one. It is found by a walk back from `start`, since the first
+// block of the space is not known.
 fn first_free<T: Tables>(tables: &T, last: u32, start: u32, count: &mut Accesses) -> Option<u32>
     requires space { (spare : ℕ) × IsSpace (T.cells tables.now).chain last spare }
     requires start { IsStart (blocks (T.cells tables.now).chain last) start }
@@ -144,8 +148,8 @@ pub(crate) fn report<NI: NodeIndex, F: FnMut(Move<NI>)>(
     });
 }
 
-// Slides the used blocks after a free block to the front, and coalesces it with the free ones, until it is the last
-// block of the space.
+// Slides the used blocks after a free block to the front, and coalesces it with the free ones, until it is
+// the last block of the space.
 fn slide<T: Tables, F: FnMut(Move<T::Index>)>(
     store: &mut Store<T>,
     name: u32,
@@ -188,14 +192,15 @@ fn slide<T: Tables, F: FnMut(Move<T::Index>)>(
 }
 
 impl<T: Tables> AllocatorOf<T> {
-    /// Slides every live range to the front of the space, in space order, so that all free units are one block at its
-    /// end. `moved` is called for each range that gets another offset, in space order: the units from `from` on are to
-    /// be copied to `to`, as `copy_within` does. In this order no copy writes on a unit that a later one reads.
+    /// Slides every live range to the front of the space, in space order, so that all free units are one
+    /// block at its end. `moved` is called for each range that gets another offset, in space order: the units
+    /// from `from` on are to be copied to `to`, as `copy_within` does. In this order no copy writes on a unit
+    /// that a later one reads.
     ///
-    /// Every handle stays live, with its name and its size; only the public `offset` of a moved one is that of before,
-    /// and `allocation_offset` returns the new one. The name of the free block at the end is left open. `moved` has to
-    /// be callable with any move: its contract may require nothing of it. It makes at most 10 accesses to the tables
-    /// for each block, and 384, and takes no memory.
+    /// Every handle stays live, with its name and its size; only the public `offset` of a moved one is that
+    /// of before, and `allocation_offset` returns the new one. The name of the free block at the end is left
+    /// open. `moved` has to be callable with any move: its contract may require nothing of it. It makes at
+    /// most 10 accesses to the tables for each block, and 384, and takes no memory.
     ///
     /// ```
     /// let hole = space.allocate(300).unwrap();
@@ -206,19 +211,22 @@ impl<T: Tables> AllocatorOf<T> {
     /// ```
     pub fn compact<F: FnMut(Move<T::Index>)>(&mut self, moved: &mut F)
         requires callable { F.IsAlwaysCallable moved.old }
-        // The live blocks keep their names, their sizes and their order: so every handle stays live, with its size.
+        // The live blocks keep their names, their sizes and their order: so every handle stays live, with its
+        // size.
         ensures live { live self.new.blocks ≡ live self.old.blocks }
         ensures sizes { KeepsSizes self.old self.new }
         // The closure is called with the moves, in space order.
-        ensures moved { FoldsTo (IsCalledWith T.Index.NonMax.number (λ f range g. F.step f range tt g)) moved.old
+        ensures moved { FoldsTo
+            (IsCalledWith T.Index.NonMax.number (λ f range g. F.step f range tt g)) moved.old
             (moves 0 0 self.old.blocks) moved.new }
-        // It makes at least 2 accesses to table cells for each block, and 267 more where a block is free; at most 10
-        // for each, and 384.
+        // It makes at least 2 accesses to table cells for each block, and 267 more where a block is free; at
+        // most 10 for each, and 384.
         ensures accesses { Costs (2 * length self.old.blocks)
             (10 * length self.old.blocks + 384) self.old.accesses self.new.accesses }
         ensures accesses_some { free_sizes self.old.blocks ≢ []
             → self.old.accesses + 2 * length self.old.blocks + 267 ≤ self.new.accesses }
-        // The step as a whole: the live blocks, and after them one free block of all free units, alone in its bin.
+        // The step as a whole: the live blocks, and after them one free block of all free units, alone in its
+        // bin.
         ensures step { Compacts self.old self.new }
     {
         let start = search_start(

@@ -9,7 +9,8 @@ use std::alloc::AllocError;
 use std::iter::FusedIterator;
 use std::marker::Model;
 
-/// A piece of a move: `size` units from the offset `from` to the offset `to`. The two ranges have no unit in common.
+/// A piece of a move: `size` units from the offset `from` to the offset `to`. The two ranges have no unit in
+/// common.
 #[derive(Clone, Copy, Debug, PartialEq)]
 pub struct Piece {
     /// Where the units are read.
@@ -109,8 +110,8 @@ impl MovePieces {
 }
 
 impl<NI: NodeIndex, N: NodeIndexNonMax> Move<NI, N> {
-    /// Whether the units that are read and those that are written have none in common. Then one copy makes the move on a
-    /// device whose copies may not overlap; `pieces` are for all moves.
+    /// Whether the units that are read and those that are written have none in common. Then one copy makes
+    /// the move on a device whose copies may not overlap; `pieces` are for all moves.
     ///
     /// ```
     /// let hole = space.allocate(300).unwrap();
@@ -129,12 +130,12 @@ impl<NI: NodeIndex, N: NodeIndexNonMax> Move<NI, N> {
         }
     }
 
-    /// Copies of at most `most` units that together make the move, one after the other: each is apart in itself, and none
-    /// is written on units that a later one reads. Each has as many units as it can: `most`, or as many as lie between
-    /// `to` and `from`, the last one fewer.
+    /// Copies of at most `most` units that together make the move, one after the other: each is apart in
+    /// itself, and none is written on units that a later one reads. Each has as many units as it can: `most`,
+    /// or as many as lie between `to` and `from`, the last one fewer.
     ///
-    /// The move has to be one to a smaller offset, with all its units below 4294967295, as those that `compact` yields
-    /// are; and `most` at least 1. It takes no memory.
+    /// The move has to be one to a smaller offset, with all its units below 4294967295, as those that
+    /// `compact` yields are; and `most` at least 1. It takes no memory.
     ///
     /// ```
     /// let hole = space.allocate(300).unwrap();
@@ -146,7 +147,8 @@ impl<NI: NodeIndex, N: NodeIndexNonMax> Move<NI, N> {
         requires some { 0 < most }
         requires down { self.now.to < self.now.from }
         requires within { self.now.from + self.now.size ≤ 4294967295 }
-        ensures { result ≡ pieces self.now.size (min most (self.now.from - self.now.to)) self.now.from self.now.to
+        ensures { result ≡ pieces self.now.size
+            (min most (self.now.from - self.now.to)) self.now.from self.now.to
             self.now.size }
     {
         MovePieces::of(self.from, self.to, self.size, most)

@@ -5,8 +5,8 @@ ghost use Rattle.offset_allocator.specs.Classes.{value, up};
 
 use crate::small_float::{float_to_uint, uint_to_float_round_up};
 
-/// The smallest size in units of a fresh space, with a node limit of at least 3, that grants a request of this size.
-/// The size has to be at most 4026531840: no space grants more.
+/// The smallest size in units of a fresh space, with a node limit of at least 3, that grants a request of
+/// this size. The size has to be at most 4026531840: no space grants more.
 ///
 /// ```
 /// assert_eq!(ext::min_allocator_size(1000), 1024);

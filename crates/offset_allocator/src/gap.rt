@@ -1,5 +1,6 @@
-//! A free block that is out of the chain while the used blocks after it slide to the front of its units, and the free
-//! ones go into it: so each node is written once. It touches the chain, and leaves the bins as they are.
+//! A free block that is out of the chain while the used blocks after it slide to the front of its units, and
+//! the free ones go into it: so each node is written once. It touches the chain, and leaves the bins as they
+//! are.
 ghost use Rattle.std.specs.Prelude.{ℕ, ◌≡◌, ◌+◌, List, ◌∷◌, ◌++◌, [], length, false};
 ghost use Rattle.offset_allocator.specs.Accesses.{Costs};
 ghost use Rattle.offset_allocator.specs.Cells.{link_of, node};
@@ -31,7 +32,8 @@ pub(crate) fn open<T: Tables>(
     size: u32,
     count: &mut Accesses,
 ) -> Gap<T::Index>
-    requires place { (m last spare : ℕ) × (p : Place) × HasPlace (T.cells tables.now).chain m last spare name p }
+    requires place { (m last spare : ℕ) × (p : Place)
+        × HasPlace (T.cells tables.now).chain m last spare name p }
     requires size { size ≡ (node (T.cells tables.now).chain name).size }
     ensures gap { (m last spare : ℕ) (p : Place) → HasPlace (T.cells tables.now).chain m last spare name p
         → p.block.used ≡ false

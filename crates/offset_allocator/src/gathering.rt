@@ -1,5 +1,5 @@
-//! Makes room for a request: slides the live ranges of a run of blocks to its front, so that its free units are one
-//! block after them.
+//! Makes room for a request: slides the live ranges of a run of blocks to its front, so that its free units
+//! are one block after them.
 ghost use Rattle.std.specs.Prelude.{ℕ, ◌≡◌, ◌+◌, ◌*◌, ◌≤◌, List, ◌++◌, IfSome, length, sum};
 ghost use Rattle.std.specs.List.{FoldsTo};
 ghost use Rattle.offset_allocator.specs.Accesses.{Costs};
@@ -21,8 +21,8 @@ use crate::store::Store;
 use crate::tables::Tables;
 use crate::{AllocatorOf, bins, chain, gap};
 
-// Slides the used blocks after a free block to the front, and coalesces it with the free ones, which leave their bins,
-// until the free block `end` is coalesced.
+// Slides the used blocks after a free block to the front, and coalesces it with the free ones, which leave
+// their bins, until the free block `end` is coalesced.
 fn slide_to<T: Tables, F: FnMut(Move<T::Index>)>(
     store: &mut Store<T>,
     name: u32,
@@ -75,18 +75,19 @@ fn slide_to<T: Tables, F: FnMut(Move<T::Index>)>(
 }
 
 impl<T: Tables> AllocatorOf<T> {
-    /// Makes room for a request of `size` units where ranges have to move for it, and then as few as possible: slides
-    /// the live ranges of a run of blocks to its front, so that its free units are one block after them, which is large
-    /// enough. The run is one that costs what `room_cost(size)` returns, which this returns too: ask that first where
-    /// a budget has to be kept. `moved` is called for each range that moves, in space order, as by `compact`: the units
-    /// from `from` on are to be copied to `to`.
+    /// Makes room for a request of `size` units where ranges have to move for it, and then as few as
+    /// possible: slides the live ranges of a run of blocks to its front, so that its free units are one block
+    /// after them, which is large enough. The run is one that costs what `room_cost(size)` returns, which
+    /// this returns too: ask that first where a budget has to be kept. `moved` is called for each range that
+    /// moves, in space order, as by `compact`: the units from `from` on are to be copied to `to`.
     ///
-    /// Every handle stays live, with its name and its size; only the public `offset` of a moved one is that of before.
-    /// Nothing changes, and `moved` is not called, where no range has to move: where `None` is returned, since all free
-    /// units together are not enough, and where the cost has no ranges, since one free block is large enough. Else the
-    /// request is granted afterwards, also at the node limit. For an aligned request ask with `size + align - 1`. Of
-    /// several runs that cost as much it is the last in space; the name of the free block is left open. It makes at
-    /// most 6 accesses to the tables for each block, 40 for each range that moves, and 20, and takes no memory.
+    /// Every handle stays live, with its name and its size; only the public `offset` of a moved one is that
+    /// of before. Nothing changes, and `moved` is not called, where no range has to move: where `None` is
+    /// returned, since all free units together are not enough, and where the cost has no ranges, since one
+    /// free block is large enough. Else the request is granted afterwards, also at the node limit. For an
+    /// aligned request ask with `size + align - 1`. Of several runs that cost as much it is the last in
+    /// space; the name of the free block is left open. It makes at most 6 accesses to the tables for each
+    /// block, 40 for each range that moves, and 20, and takes no memory.
     ///
     /// ```
     /// let hole = space.allocate(300).unwrap();
@@ -105,10 +106,12 @@ impl<T: Tables> AllocatorOf<T> {
         requires callable { F.IsAlwaysCallable moved.old }
         // It returns what `room_cost` would have returned before.
         ensures cost { IsLeastCost (value (up size)) self.old.blocks result }
-        // The live blocks keep their names, their sizes and their order: so every handle stays live, with its size.
+        // The live blocks keep their names, their sizes and their order: so every handle stays live, with its
+        // size.
         ensures live { live self.new.blocks ≡ live self.old.blocks }
         ensures sizes { KeepsSizes self.old self.new }
-        // Where ranges had to move, the request is granted then, since there is a node for one more block too.
+        // Where ranges had to move, the request is granted then, since there is a node for one more block
+        // too.
         ensures granted { IfSome result (λ c. 1 ≤ c.ranges → CanGrant 1 size self.new) }
         ensures accesses { Costs 1 (6 * length self.old.blocks + 40 * ranges_of result + 20)
             self.old.accesses self.new.accesses }

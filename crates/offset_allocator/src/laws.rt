@@ -1,5 +1,6 @@
-//! Laws: that a grant can be undone, and what holds of every allocator. Except `undo` and `unused_names`, their
-//! functions do nothing. With them are the calls that leave an allocator as it is, with a count of their accesses.
+//! Laws: that a grant can be undone, and what holds of every allocator. Except `undo` and `unused_names`,
+//! their functions do nothing. With them are the calls that leave an allocator as it is, with a count of
+//! their accesses.
 ghost use Rattle.std.specs.Prelude.{◌≡◌, ◌≢◌, ◌<◌, ◌≤◌, ◌+◌, ◌-◌, ◌*◌, ◌%◌, ◌↔◌, ℕ, List, ◌++◌, false};
 ghost use Rattle.std.specs.Prelude.{IsTrue, None, Option, Some, length, min, sum};
 ghost use Rattle.std.specs.Int.{IsPowerOfTwo};
@@ -39,11 +40,11 @@ use crate::store::Store;
 use crate::tables::Tables;
 pub use crate::tight::{refusal_tight_aligned_counted, refusal_tight_counted};
 
-/// Grants a request for `n` units and frees the grant at once. The blocks, their names and the bins are then as they
-/// were. It is `false` where the request was refused.
+/// Grants a request for `n` units and frees the grant at once. The blocks, their names and the bins are then
+/// as they were. It is `false` where the request was refused.
 ///
-/// The contract says this of each grant that a request for `n` can have here, whichever unused name its remainder
-/// takes. The count of accesses grows by at most 192.
+/// The contract says this of each grant that a request for `n` can have here, whichever unused name its
+/// remainder takes. The count of accesses grows by at most 192.
 pub fn undo<T: Tables>(allocator: &mut AllocatorOf<T>, n: u32) -> bool
     ensures undone { (w u : View) (g : Grant) → Allocates n allocator.old w (Some g) → Frees g.name w u
         → SameSpace allocator.old u }
@@ -73,8 +74,8 @@ pub fn is_well_formed<T: Tables>(allocator: &AllocatorOf<T>)
 
 /// The number of names that no block has: one more than the number of blocks that may still be added.
 ///
-/// An allocator has no other fields than these: one set of tables, and numbers. The patterns name each with its type,
-/// so a second list of blocks would not compile.
+/// An allocator has no other fields than these: one set of tables, and numbers. The patterns name each with
+/// its type, so a second list of blocks would not compile.
 pub fn unused_names<T: Tables>(allocator: &AllocatorOf<T>) -> u32
     ensures { result + length allocator.now.blocks ≡ allocator.now.max_allocs }
 {
@@ -109,9 +110,9 @@ pub fn sizes_add_up<T: Tables>(allocator: &AllocatorOf<T>)
     allocator.formed();
 }
 
-/// How the numbers of `statistics` belong together. The units add up to the size, and the blocks with the unused nodes to
-/// the node limit. The largest region is the value of a class, so at most the largest free block, of which it is at least
-/// 8/9. With room for one more block a report has the same two numbers.
+/// How the numbers of `statistics` belong together. The units add up to the size, and the blocks with the
+/// unused nodes to the node limit. The largest region is the value of a class, so at most the largest free
+/// block, of which it is at least 8/9. With room for one more block a report has the same two numbers.
 pub fn statistics_belong_together<T: Tables>(allocator: &AllocatorOf<T>)
     ensures units { (s : Statistics) → AreStatistics s allocator.now
         → s.live_units + s.free_units ≡ allocator.now.size }
@@ -121,7 +122,8 @@ pub fn statistics_belong_together<T: Tables>(allocator: &AllocatorOf<T>)
         → (s.largest_free_region ≤ s.largest_free_block) × (s.largest_free_block ≤ s.free_units)
         × (8 * s.largest_free_block ≤ 9 * s.largest_free_region) }
     ensures few { (s : Statistics) → AreStatistics s allocator.now → s.free_blocks ≤ s.live_ranges + 1 }
-    ensures report { (s : Statistics) (r : StorageReport) → AreStatistics s allocator.now → IsReport r allocator.now
+    ensures report { (s : Statistics) (r : StorageReport) → AreStatistics s allocator.now
+        → IsReport r allocator.now
         → HasRoomFor 1 allocator.now
         → (r.total_free_space ≡ s.free_units) × (r.largest_free_region ≡ s.largest_free_region) }
 {
@@ -130,7 +132,8 @@ pub fn statistics_belong_together<T: Tables>(allocator: &AllocatorOf<T>)
 
 /// The live ranges lie in the space, and no two of them have a unit in common.
 pub fn ranges_are_disjoint<T: Tables>(allocator: &AllocatorOf<T>)
-    ensures within { (x : ℕ) (r : Range) → range_of x allocator.now ≡ Some r → r.offset + r.size ≤ allocator.now.size }
+    ensures within { (x : ℕ) (r : Range) → range_of x allocator.now ≡ Some r → r.offset + r.size
+        ≤ allocator.now.size }
     ensures disjoint { (x y : ℕ) (r s : Range) → x ≢ y
         → range_of x allocator.now ≡ Some r → range_of y allocator.now ≡ Some s → AreDisjoint r s }
 {
@@ -152,8 +155,8 @@ pub fn few_are_live<T: Tables>(allocator: &AllocatorOf<T>)
     allocator.formed();
 }
 
-/// There is at most one free block more than there are live ranges. So with a limit of `2 * l + 2` there is room for
-/// every request, aligned or not, while fewer than `l` ranges are live.
+/// There is at most one free block more than there are live ranges. So with a limit of `2 * l + 2` there is
+/// room for every request, aligned or not, while fewer than `l` ranges are live.
 pub fn blocks_are_few<T: Tables>(allocator: &AllocatorOf<T>)
     ensures count { length allocator.now.blocks ≤ 2 * used_of allocator.now.blocks + 1 }
     ensures room { (l : ℕ) → used_of allocator.now.blocks < l → 2 * l + 2 ≤ allocator.now.max_allocs
@@ -164,7 +167,8 @@ pub fn blocks_are_few<T: Tables>(allocator: &AllocatorOf<T>)
 
 /// Where `max_allocs - 1` blocks exist, every request is refused, and the report is 0 and 0.
 pub fn a_full_space_refuses<T: Tables>(allocator: &AllocatorOf<T>)
-    ensures refuses { (blocks units : ℕ) → 1 ≤ blocks → allocator.now.max_allocs ≤ length allocator.now.blocks + 1
+    ensures refuses { (blocks units : ℕ) → 1 ≤ blocks → allocator.now.max_allocs ≤ length allocator.now.blocks
+        + 1
         → CanGrant blocks units allocator.now → ⊥ }
     ensures reports { allocator.now.max_allocs ≤ length allocator.now.blocks + 1
         → (total_free allocator.now ≡ 0) × (largest_free allocator.now ≡ 0) }
@@ -172,17 +176,20 @@ pub fn a_full_space_refuses<T: Tables>(allocator: &AllocatorOf<T>)
     allocator.formed();
 }
 
-/// With a limit of at least 3, a fresh space grants a request exactly when it has at least as many units as the value
-/// of the class that the request is rounded up to: those that `min_allocator_size` returns.
+/// With a limit of at least 3, a fresh space grants a request exactly when it has at least as many units as
+/// the value of the class that the request is rounded up to: those that `min_allocator_size` returns.
 pub fn a_fresh_space_grants()
-    ensures { (size max_allocs n : ℕ) (v : View) → IsFresh size max_allocs v → 3 ≤ max_allocs → size ≤ 4294967295
+    ensures { (size max_allocs n : ℕ) (v : View) → IsFresh size max_allocs v → 3 ≤ max_allocs → size
+        ≤ 4294967295
         → CanGrant 1 n v ↔ (value (up n) ≤ size) }
 {}
 
-/// The padding of an aligned grant takes its offset to a multiple of the alignment, and fewer units would not.
+/// The padding of an aligned grant takes its offset to a multiple of the alignment, and fewer units would
+/// not.
 pub fn padding_is_least()
     ensures reaches { (align offset : ℕ) → 1 ≤ align → (offset + padding_to align offset) % align ≡ 0 }
-    ensures smallest { (align offset k : ℕ) → 1 ≤ align → (offset + k) % align ≡ 0 → padding_to align offset ≤ k }
+    ensures smallest { (align offset k : ℕ) → 1 ≤ align → (offset + k) % align ≡ 0 → padding_to align offset
+        ≤ k }
 {}
 
 /// The alignments that `allocate_aligned` admits are the powers of two.
@@ -190,18 +197,19 @@ pub fn alignments_are_powers()
     ensures { (n : ℕ) → IsAlignment n ↔ IsPowerOfTwo n }
 {}
 
-/// After `compact`, with room for one more block, a request of at least one unit is granted exactly when it is at most
-/// the value of the class of all free units together.
+/// After `compact`, with room for one more block, a request of at least one unit is granted exactly when it
+/// is at most the value of the class of all free units together.
 pub fn a_compacted_space_grants<T: Tables>(allocator: &AllocatorOf<T>)
     ensures { (v : View) (n : ℕ) → 1 ≤ n → Compacts v allocator.now
-        → CanGrant 1 n allocator.now ↔ (HasRoomFor 1 allocator.now × (n ≤ value (down (sum (free_sizes v.blocks))))) }
+        → CanGrant 1 n allocator.now
+        ↔ (HasRoomFor 1 allocator.now × (n ≤ value (down (sum (free_sizes v.blocks))))) }
 {
     allocator.formed();
 }
 
 /// Of the requests that are refused though there is room for the blocks that they need, those are refused as
-/// `Fragmented` that would be granted after `compact`, and those as `TooLarge` that a fresh space of this size and
-/// limit would refuse. A request that is granted has no reason, and none has two.
+/// `Fragmented` that would be granted after `compact`, and those as `TooLarge` that a fresh space of this
+/// size and limit would refuse. A request that is granted has no reason, and none has two.
 pub fn refusals_advise<T: Tables>(allocator: &AllocatorOf<T>)
     ensures compacted { (blocks units : ℕ) (v : View) → HasRoomFor blocks allocator.now
         → (CanGrant blocks units allocator.now → ⊥) → Compacts allocator.now v
@@ -217,9 +225,9 @@ pub fn refusals_advise<T: Tables>(allocator: &AllocatorOf<T>)
     allocator.formed();
 }
 
-/// What `room_cost` returns, and `make_room` moves, beside the reason of a refusal: nothing where the request is
-/// granted; at least one range where it is refused as `Fragmented`, after which move it is granted; and `None` where it
-/// is refused as `Space` or `TooLarge`: then nothing moves.
+/// What `room_cost` returns, and `make_room` moves, beside the reason of a refusal: nothing where the request
+/// is granted; at least one range where it is refused as `Fragmented`, after which move it is granted; and
+/// `None` where it is refused as `Space` or `TooLarge`: then nothing moves.
 pub fn room_is_advised<T: Tables>(allocator: &AllocatorOf<T>)
     ensures granted { (n : ℕ) (c : Option RoomCost) → CanGrant 1 n allocator.now
         → IsLeastCost (value (up n)) allocator.now.blocks c → c ≡ Some (record { units = 0; ranges = 0 }) }
@@ -233,9 +241,9 @@ pub fn room_is_advised<T: Tables>(allocator: &AllocatorOf<T>)
     allocator.formed();
 }
 
-/// Of the tight requests that are refused though there is room for one more block, those without alignment are refused as
-/// `Fragmented` that would be granted after `compact`, and those as `TooLarge` that a fresh space of this size and limit
-/// would refuse.
+/// Of the tight requests that are refused though there is room for one more block, those without alignment
+/// are refused as `Fragmented` that would be granted after `compact`, and those as `TooLarge` that a fresh
+/// space of this size and limit would refuse.
 pub fn tight_refusals_advise<T: Tables>(allocator: &AllocatorOf<T>)
     ensures compacted { (n : ℕ) (v : View) → HasRoomFor 1 allocator.now → Compacts allocator.now v
         → (CanHold n 1 allocator.now → ⊥) → IsWhyTight n 1 allocator.now Fragmented ↔ CanHold n 1 v }
@@ -246,13 +254,15 @@ pub fn tight_refusals_advise<T: Tables>(allocator: &AllocatorOf<T>)
     allocator.formed();
 }
 
-/// Each move of `compact` goes to a smaller offset, and ends before all units that later moves have yet to read.
+/// Each move of `compact` goes to a smaller offset, and ends before all units that later moves have yet to
+/// read.
 pub fn moves_are_safe()
     ensures { (bs : List Block) → AreSafe (moves 0 0 bs) }
 {}
 
-/// The pieces of a move, copied one after the other, leave what the move at once leaves, whatever the units hold. Each has
-/// at most `most` units and none in common with those that it reads, and is written on none that a later one reads.
+/// The pieces of a move, copied one after the other, leave what the move at once leaves, whatever the units
+/// hold. Each has at most `most` units and none in common with those that it reads, and is written on none
+/// that a later one reads.
 pub fn pieces_are_the_move()
     ensures together { (most from to n i : ℕ) (held : ℕ → ℕ) → 0 < most → to < from
         → all_copied (pieces n (min most (from - to)) from to n) held i
@@ -261,8 +271,9 @@ pub fn pieces_are_the_move()
         → ArePieces most (pieces n (min most (from - to)) from to n) }
 {}
 
-/// Bytes are those of a state of one view at most, however many accesses were counted; and those of this allocator are
-/// refused by no `read_state` that admits its node limit. So `read_state` of what `write_state` returned is the same space.
+/// Bytes are those of a state of one view at most, however many accesses were counted; and those of this
+/// allocator are refused by no `read_state` that admits its node limit. So `read_state` of what `write_state`
+/// returned is the same space.
 pub fn a_state_is_read_back<T: Tables>(allocator: &AllocatorOf<T>)
     ensures one { (v w : View) (bytes : List ℕ) → IsStateOf v bytes → IsStateOf w bytes → SameSpace v w }
     ensures formed { IsWellFormed allocator.now }

@@ -19,10 +19,13 @@ impl Walk {
     // Meets the next name, if there is one.
     #[inline(always)]
     fn step<T: Tables>(&mut self, tables: &T, count: &mut Accesses)
-        requires linked { HasBins T.Index.MAX (T.cells tables.now).bins (bins_in T.Index.MAX (T.cells tables.now).bins) }
-        requires tail { (total : ℕ) × IsTail T.Index.MAX (T.cells tables.now).bins self.old.name self.old.met total
+        requires linked { HasBins T.Index.MAX (T.cells tables.now).bins
+            (bins_in T.Index.MAX (T.cells tables.now).bins) }
+        requires tail { (total : ℕ)
+            × IsTail T.Index.MAX (T.cells tables.now).bins self.old.name self.old.met total
             × (total ≤ T.Index.MAX) }
-        ensures tail { (total : ℕ) → IsTail T.Index.MAX (T.cells tables.now).bins self.old.name self.old.met total
+        ensures tail { (total : ℕ)
+            → IsTail T.Index.MAX (T.cells tables.now).bins self.old.name self.old.met total
             → IsTail T.Index.MAX (T.cells tables.now).bins self.new.name self.new.met total }
         ensures further { self.old.name ≢ T.Index.MAX → self.new.met ≡ self.old.met + 1 }
         ensures least { self.old.met ≤ self.new.met }
@@ -36,10 +39,13 @@ impl Walk {
 
     // Meets all names that are left.
     fn finish<T: Tables>(&mut self, tables: &T, count: &mut Accesses)
-        requires linked { HasBins T.Index.MAX (T.cells tables.now).bins (bins_in T.Index.MAX (T.cells tables.now).bins) }
-        requires tail { (total : ℕ) × IsTail T.Index.MAX (T.cells tables.now).bins self.old.name self.old.met total
+        requires linked { HasBins T.Index.MAX (T.cells tables.now).bins
+            (bins_in T.Index.MAX (T.cells tables.now).bins) }
+        requires tail { (total : ℕ)
+            × IsTail T.Index.MAX (T.cells tables.now).bins self.old.name self.old.met total
             × (total ≤ T.Index.MAX) }
-        ensures all { (total : ℕ) → IsTail T.Index.MAX (T.cells tables.now).bins self.old.name self.old.met total
+        ensures all { (total : ℕ)
+            → IsTail T.Index.MAX (T.cells tables.now).bins self.old.name self.old.met total
             → self.new.met ≡ total }
         ensures accesses { count.new + self.old.met ≡ count.old + self.new.met }
     {
@@ -49,11 +55,12 @@ impl Walk {
     }
 }
 
-/// How many names are in the bins of four classes, from `class` on. While two lists go on or more, the four are
-/// followed side by side, so that the links of several nodes are on their way from memory at once. The last one is
-/// followed alone.
+/// How many names are in the bins of four classes, from `class` on. While two lists go on or more, the four
+/// are followed side by side, so that the links of several nodes are on their way from memory at once. The
+/// last one is followed alone.
 pub(crate) fn lengths_of<T: Tables>(tables: &T, class: u32, count: &mut Accesses) -> [u32; 4]
-    requires linked { HasBins T.Index.MAX (T.cells tables.now).bins (bins_in T.Index.MAX (T.cells tables.now).bins) }
+    requires linked { HasBins T.Index.MAX (T.cells tables.now).bins
+        (bins_in T.Index.MAX (T.cells tables.now).bins) }
     requires classed { class + 3 < 256 }
     ensures names { result ≡ length (bin_at (bins_in T.Index.MAX (T.cells tables.now).bins) class)
         ∷ length (bin_at (bins_in T.Index.MAX (T.cells tables.now).bins) (class + 1))

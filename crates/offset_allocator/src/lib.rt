@@ -1,11 +1,12 @@
-//! Ranges of one contiguous space of `size` units, handed out and taken back with a bounded number of accesses to table
-//! cells. The space itself is never touched.
+//! Hands out ranges of one contiguous space of units, and takes them back, with a bounded number of accesses
+//! to table cells. The space itself is never touched.
 //!
-//! A *block* is a run of units, used or free; no two free blocks are neighbours. Each block has a *node* of the tables,
-//! whose index is the block's *name*; the range of a used block, and its name, are *live*. A *size class* is a range of
-//! sizes, and its *bin* the list of the free blocks of that class, the newest first: that which became free, or got its
-//! present size, last. A range has the name of the free block that it was granted from, and leaves it to the block that
-//! `free` makes; which unused name a new free block has otherwise is left open.
+//! A *block* is a run of units, used or free; no two free blocks are neighbours. Each block has a *node* of
+//! the tables, whose index is the block's *name*; the range of a used block, and its name, are *live*. A
+//! *size class* is a range of sizes, and its *bin* the list of the free blocks of that class, the newest
+//! first, which is the one that last became free or changed its size. A range has the name of the free block
+//! that it was granted from, and leaves it to the block that `free` makes; which unused name a new free block
+//! has otherwise is left open.
 //!
 //! ```
 //! let mut vertices = Allocator::<u32>::new(alloc, 1 << 20)?;
@@ -16,15 +17,18 @@
 //! ```
 #![tactic(auto)]
 
-ghost use Rattle.std.specs.Prelude.{ℕ, ◌≡◌, ◌↔◌, ◌+◌, ◌-◌, ◌*◌, ◌/◌, ◌%◌, ◌<◌, ◌≤◌, nat_lt, if◌then◌else◌, min, None};
+ghost use Rattle.std.specs.Prelude.{ℕ, ◌≡◌, ◌↔◌, ◌+◌, ◌-◌, ◌*◌, ◌/◌, ◌%◌, ◌<◌, ◌≤◌, nat_lt, if◌then◌else◌};
+ghost use Rattle.std.specs.Prelude.{min, None};
 ghost use Rattle.std.specs.Prelude.{false, true, IsTrue, IsSome, IfSome, IfOk, length, option_map};
 ghost use Rattle.offset_allocator.specs.Accesses.{Costs};
-ghost use Rattle.offset_allocator.specs.Ranges.{Range, range_of, size_of, Grants, IsLive, KeepsAll, KeepsOthers};
+ghost use Rattle.offset_allocator.specs.Ranges.{Range, range_of, size_of, Grants, IsLive, KeepsAll};
+ghost use Rattle.offset_allocator.specs.Ranges.{KeepsOthers};
 ghost use Rattle.offset_allocator.specs.Reports.{IsGoodRefusal};
 ghost use Rattle.offset_allocator.specs.View.{count_named, is_full, free_sizes, largest_free, used_of};
 ghost use Rattle.offset_allocator.specs.Relations.{Allocates, Aligns, Frees, Extends, CanExtend, IsAlignment};
 ghost use Rattle.offset_allocator.specs.Relations.{SameSpace, IsSplitNearBest, IsFresh, Resets};
-ghost use Rattle.offset_allocator.specs.Requests.{IsReport, IsFullReport, CanGrant, IsWhy, HasRoomFor, blocks_needed};
+ghost use Rattle.offset_allocator.specs.Requests.{IsReport, IsFullReport, CanGrant, IsWhy, HasRoomFor};
+ghost use Rattle.offset_allocator.specs.Requests.{blocks_needed};
 ghost use Rattle.offset_allocator.specs.Requests.{units_needed};
 ghost use Rattle.offset_allocator.specs.Listing.{listing};
 
@@ -35,6 +39,7 @@ mod blocks;
 mod building;
 mod by_field;
 mod by_node;
+mod by_row;
 mod chain;
 mod compact;
 mod copies;
@@ -68,6 +73,7 @@ pub use accesses::Accesses;
 pub use blocks::{Block, BlocksOf};
 pub use by_field::ByField;
 pub use by_node::ByNode;
+pub use by_row::ByRow;
 pub use compact::Move;
 pub use copies::{MovePieces, Piece};
 pub use handle::Allocation;
@@ -91,9 +97,9 @@ pub type Blocks<'a, NI = u32> = BlocksOf<'a, ByNode<NI>>;
 
 /// The allocator of one space.
 ///
-/// `T` is the layout of its tables; it changes no answer but names that are left open, and `node_count`. The index type
-/// of the layout is the type of the links between nodes: it limits how many nodes there can be, and changes no other
-/// answer either.
+/// `T` is the layout of its tables; it changes no answer but names that are left open, and `node_count`. The
+/// index type of the layout is the type of the links between nodes: it limits how many nodes there can be,
+/// and changes no other answer either.
 #[derive(Drop)]
 pub struct AllocatorOf<T: Tables> {
     // the units of the space
@@ -119,8 +125,8 @@ impl<T: Tables> Model for AllocatorOf<T> {
 }
 
 impl<T: Tables> AllocatorOf<T> {
-    /// A space of `size` units, all free, with the smaller of 131072 and `T::Index::MAX - 2` as the node limit. A node
-    /// costs as much as in `with_max_allocs`.
+    /// A space of `size` units, all free, with the smaller of 131072 and `T::Index::MAX - 2` as the node
+    /// limit. A node costs as much as in `with_max_allocs`.
     ///
     /// # Errors
     ///
@@ -137,11 +143,12 @@ impl<T: Tables> AllocatorOf<T> {
         Self::with_max_allocs(alloc, size, 131072u32.min(T::Index::MAX - 2))
     }
 
-    /// A space of `size` units, all free, with `max_allocs` as the node limit: at most `max_allocs - 1` blocks exist at
-    /// a time, free ones included. A request is granted only while at most `max_allocs - 2` exist, and makes one of
-    /// them live: so at most `max_allocs - 2` grants are live. The limit is 2 to `T::Index::MAX - 2`: 65533 for `u16`,
-    /// 4294967293 for `u32`. `ByNode` and `ByField` reserve 28 bytes a node with `u32`, 18 with `u16`, all of
-    /// them here; those of a node are written when it is made, which `node_count` counts.
+    /// A space of `size` units, all free, with `max_allocs` as the node limit: at most `max_allocs - 1`
+    /// blocks exist at a time, free ones included. A request is granted only while at most `max_allocs - 2`
+    /// exist, and makes one of them live: so at most `max_allocs - 2` grants are live. The limit is 2 to
+    /// `T::Index::MAX - 2`: 65533 for `u16`, 4294967293 for `u32`. `ByNode` and `ByField` reserve 28 bytes a
+    /// node with `u32`, 18 with `u16`, `ByRow` 28 and 20, all of them here; those of a node are written when
+    /// it is made, which `node_count` counts.
     ///
     /// # Errors
     ///
@@ -179,9 +186,9 @@ impl<T: Tables> AllocatorOf<T> {
 
     /// Makes the whole space one free block again, in place. No earlier handle is live then.
     ///
-    /// It takes no memory and always succeeds, and the space keeps what `extend` added. If at most 5 blocks exist, it
-    /// frees each live range; otherwise it forgets all nodes and empties the bins: about 1 KB is written, whatever the
-    /// node limit.
+    /// It takes no memory and always succeeds, and the space keeps what `extend` added. If at most 5 blocks
+    /// exist, it frees each live range; otherwise it forgets all nodes and empties the bins: about 1 KB is
+    /// written, whatever the node limit.
     ///
     /// ```
     /// let mesh = space.allocate(300).unwrap();
@@ -195,11 +202,13 @@ impl<T: Tables> AllocatorOf<T> {
         // The step as a whole: one free block, alone in its bin.
         ensures step { Resets self.old self.new }
         // It makes at most 130 accesses to table cells for each live range, and 2, and never more than 270.
-        ensures accesses { Costs 1 (min (130 * used_of self.old.blocks + 2) 270) self.old.accesses self.new.accesses }
+        ensures accesses { Costs 1
+            (min (130 * used_of self.old.blocks + 2) 270) self.old.accesses self.new.accesses }
     {
         // the invariant bounds the number of blocks
         self.formed();
-        // of at most five blocks at most five are live; to free these takes about as long as to empty the bins
+        // of at most five blocks at most five are live; to free these takes about as long as to empty the
+        // bins
         if self.block_count() <= 5 {
             self.free_all();
         } else {
@@ -241,9 +250,9 @@ impl<T: Tables> AllocatorOf<T> {
         self.store.tables.len() - self.store.spare_count
     }
 
-    /// The number of nodes that were made: each block's name is below it. Contracts leave it open, as some names, and no
-    /// other answer depends on it: `grow_in_place` and a call that may add a block can make it larger by 1 or 2, also
-    /// where they leave the space as it was, and only `reset` makes it smaller.
+    /// The number of nodes that were made: each block's name is below it. Contracts leave it open, as some
+    /// names, and no other answer depends on it: `grow_in_place` and a call that may add a block can make it
+    /// larger by 1 or 2, also where they leave the space as it was, and only `reset` makes it smaller.
     ///
     /// ```
     /// space.allocate(300);
@@ -256,8 +265,9 @@ impl<T: Tables> AllocatorOf<T> {
         self.store.tables.len()
     }
 
-    /// Whether `max_allocs - 1` blocks exist. Then every request is refused, and the short report is 0, 0, until blocks
-    /// coalesce (by `free`, `compact` or `reset`) or `grow_in_place` takes the whole of a free block.
+    /// Whether `max_allocs - 1` blocks exist. Then every request is refused, and the short report is 0, 0,
+    /// until blocks coalesce (by `free`, `compact` or `reset`) or `grow_in_place` takes the whole of a free
+    /// block.
     ///
     /// ```
     /// let mut space = Allocator::<u32>::with_max_allocs(alloc, 1000, 3)?;
@@ -271,14 +281,15 @@ impl<T: Tables> AllocatorOf<T> {
         self.block_count() == self.max_allocs - 1
     }
 
-    /// Grants a range of `size` units, and returns its handle. It takes the first `size` units of the newest block
-    /// of the smallest class that has a free block and whose blocks all fit; what remains of the block stays free,
-    /// directly after the range.
+    /// Grants a range of `size` units, and returns its handle. It takes the first `size` units of the newest
+    /// block of the smallest class that has a free block and whose blocks all fit; what remains of the block
+    /// stays free, directly after the range.
     ///
-    /// `None` is returned where `max_allocs - 1` blocks exist, even for an exact fit, or where no free block is of such
-    /// a class; then the space is as it was. A request of at least one unit is granted exactly when it is at most the
-    /// `largest_free_region` that `storage_report` returns just before. One of 0 units takes a node too, and needs a
-    /// free block of any size. It makes at most 64 accesses to the tables, and takes no memory.
+    /// `None` is returned where `max_allocs - 1` blocks exist, even for an exact fit, or where no free block
+    /// is of such a class; then the space is as it was. A request of at least one unit is granted exactly
+    /// when it is at most the `largest_free_region` that `storage_report` returns just before. One of 0 units
+    /// takes a node too, and needs a free block of any size. It makes at most 64 accesses to the tables, and
+    /// takes no memory.
     ///
     /// ```
     /// let mesh = space.allocate(300).unwrap();
@@ -286,21 +297,24 @@ impl<T: Tables> AllocatorOf<T> {
     /// assert!(space.allocate(701).is_none());
     /// ```
     pub fn allocate(&mut self, size: u32) -> Option<Allocation<T::Index>>
-        // A request of at least one unit is granted exactly when `size` is at most the `largest_free_region` of the
-        // report, which is 0 at the node limit. Any request, of 0 units too, is granted exactly when there is room for
-        // one more block, and there is a free block in a size class whose blocks all have at least `size` units.
+        // A request of at least one unit is granted exactly when `size` is at most the `largest_free_region`
+        // of the report, which is 0 at the node limit.
         ensures granted { 1 ≤ size → (IsSome result ↔ (size ≤ largest_free self.old)) }
+        // Any request, of 0 units too, is granted exactly when there is room for one more block, and there is
+        // a free block in a size class whose blocks all have at least `size` units.
         ensures can_grant { IsSome result ↔ CanGrant 1 size self.old }
-        // A grant gives a name that was not live. Its range has exactly `size` units, lies in the space, and overlaps
-        // no live range. All live ranges stay as they are.
+        // A grant gives a name that was not live. Its range has exactly `size` units, lies in the space, and
+        // overlaps no live range. All live ranges stay as they are.
         ensures grants { IfSome result (Grants size self.old self.new) }
         // A refusal leaves the space as it was.
         ensures same { result ≡ None → SameSpace self.old self.new }
-        // Near-best fit: if a free block has at least 9/8 of the requested units, the block taken is at most 9/8 as
-        // large as that block.
+        // Near-best fit: if a free block has at least 9/8 of the requested units, the block taken is at most
+        // 9/8 as large as that block.
         ensures nearly { IfSome result (IsSplitNearBest size self.old) }
-        // A refusal with room for one more block means that every free block is smaller than 9/8 of the request.
-        ensures refused { result ≡ None → HasRoomFor 1 self.old → IsGoodRefusal size (free_sizes self.old.blocks) }
+        // A refusal with room for one more block means that every free block is smaller than 9/8 of the
+        // request.
+        ensures refused { result ≡ None → HasRoomFor 1 self.old
+            → IsGoodRefusal size (free_sizes self.old.blocks) }
         // At most 64 accesses to table cells; for a grant at least 7, so that a body has to count them.
         ensures accesses { Costs 0 64 self.old.accesses self.new.accesses }
         ensures accesses_min { IsSome result → self.old.accesses + 7 ≤ self.new.accesses }
@@ -310,12 +324,12 @@ impl<T: Tables> AllocatorOf<T> {
         self.serve(size, 1)
     }
 
-    /// Frees the range of a live handle. Its units are free at once, in one block with the free blocks directly before
-    /// and after it, and that block is the newest of its bin.
+    /// Frees the range of a live handle. Its units are free at once, in one block with the free blocks
+    /// directly before and after it, and that block is the newest of its bin.
     ///
-    /// The handle has to be live, which `is_live` reports. Only its name counts, and not its public `offset`: a stale
-    /// handle whose name was granted again is live, and frees that range. It makes at most 128 accesses to the tables,
-    /// and takes no memory.
+    /// The handle has to be live, which `is_live` reports. Only its name counts, and not its public `offset`:
+    /// a stale handle whose name was granted again is live, and frees that range. It makes at most 128
+    /// accesses to the tables, and takes no memory.
     ///
     /// ```
     /// let mesh = space.allocate(300).unwrap();
@@ -337,8 +351,8 @@ impl<T: Tables> AllocatorOf<T> {
 
     /// Whether the handle is live here: its name is the name of a used block. `free` asks for exactly this.
     ///
-    /// A handle whose block was freed is live again where a newer grant has its name. It makes at most 8 accesses to
-    /// the tables.
+    /// A handle whose block was freed is live again where a newer grant has its name. It makes at most 8
+    /// accesses to the tables.
     ///
     /// ```
     /// let mesh = space.allocate(300).unwrap();
@@ -352,9 +366,9 @@ impl<T: Tables> AllocatorOf<T> {
         reports::is_live_counted(self, allocation, &mut Accesses::new())
     }
 
-    /// The units of the range that a live handle has: exactly those that `allocate`, `allocate_aligned`, `shrink` or
-    /// `grow_in_place` last gave it. It is 0 where the handle is not live, and for a live range of no units too. It
-    /// makes at most 8 accesses to the tables.
+    /// The units of the range that a live handle has: exactly those that `allocate`, `allocate_aligned`,
+    /// `shrink` or `grow_in_place` last gave it. It is 0 where the handle is not live, and for a live range
+    /// of no units too. It makes at most 8 accesses to the tables.
     ///
     /// ```
     /// let mesh = space.allocate(300).unwrap();
@@ -366,11 +380,11 @@ impl<T: Tables> AllocatorOf<T> {
         reports::allocation_size_counted(self, allocation, &mut Accesses::new())
     }
 
-    /// Where the range of a live handle begins, in units from the start of the space, or `None` where the handle is not
-    /// live.
+    /// Where the range of a live handle begins, in units from the start of the space, or `None` where the
+    /// handle is not live.
     ///
-    /// The public `offset` of a handle is a copy: a caller may have changed it, `compact` leaves it as it was, and a
-    /// stale handle keeps it. It makes at most 8 accesses to the tables.
+    /// The public `offset` of a handle is a copy: a caller may have changed it, `compact` leaves it as it
+    /// was, and a stale handle keeps it. It makes at most 8 accesses to the tables.
     ///
     /// ```
     /// let mesh = space.allocate(300).unwrap();
@@ -382,8 +396,8 @@ impl<T: Tables> AllocatorOf<T> {
         reports::allocation_offset_counted(self, allocation, &mut Accesses::new())
     }
 
-    /// The blocks of the space, used and free, from its end to its start. It takes no memory, and each block costs at
-    /// most 5 accesses to the tables.
+    /// The blocks of the space, used and free, from its end to its start. It takes no memory, and each block
+    /// costs at most 5 accesses to the tables.
     ///
     /// ```
     /// let mesh = space.allocate(300).unwrap();
@@ -401,9 +415,10 @@ impl<T: Tables> AllocatorOf<T> {
         }
     }
 
-    /// The free space in short: the units of all free blocks, and the largest request that would be granted, or 0 where
-    /// none of at least one unit would be. Both are 0 where `max_allocs - 1` blocks exist or no block is free, and then
-    /// a request of 0 units is refused too. It makes at most 8 accesses to the tables.
+    /// The free space in short: the units of all free blocks, and the largest request that would be granted,
+    /// or 0 where none of at least one unit would be. Both are 0 where `max_allocs - 1` blocks exist or no
+    /// block is free, and then a request of 0 units is refused too. It makes at most 8 accesses to the
+    /// tables.
     ///
     /// ```
     /// space.allocate(300);
@@ -416,8 +431,8 @@ impl<T: Tables> AllocatorOf<T> {
         reports::storage_report_counted(self, &mut Accesses::new())
     }
 
-    /// The free blocks, class by class, at the node limit too. It makes at most 512 accesses to the tables, and 2 for
-    /// each free block.
+    /// The free blocks, class by class, at the node limit too. It makes at most 512 accesses to the tables,
+    /// and 2 for each free block.
     ///
     /// ```
     /// let report = space.storage_report_full();
@@ -447,8 +462,8 @@ impl<T: Tables> AllocatorOf<T> {
 
     /// Why `allocate_aligned(size, align)` would be refused now, or `None` exactly where it would be granted.
     ///
-    /// `align` has to be a power of two. If it is above 1, the request needs room for two more blocks, and a block for
-    /// `size + align - 1` units. It makes at most 8 accesses to the tables.
+    /// `align` has to be a power of two. If it is above 1, the request needs room for two more blocks, and a
+    /// block for `size + align - 1` units. It makes at most 8 accesses to the tables.
     ///
     /// ```
     /// assert_eq!(space.refusal_aligned(900, 4), None);
@@ -464,15 +479,15 @@ impl<T: Tables> AllocatorOf<T> {
 
     /// Grants `size` units that begin at a multiple of `align`, a power of two.
     ///
-    /// The block is the one that a request for `size + align - 1` units would take. Its units before the range (the
-    /// padding) and after it (the remainder) stay free. `None` is returned if that request finds no block, if `size +
-    /// align - 1` is above 4294967295, or if `align` is above 1 and there is no room for two more blocks, even if fewer
-    /// would be added. Then the space is as it was. Where padding and remainder are of one class, the remainder is the
-    /// newer one. With `align` 1 the call is `allocate(size)`. It makes at most 128 accesses to the tables, and takes
-    /// no memory.
+    /// The block is the one that a request for `size + align - 1` units would take. Its units before the
+    /// range (the padding) and after it (the remainder) stay free. `None` is returned if that request finds
+    /// no block, if `size + align - 1` is above 4294967295, or if `align` is above 1 and there is no room for
+    /// two more blocks, even if fewer would be added. Then the space is as it was. Where padding and
+    /// remainder are of one class, the remainder is the newer one. With `align` 1 the call is
+    /// `allocate(size)`. It makes at most 128 accesses to the tables, and takes no memory.
     ///
-    /// A fresh space of 1,048,576 units grants 64 KiB at a multiple of 256 only 15 times. Where all requests have one
-    /// alignment, let a unit be as large as that, and call `allocate`: then it grants all 16.
+    /// A fresh space of 1,048,576 units grants 64 KiB at a multiple of 256 only 15 times. Where all requests
+    /// have one alignment, let a unit be as large as that, and call `allocate`: then it grants all 16.
     ///
     /// ```
     /// space.allocate(10);
@@ -481,23 +496,25 @@ impl<T: Tables> AllocatorOf<T> {
     /// ```
     pub fn allocate_aligned(&mut self, size: u32, align: u32) -> Option<Allocation<T::Index>>
         requires power { IsAlignment align }
-        // The units needed are `size + align - 1`; the blocks needed are 1 with `align` 1, and 2 above. If at least one
-        // unit is needed, the request is granted exactly when there is room for the blocks needed and the units needed
-        // are at most the reported `largest_free_region`. Any request is granted exactly when there is room for the
-        // blocks needed, and there is a free block in a size class whose blocks all have at least the units needed.
+        // The units needed are `size + align - 1`; the blocks needed are 1 with `align` 1, and 2 above. If at
+        // least one unit is needed, the request is granted exactly when there is room for the blocks needed
+        // and the units needed are at most the reported `largest_free_region`. Any request is granted exactly
+        // when there is room for the blocks needed, and there is a free block in a size class whose blocks
+        // all have at least the units needed.
         ensures granted { 1 ≤ units_needed size align → (IsSome result
             ↔ (HasRoomFor (blocks_needed align) self.old × (units_needed size align ≤ largest_free self.old))) }
-        ensures can_grant { IsSome result ↔ CanGrant (blocks_needed align) (units_needed size align) self.old }
-        // A grant gives a name that was not live. Its range has exactly `size` units, lies in the space, and overlaps
-        // no live range. All live ranges stay as they are.
+        ensures can_grant { IsSome result
+            ↔ CanGrant (blocks_needed align) (units_needed size align) self.old }
+        // A grant gives a name that was not live. Its range has exactly `size` units, lies in the space, and
+        // overlaps no live range. All live ranges stay as they are.
         ensures grants { IfSome result (Grants size self.old self.new) }
         // The range begins at a multiple of the alignment.
         ensures aligned { IfSome result (λ h. h.offset % align ≡ 0) }
         // A refusal leaves the space as it was.
         ensures same { result ≡ None → SameSpace self.old self.new }
-        // Near-best fit: if a free block has at least 9/8 of the units needed, the block taken is at most 9/8 as large
-        // as that block. A refusal with room for the blocks needed means that every free block is smaller than 9/8 of
-        // these units.
+        // Near-best fit: if a free block has at least 9/8 of the units needed, the block taken is at most 9/8
+        // as large as that block. A refusal with room for the blocks needed means that every free block is
+        // smaller than 9/8 of these units.
         ensures nearly { IfSome result (IsSplitNearBest (units_needed size align) self.old) }
         ensures refused { result ≡ None → HasRoomFor (blocks_needed align) self.old
             → IsGoodRefusal (units_needed size align) (free_sizes self.old.blocks) }
@@ -510,12 +527,12 @@ impl<T: Tables> AllocatorOf<T> {
         self.serve(size, align)
     }
 
-    /// Adds `more` units at the end of the space: to the last block where that is free, or else as a new free block.
-    /// That block is then the newest of its bin.
+    /// Adds `more` units at the end of the space: to the last block where that is free, or else as a new free
+    /// block. That block is then the newest of its bin.
     ///
-    /// `false` is returned where the space would have more than 4294967295 units, or where its last block is used and
-    /// no further block may exist; then the space is as it was. With 0 units it is `true`, and the space is as it was
-    /// too. It makes at most 128 accesses to the tables, and takes no memory.
+    /// `false` is returned where the space would have more than 4294967295 units, or where its last block is
+    /// used and no further block may exist; then the space is as it was. With 0 units it is `true`, and the
+    /// space is as it was too. It makes at most 128 accesses to the tables, and takes no memory.
     ///
     /// ```
     /// assert!(space.extend(24));

@@ -1,11 +1,13 @@
-//! A block and its neighbours: it is coalesced with the free ones, divided or resized, in both halves of a store.
+//! A block and its neighbours: it is coalesced with the free ones, divided or resized, in both halves of a
+//! store.
 ghost use Rattle.std.specs.Prelude.{ℕ, ◌≡◌, ◌+◌, ◌≤◌, ◌++◌, ◌∷◌, Some, false, length, ◌-◌, ◌<◌, IsSome};
 ghost use Rattle.offset_allocator.specs.Accesses.{Costs};
 ghost use Rattle.offset_allocator.specs.Classes.{down};
 ghost use Rattle.offset_allocator.specs.Cells.{node};
 ghost use Rattle.offset_allocator.specs.View.{Place, free_end, free_start, push, remove_all, free_part};
 ghost use Rattle.offset_allocator.specs.View.{without_start, used_block, units, push_all};
-ghost use Rattle.offset_allocator.specs.Chain.{HasPlace, IsFreeAfter, IsFreeBefore, coalesced_before, coalesced_after};
+ghost use Rattle.offset_allocator.specs.Chain.{HasPlace, IsFreeAfter, IsFreeBefore, coalesced_before};
+ghost use Rattle.offset_allocator.specs.Chain.{coalesced_after};
 ghost use Rattle.offset_allocator.specs.Soundness.{AreInBins, AreUnlisted};
 ghost use Rattle.offset_allocator.specs.Store.{IsPlaceIn, AreBinned, bins_of};
 ghost use Rattle.offset_allocator.specs.Bins.{IsUnlisted};
@@ -19,7 +21,8 @@ use crate::{bins, chain};
 // The name of a free block directly before a block, if there is one.
 #[inline(always)]
 fn free_before<T: Tables>(tables: &T, name: u32, count: &mut Accesses) -> Option<u32>
-    requires place { (m last spare : ℕ) × (p : Place) × HasPlace (T.cells tables.now).chain m last spare name p }
+    requires place { (m last spare : ℕ) × (p : Place)
+        × HasPlace (T.cells tables.now).chain m last spare name p }
     ensures free { IsFreeBefore (T.cells tables.now).chain name result }
     ensures accesses { Costs 1 2 count.old count.new }
 {
@@ -34,7 +37,8 @@ fn free_before<T: Tables>(tables: &T, name: u32, count: &mut Accesses) -> Option
 /// The name of a free block directly after a block, if there is one.
 #[inline(always)]
 pub(crate) fn free_after<T: Tables>(tables: &T, name: u32, count: &mut Accesses) -> Option<u32>
-    requires place { (m last spare : ℕ) × (p : Place) × HasPlace (T.cells tables.now).chain m last spare name p }
+    requires place { (m last spare : ℕ) × (p : Place)
+        × HasPlace (T.cells tables.now).chain m last spare name p }
     ensures free { IsFreeAfter (T.cells tables.now).chain name result }
     ensures accesses { Costs 1 2 count.old count.new }
 {
@@ -46,8 +50,8 @@ pub(crate) fn free_after<T: Tables>(tables: &T, name: u32, count: &mut Accesses)
     None
 }
 
-// Removes the free block directly before a block, if there is one, from its bin, and coalesces it into the block. The
-// size of the whole is returned.
+// Removes the free block directly before a block, if there is one, from its bin, and coalesces it into the
+// block. The size of the whole is returned.
 #[inline(always)]
 fn with_before<T: Tables>(store: &mut Store<T>, name: u32, size: u32) -> u32
     requires place { (m : ℕ) × (p : Place) × IsPlaceIn T.cells store.old m name p
@@ -57,9 +61,11 @@ fn with_before<T: Tables>(store: &mut Store<T>, name: u32, size: u32) -> u32
     ensures place { (m : ℕ) (p : Place) → IsPlaceIn T.cells store.old m name p
         → IsPlaceIn T.cells store.new m name (coalesced_before p) }
     ensures binned { AreBinned T.cells T.Index.MAX store.new }
-    ensures lists { (m : ℕ) (p : Place) → IsPlaceIn T.cells store.old m name p → bins_of T.cells T.Index.MAX store.new
+    ensures lists { (m : ℕ) (p : Place) → IsPlaceIn T.cells store.old m name p
+        → bins_of T.cells T.Index.MAX store.new
         ≡ remove_all (free_end p.before) (bins_of T.cells T.Index.MAX store.old) }
-    ensures nodes { length (T.cells store.new.tables).chain.nodes ≡ length (T.cells store.old.tables).chain.nodes }
+    ensures nodes { length (T.cells store.new.tables).chain.nodes
+        ≡ length (T.cells store.old.tables).chain.nodes }
     ensures size { result ≡ (node (T.cells store.new.tables).chain name).size }
     ensures accesses { Costs 1 15 store.old.accesses store.new.accesses }
 {
@@ -73,8 +79,8 @@ fn with_before<T: Tables>(store: &mut Store<T>, name: u32, size: u32) -> u32
     size
 }
 
-// Removes the free block `next` directly after a block, if there is one, from its bin, and coalesces it into the block.
-// The size of the whole is returned.
+// Removes the free block `next` directly after a block, if there is one, from its bin, and coalesces it into
+// the block. The size of the whole is returned.
 #[inline(always)]
 fn with_after<T: Tables>(store: &mut Store<T>, name: u32, size: u32, next: Option<u32>) -> u32
     requires place { (m : ℕ) × (p : Place) × IsPlaceIn T.cells store.old m name p
@@ -85,7 +91,8 @@ fn with_after<T: Tables>(store: &mut Store<T>, name: u32, size: u32, next: Optio
     ensures place { (m : ℕ) (p : Place) → IsPlaceIn T.cells store.old m name p
         → IsPlaceIn T.cells store.new m name (coalesced_after p) }
     ensures binned { AreBinned T.cells T.Index.MAX store.new }
-    ensures lists { (m : ℕ) (p : Place) → IsPlaceIn T.cells store.old m name p → bins_of T.cells T.Index.MAX store.new
+    ensures lists { (m : ℕ) (p : Place) → IsPlaceIn T.cells store.old m name p
+        → bins_of T.cells T.Index.MAX store.new
         ≡ remove_all (free_start p.after) (bins_of T.cells T.Index.MAX store.old) }
     ensures spares { store.old.spare_count ≤ store.new.spare_count }
     ensures size { result ≡ (node (T.cells store.new.tables).chain name).size }
@@ -104,8 +111,9 @@ fn with_after<T: Tables>(store: &mut Store<T>, name: u32, size: u32, next: Optio
     }
 }
 
-/// Coalesces a block of this size, which is in no bin, with the free blocks beside it, and pushes the whole onto its
-/// bin. If the neighbour that is coalesced last is the newest of this bin, the block takes its place there.
+/// Coalesces a block of this size, which is in no bin, with the free blocks beside it, and pushes the whole
+/// onto its bin. If the neighbour that is coalesced last is the newest of this bin, the block takes its place
+/// there.
 #[inline(always)]
 pub(crate) fn coalesce<T: Tables>(store: &mut Store<T>, name: u32, size: u32)
     requires place { (m : ℕ) × (p : Place) × IsPlaceIn T.cells store.old m name p
@@ -116,9 +124,11 @@ pub(crate) fn coalesce<T: Tables>(store: &mut Store<T>, name: u32, size: u32)
     ensures place { (m : ℕ) (p : Place) → IsPlaceIn T.cells store.old m name p
         → IsPlaceIn T.cells store.new m name (coalesced_after (coalesced_before p)) }
     ensures binned { AreBinned T.cells T.Index.MAX store.new }
-    ensures lists { (m : ℕ) (p : Place) → IsPlaceIn T.cells store.old m name p → bins_of T.cells T.Index.MAX store.new
+    ensures lists { (m : ℕ) (p : Place) → IsPlaceIn T.cells store.old m name p
+        → bins_of T.cells T.Index.MAX store.new
         ≡ push (down (node (T.cells store.new.tables).chain name).size) name
-        (remove_all (free_start p.after) (remove_all (free_end p.before) (bins_of T.cells T.Index.MAX store.old))) }
+        (remove_all (free_start p.after)
+        (remove_all (free_end p.before) (bins_of T.cells T.Index.MAX store.old))) }
     ensures accesses { Costs 7 34 store.old.accesses store.new.accesses }
 {
     // `gone` is the neighbour that is coalesced last: it is in its bin until the exchange
@@ -141,8 +151,8 @@ pub(crate) fn coalesce<T: Tables>(store: &mut Store<T>, name: u32, size: u32)
     bins::exchange(store, gone, more, name, uint_to_float_round_down(whole));
 }
 
-// Splits the first units off a block: they become a free block in its bin, under the name that is returned. Where there
-// are none, nothing changes, and the name returned is that of the block.
+// Splits the first units off a block: they become a free block in its bin, under the name that is returned.
+// Where there are none, nothing changes, and the name returned is that of the block.
 #[inline(always)]
 fn split_padding<T: Tables>(store: &mut Store<T>, name: u32, units: u32) -> u32
     requires place { (m : ℕ) × (p : Place) × IsPlaceIn T.cells store.old m name p
@@ -159,7 +169,8 @@ fn split_padding<T: Tables>(store: &mut Store<T>, name: u32, units: u32) -> u32
     ensures binned { AreBinned T.cells T.Index.MAX store.new }
     ensures lists { bins_of T.cells T.Index.MAX store.new
         ≡ push_all (free_part result units) (bins_of T.cells T.Index.MAX store.old) }
-    ensures nodes { length (T.cells store.new.tables).chain.nodes ≡ length (T.cells store.old.tables).chain.nodes }
+    ensures nodes { length (T.cells store.new.tables).chain.nodes
+        ≡ length (T.cells store.old.tables).chain.nodes }
     ensures spares { store.old.spare_count ≤ store.new.spare_count + 1 }
     ensures spares_kept { units ≡ 0 → store.old.spare_count ≤ store.new.spare_count }
     ensures accesses { Costs 0 18 store.old.accesses store.new.accesses }
@@ -172,8 +183,9 @@ fn split_padding<T: Tables>(store: &mut Store<T>, name: u32, units: u32) -> u32
     front
 }
 
-// Splits a block, of this offset, after `size` units: the units that are left become a free block in its bin, under the
-// name that is returned. Where none are left, nothing changes, and the name returned is that of the block.
+// Splits a block, of this offset, after `size` units: the units that are left become a free block in its bin,
+// under the name that is returned. Where none are left, nothing changes, and the name returned is that of the
+// block.
 #[inline(always)]
 fn split_remainder<T: Tables>(
     store: &mut Store<T>,
@@ -196,7 +208,8 @@ fn split_remainder<T: Tables>(
     ensures binned { AreBinned T.cells T.Index.MAX store.new }
     ensures lists { bins_of T.cells T.Index.MAX store.new
         ≡ push_all (free_part result left) (bins_of T.cells T.Index.MAX store.old) }
-    ensures nodes { length (T.cells store.new.tables).chain.nodes ≡ length (T.cells store.old.tables).chain.nodes }
+    ensures nodes { length (T.cells store.new.tables).chain.nodes
+        ≡ length (T.cells store.old.tables).chain.nodes }
     ensures accesses { Costs 0 16 store.old.accesses store.new.accesses }
     ensures accesses_min { 0 < left → store.old.accesses + 13 ≤ store.new.accesses }
 {
@@ -216,8 +229,8 @@ pub(crate) struct Parts {
     pub(crate) left: u32,
 }
 
-/// Splits a block into a free padding, the granted units from `start` on, which are used and keep its name, and a free
-/// remainder. The names of the padding and of the remainder are returned, where these have units.
+/// Splits a block into a free padding, the granted units from `start` on, which are used and keep its name,
+/// and a free remainder. The names of the padding and of the remainder are returned, where these have units.
 #[inline(always)]
 pub(crate) fn divide<T: Tables>(
     store: &mut Store<T>,
@@ -232,7 +245,8 @@ pub(crate) fn divide<T: Tables>(
     requires spare { 0 < store.old.spare_count }
     requires two { 0 < parts.padding → 1 < store.old.spare_count }
     requires start { start ≡ (node (T.cells store.old.tables).chain name).offset + parts.padding }
-    requires whole { parts.padding + parts.size + parts.left ≡ (node (T.cells store.old.tables).chain name).size }
+    requires whole { parts.padding + parts.size + parts.left
+        ≡ (node (T.cells store.old.tables).chain name).size }
     ensures place { (m : ℕ) (p : Place) → IsPlaceIn T.cells store.old m name p
         → IsPlaceIn T.cells store.new m name (record {
           before = p.before ++ free_part result.0 parts.padding;
@@ -241,9 +255,11 @@ pub(crate) fn divide<T: Tables>(
         }) }
     ensures binned { AreBinned T.cells T.Index.MAX store.new }
     ensures lists { bins_of T.cells T.Index.MAX store.new
-        ≡ push_all (free_part result.0 parts.padding ++ used_block name parts.size ∷ free_part result.1 parts.left)
+        ≡ push_all (free_part result.0 parts.padding ++ used_block name parts.size
+        ∷ free_part result.1 parts.left)
         (bins_of T.cells T.Index.MAX store.old) }
-    ensures nodes { length (T.cells store.new.tables).chain.nodes ≡ length (T.cells store.old.tables).chain.nodes }
+    ensures nodes { length (T.cells store.new.tables).chain.nodes
+        ≡ length (T.cells store.old.tables).chain.nodes }
     ensures accesses { Costs 1 35 store.old.accesses store.new.accesses }
 {
     let front = split_padding(store, name, parts.padding);
@@ -252,8 +268,9 @@ pub(crate) fn divide<T: Tables>(
     (front, rest)
 }
 
-/// Makes a block of `old_size` units one of `size` units, from the same offset on. What remains of it and of the free
-/// block directly after it, whose name is `next`, becomes one free block in its bin, under the name that is returned.
+/// Makes a block of `old_size` units one of `size` units, from the same offset on. What remains of it and of
+/// the free block directly after it, whose name is `next`, becomes one free block in its bin, under the name
+/// that is returned.
 #[inline(always)]
 pub(crate) fn resize<T: Tables>(
     store: &mut Store<T>,
@@ -273,10 +290,12 @@ pub(crate) fn resize<T: Tables>(
         → IsPlaceIn T.cells store.new m name (record {
           before = p.before;
           block = record p.block { size = size };
-          after = free_part result (p.block.size + units (free_start p.after) - size) ++ without_start p.after;
+          after = free_part result (p.block.size + units (free_start p.after) - size)
+              ++ without_start p.after;
         }) }
     ensures binned { AreBinned T.cells T.Index.MAX store.new }
-    ensures lists { (m : ℕ) (p : Place) → IsPlaceIn T.cells store.old m name p → bins_of T.cells T.Index.MAX store.new
+    ensures lists { (m : ℕ) (p : Place) → IsPlaceIn T.cells store.old m name p
+        → bins_of T.cells T.Index.MAX store.new
         ≡ push_all (free_part result (p.block.size + units (free_start p.after) - size))
         (remove_all (free_start p.after) (bins_of T.cells T.Index.MAX store.old)) }
     ensures accesses { Costs 1 28 store.old.accesses store.new.accesses }

@@ -1,5 +1,5 @@
-//! What is reported: the types of reports, and the read-only calls with a count of their accesses to table cells. The
-//! plain calls are these with a count of their own, and `laws` exports them.
+//! What is reported: the types of reports, and the read-only calls with a count of their accesses to table
+//! cells. The plain calls are these with a count of their own, and `laws` exports them.
 ghost use Rattle.std.specs.Prelude.{◌≡◌, ◌<◌, ◌≤◌, ◌+◌, ◌*◌, ◌%◌, ◌^◌, ◌↔◌, IsTrue, IfSome, None};
 ghost use Rattle.std.specs.Prelude.{length, option_map, replicate, slice_set};
 ghost use Rattle.offset_allocator.specs.Accesses.{Costs};
@@ -7,7 +7,8 @@ ghost use Rattle.offset_allocator.specs.Classes.{value};
 ghost use Rattle.offset_allocator.specs.View.{free_sizes, largest_free};
 ghost use Rattle.offset_allocator.specs.Ranges.{Range, range_of, size_of, IsLive};
 ghost use Rattle.offset_allocator.specs.Relations.{IsAlignment};
-ghost use Rattle.offset_allocator.specs.Requests.{IsReport, IsFullReport, CanGrant, IsWhy, blocks_needed, units_needed};
+ghost use Rattle.offset_allocator.specs.Requests.{IsReport, IsFullReport, CanGrant, IsWhy, blocks_needed};
+ghost use Rattle.offset_allocator.specs.Requests.{units_needed};
 
 use crate::accesses::Accesses;
 use crate::handle::Allocation;
@@ -24,26 +25,29 @@ use std::fmt;
 pub struct StorageReport {
     /// The units of all free blocks together.
     pub total_free_space: u32,
-    /// The value of the largest class that has a free block, or 0 where no block is free. A request for 1 unit or more
-    /// is granted exactly when it is at most this. The block itself may be larger, by less than an eighth of this.
+    /// The value of the largest class that has a free block, or 0 where no block is free. A request for 1
+    /// unit or more is granted exactly when it is at most this. The block itself may be larger, by less than
+    /// an eighth of this.
     pub largest_free_region: u32,
 }
 
 /// Why a request is refused: the first of these that applies.
 ///
-/// A request needs a free block of a class whose blocks are all large enough: for `allocate(n)` one of at least
-/// `min_allocator_size(n)` units, for an aligned request of that for `n + align - 1`.
+/// A request needs a free block of a class whose blocks are all large enough: for `allocate(n)` one of at
+/// least `min_allocator_size(n)` units, for an aligned request of that for `n + align - 1`.
 #[derive(Clone, Copy, Debug, PartialEq)]
 pub enum Refusal {
-    /// There is no room for one more block, or for two more where an aligned request needs them. Use another space,
-    /// free ranges that have free neighbours, or compact a space of several free blocks.
+    /// There is no room for one more block, or for two more where an aligned request needs them. Use another
+    /// space, free ranges that have free neighbours, or compact a space of several free blocks.
     Nodes,
-    /// A fresh space of this size would refuse the request too. Extend the space, or use a larger one; but where the
-    /// size, with `align - 1` more for an aligned request, is above 4026531840, no space grants it.
+    /// A fresh space of this size would refuse the request too. Extend the space, or use a larger one; but
+    /// where the size, with `align - 1` more for an aligned request, is above 4026531840, no space grants it.
     TooLarge,
-    /// All free units in one block would not be enough, so `compact` does not help. Free ranges, or extend the space.
+    /// All free units in one block would not be enough, so `compact` does not help. Free ranges, or extend
+    /// the space.
     Space,
-    /// All free units in one block would be enough, but no free block is. After `compact` the request is granted.
+    /// All free units in one block would be enough, but no free block is. After `compact` the request is
+    /// granted.
     Fragmented,
 }
 
@@ -67,8 +71,8 @@ impl fmt::Display for Refusal {
 /// One size class in the full report.
 #[derive(Clone, Copy, Debug, PartialEq)]
 pub struct StorageReportFullRegion {
-    /// The value of the class: each of its blocks has at least that many units. The values of the classes 240 to 255
-    /// are reported modulo 2 to the power of 32; no block is of these classes.
+    /// The value of the class: each of its blocks has at least that many units. The values of the classes 240
+    /// to 255 are reported modulo 2 to the power of 32; no block is of these classes.
     pub size: u32,
     /// The number of free blocks of the class.
     pub count: u32,

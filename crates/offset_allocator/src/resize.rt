@@ -15,9 +15,11 @@ use crate::{AllocatorOf, neighbours, store};
 // The units of the free block `next`, if any, directly after a block.
 #[inline(always)]
 fn units_after<T: Tables>(tables: &T, name: u32, next: Option<u32>, count: &mut Accesses) -> u32
-    requires place { (m last spare : ℕ) × (p : Place) × HasPlace (T.cells tables.now).chain m last spare name p }
+    requires place { (m last spare : ℕ) × (p : Place)
+        × HasPlace (T.cells tables.now).chain m last spare name p }
     requires next { IsFreeAfter (T.cells tables.now).chain name next }
-    ensures units { (m last spare : ℕ) (p : Place) → HasPlace (T.cells tables.now).chain m last spare name p → result
+    ensures units { (m last spare : ℕ) (p : Place) → HasPlace (T.cells tables.now).chain m last spare name p
+        → result
         ≡ units (free_start p.after) }
     ensures accesses { Costs 0 1 count.old count.new }
 {
@@ -28,14 +30,15 @@ fn units_after<T: Tables>(tables: &T, name: u32, next: Option<u32>, count: &mut 
 }
 
 impl<T: Tables> AllocatorOf<T> {
-    /// Frees the units of a live range after its first `size`. They are free at once, in one block with the free block
-    /// directly after the range, and that block is the newest of its bin; its name is that of the block that was there,
-    /// or one that no block had. The handle stays live, with its offset.
+    /// Frees the units of a live range after its first `size`. They are free at once, in one block with the
+    /// free block directly after the range, and that block is the newest of its bin; its name is that of the
+    /// block that was there, or one that no block had. The handle stays live, with its offset.
     ///
-    /// `false` is returned where `size` is above the units of the range, or where it is below them, no further block
-    /// may exist and no free block is directly after the range; then the space is as it was. With exactly the units of
-    /// the range it is `true`, at the node limit too, and the space is as it was. The handle has to be live, and only
-    /// its name counts, as in `free`. It makes at most 128 accesses to the tables, and takes no memory.
+    /// `false` is returned where `size` is above the units of the range, or where it is below them, no
+    /// further block may exist and no free block is directly after the range; then the space is as it was.
+    /// With exactly the units of the range it is `true`, at the node limit too, and the space is as it was.
+    /// The handle has to be live, and only its name counts, as in `free`. It makes at most 128 accesses to
+    /// the tables, and takes no memory.
     ///
     /// ```
     /// let mesh = space.allocate(300).unwrap();
@@ -44,8 +47,8 @@ impl<T: Tables> AllocatorOf<T> {
     /// ```
     pub fn shrink(&mut self, allocation: Allocation<T::Index>, size: u32) -> bool
         requires live { IsLive allocation.name self.old }
-        // It is done exactly when the range has at least `size` units, and, if it has more, a free block is directly
-        // after it or there is room for one more block.
+        // It is done exactly when the range has at least `size` units, and, if it has more, a free block is
+        // directly after it or there is room for one more block.
         ensures done { IsTrue result ↔ CanShrink allocation.name size self.old }
         // Then the range has `size` units, from its first one on. All other ranges stay.
         ensures range { IsTrue result → HasUnits allocation.name size self.old self.new }
@@ -67,14 +70,14 @@ impl<T: Tables> AllocatorOf<T> {
         self.resize_to(name, old_size, size)
     }
 
-    /// Adds units to a live range at its end, so that it has `size`: those of the free block directly after it. What
-    /// remains of that block stays free, and is the newest of its bin; its name is that of the block, or one that no
-    /// block had. The handle stays live, with its offset.
+    /// Adds units to a live range at its end, so that it has `size`: those of the free block directly after
+    /// it. What remains of that block stays free, and is the newest of its bin; its name is that of the
+    /// block, or one that no block had. The handle stays live, with its offset.
     ///
-    /// `false` is returned where `size` is below the units of the range, or where it lacks units and no free block
-    /// directly after it has as many; then the space is as it was. With exactly the units of the range it is `true`,
-    /// and the space is as it was. The handle has to be live, and only its name counts, as in `free`. It makes at most
-    /// 128 accesses to the tables, and takes no memory.
+    /// `false` is returned where `size` is below the units of the range, or where it lacks units and no free
+    /// block directly after it has as many; then the space is as it was. With exactly the units of the range
+    /// it is `true`, and the space is as it was. The handle has to be live, and only its name counts, as in
+    /// `free`. It makes at most 128 accesses to the tables, and takes no memory.
     ///
     /// ```
     /// let mesh = space.allocate(300).unwrap();
@@ -83,8 +86,8 @@ impl<T: Tables> AllocatorOf<T> {
     /// ```
     pub fn grow_in_place(&mut self, allocation: Allocation<T::Index>, size: u32) -> bool
         requires live { IsLive allocation.name self.old }
-        // It is done exactly when the range has at most `size` units, and at least `size` with those of the free block
-        // directly after it.
+        // It is done exactly when the range has at most `size` units, and at least `size` with those of the
+        // free block directly after it.
         ensures done { IsTrue result ↔ CanGrow allocation.name size self.old }
         // Then the range has `size` units, from its first one on. All other ranges stay.
         ensures range { IsTrue result → HasUnits allocation.name size self.old self.new }
@@ -106,8 +109,8 @@ impl<T: Tables> AllocatorOf<T> {
         self.resize_to(name, old_size, size)
     }
 
-    // Makes the range of a live name, which has `old_size` units, one of `size` units in place, with the free block
-    // directly after it.
+    // Makes the range of a live name, which has `old_size` units, one of `size` units in place, with the free
+    // block directly after it.
     fn resize_to(&mut self, name: u32, old_size: u32, size: u32) -> bool
         requires live { IsLive name self.old }
         requires old_size { old_size ≡ size_of name self.old }

@@ -15,7 +15,8 @@ use crate::{AllocatorOf, bins, chain};
 // The name of the block before the last one, where that has no unit left, if there is one.
 fn next_end<T: Tables>(tables: &T, last: u32, left: u32, count: &mut Accesses) -> Option<u32>
     requires { last < length (T.cells tables.now).chain.nodes }
-    ensures some { IfSome result (λ x. (left ≡ 0) × (Some x ≡ (node (T.cells tables.now).chain last).before)) }
+    ensures some { IfSome result (λ x. (left ≡ 0)
+        × (Some x ≡ (node (T.cells tables.now).chain last).before)) }
     ensures none { result ≡ None → left ≡ 0 → None ≡ (node (T.cells tables.now).chain last).before }
     ensures accesses { Costs 0 1 count.old count.new }
 {
@@ -56,11 +57,13 @@ impl<T: Tables> AllocatorOf<T> {
         true
     }
 
-    /// Takes `less` free units off the end of the space, the reverse of `extend`: from the last block, which goes where
-    /// nothing is left of it and another one is before it. What is left of it is the newest of its bin.
+    /// Takes `less` free units off the end of the space, the reverse of `extend`: from the last block, which
+    /// goes where nothing is left of it and another one is before it. What is left of it is the newest of its
+    /// bin.
     ///
-    /// `false` is returned where the last block is used or has fewer units; then the space is as it was. With 0 units it is
-    /// `true`, and the space is as it was too. It makes at most 64 accesses to the tables, and takes no memory.
+    /// `false` is returned where the last block is used or has fewer units; then the space is as it was. With
+    /// 0 units it is `true`, and the space is as it was too. It makes at most 64 accesses to the tables, and
+    /// takes no memory.
     ///
     /// ```
     /// space.allocate(300);

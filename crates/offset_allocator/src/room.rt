@@ -1,6 +1,7 @@
-//! What has to move at least to make room for a request, where the ranges of some neighbouring blocks slide together.
-//! It reads the tables, and changes nothing.
-ghost use Rattle.std.specs.Prelude.{◌≡◌, ◌≤◌, ◌<◌, ◌+◌, ◌*◌, ◌^◌, ◌⊎◌, ℕ, List, [], ◌∷◌, ◌++◌, Some, IfSome, length};
+//! What has to move at least to make room for a request, where the ranges of some neighbouring blocks slide
+//! together. It reads the tables, and changes nothing.
+ghost use Rattle.std.specs.Prelude.{◌≡◌, ◌≤◌, ◌<◌, ◌+◌, ◌*◌, ◌^◌, ◌⊎◌, ℕ, List, [], ◌∷◌, ◌++◌, Some, IfSome};
+ghost use Rattle.std.specs.Prelude.{length};
 ghost use Rattle.offset_allocator.specs.Accesses.{Costs};
 ghost use Rattle.offset_allocator.specs.Chain.{IsSpace, blocks};
 ghost use Rattle.offset_allocator.specs.Classes.{value, up};
@@ -36,7 +37,8 @@ struct Window {
 impl Window {
     // A block alone.
     fn alone(name: u32, size: u32, used: bool) -> Self
-        ensures { (b : Block) → b ≡ record { name = name; size = size; used = used } → IsWindow result (b ∷ []) }
+        ensures { (b : Block) → b ≡ record { name = name; size = size; used = used }
+            → IsWindow result (b ∷ []) }
     {
         Window {
             end: name,
@@ -50,7 +52,8 @@ impl Window {
 
     // With one more block at its start.
     fn and_before(self, size: u32, used: bool) -> Self
-        requires fits { (bs : List Block) × IsWindow self bs × (units bs + size < 2 ^ 32) × (length bs + 1 < 2 ^ 32) }
+        requires fits { (bs : List Block) × IsWindow self bs × (units bs + size < 2 ^ 32)
+            × (length bs + 1 < 2 ^ 32) }
         ensures window { (b : Block) (bs : List Block) → b.size ≡ size → b.used ≡ used → IsWindow self bs
             → IsWindow result (b ∷ bs) }
     {
@@ -78,7 +81,8 @@ impl Window {
     // Without its last block, before which there is one of this name, size and use.
     fn without_end(self, name: u32, size: u32, used: bool) -> Self
         requires window { (bs : List Block) × IsWindow self bs }
-        ensures window { (b : Block) (bs cs : List Block) → b ≡ record { name = name; size = size; used = used }
+        ensures window { (b : Block) (bs cs : List Block) → b
+            ≡ record { name = name; size = size; used = used }
             → IsWindow self bs → bs ≡ (cs ++ b ∷ []) ++ end_of self ∷ []
             → IsWindow result (cs ++ b ∷ []) }
         ensures room { result.room + end_room self ≡ self.room }
@@ -109,11 +113,13 @@ pub(crate) struct Run {
 
 // Gives up the last blocks of a window, as long as what is left has enough free units.
 fn shrink<T: Tables>(tables: &T, want: u32, mut window: Window, count: &mut Accesses) -> Window
-    requires place { (last spare : ℕ) × (front bs back : List Block) × IsSpace (T.cells tables.now).chain last spare
+    requires place { (last spare : ℕ) × (front bs back : List Block)
+        × IsSpace (T.cells tables.now).chain last spare
         × (blocks (T.cells tables.now).chain last ≡ front ++ (bs ++ back)) × IsWindow window bs }
     requires some { 1 ≤ want }
     requires serves { want ≤ window.room }
-    ensures shrunk { (last spare : ℕ) (front bs back : List Block) → IsSpace (T.cells tables.now).chain last spare
+    ensures shrunk { (last spare : ℕ) (front bs back : List Block)
+        → IsSpace (T.cells tables.now).chain last spare
         → blocks (T.cells tables.now).chain last ≡ front ++ (bs ++ back) → IsWindow window bs
         → ((s : IsShrunk want result bs) × (count.new ≡ count.old + 3 * length s.gone)) }
 {
@@ -148,10 +154,10 @@ fn cheaper(known: Option<Run>, run: Run) -> Run
     }
 }
 
-// The cheapest run with at least `want` free units, of several the one that begins last. The walk goes back over the
-// blocks from the last one on; the window has those that were met, without the last ones, which are no longer needed:
-// from each free block on, the shortest run with enough free units is the cheapest, and ends no later than that of the
-// free block after.
+// The cheapest run with at least `want` free units, of several the one that begins last. The walk goes back
+// over the blocks from the last one on; the window has those that were met, without the last ones, which are
+// no longer needed: from each free block on, the shortest run with enough free units is the cheapest, and
+// ends no later than that of the free block after.
 pub(crate) fn cheapest<T: Tables>(
     tables: &T,
     last: u32,
@@ -228,15 +234,15 @@ pub fn room_cost_counted<T: Tables>(
 }
 
 impl<T: Tables> AllocatorOf<T> {
-    /// What has to move at least so that `allocate(size)` finds its block: the units and the number of the ranges in
-    /// some run of blocks, from one free block to another. Slid to the front of the run, they leave after them one free
-    /// block that is large enough. Of all such runs it is one whose ranges have the fewest units, and of these one that
-    /// has the fewest ranges.
+    /// What has to move at least so that `allocate(size)` finds its block: the units and the number of the
+    /// ranges in some run of blocks, from one free block to another. Slid to the front of the run, they leave
+    /// after them one free block that is large enough. Of all such runs it is one whose ranges have the
+    /// fewest units, and of these one that has the fewest ranges.
     ///
-    /// `None` is returned where all free units together are not enough: `refusal` says `TooLarge` or `Space` then. Both
-    /// numbers are 0 where one free block is large enough: nothing has to move then, though the request is refused at
-    /// the node limit. For an aligned request ask with `size + align - 1`. It makes at most 6 accesses to the tables
-    /// for each block, and 2.
+    /// `None` is returned where all free units together are not enough: `refusal` says `TooLarge` or `Space`
+    /// then. Both numbers are 0 where one free block is large enough: nothing has to move then, though the
+    /// request is refused at the node limit. For an aligned request ask with `size + align - 1`. It makes at
+    /// most 6 accesses to the tables for each block, and 2.
     ///
     /// ```
     /// let hole = space.allocate(300).unwrap();
@@ -246,8 +252,9 @@ impl<T: Tables> AllocatorOf<T> {
     /// assert_eq!(space.room_cost(1000), None);
     /// ```
     pub fn room_cost(&self, size: u32) -> Option<RoomCost>
-        // Of all runs of blocks that begin and end with a free one and have enough free units, which is the value of
-        // the class that the request needs, one costs this, and none costs less. `None`: there is no such run.
+        // Of all runs of blocks that begin and end with a free one and have enough free units, which is the
+        // value of the class that the request needs, one costs this, and none costs less. `None`: there is no
+        // such run.
         ensures cost { IsLeastCost (value (up size)) self.now.blocks result }
     {
         room_cost_counted(self, size, &mut Accesses::new())

@@ -11,8 +11,8 @@ pub const MANTISSA_VALUE: u32 = 8;
 /// The bits of the mantissa.
 pub const MANTISSA_MASK: u32 = 7;
 
-/// The smallest class whose value is at least `size` units. For a size above 4026531840 it is 240, a class that no
-/// block has.
+/// The smallest class whose value is at least `size` units. For a size above 4026531840 it is 240, a class
+/// that no block has.
 ///
 /// ```
 /// let class = small_float::uint_to_float_round_up(1000);
@@ -31,7 +31,8 @@ pub fn uint_to_float_round_up(size: u32) -> u32
     class_of(size - 1, size.ilog2()) + 1
 }
 
-/// The largest class whose value is at most `size` units: the class of a free block of this size. It is at most 239.
+/// The largest class whose value is at most `size` units: the class of a free block of this size. It is at
+/// most 239.
 ///
 /// ```
 /// let class = small_float::uint_to_float_round_down(1000);
@@ -46,14 +47,15 @@ pub fn uint_to_float_round_down(size: u32) -> u32
     class_of(size, (size | MANTISSA_VALUE).ilog2())
 }
 
-/// The class of a block of `size` units. `exponent` is the place of the leading bit of the size, or of one unit more,
-/// or 3 for a size below 8.
+/// The class of a block of `size` units. `exponent` is the place of the leading bit of the size, or of one
+/// unit more, or 3 for a size below 8.
 fn class_of(size: u32, exponent: u32) -> u32
     requires { IsExponent size exponent }
     ensures is { result ≡ down size }
 {
     let start = exponent - MANTISSA_BITS;
-    // the leading one of the size carries into the exponent; with the exponent of one unit more nothing carries
+    // the leading one of the size carries into the exponent; with the exponent of one unit more nothing
+    // carries
     (start << MANTISSA_BITS) + (size >> start)
 }
 

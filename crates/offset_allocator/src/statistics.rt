@@ -15,7 +15,8 @@ use crate::{AllocatorOf, bins, chain};
 
 /// What is live and what is free, exactly.
 ///
-/// It differs from a report where `max_allocs - 1` blocks exist: there a report has 0 and 0, since nothing is granted.
+/// It differs from a report where `max_allocs - 1` blocks exist: there a report has 0 and 0, since nothing is
+/// granted.
 #[derive(Clone, Copy, PartialEq, Debug)]
 pub struct Statistics {
     /// The number of live ranges, those of no units too.
@@ -28,17 +29,18 @@ pub struct Statistics {
     pub free_units: u32,
     /// The units of the largest free block, or 0 where no block is free.
     pub largest_free_block: u32,
-    /// The value of the class of that block: with room for one more block, a request of at least one unit is granted
-    /// exactly when it is at most this. `allocate_tight` grants up to `largest_free_block`.
+    /// The value of the class of that block: with room for one more block, a request of at least one unit is
+    /// granted exactly when it is at most this. `allocate_tight` grants up to `largest_free_block`.
     pub largest_free_region: u32,
-    /// The nodes that no block has, made or not: `max_allocs` less the number of blocks. A block is added only while
-    /// there are at least 2.
+    /// The nodes that no block has, made or not: `max_allocs` less the number of blocks. A block is added
+    /// only while there are at least 2.
     pub unused_nodes: u32,
 }
 
 // The units of the largest block of a class, or 0 where its bin is empty.
 fn largest_of_class<T: Tables>(tables: &T, class: u32, count: &mut Accesses) -> u32
-    requires linked { HasBins T.Index.MAX (T.cells tables.now).bins (bins_in T.Index.MAX (T.cells tables.now).bins) }
+    requires linked { HasBins T.Index.MAX (T.cells tables.now).bins
+        (bins_in T.Index.MAX (T.cells tables.now).bins) }
     requires classed { class < 256 }
     ensures largest { result ≡ greatest (sizes_of (T.cells tables.now).chain
         (bin_at (bins_in T.Index.MAX (T.cells tables.now).bins) class)) }
@@ -112,8 +114,8 @@ pub fn statistics_counted<T: Tables>(allocator: &AllocatorOf<T>, count: &mut Acc
 }
 
 impl<T: Tables> AllocatorOf<T> {
-    /// The units of all free blocks together, at the node limit too, where a report has 0. It makes no access to the
-    /// tables.
+    /// The units of all free blocks together, at the node limit too, where a report has 0. It makes no access
+    /// to the tables.
     ///
     /// ```
     /// space.allocate(300);
@@ -125,7 +127,8 @@ impl<T: Tables> AllocatorOf<T> {
         self.free_total
     }
 
-    /// The units of all live ranges together. With `free_units` they add up to `size`. It makes no access to the tables.
+    /// The units of all live ranges together. With `free_units` they add up to `size`. It makes no access to
+    /// the tables.
     ///
     /// ```
     /// space.allocate(300);
@@ -138,8 +141,8 @@ impl<T: Tables> AllocatorOf<T> {
         self.size - self.free_total
     }
 
-    /// Whether no range is live, not even one of no units. It is right at every node limit, and makes at most 8 accesses
-    /// to the tables.
+    /// Whether no range is live, not even one of no units. It is right at every node limit, and makes at most
+    /// 8 accesses to the tables.
     ///
     /// ```
     /// let nothing = space.allocate(0).unwrap();
@@ -153,8 +156,8 @@ impl<T: Tables> AllocatorOf<T> {
         is_empty_counted(self, &mut Accesses::new())
     }
 
-    /// What is live and what is free, exactly, at the node limit too. It makes at most 520 accesses to the tables, and 4
-    /// for each free block.
+    /// What is live and what is free, exactly, at the node limit too. It makes at most 520 accesses to the
+    /// tables, and 4 for each free block.
     ///
     /// ```
     /// space.allocate(300);

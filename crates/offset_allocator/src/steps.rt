@@ -1,5 +1,6 @@
 //! The steps of the public calls. Each method leaves an allocator whose blocks and bins agree.
-ghost use Rattle.std.specs.Prelude.{◌≡◌, ◌↔◌, ◌+◌, ◌-◌, ◌*◌, ◌<◌, ◌≤◌, ◌≢◌, ℕ, [], ◌∷◌, length, replicate, None, false, true};
+ghost use Rattle.std.specs.Prelude.{◌≡◌, ◌↔◌, ◌+◌, ◌-◌, ◌*◌, ◌<◌, ◌≤◌, ◌≢◌, ℕ, [], ◌∷◌, length, replicate};
+ghost use Rattle.std.specs.Prelude.{None, false, true};
 ghost use Rattle.std.specs.Prelude.{IsTrue, IsSome, IfSome, Some};
 ghost use Rattle.offset_allocator.specs.Accesses.{Costs};
 ghost use Rattle.offset_allocator.specs.Classes.{up, down};
@@ -8,7 +9,8 @@ ghost use Rattle.offset_allocator.specs.Bins.{IsFoundFrom};
 ghost use Rattle.offset_allocator.specs.Store.{AreBinned, bins_of};
 ghost use Rattle.offset_allocator.specs.Ranges.{range_of, IsLive, KeepsAll, KeepsOthers};
 ghost use Rattle.offset_allocator.specs.Tight.{HoldsFirst};
-ghost use Rattle.offset_allocator.specs.View.{IsWellFormed, bin_at, ends_used, padding_to, free_block, push, used_of};
+ghost use Rattle.offset_allocator.specs.View.{IsWellFormed, bin_at, ends_used, padding_to, free_block, push};
+ghost use Rattle.offset_allocator.specs.View.{used_of};
 ghost use Rattle.offset_allocator.specs.Relations.{Splits, Aligns, Frees, Adds, SameSpace, Resets};
 ghost use Rattle.offset_allocator.specs.Soundness.{IsSound, view_of};
 ghost use Rattle.offset_allocator.specs.Requests.{HasRoomFor, blocks_needed, units_needed};
@@ -37,7 +39,8 @@ pub(crate) fn start<T: Tables>(store: &mut Store<T>, size: u32, max_allocs: u32)
     requires empty { bins_of T.cells T.Index.MAX store.old ≡ replicate 256 [] }
     requires limit_min { 2 ≤ max_allocs }
     requires limit_max { max_allocs + 1 < T.Index.MAX }
-    ensures sound { IsSound T.Index.MAX size max_allocs (T.cells store.new.tables) 0 0 store.new.top_mask size }
+    ensures sound { IsSound T.Index.MAX size max_allocs
+        (T.cells store.new.tables) 0 0 store.new.top_mask size }
     // under the first name, and no other name was used
     ensures view { view_of T.Index.MAX size max_allocs (T.cells store.new.tables) 0 0 ≡ record {
       size = size;
@@ -55,8 +58,8 @@ pub(crate) fn start<T: Tables>(store: &mut Store<T>, size: u32, max_allocs: u32)
 }
 
 impl<T: Tables> AllocatorOf<T> {
-    /// The name of a live range, or `None` where nothing is live: then the space is as after a reset. Since no two
-    /// neighbours are free, the last used block is the last block or the one before it.
+    /// The name of a live range, or `None` where nothing is live: then the space is as after a reset. Since
+    /// no two neighbours are free, the last used block is the last block or the one before it.
     pub(crate) fn last_used(&mut self) -> Option<u32>
         ensures same { SameSpace self.old self.new }
         ensures used { IfSome result (λ x. IsLive x self.new) }
@@ -81,8 +84,8 @@ impl<T: Tables> AllocatorOf<T> {
         }
     }
 
-    /// Starts the blocks and the bins anew, each in place. It is out of line, so that `reset` stays small where it is
-    /// inlined.
+    /// Starts the blocks and the bins anew, each in place. It is out of line, so that `reset` stays small
+    /// where it is inlined.
     #[inline(never)]
     pub(crate) fn clear(&mut self)
         ensures step { Resets self.old self.new }
@@ -103,7 +106,8 @@ impl<T: Tables> AllocatorOf<T> {
         self.max_allocs - self.block_count()
     }
 
-    /// Whether the node limit admits this number of further blocks. The first test is mostly enough, and costs less.
+    /// Whether the node limit admits this number of further blocks. The first test is mostly enough, and
+    /// costs less.
     #[inline(always)]
     pub(crate) fn has_room_for(&self, blocks: u32) -> bool
         ensures { IsTrue result ↔ HasRoomFor blocks self.now }
@@ -111,8 +115,8 @@ impl<T: Tables> AllocatorOf<T> {
         self.store.spare_count > blocks || self.names_left() > blocks
     }
 
-    /// Grants `size` units of the newest block of a class, beginning at the first multiple of `align` in that block. The
-    /// block has to hold them.
+    /// Grants `size` units of the newest block of a class, beginning at the first multiple of `align` in that
+    /// block. The block has to hold them.
     #[inline(always)]
     pub(crate) fn grant(&mut self, class: u32, size: u32, align: u32) -> Allocation<T::Index>
         requires some { 1 ≤ align }
@@ -145,9 +149,9 @@ impl<T: Tables> AllocatorOf<T> {
         handle_of(start, name)
     }
 
-    /// A request for units from a multiple of `align` on. With `align` 1, which is a constant where this is inlined
-    /// into `allocate`, there is no padding. It may add `align.min(2)` blocks: the remainder, and the padding where
-    /// `align` is above 1.
+    /// A request for units from a multiple of `align` on. With `align` 1, which is a constant where this is
+    /// inlined into `allocate`, there is no padding. It may add `align.min(2)` blocks: the remainder, and the
+    /// padding where `align` is above 1.
     #[inline(always)]
     pub(crate) fn serve(&mut self, size: u32, align: u32) -> Option<Allocation<T::Index>>
         requires { 1 ≤ align }
@@ -176,8 +180,8 @@ impl<T: Tables> AllocatorOf<T> {
         }
     }
 
-    /// Frees the block of a name. It is inlined into both its callers, so that a program's only call of `free` can be
-    /// inlined whole.
+    /// Frees the block of a name. It is inlined into both its callers, so that a program's only call of
+    /// `free` can be inlined whole.
     #[inline(always)]
     pub(crate) fn release(&mut self, name: u32)
         requires live { IsLive name self.old }

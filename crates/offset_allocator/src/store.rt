@@ -8,8 +8,9 @@ ghost use Rattle.offset_allocator.specs.Readies.{Readies};
 use crate::accesses::Accesses;
 use crate::tables::Tables;
 
-/// The tables, and with them: which bins are not empty, the last block, how many nodes no block has. It has no
-/// invariant: `neighbours` changes it in the middle of a step, and the invariant of `Allocator` holds between steps.
+/// The tables, and with them: which bins are not empty, the last block, how many nodes no block has. It has
+/// no invariant: `neighbours` changes it in the middle of a step, and the invariant of `Allocator` holds
+/// between steps.
 #[derive(Drop)]
 pub(crate) struct Store<T: Tables> {
     pub(crate) tables: T,
@@ -31,10 +32,12 @@ pub(crate) fn ensure_spare<T: Tables>(
     names: u32,
     count: &mut Accesses,
 )
-    requires memory { (m last : ℕ) × (bs : List Block) × IsChain (T.cells tables.old).chain m last spare_count.old bs
+    requires memory { (m last : ℕ) × (bs : List Block)
+        × IsChain (T.cells tables.old).chain m last spare_count.old bs
         × (length bs + names ≤ m) }
     requires next { names ≤ spare_count.old + 1 }
-    ensures readies { Readies T.Index.MAX (T.cells tables.old) (T.cells tables.new) spare_count.old spare_count.new }
+    ensures readies { Readies T.Index.MAX (T.cells tables.old)
+        (T.cells tables.new) spare_count.old spare_count.new }
     ensures enough { names ≤ spare_count.new }
     ensures accesses { Costs 0 8 count.old count.new }
 {
@@ -53,11 +56,13 @@ pub(crate) fn ensure_spares<T: Tables>(
     names: u32,
     count: &mut Accesses,
 )
-    requires memory { (m last : ℕ) × (bs : List Block) × IsChain (T.cells tables.old).chain m last spare_count.old bs
+    requires memory { (m last : ℕ) × (bs : List Block)
+        × IsChain (T.cells tables.old).chain m last spare_count.old bs
         × (length bs + names ≤ m) }
     requires some { 1 ≤ names }
     requires few { names ≤ 2 }
-    ensures readies { Readies T.Index.MAX (T.cells tables.old) (T.cells tables.new) spare_count.old spare_count.new }
+    ensures readies { Readies T.Index.MAX (T.cells tables.old)
+        (T.cells tables.new) spare_count.old spare_count.new }
     ensures enough { names ≤ spare_count.new }
     ensures accesses { Costs 0 16 count.old count.new }
 {

@@ -1,20 +1,23 @@
-//! The tables, whatever their layout in memory: no other module reads or writes their cells. A function on single cells
-//! counts each that it touches; `with_capacity` makes tables, `clear` empties them, and neither counts.
+//! The tables, whatever their layout in memory: no other module reads or writes their cells. A function on
+//! single cells counts each that it touches; `with_capacity` makes tables, `clear` empties them, and neither
+//! counts.
 
-ghost use Rattle.std.specs.Prelude.{◌≡◌, ◌≢◌, ◌+◌, ◌-◌, ◌<◌, ◌≤◌, false, Some, [], ◌∷◌, ◌++◌, length, slice_set};
+ghost use Rattle.std.specs.Prelude.{◌≡◌, ◌≢◌, ◌+◌, ◌-◌, ◌<◌, ◌≤◌, false, Some, [], ◌∷◌, ◌++◌, length};
+ghost use Rattle.std.specs.Prelude.{slice_set};
 ghost use Rattle.std.specs.Prelude.{slice_index, IfOk};
-ghost use Rattle.offset_allocator.specs.Cells.{Cells, AreEmpty, AreShaped, IsBare, link_of, mark_of, node, put};
+ghost use Rattle.offset_allocator.specs.Cells.{Cells, AreEmpty, AreShaped, IsBare, link_of, mark_of, node};
+ghost use Rattle.offset_allocator.specs.Cells.{put};
 ghost use Rattle.offset_allocator.specs.Cells.{with_node, with_spare};
 
 use crate::accesses::Accesses;
 use crate::index::NodeIndex;
 use std::alloc::{AllocError, Global};
 
-/// The nodes that were made, the stack of unused names, the newest name of each bin, and the masks of the bins. A node
-/// is made when its name is needed for the first time; the memory for all is reserved before.
+/// The nodes that were made, the stack of unused names, the newest name of each bin, and the masks of the
+/// bins. A node is made when its name is needed for the first time; the memory for all is reserved before.
 ///
-/// A layout is lawful that keeps these contracts: a cell has what was last written, the others stay, and each access is
-/// counted.
+/// A layout is lawful that keeps these contracts: a cell has what was last written, the others stay, and each
+/// access is counted.
 pub trait Tables: Drop {
     /// The type of the links. A link is the number of a node, or the largest number, which names none.
     type Index: NodeIndex;
@@ -29,7 +32,8 @@ pub trait Tables: Drop {
         ensures chain { IfOk result (λ t. IsBare capacity (cells t).chain) }
         ensures bins { IfOk result (λ t. AreEmpty Self.Index.MAX (cells t).bins) };
 
-    /// Leaves one node, which is blank, and the memory. The bins may still name others: `bins::empty` has to follow.
+    /// Leaves one node, which is blank, and the memory. The bins may still name others: `bins::empty` has to
+    /// follow.
     fn clear(&mut self)
         requires { 0 < (cells self.old).chain.reserved }
         ensures chain { IsBare (cells self.old).chain.reserved (cells self.new).chain }
@@ -51,7 +55,8 @@ pub trait Tables: Drop {
         ensures masks { (cells self.new).bins.masks ≡ (cells self.old).bins.masks }
         ensures accesses { count.new ≡ count.old + 8 };
 
-    /// The tables have their lengths, and links say which nodes are used. A step of proofs, which does nothing.
+    /// The tables have their lengths, and links say which nodes are used. A step of proofs, which does
+    /// nothing.
     fn shape(&self)
         ensures { AreShaped Self.Index.MAX (cells self.now) };
 
@@ -101,7 +106,8 @@ pub trait Tables: Drop {
     /// The link to the node of the block before.
     fn before(&self, name: u32, count: &mut Accesses) -> Self::Index
         requires { name < length (cells self.now).chain.nodes }
-        ensures cell { link_of Self.Index.MAX (Self.Index.number result) ≡ (node (cells self.now).chain name).before }
+        ensures cell { link_of Self.Index.MAX (Self.Index.number result)
+            ≡ (node (cells self.now).chain name).before }
         ensures accesses { count.new ≡ count.old + 1 };
 
     /// Writes the link to the node of the block before.
@@ -109,14 +115,18 @@ pub trait Tables: Drop {
         requires { name < length (cells self.old).chain.nodes }
         ensures cells { cells self.new ≡ record (cells self.old) {
           chain = put (cells self.old).chain name
-              (record (node (cells self.old).chain name) { before = link_of Self.Index.MAX (Self.Index.number link) });
+              (record (node (cells self.old).chain name) {
+                before = link_of Self.Index.MAX
+                    (Self.Index.number link);
+              });
         } }
         ensures accesses { count.new ≡ count.old + 1 };
 
     /// The link to the node of the block after.
     fn after(&self, name: u32, count: &mut Accesses) -> Self::Index
         requires { name < length (cells self.now).chain.nodes }
-        ensures cell { link_of Self.Index.MAX (Self.Index.number result) ≡ (node (cells self.now).chain name).after }
+        ensures cell { link_of Self.Index.MAX (Self.Index.number result)
+            ≡ (node (cells self.now).chain name).after }
         ensures accesses { count.new ≡ count.old + 1 };
 
     /// Writes the link to the node of the block after.
@@ -124,7 +134,10 @@ pub trait Tables: Drop {
         requires { name < length (cells self.old).chain.nodes }
         ensures cells { cells self.new ≡ record (cells self.old) {
           chain = put (cells self.old).chain name
-              (record (node (cells self.old).chain name) { after = link_of Self.Index.MAX (Self.Index.number link) });
+              (record (node (cells self.old).chain name) {
+                after = link_of Self.Index.MAX
+                    (Self.Index.number link);
+              });
         } }
         ensures accesses { count.new ≡ count.old + 1 };
 

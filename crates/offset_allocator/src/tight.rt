@@ -1,6 +1,7 @@
-//! Requests that take any free block that is large enough: where the first fit by classes finds none, the bins from the
-//! class of the request on are walked.
-ghost use Rattle.std.specs.Prelude.{◌≡◌, ◌↔◌, ◌+◌, ◌*◌, ◌<◌, ◌≤◌, ◌%◌, ◌⊎◌, ◌++◌, ◌∷◌, ℕ, None, Some, false, length};
+//! Requests that take any free block that is large enough: where the first fit by classes finds none, the
+//! bins from the class of the request on are walked.
+ghost use Rattle.std.specs.Prelude.{◌≡◌, ◌↔◌, ◌+◌, ◌*◌, ◌<◌, ◌≤◌, ◌%◌, ◌⊎◌, ◌++◌, ◌∷◌, ℕ, None, Some, false};
+ghost use Rattle.std.specs.Prelude.{length};
 ghost use Rattle.std.specs.Prelude.{nat_le, IsSome, IfSome};
 ghost use Rattle.std.specs.List.{find};
 ghost use Rattle.offset_allocator.specs.Accesses.{Costs};
@@ -10,7 +11,8 @@ ghost use Rattle.offset_allocator.specs.Ranges.{Grants};
 ghost use Rattle.offset_allocator.specs.Relations.{Aligns, Allocates, IsAlignment, SameSpace, Splits};
 ghost use Rattle.offset_allocator.specs.Requests.{CanGrant, HasRoomFor, blocks_needed, units_needed};
 ghost use Rattle.offset_allocator.specs.Statistics.{greatest};
-ghost use Rattle.offset_allocator.specs.Tight.{AlignsTight, CanHold, FillsFirst, IsWhyTight, first_holding, holds_in};
+ghost use Rattle.offset_allocator.specs.Tight.{AlignsTight, CanHold, FillsFirst, IsWhyTight, first_holding};
+ghost use Rattle.offset_allocator.specs.Tight.{holds_in};
 ghost use Rattle.offset_allocator.specs.Tight.{listed_from, with_first};
 ghost use Rattle.offset_allocator.specs.View.{IsWellFormed, Place, bin_at, free_sizes, padding_to};
 
@@ -39,7 +41,8 @@ fn first_of_bin<T: Tables>(
     align: u32,
     count: &mut Accesses,
 ) -> Option<u32>
-    requires linked { HasBins T.Index.MAX (T.cells tables.now).bins (bins_in T.Index.MAX (T.cells tables.now).bins) }
+    requires linked { HasBins T.Index.MAX (T.cells tables.now).bins
+        (bins_in T.Index.MAX (T.cells tables.now).bins) }
     requires classed { class < 256 }
     requires some { 1 ≤ align }
     ensures first { result ≡ find (holds_in (T.cells tables.now).chain size align)
@@ -60,7 +63,8 @@ fn first_of_bin<T: Tables>(
     None
 }
 
-// The first name of the bins from the class of `size` units on whose block holds them from a multiple of `align` on.
+// The first name of the bins from the class of `size` units on whose block holds them from a multiple of
+// `align` on.
 fn choose<T: Tables>(
     tables: &T,
     top_mask: u32,
@@ -91,8 +95,8 @@ fn choose<T: Tables>(
     None
 }
 
-/// As `Allocator::refusal_tight_aligned`. The count grows by at most 2, and 6 for each free block of the class of `size`
-/// units or above.
+/// As `Allocator::refusal_tight_aligned`. The count grows by at most 2, and 6 for each free block of the
+/// class of `size` units or above.
 pub fn refusal_tight_aligned_counted<T: Tables>(
     allocator: &AllocatorOf<T>,
     size: u32,
@@ -102,7 +106,8 @@ pub fn refusal_tight_aligned_counted<T: Tables>(
     requires power { IsAlignment align }
     ensures granted { result ≡ None ↔ CanHold size align allocator.now }
     ensures why { IfSome result (IsWhyTight size align allocator.now) }
-    ensures accesses { Costs 0 (2 + 6 * length (listed_from (down size) allocator.now.order)) count.old count.new }
+    ensures accesses { Costs 0 (2
+        + 6 * length (listed_from (down size) allocator.now.order)) count.old count.new }
 {
     allocator.formed();
     if allocator.names_left() <= align.min(2) {
@@ -124,8 +129,8 @@ pub fn refusal_tight_aligned_counted<T: Tables>(
     }
 }
 
-/// As `Allocator::refusal_tight`. The count grows by at most 2, and 6 for each free block of the class of `size` units
-/// or above.
+/// As `Allocator::refusal_tight`. The count grows by at most 2, and 6 for each free block of the class of
+/// `size` units or above.
 pub fn refusal_tight_counted<T: Tables>(
     allocator: &AllocatorOf<T>,
     size: u32,
@@ -133,7 +138,8 @@ pub fn refusal_tight_counted<T: Tables>(
 ) -> Option<Refusal>
     ensures granted { result ≡ None ↔ CanHold size 1 allocator.now }
     ensures why { IfSome result (IsWhyTight size 1 allocator.now) }
-    ensures accesses { Costs 0 (2 + 6 * length (listed_from (down size) allocator.now.order)) count.old count.new }
+    ensures accesses { Costs 0 (2
+        + 6 * length (listed_from (down size) allocator.now.order)) count.old count.new }
 {
     refusal_tight_aligned_counted(allocator, size, 1, count)
 }
@@ -141,7 +147,8 @@ pub fn refusal_tight_counted<T: Tables>(
 impl<T: Tables> AllocatorOf<T> {
     // Makes the block of a name, which is free, the newest of its bin, and returns its class.
     fn bring_first(&mut self, name: u32) -> u32
-        requires free { (p : Place) × (self.old.blocks ≡ p.before ++ (p.block ∷ p.after)) × (p.block.name ≡ name)
+        requires free { (p : Place) × (self.old.blocks ≡ p.before ++ (p.block ∷ p.after))
+            × (p.block.name ≡ name)
             × (p.block.used ≡ false) }
         ensures first { SameSpace (with_first result name self.old) self.new }
         ensures class { (p : Place) → self.old.blocks ≡ p.before ++ (p.block ∷ p.after) → p.block.name ≡ name
@@ -160,7 +167,8 @@ impl<T: Tables> AllocatorOf<T> {
         requires some { 1 ≤ align }
         requires enough { HasRoomFor (blocks_needed align) self.old }
         requires first { first_holding size align self.old ≡ Some name }
-        ensures step { (c : ℕ) × Splits (value c) size (padding_to align) (with_first c name self.old) self.new result }
+        ensures step { (c : ℕ)
+            × Splits (value c) size (padding_to align) (with_first c name self.old) self.new result }
         ensures accesses { Costs 15 71 self.old.accesses self.new.accesses }
     {
         self.formed();
@@ -189,8 +197,8 @@ impl<T: Tables> AllocatorOf<T> {
         }
     }
 
-    // A request as `serve` takes it, and where that finds no block, one for the first that holds it. It is out of line,
-    // so that nothing of it is in a program that calls `allocate` alone.
+    // A request as `serve` takes it, and where that finds no block, one for the first that holds it. It is
+    // out of line, so that nothing of it is in a program that calls `allocate` alone.
     #[inline(never)]
     fn serve_tight(&mut self, size: u32, align: u32) -> Option<Allocation<T::Index>>
         requires { 1 ≤ align }
@@ -199,7 +207,8 @@ impl<T: Tables> AllocatorOf<T> {
         ensures accesses { (self.new.accesses ≤ self.old.accesses + 61)
             ⊎ ((CanGrant (blocks_needed align) (units_needed size align) self.old → ⊥)
             × HasRoomFor (blocks_needed align) self.old
-            × (self.new.accesses ≤ self.old.accesses + 134 + 6 * length (listed_from (down size) self.old.order))) }
+            × (self.new.accesses ≤ self.old.accesses + 134
+            + 6 * length (listed_from (down size) self.old.order))) }
         ensures grows { self.old.accesses ≤ self.new.accesses }
         ensures accesses_min { IsSome result → self.old.accesses + 7 ≤ self.new.accesses }
     {
@@ -215,13 +224,14 @@ impl<T: Tables> AllocatorOf<T> {
         }
     }
 
-    /// Grants a range of `size` units, as `allocate` does, and where that is refused it looks further: it takes the first
-    /// block of at least `size` units of the class of `size`, the newest first. So a heap that is nearly full is filled.
+    /// Grants a range of `size` units, as `allocate` does, and where that is refused it looks further: it
+    /// takes the first block of at least `size` units of the class of `size`, the newest first. So a heap
+    /// that is nearly full is filled.
     ///
-    /// `None` is returned where `max_allocs - 1` blocks exist, or where no free block has `size` units; then the space is
-    /// as it was. A request of at least one unit is granted exactly when it is at most the `largest_free_block` of
-    /// `statistics` and there is room for one more block. It takes no memory, and makes at most 140 accesses to the
-    /// tables, and 6 for each free block of the class of `size`.
+    /// `None` is returned where `max_allocs - 1` blocks exist, or where no free block has `size` units; then
+    /// the space is as it was. A request of at least one unit is granted exactly when it is at most the
+    /// `largest_free_block` of `statistics` and there is room for one more block. It takes no memory, and
+    /// makes at most 140 accesses to the tables, and 6 for each free block of the class of `size`.
     ///
     /// ```
     /// space.allocate(300);
@@ -229,19 +239,21 @@ impl<T: Tables> AllocatorOf<T> {
     /// assert!(space.allocate_tight(700).is_some());
     /// ```
     pub fn allocate_tight(&mut self, size: u32) -> Option<Allocation<T::Index>>
-        // A request of at least one unit is granted exactly when there is room for one more block and the largest free
-        // block has `size` units; any request, when there is room, and some free block has `size` units.
+        // A request of at least one unit is granted exactly when there is room for one more block and the
+        // largest free block has `size` units; any request, when there is room, and some free block has
+        // `size` units.
         ensures granted { 1 ≤ size
             → (IsSome result ↔ (HasRoomFor 1 self.old × (size ≤ greatest (free_sizes self.old.blocks)))) }
         ensures can_hold { IsSome result ↔ CanHold size 1 self.old }
         // Where `allocate` grants it, this is its grant.
         ensures plain { CanGrant 1 size self.old → Allocates size self.old self.new result }
-        // A grant gives a name that was not live. Its range has exactly `size` units, lies in the space, and overlaps
-        // no live range. All live ranges stay as they are.
+        // A grant gives a name that was not live. Its range has exactly `size` units, lies in the space, and
+        // overlaps no live range. All live ranges stay as they are.
         ensures grants { IfSome result (Grants size self.old self.new) }
         // A refusal leaves the space as it was.
         ensures same { result ≡ None → SameSpace self.old self.new }
-        // At most 140 accesses to table cells, and 6 for each free block of the class; for a grant at least 7.
+        // At most 140 accesses to table cells, and 6 for each free block of the class; for a grant at least
+        // 7.
         ensures accesses { Costs 0 (140 + 6 * length (bin_at self.old.order (down size)))
             self.old.accesses self.new.accesses }
         ensures accesses_min { IsSome result → self.old.accesses + 7 ≤ self.new.accesses }
@@ -252,13 +264,14 @@ impl<T: Tables> AllocatorOf<T> {
         self.serve_tight(size, 1)
     }
 
-    /// Grants `size` units that begin at a multiple of `align`, a power of two, as `allocate_aligned` does, and where that
-    /// is refused it looks further: through the free blocks from the class of `size` on, class by class, in each the newest
-    /// first, for one that holds `size` units from a multiple of `align` on, at the offset that it has.
+    /// Grants `size` units that begin at a multiple of `align`, a power of two, as `allocate_aligned` does,
+    /// and where that is refused it looks further: through the free blocks from the class of `size` on, class
+    /// by class, in each the newest first, for one that holds `size` units from a multiple of `align` on, at
+    /// the offset that it has.
     ///
-    /// `None` is returned where no free block holds them, or where there is no room for one more block, or for two more if
-    /// `align` is above 1; then the space is as it was. It takes no memory, and makes at most 140 accesses to the tables,
-    /// and 6 for each free block of the class of `size` or above.
+    /// `None` is returned where no free block holds them, or where there is no room for one more block, or
+    /// for two more if `align` is above 1; then the space is as it was. It takes no memory, and makes at most
+    /// 140 accesses to the tables, and 6 for each free block of the class of `size` or above.
     ///
     /// ```
     /// space.allocate(256);
@@ -267,7 +280,8 @@ impl<T: Tables> AllocatorOf<T> {
     /// ```
     pub fn allocate_tight_aligned(&mut self, size: u32, align: u32) -> Option<Allocation<T::Index>>
         requires power { IsAlignment align }
-        // It is granted exactly when there is room for the blocks that it may add, and some free block holds it.
+        // It is granted exactly when there is room for the blocks that it may add, and some free block holds
+        // it.
         ensures can_hold { IsSome result ↔ CanHold size align self.old }
         // Where `allocate_aligned` grants it, this is its grant.
         ensures plain { CanGrant (blocks_needed align) (units_needed size align) self.old
@@ -284,10 +298,10 @@ impl<T: Tables> AllocatorOf<T> {
         self.serve_tight(size, align)
     }
 
-    /// Why `allocate_tight(size)` would be refused now, or `None` exactly where it would be granted. `TooLarge`: the space
-    /// has fewer units. `Space`: so are all free units together, or there are none. `Fragmented`: they are enough, and
-    /// after `compact` the request is granted. It makes at most 2 accesses to the tables, and 6 for each free block of the
-    /// class of `size` or above.
+    /// Why `allocate_tight(size)` would be refused now, or `None` exactly where it would be granted.
+    /// `TooLarge`: the space has fewer units. `Space`: so are all free units together, or there are none.
+    /// `Fragmented`: they are enough, and after `compact` the request is granted. It makes at most 2 accesses
+    /// to the tables, and 6 for each free block of the class of `size` or above.
     ///
     /// ```
     /// space.allocate(300);
@@ -301,9 +315,9 @@ impl<T: Tables> AllocatorOf<T> {
         refusal_tight_counted(self, size, &mut Accesses::new())
     }
 
-    /// Why `allocate_tight_aligned(size, align)` would be refused now, or `None` exactly where it would be granted.
-    /// `align` has to be a power of two. The reasons are those of `refusal_tight`; but after `compact` the request is
-    /// granted only if the free block, where it begins then, holds it.
+    /// Why `allocate_tight_aligned(size, align)` would be refused now, or `None` exactly where it would be
+    /// granted. `align` has to be a power of two. The reasons are those of `refusal_tight`; but after
+    /// `compact` the request is granted only if the free block, where it begins then, holds it.
     ///
     /// ```
     /// space.allocate(300);

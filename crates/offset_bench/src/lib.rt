@@ -1,6 +1,6 @@
-//! Whole runs over one space, each a single C call, which `bench/` measures from Rust: of an allocator with one table of
-//! nodes (`offset`), of one with a table for each field (`by_field`), and of one with tickets (`offset_guarded`). These
-//! functions have no contracts; those that they call are proved.
+//! Whole runs over one space, each a single C call, which `bench/` measures from Rust: of an allocator with
+//! one table of nodes (`offset`), of one with a table for each field (`by_field`), and of one with tickets
+//! (`offset_guarded`). These functions have no contracts; those that they call are proved.
 #![tactic(auto)]
 
 mod space;
@@ -10,8 +10,8 @@ use offset_guarded::Guarded;
 use space::Space;
 use std::alloc::Global;
 
-/// One step of a run: a request of this size where the slot is empty, else the release of its grant. A step past the
-/// last slot resets the space.
+/// One step of a run: a request of this size where the slot is empty, else the release of its grant. A step
+/// past the last slot resets the space.
 #[repr(C)]
 #[derive(Clone, Copy)]
 pub struct Step {
@@ -19,7 +19,8 @@ pub struct Step {
     pub size: u32,
 }
 
-// Plays the steps on a new space, and returns a checksum of their results, or 0 where the space cannot be made.
+// Plays the steps on a new space, and returns a checksum of their results, or 0 where the space cannot be
+// made.
 fn play<S: Space>(alloc: Global, size: u32, max_allocs: u32, slots: usize, steps: &[Step]) -> u64 {
     let Ok(mut space) = S::make(alloc, size, max_allocs) else {
         return 0;

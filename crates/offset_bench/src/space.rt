@@ -15,8 +15,8 @@ pub(crate) trait Space: Drop {
     /// A new space, or an error where the node limit is not admitted, or an allocation fails.
     fn make(alloc: Global, size: u32, max_allocs: u32) -> Result<Self, AllocError>;
 
-    /// Takes a step on a slot: a request of this size where it is empty, else the release of its grant. It returns the
-    /// offset of a grant, 2^32 for a refusal, and 2^33 for a release.
+    /// Takes a step on a slot: a request of this size where it is empty, else the release of its grant. It
+    /// returns the offset of a grant, 2^32 for a refusal, and 2^33 for a release.
     fn take(&mut self, slot: &mut Self::Slot, size: u32) -> u64;
 
     /// Makes the whole space free.
@@ -69,8 +69,8 @@ impl<T: Tables> Space for AllocatorOf<T> {
     }
 }
 
-/// A slot has a ticket, or one with the serial 0, which no grant has: an `Option` of a ticket takes 32 bytes, a ticket
-/// takes 24.
+/// A slot has a ticket, or one with the serial 0, which no grant has: an `Option` of a ticket takes 32 bytes,
+/// a ticket takes 24.
 impl<NI: NodeIndex> Space for Guarded<NI> {
     type Slot = Ticket;
 

@@ -130,8 +130,8 @@ impl<T: Tables> GuardedOf<T> {
         self.space.compact(moved);
     }
 
-    /// Makes room for a request of `size` units, where ranges have to move for it, as `Allocator::make_room` does. Every
-    /// ticket stays live, with its size; `offset_of` returns where its range begins.
+    /// Makes room for a request of `size` units, where ranges have to move for it, as `Allocator::make_room`
+    /// does. Every ticket stays live, with its size; `offset_of` returns where its range begins.
     ///
     /// ```
     /// let hole = guarded.allocate(300).unwrap();

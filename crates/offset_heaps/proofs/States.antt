@@ -1,5 +1,6 @@
 -- The bytes of a state, and the heaps that they are of.
-use Rattle.std.proofs.Common.{◌≡◌, ℕ, zero, suc, ◌+◌, ◌*◌, ◌-◌, ◌^◌, ◌<◌, ◌≤◌, [], ◌∷◌, ◌++◌, length, List, Option, Some, None, IfSome, map, replicate, slice_set, take, drop, get_or, refl, sym, ap, ap₂, ◌∙◌, subst, inl, inr, arith, length-append, ext_get_or, le-ltb}
+use Rattle.std.proofs.Common.{◌≡◌, ℕ, zero, suc, ◌+◌, ◌*◌, ◌-◌, ◌^◌, ◌<◌, ◌≤◌, [], ◌∷◌, ◌++◌, length, List, Option, Some, None, IfSome, map, replicate, slice_set, take, drop, get_or, refl, sym, ap}
+use Rattle.std.proofs.Common.{ap₂, ◌∙◌, subst, inl, inr, arith, length-append, ext_get_or, le-ltb}
 use Rattle.std.proofs.lemmas.Bool.{cases_eq, cases_lt}
 use Rattle.std.proofs.Math.Seq.{drop-append_seam, take-append_seam}
 use Rattle.std.proofs.lemmas.List.{drop-drop, get_or_append_left, get_or-append-add, get_or_push, take_all, length-drop, length-map, length-replicate, take-append-le, drop-append-le}
@@ -17,7 +18,8 @@ use Rattle.offset_heaps.specs.declared.restoring.Header.{Header}
 use Rattle.offset_heaps.specs.Heaps.{Heaps, IsOfKind, slot}
 use Rattle.offset_heaps.specs.Maxima.{cell}
 use Rattle.offset_heaps.specs.Soundness.{IsNoted, IsSound, IsWide}
-use Rattle.offset_heaps.specs.State.{AreRead, AreStatesOf, IsAdmitted, IsHeader, IsHeapAdmitted, IsHeapAt, IsHeapFormed, IsHeapState, IsRestored, IsStateOf, IsWellFormed, SameHeaps, heaps_numbers, quiet}
+use Rattle.offset_heaps.specs.State.{AreRead, AreStatesOf, IsAdmitted, IsHeader, IsHeapAdmitted, IsHeapAt, IsHeapFormed, IsHeapState, IsRestored, IsStateOf, IsWellFormed, SameHeaps, heaps_numbers}
+use Rattle.offset_heaps.specs.State.{quiet}
 use Rattle.offset_heaps.proofs.Numbers.{slot_other, slot_past, slot_same}
 use Rattle.offset_heaps.proofs.Places.{shown}
 use Rattle.offset_heaps.proofs.Sound.{empty_cell}
@@ -42,7 +44,14 @@ started_at limits p slots index count room one two spare =
     let wide : length index.one.keys ≡ p = ap length one ∙ length-replicate {A = ℕ} p 0 in
     let wide_two : length index.two.keys ≡ length index.one.keys = ap length two.0 in
     let wide_spare : length index.spare.keys ≡ length index.one.keys = ap length spare.0 in (
-      record { one = omega (arith, wide, count, room); two = omega (arith, wide, wide_two, count, room); spare = omega (arith, wide, wide_spare, count, room); level_two = two.1; level_spare = spare.1 },
+      record {
+        one = omega (arith, wide, count, room);
+        two = omega (arith, wide, wide_two, count, room);
+        spare = omega (arith, wide, wide_spare, count, room);
+        level_two = two.1;
+        level_spare =
+            spare.1;
+      },
       λ k past. past_noted limits p k slots index one two.0 spare.0 count past,
     )
 

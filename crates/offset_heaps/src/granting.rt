@@ -33,7 +33,8 @@ impl<T: Tables> HeapsOf<T> {
     ghost use Rattle.offset_heaps.specs.Heaps.{IsNext, IsSame};
     ghost use Rattle.offset_heaps.specs.Heaps.{IsSpareLarger, IsSpareUsual, IsUsual, IsWhy, NoneFits};
     ghost use Rattle.offset_heaps.specs.Heaps.{TakesFewSteps};
-    ghost use Rattle.offset_heaps.specs.Heaps.{Adds, IsForRoom, IsOfKind, IsWhyNotMade, last_realm, numbers, room_of};
+    ghost use Rattle.offset_heaps.specs.Heaps.{Adds, IsForRoom, IsOfKind, IsWhyNotMade, last_realm, numbers};
+    ghost use Rattle.offset_heaps.specs.Heaps.{room_of};
 
     // The first heap that has room for a request.
     pub(crate) fn first_fit(&mut self, units: u64, align: u32) -> Option<u32>

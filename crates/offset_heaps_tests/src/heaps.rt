@@ -1,8 +1,8 @@
 //! Growth, larger heaps, dropping, and places that are not live.
 
 use crate::asserts::{assert_same, assert_that};
-use offset_allocator::{ByField, ByNode, Tables};
-use offset_heaps::{Granted, HeapsOf, Limits, Place, Refusal};
+use offset_allocator::{ByField, Tables};
+use offset_heaps::{Granted, Heaps, HeapsOf, Limits, Place, Refusal};
 use std::process::Abort;
 use std::test::Fail;
 
@@ -103,9 +103,9 @@ fn heaps(rt: HostRuntime) -> Result<(), Fail> {
             realm: 0,
         },
     };
-    let mut by_node: HeapsOf<ByNode<u32>> = HeapsOf::new(rt.alloc(), limits, 9)?;
-    expect_growth(&rt, &mut by_node, nowhere);
-    expect_drops(&rt, &mut by_node, nowhere);
+    let mut by_row: Heaps = HeapsOf::new(rt.alloc(), limits, 9)?;
+    expect_growth(&rt, &mut by_row, nowhere);
+    expect_drops(&rt, &mut by_row, nowhere);
     let mut by_field: HeapsOf<ByField<u16>> = HeapsOf::new(rt.alloc(), limits, 9)?;
     expect_growth(&rt, &mut by_field, nowhere);
     expect_drops(&rt, &mut by_field, nowhere);
@@ -120,7 +120,7 @@ fn heaps_are_shown(rt: HostRuntime) -> Result<(), Fail> {
         most: 1,
         most_larger: 0,
     };
-    let heaps: HeapsOf<ByNode<u32>> = HeapsOf::new(rt.alloc(), limits, 9)?;
+    let heaps: Heaps = HeapsOf::new(rt.alloc(), limits, 9)?;
     let text = format!(in rt.alloc(); "{heaps:?}, {}", Refusal::Full)?;
     assert_eq!(rt;
         text.as_str(),

@@ -1,8 +1,8 @@
 //! Heaps that are emptied into others.
 
 use crate::asserts::{assert_same, assert_that};
-use offset_allocator::{ByField, ByNode, Tables};
-use offset_heaps::{HeapsOf, Limits, Place};
+use offset_allocator::{ByField, Tables};
+use offset_heaps::{Heaps, HeapsOf, Limits, Place};
 use std::process::Abort;
 use std::test::Fail;
 
@@ -101,8 +101,8 @@ fn relocation(rt: HostRuntime) -> Result<(), Fail> {
             realm: 0,
         },
     };
-    let mut by_node: HeapsOf<ByNode<u32>> = HeapsOf::new(rt.alloc(), limits, 9)?;
-    expect_pass(&rt, &mut by_node, nowhere);
+    let mut by_row: Heaps = HeapsOf::new(rt.alloc(), limits, 9)?;
+    expect_pass(&rt, &mut by_row, nowhere);
     let mut by_field: HeapsOf<ByField<u16>> = HeapsOf::new(rt.alloc(), limits, 9)?;
     expect_pass(&rt, &mut by_field, nowhere);
     Ok(())

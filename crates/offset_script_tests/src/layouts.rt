@@ -1,7 +1,8 @@
-//! The answers and replies that each layout has to give. The layouts are named here alone, for scripts and for calls:
-//! the proof of a call takes seconds for each of them.
+//! The answers and replies that each layout has to give. The layouts are named here alone, for scripts and
+//! for calls: the proof of a call takes seconds for each of them.
 
 use crate::calls::{List, expect_replies};
+use crate::long_lists::expect_long;
 use crate::playing::expect_with;
 use offset_allocator::{ByField, ByNode, NodeIndex, Tables};
 use offset_script::Script;
@@ -17,12 +18,15 @@ pub enum Trial<'a> {
     Answers(&'a Script, &'a str),
     /// Calls, and the texts of their replies.
     Replies(&'a List),
+    /// Lists of many lengths.
+    Lengths,
 }
 
 fn expect_of<T: Tables>(rt: &impl Abort, alloc: Global, trial: Trial<'_>) {
     match trial {
         Trial::Answers(script, wanted) => expect_with::<T>(rt, alloc, script, wanted),
         Trial::Replies(list) => expect_replies::<T>(rt, alloc, list),
+        Trial::Lengths => expect_long::<T>(rt, alloc),
     }
 }
 
@@ -30,6 +34,7 @@ fn limit_of(trial: Trial<'_>) -> u32 {
     match trial {
         Trial::Answers(script, _) => script.max_allocs,
         Trial::Replies(list) => list.limit,
+        Trial::Lengths => 60_000,
     }
 }
 

@@ -33,7 +33,8 @@ const SPARE: usize = 6;
 
 const WIDTH: usize = 7;
 
-/// One vector of numbers: the masks, the heads, and then seven cells for each node, all of them made at construction.
+/// One vector of numbers: the masks, the heads, and then seven cells for each node, all of them made at
+/// construction.
 #[derive(Drop)]
 pub struct Flat {
     cells: Vec<u64>,

@@ -26,7 +26,8 @@ fn release<T: Tables>(allocator: &mut AllocatorOf<T>, handle: Allocation<T::Inde
     }
 }
 
-// Frees the kept handle, or makes a request where none is kept. It returns the size, the offset, `GONE` or `NONE`.
+// Frees the kept handle, or makes a request where none is kept. It returns the size, the offset, `GONE` or
+// `NONE`.
 fn grant_or_release<T: Tables>(
     allocator: &mut AllocatorOf<T>,
     kept: &mut Option<Allocation<T::Index>>,

@@ -1,7 +1,8 @@
-//! The daily use of an allocator, as `CALLING.md` of `offset_allocator` lists it. Only `lacks_units`, `place_packed`
-//! and `defragment` have a proof file.
+//! The daily use of an allocator, as `CALLING.md` of `offset_allocator` lists it. Only `lacks_units`,
+//! `place_packed` and `defragment` have a proof file.
 
-ghost use Rattle.std.specs.Prelude.{ℕ, ◌≡◌, ◌≢◌, ◌↔◌, ◌⊎◌, ◌+◌, ◌-◌, ◌*◌, ◌<◌, ◌≤◌, ◌%◌, Some, None, false, not, min};
+ghost use Rattle.std.specs.Prelude.{ℕ, ◌≡◌, ◌≢◌, ◌↔◌, ◌⊎◌, ◌+◌, ◌-◌, ◌*◌, ◌<◌, ◌≤◌, ◌%◌, Some, None, false};
+ghost use Rattle.std.specs.Prelude.{not, min};
 ghost use Rattle.std.specs.Prelude.{IfSome, IfOk, IfErr, IsOk, IsSome, IsTrue, length};
 ghost use Rattle.std.specs.Int.{is_power_of_two};
 ghost use Rattle.offset_allocator.specs.View.{used_units, largest_free};
@@ -31,7 +32,8 @@ pub fn insert<T: Tables>(
     ensures refused { result ≡ None
         → KeepsAll vertices.old vertices.new × KeepsAll indices.old indices.new }
     ensures granted { 1 ≤ vertex_count → 1 ≤ index_count
-        → (IsSome result ↔ ((vertex_count ≤ largest_free vertices.old) × (index_count ≤ largest_free indices.old))) }
+        → (IsSome result ↔ ((vertex_count ≤ largest_free vertices.old)
+        × (index_count ≤ largest_free indices.old))) }
     ensures can_grant { IsSome result
         ↔ (CanGrant 1 vertex_count vertices.old × CanGrant 1 index_count indices.old) }
     ensures sizes { (vertices.new.size ≡ vertices.old.size) × (indices.new.size ≡ indices.old.size) }
@@ -63,7 +65,8 @@ pub fn give_back<T: Tables>(space: &mut AllocatorOf<T>, allocation: Allocation<T
 
 /// Allocates a range of bytes at a multiple of `align`, which a graphics device prescribes.
 ///
-/// It returns `None` where `align` is no power of two, or the request is refused. Then no live range has changed.
+/// It returns `None` where `align` is no power of two, or the request is refused. Then no live range has
+/// changed.
 pub fn upload<T: Tables>(
     heap: &mut AllocatorOf<T>,
     size: u32,
@@ -102,9 +105,10 @@ fn lacks_units<T: Tables>(space: &AllocatorOf<T>, size: u32) -> bool
 
 /// Allocates `size` units, in a space that grows by `more` units where too few are free.
 ///
-/// The error says why the request is refused, and so what is left to do: where the space is fragmented, `compact` it;
-/// where no node is left, use another space. Then no live range has changed. Where too few units are free, or the space
-/// is too small, it has grown once, whatever is returned, if it can have that many more.
+/// The error says why the request is refused, and so what is left to do: where the space is fragmented,
+/// `compact` it; where no node is left, use another space. Then no live range has changed. Where too few
+/// units are free, or the space is too small, it has grown once, whatever is returned, if it can have that
+/// many more.
 pub fn place<T: Tables>(
     space: &mut AllocatorOf<T>,
     size: u32,
@@ -139,10 +143,11 @@ fn copy_down(buffer: &mut [u32], from: u32, to: u32, size: u32)
     }
 }
 
-/// Moves all live ranges of a buffer to its front, each with its data. The buffer has to be as long as the space.
+/// Moves all live ranges of a buffer to its front, each with its data. The buffer has to be as long as the
+/// space.
 ///
-/// Every handle stays live, with its size; `allocation_offset` returns where its range begins then. A request that was
-/// refused as fragmented can be granted afterwards.
+/// Every handle stays live, with its size; `allocation_offset` returns where its range begins then. A request
+/// that was refused as fragmented can be granted afterwards.
 pub fn defragment(space: &mut Allocator, buffer: &mut [u32])
     ensures sizes { KeepsSizes space.old space.new }
     ensures data { space.old.size ≤ length buffer.old
@@ -154,10 +159,11 @@ pub fn defragment(space: &mut Allocator, buffer: &mut [u32])
     space.compact(&mut |range: Move| copy_down(buffer, range.from, range.to, range.size));
 }
 
-/// Allocates `size` units of a buffer. Where they are free, but lie apart, it moves all live ranges to the front first.
+/// Allocates `size` units of a buffer. Where they are free, but lie apart, it moves all live ranges to the
+/// front first.
 ///
-/// One compaction is enough, so the error is never `Fragmented`; then nothing has changed. The buffer has to be as long
-/// as the space.
+/// One compaction is enough, so the error is never `Fragmented`; then nothing has changed. The buffer has to
+/// be as long as the space.
 pub fn place_packed(
     space: &mut Allocator,
     buffer: &mut [u32],
@@ -181,11 +187,11 @@ pub fn place_packed(
     }
 }
 
-/// Allocates `size` units of a buffer. Where they are free, but lie apart, it first moves the fewest units that make
-/// room for them, with their data, if these are at most `budget`.
+/// Allocates `size` units of a buffer. Where they are free, but lie apart, it first moves the fewest units
+/// that make room for them, with their data, if these are at most `budget`.
 ///
-/// The error says why the request is refused, as `Fragmented` where more units would have to move; then nothing has
-/// changed. The buffer has to be as long as the space.
+/// The error says why the request is refused, as `Fragmented` where more units would have to move; then
+/// nothing has changed. The buffer has to be as long as the space.
 pub fn place_within(
     space: &mut Allocator,
     buffer: &mut [u32],
@@ -219,8 +225,8 @@ pub fn place_within(
     }
 }
 
-/// The byte at which the vertices of a mesh begin, with `stride` bytes each, as a draw call needs it, or `None` where
-/// the mesh's handle is not live.
+/// The byte at which the vertices of a mesh begin, with `stride` bytes each, as a draw call needs it, or
+/// `None` where the mesh's handle is not live.
 pub fn first_byte<T: Tables>(
     vertices: &AllocatorOf<T>,
     mesh: Allocation<T::Index>,
@@ -234,9 +240,9 @@ pub fn first_byte<T: Tables>(
     Some(u64::from(first) * u64::from(stride))
 }
 
-/// Changes the number of vertices of a mesh in place: it gives the last ones back, or takes those that are free
-/// directly after it. The handle has to be live. It returns whether the mesh has `size` vertices then; if not, nothing
-/// has changed.
+/// Changes the number of vertices of a mesh in place: it gives the last ones back, or takes those that are
+/// free directly after it. The handle has to be live. It returns whether the mesh has `size` vertices then;
+/// if not, nothing has changed.
 pub fn resize<T: Tables>(
     vertices: &mut AllocatorOf<T>,
     mesh: Allocation<T::Index>,
@@ -259,8 +265,8 @@ pub fn resize<T: Tables>(
     }
 }
 
-/// The number of units in live ranges, or `None` where the node limit is reached (`is_full`), since the report is 0, 0
-/// then.
+/// The number of units in live ranges, or `None` where the node limit is reached (`is_full`), since the
+/// report is 0, 0 then.
 pub fn granted_units<T: Tables>(space: &AllocatorOf<T>) -> Option<u32>
     ensures granted { IfSome result (λ n. n ≡ used_units space.now.blocks) }
     ensures full { result ≡ None ↔ (length space.now.blocks + 1 ≡ space.now.max_allocs) }
@@ -300,7 +306,8 @@ impl<T: Tables> Ring<T> {
         }
     }
 
-    /// Allocates a range that is live until the frame after the next one begins, or returns `None` where it is refused.
+    /// Allocates a range that is live until the frame after the next one begins, or returns `None` where it
+    /// is refused.
     pub fn take(&mut self, size: u32) -> Option<Allocation<T::Index>>
         ensures turn { self.new.is_odd ≡ self.old.is_odd }
         ensures odd { IsTrue self.old.is_odd

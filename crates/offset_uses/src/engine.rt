@@ -1,6 +1,7 @@
 //! What engines do beside: requests of one alignment, handles that travel, and several spaces.
 
-ghost use Rattle.std.specs.Prelude.{ℕ, ◌≡◌, ◌≢◌, ◌↔◌, ◌⊎◌, ◌+◌, ◌*◌, ◌/◌, ◌%◌, ◌<◌, ◌≤◌, Some, None, false, IfSome};
+ghost use Rattle.std.specs.Prelude.{ℕ, ◌≡◌, ◌≢◌, ◌↔◌, ◌⊎◌, ◌+◌, ◌*◌, ◌/◌, ◌%◌, ◌<◌, ◌≤◌, Some, None, false};
+ghost use Rattle.std.specs.Prelude.{IfSome};
 ghost use Rattle.std.specs.Prelude.{IsSome, IsTrue, length, slice_index_or};
 ghost use Rattle.std.specs.Int.{is_power_of_two};
 ghost use Rattle.offset_allocator.specs.View.{View, Grant, largest_free};
@@ -11,11 +12,11 @@ ghost use Rattle.offset_uses.specs.Grants.{IsGrantOf};
 use crate::daily::{give_back, upload};
 use offset_allocator::{Allocation, AllocatorOf, NodeIndex, Tables};
 
-/// Allocates bytes at a multiple of 256, of a heap that counts in units of 256 bytes. It returns the handle and the
-/// first byte, or `None` where the request is refused; then no live range has changed.
+/// Allocates bytes at a multiple of 256, of a heap that counts in units of 256 bytes. It returns the handle
+/// and the first byte, or `None` where the request is refused; then no live range has changed.
 ///
-/// No padding is needed, where `allocate_aligned` needs up to 255 bytes a range: a fresh heap of 4,096 units grants
-/// 4,096 requests for 256 bytes.
+/// No padding is needed, where `allocate_aligned` needs up to 255 bytes a range: a fresh heap of 4,096 units
+/// grants 4,096 requests for 256 bytes.
 pub fn upload_units<T: Tables>(
     heap: &mut AllocatorOf<T>,
     bytes: u32,
@@ -34,8 +35,8 @@ pub fn upload_units<T: Tables>(
 
 /// Two uploads of different alignments, both or neither.
 ///
-/// It returns the two handles, or `None` where an alignment is no power of two, the first request is refused, or the
-/// second after it. Then no live range has changed.
+/// It returns the two handles, or `None` where an alignment is no power of two, the first request is refused,
+/// or the second after it. Then no live range has changed.
 pub fn upload_both<T: Tables>(
     heap: &mut AllocatorOf<T>,
     size: u32,
@@ -88,7 +89,8 @@ pub fn free_named<T: Tables>(space: &mut AllocatorOf<T>, name: u32) -> bool
     }
 }
 
-/// Allocates in one of several spaces, or returns `None` where there is no such space or it refuses the request.
+/// Allocates in one of several spaces, or returns `None` where there is no such space or it refuses the
+/// request.
 pub fn take_from<T: Tables>(
     slabs: &mut Vec<AllocatorOf<T>>,
     place: usize,
@@ -97,7 +99,8 @@ pub fn take_from<T: Tables>(
     ensures len { length slabs.new.items ≡ length slabs.old.items }
     ensures none { length slabs.old.items ≤ place → result ≡ None }
     ensures step { (v : View) → place < length slabs.old.items
-        → Allocates size (slice_index_or slabs.old.items place v) (slice_index_or slabs.new.items place v) result }
+        → Allocates size (slice_index_or slabs.old.items place v)
+        (slice_index_or slabs.new.items place v) result }
     ensures others { (k : ℕ) (v : View) → k ≢ place
         → slice_index_or slabs.new.items k v ≡ slice_index_or slabs.old.items k v }
 {

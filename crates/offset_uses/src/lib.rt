@@ -1,10 +1,12 @@
 //! Functions that use `offset_allocator` as an engine would, each with its contract.
 #![tactic(auto)]
 
-ghost use Rattle.std.specs.Prelude.{◌≡◌, ◌≢◌, ◌↔◌, ◌⊎◌, true, false, ◌+◌, ◌<◌, ◌≤◌, ◌%◌, Some, None, IfSome, IsSome};
+ghost use Rattle.std.specs.Prelude.{◌≡◌, ◌≢◌, ◌↔◌, ◌⊎◌, true, false, ◌+◌, ◌<◌, ◌≤◌, ◌%◌, Some, None, IfSome};
+ghost use Rattle.std.specs.Prelude.{IsSome};
 ghost use Rattle.std.specs.Prelude.{IsTrue, IfOk, MatchOption, All, map, min, length};
 ghost use Rattle.offset_allocator.specs.View.{View, Grant, largest_free, total_free};
-ghost use Rattle.offset_allocator.specs.Ranges.{Range, AreDisjoint, IsLive, KeepsOthers, KeepsRanges, range_of};
+ghost use Rattle.offset_allocator.specs.Ranges.{Range, AreDisjoint, IsLive, KeepsOthers, KeepsRanges};
+ghost use Rattle.offset_allocator.specs.Ranges.{range_of};
 ghost use Rattle.offset_allocator.specs.Ranges.{size_of};
 ghost use Rattle.offset_allocator.specs.Requests.{CanGrant};
 ghost use Rattle.offset_allocator.specs.Relations.{Aligns, Allocates, Extends, Frees, SameSpace};
@@ -28,8 +30,8 @@ use std::alloc::{AllocError, Global};
 
 /// Allocates the vertices of a mesh's outer and inner hull, both or neither.
 ///
-/// It returns the two handles, or `None` where the first request is refused, or the second after it. Then the buffer is
-/// as it was, down to the order of its bins.
+/// It returns the two handles, or `None` where the first request is refused, or the second after it. Then the
+/// buffer is as it was, down to the order of its bins.
 pub fn place_mesh<T: Tables>(
     vertices: &mut AllocatorOf<T>,
     outer: u32,
@@ -60,7 +62,8 @@ pub fn place_mesh<T: Tables>(
     }
 }
 
-/// States that the ranges of two live meshes, whose handles have different names, share no vertex. It changes nothing.
+/// States that the ranges of two live meshes, whose handles have different names, share no vertex. It changes
+/// nothing.
 pub fn are_apart<T: Tables>(
     vertices: &AllocatorOf<T>,
     one: Allocation<T::Index>,
@@ -89,8 +92,8 @@ pub fn place_promised<T: Tables>(vertices: &mut AllocatorOf<T>, n: u32) -> Alloc
 
 /// Allocates `n` vertices, or as many as the report promises where these are fewer.
 ///
-/// It returns the handle and the number of vertices, or `None` where the report promises none; then the space is as it
-/// was.
+/// It returns the handle and the number of vertices, or `None` where the report promises none; then the space
+/// is as it was.
 pub fn place_what_fits<T: Tables>(
     vertices: &mut AllocatorOf<T>,
     n: u32,
@@ -113,8 +116,8 @@ pub fn place_what_fits<T: Tables>(
 
 /// Allocates `n` units, and extends the space by `more` units where they are refused at first.
 ///
-/// It returns `None` where the space cannot grow or the second request is refused. In the second case the space has
-/// grown.
+/// It returns `None` where the space cannot grow or the second request is refused. In the second case the
+/// space has grown.
 pub fn allocate_or_grow<T: Tables>(
     space: &mut AllocatorOf<T>,
     n: u32,
@@ -125,7 +128,8 @@ pub fn allocate_or_grow<T: Tables>(
         → IsSome result × Allocates n space.old space.new result }
     ensures refused { 1 ≤ n → result ≡ None → largest_free space.new < n }
     ensures step { (IsSome result × Allocates n space.old space.new result)
-        ⊎ ((v w : View) × Allocates n space.old v None × Extends more v w true × Allocates n w space.new result)
+        ⊎ ((v w : View) × Allocates n space.old v None × Extends more v w true
+        × Allocates n w space.new result)
         ⊎ ((v : View) × Allocates n space.old v None × Extends more v space.new false × (result ≡ None)) }
     ensures kept { KeepsRanges space.old space.new }
 {
@@ -141,7 +145,8 @@ pub fn allocate_or_grow<T: Tables>(
 
 /// Allocates a uniform buffer at a multiple of 256 units, as graphics devices require.
 ///
-/// It returns `None` unless two more blocks may exist and `n + 255` is at most the reported largest free region.
+/// It returns `None` unless two more blocks may exist and `n + 255` is at most the reported largest free
+/// region.
 pub fn place_uniforms<T: Tables>(heap: &mut AllocatorOf<T>, n: u32) -> Option<Allocation<T::Index>>
     ensures step { Aligns n 256 heap.old heap.new result }
     ensures aligned { IfSome result (λ h. h.offset % 256 ≡ 0) }
@@ -164,8 +169,8 @@ pub struct Tenant {
 
 /// Allocates `n` units for a tenant, within its quota.
 ///
-/// It returns `None` where they exceed the quota or the space refuses them. Then the tenant and the space are as they
-/// were.
+/// It returns `None` where they exceed the quota or the space refuses them. Then the tenant and the space are
+/// as they were.
 pub fn charge<T: Tables>(
     space: &mut AllocatorOf<T>,
     tenant: &mut Tenant,
@@ -193,8 +198,8 @@ pub fn charge<T: Tables>(
     Some(allocation)
 }
 
-/// Frees a tenant's range, and subtracts its units from those that the tenant holds. The handle has to be live, and the
-/// tenant has to hold at least the units of its range.
+/// Frees a tenant's range, and subtracts its units from those that the tenant holds. The handle has to be
+/// live, and the tenant has to hold at least the units of its range.
 pub fn refund<T: Tables>(
     space: &mut AllocatorOf<T>,
     tenant: &mut Tenant,
@@ -214,9 +219,10 @@ pub fn refund<T: Tables>(
 
 /// Allocates `n` units for one frame, reads the report, and frees the units again.
 ///
-/// It returns the free units that the report has while they are granted (0 at the node limit), or `None` where the
-/// request is refused. The space is then as it was, after at most 192 accesses to its tables, and at most 8 for the
-/// report, which `count` counts; where it is granted at least 16, and at least 1 where units are left.
+/// It returns the free units that the report has while they are granted (0 at the node limit), or `None`
+/// where the request is refused. The space is then as it was, after at most 192 accesses to its tables, and
+/// at most 8 for the report, which `count` counts; where it is granted at least 16, and at least 1 where
+/// units are left.
 pub fn frame<T: Tables>(space: &mut AllocatorOf<T>, n: u32, count: &mut Accesses) -> Option<u32>
     ensures granted { 1 ≤ n → (IsSome result ↔ (n ≤ largest_free space.old)) }
     ensures can_grant { IsSome result ↔ CanGrant 1 n space.old }

@@ -17,8 +17,9 @@ fn copy_down(bytes: &mut [u8], from: u32, to: u32, size: u32)
     }
 }
 
-/// Slides all live ranges of a heap to its front, with their bytes. The buffer has to have a byte for each unit. Every
-/// handle stays live, and its range holds the same bytes; `allocation_offset` returns where it begins now.
+/// Slides all live ranges of a heap to its front, with their bytes. The buffer has to have a byte for each
+/// unit. Every handle stays live, and its range holds the same bytes; `allocation_offset` returns where it
+/// begins now.
 pub fn defragment(heap: &mut Allocator, bytes: &mut [u8])
     requires whole { heap.old.size ≤ length bytes.old }
     ensures same { (x : ℕ)

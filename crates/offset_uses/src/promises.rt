@@ -1,5 +1,5 @@
-//! Each call that makes or changes an allocator, with every clause of its contract once more: what a caller may rely
-//! on. Where a clause is taken back there, the function here is not proved.
+//! Each call that makes or changes an allocator, with every clause of its contract once more: what a caller
+//! may rely on. Where a clause is taken back there, the function here is not proved.
 
 ghost use Rattle.offset_allocator.specs.Accesses.{Costs};
 ghost use Rattle.offset_allocator.specs.Classes.{down, up, value};
@@ -62,7 +62,8 @@ pub fn reset<T: Tables>(space: &mut AllocatorOf<T>)
     ensures size { space.new.size ≡ space.old.size }
     ensures gone { (x : ℕ) → range_of x space.new ≡ None }
     ensures step { Resets space.old space.new }
-    ensures accesses { Costs 1 (min (130 * used_of space.old.blocks + 2) 270) space.old.accesses space.new.accesses }
+    ensures accesses { Costs 1
+        (min (130 * used_of space.old.blocks + 2) 270) space.old.accesses space.new.accesses }
 {
     space.reset();
 }
@@ -74,7 +75,8 @@ pub fn allocate<T: Tables>(space: &mut AllocatorOf<T>, size: u32) -> Option<Allo
     ensures grants { IfSome result (Grants size space.old space.new) }
     ensures same { result ≡ None → SameSpace space.old space.new }
     ensures nearly { IfSome result (IsSplitNearBest size space.old) }
-    ensures refused { result ≡ None → HasRoomFor 1 space.old → IsGoodRefusal size (free_sizes space.old.blocks) }
+    ensures refused { result ≡ None → HasRoomFor 1 space.old
+        → IsGoodRefusal size (free_sizes space.old.blocks) }
     ensures accesses { Costs 0 64 space.old.accesses space.new.accesses }
     ensures accesses_min { IsSome result → space.old.accesses + 7 ≤ space.new.accesses }
     ensures step { Allocates size space.old space.new result }

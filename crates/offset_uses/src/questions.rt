@@ -1,5 +1,5 @@
-//! Each call that leaves an allocator as it is, with every clause of its contract once more: what a caller may rely on.
-//! Where a clause is taken back there, the function here is not proved.
+//! Each call that leaves an allocator as it is, with every clause of its contract once more: what a caller
+//! may rely on. Where a clause is taken back there, the function here is not proved.
 
 ghost use Rattle.offset_allocator.specs.Beside.{first_live, last_live, live_after, live_before};
 ghost use Rattle.offset_allocator.specs.Classes.{up, value};

@@ -21,7 +21,8 @@ ghost use Rattle.offset_allocator.specs.Tight.{AlignsTight, CanHold, listed_from
 ghost use Rattle.offset_allocator.specs.View.{Grant, bin_at, largest_free, used_of};
 ghost use Rattle.offset_guarded.specs.Guard.{Grants, HasSerialLeft, HasUnits, IsCopy, IsLive, IsSame, IsWhy};
 ghost use Rattle.offset_guarded.specs.Guard.{IsWhyTight, KeepsAll, KeepsLive, KeepsOthers, KeepsSerials};
-ghost use Rattle.offset_guarded.specs.Guard.{KeepsSizes, grant_of, last_serial, range_of, serial_of, ticket_at};
+ghost use Rattle.offset_guarded.specs.Guard.{KeepsSizes, grant_of, last_serial, range_of, serial_of};
+ghost use Rattle.offset_guarded.specs.Guard.{ticket_at};
 ghost use Rattle.offset_guarded.specs.State.{IsNoState, IsRestored, IsStateOf, IsWellFormed};
 ghost use Rattle.offset_allocator.specs.Ranges as named;
 

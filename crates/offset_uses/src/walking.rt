@@ -39,7 +39,8 @@ fn put_block<NI: NodeIndex>(text: &mut String, block: &Block<NI>) -> Result<(), 
     }
 }
 
-/// Writes the blocks of a heap as text, from its end to its start: a line for each, such as `at 16 size 8 used`.
+/// Writes the blocks of a heap as text, from its end to its start: a line for each, such as `at 16 size 8
+/// used`.
 ///
 /// It returns the text, or `AllocError` where an allocation fails.
 pub fn dump<T: Tables>(heap: &AllocatorOf<T>, alloc: Global) -> Result<String, AllocError>

@@ -1,4 +1,5 @@
-//! The layout by node, with each index type. The choice of a type is proved here once, and not anew in each test.
+//! The layout by node, with each index type. The choice of a type is proved here once, and not anew in each
+//! test.
 
 use offset_allocator::{ByNode, Tables};
 use offset_test_base::tiny::Tiny;

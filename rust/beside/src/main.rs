@@ -1,22 +1,11 @@
 //! Makes random calls on the wrapper and on the original, and compares all results.
+#[path = "../../random.rs"]
+mod random;
+
+use random::Random;
 use std::panic::catch_unwind;
 
-/// splitmix64
-struct Random(u64);
-
 impl Random {
-    fn next(&mut self) -> u64 {
-        self.0 = self.0.wrapping_add(0x9e37_79b9_7f4a_7c15);
-        let mut z = self.0;
-        z = (z ^ (z >> 30)).wrapping_mul(0xbf58_476d_1ce4_e5b9);
-        z = (z ^ (z >> 27)).wrapping_mul(0x94d0_49bb_1331_11eb);
-        z ^ (z >> 31)
-    }
-
-    fn below(&mut self, n: u32) -> u32 {
-        (self.next() % u64::from(n)) as u32
-    }
-
     fn any(&mut self) -> u32 {
         let bits = self.below(33);
         (self.next() & ((1 << bits) - 1)) as u32

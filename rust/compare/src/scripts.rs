@@ -1,17 +1,15 @@
 //! Random scripts, with all commands and both widths, some of them damaged.
 
+#[path = "../../random.rs"]
+mod random;
+
 use std::fmt::Write;
 
-struct Random(u64);
+struct Random(random::Random);
 
 impl Random {
-    /// splitmix64
     fn next(&mut self) -> u64 {
-        self.0 = self.0.wrapping_add(0x9e37_79b9_7f4a_7c15);
-        let mut z = self.0;
-        z = (z ^ (z >> 30)).wrapping_mul(0xbf58_476d_1ce4_e5b9);
-        z = (z ^ (z >> 27)).wrapping_mul(0x94d0_49bb_1331_11eb);
-        z ^ (z >> 31)
+        self.0.next()
     }
 
     /// Below n, which is not 0.
@@ -111,7 +109,7 @@ fn damage(random: &mut Random, text: String) -> Vec<u8> {
 
 /// The random text of this number.
 pub fn text(number: u64) -> Vec<u8> {
-    let mut random = Random(number.wrapping_mul(0x2545_f491_4f6c_dd1d));
+    let mut random = Random(random::Random(number.wrapping_mul(0x2545_f491_4f6c_dd1d)));
     let text = script(&mut random);
     if number % 8 == 7 {
         return damage(&mut random, text);

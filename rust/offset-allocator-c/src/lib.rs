@@ -14,7 +14,7 @@ use offset_allocator_guarded::{Guarded, Ticket};
 use offset_allocator_proved::ext::min_allocator_size;
 use offset_allocator_proved::small_float::{float_to_uint, uint_to_float_round_down, uint_to_float_round_up};
 use offset_allocator_proved::{
-    Allocation, Allocator, Global, Move, MovePieces, Piece, Refusal, RoomCost, StateFaultKind,
+    Allocation, Allocator, AllocatorOf, Global, Move, MovePieces, Piece, Refusal, RoomCost, StateFaultKind, Tables,
 };
 
 /// The value of a missing offset or name.
@@ -224,14 +224,14 @@ fn listed(space: &Allocator) -> Option<Box<Blocks>> {
     boxed(listed)
 }
 
-fn short(space: &Allocator) -> Report {
+fn short<T: Tables>(space: &AllocatorOf<T>) -> Report {
     let report = space.storage_report();
     Report { total_free_space: report.total_free_space, largest_free_region: report.largest_free_region }
 }
 
 const NO_REPORT: Report = Report { total_free_space: 0, largest_free_region: 0 };
 
-fn totals(space: &Allocator) -> Totals {
+fn totals<T: Tables>(space: &AllocatorOf<T>) -> Totals {
     let found = space.statistics();
     Totals {
         live_ranges: found.live_ranges,

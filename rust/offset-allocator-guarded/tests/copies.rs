@@ -1,19 +1,10 @@
 //! A copy has the tickets of the space that it was made of, and gives the same answers, tickets included.
 
+#[path = "../../random.rs"]
+mod random;
+
 use offset_allocator_guarded::{Global, Guarded, Ticket};
-
-/// splitmix64
-struct Random(u64);
-
-impl Random {
-    fn below(&mut self, n: u32) -> u32 {
-        self.0 = self.0.wrapping_add(0x9e37_79b9_7f4a_7c15);
-        let mut z = self.0;
-        z = (z ^ (z >> 30)).wrapping_mul(0xbf58_476d_1ce4_e5b9);
-        z = (z ^ (z >> 27)).wrapping_mul(0x94d0_49bb_1331_11eb);
-        ((z ^ (z >> 31)) % u64::from(n)) as u32
-    }
-}
+use random::Random;
 
 // One random call, and its answer.
 fn call(space: &mut Guarded, held: &mut Vec<Ticket>, random: &mut Random) -> (Option<Ticket>, bool) {

@@ -3,8 +3,12 @@
 //! documents alone. They have to agree in every result, in every move of `compact`, in both reports and the statistics, and
 //! in what is live and free after each call. A buffer has a pattern for each live range, and is copied as the moves say.
 
-use offset_allocator::{Allocation, AllocatorOf, ByField, ByNode, Global, Refusal, Tables};
+#[path = "../../random.rs"]
+mod random;
+
+use offset_allocator::{Allocation, AllocatorOf, ByField, ByNode, ByRow, Global, Refusal, Tables};
 use offset_allocator_guarded::{self as guarded, GuardedOf, Ticket};
+use random::Random;
 use std::fmt::Debug;
 
 const HISTORIES: u64 = 40_000;
@@ -13,22 +17,7 @@ const THREADS: u64 = 4;
 /// A space of more units has no buffer.
 const LARGEST_BUFFER: u32 = 4096;
 
-/// splitmix64
-struct Random(u64);
-
 impl Random {
-    fn next(&mut self) -> u64 {
-        self.0 = self.0.wrapping_add(0x9e37_79b9_7f4a_7c15);
-        let mut z = self.0;
-        z = (z ^ (z >> 30)).wrapping_mul(0xbf58_476d_1ce4_e5b9);
-        z = (z ^ (z >> 27)).wrapping_mul(0x94d0_49bb_1331_11eb);
-        z ^ (z >> 31)
-    }
-
-    fn below(&mut self, n: u32) -> u32 {
-        (self.next() % u64::from(n)) as u32
-    }
-
     /// A number of units: often small, sometimes none, sometimes far too many.
     fn units(&mut self, space: u32) -> u32 {
         match self.below(16) {
@@ -794,7 +783,7 @@ fn each_space_and_a_list_of_blocks_agree() {
         let mut met = Met::default();
         for seed in (first..HISTORIES).step_by(THREADS as usize) {
             let mut random = Random(seed);
-            match random.below(8) {
+            match random.below(12) {
                 0 => play::<AllocatorOf<ByNode<u32>>>(&mut random, &mut met),
                 1 => play::<AllocatorOf<ByNode<u16>>>(&mut random, &mut met),
                 2 => play::<AllocatorOf<ByField<u32>>>(&mut random, &mut met),
@@ -802,7 +791,11 @@ fn each_space_and_a_list_of_blocks_agree() {
                 4 => play::<GuardedOf<ByNode<u32>>>(&mut random, &mut met),
                 5 => play::<GuardedOf<ByNode<u16>>>(&mut random, &mut met),
                 6 => play::<GuardedOf<ByField<u32>>>(&mut random, &mut met),
-                _ => play::<GuardedOf<ByField<u16>>>(&mut random, &mut met),
+                7 => play::<GuardedOf<ByField<u16>>>(&mut random, &mut met),
+                8 => play::<AllocatorOf<ByRow<u32>>>(&mut random, &mut met),
+                9 => play::<AllocatorOf<ByRow<u16>>>(&mut random, &mut met),
+                10 => play::<GuardedOf<ByRow<u32>>>(&mut random, &mut met),
+                _ => play::<GuardedOf<ByRow<u16>>>(&mut random, &mut met),
             }
         }
         let count = HISTORIES / THREADS;

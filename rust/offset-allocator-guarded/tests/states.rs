@@ -4,26 +4,13 @@
 //!
 //! `STATES=10000000 cargo test --release --test states` tries as many changed states.
 
-use offset_allocator::{ByField, ByNode, StateFaultKind as SpaceFault, Tables};
+#[path = "../../random.rs"]
+mod random;
+
+use offset_allocator::{ByField, ByNode, ByRow, StateFaultKind as SpaceFault, Tables};
 use offset_allocator_guarded::{Global, GuardedOf, StateFault, StateFaultKind, Ticket};
+use random::Random;
 use std::collections::{BTreeMap, HashMap};
-
-/// splitmix64
-struct Random(u64);
-
-impl Random {
-    fn next(&mut self) -> u64 {
-        self.0 = self.0.wrapping_add(0x9e37_79b9_7f4a_7c15);
-        let mut z = self.0;
-        z = (z ^ (z >> 30)).wrapping_mul(0xbf58_476d_1ce4_e5b9);
-        z = (z ^ (z >> 27)).wrapping_mul(0x94d0_49bb_1331_11eb);
-        z ^ (z >> 31)
-    }
-
-    fn below(&mut self, n: u32) -> u32 {
-        (self.next() % u64::from(n)) as u32
-    }
-}
 
 fn count() -> u64 {
     std::env::var("STATES").map_or(200_000, |it| it.parse().expect("a number"))
@@ -142,6 +129,7 @@ fn goes_on<T: Tables<Index = u32>>(seed: u64, rounds: u64) {
 fn a_space_that_was_read_goes_on_alike() {
     goes_on::<ByNode<u32>>(1, 1_000);
     goes_on::<ByField<u32>>(2, 1_000);
+    goes_on::<ByRow<u32>>(6, 1_000);
 }
 
 // What is wrong with numbers of tickets whose checksum is right, before a space with these live names.

@@ -5,8 +5,12 @@
 //!     cargo test --offline -p offset-allocator-guarded -- --ignored
 //!     cargo test --offline --release -p offset-allocator-guarded -- --ignored
 
+#[path = "../../random.rs"]
+mod random;
+
 use offset_allocator::NodeIndex;
 use offset_allocator_guarded::{Global, Guarded, Refusal, Ticket};
+use random::Xorshift as Numbers;
 use std::collections::HashMap;
 
 const REALM: u32 = 1;
@@ -24,16 +28,7 @@ struct Range {
     size: u32,
 }
 
-struct Numbers(u64);
-
 impl Numbers {
-    fn next(&mut self) -> u64 {
-        self.0 ^= self.0 << 13;
-        self.0 ^= self.0 >> 7;
-        self.0 ^= self.0 << 17;
-        self.0
-    }
-
     fn below(&mut self, limit: u64) -> u64 {
         (self.next() >> 11) % limit
     }

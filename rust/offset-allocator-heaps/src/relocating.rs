@@ -49,8 +49,8 @@ impl<T: Tables> HeapsOf<T> {
     ///
     /// The heap is the first one, by number, that has room, other than the place's own, and in which at least
     /// as many units are live: so calls of `relocate` alone never bring a range back, and none goes to an
-    /// empty heap. None is made, and no memory is taken. The range is what `GuardedOf::allocate` grants there:
-    /// one that was granted at an alignment is given none.
+    /// empty heap. None is made, and no memory is taken. The range is what `GuardedOf::allocate` grants
+    /// there: one that was granted at an alignment is given none.
     ///
     /// `None` is returned where no heap takes the range, and where the place is not live; then nothing
     /// changes. It looks for the first heap that has room as `allocate` does, and from there on reads each

@@ -5,22 +5,17 @@
 //!     cargo test --offline -p offset-allocator-heaps -- --ignored
 //!     cargo test --offline --release -p offset-allocator-heaps -- --ignored
 
-use offset_allocator::{ByField, ByNode, Tables};
-use offset_allocator_heaps::{Global, Granted, HeapsOf, Limits, Place, Refusal};
+#[path = "../../random.rs"]
+mod random;
+
+use offset_allocator::{ByField, ByNode, ByRow, Tables};
+use offset_allocator_heaps::{Global, Granted, Heaps, HeapsOf, Limits, Place, Refusal};
+use random::Xorshift as Numbers;
 use std::collections::{BTreeMap, HashMap};
 
 const REALM: u32 = 7;
 
-struct Numbers(u64);
-
 impl Numbers {
-    fn next(&mut self) -> u64 {
-        self.0 ^= self.0 << 13;
-        self.0 ^= self.0 >> 7;
-        self.0 ^= self.0 << 17;
-        self.0
-    }
-
     fn below(&mut self, limit: u64) -> u64 {
         (self.next() >> 11) % limit
     }
@@ -373,23 +368,24 @@ fn runs<T: Tables>(calls: u64) {
 
 #[test]
 fn random_calls() {
+    runs::<ByRow<u32>>(200_000);
+    runs::<ByRow<u16>>(200_000);
     runs::<ByNode<u32>>(200_000);
-    runs::<ByNode<u16>>(200_000);
     runs::<ByField<u32>>(200_000);
 }
 
 #[test]
 #[ignore = "takes longer"]
 fn two_million_random_calls() {
-    runs::<ByNode<u32>>(2_000_000);
-    runs::<ByNode<u16>>(2_000_000);
+    runs::<ByRow<u32>>(2_000_000);
+    runs::<ByRow<u16>>(2_000_000);
 }
 
 // No heap may be made.
 #[test]
 fn no_heap() {
     let limits = Limits { size: 100, max_allocs: 4, most: 0, most_larger: 0 };
-    let mut heaps = HeapsOf::<ByNode<u32>>::new(Global, limits, 0).unwrap();
+    let mut heaps = Heaps::<u32>::new(Global, limits, 0).unwrap();
     assert_eq!(heaps.allocate(1), Err(Refusal::Full));
     assert_eq!(heaps.allocate(101), Err(Refusal::TooLarge));
     assert_eq!(heaps.allocate(0), Err(Refusal::Empty));
@@ -403,7 +399,7 @@ fn no_heap() {
 #[test]
 fn larger_heaps() {
     let limits = Limits { size: 1_000, max_allocs: 4, most: 1, most_larger: 2 };
-    let mut heaps = HeapsOf::<ByNode<u32>>::new(Global, limits, 3).unwrap();
+    let mut heaps = Heaps::<u32>::new(Global, limits, 3).unwrap();
     // 960 is the largest size of a class below 1,000
     let page = heaps.allocate(960).unwrap();
     assert_eq!((page.place.heap, page.is_new), (0, true));
@@ -426,11 +422,11 @@ fn larger_heaps() {
 #[test]
 #[should_panic(expected = "max_allocs must be at least 4")]
 fn too_few_nodes() {
-    let _ = HeapsOf::<ByNode<u32>>::new(Global, Limits { size: 1, max_allocs: 3, most: 1, most_larger: 0 }, 0);
+    let _ = Heaps::<u32>::new(Global, Limits { size: 1, max_allocs: 3, most: 1, most_larger: 0 }, 0);
 }
 
 #[test]
 #[should_panic(expected = "there may be at most 4294967295 heaps")]
 fn too_many_heaps() {
-    let _ = HeapsOf::<ByNode<u32>>::new(Global, Limits { size: 1, max_allocs: 4, most: u32::MAX, most_larger: 1 }, 0);
+    let _ = Heaps::<u32>::new(Global, Limits { size: 1, max_allocs: 4, most: u32::MAX, most_larger: 1 }, 0);
 }

@@ -4,26 +4,13 @@
 //!
 //! `STATES=10000000 cargo test --release --test states` tries as many changed states.
 
-use offset_allocator::{ByField, ByNode, Tables};
-use offset_allocator_heaps::{Global, HeapsOf, Limits, Place, StateFault, StateFaultKind};
+#[path = "../../random.rs"]
+mod random;
+
+use offset_allocator::{ByField, ByNode, ByRow, Tables};
+use offset_allocator_heaps::{Global, Heaps, HeapsOf, Limits, Place, StateFault, StateFaultKind};
+use random::Random;
 use std::collections::BTreeMap;
-
-/// splitmix64
-struct Random(u64);
-
-impl Random {
-    fn next(&mut self) -> u64 {
-        self.0 = self.0.wrapping_add(0x9e37_79b9_7f4a_7c15);
-        let mut z = self.0;
-        z = (z ^ (z >> 30)).wrapping_mul(0xbf58_476d_1ce4_e5b9);
-        z = (z ^ (z >> 27)).wrapping_mul(0x94d0_49bb_1331_11eb);
-        z ^ (z >> 31)
-    }
-
-    fn below(&mut self, n: u32) -> u32 {
-        (self.next() % u64::from(n)) as u32
-    }
-}
 
 fn count() -> u64 {
     std::env::var("STATES").map_or(100_000, |it| it.parse().expect("a number"))
@@ -142,6 +129,7 @@ fn goes_on<T: Tables<Index = u32>>(seed: u64, rounds: u64) {
 fn heaps_that_were_read_or_copied_go_on_alike() {
     goes_on::<ByNode<u32>>(1, 1_000);
     goes_on::<ByField<u32>>(2, 1_000);
+    goes_on::<ByRow<u32>>(6, 1_000);
 }
 
 const MOST: u64 = 40;
@@ -195,7 +183,7 @@ fn change(numbers: &mut Vec<u64>, random: &mut Random) {
 fn changed_states_are_read_or_refused() {
     let mut random = Random(3);
     let (mut read, mut kinds) = (0u64, BTreeMap::<String, u64>::new());
-    let mut own = worked::<ByNode<u32>>(&mut random);
+    let mut own = worked::<ByRow<u32>>(&mut random);
     let (mut old, mut rest) = parts(&written(&own.heaps));
     for round in 0..count() {
         if round % 16 == 0 {
@@ -206,7 +194,7 @@ fn changed_states_are_read_or_refused() {
         change(&mut numbers, &mut random);
         let state = joined(&numbers, &rest);
         let wanted = fault_of(&numbers, rest.len());
-        match HeapsOf::<ByNode<u32>>::read_state(Global, &state, MOST as u32, MOST as u32).unwrap() {
+        match Heaps::<u32>::read_state(Global, &state, MOST as u32, MOST as u32).unwrap() {
             Err(StateFault { at, kind }) => {
                 assert!(at <= state.len());
                 match wanted {
@@ -259,9 +247,9 @@ fn changed_states_are_read_or_refused() {
 fn changed_bytes_are_refused() {
     let mut random = Random(4);
     for _ in 0..count() / 50 {
-        let own = worked::<ByNode<u32>>(&mut random);
+        let own = worked::<ByRow<u32>>(&mut random);
         let mut state = written(&own.heaps);
-        let read = |state: &[u8]| HeapsOf::<ByNode<u32>>::read_state(Global, state, 100, 100).unwrap();
+        let read = |state: &[u8]| Heaps::<u32>::read_state(Global, state, 100, 100).unwrap();
         let last = 8 * parts(&state).0.len() - 8;
         let cut = random.below(state.len() as u32) as usize;
         let fault = read(&state[..cut]).err().unwrap();
@@ -287,13 +275,13 @@ fn made_up_bytes_are_refused() {
         if length >= 16 && random.below(2) == 0 {
             made[..16].copy_from_slice(b"OAHS\0\0\0\0\x01\0\0\0\0\0\0\0");
         }
-        assert!(HeapsOf::<ByNode<u32>>::read_state(Global, &made, u32::MAX, u32::MAX).unwrap().is_err());
+        assert!(Heaps::<u32>::read_state(Global, &made, u32::MAX, u32::MAX).unwrap().is_err());
     }
     // no limit is a number to request memory by before the caller admits it
     let limits = Limits { size: 10, max_allocs: 100, most: 3, most_larger: 2 };
-    let heaps = HeapsOf::<ByNode<u32>>::new(Global, limits, 7).unwrap();
+    let heaps = Heaps::<u32>::new(Global, limits, 7).unwrap();
     let state = written(&heaps);
-    let fault = |most, allocs| HeapsOf::<ByNode<u32>>::read_state(Global, &state, most, allocs).unwrap().err();
+    let fault = |most, allocs| Heaps::<u32>::read_state(Global, &state, most, allocs).unwrap().err();
     assert_eq!(fault(5, 100), None);
     assert_eq!(fault(5, 99), Some(StateFault { at: 24, kind: StateFaultKind::Limits }));
     assert_eq!(fault(4, 100), Some(StateFault { at: 40, kind: StateFaultKind::Limits }));

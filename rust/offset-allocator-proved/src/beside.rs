@@ -112,8 +112,8 @@ impl<T: Tables> AllocatorOf<T> {
         first_live_counted(self, &mut Accesses::new())
     }
 
-    /// The handle of the live range that is the last one in space, or `None` where none is live. It makes at most 8
-    /// accesses to the tables.
+    /// The handle of the live range that is the last one in space, or `None` where none is live. It makes at
+    /// most 8 accesses to the tables.
     ///
     /// ```
     /// # use offset_allocator_proved::*;
@@ -128,11 +128,12 @@ impl<T: Tables> AllocatorOf<T> {
         last_live_counted(self, &mut Accesses::new())
     }
 
-    /// The handle of the live range directly before that of a handle, with at most a free block between them. `None` where
-    /// there is none, or where the handle is not live, of which only the name counts. It makes at most 8 accesses to the
-    /// tables.
+    /// The handle of the live range directly before that of a handle, with at most a free block between them.
+    /// `None` where there is none, or where the handle is not live, of which only the name counts. It makes
+    /// at most 8 accesses to the tables.
     ///
-    /// From `last_live` on, this walks all live ranges; they may be freed on the way, after the next one is asked for.
+    /// From `last_live` on, this walks all live ranges; they may be freed on the way, after the next one is
+    /// asked for.
     ///
     /// ```
     /// # use offset_allocator_proved::*;
@@ -147,9 +148,9 @@ impl<T: Tables> AllocatorOf<T> {
         live_before_counted(self, allocation, &mut Accesses::new())
     }
 
-    /// The handle of the live range directly after that of a handle, with at most a free block between them. `None` where
-    /// there is none, or where the handle is not live, of which only the name counts. It makes at most 8 accesses to the
-    /// tables.
+    /// The handle of the live range directly after that of a handle, with at most a free block between them.
+    /// `None` where there is none, or where the handle is not live, of which only the name counts. It makes
+    /// at most 8 accesses to the tables.
     ///
     /// ```
     /// # use offset_allocator_proved::*;

@@ -1,7 +1,7 @@
 // Printed by rust/erase from crates/offset_allocator/src/bins.rt: change it there.
 
-//! A bin for each size class: the names of its free blocks, in a list of links between the nodes, with a two-level
-//! mask.
+//! A bin for each size class: the names of its free blocks, in a list of links between the nodes, with a
+//! two-level mask.
 
 use crate::accesses::Accesses;
 use crate::index::{NodeIndex, link_to, no_link, number};
@@ -144,8 +144,8 @@ pub(crate) fn remove<T: Tables>(store: &mut Store<T>, name: u32, size: u32) {
     remove_linked(store, name, newer, size);
 }
 
-/// Removes `gone`, the name of a block of `size` units, from its bin, and pushes `name` onto the bin of `class`. Where
-/// both are one bin and `gone` is its newest, `name` takes its place.
+/// Removes `gone`, the name of a block of `size` units, from its bin, and pushes `name` onto the bin of
+/// `class`. Where both are one bin and `gone` is its newest, `name` takes its place.
 #[inline(always)]
 pub(crate) fn exchange<T: Tables>(store: &mut Store<T>, gone: u32, size: u32, name: u32, class: u32) {
     store.tables.shape();

@@ -9,8 +9,8 @@ use crate::index::{NodeIndex, link_to, mark, no_link, number};
 use crate::tables::Tables;
 use crate::memory::{AllocError, Global};
 
-/// A table for each field of a node. A used block is in no bin: its link to a newer node is the number below the
-/// largest, which names none.
+/// A table for each field of a node. A used block is in no bin: its link to a newer node is the number below
+/// the largest, which names none.
 pub struct ByField<NI: NodeIndex> {
     offset: Vec<u32>,
     size: Vec<u32>,

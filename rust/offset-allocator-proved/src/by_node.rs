@@ -9,9 +9,9 @@ use crate::index::{NodeIndex, link_to, mark, no_link, number};
 use crate::tables::Tables;
 use crate::memory::{AllocError, Global};
 
-/// A block's offset and size, the links to its neighbours in space, and the links to the next nodes of its bin. A link
-/// is the number of a node, or the largest number of its type, which names none. A used block is in no bin: its link to
-/// a newer node is the number below the largest, which names none either.
+/// A block's offset and size, the links to its neighbours in space, and the links to the next nodes of its
+/// bin. A link is the number of a node, or the largest number of its type, which names none. A used block is
+/// in no bin: its link to a newer node is the number below the largest, which names none either.
 #[derive(Clone, Copy)]
 pub(crate) struct Node<NI> {
     pub(crate) offset: u32,
@@ -30,8 +30,8 @@ pub struct ByNode<NI: NodeIndex> {
     masks: [u64; 4],
 }
 
-// The node of a block of no units that is linked to none.
-fn blank<NI: NodeIndex>() -> Node<NI> {
+/// The node of a block of no units that is linked to none.
+pub(crate) fn blank<NI: NodeIndex>() -> Node<NI> {
     let none = no_link::<NI>();
     Node {
         offset: 0,

@@ -63,8 +63,8 @@ pub(crate) fn point_on<T: Tables>(tables: &mut T, link: T::Index, name: u32, cou
     }
 }
 
-/// Splits a block, which has this offset and `whole` units, after `size` units. The remainder becomes a free block
-/// directly after it, under the name that is returned. The caller has read the offset and the units.
+/// Splits a block, which has this offset and `whole` units, after `size` units. The remainder becomes a free
+/// block directly after it, under the name that is returned. The caller has read the offset and the units.
 pub(crate) fn split<T: Tables>(
     store: &mut Store<T>,
     name: u32,
@@ -85,8 +85,8 @@ pub(crate) fn split<T: Tables>(
     rest
 }
 
-/// Coalesces the free block `following` into the block directly before it; `whole` is the size of both. The name
-/// `following` is unused again.
+/// Coalesces the free block `following` into the block directly before it; `whole` is the size of both. The
+/// name `following` is unused again.
 pub(crate) fn coalesce_after<T: Tables>(store: &mut Store<T>, name: u32, following: u32, whole: u32) {
     let tables = &mut store.tables;
     let count = &mut store.accesses;
@@ -98,8 +98,8 @@ pub(crate) fn coalesce_after<T: Tables>(store: &mut Store<T>, name: u32, followi
     store.spare_count += 1;
 }
 
-/// Coalesces the free block `previous` into the block directly after it; `whole` is the size of both. The name
-/// `previous` is unused again.
+/// Coalesces the free block `previous` into the block directly after it; `whole` is the size of both. The
+/// name `previous` is unused again.
 pub(crate) fn coalesce_before<T: Tables>(store: &mut Store<T>, previous: u32, name: u32, whole: u32) {
     let tables = &mut store.tables;
     let count = &mut store.accesses;
@@ -117,8 +117,8 @@ pub(crate) fn set_used<T: Tables>(tables: &mut T, name: u32, used: bool, count: 
     tables.set_used(name, used, count);
 }
 
-/// Splits the first `cut` units off a block. They become a free block directly before it, under the name that is
-/// returned.
+/// Splits the first `cut` units off a block. They become a free block directly before it, under the name that
+/// is returned.
 pub(crate) fn split_before<T: Tables>(store: &mut Store<T>, name: u32, cut: u32) -> u32 {
     let tables = &mut store.tables;
     let count = &mut store.accesses;

@@ -1,7 +1,8 @@
 // Printed by rust/erase from crates/offset_allocator/src/gap.rt: change it there.
 
-//! A free block that is out of the chain while the used blocks after it slide to the front of its units, and the free
-//! ones go into it: so each node is written once. It touches the chain, and leaves the bins as they are.
+//! A free block that is out of the chain while the used blocks after it slide to the front of its units, and
+//! the free ones go into it: so each node is written once. It touches the chain, and leaves the bins as they
+//! are.
 
 use crate::accesses::Accesses;
 use crate::chain::{point_back, point_on};

@@ -1,7 +1,7 @@
 // Printed by rust/erase from crates/offset_allocator/src/gathering.rt: change it there.
 
-//! Makes room for a request: slides the live ranges of a run of blocks to its front, so that its free units are one
-//! block after them.
+//! Makes room for a request: slides the live ranges of a run of blocks to its front, so that its free units
+//! are one block after them.
 
 use crate::compact::{Move, report};
 use crate::gap::Gap;
@@ -12,8 +12,8 @@ use crate::store::Store;
 use crate::tables::Tables;
 use crate::{AllocatorOf, bins, chain, gap};
 
-// Slides the used blocks after a free block to the front, and coalesces it with the free ones, which leave their bins,
-// until the free block `end` is coalesced.
+// Slides the used blocks after a free block to the front, and coalesces it with the free ones, which leave
+// their bins, until the free block `end` is coalesced.
 fn slide_to<T: Tables, F: FnMut(Move<T::Index>)>(
     store: &mut Store<T>,
     name: u32,
@@ -44,18 +44,19 @@ fn slide_to<T: Tables, F: FnMut(Move<T::Index>)>(
 }
 
 impl<T: Tables> AllocatorOf<T> {
-    /// Makes room for a request of `size` units where ranges have to move for it, and then as few as possible: slides
-    /// the live ranges of a run of blocks to its front, so that its free units are one block after them, which is large
-    /// enough. The run is one that costs what `room_cost(size)` returns, which this returns too: ask that first where
-    /// a budget has to be kept. `moved` is called for each range that moves, in space order, as by `compact`: the units
-    /// from `from` on are to be copied to `to`.
+    /// Makes room for a request of `size` units where ranges have to move for it, and then as few as
+    /// possible: slides the live ranges of a run of blocks to its front, so that its free units are one block
+    /// after them, which is large enough. The run is one that costs what `room_cost(size)` returns, which
+    /// this returns too: ask that first where a budget has to be kept. `moved` is called for each range that
+    /// moves, in space order, as by `compact`: the units from `from` on are to be copied to `to`.
     ///
-    /// Every handle stays live, with its name and its size; only the public `offset` of a moved one is that of before.
-    /// Nothing changes, and `moved` is not called, where no range has to move: where `None` is returned, since all free
-    /// units together are not enough, and where the cost has no ranges, since one free block is large enough. Else the
-    /// request is granted afterwards, also at the node limit. For an aligned request ask with `size + align - 1`. Of
-    /// several runs that cost as much it is the last in space; the name of the free block is left open. It makes at
-    /// most 6 accesses to the tables for each block, 40 for each range that moves, and 20, and takes no memory.
+    /// Every handle stays live, with its name and its size; only the public `offset` of a moved one is that
+    /// of before. Nothing changes, and `moved` is not called, where no range has to move: where `None` is
+    /// returned, since all free units together are not enough, and where the cost has no ranges, since one
+    /// free block is large enough. Else the request is granted afterwards, also at the node limit. For an
+    /// aligned request ask with `size + align - 1`. Of several runs that cost as much it is the last in
+    /// space; the name of the free block is left open. It makes at most 6 accesses to the tables for each
+    /// block, 40 for each range that moves, and 20, and takes no memory.
     ///
     /// ```
     /// # use offset_allocator_proved::*;

@@ -31,9 +31,9 @@ impl Walk {
     }
 }
 
-/// How many names are in the bins of four classes, from `class` on. While two lists go on or more, the four are
-/// followed side by side, so that the links of several nodes are on their way from memory at once. The last one is
-/// followed alone.
+/// How many names are in the bins of four classes, from `class` on. While two lists go on or more, the four
+/// are followed side by side, so that the links of several nodes are on their way from memory at once. The
+/// last one is followed alone.
 pub(crate) fn lengths_of<T: Tables>(tables: &T, class: u32, count: &mut Accesses) -> [u32; 4] {
     let mut a = Walk {
         met: 0,

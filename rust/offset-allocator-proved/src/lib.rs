@@ -1,13 +1,14 @@
 // Printed by rust/erase from crates/offset_allocator/src/lib.rt: change it there.
 
-//! Ranges of one contiguous space of `size` units, handed out and taken back with a bounded number of accesses to table
-//! cells. The space itself is never touched.
+//! Hands out ranges of one contiguous space of units, and takes them back, with a bounded number of accesses
+//! to table cells. The space itself is never touched.
 //!
-//! A *block* is a run of units, used or free; no two free blocks are neighbours. Each block has a *node* of the tables,
-//! whose index is the block's *name*; the range of a used block, and its name, are *live*. A *size class* is a range of
-//! sizes, and its *bin* the list of the free blocks of that class, the newest first: that which became free, or got its
-//! present size, last. A range has the name of the free block that it was granted from, and leaves it to the block that
-//! `free` makes; which unused name a new free block has otherwise is left open.
+//! A *block* is a run of units, used or free; no two free blocks are neighbours. Each block has a *node* of
+//! the tables, whose index is the block's *name*; the range of a used block, and its name, are *live*. A
+//! *size class* is a range of sizes, and its *bin* the list of the free blocks of that class, the newest
+//! first, which is the one that last became free or changed its size. A range has the name of the free block
+//! that it was granted from, and leaves it to the block that `free` makes; which unused name a new free block
+//! has otherwise is left open.
 //!
 //! ```
 //! use offset_allocator_proved::*;
@@ -44,6 +45,7 @@ mod blocks;
 mod building;
 mod by_field;
 mod by_node;
+mod by_row;
 mod chain;
 mod compact;
 mod copies;
@@ -77,6 +79,7 @@ pub use accesses::Accesses;
 pub use blocks::{Block, BlocksOf};
 pub use by_field::ByField;
 pub use by_node::ByNode;
+pub use by_row::ByRow;
 pub use compact::Move;
 pub use copies::{MovePieces, Piece};
 pub use handle::Allocation;
@@ -98,9 +101,9 @@ pub type Blocks<'a, NI = u32> = BlocksOf<'a, ByNode<NI>>;
 
 /// The allocator of one space.
 ///
-/// `T` is the layout of its tables; it changes no answer but names that are left open, and `node_count`. The index type
-/// of the layout is the type of the links between nodes: it limits how many nodes there can be, and changes no other
-/// answer either.
+/// `T` is the layout of its tables; it changes no answer but names that are left open, and `node_count`. The
+/// index type of the layout is the type of the links between nodes: it limits how many nodes there can be,
+/// and changes no other answer either.
 pub struct AllocatorOf<T: Tables> {
     // the units of the space
     size: u32,
@@ -112,8 +115,8 @@ pub struct AllocatorOf<T: Tables> {
 }
 
 impl<T: Tables> AllocatorOf<T> {
-    /// A space of `size` units, all free, with the smaller of 131072 and `T::Index::MAX - 2` as the node limit. A node
-    /// costs as much as in `with_max_allocs`.
+    /// A space of `size` units, all free, with the smaller of 131072 and `T::Index::MAX - 2` as the node
+    /// limit. A node costs as much as in `with_max_allocs`.
     ///
     /// # Errors
     ///
@@ -131,11 +134,12 @@ impl<T: Tables> AllocatorOf<T> {
         Self::with_max_allocs(alloc, size, 131072u32.min(T::Index::MAX - 2))
     }
 
-    /// A space of `size` units, all free, with `max_allocs` as the node limit: at most `max_allocs - 1` blocks exist at
-    /// a time, free ones included. A request is granted only while at most `max_allocs - 2` exist, and makes one of
-    /// them live: so at most `max_allocs - 2` grants are live. The limit is 2 to `T::Index::MAX - 2`: 65533 for `u16`,
-    /// 4294967293 for `u32`. `ByNode` and `ByField` reserve 28 bytes a node with `u32`, 18 with `u16`, all of
-    /// them here; those of a node are written when it is made, which `node_count` counts.
+    /// A space of `size` units, all free, with `max_allocs` as the node limit: at most `max_allocs - 1`
+    /// blocks exist at a time, free ones included. A request is granted only while at most `max_allocs - 2`
+    /// exist, and makes one of them live: so at most `max_allocs - 2` grants are live. The limit is 2 to
+    /// `T::Index::MAX - 2`: 65533 for `u16`, 4294967293 for `u32`. `ByNode` and `ByField` reserve 28 bytes a
+    /// node with `u32`, 18 with `u16`, `ByRow` 28 and 20, all of them here; those of a node are written when
+    /// it is made, which `node_count` counts.
     ///
     /// # Errors
     ///
@@ -179,9 +183,9 @@ impl<T: Tables> AllocatorOf<T> {
 
     /// Makes the whole space one free block again, in place. No earlier handle is live then.
     ///
-    /// It takes no memory and always succeeds, and the space keeps what `extend` added. If at most 5 blocks exist, it
-    /// frees each live range; otherwise it forgets all nodes and empties the bins: about 1 KB is written, whatever the
-    /// node limit.
+    /// It takes no memory and always succeeds, and the space keeps what `extend` added. If at most 5 blocks
+    /// exist, it frees each live range; otherwise it forgets all nodes and empties the bins: about 1 KB is
+    /// written, whatever the node limit.
     ///
     /// ```
     /// # use offset_allocator_proved::*;
@@ -195,7 +199,8 @@ impl<T: Tables> AllocatorOf<T> {
     pub fn reset(&mut self) {
         // the invariant bounds the number of blocks
         self.formed();
-        // of at most five blocks at most five are live; to free these takes about as long as to empty the bins
+        // of at most five blocks at most five are live; to free these takes about as long as to empty the
+        // bins
         if self.block_count() <= 5 {
             self.free_all();
         } else {
@@ -243,9 +248,9 @@ impl<T: Tables> AllocatorOf<T> {
         self.store.tables.len() - self.store.spare_count
     }
 
-    /// The number of nodes that were made: each block's name is below it. Contracts leave it open, as some names, and no
-    /// other answer depends on it: `grow_in_place` and a call that may add a block can make it larger by 1 or 2, also
-    /// where they leave the space as it was, and only `reset` makes it smaller.
+    /// The number of nodes that were made: each block's name is below it. Contracts leave it open, as some
+    /// names, and no other answer depends on it: `grow_in_place` and a call that may add a block can make it
+    /// larger by 1 or 2, also where they leave the space as it was, and only `reset` makes it smaller.
     ///
     /// ```
     /// # use offset_allocator_proved::*;
@@ -259,8 +264,9 @@ impl<T: Tables> AllocatorOf<T> {
         self.store.tables.len()
     }
 
-    /// Whether `max_allocs - 1` blocks exist. Then every request is refused, and the short report is 0, 0, until blocks
-    /// coalesce (by `free`, `compact` or `reset`) or `grow_in_place` takes the whole of a free block.
+    /// Whether `max_allocs - 1` blocks exist. Then every request is refused, and the short report is 0, 0,
+    /// until blocks coalesce (by `free`, `compact` or `reset`) or `grow_in_place` takes the whole of a free
+    /// block.
     ///
     /// ```
     /// # use offset_allocator_proved::*;
@@ -274,14 +280,15 @@ impl<T: Tables> AllocatorOf<T> {
         self.block_count() == self.max_allocs - 1
     }
 
-    /// Grants a range of `size` units, and returns its handle. It takes the first `size` units of the newest block
-    /// of the smallest class that has a free block and whose blocks all fit; what remains of the block stays free,
-    /// directly after the range.
+    /// Grants a range of `size` units, and returns its handle. It takes the first `size` units of the newest
+    /// block of the smallest class that has a free block and whose blocks all fit; what remains of the block
+    /// stays free, directly after the range.
     ///
-    /// `None` is returned where `max_allocs - 1` blocks exist, even for an exact fit, or where no free block is of such
-    /// a class; then the space is as it was. A request of at least one unit is granted exactly when it is at most the
-    /// `largest_free_region` that `storage_report` returns just before. One of 0 units takes a node too, and needs a
-    /// free block of any size. It makes at most 64 accesses to the tables, and takes no memory.
+    /// `None` is returned where `max_allocs - 1` blocks exist, even for an exact fit, or where no free block
+    /// is of such a class; then the space is as it was. A request of at least one unit is granted exactly
+    /// when it is at most the `largest_free_region` that `storage_report` returns just before. One of 0 units
+    /// takes a node too, and needs a free block of any size. It makes at most 64 accesses to the tables, and
+    /// takes no memory.
     ///
     /// ```
     /// # use offset_allocator_proved::*;
@@ -296,12 +303,12 @@ impl<T: Tables> AllocatorOf<T> {
         self.serve(size, 1)
     }
 
-    /// Frees the range of a live handle. Its units are free at once, in one block with the free blocks directly before
-    /// and after it, and that block is the newest of its bin.
+    /// Frees the range of a live handle. Its units are free at once, in one block with the free blocks
+    /// directly before and after it, and that block is the newest of its bin.
     ///
-    /// The handle has to be live, which `is_live` reports. Only its name counts, and not its public `offset`: a stale
-    /// handle whose name was granted again is live, and frees that range. It makes at most 128 accesses to the tables,
-    /// and takes no memory.
+    /// The handle has to be live, which `is_live` reports. Only its name counts, and not its public `offset`:
+    /// a stale handle whose name was granted again is live, and frees that range. It makes at most 128
+    /// accesses to the tables, and takes no memory.
     ///
     /// # Panics
     ///
@@ -324,8 +331,8 @@ impl<T: Tables> AllocatorOf<T> {
 
     /// Whether the handle is live here: its name is the name of a used block. `free` asks for exactly this.
     ///
-    /// A handle whose block was freed is live again where a newer grant has its name. It makes at most 8 accesses to
-    /// the tables.
+    /// A handle whose block was freed is live again where a newer grant has its name. It makes at most 8
+    /// accesses to the tables.
     ///
     /// ```
     /// # use offset_allocator_proved::*;
@@ -341,9 +348,9 @@ impl<T: Tables> AllocatorOf<T> {
         reports::is_live_counted(self, allocation, &mut Accesses::new())
     }
 
-    /// The units of the range that a live handle has: exactly those that `allocate`, `allocate_aligned`, `shrink` or
-    /// `grow_in_place` last gave it. It is 0 where the handle is not live, and for a live range of no units too. It
-    /// makes at most 8 accesses to the tables.
+    /// The units of the range that a live handle has: exactly those that `allocate`, `allocate_aligned`,
+    /// `shrink` or `grow_in_place` last gave it. It is 0 where the handle is not live, and for a live range
+    /// of no units too. It makes at most 8 accesses to the tables.
     ///
     /// ```
     /// # use offset_allocator_proved::*;
@@ -357,11 +364,11 @@ impl<T: Tables> AllocatorOf<T> {
         reports::allocation_size_counted(self, allocation, &mut Accesses::new())
     }
 
-    /// Where the range of a live handle begins, in units from the start of the space, or `None` where the handle is not
-    /// live.
+    /// Where the range of a live handle begins, in units from the start of the space, or `None` where the
+    /// handle is not live.
     ///
-    /// The public `offset` of a handle is a copy: a caller may have changed it, `compact` leaves it as it was, and a
-    /// stale handle keeps it. It makes at most 8 accesses to the tables.
+    /// The public `offset` of a handle is a copy: a caller may have changed it, `compact` leaves it as it
+    /// was, and a stale handle keeps it. It makes at most 8 accesses to the tables.
     ///
     /// ```
     /// # use offset_allocator_proved::*;
@@ -375,8 +382,8 @@ impl<T: Tables> AllocatorOf<T> {
         reports::allocation_offset_counted(self, allocation, &mut Accesses::new())
     }
 
-    /// The blocks of the space, used and free, from its end to its start. It takes no memory, and each block costs at
-    /// most 5 accesses to the tables.
+    /// The blocks of the space, used and free, from its end to its start. It takes no memory, and each block
+    /// costs at most 5 accesses to the tables.
     ///
     /// ```
     /// # use offset_allocator_proved::*;
@@ -396,9 +403,10 @@ impl<T: Tables> AllocatorOf<T> {
         }
     }
 
-    /// The free space in short: the units of all free blocks, and the largest request that would be granted, or 0 where
-    /// none of at least one unit would be. Both are 0 where `max_allocs - 1` blocks exist or no block is free, and then
-    /// a request of 0 units is refused too. It makes at most 8 accesses to the tables.
+    /// The free space in short: the units of all free blocks, and the largest request that would be granted,
+    /// or 0 where none of at least one unit would be. Both are 0 where `max_allocs - 1` blocks exist or no
+    /// block is free, and then a request of 0 units is refused too. It makes at most 8 accesses to the
+    /// tables.
     ///
     /// ```
     /// # use offset_allocator_proved::*;
@@ -413,8 +421,8 @@ impl<T: Tables> AllocatorOf<T> {
         reports::storage_report_counted(self, &mut Accesses::new())
     }
 
-    /// The free blocks, class by class, at the node limit too. It makes at most 512 accesses to the tables, and 2 for
-    /// each free block.
+    /// The free blocks, class by class, at the node limit too. It makes at most 512 accesses to the tables,
+    /// and 2 for each free block.
     ///
     /// ```
     /// # use offset_allocator_proved::*;
@@ -447,8 +455,8 @@ impl<T: Tables> AllocatorOf<T> {
 
     /// Why `allocate_aligned(size, align)` would be refused now, or `None` exactly where it would be granted.
     ///
-    /// `align` has to be a power of two. If it is above 1, the request needs room for two more blocks, and a block for
-    /// `size + align - 1` units. It makes at most 8 accesses to the tables.
+    /// `align` has to be a power of two. If it is above 1, the request needs room for two more blocks, and a
+    /// block for `size + align - 1` units. It makes at most 8 accesses to the tables.
     ///
     /// # Panics
     ///
@@ -470,15 +478,15 @@ impl<T: Tables> AllocatorOf<T> {
 
     /// Grants `size` units that begin at a multiple of `align`, a power of two.
     ///
-    /// The block is the one that a request for `size + align - 1` units would take. Its units before the range (the
-    /// padding) and after it (the remainder) stay free. `None` is returned if that request finds no block, if `size +
-    /// align - 1` is above 4294967295, or if `align` is above 1 and there is no room for two more blocks, even if fewer
-    /// would be added. Then the space is as it was. Where padding and remainder are of one class, the remainder is the
-    /// newer one. With `align` 1 the call is `allocate(size)`. It makes at most 128 accesses to the tables, and takes
-    /// no memory.
+    /// The block is the one that a request for `size + align - 1` units would take. Its units before the
+    /// range (the padding) and after it (the remainder) stay free. `None` is returned if that request finds
+    /// no block, if `size + align - 1` is above 4294967295, or if `align` is above 1 and there is no room for
+    /// two more blocks, even if fewer would be added. Then the space is as it was. Where padding and
+    /// remainder are of one class, the remainder is the newer one. With `align` 1 the call is
+    /// `allocate(size)`. It makes at most 128 accesses to the tables, and takes no memory.
     ///
-    /// A fresh space of 1,048,576 units grants 64 KiB at a multiple of 256 only 15 times. Where all requests have one
-    /// alignment, let a unit be as large as that, and call `allocate`: then it grants all 16.
+    /// A fresh space of 1,048,576 units grants 64 KiB at a multiple of 256 only 15 times. Where all requests
+    /// have one alignment, let a unit be as large as that, and call `allocate`: then it grants all 16.
     ///
     /// # Panics
     ///
@@ -499,12 +507,12 @@ impl<T: Tables> AllocatorOf<T> {
         self.serve(size, align)
     }
 
-    /// Adds `more` units at the end of the space: to the last block where that is free, or else as a new free block.
-    /// That block is then the newest of its bin.
+    /// Adds `more` units at the end of the space: to the last block where that is free, or else as a new free
+    /// block. That block is then the newest of its bin.
     ///
-    /// `false` is returned where the space would have more than 4294967295 units, or where its last block is used and
-    /// no further block may exist; then the space is as it was. With 0 units it is `true`, and the space is as it was
-    /// too. It makes at most 128 accesses to the tables, and takes no memory.
+    /// `false` is returned where the space would have more than 4294967295 units, or where its last block is
+    /// used and no further block may exist; then the space is as it was. With 0 units it is `true`, and the
+    /// space is as it was too. It makes at most 128 accesses to the tables, and takes no memory.
     ///
     /// ```
     /// # use offset_allocator_proved::*;

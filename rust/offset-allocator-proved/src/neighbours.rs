@@ -1,6 +1,7 @@
 // Printed by rust/erase from crates/offset_allocator/src/neighbours.rt: change it there.
 
-//! A block and its neighbours: it is coalesced with the free ones, divided or resized, in both halves of a store.
+//! A block and its neighbours: it is coalesced with the free ones, divided or resized, in both halves of a
+//! store.
 
 use crate::accesses::Accesses;
 use crate::small_float::uint_to_float_round_down;
@@ -30,8 +31,8 @@ pub(crate) fn free_after<T: Tables>(tables: &T, name: u32, count: &mut Accesses)
     None
 }
 
-// Removes the free block directly before a block, if there is one, from its bin, and coalesces it into the block. The
-// size of the whole is returned.
+// Removes the free block directly before a block, if there is one, from its bin, and coalesces it into the
+// block. The size of the whole is returned.
 #[inline(always)]
 fn with_before<T: Tables>(store: &mut Store<T>, name: u32, size: u32) -> u32 {
     if let Some(previous) = free_before(&store.tables, name, &mut store.accesses) {
@@ -44,8 +45,8 @@ fn with_before<T: Tables>(store: &mut Store<T>, name: u32, size: u32) -> u32 {
     size
 }
 
-// Removes the free block `next` directly after a block, if there is one, from its bin, and coalesces it into the block.
-// The size of the whole is returned.
+// Removes the free block `next` directly after a block, if there is one, from its bin, and coalesces it into
+// the block. The size of the whole is returned.
 #[inline(always)]
 fn with_after<T: Tables>(store: &mut Store<T>, name: u32, size: u32, next: Option<u32>) -> u32 {
     match next {
@@ -60,8 +61,9 @@ fn with_after<T: Tables>(store: &mut Store<T>, name: u32, size: u32, next: Optio
     }
 }
 
-/// Coalesces a block of this size, which is in no bin, with the free blocks beside it, and pushes the whole onto its
-/// bin. If the neighbour that is coalesced last is the newest of this bin, the block takes its place there.
+/// Coalesces a block of this size, which is in no bin, with the free blocks beside it, and pushes the whole
+/// onto its bin. If the neighbour that is coalesced last is the newest of this bin, the block takes its place
+/// there.
 #[inline(always)]
 pub(crate) fn coalesce<T: Tables>(store: &mut Store<T>, name: u32, size: u32) {
     // `gone` is the neighbour that is coalesced last: it is in its bin until the exchange
@@ -84,8 +86,8 @@ pub(crate) fn coalesce<T: Tables>(store: &mut Store<T>, name: u32, size: u32) {
     bins::exchange(store, gone, more, name, uint_to_float_round_down(whole));
 }
 
-// Splits the first units off a block: they become a free block in its bin, under the name that is returned. Where there
-// are none, nothing changes, and the name returned is that of the block.
+// Splits the first units off a block: they become a free block in its bin, under the name that is returned.
+// Where there are none, nothing changes, and the name returned is that of the block.
 #[inline(always)]
 fn split_padding<T: Tables>(store: &mut Store<T>, name: u32, units: u32) -> u32 {
     if units == 0 {
@@ -96,8 +98,9 @@ fn split_padding<T: Tables>(store: &mut Store<T>, name: u32, units: u32) -> u32 
     front
 }
 
-// Splits a block, of this offset, after `size` units: the units that are left become a free block in its bin, under the
-// name that is returned. Where none are left, nothing changes, and the name returned is that of the block.
+// Splits a block, of this offset, after `size` units: the units that are left become a free block in its bin,
+// under the name that is returned. Where none are left, nothing changes, and the name returned is that of the
+// block.
 #[inline(always)]
 fn split_remainder<T: Tables>(
     store: &mut Store<T>,
@@ -122,8 +125,8 @@ pub(crate) struct Parts {
     pub(crate) left: u32,
 }
 
-/// Splits a block into a free padding, the granted units from `start` on, which are used and keep its name, and a free
-/// remainder. The names of the padding and of the remainder are returned, where these have units.
+/// Splits a block into a free padding, the granted units from `start` on, which are used and keep its name,
+/// and a free remainder. The names of the padding and of the remainder are returned, where these have units.
 #[inline(always)]
 pub(crate) fn divide<T: Tables>(
     store: &mut Store<T>,
@@ -137,8 +140,9 @@ pub(crate) fn divide<T: Tables>(
     (front, rest)
 }
 
-/// Makes a block of `old_size` units one of `size` units, from the same offset on. What remains of it and of the free
-/// block directly after it, whose name is `next`, becomes one free block in its bin, under the name that is returned.
+/// Makes a block of `old_size` units one of `size` units, from the same offset on. What remains of it and of
+/// the free block directly after it, whose name is `next`, becomes one free block in its bin, under the name
+/// that is returned.
 #[inline(always)]
 pub(crate) fn resize<T: Tables>(
     store: &mut Store<T>,

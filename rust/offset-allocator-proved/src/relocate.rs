@@ -1,6 +1,7 @@
 // Printed by rust/erase from crates/offset_allocator/src/relocate.rt: change it there.
 
-//! A second range for what a live one holds, nearer to the start of the space, so that the end of a heap can be emptied.
+//! A second range for what a live one holds, nearer to the start of the space, so that the end of a heap can
+//! be emptied.
 
 use crate::handle::Allocation;
 use crate::small_float::uint_to_float_round_up;
@@ -8,8 +9,8 @@ use crate::tables::Tables;
 use crate::{AllocatorOf, bins};
 
 impl<T: Tables> AllocatorOf<T> {
-    // Where the block begins that a request for `size` units would take, if there is one: where it is granted, its range
-    // begins there.
+    // Where the block begins that a request for `size` units would take, if there is one: where it is
+    // granted, its range begins there.
     fn would_begin(&mut self, size: u32) -> Option<u32> {
         self.store.tables.shape();
         let smallest = uint_to_float_round_up(size);
@@ -23,13 +24,14 @@ impl<T: Tables> AllocatorOf<T> {
         Some(self.store.tables.offset(name, &mut self.store.accesses))
     }
 
-    /// Grants a second range of as many units as that of a live handle, which begins before it, and returns its handle. The
-    /// old range stays live until it is freed: so the units can be copied, and the copies do not overlap, while the old
-    /// ones are still read. Done for the last ranges of a space (`last_live`, `live_before`), it empties the end.
+    /// Grants a second range of as many units as that of a live handle, which begins before it, and returns
+    /// its handle. The old range stays live until it is freed: so the units can be copied, and the copies do
+    /// not overlap, while the old ones are still read. Done for the last ranges of a space (`last_live`,
+    /// `live_before`), it empties the end.
     ///
-    /// The block is the one that `allocate` takes for these units. `None` is returned where that would refuse them, or
-    /// where the block begins after the range; then the space is as it was. The handle has to be live, and only its name
-    /// counts. It makes at most 80 accesses to the tables, and takes no memory.
+    /// The block is the one that `allocate` takes for these units. `None` is returned where that would refuse
+    /// them, or where the block begins after the range; then the space is as it was. The handle has to be
+    /// live, and only its name counts. It makes at most 80 accesses to the tables, and takes no memory.
     ///
     /// # Panics
     ///

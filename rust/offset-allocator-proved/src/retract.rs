@@ -39,11 +39,13 @@ impl<T: Tables> AllocatorOf<T> {
         true
     }
 
-    /// Takes `less` free units off the end of the space, the reverse of `extend`: from the last block, which goes where
-    /// nothing is left of it and another one is before it. What is left of it is the newest of its bin.
+    /// Takes `less` free units off the end of the space, the reverse of `extend`: from the last block, which
+    /// goes where nothing is left of it and another one is before it. What is left of it is the newest of its
+    /// bin.
     ///
-    /// `false` is returned where the last block is used or has fewer units; then the space is as it was. With 0 units it is
-    /// `true`, and the space is as it was too. It makes at most 64 accesses to the tables, and takes no memory.
+    /// `false` is returned where the last block is used or has fewer units; then the space is as it was. With
+    /// 0 units it is `true`, and the space is as it was too. It makes at most 64 accesses to the tables, and
+    /// takes no memory.
     ///
     /// ```
     /// # use offset_allocator_proved::*;

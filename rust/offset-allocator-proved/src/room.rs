@@ -1,7 +1,7 @@
 // Printed by rust/erase from crates/offset_allocator/src/room.rt: change it there.
 
-//! What has to move at least to make room for a request, where the ranges of some neighbouring blocks slide together.
-//! It reads the tables, and changes nothing.
+//! What has to move at least to make room for a request, where the ranges of some neighbouring blocks slide
+//! together. It reads the tables, and changes nothing.
 
 use crate::accesses::Accesses;
 use crate::small_float::{float_to_uint, uint_to_float_round_down, uint_to_float_round_up};
@@ -117,10 +117,10 @@ fn cheaper(known: Option<Run>, run: Run) -> Run {
     }
 }
 
-// The cheapest run with at least `want` free units, of several the one that begins last. The walk goes back over the
-// blocks from the last one on; the window has those that were met, without the last ones, which are no longer needed:
-// from each free block on, the shortest run with enough free units is the cheapest, and ends no later than that of the
-// free block after.
+// The cheapest run with at least `want` free units, of several the one that begins last. The walk goes back
+// over the blocks from the last one on; the window has those that were met, without the last ones, which are
+// no longer needed: from each free block on, the shortest run with enough free units is the cheapest, and
+// ends no later than that of the free block after.
 pub(crate) fn cheapest<T: Tables>(
     tables: &T,
     last: u32,
@@ -188,15 +188,15 @@ pub fn room_cost_counted<T: Tables>(
 }
 
 impl<T: Tables> AllocatorOf<T> {
-    /// What has to move at least so that `allocate(size)` finds its block: the units and the number of the ranges in
-    /// some run of blocks, from one free block to another. Slid to the front of the run, they leave after them one free
-    /// block that is large enough. Of all such runs it is one whose ranges have the fewest units, and of these one that
-    /// has the fewest ranges.
+    /// What has to move at least so that `allocate(size)` finds its block: the units and the number of the
+    /// ranges in some run of blocks, from one free block to another. Slid to the front of the run, they leave
+    /// after them one free block that is large enough. Of all such runs it is one whose ranges have the
+    /// fewest units, and of these one that has the fewest ranges.
     ///
-    /// `None` is returned where all free units together are not enough: `refusal` says `TooLarge` or `Space` then. Both
-    /// numbers are 0 where one free block is large enough: nothing has to move then, though the request is refused at
-    /// the node limit. For an aligned request ask with `size + align - 1`. It makes at most 6 accesses to the tables
-    /// for each block, and 2.
+    /// `None` is returned where all free units together are not enough: `refusal` says `TooLarge` or `Space`
+    /// then. Both numbers are 0 where one free block is large enough: nothing has to move then, though the
+    /// request is refused at the node limit. For an aligned request ask with `size + align - 1`. It makes at
+    /// most 6 accesses to the tables for each block, and 2.
     ///
     /// ```
     /// # use offset_allocator_proved::*;

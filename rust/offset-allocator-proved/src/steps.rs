@@ -23,8 +23,8 @@ pub(crate) fn start<T: Tables>(store: &mut Store<T>, size: u32, max_allocs: u32)
 }
 
 impl<T: Tables> AllocatorOf<T> {
-    /// The name of a live range, or `None` where nothing is live: then the space is as after a reset. Since no two
-    /// neighbours are free, the last used block is the last block or the one before it.
+    /// The name of a live range, or `None` where nothing is live: then the space is as after a reset. Since
+    /// no two neighbours are free, the last used block is the last block or the one before it.
     pub(crate) fn last_used(&mut self) -> Option<u32> {
         let last = self.store.last;
         if chain::is_used(&self.store.tables, last, &mut self.store.accesses) {
@@ -41,8 +41,8 @@ impl<T: Tables> AllocatorOf<T> {
         }
     }
 
-    /// Starts the blocks and the bins anew, each in place. It is out of line, so that `reset` stays small where it is
-    /// inlined.
+    /// Starts the blocks and the bins anew, each in place. It is out of line, so that `reset` stays small
+    /// where it is inlined.
     #[inline(never)]
     pub(crate) fn clear(&mut self) {
         self.store.tables.clear();
@@ -58,14 +58,15 @@ impl<T: Tables> AllocatorOf<T> {
         self.max_allocs - self.block_count()
     }
 
-    /// Whether the node limit admits this number of further blocks. The first test is mostly enough, and costs less.
+    /// Whether the node limit admits this number of further blocks. The first test is mostly enough, and
+    /// costs less.
     #[inline(always)]
     pub(crate) fn has_room_for(&self, blocks: u32) -> bool {
         self.store.spare_count > blocks || self.names_left() > blocks
     }
 
-    /// Grants `size` units of the newest block of a class, beginning at the first multiple of `align` in that block. The
-    /// block has to hold them.
+    /// Grants `size` units of the newest block of a class, beginning at the first multiple of `align` in that
+    /// block. The block has to hold them.
     #[inline(always)]
     pub(crate) fn grant(&mut self, class: u32, size: u32, align: u32) -> Allocation<T::Index> {
         store::ensure_spares(
@@ -89,9 +90,9 @@ impl<T: Tables> AllocatorOf<T> {
         handle_of(start, name)
     }
 
-    /// A request for units from a multiple of `align` on. With `align` 1, which is a constant where this is inlined
-    /// into `allocate`, there is no padding. It may add `align.min(2)` blocks: the remainder, and the padding where
-    /// `align` is above 1.
+    /// A request for units from a multiple of `align` on. With `align` 1, which is a constant where this is
+    /// inlined into `allocate`, there is no padding. It may add `align.min(2)` blocks: the remainder, and the
+    /// padding where `align` is above 1.
     #[inline(always)]
     pub(crate) fn serve(&mut self, size: u32, align: u32) -> Option<Allocation<T::Index>> {
         if !self.has_room_for(align.min(2)) {
@@ -112,8 +113,8 @@ impl<T: Tables> AllocatorOf<T> {
         }
     }
 
-    /// Frees the block of a name. It is inlined into both its callers, so that a program's only call of `free` can be
-    /// inlined whole.
+    /// Frees the block of a name. It is inlined into both its callers, so that a program's only call of
+    /// `free` can be inlined whole.
     #[inline(always)]
     pub(crate) fn release(&mut self, name: u32) {
         let size = self.store.tables.size(name, &mut self.store.accesses);

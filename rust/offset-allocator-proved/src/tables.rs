@@ -1,17 +1,18 @@
 // Printed by rust/erase from crates/offset_allocator/src/tables.rt: change it there.
 
-//! The tables, whatever their layout in memory: no other module reads or writes their cells. A function on single cells
-//! counts each that it touches; `with_capacity` makes tables, `clear` empties them, and neither counts.
+//! The tables, whatever their layout in memory: no other module reads or writes their cells. A function on
+//! single cells counts each that it touches; `with_capacity` makes tables, `clear` empties them, and neither
+//! counts.
 
 use crate::accesses::Accesses;
 use crate::index::NodeIndex;
 use crate::memory::{AllocError, Global};
 
-/// The nodes that were made, the stack of unused names, the newest name of each bin, and the masks of the bins. A node
-/// is made when its name is needed for the first time; the memory for all is reserved before.
+/// The nodes that were made, the stack of unused names, the newest name of each bin, and the masks of the
+/// bins. A node is made when its name is needed for the first time; the memory for all is reserved before.
 ///
-/// A layout is lawful that keeps these contracts: a cell has what was last written, the others stay, and each access is
-/// counted.
+/// A layout is lawful that keeps these contracts: a cell has what was last written, the others stay, and each
+/// access is counted.
 pub trait Tables: Sized {
     /// The type of the links. A link is the number of a node, or the largest number, which names none.
     type Index: NodeIndex;
@@ -19,7 +20,8 @@ pub trait Tables: Sized {
     /// Tables with one node, which is blank, and memory for `capacity` nodes.
     fn with_capacity(alloc: Global, capacity: u32) -> Result<Self, AllocError>;
 
-    /// Leaves one node, which is blank, and the memory. The bins may still name others: `bins::empty` has to follow.
+    /// Leaves one node, which is blank, and the memory. The bins may still name others: `bins::empty` has to
+    /// follow.
     fn clear(&mut self);
 
     /// The number of nodes that were made.
@@ -28,7 +30,8 @@ pub trait Tables: Sized {
     /// Makes one more node, which is blank, and puts its name at a place of the stack of unused names.
     fn add(&mut self, place: u32, count: &mut Accesses);
 
-    /// The tables have their lengths, and links say which nodes are used. A step of proofs, which does nothing.
+    /// The tables have their lengths, and links say which nodes are used. A step of proofs, which does
+    /// nothing.
     fn shape(&self);
 
     /// The link to a node.

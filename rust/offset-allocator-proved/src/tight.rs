@@ -1,7 +1,7 @@
 // Printed by rust/erase from crates/offset_allocator/src/tight.rt: change it there.
 
-//! Requests that take any free block that is large enough: where the first fit by classes finds none, the bins from the
-//! class of the request on are walked.
+//! Requests that take any free block that is large enough: where the first fit by classes finds none, the
+//! bins from the class of the request on are walked.
 
 use crate::accesses::Accesses;
 use crate::handle::Allocation;
@@ -38,7 +38,8 @@ fn first_of_bin<T: Tables>(
     None
 }
 
-// The first name of the bins from the class of `size` units on whose block holds them from a multiple of `align` on.
+// The first name of the bins from the class of `size` units on whose block holds them from a multiple of
+// `align` on.
 fn choose<T: Tables>(
     tables: &T,
     top_mask: u32,
@@ -62,8 +63,8 @@ fn choose<T: Tables>(
     None
 }
 
-/// As `Allocator::refusal_tight_aligned`. The count grows by at most 2, and 6 for each free block of the class of `size`
-/// units or above.
+/// As `Allocator::refusal_tight_aligned`. The count grows by at most 2, and 6 for each free block of the
+/// class of `size` units or above.
 ///
 /// # Panics
 ///
@@ -96,8 +97,8 @@ pub fn refusal_tight_aligned_counted<T: Tables>(
     }
 }
 
-/// As `Allocator::refusal_tight`. The count grows by at most 2, and 6 for each free block of the class of `size` units
-/// or above.
+/// As `Allocator::refusal_tight`. The count grows by at most 2, and 6 for each free block of the class of
+/// `size` units or above.
 pub fn refusal_tight_counted<T: Tables>(
     allocator: &AllocatorOf<T>,
     size: u32,
@@ -137,8 +138,8 @@ impl<T: Tables> AllocatorOf<T> {
         }
     }
 
-    // A request as `serve` takes it, and where that finds no block, one for the first that holds it. It is out of line,
-    // so that nothing of it is in a program that calls `allocate` alone.
+    // A request as `serve` takes it, and where that finds no block, one for the first that holds it. It is
+    // out of line, so that nothing of it is in a program that calls `allocate` alone.
     #[inline(never)]
     fn serve_tight(&mut self, size: u32, align: u32) -> Option<Allocation<T::Index>> {
         match self.serve(size, align) {
@@ -153,13 +154,14 @@ impl<T: Tables> AllocatorOf<T> {
         }
     }
 
-    /// Grants a range of `size` units, as `allocate` does, and where that is refused it looks further: it takes the first
-    /// block of at least `size` units of the class of `size`, the newest first. So a heap that is nearly full is filled.
+    /// Grants a range of `size` units, as `allocate` does, and where that is refused it looks further: it
+    /// takes the first block of at least `size` units of the class of `size`, the newest first. So a heap
+    /// that is nearly full is filled.
     ///
-    /// `None` is returned where `max_allocs - 1` blocks exist, or where no free block has `size` units; then the space is
-    /// as it was. A request of at least one unit is granted exactly when it is at most the `largest_free_block` of
-    /// `statistics` and there is room for one more block. It takes no memory, and makes at most 140 accesses to the
-    /// tables, and 6 for each free block of the class of `size`.
+    /// `None` is returned where `max_allocs - 1` blocks exist, or where no free block has `size` units; then
+    /// the space is as it was. A request of at least one unit is granted exactly when it is at most the
+    /// `largest_free_block` of `statistics` and there is room for one more block. It takes no memory, and
+    /// makes at most 140 accesses to the tables, and 6 for each free block of the class of `size`.
     ///
     /// ```
     /// # use offset_allocator_proved::*;
@@ -175,13 +177,14 @@ impl<T: Tables> AllocatorOf<T> {
         self.serve_tight(size, 1)
     }
 
-    /// Grants `size` units that begin at a multiple of `align`, a power of two, as `allocate_aligned` does, and where that
-    /// is refused it looks further: through the free blocks from the class of `size` on, class by class, in each the newest
-    /// first, for one that holds `size` units from a multiple of `align` on, at the offset that it has.
+    /// Grants `size` units that begin at a multiple of `align`, a power of two, as `allocate_aligned` does,
+    /// and where that is refused it looks further: through the free blocks from the class of `size` on, class
+    /// by class, in each the newest first, for one that holds `size` units from a multiple of `align` on, at
+    /// the offset that it has.
     ///
-    /// `None` is returned where no free block holds them, or where there is no room for one more block, or for two more if
-    /// `align` is above 1; then the space is as it was. It takes no memory, and makes at most 140 accesses to the tables,
-    /// and 6 for each free block of the class of `size` or above.
+    /// `None` is returned where no free block holds them, or where there is no room for one more block, or
+    /// for two more if `align` is above 1; then the space is as it was. It takes no memory, and makes at most
+    /// 140 accesses to the tables, and 6 for each free block of the class of `size` or above.
     ///
     /// # Panics
     ///
@@ -202,10 +205,10 @@ impl<T: Tables> AllocatorOf<T> {
         self.serve_tight(size, align)
     }
 
-    /// Why `allocate_tight(size)` would be refused now, or `None` exactly where it would be granted. `TooLarge`: the space
-    /// has fewer units. `Space`: so are all free units together, or there are none. `Fragmented`: they are enough, and
-    /// after `compact` the request is granted. It makes at most 2 accesses to the tables, and 6 for each free block of the
-    /// class of `size` or above.
+    /// Why `allocate_tight(size)` would be refused now, or `None` exactly where it would be granted.
+    /// `TooLarge`: the space has fewer units. `Space`: so are all free units together, or there are none.
+    /// `Fragmented`: they are enough, and after `compact` the request is granted. It makes at most 2 accesses
+    /// to the tables, and 6 for each free block of the class of `size` or above.
     ///
     /// ```
     /// # use offset_allocator_proved::*;
@@ -220,9 +223,9 @@ impl<T: Tables> AllocatorOf<T> {
         refusal_tight_counted(self, size, &mut Accesses::new())
     }
 
-    /// Why `allocate_tight_aligned(size, align)` would be refused now, or `None` exactly where it would be granted.
-    /// `align` has to be a power of two. The reasons are those of `refusal_tight`; but after `compact` the request is
-    /// granted only if the free block, where it begins then, holds it.
+    /// Why `allocate_tight_aligned(size, align)` would be refused now, or `None` exactly where it would be
+    /// granted. `align` has to be a power of two. The reasons are those of `refusal_tight`; but after
+    /// `compact` the request is granted only if the free block, where it begins then, holds it.
     ///
     /// # Panics
     ///

@@ -1,26 +1,13 @@
 //! What is beside a range, what `relocate` grants, what `retract` takes off, and the pieces of a move, in random spaces on
-//! both layouts, against lists of blocks, a copy that makes the plain request, and bytes that are moved at once.
+//! all layouts, against lists of blocks, a copy that makes the plain request, and bytes that are moved at once.
 //!
 //! `SPACES=1000000 cargo test --release --test ending` tries as many spaces.
 
-use offset_allocator_proved::{Allocation, AllocatorOf, ByField, ByNode, Global, MovePieces, Tables};
+#[path = "../../random.rs"]
+mod random;
 
-/// splitmix64
-struct Random(u64);
-
-impl Random {
-    fn next(&mut self) -> u64 {
-        self.0 = self.0.wrapping_add(0x9e37_79b9_7f4a_7c15);
-        let mut z = self.0;
-        z = (z ^ (z >> 30)).wrapping_mul(0xbf58_476d_1ce4_e5b9);
-        z = (z ^ (z >> 27)).wrapping_mul(0x94d0_49bb_1331_11eb);
-        z ^ (z >> 31)
-    }
-
-    fn below(&mut self, n: u32) -> u32 {
-        (self.next() % u64::from(n)) as u32
-    }
-}
+use offset_allocator_proved::{Allocation, AllocatorOf, ByField, ByNode, ByRow, Global, MovePieces, Tables};
+use random::Random;
 
 fn count() -> u64 {
     std::env::var("SPACES").map_or(20_000, |it| it.parse().expect("a number"))
@@ -125,6 +112,11 @@ fn by_node() {
 #[test]
 fn by_field() {
     spaces::<ByField<u32>>(2);
+}
+
+#[test]
+fn by_row() {
+    spaces::<ByRow<u32>>(4);
 }
 
 #[test]

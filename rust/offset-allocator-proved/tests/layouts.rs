@@ -1,12 +1,12 @@
-//! Both layouts return the same for the same calls, with tables of their own.
-use offset_allocator_proved::{AllocatorOf, Allocation, ByField, ByNode, Global, Move, NodeIndex, Tables};
+//! All layouts return the same for the same calls, with tables of their own.
+#[path = "../../random.rs"]
+mod random;
 
-/// A number from a xorshift generator.
-fn next(state: &mut u64) -> u32 {
-    *state ^= *state << 13;
-    *state ^= *state >> 7;
-    *state ^= *state << 17;
-    (*state >> 32) as u32
+use offset_allocator_proved::{AllocatorOf, Allocation, ByField, ByNode, ByRow, Global, Move, NodeIndex, Tables};
+use random::Xorshift;
+
+fn next(state: &mut Xorshift) -> u32 {
+    (state.next() >> 32) as u32
 }
 
 /// What a history of calls returns, as text: each call, the reports and the blocks after it.
@@ -16,7 +16,7 @@ where
 {
     let mut space: AllocatorOf<T> = AllocatorOf::with_max_allocs(Global, size, max_allocs).unwrap();
     let mut live: Vec<Allocation<T::Index>> = Vec::new();
-    let (mut state, mut lines) = (seed, Vec::new());
+    let (mut state, mut lines) = (Xorshift(seed), Vec::new());
     for _ in 0..3000 {
         let (call, n) = (next(&mut state) % 100, next(&mut state) % 300);
         let place = n as usize % live.len().max(1);
@@ -61,10 +61,11 @@ fn alike<NI: NodeIndex>(size: u32, max_allocs: u32, seed: u64) {
     let lines = history::<ByNode<NI>>(size, max_allocs, seed);
     assert!(lines.iter().any(|l| l.starts_with("Some")) && lines.iter().any(|l| l.starts_with("None")));
     assert_eq!(lines, history::<ByField<NI>>(size, max_allocs, seed));
+    assert_eq!(lines, history::<ByRow<NI>>(size, max_allocs, seed));
 }
 
 #[test]
-fn histories_on_both_layouts_are_alike() {
+fn histories_on_all_layouts_are_alike() {
     for seed in 1..=5 {
         alike::<u32>(10_000, 64, seed);
         alike::<u16>(3_000, 200, seed + 5);

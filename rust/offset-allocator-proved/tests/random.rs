@@ -4,30 +4,19 @@
 //! Only with `debug_assertions`, as `cargo test` builds: a sum that wraps panics then.
 #![cfg(debug_assertions)]
 
+#[path = "../../random.rs"]
+mod random;
+
 use offset_allocator_proved::ext::min_allocator_size;
 use offset_allocator_proved::small_float::{float_to_uint, uint_to_float_round_down, uint_to_float_round_up};
 use offset_allocator_proved::{laws, Accesses, Allocation, Allocator, Global, NodeIndex, NonMaxU16, NonMaxU32, StorageReportFull};
+use random::Random;
 use std::panic::{catch_unwind, AssertUnwindSafe};
 
 const ALLOCATORS: u64 = 300;
 const CALLS: u64 = 400;
 
-/// splitmix64
-struct Random(u64);
-
 impl Random {
-    fn next(&mut self) -> u64 {
-        self.0 = self.0.wrapping_add(0x9e37_79b9_7f4a_7c15);
-        let mut z = self.0;
-        z = (z ^ (z >> 30)).wrapping_mul(0xbf58_476d_1ce4_e5b9);
-        z = (z ^ (z >> 27)).wrapping_mul(0x94d0_49bb_1331_11eb);
-        z ^ (z >> 31)
-    }
-
-    fn below(&mut self, n: u32) -> u32 {
-        (self.next() % u64::from(n)) as u32
-    }
-
     /// A random number: of a random number of bits, beside a power of two, or near the largest.
     fn any(&mut self) -> u32 {
         let bits = self.below(33);

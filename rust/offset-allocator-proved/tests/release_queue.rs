@@ -1,7 +1,10 @@
 //! The arena of the example `release_queue`, with ranges that eight threads use and release.
+#[path = "../../random.rs"]
+mod random;
 #[path = "../examples/release_queue.rs"]
 mod release_queue;
 
+use random::Xorshift;
 use release_queue::{Arena, Range};
 use std::sync::atomic::{AtomicU32, Ordering::SeqCst};
 use std::sync::mpsc::channel;
@@ -12,12 +15,8 @@ use std::sync::mpsc::channel;
 const UNITS: u32 = 1 << 16;
 const THREADS: u32 = 8;
 
-/// Numbers whose order depends on the seed.
-fn random(seed: &mut u64) -> u32 {
-    *seed ^= *seed << 13;
-    *seed ^= *seed >> 7;
-    *seed ^= *seed << 17;
-    (*seed >> 32) as u32
+fn next(random: &mut Xorshift) -> u32 {
+    (random.next() >> 32) as u32
 }
 
 #[test]
@@ -37,13 +36,13 @@ fn eight_threads_release() {
             let (to, ranges) = channel::<Range>();
             let exchange = &exchange;
             scope.spawn(move || {
-                let (mut held, mut seed) = (Vec::<Range>::new(), u64::from(thread));
+                let (mut held, mut random) = (Vec::<Range>::new(), Xorshift(u64::from(thread)));
                 for range in ranges {
                     exchange(&range, 0, thread);
                     held.push(range);
                     // a random one is released, while the owner requests others
                     if held.len() > 30 {
-                        let range = held.swap_remove(random(&mut seed) as usize % held.len());
+                        let range = held.swap_remove(next(&mut random) as usize % held.len());
                         exchange(&range, thread, 0);
                         drop(range);
                     }
@@ -52,9 +51,9 @@ fn eight_threads_release() {
             });
             workers.push(to);
         }
-        let mut seed = 99;
+        let mut random = Xorshift(99);
         for number in 0..RANGES {
-            let size = 1 + random(&mut seed) % 100;
+            let size = 1 + next(&mut random) % 100;
             let range = loop {
                 match arena.request(size) {
                     Some(range) => break range,

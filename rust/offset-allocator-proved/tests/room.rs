@@ -3,25 +3,12 @@
 //!
 //! `SPACES=1000000 cargo test --release --test room` tries as many spaces.
 
+#[path = "../../random.rs"]
+mod random;
+
 use offset_allocator_proved::laws::room_cost_counted;
-use offset_allocator_proved::{Accesses, Allocation, AllocatorOf, Block, ByField, ByNode, Global, Refusal, RoomCost, Tables};
-
-/// splitmix64
-struct Random(u64);
-
-impl Random {
-    fn next(&mut self) -> u64 {
-        self.0 = self.0.wrapping_add(0x9e37_79b9_7f4a_7c15);
-        let mut z = self.0;
-        z = (z ^ (z >> 30)).wrapping_mul(0xbf58_476d_1ce4_e5b9);
-        z = (z ^ (z >> 27)).wrapping_mul(0x94d0_49bb_1331_11eb);
-        z ^ (z >> 31)
-    }
-
-    fn below(&mut self, n: u32) -> u32 {
-        (self.next() % u64::from(n)) as u32
-    }
-}
+use offset_allocator_proved::{Accesses, Allocation, AllocatorOf, Block, ByField, ByNode, ByRow, Global, Refusal, RoomCost, Tables};
+use random::Random;
 
 fn count() -> u64 {
     std::env::var("SPACES").map_or(100_000, |it| it.parse().expect("a number"))
@@ -197,10 +184,10 @@ fn it_is_the_least_cost_of_all_runs() {
     let mut seen = Seen::default();
     for seed in 0..count() {
         let mut random = Random(seed);
-        if seed % 2 == 0 {
-            try_one::<ByNode<u32>>(&mut random, &mut seen);
-        } else {
-            try_one::<ByField<u32>>(&mut random, &mut seen);
+        match seed % 3 {
+            0 => try_one::<ByNode<u32>>(&mut random, &mut seen),
+            1 => try_one::<ByField<u32>>(&mut random, &mut seen),
+            _ => try_one::<ByRow<u32>>(&mut random, &mut seen),
         }
     }
     println!("{seen:?}");

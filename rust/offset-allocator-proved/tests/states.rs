@@ -3,25 +3,12 @@
 //!
 //! `STATES=10000000 cargo test --release --test states` tries as many changed states.
 
+#[path = "../../random.rs"]
+mod random;
+
 use offset_allocator_proved::small_float::uint_to_float_round_down;
-use offset_allocator_proved::{Allocation, AllocatorOf, ByField, ByNode, Global, StateFaultKind, Tables};
-
-/// splitmix64
-struct Random(u64);
-
-impl Random {
-    fn next(&mut self) -> u64 {
-        self.0 = self.0.wrapping_add(0x9e37_79b9_7f4a_7c15);
-        let mut z = self.0;
-        z = (z ^ (z >> 30)).wrapping_mul(0xbf58_476d_1ce4_e5b9);
-        z = (z ^ (z >> 27)).wrapping_mul(0x94d0_49bb_1331_11eb);
-        z ^ (z >> 31)
-    }
-
-    fn below(&mut self, n: u32) -> u32 {
-        (self.next() % u64::from(n)) as u32
-    }
-}
+use offset_allocator_proved::{Allocation, AllocatorOf, ByField, ByNode, ByRow, Global, StateFaultKind, Tables};
+use random::Random;
 
 fn count() -> u64 {
     std::env::var("STATES").map_or(200_000, |it| it.parse().expect("a number"))
@@ -129,6 +116,7 @@ fn goes_on<T: Tables<Index = u32>>(seed: u64, rounds: u64) {
 fn a_copy_and_a_space_that_was_read_go_on_alike() {
     goes_on::<ByNode<u32>>(1, 1_000);
     goes_on::<ByField<u32>>(2, 1_000);
+    goes_on::<ByRow<u32>>(6, 1_000);
 }
 
 // The bytes that a space is written to whose state was read from these: the free names class by class.

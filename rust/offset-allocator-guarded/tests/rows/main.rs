@@ -19,6 +19,7 @@ mod refusals;
 mod reports;
 mod resizing;
 mod room;
+mod sizes;
 mod states;
 mod steps;
 mod texts;

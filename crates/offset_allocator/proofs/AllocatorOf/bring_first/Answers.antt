@@ -1,5 +1,7 @@
-use Rattle.offset_allocator.proofs.Common.{◌≡◌, ◌≤◌, ℕ, Some, ap, ap₂, push, arith, refl, sym, subst, ◌∙◌, down, length, times, bin_at, bins_in, Block, Node, View, Place, ChainCells, HasPlace, IsChain, List}
-use Rattle.offset_allocator.proofs.{Sound.Fields, Sound.shown, Sound.fields_of, Sound.known_sound, Places.placed, Places.at_place, Holding.block_listed, Holding.brought, Holding.place_there, Classes.down_small, Uses.removed_unlisted}
+use Rattle.offset_allocator.proofs.Common.{◌≡◌, ◌≤◌, ℕ, Some, ap, ap₂, push, arith, refl, sym, subst, ◌∙◌, down, length, times, bin_at, bins_in, Block, Node, View, Place, ChainCells, HasPlace}
+use Rattle.offset_allocator.proofs.Common.{IsChain, List}
+use Rattle.offset_allocator.proofs.{Sound.Fields, Sound.shown, Sound.fields_of, Sound.known_sound, Places.placed, Places.at_place, Holding.block_listed, Holding.brought, Holding.place_there}
+use Rattle.offset_allocator.proofs.{Classes.down_small, Uses.removed_unlisted}
 use Rattle.offset_allocator.proofs.AllocatorOf.bring_first.Goals as goal
 use Rattle.offset_allocator.proofs.AllocatorOf.bring_first.{Goals.After-self, Given.Over}
 

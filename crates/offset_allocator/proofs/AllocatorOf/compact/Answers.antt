@@ -1,4 +1,5 @@
-use Rattle.offset_allocator.proofs.Common.{◌≡◌, ℕ, ◌+◌, ◌*◌, ◌≤◌, List, Block, length, length-append, ◌∷◌, [], refl, sym, ap, subst, ◌∙◌, arith, replicate, Place, View, units, free_sizes, BinCells, Node, bins_in, blocks, live, moves, KeepsSizes}
+use Rattle.offset_allocator.proofs.Common.{◌≡◌, ℕ, ◌+◌, ◌*◌, ◌≤◌, List, Block, length, length-append, ◌∷◌, [], refl, sym, ap, subst, ◌∙◌, arith, replicate, Place, View, units, free_sizes, BinCells}
+use Rattle.offset_allocator.proofs.Common.{Node, bins_in, blocks, live, moves, KeepsSizes}
 use Rattle.offset_allocator.proofs.Common.{Compacts, common_steps}
 use Rattle.offset_allocator.proofs.Sound.{AreSound, Fields, shown, fields_of, known_sound}
 use Rattle.offset_allocator.proofs.Compacting.{IsFirst, first_is, packed, compacts_live, first_held, packs, stays_packed}
@@ -107,8 +108,34 @@ counted g c =
     let all = ap (λ (u : View). length u.blocks) c.self.view_is in
     let old = ap (λ (u : View). u.accesses) c.self.view_is in
     let few = newest_few 32 (bins_in g.T.Index.NodeIndex.MAX (g.T.Tables.cells c.self.inside.store.tables).bins) in (
-      omega (arith, n, until, all, old, least, c.search_start-start.ensures.accesses, c.first_free.ensures.accesses, c.first_free.ensures.least, c.size-size.ensures.accesses, c.empty.ensures.accesses, c.push.ensures.accesses),
-      omega (arith, n, all, old, e.3, few, c.search_start-start.ensures.accesses, c.first_free.ensures.accesses, c.first_free.ensures.most, c.size-size.ensures.accesses, c.empty.ensures.accesses, c.push.ensures.accesses),
+      omega (
+        arith,
+        n,
+        until,
+        all,
+        old,
+        least,
+        c.search_start-start.ensures.accesses,
+        c.first_free.ensures.accesses,
+        c.first_free.ensures.least,
+        c.size-size.ensures.accesses,
+        c.empty.ensures.accesses,
+        c.push.ensures.accesses,
+      ),
+      omega (
+        arith,
+        n,
+        all,
+        old,
+        e.3,
+        few,
+        c.search_start-start.ensures.accesses,
+        c.first_free.ensures.accesses,
+        c.first_free.ensures.most,
+        c.size-size.ensures.accesses,
+        c.empty.ensures.accesses,
+        c.push.ensures.accesses,
+      ),
     )
 
 pub returns-clause-accesses : goal.returns-clause-accesses

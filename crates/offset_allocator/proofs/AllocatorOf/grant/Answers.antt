@@ -1,4 +1,5 @@
-use Rattle.offset_allocator.proofs.Common.{◌≡◌, ◌+◌, ◌-◌, ◌≤◌, ◌<◌, ◌^◌, ◌∙◌, ℕ, ap, arith, refl, subst, sym, up, Node, View, padding_to, IsFoundFrom, Some, HasRoomFor, blocks_needed, units, bin_at, ◌≢◌, [], ◌∷◌}
+use Rattle.offset_allocator.proofs.Common.{◌≡◌, ◌+◌, ◌-◌, ◌≤◌, ◌<◌, ◌^◌, ◌∙◌, ℕ, ap, arith, refl, subst, sym, up, Node, View, padding_to, IsFoundFrom, Some, HasRoomFor, blocks_needed, units, bin_at}
+use Rattle.offset_allocator.proofs.Common.{◌≢◌, [], ◌∷◌}
 use Rattle.offset_allocator.specs.Tight.{HoldsFirst}
 use Rattle.offset_allocator.proofs.Common.{Splits}
 use Rattle.offset_allocator.proofs.Sound.{shown, AreSound, Fields, fields_of}
@@ -25,7 +26,8 @@ holding : (g : Over) (c : After-pop-name g)
     → padding_to c.args.align (units (got (call g c)).place.before) + c.args.size ≤ (got (call g c)).place.block.size
 holding g c =
     let p = call g c in
-    subst (HoldsFirst c.args.class c.args.size c.args.align) (sym (made_shown (fields_of g.T.Tables.cells g.T.Index.NodeIndex.MAX c.self.inside) c.self.invariant c.ensure_spares.ensures.readies ∙ c.self.view_is)) c.requires.holds
+    subst (HoldsFirst c.args.class c.args.size c.args.align)
+    (sym (made_shown (fields_of g.T.Tables.cells g.T.Index.NodeIndex.MAX c.self.inside) c.self.invariant c.ensure_spares.ensures.readies ∙ c.self.view_is)) c.requires.holds
     (got p).place p.older (got p).list_is (p.newest ∙ ap (λ y. y ∷ p.older) (sym (got p).name))
 
 two : (align o : ℕ) → 1 ≤ padding_to align o → 2 ≤ blocks_needed align
@@ -35,7 +37,9 @@ pub pop-name-requires-clause-binned : goal.pop-name-requires-clause-binned
 pop-name-requires-clause-binned g c = (c.ensure_spares.ensures.readies.bins _ c.self.invariant.bins).0
 
 pub pop-name-requires-clause-some : goal.pop-name-requires-clause-some
-pop-name-requires-clause-some g c = subst (λ (u : View). bin_at u.order c.args.class ≢ []) (sym (made_shown (fields_of g.T.Tables.cells g.T.Index.NodeIndex.MAX c.self.inside) c.self.invariant c.ensure_spares.ensures.readies ∙ c.self.view_is)) c.requires.filled
+pop-name-requires-clause-some g c =
+    subst (λ (u : View). bin_at u.order c.args.class ≢ [])
+    (sym (made_shown (fields_of g.T.Tables.cells g.T.Index.NodeIndex.MAX c.self.inside) c.self.invariant c.ensure_spares.ensures.readies ∙ c.self.view_is)) c.requires.filled
 
 pub offset-offset-requires : goal.offset-offset-requires
 offset-offset-requires g c = (kept_place c.pop-name.ensures.chain (held (call g (goal.at.offset-offset-requires g c).After-pop-name) refl)).below
@@ -43,7 +47,9 @@ offset-offset-requires g c = (kept_place c.pop-name.ensures.chain (held (call g 
 pub size-whole-requires : goal.size-whole-requires
 size-whole-requires g c = (kept_place c.pop-name.ensures.chain (held (call g (goal.at.size-whole-requires g c).After-pop-name) refl)).below
 
-fits : (g : Over) (c : After-size-whole g) (p : Call (with_made (fields_of g.T.Tables.cells g.T.Index.NodeIndex.MAX c.self.inside) (g.T.Tables.cells c.ensure_spares.new.tables) c.ensure_spares.new.spare_count) c.args.class c.pop-name.result)
+fits : (g : Over) (c : After-size-whole g)
+    (p : Call (with_made (fields_of g.T.Tables.cells g.T.Index.NodeIndex.MAX c.self.inside) (g.T.Tables.cells c.ensure_spares.new.tables) c.ensure_spares.new.spare_count) c.args.class
+    c.pop-name.result)
     → padding_to c.args.align (units (got p).place.before) + c.args.size ≤ (got p).place.block.size
     → padding_to c.args.align c.offset-offset.result + c.args.size ≤ c.size-whole.result
 fits g c p h = rw (c.offset-offset.ensures.cell, c.size-whole.ensures.cell, at_place (kept_place c.pop-name.ensures.chain (held p refl))) h
@@ -57,7 +63,8 @@ divide-requires-clause-place g c =
     (_, _, kept_place c.pop-name.ensures.chain (held p refl), rw c.pop-name.ensures.lists (unlisted p))
 
 pub divide-requires-clause-whole : goal.divide-requires-clause-whole
-divide-requires-clause-whole g c = let at = goal.at.divide-requires-clause-whole g c in omega (arith, c.size-whole.ensures.cell, fits g at.After-size-whole (call g at.After-pop-name) (holding g at.After-pop-name))
+divide-requires-clause-whole g c = let at = goal.at.divide-requires-clause-whole g c in
+    omega (arith, c.size-whole.ensures.cell, fits g at.After-size-whole (call g at.After-pop-name) (holding g at.After-pop-name))
 
 pub divide-requires-clause-unlisted : goal.divide-requires-clause-unlisted
 divide-requires-clause-unlisted g c =
@@ -83,7 +90,9 @@ overflow_add-start g c =
     omega (arith, small)
 
 -- the fields that are left, and what was split
-done : (g : Over) (c : After-divide g) (p : Call (with_made (fields_of g.T.Tables.cells g.T.Index.NodeIndex.MAX c.self.inside) (g.T.Tables.cells c.ensure_spares.new.tables) c.ensure_spares.new.spare_count) c.args.class c.pop-name.result)
+done : (g : Over) (c : After-divide g)
+    (p : Call (with_made (fields_of g.T.Tables.cells g.T.Index.NodeIndex.MAX c.self.inside) (g.T.Tables.cells c.ensure_spares.new.tables) c.ensure_spares.new.spare_count) c.args.class
+    c.pop-name.result)
     → padding_to c.args.align (units (got p).place.before) + c.args.size ≤ (got p).place.block.size → (k : ℕ) (f : Fields)
     → f ≡ record (fields_of g.T.Tables.cells g.T.Index.NodeIndex.MAX c.self.inside) {
       cells = (g.T.Tables.cells c.divide.new.store.tables);
@@ -94,8 +103,10 @@ done : (g : Over) (c : After-divide g) (p : Call (with_made (fields_of g.T.Table
       accesses = k;
     }
     → AreSound f
-    × ((needed : ℕ) → IsFoundFrom (up needed) (shown (with_made (fields_of g.T.Tables.cells g.T.Index.NodeIndex.MAX c.self.inside) (g.T.Tables.cells c.ensure_spares.new.tables) c.ensure_spares.new.spare_count)).order (Some c.args.class)
-    → Splits needed c.args.size (padding_to c.args.align) (shown (with_made (fields_of g.T.Tables.cells g.T.Index.NodeIndex.MAX c.self.inside) (g.T.Tables.cells c.ensure_spares.new.tables) c.ensure_spares.new.spare_count)) (shown f)
+    × ((needed : ℕ) → IsFoundFrom (up needed)
+    (shown (with_made (fields_of g.T.Tables.cells g.T.Index.NodeIndex.MAX c.self.inside) (g.T.Tables.cells c.ensure_spares.new.tables) c.ensure_spares.new.spare_count)).order (Some c.args.class)
+    → Splits needed c.args.size (padding_to c.args.align)
+    (shown (with_made (fields_of g.T.Tables.cells g.T.Index.NodeIndex.MAX c.self.inside) (g.T.Tables.cells c.ensure_spares.new.tables) c.ensure_spares.new.spare_count)) (shown f)
     (record { name = c.pop-name.result; offset = c.offset-offset.result + padding_to c.args.align c.offset-offset.result }))
 done g c p holds k f e =
     let h = kept_place c.pop-name.ensures.chain (held p refl) in
@@ -103,7 +114,8 @@ done g c p holds k f e =
     let oe = c.offset-offset.ensures.cell ∙ ap (λ (v : Node). v.offset) at in
     let we = c.size-whole.ensures.cell ∙ ap (λ (v : Node). v.size) at in
     let place = c.divide.ensures.place _ _ h in
-    let room = subst (HasRoomFor (blocks_needed c.args.align)) (sym (made_shown (fields_of g.T.Tables.cells g.T.Index.NodeIndex.MAX c.self.inside) c.self.invariant c.ensure_spares.ensures.readies ∙ c.self.view_is)) c.requires.enough in
+    let room = subst (HasRoomFor (blocks_needed c.args.align))
+    (sym (made_shown (fields_of g.T.Tables.cells g.T.Index.NodeIndex.MAX c.self.inside) c.self.invariant c.ensure_spares.ensures.readies ∙ c.self.view_is)) c.requires.enough in
     rw (e, oe) (granted p c.args.size (padding_to c.args.align) holds (blocks_needed c.args.align) room (omega (arith, c.requires.some))
     (two c.args.align) _ _ _ _ _ (rw (oe, we) at place) c.divide.ensures.binned (rw (oe, we, c.pop-name.ensures.lists) at c.divide.ensures.lists))
 
@@ -115,7 +127,8 @@ returns-clause-step g c needed found =
     let at = goal.at.returns-clause-step g c in
     let seen = (made_shown (fields_of g.T.Tables.cells g.T.Index.NodeIndex.MAX c.self.inside) c.self.invariant c.ensure_spares.ensures.readies ∙ c.self.view_is) in
     rw (c.handle_of.ensures, ← seen)
-    ((done g at.After-divide (call g at.After-pop-name) (holding g at.After-pop-name) c.divide.new.store.accesses _ refl).1 needed (subst (λ (u : View). IsFoundFrom (up needed) u.order (Some c.args.class)) (sym seen) found))
+    ((done g at.After-divide (call g at.After-pop-name) (holding g at.After-pop-name) c.divide.new.store.accesses _ refl).1 needed
+    (subst (λ (u : View). IsFoundFrom (up needed) u.order (Some c.args.class)) (sym seen) found))
 
 pub overflow_add-parts : goal.overflow_add-parts
 overflow_add-parts g c = let at = goal.at.overflow_add-parts g c in omega (arith, fits g at.After-size-whole (call g at.After-pop-name) (holding g at.After-pop-name))

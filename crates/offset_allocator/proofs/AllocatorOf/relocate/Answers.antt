@@ -6,19 +6,27 @@ use Rattle.offset_allocator.proofs.AllocatorOf.relocate.Goals as goal
 use Rattle.offset_allocator.proofs.AllocatorOf.relocate.{Goals.After-would_begin, Goals.After-serve, Given.Over}
 
 pub size-size-requires : goal.size-size-requires
-size-size-requires g c = live_below (fields_of g.T.Tables.cells g.T.Index.NodeIndex.MAX c.self.inside) _ c.self.invariant _ c.self.view_is (subst (λ (x : ℕ). IsLive x c.args.self.now) (sym c.name-name.ensures.number) c.requires.live)
+size-size-requires g c =
+    live_below (fields_of g.T.Tables.cells g.T.Index.NodeIndex.MAX c.self.inside) _ c.self.invariant _ c.self.view_is
+    (subst (λ (x : ℕ). IsLive x c.args.self.now) (sym c.name-name.ensures.number) c.requires.live)
 
 pub offset-old-requires : goal.offset-old-requires
-offset-old-requires g c = live_below (fields_of g.T.Tables.cells g.T.Index.NodeIndex.MAX c.self.inside) _ c.self.invariant _ c.self.view_is (subst (λ (x : ℕ). IsLive x c.args.self.now) (sym c.name-name.ensures.number) c.requires.live)
+offset-old-requires g c =
+    live_below (fields_of g.T.Tables.cells g.T.Index.NodeIndex.MAX c.self.inside) _ c.self.invariant _ c.self.view_is
+    (subst (λ (x : ℕ). IsLive x c.args.self.now) (sym c.name-name.ensures.number) c.requires.live)
 
 -- the numbers that were read are those of the range
 its_size : (g : Over) (c : After-would_begin g) → c.size-size.result ≡ size_of c.args.allocation.name c.args.self.now
-its_size g c = c.size-size.ensures.cell ∙ live_size (fields_of g.T.Tables.cells g.T.Index.NodeIndex.MAX c.self.inside) _ c.self.invariant _ c.self.view_is (subst (λ (x : ℕ). IsLive x c.args.self.now) (sym c.name-name.ensures.number) c.requires.live)
+its_size g c = c.size-size.ensures.cell
+    ∙ live_size (fields_of g.T.Tables.cells g.T.Index.NodeIndex.MAX c.self.inside) _ c.self.invariant _ c.self.view_is
+    (subst (λ (x : ℕ). IsLive x c.args.self.now) (sym c.name-name.ensures.number) c.requires.live)
     ∙ ap (λ (i : ℕ). size_of i c.args.self.now) c.name-name.ensures.number
 
 its_offset : (g : Over) (c : After-would_begin g) → c.offset-old.result ≡ offset_of c.args.allocation.name c.args.self.now
 its_offset g c = c.offset-old.ensures.cell
-    ∙ ap (λ (q : Option ℕ). unwrap_or q 0) (live_offset (fields_of g.T.Tables.cells g.T.Index.NodeIndex.MAX c.self.inside) _ c.self.invariant _ c.self.view_is (subst (λ (x : ℕ). IsLive x c.args.self.now) (sym c.name-name.ensures.number) c.requires.live))
+    ∙ ap (λ (q : Option ℕ). unwrap_or q 0)
+    (live_offset (fields_of g.T.Tables.cells g.T.Index.NodeIndex.MAX c.self.inside) _ c.self.invariant _ c.self.view_is
+    (subst (λ (x : ℕ). IsLive x c.args.self.now) (sym c.name-name.ensures.number) c.requires.live))
     ∙ ap (λ (i : ℕ). offset_of i c.args.self.now) c.name-name.ensures.number
 
 -- what was found of the block
@@ -34,12 +42,14 @@ pub returns-in_err-begins-clause-step : goal.returns-in_err-begins-clause-step
 returns-in_err-begins-clause-step g c =
     let at = (goal.at.returns-in_err-begins-clause-step g c).After-would_begin in
     subst (λ (h : Option Grant). Relocates c.args.allocation.name c.args.self.now c.would_begin.new.self h) (sym c.from_residual.ensures)
-    (none_relocates c.args.self.now c.args.allocation.name c.size-size.result c.offset-old.result (its_size g at) (its_offset g at) c.would_begin.result (found g at) c.in_err-begins.was c.would_begin.new.self (the_same g at))
+    (none_relocates c.args.self.now c.args.allocation.name c.size-size.result c.offset-old.result (its_size g at) (its_offset g at) c.would_begin.result
+    (found g at) c.in_err-begins.was c.would_begin.new.self (the_same g at))
 
 pub returns-then-begins-old-clause-step : goal.returns-then-begins-old-clause-step
 returns-then-begins-old-clause-step g c =
     let at = (goal.at.returns-then-begins-old-clause-step g c).After-would_begin in
-    earlier_relocates c.args.self.now c.args.allocation.name c.size-size.result c.offset-old.result (its_size g at) (its_offset g at) c.would_begin.result (found g at) c.in_ok-begins.begins c.in_ok-begins.was c.if-begins-old.true
+    earlier_relocates c.args.self.now c.args.allocation.name c.size-size.result c.offset-old.result (its_size g at) (its_offset g at) c.would_begin.result
+    (found g at) c.in_ok-begins.begins c.in_ok-begins.was c.if-begins-old.true
     c.would_begin.new.self.accesses c.serve.new.self c.serve.result
     (subst (λ (v : View). Aligns c.size-size.result 1 v c.serve.new.self c.serve.result) (the_same g at) c.serve.ensures.step)
 
@@ -48,14 +58,17 @@ formed g c = (known_sound (fields_of g.T.Tables.cells g.T.Index.NodeIndex.MAX c.
 
 pub returns-then-begins-old-clause-grants : goal.returns-then-begins-old-clause-grants
 returns-then-begins-old-clause-grants g c =
-    relocated_grants c.args.allocation.name c.args.self.now c.serve.new.self (formed g (goal.at.returns-then-begins-old-clause-grants g c).After-would_begin) c.serve.result (returns-then-begins-old-clause-step g c)
+    relocated_grants c.args.allocation.name c.args.self.now c.serve.new.self (formed g (goal.at.returns-then-begins-old-clause-grants g c).After-would_begin) c.serve.result
+    (returns-then-begins-old-clause-step g c)
 
 pub returns-then-begins-old-clause-before : goal.returns-then-begins-old-clause-before
 returns-then-begins-old-clause-before g c =
-    relocated_before c.args.allocation.name c.args.self.now c.serve.new.self (formed g (goal.at.returns-then-begins-old-clause-before g c).After-would_begin) c.requires.live c.serve.result (returns-then-begins-old-clause-step g c)
+    relocated_before c.args.allocation.name c.args.self.now c.serve.new.self (formed g (goal.at.returns-then-begins-old-clause-before g c).After-would_begin) c.requires.live c.serve.result
+    (returns-then-begins-old-clause-step g c)
 
 pub returns-else-begins-old-clause-step : goal.returns-else-begins-old-clause-step
 returns-else-begins-old-clause-step g c =
     let at = (goal.at.returns-else-begins-old-clause-step g c).After-would_begin in
-    later_relocates c.args.self.now c.args.allocation.name c.size-size.result c.offset-old.result (its_size g at) (its_offset g at) c.would_begin.result (found g at) c.in_ok-begins.begins c.in_ok-begins.was (omega (arith, c.if-begins-old.false))
+    later_relocates c.args.self.now c.args.allocation.name c.size-size.result c.offset-old.result (its_size g at) (its_offset g at) c.would_begin.result
+    (found g at) c.in_ok-begins.begins c.in_ok-begins.was (omega (arith, c.if-begins-old.false))
     c.would_begin.new.self (the_same g at)

@@ -1,4 +1,5 @@
-use Rattle.offset_allocator.proofs.Common.{◌≡◌, ◌∙◌, ◌+◌, ◌++◌, ◌∷◌, [], ap, ap₂, sym, take, length, length-take-le, append_assoc, arith, ℕ, List, Block, View, count_named, times, nat_lt, if◌then◌else◌, blocks, bins_in}
+use Rattle.offset_allocator.proofs.Common.{◌≡◌, ◌∙◌, ◌+◌, ◌++◌, ◌∷◌, [], ap, ap₂, sym, take, length, length-take-le, append_assoc, arith, ℕ, List, Block, View, count_named, times, nat_lt}
+use Rattle.offset_allocator.proofs.Common.{if◌then◌else◌, blocks, bins_in}
 use Rattle.std.specs.List.{concat}
 use Rattle.offset_allocator.proofs.{Saved.names_once, Saved.names_free, Saved.names_order, Exchange.there-below, Walks.length_below}
 use Rattle.offset_allocator.specs.State.{block_words}
@@ -23,7 +24,8 @@ returns g c =
     let same : blocks (g.T.Tables.cells c.self.inside.store.tables).chain c.self.inside.store.last ≡ v.blocks = ap (λ (u : View). u.blocks) c.self.view_is in
     let order : concat (bins_in g.T.Index.NodeIndex.MAX (g.T.Tables.cells c.self.inside.store.tables).bins) ≡ concat v.order = ap (λ (u : View). concat u.order) c.self.view_is in
     let names : c.in_ok-names.names.items ≡ concat v.order = c.in_ok-names.ensures ∙ order in
-    let long : length us ≡ c.self.inside.store.spare_count = length-take-le c.self.inside.store.spare_count (g.T.Tables.cells c.self.inside.store.tables).chain.spare (omega (arith, chain.full, chain.stack)) in
+    let long : length us ≡ c.self.inside.store.spare_count =
+    length-take-le c.self.inside.store.spare_count (g.T.Tables.cells c.self.inside.store.tables).chain.spare (omega (arith, chain.full, chain.stack)) in
     let bs : List Block = blocks (g.T.Tables.cells c.self.inside.store.tables).chain c.self.inside.store.last in
     let head : List ℕ = 1414742351 ∷ 1 ∷ c.self.inside.size ∷ c.self.inside.max_allocs ∷ c.block_count.result ∷ c.len.result ∷ c.self.inside.store.spare_count ∷ [] in
     let begun : c.push-7.new.self.items ≡ head =
@@ -49,7 +51,8 @@ returns g c =
         made = omega (arith, chain.full, chain.within, c.self.invariant.memory, long, ap length same, ap (λ (u : View). u.max_allocs) c.self.view_is);
       },
       c.in_ok-push_unused.ensures
-          ∙ ap (λ l. l ++ us) (c.in_ok-extend_from_slice.ensures.items ∙ ap₂ (λ (l m : List ℕ). l ++ m) (c.in_ok-push_blocks.ensures ∙ ap (λ l. l ++ block_words bs) begun) (c.deref.ensures.value ∙ names))
+          ∙ ap (λ l. l ++ us) (c.in_ok-extend_from_slice.ensures.items
+          ∙ ap₂ (λ (l m : List ℕ). l ++ m) (c.in_ok-push_blocks.ensures ∙ ap (λ l. l ++ block_words bs) begun) (c.deref.ensures.value ∙ names))
           ∙ append_assoc (head ++ block_words bs) (concat v.order) us ∙ append_assoc head (block_words bs) (concat v.order ++ us)
           ∙ ap₂ (λ (h t : List ℕ). h ++ t) same_head (ap (λ (l : List Block). block_words l ++ (concat v.order ++ us)) same),
     )

@@ -62,7 +62,8 @@ enough : (g : Over) (c : After-size-size g) → c.args.less ≤ c.size-size.resu
 enough g c l = omega (arith, its_size g c, l)
 
 -- the last block is gone
-done_some : (g : Over) (c : After-drop_end g) (r : EndsFree (fields_of g.T.Tables.cells g.T.Index.NodeIndex.MAX c.self.inside)) (e : c.size-size.result ≡ (last_of r).last.size) (l : c.args.less ≤ (last_of r).last.size) (k : ℕ)
+done_some : (g : Over) (c : After-drop_end g) (r : EndsFree (fields_of g.T.Tables.cells g.T.Index.NodeIndex.MAX c.self.inside)) (e : c.size-size.result ≡ (last_of r).last.size) (l : c.args.less
+    ≤ (last_of r).last.size) (k : ℕ)
     → Cut r c.args.less l (g.T.Tables.cells c.drop_end.new.store.tables) c.drop_end.new.store.last c.drop_end.new.store.spare_count c.drop_end.new.store.top_mask k
 done_some g c r e l k =
     let i = previous_place (last_held r refl) c.in-Some.ensures.some.1 in
@@ -71,14 +72,16 @@ done_some g c r e l k =
     (rw (c.drop_end.ensures.bins.0, c.remove.ensures.lists, c.size-size.ensures.cell) refl)
 
 -- some of it stays
-done_none : (g : Over) (c : After-push g) (r : EndsFree (fields_of g.T.Tables.cells g.T.Index.NodeIndex.MAX c.self.inside)) (e : c.size-size.result ≡ (last_of r).last.size) (l : c.args.less ≤ (last_of r).last.size) (k : ℕ)
+done_none : (g : Over) (c : After-push g) (r : EndsFree (fields_of g.T.Tables.cells g.T.Index.NodeIndex.MAX c.self.inside)) (e : c.size-size.result ≡ (last_of r).last.size) (l : c.args.less
+    ≤ (last_of r).last.size) (k : ℕ)
     → Cut r c.args.less l (g.T.Tables.cells c.push.new.store.tables) c.push.new.store.last c.push.new.store.spare_count c.push.new.store.top_mask k
 done_none g c r e l k =
     let trimmed = c.trim.ensures.place _ _ _ _ (last_held r c.remove.ensures.chain.0) (omega (arith, e)) in
     let alone : (node (g.T.Tables.cells c.self.inside.store.tables).chain c.self.inside.store.last).size - c.args.less ≡ 0 → (last_of r).front ≡ [] =
     λ q. last_none (last_of r).front (sym (c.in-None.ensures.none refl (omega (arith, q, c.size-size.ensures.cell)) ∙ ap (λ (v : Node). v.before) (at_place (last_held r refl)))) in
     rw (c.push.ensures.chain.1, c.push.ensures.chain.2, c.remove.ensures.chain.1, c.remove.ensures.chain.2)
-    (narrowed_to r c.args.less l ((node (g.T.Tables.cells c.self.inside.store.tables).chain c.self.inside.store.last).size - c.args.less) (omega (arith, e, c.size-size.ensures.cell)) alone (g.T.Tables.cells c.push.new.store.tables) k
+    (narrowed_to r c.args.less l ((node (g.T.Tables.cells c.self.inside.store.tables).chain c.self.inside.store.last).size - c.args.less) (omega (arith, e, c.size-size.ensures.cell)) alone
+    (g.T.Tables.cells c.push.new.store.tables) k
     (rw (c.push.ensures.chain.0, ← c.size-size.ensures.cell) trimmed.chain) c.push.ensures.binned
     (rw (c.trim.ensures.bins, c.remove.ensures.lists, c.uint_to_float_round_down.ensures.is, c.size-size.ensures.cell) at c.push.ensures.lists))
 
@@ -95,12 +98,17 @@ invariant_of-self-in-None g c =
 pub returns-in-Some-clause-step : goal.returns-in-Some-clause-step
 returns-in-Some-clause-step g c =
     let at = goal.at.returns-in-Some-clause-step g c in
-    rw (← c.self.view_is) (inr (c.requires.some, (done_some g at.After-drop_end (pre g at.After-size-size) (its_size g at.After-size-size) (enough g at.After-size-size c.if-size-less.false) c.drop_end.new.store.accesses).1))
+    rw (← c.self.view_is)
+    (inr (
+      c.requires.some,
+      (done_some g at.After-drop_end (pre g at.After-size-size) (its_size g at.After-size-size) (enough g at.After-size-size c.if-size-less.false) c.drop_end.new.store.accesses).1,
+    ))
 
 pub returns-in-None-clause-step : goal.returns-in-None-clause-step
 returns-in-None-clause-step g c =
     let at = goal.at.returns-in-None-clause-step g c in
-    rw (← c.self.view_is) (inr (c.requires.some, (done_none g at.After-push (pre g at.After-size-size) (its_size g at.After-size-size) (enough g at.After-size-size c.if-size-less.false) c.push.new.store.accesses).1))
+    rw (← c.self.view_is)
+    (inr (c.requires.some, (done_none g at.After-push (pre g at.After-size-size) (its_size g at.After-size-size) (enough g at.After-size-size c.if-size-less.false) c.push.new.store.accesses).1))
 
 pub returns-in-Some-clause-kept : goal.returns-in-Some-clause-kept
 returns-in-Some-clause-kept g c =

@@ -8,7 +8,8 @@ find_at_or_above-requires-clause-classed g c = grind (arith, below_value_up)
 pub offset-requires : goal.offset-requires
 offset-requires g c =
     subst (λ (x : ℕ). x < length (g.T.Tables.cells c.self.inside.store.tables).chain.nodes) (sym c.head-name.ensures.cell)
-    (head_below (fields_of g.T.Tables.cells g.T.Index.NodeIndex.MAX c.self.inside) c.self.invariant c.shape.ensures.newer c.in_ok-class.class c.in_ok-class.ensures.smallest.1 c.in_ok-class.ensures.smallest.2)
+    (head_below (fields_of g.T.Tables.cells g.T.Index.NodeIndex.MAX c.self.inside) c.self.invariant c.shape.ensures.newer c.in_ok-class.class c.in_ok-class.ensures.smallest.1
+    c.in_ok-class.ensures.smallest.2)
 
 pub returns-in_err-class-clause-begins : goal.returns-in_err-class-clause-begins
 returns-in_err-class-clause-begins g c =

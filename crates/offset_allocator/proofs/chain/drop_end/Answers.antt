@@ -23,8 +23,10 @@ pub returns-clause-place : goal.returns-clause-place
 returns-clause-place g c m before a b h free =
     let there = c.coalesce_after.ensures.place m _ h in
     let kept : c.size-kept.result ≡ a.size = c.size-kept.ensures.cell ∙ ap (λ (v : Node). v.size) (at_place h) in
-    subst (λ (l : ℕ). HasPlace (g.T.Tables.cells c.trim.new.tables).chain m l c.coalesce_after.new.store.spare_count c.args.previous (record { before = before; block = a; after = [] })) (sym (joined_last before a b there free))
-    (subst (λ (n : ℕ). HasPlace (g.T.Tables.cells c.trim.new.tables).chain m c.args.previous c.coalesce_after.new.store.spare_count c.args.previous (record { before = before; block = record a { size = n }; after = [] })) kept
+    subst (λ (l : ℕ). HasPlace (g.T.Tables.cells c.trim.new.tables).chain m l c.coalesce_after.new.store.spare_count c.args.previous (record { before = before; block = a; after = [] }))
+    (sym (joined_last before a b there free))
+    (subst (λ (n : ℕ). HasPlace (g.T.Tables.cells c.trim.new.tables).chain m c.args.previous c.coalesce_after.new.store.spare_count c.args.previous
+    (record { before = before; block = record a { size = n }; after = [] })) kept
     (c.trim.ensures.place m _ before _ (joined before a b there free) (omega (arith, kept))))
 
 pub returns-clause-last : goal.returns-clause-last

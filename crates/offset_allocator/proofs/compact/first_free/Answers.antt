@@ -1,4 +1,5 @@
-use Rattle.offset_allocator.proofs.Common.{◌≡◌, ◌≤◌, List, [], ◌∷◌, ◌++◌, Some, None, length, refl, sym, ap, ◌∙◌, arith, append-nil, append_assoc, length-append, Node, Block, last_or, first_free, count_named, common_steps}
+use Rattle.offset_allocator.proofs.Common.{◌≡◌, ◌≤◌, List, [], ◌∷◌, ◌++◌, Some, None, length, refl, sym, ap, ◌∙◌, arith, append-nil, append_assoc, length-append, Node, Block, last_or, first_free}
+use Rattle.offset_allocator.proofs.Common.{count_named, common_steps}
 use Rattle.offset_allocator.proofs.{Ends.Ended, Ends.ended, Ends.last_none, Places.at_place, Sliding.walked, Sliding.first_used, Sliding.first_idle, Starts.first_front, Starts.until_front}
 use Rattle.offset_allocator.proofs.{Exchange.each-le, Nearest.until_last}
 use Rattle.offset_allocator.specs.Compacting.{until, until_free}
@@ -19,7 +20,8 @@ loop-at-init g c =
       ends = s.3;
       first = refl;
       whole = λ e. s.4 (sym (ap first_free (append-nil s.0)) ∙ e);
-      all = ap (until c.args.start) s.2 ∙ until_last s.0 s.1 c.args.start s.3 (let e = each-le _ _ _ _ _ c.requires.space.1 c.args.start in omega (arith, e, ap (count_named c.args.start) s.2)) ∙ omega arith;
+      all = ap (until c.args.start) s.2 ∙ until_last s.0 s.1 c.args.start s.3 (let e = each-le _ _ _ _ _ c.requires.space.1 c.args.start in omega (arith, e, ap (count_named c.args.start) s.2))
+          ∙ omega arith;
       accesses = omega arith;
     }
 
@@ -52,8 +54,11 @@ module _ (front met rest : List Block) (n : front ≡ []) where
 
   met_until : (bs : List Block) → bs ≡ front ++ (met ++ rest) → (first_free (front ++ met) ≡ None → rest ≡ []) → (until_free bs ≤ length met) × (length met ≤ length bs)
   met_until bs is h =
-      let all = is ∙ ap (λ (l : List Block). l ++ (met ++ rest)) n in
-      (omega (arith, ap until_free all, until_front met rest (λ e. h (ap (λ (l : List Block). first_free (l ++ met)) n ∙ e))), omega (arith, ap (λ (l : List Block). length l) all, length-append met rest))
+      let all = is ∙ ap (λ (l : List Block). l ++ (met ++ rest)) n in (
+        omega (arith, ap until_free all, until_front met rest (λ e. h (ap (λ (l : List Block). first_free (l ++ met)) n ∙ e))),
+        omega
+            (arith, ap (λ (l : List Block). length l) all, length-append met rest),
+      )
 
 pub returns-clause-first : goal.returns-clause-first
 returns-clause-first g c =

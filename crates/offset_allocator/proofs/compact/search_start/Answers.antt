@@ -1,4 +1,5 @@
-use Rattle.offset_allocator.proofs.Common.{◌≡◌, ℕ, suc, ◌+◌, ◌-◌, ◌<◌, ◌≤◌, false, List, [], ◌∷◌, ◌++◌, length, drop, unwrap_or, refl, sym, ap, subst, ◌∙◌, inl, inr, arith, append-nil, append_assoc, length-append, cases_lt, bin_at, bins_in, blocks, Block, Node, Place, units, down, count_named, AreMasks}
+use Rattle.offset_allocator.proofs.Common.{◌≡◌, ℕ, suc, ◌+◌, ◌-◌, ◌<◌, ◌≤◌, false, List, [], ◌∷◌, ◌++◌, length, drop, unwrap_or, refl, sym, ap, subst, ◌∙◌, inl, inr, arith, append-nil, append_assoc}
+use Rattle.offset_allocator.proofs.Common.{length-append, cases_lt, bin_at, bins_in, blocks, Block, Node, Place, units, down, count_named, AreMasks}
 use Rattle.offset_allocator.specs.Compacting.{IsStart, newest, first_among}
 use Rattle.offset_allocator.proofs.{Exchange.each-le, Places.placed, Places.at_place, Starts.head_name, Starts.start_listed, Starts.start_free, Starts.start_last, Classes.down_itself}
 use Rattle.offset_allocator.proofs.Nearest.{BeginsAt, begins, earlier_at, later_at, newest_next, newest_none}
@@ -112,7 +113,8 @@ loop-preserved g c =
     let at : c.offset-offset.result ≡ units p.before = c.offset-offset.ensures.cell ∙ ap (λ (n : Node). n.offset) (at_place (placed (rw b.is at space) b.name)) in
     let k : 32 - c.loop.counter ≡ suc (32 - (c.loop.counter + 1)) = omega (arith, c.loop-test.true) in
     let long = c.requires.binned.linked.lists_len in
-    let more = ap (λ n. newest n (drop c.loop.class ls)) k ∙ newest_next (32 - (c.loop.counter + 1)) ls c.loop.class c.in-Some.found c.head-name.result b.names b.above (omega (arith, b.below, long)) b.none b.bin in
+    let more = ap (λ n. newest n (drop c.loop.class ls)) k
+    ∙ newest_next (32 - (c.loop.counter + 1)) ls c.loop.class c.in-Some.found c.head-name.result b.names b.above (omega (arith, b.below, long)) b.none b.bin in
     let some : 1 ≤ length i.seen → 1 ≤ p.block.size = λ l. elim (cases_lt p.block.size 1) [
       | inl z ↦ absurd (let n : p.block.size ≡ 0 = omega arith in omega (arith, i.later (omega (arith, l, i.long)), b.above, b.class, ap down n, down_itself 0 (omega arith)))
       | inr z ↦ omega arith
@@ -123,9 +125,11 @@ loop-preserved g c =
       long = omega (arith, i.long, length-append i.seen (c.head-name.result ∷ []));
       begins = elim c.if-offset-lowest.branch [
         | then-offset-lowest w ↦
-            earlier_at i.seen bs c.args.last c.loop.start c.loop.lowest distinct p b.is i.begins c.head-name.result c.offset-offset.result c.if-offset-lowest.start c.if-offset-lowest.lowest b.name at w.start-is w.lowest-is (omega (arith, w.if-offset-lowest))
+            earlier_at i.seen bs c.args.last c.loop.start c.loop.lowest distinct p b.is i.begins c.head-name.result c.offset-offset.result c.if-offset-lowest.start c.if-offset-lowest.lowest b.name at
+            w.start-is w.lowest-is (omega (arith, w.if-offset-lowest))
         | else-offset-lowest w ↦
-            later_at i.seen bs c.args.last c.loop.start c.loop.lowest distinct p b.is i.begins c.head-name.result c.offset-offset.result c.if-offset-lowest.start c.if-offset-lowest.lowest b.name at w.start-is w.lowest-is (omega (arith, w.if-offset-lowest)) space.fits some
+            later_at i.seen bs c.args.last c.loop.start c.loop.lowest distinct p b.is i.begins c.head-name.result c.offset-offset.result c.if-offset-lowest.start c.if-offset-lowest.lowest b.name at
+            w.start-is w.lowest-is (omega (arith, w.if-offset-lowest)) space.fits some
       ];
       start = elim c.if-offset-lowest.branch [
         | then-offset-lowest w ↦ subst (IsStart bs) (sym w.start-is) s

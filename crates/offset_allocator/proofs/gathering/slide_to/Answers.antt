@@ -1,4 +1,5 @@
-use Rattle.offset_allocator.proofs.Common.{◌≡◌, ◌+◌, ◌++◌, true, false, List, refl, sym, ap, ap₂, subst, ◌∙◌, append-nil, Block, ◌*◌, remove, down, arith, FoldsTo, Node, node, Move, move_of, IsCalledWith, AreInBins, live, remove_all, bins_in}
+use Rattle.offset_allocator.proofs.Common.{◌≡◌, ◌+◌, ◌++◌, true, false, List, refl, sym, ap, ap₂, subst, ◌∙◌, append-nil, Block, ◌*◌, remove, down, arith, FoldsTo, Node, node, Move, move_of}
+use Rattle.offset_allocator.proofs.Common.{IsCalledWith, AreInBins, live, remove_all, bins_in}
 use Rattle.offset_allocator.proofs.Places.{at_place}
 use Rattle.offset_allocator.proofs.Gaps.{next_node, next_used, next_below, next_fits, kept_gap}
 use Rattle.offset_allocator.proofs.Stretches.{way_start, way_past, way_into, way_more, way_within, way_done, after_is, held, named, first_part}
@@ -104,7 +105,8 @@ loop-next-preserved-then-is_used g c = record {
       let size : c.size-more.result ≡ f.0.size = c.size-more.ensures.cell ∙ ap (λ k. (node t k).size) (sym n) ∙ next_node _ _ f.0 _ (held s f.0 f.1 f.2) in (
         way_past s f.0 f.1 f.2 used (c.pass.ensures.gap _ _ f.0 _ s.there (after_is s f.0 f.1 f.2) n) (c.after-at-in-Some.ensures.cell ∙ ap (λ k. (node t k).after) (sym n))
             (subst (λ (l : List Move). FoldsTo (IsCalledWith g.T.Index.NonMax.NodeIndexNonMax.number (λ f range h. goal.F-step g f range tt h)) c.loop-next.moved l c.report.new.moved)
-            (ap₂ (λ k j. move_of (c.loop-next.gap.offset + c.loop-next.gap.size) c.loop-next.gap.offset (record { name = k; size = j; used = f.0.used })) (sym n) size) (c.report.ensures.called f.0.used))
+            (ap₂ (λ k j. move_of (c.loop-next.gap.offset + c.loop-next.gap.size) c.loop-next.gap.offset (record { name = k; size = j; used = f.0.used })) (sym n) size)
+            (c.report.ensures.called f.0.used))
             (omega (arith, c.size-more.ensures.accesses, c.after-at-in-Some.ensures.accesses, c.is_used.ensures.accesses, c.pass.ensures.accesses.1))
             (omega (arith, c.size-more.ensures.accesses, c.after-at-in-Some.ensures.accesses, c.is_used.ensures.accesses, c.pass.ensures.accesses.0)),
         out_past s f.0 f.1 f.2 _ _ used (ap (bins_in g.T.Index.NodeIndex.MAX) c.pass.ensures.bins.0 ∙ i.1),
@@ -160,7 +162,8 @@ returns-then-next-end-clause-place g c m p run back h st fl =
     let t = (g.T.Tables.cells c.loop-next.store.tables).chain in
     let free : f.0.used ≡ false = sym (next_used _ _ f.0 _ (held s f.0 f.1 f.2)) ∙ ap (λ k. (node t k).used) n ∙ sym c.is_used.ensures.cell ∙ c.if-is_used.false in
     let size : c.size-more.result ≡ f.0.size = c.size-more.ensures.cell ∙ ap (λ k. (node t k).size) (sym n) ∙ next_node _ _ f.0 _ (held s f.0 f.1 f.2) in
-    let gone = ap (bins_in g.T.Index.NodeIndex.MAX) c.gather.ensures.bins.0 ∙ c.remove.ensures.lists ∙ ap₂ (λ j k. remove (down j) k (bins_in g.T.Index.NodeIndex.MAX (g.T.Tables.cells c.loop-next.store.tables).bins)) size (sym n) in
+    let gone = ap (bins_in g.T.Index.NodeIndex.MAX) c.gather.ensures.bins.0 ∙ c.remove.ensures.lists
+    ∙ ap₂ (λ j k. remove (down j) k (bins_in g.T.Index.NodeIndex.MAX (g.T.Tables.cells c.loop-next.store.tables).bins)) size (sym n) in
     let k = way_into s f.0 f.1 f.2 {used' = c.gather.new.store.accesses} free (c.gather.ensures.gap _ _ f.0 _ (kept_gap c.remove.ensures.chain s.there) (after_is s f.0 f.1 f.2) n free)
     (c.after-at-in-Some.ensures.cell ∙ ap (λ k. (node t k).after) (sym n))
     (omega (arith, c.size-more.ensures.accesses, c.after-at-in-Some.ensures.accesses, c.is_used.ensures.accesses, c.remove.ensures.accesses.1, c.gather.ensures.accesses))
@@ -209,7 +212,8 @@ loop-next-preserved g c = record {
       let t = (g.T.Tables.cells c.loop-next.store.tables).chain in
       let free : f.0.used ≡ false = sym (next_used _ _ f.0 _ (held s f.0 f.1 f.2)) ∙ ap (λ k. (node t k).used) n ∙ sym c.is_used.ensures.cell ∙ c.if-is_used.false in
       let size : c.size-more.result ≡ f.0.size = c.size-more.ensures.cell ∙ ap (λ k. (node t k).size) (sym n) ∙ next_node _ _ f.0 _ (held s f.0 f.1 f.2) in
-      let gone = ap (bins_in g.T.Index.NodeIndex.MAX) c.gather.ensures.bins.0 ∙ c.remove.ensures.lists ∙ ap₂ (λ j k. remove (down j) k (bins_in g.T.Index.NodeIndex.MAX (g.T.Tables.cells c.loop-next.store.tables).bins)) size (sym n) in (
+      let gone = ap (bins_in g.T.Index.NodeIndex.MAX) c.gather.ensures.bins.0 ∙ c.remove.ensures.lists
+      ∙ ap₂ (λ j k. remove (down j) k (bins_in g.T.Index.NodeIndex.MAX (g.T.Tables.cells c.loop-next.store.tables).bins)) size (sym n) in (
         way_into s f.0 f.1 f.2 {used' = c.gather.new.store.accesses} free (c.gather.ensures.gap _ _ f.0 _ (kept_gap c.remove.ensures.chain s.there) (after_is s f.0 f.1 f.2) n free)
             (c.after-at-in-Some.ensures.cell ∙ ap (λ k. (node t k).after) (sym n))
             (omega (arith, c.size-more.ensures.accesses, c.after-at-in-Some.ensures.accesses, c.is_used.ensures.accesses, c.remove.ensures.accesses.1, c.gather.ensures.accesses))

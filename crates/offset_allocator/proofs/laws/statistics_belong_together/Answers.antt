@@ -11,8 +11,12 @@ returns-clause-nodes g c s a = omega (arith, a.live_ranges, a.free_blocks, a.unu
 pub returns-clause-largest : goal.returns-clause-largest
 returns-clause-largest g c s a =
     let v = c.args.allocator.now in
-    let near = greatest_near (free_sizes v.blocks) (omega (arith, adds_up v c.formed.ensures, c.formed.ensures.fits)) in
-    (omega (arith, near.0, a.largest_free_region, a.largest_free_block), omega (arith, greatest_within (free_sizes v.blocks), a.largest_free_block, a.free_units), omega (arith, near.1, a.largest_free_region, a.largest_free_block))
+    let near = greatest_near (free_sizes v.blocks) (omega (arith, adds_up v c.formed.ensures, c.formed.ensures.fits)) in (
+      omega (arith, near.0, a.largest_free_region, a.largest_free_block),
+      omega (arith, greatest_within (free_sizes v.blocks), a.largest_free_block, a.free_units),
+      omega
+          (arith, near.1, a.largest_free_region, a.largest_free_block),
+    )
 
 pub returns-clause-few : goal.returns-clause-few
 returns-clause-few g c s a =

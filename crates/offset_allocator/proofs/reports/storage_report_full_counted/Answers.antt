@@ -1,4 +1,5 @@
-use Rattle.offset_allocator.proofs.Common.{◌≡◌, ℕ, suc, inl, inr, List, ◌+◌, ◌*◌, ◌%◌, ◌^◌, ◌<◌, ◌≤◌, length, sum, slice_index, slice_index_or, slice_set, bin_at, bins_in, cases_eq, length-set, get_or-set_same, get_or-set_other, subst, ap, ◌∙◌, arith, value, count_of, View, free_sizes}
+use Rattle.offset_allocator.proofs.Common.{◌≡◌, ℕ, suc, inl, inr, List, ◌+◌, ◌*◌, ◌%◌, ◌^◌, ◌<◌, ◌≤◌, length, sum, slice_index, slice_index_or, slice_set, bin_at, bins_in, cases_eq, length-set}
+use Rattle.offset_allocator.proofs.Common.{get_or-set_same, get_or-set_other, subst, ap, ◌∙◌, arith, value, count_of, View, free_sizes}
 use Rattle.offset_allocator.proofs.{Sound.shown, Sound.fields_of, Counting.length_names, Counting.accesses_most, Counting.names_below}
 use Rattle.offset_allocator.specs.declared.reports.StorageReportFullRegion.{StorageReportFullRegion}
 use Rattle.offset_allocator.proofs.reports.storage_report_full_counted.Goals as goal
@@ -52,7 +53,8 @@ loop-group-preserved g c =
     let ls : List (List ℕ) = bins_in g.T.Index.NodeIndex.MAX (g.T.Tables.cells c.allocator.inside.store.tables).bins in
     let row : ℕ → StorageReportFullRegion = λ k. record { size = value k % 2 ^ 32; count = length (bin_at ls k) } in
     let names = c.lengths_of-counts.ensures.names in
-    let is : (k j m : ℕ) → slice_index c.lengths_of-counts.result j ≡ m → (rs : List StorageReportFullRegion) → slice_set rs k (record { size = value k % 2 ^ 32; count = slice_index c.lengths_of-counts.result j })
+    let is : (k j m : ℕ) → slice_index c.lengths_of-counts.result j ≡ m → (rs : List StorageReportFullRegion)
+    → slice_set rs k (record { size = value k % 2 ^ 32; count = slice_index c.lengths_of-counts.result j })
     ≡ slice_set rs k (record { size = value k % 2 ^ 32; count = m }) = λ k j m e rs. ap (λ z. slice_set rs k (record { size = value k % 2 ^ 32; count = z })) e in
     let r0 = c.loop-group.report.free_regions in
     let r1 = c.put_region.new.report.free_regions in
@@ -71,7 +73,8 @@ loop-group-preserved g c =
     let f1 : Filled r1 (n + 1) = λ k d h. ap (λ (l : List StorageReportFullRegion). slice_index_or l k d) e1 ∙ put_one r0 n row (omega (arith, i.wide)) i.filled k d h in
     let f2 : Filled r2 (n + 2) = λ k d h. ap (λ (l : List StorageReportFullRegion). slice_index_or l k d) e2 ∙ put_one r1 (n + 1) row (omega (arith, l1)) f1 k d (omega (arith, h)) in
     let f3 : Filled r3 (n + 3) = λ k d h. ap (λ (l : List StorageReportFullRegion). slice_index_or l k d) e3 ∙ put_one r2 (n + 2) row (omega (arith, l2)) f2 k d (omega (arith, h)) in
-    let sum_is : sum c.lengths_of-counts.result ≡ length (bin_at ls n) + length (bin_at ls (n + 1)) + length (bin_at ls (n + 2)) + length (bin_at ls (n + 3)) = ap (λ (l : List ℕ). sum l) names ∙ omega arith in
+    let sum_is : sum c.lengths_of-counts.result ≡ length (bin_at ls n) + length (bin_at ls (n + 1)) + length (bin_at ls (n + 2)) + length (bin_at ls (n + 3)) = ap (λ (l : List ℕ). sum l) names
+    ∙ omega arith in
     let more = ap (λ m. names_below m ls) (let e : 4 * (c.loop-group.group + 1) ≡ n + 4 = omega arith in e) ∙ names_four n ls in
     record {
       wide = l4;

@@ -45,8 +45,11 @@ returns-then-is_some-clause-accesses g c =
     let long = c.requires.binned.linked.lists_len in
     let parts = listed_parts ls c.loop-class.class c.in-Some.filled long c.in-Some.ensures.smallest in
     let some = some_names (bin_at ls c.in-Some.filled) c.in-Some.ensures.smallest.2 in
-    let lengths = ap (λ (l : List ℕ). length l) parts ∙ length-append (bin_at ls c.in-Some.filled) (listed_from (c.in-Some.filled + 1) ls) in
-    (omega (arith, i.least, c.in-Some.ensures.accesses, c.first_of_bin-first.ensures.accesses), omega (arith, i.accesses, c.in-Some.ensures.accesses, c.first_of_bin-first.ensures.accesses, some, lengths))
+    let lengths = ap (λ (l : List ℕ). length l) parts ∙ length-append (bin_at ls c.in-Some.filled) (listed_from (c.in-Some.filled + 1) ls) in (
+      omega (arith, i.least, c.in-Some.ensures.accesses, c.first_of_bin-first.ensures.accesses),
+      omega
+          (arith, i.accesses, c.in-Some.ensures.accesses, c.first_of_bin-first.ensures.accesses, some, lengths),
+    )
 
 pub loop-class-preserved : goal.loop-class-preserved
 loop-class-preserved g c =

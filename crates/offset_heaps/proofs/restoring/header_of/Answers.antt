@@ -2,7 +2,8 @@ use Rattle.std.proofs.Common.{◌≡◌, ◌∙◌, ◌+◌, sym, subst, arith, 
 use Rattle.offset_guarded.specs.State.{checksum_from, number_at, numbers}
 use Rattle.offset_heaps.proofs.States.{parts}
 use Rattle.offset_heaps.proofs.restoring.header_of.Goals.{then-number-ne1397244239-via-then-number-ne1397244239, then-number-ne1397244239-via-else-number-ne1397244239+then-number-ne1}
-use Rattle.offset_heaps.proofs.restoring.header_of.Goals.{then-limit-lt4-via-then-limit-lt4, then-limit-lt4-via-else-limit-lt4+then-limit-most_allocs, then-limit-lt4-via-else-limit-lt4+else-limit-most_allocs+then-limit-MAX}
+use Rattle.offset_heaps.proofs.restoring.header_of.Goals.{then-limit-lt4-via-then-limit-lt4, then-limit-lt4-via-else-limit-lt4+then-limit-most_allocs}
+use Rattle.offset_heaps.proofs.restoring.header_of.Goals.{then-limit-lt4-via-else-limit-lt4+else-limit-most_allocs+then-limit-MAX}
 use Rattle.offset_heaps.proofs.restoring.header_of.Goals as goal
 
 pub returns-then-number-ne1397244239-clause-wrong : goal.returns-then-number-ne1397244239-clause-wrong

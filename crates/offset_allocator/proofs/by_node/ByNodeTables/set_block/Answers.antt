@@ -10,7 +10,7 @@ returns-clause-cells g c =
       before = link_of g.NI.NodeIndex.MAX (g.NI.NodeIndex.number c.args.before);
       after = link_of g.NI.NodeIndex.MAX (g.NI.NodeIndex.number c.args.after);
     } in
-    wrote-chain _ _ c.self.inside c.self.view_is c.args.name c.index_mut-node.result.now _ (λ (n : Node). written n.used) c.requires.name c.index_mut-node.ensures.value refl refl refl
+    wrote-chain _ _ _ c.self.view_is c.args.name c.index_mut-node.result.now _ (λ (n : Node). written n.used) c.requires.name c.index_mut-node.ensures.value refl refl refl
     ∙ ap (λ (u : Bool). record c.args.self.now { chain = put c.args.self.now.chain c.args.name (written u) }) c.requires.idle
 
 pub invariant_of-self : goal.invariant_of-self

@@ -1,8 +1,9 @@
-use Rattle.offset_allocator.proofs.{Common.arith, Entries.wrote-links, Entries.even_set, Entries.bound-links}
+use Rattle.offset_allocator.proofs.{Entries.wrote-links, Entries.even_set, Entries.bound-links}
 use Rattle.offset_allocator.proofs.by_node.ByNodeTables.set_links.Goals as goal
 
 pub returns-clause-cells : goal.returns-clause-cells
-returns-clause-cells g c = grind (arith, wrote-links)
+returns-clause-cells g c =
+    wrote-links _ _ _ c.self.view_is c.args.name c.index_mut-node.result.now c.args.newer c.args.older c.requires.name c.index_mut-node.ensures.value c.requires.idle c.requires.link
 
 pub invariant_of-self : goal.invariant_of-self
 invariant_of-self g c = even_set _ c.self.inside c.self.invariant c.args.name _

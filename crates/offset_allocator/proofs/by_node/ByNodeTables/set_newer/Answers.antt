@@ -2,7 +2,7 @@ use Rattle.offset_allocator.proofs.Entries.{wrote-newer, even_set, bound-links}
 use Rattle.offset_allocator.proofs.by_node.ByNodeTables.set_newer.Goals as goal
 
 pub returns-clause-cells : goal.returns-clause-cells
-returns-clause-cells g c = wrote-newer _ _ c.self.inside c.self.view_is c.args.name c.index_mut.result.now c.args.link c.requires.name c.index_mut.ensures.value c.requires.idle c.requires.link
+returns-clause-cells g c = wrote-newer _ _ _ c.self.view_is c.args.name c.index_mut.result.now c.args.link c.requires.name c.index_mut.ensures.value c.requires.idle c.requires.link
 
 pub invariant_of-self : goal.invariant_of-self
 invariant_of-self g c = even_set _ c.self.inside c.self.invariant c.args.name _

@@ -2,7 +2,7 @@ use Rattle.offset_allocator.proofs.Entries.{wrote-older, even_set, bound-older}
 use Rattle.offset_allocator.proofs.by_node.ByNodeTables.set_older.Goals as goal
 
 pub returns-clause-cells : goal.returns-clause-cells
-returns-clause-cells g c = wrote-older _ _ c.self.inside c.self.view_is c.args.name c.index_mut.result.now c.args.link c.requires c.index_mut.ensures.value
+returns-clause-cells g c = wrote-older _ _ _ c.self.view_is c.args.name c.index_mut.result.now c.args.link c.requires c.index_mut.ensures.value
 
 pub invariant_of-self : goal.invariant_of-self
 invariant_of-self g c = even_set _ c.self.inside c.self.invariant c.args.name _

@@ -2,7 +2,7 @@ use Rattle.offset_allocator.proofs.{Common.refl, Common.Node, Common.link_of, En
 use Rattle.offset_allocator.proofs.by_node.ByNodeTables.set_start.Goals as goal
 
 pub returns-clause-cells : goal.returns-clause-cells
-returns-clause-cells g c = wrote-chain _ _ c.self.inside c.self.view_is c.args.name c.index_mut-node.result.now _ (λ (n : Node). record n {
+returns-clause-cells g c = wrote-chain _ _ _ c.self.view_is c.args.name c.index_mut-node.result.now _ (λ (n : Node). record n {
   offset = c.args.offset;
   size = c.args.size;
   before = link_of g.NI.NodeIndex.MAX (g.NI.NodeIndex.number c.args.link);

@@ -2,7 +2,7 @@ use Rattle.offset_allocator.proofs.{Common.arith, Entries.wrote-used, Entries.ev
 use Rattle.offset_allocator.proofs.by_node.ByNodeTables.set_used.Goals as goal
 
 pub returns-clause-cells : goal.returns-clause-cells
-returns-clause-cells g c = grind (arith, wrote-used)
+returns-clause-cells g c = wrote-used _ _ _ c.self.view_is c.args.name c.index_mut.result.now _ c.args.used (omega (arith, c.self.invariant.limit)) c.requires c.index_mut.ensures.value c.mark.ensures
 
 pub invariant_of-self : goal.invariant_of-self
 invariant_of-self g c = even_set _ c.self.inside c.self.invariant c.args.name _

@@ -1,0 +1,14 @@
+use Rattle.offset_allocator.proofs.{Common.refl, Common.Node, Common.link_of, Entries.wrote-chain, RowEntries.wrote-node, RowEntries.node_at, RowEntries.rows_set, RowEntries.bound}
+use Rattle.offset_allocator.proofs.by_row.ByRowTables.set_before.Goals as goal
+
+pub returns-clause-cells : goal.returns-clause-cells
+returns-clause-cells g c = wrote-node _ _ c.self.inside _ _ _ c.index_mut.ensures.value refl
+    (wrote-chain _ _ _ c.self.view_is c.args.name c.index_mut.result.now.node _
+    (λ (n : Node). record n { before = link_of g.NI.NodeIndex.MAX (g.NI.NodeIndex.number c.args.link) }) c.requires
+    (node_at c.self.inside.rows.items c.args.name _ c.index_mut.ensures.value) refl refl refl)
+
+pub invariant_of-self : goal.invariant_of-self
+invariant_of-self g c = rows_set _ c.self.inside c.self.invariant c.args.name _
+
+pub index_mut-requires : goal.index_mut-requires
+index_mut-requires g c = bound _ _ c.self.inside c.self.view_is c.args.name c.requires
