@@ -193,6 +193,7 @@ impl<T: Tables> PlayerOf<T> {
     /// let answer = player.call(alloc, Command::Alloc(300))?;
     /// assert!(matches!(answer, Answer::Grant { number: 1, offset: 0 }));
     /// ```
+    #[inline(always)]
     pub fn call(&mut self, alloc: Global, command: Command) -> Result<Answer, AllocError>
         requires live { AreLive self.old.space self.old.handles.items }
         requires power { IsTrue (has_valid_alignment command) }

@@ -174,6 +174,7 @@ impl<T: Tables> PlayerOf<T> {
     /// assert!(matches!(answer, Answer::Grant { number: 1, offset: 0 }));
     /// # Ok::<(), RunFault>(())
     /// ```
+    #[inline(always)]
     #[track_caller]
     pub fn call(&mut self, alloc: Global, command: Command) -> Result<Answer, AllocError> {
         assert!(!matches!(command, Command::Align(_, align) if !align.is_power_of_two()), "an alignment must be a power of two");
