@@ -1,4 +1,4 @@
-//! Tests of `offset_pictures`.
+//! Tests of `offset_lives`.
 
 mod examples;
 mod many;
