@@ -5,8 +5,8 @@ use Rattle.offset_allocator.specs.Cells.{ChainCells, node, link_of}
 use Rattle.offset_allocator.specs.Chain.{IsRow, last_or}
 use Rattle.offset_allocator.specs.View.{Place, count_named, times, units}
 
--- the tables, with memory for m nodes, hold a chain but for the free block x at a place: to its node no link leads, and
--- the links that did may lead anywhere
+-- the tables have memory for m nodes, and hold a chain except for the free block x at a place: no link leads to the node
+-- of x, and the links that led there may lead anywhere
 pub record HasGap (c : ChainCells) (m last spare_count x : ℕ) (p : Place) : Type 0 where
   pub memory : c.reserved ≡ m
   pub within : length c.nodes ≤ m

@@ -31,7 +31,7 @@ IsAtMost c d = (c.units < d.units) ⊎ ((c.units ≡ d.units) × (c.ranges ≤ d
 abbrev pub IsLess : RoomCost → RoomCost → Type 0
 IsLess c d = (c.units < d.units) ⊎ ((c.units ≡ d.units) × (c.ranges < d.ranges))
 
--- each run of these blocks with at least so many free units costs more
+-- each run of these blocks with at least `want` free units costs more than c
 abbrev pub CostMore : ℕ → RoomCost → List Block → Type 0
 CostMore want c bs = (run : List Block) → IsRun run bs → want ≤ sum (free_sizes run) → IsLess c (cost_of run)
 
@@ -40,16 +40,16 @@ abbrev pub ranges_of : Option RoomCost → ℕ
 ranges_of None = 0
 ranges_of (Some c) = c.ranges
 
--- the cost of a run with at least so many free units, where no run with as many costs less; or nothing, where no run
--- has so many
+-- the cost of a run with at least `want` free units, where no such run costs less; or nothing, where there is no such
+-- run
 abbrev pub IsLeastCost : ℕ → List Block → Option RoomCost → Type 0
 IsLeastCost want bs None = (run : List Block) → IsRun run bs → sum (free_sizes run) < want
 IsLeastCost want bs (Some c) =
     ((run : List Block) × IsRun run bs × (want ≤ sum (free_sizes run)) × (c ≡ cost_of run))
     × ((run : List Block) → IsRun run bs → want ≤ sum (free_sizes run) → IsAtMost c (cost_of run))
 
--- a run with at least so many free units, where each such run that begins later costs more, slides to its front: its
--- live blocks keep their order, and its free units are one block after them, the newest of its bin; all else stays
+-- a run with at least `want` free units slides to its front, and each such run that begins later costs more. Its live
+-- blocks keep their order, and its free units are one block after them, the newest of its bin; all else stays
 pub record SlidesRun (want : ℕ) (v w : View) : Type 0 where
   pub front : List Block
   pub run : List Block
@@ -73,8 +73,8 @@ MakesRoom R want v f (Some c) w g =
     × (1 ≤ c.ranges → (s : SlidesRun want v w) × (c ≡ cost_of s.run)
     × FoldsTo R f (moves (units s.front) (units s.front) s.run) g)
 
--- the cheapest run with at least so many free units, of several the last one: the names of its first and last block,
--- and its cost; or nothing, where no run has so many
+-- the last of the cheapest runs with at least `want` free units: the names of its first and last block, and its cost;
+-- or nothing, where there is no such run
 abbrev pub IsCheapest : ℕ → List Block → Option Run → Type 0
 IsCheapest want bs None = (run : List Block) → IsRun run bs → sum (free_sizes run) < want
 IsCheapest want bs (Some r) =
@@ -106,7 +106,7 @@ pub record IsWindow (w : Window) (bs : List Block) : Type 0 where
   pub units : w.units ≡ used_units bs
   pub ranges : w.ranges ≡ used_of bs
 
--- the first blocks of others, with at least so many free units, and fewer without the last one
+-- the first of these blocks, with at least `want` free units, and fewer without the last one
 pub record IsShrunk (want : ℕ) (w : Window) (bs : List Block) : Type 0 where
   pub left : List Block
   pub gone : List Block
