@@ -12,7 +12,7 @@ CRATES = [
     ("offset_guarded", "offset-allocator-guarded", {"memory", "traits"}),
     ("offset_heaps", "offset-allocator-heaps", {"memory", "traits"}),
     ("offset_script", "offset-script", {"memory"}),
-    ("offset_lives", "offset-lives", {"memory"}),
+    ("offset_pictures", "offset-pictures", {"memory"}),
 ]
 
 # In the root file this replaces `#![tactic(auto)]`.
@@ -66,7 +66,7 @@ mod memory;
 
 pub use memory::{AllocError, Global, String, Vec};
 """,
-    "offset_lives": """#![doc = include_str!("../README.md")]
+    "offset_pictures": """#![doc = include_str!("../README.md")]
 #![forbid(unsafe_code)]
 #![expect(LINTS)]
 
@@ -99,8 +99,11 @@ LINTS = {
         "clippy::single_match": "both cases are proved",
         "unused_variables": "a parameter may be there for a contract only",
     },
-    "offset_script": {},
-    "offset_lives": {
+    "offset_script": {
+        "clippy::manual_unwrap_or_default": "a `match` needs no call, whose contract a proof would need",
+        "clippy::new_without_default": "one name for an empty text is enough",
+    },
+    "offset_pictures": {
         "clippy::collapsible_match": "an arm of a `match` and a test within it have a name each in the proof",
         "clippy::needless_range_loop": "the proof speaks of the numbers of calls",
     },
@@ -147,6 +150,11 @@ PAIRS = [
         "in Rattle what a type parameter is bounded by says that its values may be dropped",
     ),
     (
+        "pub trait Listener: Drop {",
+        "pub trait Listener: Sized {",
+        "the same",
+    ),
+    (
         "fn fmt<W: fmt::Write>(&self, f: &mut fmt::Formatter<W>) -> fmt::Result",
         "fn fmt(&self, f: &mut fmt::Formatter<'_>) -> fmt::Result",
         "in Rattle the formatter has its own type for each writer",
@@ -180,6 +188,7 @@ REQUIRES = [
     ("IsLive allocation.name self.old", "self.is_live(allocation)", "the handle must be live: {:?}", "{ allocation }"),
     ("IsAlignment align", "align.is_power_of_two()", "align must be a power of two"),
     ("needed_object_size ≤ 4026531840", "needed_object_size <= 4026531840", "needed_object_size must be at most 4026531840"),
+    ("n < 10", "n < 10", "a digit must be below 10"),
     ("float_value < 256", "float_value < 256", "float_value must be below 256"),
     ("number self < MAX", "self.to_usize() < <Self as NodeIndex>::MAX as usize", "MAX is the name of no node"),
     ("All IsOrdered (map life_view course.now.lives.items)", "course.lives.iter().all(|life| life.first <= life.last)", "no life may end before it begins"),
@@ -220,9 +229,10 @@ ALWAYS = {
     "ArePlaces plot.now.calls places.now": "",
     "length answers.now ≡ length commands.now": "",
     "(i k offset : ℕ) → i < length commands.now → get_or (map answer_view answers.now) i machine.Refused ≡ machine.Grant k offset → k ≤ length commands.now": "",
-    "length text.now + length self.old ≤ 160": "",
-    "20 + length self.old ≤ 160": "",
-    "23 + length self.old ≤ 160": "",
+    "length text.now + length self.old ≤ ROOM": "a text that does not fit meets the tests of Rust's own indices; so it is of the next ones",
+    "1 + length self.old ≤ ROOM": "",
+    "20 + length self.old ≤ ROOM": "",
+    "23 + length text.old ≤ ROOM": "",
     "is_refusal (answer_view answer.now) ≡ true → IsRefusedBy space.now command": "",
     "AreLive self.old.space self.old.handles.items": "each call of a player keeps it, and `free` itself panics at a handle that is not live",
     "F.IsAlwaysCallable moved.old": "a closure of Rust may be called at any time; if it panics, that is its own panic",
@@ -230,7 +240,7 @@ ALWAYS = {
 
 # Traits whose conditions are not tested: only the library calls their methods, and it is proved that it meets them.
 # Whoever else calls one meets the tests of Rust's own indices.
-INSIDE = {"Tables"}
+INSIDE = {"Listener", "Tables"}
 
 # Lines around each example in the documentation, so that `cargo test` runs it, and the line that makes what an example
 # names and does not make itself. Those after a `#` are hidden.
@@ -252,6 +262,19 @@ EXAMPLES = {
             "heaps": "let limits = Limits { size: 1000, max_allocs: 100, most: 2, most_larger: 1 };\n"
             "let mut heaps = Heaps::<u32>::new(alloc, limits, 1)?;",
         },
+    ),
+    "offset_script": (
+        ["use offset_script::*;", "let alloc = Global;"],
+        ["# Ok::<(), RunFault>(())"],
+        {
+            "script": 'let script = parse(alloc, b"space 1000 nodes 16 index 32\\nalloc 300\\nfree 1\\n")?;',
+            "player": "let mut player = Player::<u32>::start(alloc, 1000, 16)?;",
+        },
+    ),
+    "offset_pictures": (
+        ["use offset_pictures::*;", "use offset_script::*;", "let alloc = offset_script::Global;"],
+        ["# Ok::<(), RunFault>(())"],
+        {"script": 'let script = parse(alloc, b"space 1000 nodes 16 index 32\\nalloc 300\\nfree 1\\n")?;'},
     ),
 }
 

@@ -109,7 +109,7 @@ def main():
     here = pathlib.Path(__file__).resolve().parent
     wrong = [f"the formula gives {difference(a, b):.4f}, not {d}" for a, b, d in KNOWN if abs(difference(a, b) - d) > 0.0001]
     for name, path, pattern in (("page", here / "source.html", r"--age(\d): (#\w+)"),
-                                ("pictures", here / "../crates/offset_lives/src/style.rt", r"\.age(\d)\{fill:(#\w+)\}")):
+                                ("pictures", here / "../crates/offset_pictures/src/style.rt", r"\.age(\d)\{fill:(#\w+)\}")):
         if sys.argv[1:] not in ([], [name]):
             continue
         found = scales(path.read_text(), pattern)

@@ -246,7 +246,8 @@ module _ (r : ℕ → ℕ) (g d : ℕ) (back : (k : ℕ) → r (number_with g d 
       → IsSamePlace (λ q. is_free (left_tag q.kind) ≡ true) (q ∷ ps) (better (holds n align o (left q)) (left q) (lefts ps) x) (better (holds n align o (right q)) (right q) (rights ps) y)
   same_held_step n align o q ps None None agree neither = if_same (IsSamePlace _ (q ∷ ps)) _ _ _ _ _ _ (same_holds n align o q) (λ e. both [] q ps refl (and_parts _ _ e).0) neither
   same_held_step n align o q ps x y agree (both xs z ys e f) = if_same (IsSamePlace (λ q. is_free (left_tag q.kind) ≡ true) (q ∷ ps)) _ _ _ _ _ _
-      (same_and (holds n align o (left q)) _ _ (λ g. same_tests (down q.size) (down z.size) q.kind z.kind (and_parts _ _ g).0 f (agree z q (inr (subst (IsIn z) (sym e) (in_right z xs (z ∷ ys) (inl refl)))) (inl refl)))
+      (same_and (holds n align o (left q)) _ _
+      (λ g. same_tests (down q.size) (down z.size) q.kind z.kind (and_parts _ _ g).0 f (agree z q (inr (subst (IsIn z) (sym e) (in_right z xs (z ∷ ys) (inl refl)))) (inl refl)))
       ∙ ap (λ b. b && is_taken_before (right q) (right z)) (same_holds n align o q))
       (λ h. both [] q ps refl (and_parts _ _ (and_parts _ _ h).0).0) (both (q ∷ xs) z ys (ap (λ l. q ∷ l) e) f)
 
@@ -258,7 +259,8 @@ module _ (r : ℕ → ℕ) (g d : ℕ) (back : (k : ℕ) → r (number_with g d 
   any_place P ps None None neither = neither
   any_place P ps x y (both xs q ys e f) = both xs q ys e tt
 
-  same_either : (ps : List Pair) (x y x' y' : Option machine.Place) → IsSamePlace (λ q. Unit {0}) ps x y → IsSamePlace (λ q. Unit {0}) ps x' y' → IsSamePlace (λ q. Unit {0}) ps (option_or x x') (option_or y y')
+  same_either : (ps : List Pair) (x y x' y' : Option machine.Place) → IsSamePlace (λ q. Unit {0}) ps x y → IsSamePlace (λ q. Unit {0}) ps x' y'
+      → IsSamePlace (λ q. Unit {0}) ps (option_or x x') (option_or y y')
   same_either ps None None x' y' neither h = h
   same_either ps x y x' y' (both xs q ys e f) h = both xs q ys e f
 

@@ -1,6 +1,7 @@
 -- A request for any free block that holds it takes the same block on the plain machine.
 use Rattle.offset_calls.proofs.Common.{◌≡◌, ◌≢◌, ℕ, zero, suc, ◌+◌, ◌-◌, ◌<◌, ◌≤◌, Bool, true, false, not, ◌&&◌, ◌⊎◌, List, [], ◌∷◌, ◌++◌, length, Option, Some, None, nat_lt, nat_le, if◌then◌else◌}
-use Rattle.offset_calls.proofs.Common.{refl, sym, ap, ap₂, subst, ◌∙◌, inl, inr, arith, eq-eqb, lt-leb, le-leb, leb-true, lt-ltb, cases_eq, cases_lt, true≢false, and_parts, get_or_past, slice_set, nat_eq, is_some, map-append, push_all, View, Grant, times}
+use Rattle.offset_calls.proofs.Common.{refl, sym, ap, ap₂, subst, ◌∙◌, inl, inr, arith, eq-eqb, lt-leb, le-leb, leb-true, lt-ltb, cases_eq, cases_lt, true≢false, and_parts, get_or_past, slice_set}
+use Rattle.offset_calls.proofs.Common.{nat_eq, is_some, map-append, push_all, View, Grant, times}
 use Rattle.offset_calls.proofs.Common.{bin_at, units, IsWellFormed, SameSpace, State, is_free, total, chosen_place, is_short_of, replace, blocks_needed, units_needed, HasRoomFor}
 use Rattle.std.proofs.Common.{cond}
 use Rattle.std.proofs.lemmas.Bool.{not-false, or_left}
@@ -9,7 +10,8 @@ use Rattle.std.specs.Option.{option_or}
 use Rattle.offset_allocator.specs.{Classes.down, View.Place, View.place_of, View.padding_to, View.push, View.remove, View.used_block, View.free_part, Relations.Aligns}
 use Rattle.offset_allocator.specs.{Requests.CanGrant, Tight.Holds, Tight.CanHold, Tight.first_holding, Tight.listed_from, Tight.with_first, Tight.FillsFirst, Tight.AlignsTight}
 use Rattle.offset_allocator.specs.Tight as named
-use Rattle.offset_allocator.proofs.{Holding.find_met, Holding.find_none, Holding.find_past, Holding.find_here, Holding.holder, Holding.place_there, Holding.block_word, Holding.at_first, Holding.grant_holds}
+use Rattle.offset_allocator.proofs.{Holding.find_met, Holding.find_none, Holding.find_past, Holding.find_here, Holding.holder, Holding.place_there, Holding.block_word, Holding.at_first}
+use Rattle.offset_allocator.proofs.{Holding.grant_holds}
 use Rattle.offset_allocator.proofs.{Classes.down_law, Classes.value_down, Taken.taken_among, Tallies.hit_cases, Split.split_view, Served.aligned_serves}
 use Rattle.offset_script.proofs.{Agreement.Label, Agreement.by_tag, Agreement.stamp_of, Agreement.IsFalling, Agreement.HasBlocksOf, Well.IsWell, Tests.same_some}
 use Rattle.offset_script.proofs.Chosen.{Spot, whole, place_at, named_spot, plain_spot, named_place, plain_place, IsLabelled, none_chosen, chosen, place_of_spot, listed_spot, spot_stamp, newer_before}

@@ -1,5 +1,6 @@
 -- The steps of calls are those of the plain machine.
-use Rattle.offset_calls.proofs.Common.{◌≡◌, ◌≢◌, ◌⊎◌, ℕ, zero, suc, ◌+◌, ◌-◌, ◌<◌, ◌≤◌, leb-false, Bool, true, false, not, ◌&&◌, List, [], ◌∷◌, length, sum, Option, Some, None, is_some, IfSome, IsTrue, option_map}
+use Rattle.offset_calls.proofs.Common.{◌≡◌, ◌≢◌, ◌⊎◌, ℕ, zero, suc, ◌+◌, ◌-◌, ◌<◌, ◌≤◌, leb-false, Bool, true, false, not, ◌&&◌, List, [], ◌∷◌, length, sum, Option, Some, None, is_some, IfSome}
+use Rattle.offset_calls.proofs.Common.{IsTrue, option_map}
 use Rattle.offset_calls.proofs.Common.{option_and_then, nat_eq, nat_lt, nat_le, if◌then◌else◌, refl, sym, ap, ap₂, subst, ◌∙◌, inl, inr, arith, eq-eqb, ne_eqb, le-leb, leb-true, lt-ltb, le-ltb}
 use Rattle.offset_calls.proofs.Common.{cases_eq, cases_lt, true≢false, false≢true, and_parts, lt-leb, Nodes, TooLarge, Space, Fragmented, View, Grant, times, count_in_bin, bin_at, units, IsWellFormed}
 use Rattle.offset_calls.proofs.Common.{HasRoomFor, IsWhy, size_needed, blocks_needed, units_needed, Range, size_of, SameSpace, kept_name, IfNamed, Stays, State, is_free, free_sizes, total}
@@ -27,7 +28,8 @@ use Rattle.offset_calls.specs.Ending.{begins_before, relocate, can_retract, retr
 use Rattle.offset_calls.specs.Ending as plain
 use Rattle.offset_calls.specs.Steps.{Finds}
 use Rattle.offset_calls.proofs.Common.{IsKept, stamp_of_call}
-use Rattle.offset_calls.proofs.{Beside.first_same, Beside.last_same, Beside.before_same, Beside.after_same, Relocated.relocated, Retracted.well_retract, Retracted.can_too, Retracted.can_there, Retracted.cut_agrees}
+use Rattle.offset_calls.proofs.{Beside.first_same, Beside.last_same, Beside.before_same, Beside.after_same, Relocated.relocated, Retracted.well_retract, Retracted.can_too, Retracted.can_there}
+use Rattle.offset_calls.proofs.{Retracted.cut_agrees}
 use Rattle.offset_script.specs.declared.scripts.Command.TheVariants as command
 use Rattle.offset_calls.proofs.Compacted.{well_compact, compact_agrees, moves_are}
 use Rattle.offset_calls.proofs.Resized.{well_resized, found, spot, size_found, can_shrink_is, shrink_can, can_grow_is, grow_can, resized_agrees}

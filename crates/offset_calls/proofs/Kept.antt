@@ -1,6 +1,7 @@
 -- The numbers of grants by their names, from one call to the next.
 use Rattle.offset_calls.proofs.Common.{◌≡◌, ℕ, zero, suc, ◌+◌, ◌-◌, ◌<◌, ◌≤◌, ◌⊎◌, List, [], ◌∷◌, ◌++◌, length, Option, Some, None, nat_eq, if◌then◌else◌, sym, ap, subst, ◌∙◌, inl, inr, arith}
-use Rattle.offset_calls.proofs.Common.{slice_set, option_map, eq-eqb, ne_eqb, cases_eq, cases_lt, length-append, add-one, get_or, get_or_past, Grant, View, IsWellFormed, kept_name, IfNamed, IsKept, Call, Reply, Takes}
+use Rattle.offset_calls.proofs.Common.{slice_set, option_map, eq-eqb, ne_eqb, cases_eq, cases_lt, length-append, add-one, get_or, get_or_past, Grant, View, IsWellFormed, kept_name, IfNamed, IsKept}
+use Rattle.offset_calls.proofs.Common.{Call, Reply, Takes}
 use Rattle.offset_calls.proofs.Common.{Command, IsTrue, is_valid}
 use Rattle.std.specs.List.{slice_index}
 use Rattle.std.proofs.lemmas.List.{get_or_default, get_or-set_other, get_or-set_same, set_past, length-set}

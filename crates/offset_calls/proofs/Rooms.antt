@@ -1,7 +1,9 @@
 -- Making room: what is left agrees with the plain machine, and the cost and the moves are the same.
 use Rattle.offset_calls.proofs.Common.{◌≡◌, ℕ, suc, ◌+◌, ◌<◌, ◌≤◌, ◌&&◌, Bool, true, false, not, List, [], ◌∷◌, ◌++◌, map, length, sum, Option, Some, None, option_map, nat_eq, if◌then◌else◌, drop}
-use Rattle.offset_calls.proofs.Common.{refl, sym, ap, ap₂, subst, ◌∙◌, inl, inr, arith, eq-eqb, ne_eqb, length-append, append_assoc, map-append, cases_eq, cases_lt, true≢false, false≢true, Block, View, Grant}
-use Rattle.offset_calls.proofs.Common.{IsWellFormed, IsApart, SameSpace, FoldsTo, kept_name, Tag, Live, Free, State, is_free, total, units, stamp_of_call, stamp_of_padding, replace, Move, Reply, Outcome}
+use Rattle.offset_calls.proofs.Common.{refl, sym, ap, ap₂, subst, ◌∙◌, inl, inr, arith, eq-eqb, ne_eqb, length-append, append_assoc, map-append, cases_eq, cases_lt, true≢false, false≢true, Block}
+use Rattle.offset_calls.proofs.Common.{View, Grant}
+use Rattle.offset_calls.proofs.Common.{IsWellFormed, IsApart, SameSpace, FoldsTo, kept_name, Tag, Live, Free, State, is_free, total, units, stamp_of_call, stamp_of_padding, replace, Move, Reply}
+use Rattle.offset_calls.proofs.Common.{Outcome}
 use Rattle.offset_calls.proofs.Common.{moves, AreNumbered, replies_only}
 use Rattle.std.proofs.lemmas.Bool.{cond_both}
 use Rattle.offset_allocator.specs.declared.room.RoomCost.{RoomCost}

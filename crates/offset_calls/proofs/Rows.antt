@@ -82,7 +82,8 @@ module _ (s t : State) (a : IsSameSpace s t) where
   some_either (Some x) p None p' e f = absurd (true≢false e)
 
   held_same : (n align : ℕ) → is_some (holding_place n align 0 s.blocks) ≡ is_some (holding_place n align 0 t.blocks)
-  held_same n align = ap (λ bs. is_some (holding_place n align 0 bs)) a.blocks.left_blocks ∙ held_some n align 0 a.blocks.pairs ∙ sym (ap (λ bs. is_some (holding_place n align 0 bs)) a.blocks.right_blocks)
+  held_same n align = ap (λ bs. is_some (holding_place n align 0 bs)) a.blocks.left_blocks ∙ held_some n align 0 a.blocks.pairs
+      ∙ sym (ap (λ bs. is_some (holding_place n align 0 bs)) a.blocks.right_blocks)
 
   chosen_same : (n : ℕ) → is_some (chosen_place n s.blocks) ≡ is_some (chosen_place n t.blocks)
   chosen_same n = ap (λ bs. is_some (chosen_place n bs)) a.blocks.left_blocks ∙ some_same n a.blocks.pairs ∙ sym (ap (λ bs. is_some (chosen_place n bs)) a.blocks.right_blocks)

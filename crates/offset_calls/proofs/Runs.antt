@@ -1,5 +1,6 @@
 -- The run that the plain machine chooses is the cheapest one of the allocator, and of several the last.
-use Rattle.offset_calls.proofs.Common.{◌≡◌, ℕ, ◌+◌, ◌-◌, ◌<◌, ◌≤◌, ◌⊎◌, ◌&&◌, ◌||◌, Bool, true, false, not, List, [], ◌∷◌, ◌++◌, map, length, sum, Option, Some, None, option_map, nat_eq, nat_lt, nat_le}
+use Rattle.offset_calls.proofs.Common.{◌≡◌, ℕ, ◌+◌, ◌-◌, ◌<◌, ◌≤◌, ◌⊎◌, ◌&&◌, ◌||◌, Bool, true, false, not, List, [], ◌∷◌, ◌++◌, map, length, sum, Option, Some, None, option_map, nat_eq, nat_lt}
+use Rattle.offset_calls.proofs.Common.{nat_le}
 use Rattle.offset_calls.proofs.Common.{if◌then◌else◌, refl, sym, ap, ap₂, subst, ◌∙◌, inl, inr, arith, append-nil, append_assoc, length-append, cases_lt, cases_eq, true≢false, false≢true, drop}
 use Rattle.offset_calls.proofs.Common.{leb-true, leb-false, Block, one, IsApart, total, is_free, Tag}
 use Rattle.std.proofs.lemmas.Bool.Decides.{nat_tests}

@@ -6,8 +6,8 @@ ghost use Rattle.offset_calls.specs.Calls.{is_valid};
 use offset_allocator::{Refusal, RoomCost};
 use offset_script::{Answer, Command};
 
-/// A call to an allocator. Sizes are in units of the space. A range is named by the number of its grant: grants are
-/// numbered from 1 in their order, as in a script.
+/// A call to an allocator. Sizes are in units of the space. A range is named by the number of its grant:
+/// grants are numbered from 1 in their order, as in a script.
 #[derive(Clone, Copy, PartialEq, Debug)]
 pub enum Call {
     /// A command of a script.
@@ -22,12 +22,13 @@ pub enum Call {
     Offset(u32),
     /// Asks why a request for this many units would be refused now.
     Refusal(u32),
-    /// Asks the same of a request for this many units from a multiple of the second number on, which is a power of two.
+    /// Asks the same of a request for this many units from a multiple of the second number on, which is a
+    /// power of two.
     RefusalAligned(u32, u32),
     /// Requests this many units of any free block that has them.
     Tight(u32),
-    /// Requests this many units from a multiple of the second number on, which is a power of two, of any free block that
-    /// holds them.
+    /// Requests this many units from a multiple of the second number on, which is a power of two, of any free
+    /// block that holds them.
     TightAligned(u32, u32),
     /// Asks why `Tight` of this many units would be refused now.
     RefusalTight(u32),

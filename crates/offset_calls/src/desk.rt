@@ -50,7 +50,8 @@ fn allocate<T: Tables>(desk: &mut Desk<T>, size: u32) -> Result<Answer, AllocErr
     requires ledger { IsLedger desk.old.space desk.old.tickets.items }
     requires left { HasSerialLeft desk.old.space }
     ensures { IfOk result (λ a. Serves (Call.Command (Command.Alloc size))
-        desk.old.space desk.old.tickets.items desk.new.space desk.new.tickets.items (plain.Answer (answer_view a))) }
+        desk.old.space desk.old.tickets.items desk.new.space desk.new.tickets.items
+        (plain.Answer (answer_view a))) }
 {
     let granted = desk.space.allocate(size);
     keep(&mut desk.tickets, granted)
@@ -66,7 +67,8 @@ fn allocate_aligned<T: Tables>(
     requires left { HasSerialLeft desk.old.space }
     requires power { IsTrue (has_valid_alignment (Command.Align size align)) }
     ensures { IfOk result (λ a. Serves (Call.Command (Command.Align size align))
-        desk.old.space desk.old.tickets.items desk.new.space desk.new.tickets.items (plain.Answer (answer_view a))) }
+        desk.old.space desk.old.tickets.items desk.new.space desk.new.tickets.items
+        (plain.Answer (answer_view a))) }
 {
     let granted = desk.space.allocate_aligned(size, align);
     keep(&mut desk.tickets, granted)
@@ -102,7 +104,8 @@ fn allocate_tight_aligned<T: Tables>(
 // The answer to `free`.
 fn release<T: Tables>(space: &mut GuardedOf<T>, ticket: Option<Ticket>) -> Answer
     ensures { (ts : List Ticket) (k : ℕ) → IsLedger space.old ts → IsNumberOf k ticket space.old ts
-        → Serves (Call.Command (Command.Free k)) space.old ts space.new ts (plain.Answer (answer_view result)) }
+        → Serves (Call.Command (Command.Free k)) space.old ts space.new ts
+        (plain.Answer (answer_view result)) }
 {
     let Some(ticket) = ticket else {
         return Answer::Gone;
@@ -117,7 +120,8 @@ fn release<T: Tables>(space: &mut GuardedOf<T>, ticket: Option<Ticket>) -> Answe
 // The answer to `size`.
 fn size_of<T: Tables>(space: &GuardedOf<T>, ticket: Option<Ticket>) -> Answer
     ensures { (ts : List Ticket) (k : ℕ) → IsLedger space.now ts → IsNumberOf k ticket space.now ts
-        → Serves (Call.Command (Command.Size k)) space.now ts space.now ts (plain.Answer (answer_view result)) }
+        → Serves (Call.Command (Command.Size k)) space.now ts space.now ts
+        (plain.Answer (answer_view result)) }
 {
     let Some(ticket) = ticket else {
         return Answer::Gone;
@@ -154,7 +158,8 @@ fn reset<T: Tables>(space: &mut GuardedOf<T>) -> Answer
 // The answer to `extend`.
 fn extend<T: Tables>(space: &mut GuardedOf<T>, more: u32) -> Answer
     ensures { (ts : List Ticket) → IsLedger space.old ts
-        → Serves (Call.Command (Command.Extend more)) space.old ts space.new ts (plain.Answer (answer_view result)) }
+        → Serves (Call.Command (Command.Extend more)) space.old ts space.new ts
+        (plain.Answer (answer_view result)) }
 {
     if space.extend(more) {
         Answer::Extended

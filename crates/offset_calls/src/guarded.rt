@@ -17,7 +17,8 @@ use std::alloc::{AllocError, Global};
 /// A call to a guarded allocator.
 #[derive(Clone, Copy, PartialEq, Debug)]
 pub struct TicketCall {
-    /// The call. Without a ticket it passes the one that the grant of its number gave, whether it is live or not.
+    /// The call. Without a ticket it passes the one that the grant of its number gave, whether it is live or
+    /// not.
     pub call: Call,
     /// The ticket that the call passes instead: any numbers.
     pub ticket: Option<Ticket>,
@@ -72,12 +73,15 @@ fn passed(tickets: &[Ticket], call: &TicketCall) -> Option<Ticket>
     }
 }
 
-/// Plays calls on a guarded allocator of `size` units with the node limit `max_allocs` and a realm, and returns the
-/// replies in order, one for each, and the tickets of the grants.
+/// Plays calls on a guarded allocator of `size` units with the node limit `max_allocs` and a realm, and
+/// returns the replies in order, one for each, and the tickets of the grants.
 ///
-/// The calls may pass any tickets: live ones, those of ranges that were freed or reset, altered ones, random numbers.
-/// The limit has to be 2 to `T::Index::MAX - 2`, and each alignment a power of two. It fails only where an allocation
-/// fails.
+/// The calls may pass any tickets: live ones, those of ranges that were freed or reset, altered ones, random
+/// numbers. The limit has to be 2 to `T::Index::MAX - 2`, and each alignment a power of two.
+///
+/// # Errors
+///
+/// It fails only where an allocation fails.
 pub fn play_guarded<T: Tables>(
     alloc: Global,
     size: u32,
@@ -91,12 +95,12 @@ pub fn play_guarded<T: Tables>(
     requires high { max_allocs + 1 < T.Index.MAX }
     // Each alignment is a power of two.
     requires valid { All (λ c. IsTrue (is_valid c.call)) calls.now }
-    // The replies are those of the plain machine to these calls, from one free block of `size` units, where each ticket
-    // means the number of the grant that gave it, or no grant.
+    // The replies are those of the plain machine to these calls, from one free block of `size` units, where
+    // each ticket means the number of the grant that gave it, or no grant.
     ensures replies { IfOk result (λ p. map reply_view p.replies.items
         ≡ replies (map (meant p.tickets.items) calls.now) (start size max_allocs)) }
-    // There is a ticket for each grant. They have this realm, in order the serials from 1 on, and each the offset that
-    // is replied.
+    // There is a ticket for each grant. They have this realm, in order the serials from 1 on, and each the
+    // offset that is replied.
     ensures tickets { IfOk result (λ p. AreInOrder realm 0 p.tickets.items) }
     ensures count { IfOk result (λ p. length p.tickets.items
         ≡ (after (map (meant p.tickets.items) calls.now) (start size max_allocs)).grants) }

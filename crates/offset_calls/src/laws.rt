@@ -17,11 +17,12 @@ ghost use Rattle.offset_calls.specs.Histories.{retract_again};
 /// The replies to calls that are commands of a script are the answers to the script.
 pub fn commands_have_their_answers()
     ensures { (size limit : ℕ) (cs : List Command)
-        → replies (map call.Command cs) (start size limit) ≡ map plain.Answer (machine.answers cs (start size limit)) }
+        → replies (map call.Command cs) (start size limit)
+        ≡ map plain.Answer (machine.answers cs (start size limit)) }
 {}
 
-/// A space without live grants continues as a fresh one of its size, with every call; grant numbers are larger by the
-/// grants so far, in moves too.
+/// A space without live grants continues as a fresh one of its size, with every call; grant numbers are
+/// larger by the grants so far, in moves too.
 pub fn an_empty_space_continues_as_fresh()
     ensures { (size limit : ℕ) → 2 ≤ limit → (cs : List Call)
         → let s = after cs (start size limit) in
@@ -29,7 +30,8 @@ pub fn an_empty_space_continues_as_fresh()
         → replies next s ≡ replies_renumbered (start (total s.blocks) s.limit) s next }
 {}
 
-/// A nest of commands leaves no trace in the replies to any calls after it. Nothing is resized or compacted in a nest.
+/// A nest of commands leaves no trace in the replies to any calls after it. Nothing is resized or compacted
+/// in a nest.
 pub fn a_nest_leaves_no_trace()
     ensures { (size limit : ℕ) → 2 ≤ limit → (cs : List Call) (nest : List Command)
         → let s = after cs (start size limit) in
@@ -43,8 +45,8 @@ pub fn releases_commute()
     ensures space { (size limit : ℕ) → 2 ≤ limit → (cs : List Call) (ks : List ℕ)
         → let s = after cs (start size limit) in
         outline (machine.after (releases ks) s).blocks ≡ collapse ks (outline s.blocks) }
-    // A next call, also one that resizes or compacts, has the same reply as there, except for the offset of a new
-    // grant. `Relocate` is granted or refused by such an offset, so it is not among them.
+    // A next call, also one that resizes or compacts, has the same reply as there, except for the offset of a
+    // new grant. `Relocate` is granted or refused by such an offset, so it is not among them.
     ensures next { (size limit : ℕ) → 2 ≤ limit → (cs : List Call) (ks : List ℕ) (t : State)
         → let s = after cs (start size limit) in
         IsCollapse ks s t → (c : Call) → relocates c ≡ false

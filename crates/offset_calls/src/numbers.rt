@@ -7,8 +7,9 @@ ghost use Rattle.offset_calls.specs.Steps.{AreNumbers};
 use offset_allocator::{Allocation, NodeIndex};
 use std::alloc::{AllocError, Global};
 
-/// The numbers of the grants that it has read, by their names. It is empty, and takes no memory, until it reads the
-/// first; then 8 bytes for each name. A grant is read once, so all reading costs what the grants did.
+/// The numbers of the grants that it has read, by their names. It is empty, and takes no memory, until it
+/// reads the first; then 8 bytes for each name. A grant is read once, so all reading costs what the grants
+/// did.
 #[derive(Drop)]
 pub(crate) struct Numbers {
     // at a name the number of the last grant that had it when it was read, or 0 where none had
@@ -38,7 +39,8 @@ impl Numbers {
 
     // Makes room for this many names at once. Where that is refused, room is made as they come.
     fn make_room(&mut self, names: usize)
-        ensures names { (x : ℕ) → slice_index self.new.by_name.items x ≡ slice_index self.old.by_name.items x }
+        ensures names { (x : ℕ) → slice_index self.new.by_name.items x
+            ≡ slice_index self.old.by_name.items x }
         ensures grants { self.new.grants ≡ self.old.grants }
     {
         let len = self.by_name.len();

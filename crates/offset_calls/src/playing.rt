@@ -1,6 +1,7 @@
 //! Plays calls on an allocator.
 
-ghost use Rattle.std.specs.Prelude.{◌≡◌, ◌+◌, ◌-◌, ◌<◌, ◌≤◌, ◌++◌, ◌∷◌, [], All, IfOk, IsTrue, OnOk, Some, drop, false};
+ghost use Rattle.std.specs.Prelude.{◌≡◌, ◌+◌, ◌-◌, ◌<◌, ◌≤◌, ◌++◌, ◌∷◌, [], All, IfOk, IsTrue, OnOk, Some};
+ghost use Rattle.std.specs.Prelude.{drop, false};
 ghost use Rattle.std.specs.Prelude.{if◌then◌else◌, length, map};
 ghost use Rattle.offset_allocator.specs.Compacting.{Compacts, live, moves};
 ghost use Rattle.offset_script.specs.Steps.{kept_name, AreLive};
@@ -228,14 +229,17 @@ fn reply<T: Tables>(
     }
 }
 
-/// Plays calls on an allocator of `size` units with the node limit `max_allocs`, and returns the replies in order, one
-/// for each.
+/// Plays calls on an allocator of `size` units with the node limit `max_allocs`, and returns the replies in
+/// order, one for each.
 ///
 /// The limit has to be 2 to `T::Index::MAX - 2`, and each alignment a power of two. All replies are kept in
 /// memory, and from the first `Compact`, `MakeRoom`, `First`, `Last`, `Before` or `After` on 8 bytes for each
-/// node that was made, twice that while a later one finds that there are more nodes. It fails only where an
-/// allocation fails. Each call costs what it costs in the allocator; these also read the grants since the
-/// last one of them.
+/// node that was made, twice that while a later one finds that there are more nodes. Each call costs what it
+/// costs in the allocator; these also read the grants since the last one of them.
+///
+/// # Errors
+///
+/// It fails only where an allocation fails.
 pub fn play_calls_of<T: Tables>(
     alloc: Global,
     size: u32,
@@ -248,8 +252,8 @@ pub fn play_calls_of<T: Tables>(
     requires high { max_allocs + 1 < T.Index.MAX }
     // Each alignment is a power of two.
     requires valid { All (λ c. IsTrue (is_valid c)) calls.now }
-    // The replies are those of the plain machine to these calls, from one free block of `size` units, and of a run of
-    // the allocator's named steps.
+    // The replies are those of the plain machine to these calls, from one free block of `size` units, and of
+    // a run of the allocator's named steps.
     ensures { IfOk result (λ found. AreReplies size max_allocs calls.now (map reply_view found.items)) }
 {
     let mut player: PlayerOf<T> = PlayerOf::start(alloc, size, max_allocs)?;

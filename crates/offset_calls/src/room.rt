@@ -19,7 +19,8 @@ use offset_guarded::GuardedOf;
 use offset_script::PlayerOf;
 use std::alloc::{AllocError, Global};
 
-// The moves so far, without numbers, each with the handle of its range after it, unless memory for one was refused.
+// The moves so far, without numbers, each with the handle of its range after it, unless memory for one was
+// refused.
 #[derive(Drop)]
 pub(crate) struct Slides<NI: NodeIndex> {
     pub(crate) found: Vec<(Allocation<NI>, Moved)>,
@@ -59,7 +60,8 @@ impl<NI: NodeIndex> Slides<NI> {
     }
 }
 
-// Makes room in a space, and collects the moves. Its index type is a parameter too, which keeps the proof short.
+// Makes room in a space, and collects the moves. Its index type is a parameter too, which keeps the proof
+// short.
 fn collect<NI: NodeIndex, T: Tables<Index = NI>>(
     space: &mut AllocatorOf<T>,
     size: u32,

@@ -85,8 +85,8 @@ fn use_of(number: u32, random: &mut Random) -> Call {
     }
 }
 
-// `count` calls of an editor with at most `live` live ranges: requests, releases, other calls on a live range, and a
-// compaction every 3,000 calls. The numbers of grants are right while no request is refused.
+// `count` calls of an editor with at most `live` live ranges: requests, releases, other calls on a live
+// range, and a compaction every 3,000 calls. The numbers of grants are right while no request is refused.
 fn list(
     alloc: Global,
     count: u32,
@@ -116,8 +116,8 @@ fn list(
     Ok(calls)
 }
 
-/// Plays three lists of `count` calls, in spaces that refuse no request: two by handles, with at most a fortieth and a
-/// four-hundredth of `count` live ranges, and one by tickets.
+/// Plays three lists of `count` calls, in spaces that refuse no request: two by handles, with at most a
+/// fortieth and a four-hundredth of `count` live ranges, and one by tickets.
 pub fn calls(
     alloc: Global,
     count: u32,

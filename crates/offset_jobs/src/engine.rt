@@ -9,7 +9,8 @@ use std::alloc::{AllocError, Global};
 // How many frames are played.
 const FRAMES: u32 = 64;
 
-/// A load of a space: its size, its node limit, the number of slots, the most bits of a size, and the number of steps.
+/// A load of a space: its size, its node limit, the number of slots, the most bits of a size, and the number
+/// of steps.
 #[derive(Clone, Copy)]
 pub struct Load {
     pub size: u32,
@@ -32,7 +33,8 @@ fn take<S: Space>(
     digest.add(space.take(slot, random.size(bits), align));
 }
 
-/// Each step frees the range of a random slot, or requests one for it where it is empty; one in 256 asks for a report.
+/// Each step frees the range of a random slot, or requests one for it where it is empty; one in 256 asks for
+/// a report.
 pub fn play<S: Space>(
     alloc: Global,
     load: Load,
@@ -72,8 +74,8 @@ pub fn frames<S: Space>(
     Ok(())
 }
 
-/// An engine's heaps: one with half of `live` live ranges, smaller ones, and one that is reset after each frame. Each
-/// has ample space and nodes.
+/// An engine's heaps: one with half of `live` live ranges, smaller ones, and one that is reset after each
+/// frame. Each has ample space and nodes.
 pub fn engine(
     alloc: Global,
     live: u32,
@@ -108,7 +110,8 @@ pub fn engine(
     play::<Allocator<u16>>(alloc, narrow, random, digest)
 }
 
-/// Heaps near their limits, with handles and with tickets: too few nodes, too few units, and ranges of one size only.
+/// Heaps near their limits, with handles and with tickets: too few nodes, too few units, and ranges of one
+/// size only.
 pub fn tight(
     alloc: Global,
     live: u32,

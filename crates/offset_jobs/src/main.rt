@@ -1,8 +1,9 @@
-//! The jobs that a user waits for, each on inputs that it makes from a seed. It prints a digest of all results.
+//! The jobs that a user waits for, each on inputs that it makes from a seed. It prints a digest of all
+//! results.
 //!
-//! The words are the job, the seed, the number of rounds, and the size of a round's inputs. Each round has inputs of its
-//! own. `all` does every job of those. `docs/PERF.md` says how they are timed; `.ci/speed` counts instructions, of
-//! some more jobs too (`rows`).
+//! The words are the job, the seed, the number of rounds, and the size of a round's inputs. Each round has
+//! inputs of its own. `all` does every job of those. `docs/PERF.md` says how they are timed; `.ci/speed`
+//! counts instructions, of some more jobs too (`rows`).
 #![tactic(auto)]
 
 mod calls;

@@ -33,7 +33,8 @@ impl Random {
         Draw(self.number())
     }
 
-    /// A number from 1 to 2 to the power of `bits`, at most 31, small ones more often. It is always 64 for 0 bits.
+    /// A number from 1 to 2 to the power of `bits`, at most 31, small ones more often. It is always 64 for 0
+    /// bits.
     pub fn size(&mut self, bits: u32) -> u32 {
         if bits == 0 {
             return 64;
@@ -57,8 +58,8 @@ impl Draw {
         u32::try_from(product >> 32).unwrap_or(0)
     }
 
-    /// The large part, as a number below `places`. If the first small part is odd, it is in the first sixteenth: ranges
-    /// at these places are freed sooner.
+    /// The large part, as a number below `places`. If the first small part is odd, it is in the first
+    /// sixteenth: ranges at these places are freed sooner.
     pub fn place(self, places: u32) -> u32 {
         let among = if self.part(0) % 2 == 0 {
             places

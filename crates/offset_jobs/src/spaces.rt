@@ -19,8 +19,8 @@ pub trait Space: Drop {
     /// A new space, or an error where the node limit is not admitted or an allocation fails.
     fn make(alloc: Global, size: u32, max_allocs: u32) -> Result<Self, AllocError>;
 
-    /// A step on a slot, and a number for its result: where the slot is empty, a request for units from a multiple of
-    /// `align` on, which is 1 or another power of two, and else the release of its grant.
+    /// A step on a slot, and a number for its result: where the slot is empty, a request for units from a
+    /// multiple of `align` on, which is 1 or another power of two, and else the release of its grant.
     fn take(&mut self, slot: &mut Self::Slot, size: u32, align: u32) -> u64;
 
     /// Why a request for units is refused, as a number.

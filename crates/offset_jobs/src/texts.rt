@@ -3,7 +3,7 @@
 ghost use Rattle.std.specs.Prelude.{◌≤◌};
 
 use crate::random::{Digest, Random};
-use offset_lives::draw_program;
+use offset_pictures::draw_program;
 use offset_script::{FromRead, IntoWrite, run_program};
 use std::alloc::{AllocError, Global};
 
@@ -46,8 +46,8 @@ struct Kind {
     full: u32,
 }
 
-// Commands as a recording has them: requests of many small and few large ranges, and their releases, after short lives
-// and long ones, and a few questions.
+// Commands as a recording has them: requests of many small and few large ranges, and their releases, after
+// short lives and long ones, and a few questions.
 fn commands(alloc: Global, kind: Kind, random: &mut Random) -> Result<Vec<u8>, AllocError> {
     let mut text = Vec::new(alloc);
     let mut kept: Vec<u32> = Vec::new(alloc);
@@ -72,7 +72,8 @@ fn commands(alloc: Global, kind: Kind, random: &mut Random) -> Result<Vec<u8>, A
     Ok(text)
 }
 
-// The spaces in which commands are played: ample ones, one in which requests are refused for units, and one for nodes.
+// The spaces in which commands are played: ample ones, one in which requests are refused for units, and one
+// for nodes.
 const HEADERS: [&[u8]; 4] = [
     b"# in ample space\n\nspace 1000000000 nodes 131072 index 32\n",
     b"# in less space\n\nspace 60000000 nodes 65533 index 16\n",
@@ -99,8 +100,8 @@ fn play(alloc: Global, text: &[u8], digest: &mut Digest) {
     digest.add_text(&errors.into_inner());
 }
 
-/// Plays scripts of at most `lines` commands, each in four spaces: a long one, three of the size of a recorded program,
-/// and one with many full reports. Then it plays a long one whose last line is no command.
+/// Plays scripts of at most `lines` commands, each in four spaces: a long one, three of the size of a
+/// recorded program, and one with many full reports. Then it plays a long one whose last line is no command.
 pub fn scripts(
     alloc: Global,
     lines: u32,
@@ -168,8 +169,8 @@ fn draw(alloc: Global, text: &[u8], digest: &mut Digest) {
     digest.add_text(&errors.into_inner());
 }
 
-/// Draws scripts of at most `lines` commands, each in four spaces: a long one, and three of the size of a recorded
-/// program, whose ranges have titles.
+/// Draws scripts of at most `lines` commands, each in four spaces: a long one, and three of the size of a
+/// recorded program, whose ranges have titles.
 pub fn pictures(
     alloc: Global,
     lines: u32,

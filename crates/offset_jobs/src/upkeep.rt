@@ -62,8 +62,8 @@ fn add_full(space: &Allocator<u32>, digest: &mut Digest) {
     }
 }
 
-/// A heap of `live` ranges. Four times half of them are freed at random, some of the others are resized, all blocks are
-/// listed, and the heap is compacted; each time it is filled up first.
+/// A heap of `live` ranges. Four times half of them are freed at random, some of the others are resized, all
+/// blocks are listed, and the heap is compacted; each time it is filled up first.
 pub fn upkeep(
     alloc: Global,
     live: u32,

@@ -2,11 +2,11 @@
 //! requests for memory and refuses some of them. These functions have no contracts; those that they call are
 //! proved.
 //!
-//! The words are the call and, where it has tables, `by_node`, `by_field` or `by_row`; standard input is the text of a
-//! script. The words are printed before the call, and its outcome after it: 0 for a result, 1 for out of
-//! memory, 2 for a faulty text, 3 for a device that failed, and 4 where the call needs a script and the text
-//! is none. Between both lines this program requests no memory itself. A third line has the numbers of the
-//! results, or of the fault.
+//! The words are the call and, where it has tables, `by_node`, `by_field` or `by_row`; standard input is the
+//! text of a script. The words are printed before the call, and its outcome after it: 0 for a result, 1 for
+//! out of memory, 2 for a faulty text, 3 for a device that failed, and 4 where the call needs a script and
+//! the text is none. Between both lines this program requests no memory itself. A third line has the numbers
+//! of the results, or of the fault.
 #![tactic(auto)]
 
 mod allocators;

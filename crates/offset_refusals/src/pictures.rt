@@ -3,7 +3,7 @@
 use crate::numbers::{Cells, put, put_report};
 use crate::outcomes::Failure;
 use crate::scripts::script;
-use offset_lives::{lives, picture, reports};
+use offset_pictures::{lives, picture, reports};
 use std::alloc::Global;
 
 /// The title of the pictures.

@@ -3,7 +3,7 @@
 use crate::cell_writer::CellWriter;
 use crate::outcomes::Failure;
 use crate::pictures::TITLE;
-use offset_lives::draw_program;
+use offset_pictures::draw_program;
 use offset_script::{FromRead, IntoWrite, run_program};
 use std::alloc::Global;
 
@@ -32,8 +32,8 @@ fn ended(status: u8, errors: &[u64; MOST]) -> Result<(), Failure> {
     }
 }
 
-/// Plays a script as its program does, and puts each byte of the output into a cell. A status with other errors than it
-/// has to have is `Device`.
+/// Plays a script as its program does, and puts each byte of the output into a cell. A status with other
+/// errors than it has to have is `Device`.
 pub fn run_all(alloc: Global, text: &[u8], cells: &mut [u64]) -> Result<(), Failure> {
     let mut errors = [u64::MAX; MOST];
     let status = run_program(

@@ -70,7 +70,8 @@ fn checksum<T: Tables>(space: &mut GuardedOf<T>) -> u64 {
     sum
 }
 
-/// Makes a guarded allocator, makes 1,000 calls with tickets, and puts a checksum of their results into the cells.
+/// Makes a guarded allocator, makes 1,000 calls with tickets, and puts a checksum of their results into the
+/// cells.
 pub struct MakeGuardedAndCall;
 
 impl Work for MakeGuardedAndCall {

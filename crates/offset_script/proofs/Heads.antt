@@ -1,12 +1,15 @@
 -- Commands at the head of a text are the commands of its first lines.
-use Rattle.offset_script.proofs.Common.{◌≡◌, ℕ, ◌+◌, ◌<◌, length, length-append, true, false, eqb, List, [], ◌∷◌, ◌++◌, Some, refl, sym, ap, subst, ◌∙◌, append_assoc, arith, rules, codes, AllByRecursion, IsTrue, all_ascii_digits, and_parts, nat_tests}
-use Rattle.offset_script.proofs.Common.{slice_split_at, All-from_recursion, Command, Alloc, Size, Report, Full, Reset, Align, Extend, has_valid_alignment, parts, is_skipped, significant_from, Line, Plan, ◌>>=!◌, commands_of, Result, Ok, Err}
+use Rattle.offset_script.proofs.Common.{◌≡◌, ℕ, ◌+◌, ◌<◌, length, length-append, true, false, eqb, List, [], ◌∷◌, ◌++◌, Some, refl, sym, ap, subst, ◌∙◌, append_assoc, arith, rules, codes}
+use Rattle.offset_script.proofs.Common.{AllByRecursion, IsTrue, all_ascii_digits, and_parts, nat_tests}
+use Rattle.offset_script.proofs.Common.{slice_split_at, All-from_recursion, Command, Alloc, Size, Report, Full, Reset, Align, Extend, has_valid_alignment, parts, is_skipped, significant_from, Line}
+use Rattle.offset_script.proofs.Common.{Plan, ◌>>=!◌, commands_of, Result, Ok, Err}
 use Rattle.offset_script.proofs.{FirstLine.significant_step, Spelled.commands, Meaning.rest_of_plan}
 use Rattle.std.specs.{Char.is_ascii_digit}
-use Rattle.offset_script.specs.{declared.scripts.Command.TheVariants.Free, Spelling.IsNumbered, Spelling.IsSpelling, Heads.BeginsWithNumber, Heads.BeginsWithCommand, Heads.ReadsCommands, Heads.name_of, Heads.counted}
+use Rattle.offset_script.specs.{declared.scripts.Command.TheVariants.Free, Spelling.IsNumbered, Spelling.IsSpelling, Heads.BeginsWithNumber, Heads.BeginsWithCommand, Heads.ReadsCommands}
+use Rattle.offset_script.specs.{Heads.name_of, Heads.counted}
 use Rattle.offset_script.specs.{declared.scripts.Header.Header, declared.faults.ScriptFault.ScriptFault}
-use Rattle.offset_script.specs.declared.direct.Word.{Word}
-use Rattle.offset_script.specs.declared.direct.Word.TheVariants as words
+use Rattle.offset_script.specs.declared.common_lines.Word.{Word}
+use Rattle.offset_script.specs.declared.common_lines.Word.TheVariants as words
 
 -- a word and a number are a line
 abbrev spelled : (w : Word) (n : ℕ) (line : List ℕ) → IsNumbered (name_of w) n line → IsSpelling (counted w n) line
@@ -50,7 +53,12 @@ is_full Report line s = subst IsFullLine (sym s) (record { whole = search rules;
 is_full Full line s = subst IsFullLine (sym s) (record { whole = search rules; kept = refl })
 is_full Reset line s = subst IsFullLine (sym s) (record { whole = search rules; kept = refl })
 is_full (Align n a) line s =
-    subst IsFullLine (sym s.5) (record { whole = no_end_both (codes "align " ++ s.0 ++ codes " ") s.1 (no_end_both (codes "align " ++ s.0) (codes " ") (no_end_both (codes "align ") s.0 (search rules) (no_end_digits s.0 s.2.each)) (search rules)) (no_end_digits s.1 s.3.each); kept = refl })
+    subst IsFullLine (sym s.5)
+    (record {
+      whole = no_end_both (codes "align " ++ s.0 ++ codes " ") s.1
+          (no_end_both (codes "align " ++ s.0) (codes " ") (no_end_both (codes "align ") s.0 (search rules) (no_end_digits s.0 s.2.each)) (search rules)) (no_end_digits s.1 s.3.each);
+      kept = refl;
+    })
 is_full (Extend n) line s = numbered_is_full 101 (codes "xtend ") line n (search rules) refl s
 
 -- ---- the first line

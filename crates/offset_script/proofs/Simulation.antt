@@ -128,7 +128,8 @@ module _ (v w : View) (hs left : List (Option Grant)) (a : Answer) (s : State) (
       (p.agrees.limit ∙ sym (ap (λ (u : View). u.max_allocs) t.0.view)) blocks t.2 in
       (t.3, record { formed = formed; agrees = agrees; grants = t.1 ∙ p.grants })
   follows (command.Align n align) power t =
-      requested (step (command.Align n align) s) t.0 (aligned_agrees v (kept_name hs) s p.formed ws p.agrees n align (not_zero align (inr (inl power))) w formed t.0 (aligned_serves n align v w t.0 t.1))
+      requested (step (command.Align n align) s) t.0
+      (aligned_agrees v (kept_name hs) s p.formed ws p.agrees n align (not_zero align (inr (inl power))) w formed t.0 (aligned_serves n align v w t.0 t.1))
       t.2
   follows (command.Extend more) power t = extended more t.0 t.1 t.2 t.3
 

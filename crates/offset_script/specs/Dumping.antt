@@ -35,7 +35,8 @@ vma_json p = codes "{\"Offset\":" ++ (decimal p.offset ++ (codes ",\"Type\":\"" 
 -- the size, the node limit, and what is live
 abbrev pub live_json : ℕ → ℕ → Statistics → List ℕ
 live_json size limit s =
-    codes "{\"size\":" ++ (decimal size ++ (codes ",\"max_allocs\":" ++ (decimal limit ++ (codes ",\"live_ranges\":" ++ (decimal s.live_ranges ++ (codes ",\"live_units\":" ++ decimal s.live_units))))))
+    codes "{\"size\":" ++ (decimal size
+    ++ (codes ",\"max_allocs\":" ++ (decimal limit ++ (codes ",\"live_ranges\":" ++ (decimal s.live_ranges ++ (codes ",\"live_units\":" ++ decimal s.live_units))))))
 
 -- what is free
 abbrev pub free_json : Statistics → List ℕ

@@ -74,7 +74,7 @@ command_of_words (name ∷ first ∷ second ∷ []) = do
   pair_command name n a
 command_of_words (name ∷ first ∷ second ∷ third ∷ more) = None
 
--- the command that a line spells, if it does
+-- the command that a line spells, or none
 abbrev pub command_of : List ℕ → Option Command
 command_of line = command_of_words (words line)
 
@@ -100,7 +100,7 @@ header_of_words (space ∷ size ∷ nodes ∷ limit ∷ index ∷ width ∷ []) 
     else None
 header_of_words _ = None
 
--- the header that a line spells, if it does, whatever its limit
+-- the header that a line spells, or none, whatever its limit
 abbrev pub header_of : List ℕ → Option Header
 header_of line = header_of_words (words line)
 

@@ -2,8 +2,8 @@
 use Rattle.std.specs.Prelude.{◌≡◌, ℕ, List, ◌∷◌, ◌++◌, Ok, codes}
 use Rattle.offset_script.specs.declared.scripts.Command.{Command}
 use Rattle.offset_script.specs.declared.scripts.Command.TheVariants as commands
-use Rattle.offset_script.specs.declared.direct.Word.{Word}
-use Rattle.offset_script.specs.declared.direct.Word.TheVariants.{Alloc, Free, Size}
+use Rattle.offset_script.specs.declared.common_lines.Word.{Word}
+use Rattle.offset_script.specs.declared.common_lines.Word.TheVariants.{Alloc, Free, Size}
 use Rattle.offset_script.specs.Grammar.{Line, commands_of, ◌>>=!◌}
 use Rattle.offset_script.specs.Spelling.{IsNumeral, IsSpelling}
 

@@ -4,6 +4,7 @@ pub mod Faults
 pub mod Grammar
 pub mod Heads
 pub mod Histories
+pub mod Listening
 pub mod Machine
 pub mod Playing
 pub mod Running

@@ -1,5 +1,6 @@
--- What `parse` and reading return, which faults a run returns, and what reading and writing leave.
-use Rattle.std.specs.Prelude.{◌≡◌, ℕ, ◌<◌, ◌≤◌, Bool, true, false, not, ◌||◌, List, [], ◌++◌, length, drop, Option, Some, Result, Ok, Err, IsTrue}
+-- What `parse` and reading return, which faults a run returns, and what reading, writing and a program leave.
+use Rattle.std.specs.Prelude.{◌≡◌, ◌≢◌, ℕ, ◌<◌, ◌≤◌, Bool, true, false, not, ◌||◌, List, [], ◌++◌, length, drop, Option, Some, Result, Ok, Err, IsTrue}
+use Rattle.std.specs.Prelude.{IfErr, IfSome, MatchResult, OnOk}
 use Rattle.std.specs.Io.KnownBytes.{Consumes, Appends, IsAtEnd}
 use Rattle.offset_script.specs.declared.faults.ScriptFault.{ScriptFault}
 use Rattle.offset_script.specs.declared.faults.ScriptFault.TheVariants as scripts
@@ -7,9 +8,10 @@ use Rattle.offset_script.specs.declared.faults.RunFault.{RunFault}
 use Rattle.offset_script.specs.declared.faults.RunFault.TheVariants.{Script, Memory, Read, Write}
 use Rattle.offset_script.specs.declared.scripts.Script as read
 use Rattle.offset_script.specs.Grammar.{Plan, meaning_of, line_end, text_of}
-use Rattle.offset_script.specs.Machine.{Answer}
 use Rattle.offset_script.specs.Machine as machine
-use Rattle.offset_script.specs.Faults.{fault_line}
+use Rattle.offset_script.specs.Faults.{fault_line, fault_status}
+use Rattle.offset_script.specs.declared.devices.Sink.{Ghosts as Sink}
+use Rattle.offset_script.specs.declared.devices.Source.{Ghosts as Source}
 
 -- a script as plain data, without where it lies in memory
 abbrev pub view : read.Script → Plan
@@ -72,25 +74,61 @@ pub record WritesFault (fault : RunFault) (old new : Option (List ℕ))
   pub failed : has_failed ≡ (not is_sent || had_failed)
   pub flushed : IsTrue is_sent → is_flushed ≡ true
 
--- the text means a script, and the text of its answers was sent: all of it was appended, or a beginning
-pub record SendsAnswers (text : List ℕ) (whole : Bool) (old new : Option (List ℕ)) : Type 0 where
-  pub plan : Plan
-  pub answers : List Answer
-  pub means : meaning_of text ≡ Ok plan
-  -- they are those of the plain machine, from one free block of the header's size
-  pub played : answers ≡ machine.answers plan.commands (machine.start plan.header.size plan.header.max_allocs)
-  pub sends : Sends whole (text_of answers) old new
+-- the text of all answers of the plain machine to what a script means, from one free block of the header's size
+abbrev pub IsTextOfAnswers : Plan → List ℕ → Type 0
+IsTextOfAnswers plan text =
+    text ≡ text_of (machine.answers plan.commands (machine.start plan.header.size plan.header.max_allocs))
 
--- What a run returned, left of a source with this text, and wrote: on `Ok` all answers of the script that the text
--- means, on `Write` a beginning of them (all of them, where no push has failed), and else the fault of the text. On
--- `Memory` and `Read` nothing is said.
-abbrev pub IsRunOf :
-    Result (Unit {0}) RunFault → List ℕ → Option (List ℕ) → Option (List ℕ) → Option (List ℕ) → Bool → Type 0
-IsRunOf (Ok u) text left old new push_has_failed = (left ≡ Some []) × SendsAnswers text true old new
-IsRunOf (Err (Script scripts.TooLong)) text left old new push_has_failed =
-    (left ≡ Some (drop 1048577 text)) × (meaning_of text ≡ Err scripts.TooLong)
-IsRunOf (Err (Script f)) text left old new push_has_failed = (left ≡ Some []) × (meaning_of text ≡ Err f)
-IsRunOf (Err Memory) text left old new push_has_failed = Unit {0}
-IsRunOf (Err Read) text left old new push_has_failed = Unit {0}
-IsRunOf (Err Write) text left old new push_has_failed =
-    (left ≡ Some []) × SendsAnswers text (not push_has_failed) old new
+-- the text means a script, and a text of this script was sent: all of it was appended, or a beginning
+pub record SendsText (IsText : Plan → List ℕ → Type 0) (text : List ℕ) (whole : Bool) (old new : Option (List ℕ)) : Type 0 where
+  pub plan : Plan
+  pub sent : List ℕ
+  pub means : meaning_of text ≡ Ok plan
+  pub is : IsText plan sent
+  pub sends : Sends whole sent old new
+
+-- What a run returned, left of a source with this text, and wrote: on `Ok` all of the text of the script that is meant,
+-- on `Write` a beginning of it (all of it, where no push has failed), and else the fault of the text. On `Memory` and
+-- `Read` nothing is said.
+abbrev pub IsRunOf : (Plan → List ℕ → Type 0) → Result (Unit {0}) RunFault
+    → List ℕ → Option (List ℕ) → Option (List ℕ) → Option (List ℕ) → Bool → Type 0
+IsRunOf IsText (Ok u) text left old new push_has_failed = (left ≡ Some []) × SendsText IsText text true old new
+IsRunOf IsText (Err Write) text left old new push_has_failed =
+    (left ≡ Some []) × SendsText IsText text (not push_has_failed) old new
+IsRunOf IsText (Err fault) text left old new push_has_failed = IsScriptOf (Err fault) text left
+
+-- what sending a text of a script did to a sink, and returned: whether all of it was appended, and flushed
+pub record IsSent {K : Type 0} (IsText : Plan → List ℕ → Type 0) (plan : Plan) (sink : Sink K) (old new : K)
+    (result : Bool) : Type 0 where
+  pub text : List ℕ
+  pub is : IsText plan text
+  pub sends : Sends (result || not (sink.push_has_failed new)) text (sink.held old) (sink.held new)
+  pub failed : sink.has_failed new ≡ (not result || sink.has_failed old)
+  pub flushed : IsTrue result → sink.is_flushed new ≡ true
+
+-- what a run returned, and left of its source and its sink
+pub record Runs {S K : Type 0} (IsText : Plan → List ℕ → Type 0) (source : Source S) (sink : Sink K)
+    (input left : S) (old new : K) (ended : Result (Unit {0}) RunFault) : Type 0 where
+  -- where the text of the source is known
+  pub of_text : IfSome (source.left input) (λ text. IsRunOf IsText ended text (source.left left)
+      (sink.held old) (sink.held new) (sink.push_has_failed new))
+  -- after `Ok` the sink is flushed, if it says so
+  pub flushed : OnOk ended (sink.is_flushed new ≡ true)
+  -- after `Script`, `Memory` and `Read` the sink is as it was
+  pub untouched : IfErr ended (λ fault. fault ≢ Write → new ≡ old)
+  -- out of memory is `Memory`, and never `Script(Memory)`
+  pub memory : ended ≢ Err (Script scripts.Memory)
+  -- it is `Read` exactly where the source failed in this call
+  pub read : source.has_failed left ≡ (is_read_fault ended || source.has_failed input)
+  -- it is `Write` exactly where the sink failed in this call
+  pub write : sink.has_failed new ≡ (is_write_fault ended || sink.has_failed old)
+
+-- a run ended somehow, and a program with it: after `Ok` its status is 0, and `errors` is as it was; else it is that of the
+-- fault, and the line of the fault was appended to `errors` and flushed, or `errors` failed
+pub record Exits {S K E : Type 0} (IsText : Plan → List ℕ → Type 0) (source : Source S) (sink : Sink K) (errors : Sink E)
+    (input left : S) (old new : K) (before after : E) (status : ℕ) : Type 0 where
+  pub ended : Result (Unit {0}) RunFault
+  pub runs : Runs IsText source sink input left old new ended
+  pub tells : MatchResult ended (λ _. (status ≡ 0) × (after ≡ before))
+      (λ fault. (status ≡ fault_status fault) × WritesFault fault (errors.held before) (errors.held after)
+      (errors.has_failed before) (errors.has_failed after) (errors.push_has_failed after) (errors.is_flushed after))

@@ -1,6 +1,7 @@
 //! Where a script comes from, and where its answers go.
 
-ghost use Rattle.std.specs.Prelude.{◌≡◌, ℕ, ◌<◌, ◌≤◌, Bool, true, false, not, ◌||◌, IsTrue, List, Option, length, take};
+ghost use Rattle.std.specs.Prelude.{◌≡◌, ℕ, ◌<◌, ◌≤◌, Bool, true, false, not, ◌||◌, IsTrue, List, Option};
+ghost use Rattle.std.specs.Prelude.{length, take};
 ghost use Rattle.std.specs.Prelude.{IfSome, MatchOption, is_none};
 ghost use Rattle.offset_script.specs.Devices.{Reading, Writing};
 ghost use Rattle.std.specs.Io.KnownBytes.{Consumes, Appends, Keeps, IsAtEnd};
@@ -16,8 +17,8 @@ pub trait Source {
     // Whether a pull has failed.
     ghost has_failed: { Self → Bool };
 
-    /// Moves the first bytes of what is left to the beginning of `buf`, and returns their number. It is 0 only at the
-    /// end of the bytes, or for an empty `buf`. `None` is a failure, which takes nothing.
+    /// Moves the first bytes of what is left to the beginning of `buf`, and returns their number. It is 0
+    /// only at the end of the bytes, or for an empty `buf`. `None` is a failure, which takes nothing.
     fn pull(&mut self, buf: &mut [u8]) -> Option<usize>
         ensures count { IfSome result (λ n. n ≤ length buf.new) }
         ensures bytes { MatchOption result (Keeps (left self.old) (left self.new))
@@ -34,14 +35,15 @@ pub trait Sink {
     // Whether a push or a flush has failed.
     ghost has_failed: { Self → Bool };
 
-    // Whether a push has failed. A sink need not know: then this is always true, and the clauses on it say nothing.
+    // Whether a push has failed. A sink need not know: then this is always true, and the clauses on it say
+    // nothing.
     ghost push_has_failed: { Self → Bool } = { λ _. true };
 
     // Whether all bytes held are flushed. A sink need not know: then this is always true, and says nothing.
     ghost is_flushed: { Self → Bool } = { λ _. true };
 
-    /// Appends the first bytes of `bytes`, at least one, and returns their number. `None` is a failure, which appends
-    /// nothing.
+    /// Appends the first bytes of `bytes`, at least one, and returns their number. `None` is a failure, which
+    /// appends nothing.
     fn push(&mut self, bytes: &[u8]) -> Option<usize>
         requires { 0 < length bytes.now }
         ensures least { IfSome result (λ n. 0 < n) }
@@ -108,8 +110,8 @@ impl<R: Read> Source for FromRead<R> {
     }
 }
 
-/// A writer as a sink. Each call makes one write or one flush, and fails exactly where that does. A write that takes 0
-/// bytes is a failure too. It is flushed from a flush that succeeds to the next call.
+/// A writer as a sink. Each call makes one write or one flush, and fails exactly where that does. A write
+/// that takes 0 bytes is a failure too. It is flushed from a flush that succeeds to the next call.
 #[derive(Drop)]
 pub struct IntoWrite<W: Write> {
     inner: W,

@@ -1,4 +1,4 @@
-//! A space as JSON, for tools that draw or count its blocks.
+//! A space as JSON, for tools that draw or count its blocks. It only reads the space.
 
 ghost use Rattle.std.specs.Prelude.{◌≡◌, ◌++◌, IfOk, OnOk, map, string_bytes, true};
 ghost use Rattle.offset_allocator.specs.Listing.{as_placed, placed};
@@ -38,7 +38,8 @@ fn put_comma(text: &mut String, first: bool) -> Result<(), AllocError>
 
 // Appends a block.
 fn put_block<NI: NodeIndex>(text: &mut String, block: &Block<NI>) -> Result<(), AllocError>
-    ensures { OnOk result (string_bytes text.new ≡ string_bytes text.old ++ block_json (as_placed block.now)) }
+    ensures { OnOk result (string_bytes text.new ≡ string_bytes text.old
+        ++ block_json (as_placed block.now)) }
 {
     let offset = block.offset;
     let size = block.size;
@@ -107,7 +108,8 @@ fn put_live(
     max_allocs: u32,
     sums: &Statistics,
 ) -> Result<(), AllocError>
-    ensures { OnOk result (string_bytes text.new ≡ string_bytes text.old ++ live_json size max_allocs sums.now) }
+    ensures { OnOk result (string_bytes text.new ≡ string_bytes text.old
+        ++ live_json size max_allocs sums.now) }
 {
     let ranges = sums.live_ranges;
     let live = sums.live_units;
@@ -138,7 +140,8 @@ fn put_numbers(
     max_allocs: u32,
     sums: &Statistics,
 ) -> Result<(), AllocError>
-    ensures { OnOk result (string_bytes text.new ≡ string_bytes text.old ++ numbers_json size max_allocs sums.now) }
+    ensures { OnOk result (string_bytes text.new ≡ string_bytes text.old
+        ++ numbers_json size max_allocs sums.now) }
 {
     put_live(text, size, max_allocs, sums)?;
     put_free(text, sums)
@@ -157,10 +160,15 @@ fn put_vma_numbers(text: &mut String, size: u32, sums: &Statistics) -> Result<()
     )
 }
 
-/// A space as JSON: an object with its `size` and `max_allocs`, its statistics by their names, and `blocks`, in space
-/// order: each with `offset` and `size`, and a used one with its `name`.
+/// A space as JSON: an object with its `size` and `max_allocs`, its statistics by their names, and `blocks`,
+/// in space order: each with `offset` and `size`, and a used one with its `name`.
 ///
 /// It returns the text, or `AllocError` where an allocation fails.
+///
+/// ```
+/// let text = json_of(&player.space, alloc)?;
+/// assert!(text.starts_with("{\"size\":1000,"));
+/// ```
 pub fn json_of<T: Tables>(space: &AllocatorOf<T>, alloc: Global) -> Result<String, AllocError>
     ensures { IfOk result (λ text. (s : Statistics) × AreStatistics s space.now
         × (string_bytes text ≡ space_json s space.now)) }
@@ -174,10 +182,15 @@ pub fn json_of<T: Tables>(space: &AllocatorOf<T>, alloc: Global) -> Result<Strin
     Ok(text)
 }
 
-/// A space in the form of the dumps of VMA, the Vulkan Memory Allocator, as one block of memory: with the fields that its
-/// documentation names, for its `GpuMemDumpVis.py`. That script has not been tried on it.
+/// A space in the form of the dumps of VMA, the Vulkan Memory Allocator, as one block of memory: with the
+/// fields that its documentation names, for its `GpuMemDumpVis.py`. That script has not been tried on it.
 ///
 /// It returns the text, or `AllocError` where an allocation fails.
+///
+/// ```
+/// let text = vma_json_of(&player.space, alloc)?;
+/// assert!(text.starts_with("{\"General\":{\"API\":\"Vulkan\"}"));
+/// ```
 pub fn vma_json_of<T: Tables>(space: &AllocatorOf<T>, alloc: Global) -> Result<String, AllocError>
     ensures { IfOk result (λ text. (s : Statistics) × AreStatistics s space.now
         × (string_bytes text ≡ vma_space_json s space.now)) }

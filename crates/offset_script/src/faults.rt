@@ -1,6 +1,6 @@
 //! What is wrong with a script, and with a run.
 
-ghost use Rattle.std.specs.Prelude.{◌≡◌, Some};
+ghost use Rattle.std.specs.Prelude.{◌≡◌, ◌≤◌, Some, length};
 ghost use Rattle.offset_script.specs.declared.faults.ScriptFault.TheVariants.{Memory};
 ghost use Rattle.offset_script.specs.declared.faults.RunFault.TheVariants as faults;
 ghost use Rattle.offset_script.specs.Faults.{as_run_fault, fault_line, line_of, fault_status};
@@ -13,8 +13,8 @@ use std::fmt;
 pub enum ScriptFault {
     /// The text has more than 1,048,576 bytes.
     TooLong,
-    /// The first line that is neither empty nor a comment is no header; or there is no such line, and the number is one
-    /// more than that of line ends.
+    /// The first line that is neither empty nor a comment is no header; or there is no such line, and the
+    /// number is one more than that of line ends.
     BadHeader(u32),
     /// The header's node limit is below 2, or above what its index width admits.
     BadLimit(u32),
@@ -56,6 +56,10 @@ pub enum RunFault {
 
 impl RunFault {
     /// The status that a program ends with: 2 for a text that is no script, 3 for memory, and 4 for a device.
+    ///
+    /// ```
+    /// assert_eq!(RunFault::Read.status(), 4);
+    /// ```
     pub fn status(&self) -> u8
         ensures { result ≡ fault_status self.now }
     {
@@ -66,10 +70,15 @@ impl RunFault {
         }
     }
 
-    /// The number of the faulty line of the text, where there is one, and what is wrong.
+    /// The number of the faulty line of the text, where there is one, and what is wrong, in at most 13 bytes.
+    ///
+    /// ```
+    /// assert_eq!(RunFault::Read.parts(), (None, "read failed"));
+    /// ```
     pub fn parts(&self) -> (Option<u32>, &'static str)
         // Both parts together are the line of this fault.
-        ensures { fault_line self.now ≡ line_of result.0 result.1.now }
+        ensures line { fault_line self.now ≡ line_of result.0 result.1.now }
+        ensures short { length result.1.now ≤ 13 }
     {
         match self {
             RunFault::Script(ScriptFault::TooLong) => (None, "too long"),

@@ -7,7 +7,8 @@ ghost use Rattle.offset_script.specs.declared.scripts.Header.{Header};
 ghost use Rattle.offset_allocator.specs.View.{max_size};
 ghost use Rattle.offset_script.specs.Grammar.{command_of, header_of};
 ghost use Rattle.offset_script.specs.Histories.{HasNoLive, IsCollapse, IsNest, IsQuestion};
-ghost use Rattle.offset_script.specs.Histories.{answers_renumbered, collapse, outline, releases, without_offset};
+ghost use Rattle.offset_script.specs.Histories.{answers_renumbered, collapse, outline, releases};
+ghost use Rattle.offset_script.specs.Histories.{without_offset};
 ghost use Rattle.offset_script.specs.Machine.{State, start, step, after, answers, total, free_sizes};
 ghost use Rattle.offset_script.specs.Machine as machine;
 ghost use Rattle.offset_script.specs.Spelling.{IsSpelling, IsHeaderSpelling};
@@ -34,7 +35,8 @@ pub fn an_empty_space_continues_as_fresh()
 /// A fresh space that is extended continues as a fresh one of the summed size.
 pub fn an_extended_space_is_larger()
     ensures { (size more limit : ℕ) → size + more ≤ max_size → (cs : List Command)
-        → answers cs (after (command.Extend more ∷ []) (start size limit)) ≡ answers cs (start (size + more) limit) }
+        → answers cs (after (command.Extend more ∷ []) (start size limit))
+        ≡ answers cs (start (size + more) limit) }
 {}
 
 /// Releases in a row leave the same sizes and the same live grants in any order.
@@ -50,8 +52,8 @@ pub fn releases_commute()
         → without_offset (step c (after (releases ks) s)).answer ≡ without_offset (step c t).answer }
 {}
 
-/// A nest leaves no trace: each of its grants is released in it, the last first, what lies between a grant and its
-/// release is a nest too, no other grant is released, and nothing is reset or extended.
+/// A nest leaves no trace: each of its grants is released in it, the last first, what lies between a grant
+/// and its release is a nest too, no other grant is released, and nothing is reset or extended.
 pub fn a_nest_leaves_no_trace()
     ensures { (size limit : ℕ) → 2 ≤ limit → (cs nest : List Command)
         → let s = after cs (start size limit) in

@@ -2,13 +2,14 @@
 #![tactic(auto)]
 
 mod answers;
+mod buffer;
+mod common_lines;
 mod devices;
-mod direct;
 mod dumping;
 mod faults;
 pub mod laws;
-mod line;
 mod lines;
+mod listening;
 mod playing;
 mod program;
 mod reading;
@@ -18,13 +19,15 @@ mod sending;
 mod tokens;
 mod writing;
 
-pub use answers::{Answer, FullRow};
+pub use answers::{Answer, FullRow, full_answer};
+pub use buffer::TextBuffer;
 pub use devices::{FromRead, IntoWrite, Sink, Source};
 pub use dumping::{json_of, vma_json_of};
 pub use faults::{RunFault, ScriptFault};
-pub use playing::{Player, PlayerOf, full_answer, play, play_of, play_script};
-pub use program::run_program;
+pub use listening::{Listener, play_script_to};
+pub use playing::{Player, PlayerOf, play, play_of, play_script};
+pub use program::{run_program, run_program_of};
 pub use reading::parse;
-pub use running::{read_script, run};
+pub use running::{Sent, read_script, run, run_of};
 pub use scripts::{Command, IndexWidth, Script};
 pub use sending::{send, send_fault};

@@ -1,4 +1,4 @@
-//! The lines of a text that are neither empty nor comments.
+//! The lines of a text that are neither empty nor comments. It only reads the text.
 
 ghost use Rattle.std.specs.Prelude.{◌≡◌, ◌+◌, ◌-◌, ◌<◌, ◌^◌, ◌∷◌, [], if◌then◌else◌, length, MatchOption};
 ghost use Rattle.offset_script.specs.Grammar.{is_skipped, significant_from, line_ends};
@@ -61,13 +61,14 @@ impl<'a> Lines<'a> {
         (number, line)
     }
 
-    /// Takes lines up to the next one that is neither empty nor a comment, and returns its number and its text, or
-    /// `None` where there is no such line.
+    /// Takes lines up to the next one that is neither empty nor a comment, and returns its number and its
+    /// text, or `None` where there is no such line.
     pub fn next_line(&mut self) -> Option<(u32, &'a [u8])>
         ensures line { MatchOption result
             (significant_from self.old.number self.old.rest.now ≡ [])
             (λ line. significant_from self.old.number self.old.rest.now
-            ≡ record { number = line.0; text = line.1.now } ∷ significant_from self.new.number self.new.rest.now) }
+            ≡ record { number = line.0; text = line.1.now }
+            ∷ significant_from self.new.number self.new.rest.now) }
         ensures end { MatchOption result
             (self.new.number ≡ self.old.number + line_ends self.old.rest.now)
             (λ _. length self.new.rest.now < length self.old.rest.now) }

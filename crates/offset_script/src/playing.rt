@@ -1,39 +1,20 @@
-//! Plays the commands of a script on an allocator.
+//! Plays commands on an allocator, of which it keeps the handles. Nothing else here changes a space.
 
-ghost use Rattle.std.specs.Prelude.{◌≡◌, ◌+◌, ◌<◌, ◌≤◌, ℕ, IsTrue, All, [], length, map, slice_index_or, vec_len};
+ghost use Rattle.std.specs.Prelude.{◌≡◌, ◌+◌, ◌<◌, ◌≤◌, ℕ, IsTrue, All, [], length, map, slice_index_or};
+ghost use Rattle.std.specs.Prelude.{vec_len};
 ghost use Rattle.std.specs.Prelude.{None, IfOk, IfSome, option_map};
 ghost use Rattle.offset_script.specs.Steps.{kept_name, IsKept, Takes, AreLive};
 ghost use Rattle.offset_script.specs.Machine as machine;
 ghost use Rattle.offset_script.specs.Machine.{answer_view};
 ghost use Rattle.offset_script.specs.Playing.{AreAnswers};
 ghost use Rattle.offset_script.specs.Grammar.{has_valid_alignment};
-ghost use Rattle.offset_allocator.specs.View.{free_sizes};
 ghost use Rattle.offset_allocator.specs.Relations.{IsFresh};
 
-use crate::answers::{Answer, FullRow};
-use crate::scripts::{Command, IndexWidth, Script};
-use offset_allocator::laws::is_well_formed;
+use crate::answers::{Answer, full_answer};
+use crate::listening::{Listener, play_script_to, play_to};
+use crate::scripts::{Command, Script};
 use offset_allocator::{Allocation, AllocatorOf, ByNode, NodeIndex, Tables};
 use std::alloc::{AllocError, Global};
-
-/// The answer to `full`: a row for each class that has a free block. It fails only where an allocation fails.
-pub fn full_answer<T: Tables>(alloc: Global, space: &AllocatorOf<T>) -> Result<Answer, AllocError>
-    ensures { IfOk result (λ a. answer_view a ≡ machine.full_report (free_sizes space.now.blocks)) }
-{
-    let report = space.storage_report_full();
-    let mut rows = Vec::new(alloc);
-    for class in 0..256u32 {
-        let region = report.free_regions[class as usize];
-        if region.count > 0 {
-            rows.push(FullRow {
-                class,
-                size: region.size,
-                count: region.count,
-            })?;
-        }
-    }
-    Ok(Answer::Full(rows))
-}
 
 /// A player of an allocator by node.
 pub type Player<NI = u32> = PlayerOf<ByNode<NI>>;
@@ -52,8 +33,16 @@ pub struct PlayerOf<T: Tables> {
 }
 
 impl<T: Tables> PlayerOf<T> {
-    /// A fresh space, and no grants. The limit has to be 2 to `T::Index::MAX - 2`. It fails only where an allocation
-    /// fails.
+    /// A fresh space, and no grants. The limit has to be 2 to `T::Index::MAX - 2`.
+    ///
+    /// # Errors
+    ///
+    /// It fails only where an allocation fails.
+    ///
+    /// ```
+    /// let player = Player::<u16>::start(alloc, 1000, 16)?;
+    /// assert_eq!(player.space.size(), 1000);
+    /// ```
     pub fn start(alloc: Global, size: u32, max_allocs: u32) -> Result<Self, AllocError>
         requires low { 2 ≤ max_allocs }
         requires high { max_allocs + 1 < T.Index.MAX }
@@ -68,6 +57,11 @@ impl<T: Tables> PlayerOf<T> {
     }
 
     /// The handle of the grant of this number, if it is live.
+    ///
+    /// ```
+    /// player.call(alloc, Command::Alloc(300))?;
+    /// assert!(player.handle(1).is_some());
+    /// ```
     pub fn handle(&self, number: u32) -> Option<Allocation<T::Index>>
         ensures name { option_map (λ h. h.name) result ≡ kept_name self.now.handles.items number }
         ensures within { IfSome result (λ h. (1 ≤ number)
@@ -82,8 +76,17 @@ impl<T: Tables> PlayerOf<T> {
         }
     }
 
-    /// The answer to a request with this result. The handle of a grant is kept under the next number. It fails only where
-    /// an allocation fails.
+    /// The answer to a request with this result. The handle of a grant is kept under the next number.
+    ///
+    /// # Errors
+    ///
+    /// It fails only where an allocation fails.
+    ///
+    /// ```
+    /// let granted = player.space.allocate(300);
+    /// player.keep(granted)?;
+    /// assert_eq!(player.handle(1), granted);
+    /// ```
     pub fn keep(&mut self, granted: Option<Allocation<T::Index>>) -> Result<Answer, AllocError>
         ensures handle { IfOk result (λ a. IsKept granted self.old.handles.items
             self.new.handles.items (answer_view a)) }
@@ -180,8 +183,17 @@ impl<T: Tables> PlayerOf<T> {
         }
     }
 
-    /// The answer to one command. The alignment of a request has to be a power of two. It fails only where an
-    /// allocation fails.
+    /// The answer to one command. The alignment of a request has to be a power of two.
+    ///
+    /// # Errors
+    ///
+    /// It fails only where an allocation fails.
+    ///
+    /// ```
+    /// let answer = player.call(alloc, Command::Alloc(300))?;
+    /// assert!(matches!(answer, Answer::Grant { number: 1, offset: 0 }));
+    /// ```
+    #[inline(always)]
     pub fn call(&mut self, alloc: Global, command: Command) -> Result<Answer, AllocError>
         requires live { AreLive self.old.space self.old.handles.items }
         requires power { IsTrue (has_valid_alignment command) }
@@ -201,11 +213,48 @@ impl<T: Tables> PlayerOf<T> {
     }
 }
 
-/// Plays commands on an allocator of `size` units with the node limit `max_allocs`, and returns their answers in order,
-/// one for each.
+// The answers in order.
+impl Listener for Vec<Answer> {
+    ghost Heard = { λ found s cs. map answer_view found.items ≡ machine.answers cs s };
+
+    ghost played = { λ c. c };
+
+    fn played(command: Command) -> Command {
+        command
+    }
+
+    fn begin<T: Tables>(
+        alloc: Global,
+        _space: &AllocatorOf<T>,
+        _calls: usize,
+    ) -> Result<Self, AllocError> {
+        Ok(Vec::new(alloc))
+    }
+
+    #[inline(always)]
+    fn hear<T: Tables>(
+        &mut self,
+        _alloc: Global,
+        _space: &AllocatorOf<T>,
+        _command: Command,
+        answer: Answer,
+    ) -> Result<(), AllocError> {
+        self.push(answer)?;
+        Ok(())
+    }
+}
+
+/// Plays commands on an allocator of `size` units with the node limit `max_allocs`, and returns their answers
+/// in order, one for each.
 ///
-/// The limit has to be 2 to `T::Index::MAX - 2`, and each alignment a power of two. All answers are kept in memory. It
-/// fails only where an allocation fails: of the allocator's tables, of the list of handles, or of the answers.
+/// The limit has to be 2 to `T::Index::MAX - 2`, and each alignment a power of two. All answers are kept in
+/// memory. It fails only where an allocation fails: of the allocator's tables, of the list of handles, or of
+/// the answers.
+///
+/// ```
+/// let answers = play_of::<offset_allocator::ByField<u16>>(alloc, 1000, 16, &script.commands)?;
+/// assert_eq!(answers.len(), 2);
+/// ```
 pub fn play_of<T: Tables>(
     alloc: Global,
     size: u32,
@@ -218,23 +267,19 @@ pub fn play_of<T: Tables>(
     requires high { max_allocs + 1 < T.Index.MAX }
     // Each alignment is a power of two.
     requires powers { All (λ c. IsTrue (has_valid_alignment c)) commands.now }
-    // The answers are those of the plain machine to these commands, from one free block of `size` units, and of a run
-    // of the allocator's named steps; and three laws hold of them.
+    // The answers are those of the plain machine to these commands, from one free block of `size` units. They
+    // are also those of a run of the allocator's named steps, and three laws on histories hold of them.
     ensures { IfOk result (λ found. AreAnswers size max_allocs commands.now (map answer_view found.items)) }
 {
-    let mut player: PlayerOf<T> = PlayerOf::start(alloc, size, max_allocs)?;
-    // A step of the proof, which does nothing, here and below.
-    is_well_formed(&player.space);
-    let mut found = Vec::new(alloc);
-    for command in commands {
-        let answer = player.call(alloc, *command)?;
-        is_well_formed(&player.space);
-        found.push(answer)?;
-    }
-    Ok(found)
+    play_to::<T, Vec<Answer>>(alloc, size, max_allocs, commands)
 }
 
 /// `play_of` by node, as `Allocator` is. The limit has to be 2 to `NI::MAX - 2`.
+///
+/// ```
+/// let answers = play::<u32>(alloc, 1000, 16, &script.commands)?;
+/// assert_eq!(answers.len(), 2);
+/// ```
 pub fn play<NI: NodeIndex>(
     alloc: Global,
     size: u32,
@@ -249,17 +294,23 @@ pub fn play<NI: NodeIndex>(
     play_of::<ByNode<NI>>(alloc, size, max_allocs, commands)
 }
 
-/// Plays a script on an allocator of its index width, and returns the answers to its commands in order, one for each.
+/// Plays a script on an allocator of its index width, and returns the answers to its commands in order, one
+/// for each.
+///
+/// # Errors
 ///
 /// It fails only where an allocation fails.
+///
+/// ```
+/// let answers = play_script(alloc, &script)?;
+/// assert!(matches!(answers[0], Answer::Grant { number: 1, offset: 0 }));
+/// ```
 pub fn play_script(alloc: Global, script: &Script) -> Result<Vec<Answer>, AllocError>
-    // The answers are those of the plain machine to the commands of the script, from one free block of its size.
+    // The answers are those of the plain machine to the commands of the script, from one free block of its
+    // size.
     ensures { IfOk result
         (λ v. map answer_view v.items
         ≡ machine.answers script.now.commands.items (machine.start script.now.size script.now.max_allocs)) }
 {
-    match script.index {
-        IndexWidth::Bits16 => play::<u16>(alloc, script.size, script.max_allocs, &script.commands),
-        IndexWidth::Bits32 => play::<u32>(alloc, script.size, script.max_allocs, &script.commands),
-    }
+    play_script_to(alloc, script)
 }

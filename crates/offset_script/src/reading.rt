@@ -1,11 +1,12 @@
 //! Reads a text as a script.
 
 ghost use Rattle.std.specs.Prelude.{◌≡◌, IfSome, IsTrue};
-ghost use Rattle.offset_script.specs.Grammar.{plain_command, number_command, pair_command, command_of, width_of};
+ghost use Rattle.offset_script.specs.Grammar.{plain_command, number_command, pair_command, command_of};
+ghost use Rattle.offset_script.specs.Grammar.{width_of};
 ghost use Rattle.offset_script.specs.Grammar.{header_of, has_valid_alignment, is_admitted, meaning_of};
 ghost use Rattle.offset_script.specs.Running.{IsParsed};
 
-use crate::direct::read_common;
+use crate::common_lines::read_common;
 use crate::faults::ScriptFault;
 use crate::lines::Lines;
 use crate::scripts::{Command, Header, IndexWidth, Script};
@@ -61,7 +62,7 @@ fn pair_command(name: &[u8], n: u32, a: u32) -> Option<Command>
     }
 }
 
-// The command that a line spells, if it does.
+// The command that a line spells, or `None`.
 #[tactic(auto, using(crate::proofs::FirstLine::four_words), unfolding(crate::specs::Grammar::command_of_words))]
 fn command(line: &[u8]) -> Option<Command>
     ensures command { result ≡ command_of line.now }
@@ -95,7 +96,7 @@ fn width(word: &[u8]) -> Option<IndexWidth>
     }
 }
 
-// The header that a line spells, if it does, whatever its limit.
+// The header that a line spells, or `None`, whatever its limit.
 #[tactic(auto, using(crate::proofs::FirstLine::seven_words), unfolding(crate::specs::Grammar::header_of_words))]
 fn header(line: &[u8]) -> Option<Header>
     ensures { result ≡ header_of line.now }
@@ -137,10 +138,15 @@ impl Header {
 
 /// Reads a text as a script, and returns it, or the fault of its first faulty line.
 ///
-/// A text of more than 1,048,576 bytes is `TooLong`. Lines end with LF and are counted from 1; empty lines and those
-/// that begin with `#` are skipped. The first other line must be a header: it is `BadHeader` where it is none, or there
-/// is no such line, and `BadLimit` where its limit is not admitted. Each later line must be a command, or is
-/// `BadCommand`. `Memory` is returned only where an allocation failed.
+/// A text of more than 1,048,576 bytes is `TooLong`. Lines end with LF and are counted from 1; empty lines
+/// and those that begin with `#` are skipped. The first other line must be a header: it is `BadHeader` where
+/// it is none, or there is no such line, and `BadLimit` where its limit is not admitted. Each later line must
+/// be a command, or is `BadCommand`. `Memory` is returned only where an allocation failed.
+///
+/// ```
+/// let script = parse(alloc, b"space 1000 nodes 16 index 32\nalloc 300\n")?;
+/// assert_eq!((script.size, script.commands.len()), (1000, 1));
+/// ```
 #[tactic(auto, using(crate::proofs::Meaning::steps))]
 pub fn parse(alloc: Global, text: &[u8]) -> Result<Script, ScriptFault>
     // The result is the script that the text means, or the fault of its first faulty line, or `Memory`.

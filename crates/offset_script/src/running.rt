@@ -1,7 +1,9 @@
-//! Runs a script from a source to a sink.
+//! Runs a script from a source to a sink. Nothing is sent before all is read and made.
 
-ghost use Rattle.std.specs.Prelude.{◌≡◌, ◌≢◌, ◌⊎◌, true, false, IfOk, IfErr, IfSome, OnOk, ◌||◌};
-ghost use Rattle.offset_script.specs.Running.{IsRunOf, IsScriptOf, HasText, is_read_fault, is_write_fault};
+ghost use Rattle.std.specs.Prelude.{◌≡◌, ◌≢◌, ◌⊎◌, ℕ, false, IfOk, IfErr, IfSome, List, ◌||◌};
+ghost use Rattle.offset_script.specs.Grammar.{Plan};
+ghost use Rattle.offset_script.specs.Running.{HasText, IsScriptOf, IsSent, IsTextOfAnswers, Runs, view};
+ghost use Rattle.offset_script.specs.Running.{is_read_fault, is_write_fault};
 ghost use Rattle.offset_script.specs.declared.faults.RunFault.TheVariants as faults;
 ghost use Rattle.offset_script.specs.declared.faults.ScriptFault.TheVariants as scripts;
 
@@ -11,7 +13,7 @@ use crate::reading::{MAX_TEXT, parse};
 use crate::scripts::Script;
 use crate::sending::send_in_turn;
 use crate::writing::text_of_script;
-use std::alloc::Global;
+use std::alloc::{AllocError, Global};
 
 // The largest number of bytes that one pull requests.
 const PIECE: usize = 16384;
@@ -37,12 +39,18 @@ fn read_text<S: Source>(alloc: Global, input: &mut S) -> Result<Vec<u8>, RunFaul
 
 /// Reads a source to its end as a script, and returns it, or the fault.
 ///
-/// Of a text that is too long, 1,048,577 bytes are read. `Read` is returned exactly where the source failed in this
-/// call; no failed call is tried again. Where an allocation fails, the fault is `Memory`.
+/// Of a text that is too long, 1,048,577 bytes are read. `Read` is returned exactly where the source failed
+/// in this call; no failed call is tried again. Where an allocation fails, the fault is `Memory`.
+///
+/// ```
+/// let mut input = FromRead::new(&b"space 1000 nodes 16 index 32\nalloc 300\n"[..]);
+/// let script = read_script(alloc, &mut input)?;
+/// assert_eq!(script.max_allocs, 16);
+/// ```
 pub fn read_script<S: Source>(alloc: Global, input: &mut S) -> Result<Script, RunFault>
-    // Where the text of the source is known: the result is the script that the text means, or its fault, and nothing of
-    // the text is left, except what follows the first 1,048,577 bytes of one that is too long. On `Memory` and
-    // `Read` nothing is said.
+    // Where the text of the source is known: the result is the script that the text means, or its fault, and
+    // nothing of the text is left, except what follows the first 1,048,577 bytes of one that is too long. On
+    // `Memory` and `Read` nothing is said.
     ensures of_text { IfSome (S.left input.old) (λ text. IsScriptOf result text (S.left input.new)) }
     // Out of memory is `Memory`, and never `Script(Memory)`.
     ensures memory { result ≢ Err (faults.Script scripts.Memory) }
@@ -55,40 +63,83 @@ pub fn read_script<S: Source>(alloc: Global, input: &mut S) -> Result<Script, Ru
     Ok(parse(alloc, &text)?)
 }
 
-/// Reads a script to its end, plays it, writes the text of its answers, and then flushes.
-///
-/// The script and the text of all answers are in memory at once: the text in pieces of 64 KiB, of which no copy is made,
-/// and the space beside it until the last command is played. Once 4,096 rows are written, beyond the first eight of each
-/// report, the other answers are kept as values in place of their text: 32 bytes each, and 12 to 24 for each row, which
-/// takes 23 to 43 as text. Their text is made when the space is given back.
-///
-/// Nothing is written unless the whole text is a script; of a text that is too long, 1,048,577 bytes are read. `Read`
-/// is returned exactly where the source failed in this call, and `Write` exactly where the sink did; then a beginning
-/// of the answers is written, and all of them where only the flush failed. No failed call is tried again. Where an
-/// allocation fails, the fault is `Memory`.
-pub fn run<S: Source, K: Sink>(alloc: Global, input: &mut S, output: &mut K) -> Result<(), RunFault>
-    // Where the text of the source is known: on `Ok` it means a script, and the text of all its answers is appended; on
-    // `Write` a beginning of that text is, and all of it where no push has failed; on `Script` the fault is that of the
-    // text. Nothing of the text is left, except what follows the first 1,048,577 bytes of one that is too long. On
-    // `Memory` and `Read` nothing is said.
-    ensures of_text { IfSome (S.left input.old) (λ text. IsRunOf result text (S.left input.new)
-        (K.held output.old) (K.held output.new) (K.push_has_failed output.new)) }
-    // After `Ok` the sink is flushed, if it says so.
-    ensures flushed { OnOk result (K.is_flushed output.new ≡ true) }
-    // After `Script`, `Memory` and `Read` the sink is as it was.
-    ensures untouched { IfErr result (λ f. f ≢ faults.Write → output.new ≡ output.old) }
-    // Out of memory is `Memory`, and never `Script(Memory)`.
-    ensures memory { result ≢ Err (faults.Script scripts.Memory) }
-    // The fault is `Read` exactly where the source failed in this call.
-    ensures read { S.has_failed input.new ≡ (is_read_fault result || S.has_failed input.old) }
-    // The fault is `Write` exactly where the sink failed in this call.
-    ensures write { K.has_failed output.new ≡ (is_write_fault result || K.has_failed output.old) }
+/// What a run makes of a script: a text that it sends.
+pub trait Sent {
+    // Whether this is the text of what a script means.
+    ghost IsText: { Self → Plan → List ℕ → Type 0 };
+
+    /// Appends the text of a script, and then flushes. Returns whether both succeeded. It stops at the first
+    /// failure, and tries nothing again. Where an allocation fails, nothing is appended.
+    fn send<K: Sink>(
+        &self,
+        alloc: Global,
+        script: &Script,
+        output: &mut K,
+    ) -> Result<bool, AllocError>
+        ensures sent { IfOk result (λ sent. IsSent (IsText self.now) (view script.now) K.Sink
+            output.old output.new sent) }
+        ensures untouched { IfErr result (λ _. output.new ≡ output.old) };
+}
+
+/// `run`, with another text of a script in place of that of its answers.
+pub fn run_of<X: Sent, S: Source, K: Sink>(
+    alloc: Global,
+    sent: &X,
+    input: &mut S,
+    output: &mut K,
+) -> Result<(), RunFault>
+    ensures { Runs (X.IsText sent.now) S.Source K.Sink input.old input.new output.old output.new result }
 {
     let script = read_script(alloc, input)?;
-    let pieces = text_of_script(alloc, &script)?;
-    if send_in_turn(output, &pieces) {
+    if sent.send(alloc, &script, output)? {
         Ok(())
     } else {
         Err(RunFault::Write)
     }
+}
+
+// The answers of a script.
+pub(crate) struct Answers;
+
+impl Sent for Answers {
+    ghost IsText = { λ _. IsTextOfAnswers };
+
+    fn send<K: Sink>(
+        &self,
+        alloc: Global,
+        script: &Script,
+        output: &mut K,
+    ) -> Result<bool, AllocError> {
+        let pieces = text_of_script(alloc, script)?;
+        Ok(send_in_turn(output, &pieces))
+    }
+}
+
+/// Reads a script to its end, plays it, writes the text of its answers, and then flushes.
+///
+/// The script and the text of all answers are in memory at once: the text in pieces of 64 KiB, of which no
+/// copy is made, and the space beside it until the last command is played. Once 4,096 rows are written,
+/// beyond the first eight of each report, the other answers are kept as values in place of their text: 32
+/// bytes each, and 12 to 24 for each row, which takes 23 to 43 as text. Their text is made when the space is
+/// given back.
+///
+/// Nothing is written unless the whole text is a script; of a text that is too long, 1,048,577 bytes are
+/// read. `Read` is returned exactly where the source failed in this call, and `Write` exactly where the sink
+/// did; then a beginning of the answers is written, and all of them where only the flush failed. No failed
+/// call is tried again. Where an allocation fails, the fault is `Memory`.
+///
+/// ```
+/// let mut input = FromRead::new(&b"space 1000 nodes 16 index 32\nalloc 300\n"[..]);
+/// let mut output = IntoWrite::new(std::vec::Vec::new());
+/// run(alloc, &mut input, &mut output)?;
+/// assert_eq!(output.into_inner(), b"grant 1 at 0\n");
+/// ```
+pub fn run<S: Source, K: Sink>(alloc: Global, input: &mut S, output: &mut K) -> Result<(), RunFault>
+    // Where the text of the source is known: on `Ok` it means a script, and the text of all its answers is
+    // appended; on `Write` a beginning of that text is, and all of it where no push has failed; on `Script`
+    // the fault is that of the text. Nothing of the text is left, except what follows the first 1,048,577
+    // bytes of one that is too long.
+    ensures { Runs IsTextOfAnswers S.Source K.Sink input.old input.new output.old output.new result }
+{
+    run_of(alloc, &Answers, input, output)
 }

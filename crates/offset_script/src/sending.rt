@@ -1,4 +1,4 @@
-//! Sends texts to sinks.
+//! Sends texts to sinks. It takes no memory.
 
 ghost use Rattle.std.specs.Prelude.{◌≡◌, ◌++◌, true, ◌||◌, not, IsTrue};
 ghost use Rattle.std.specs.List.{flat_map};
@@ -6,9 +6,12 @@ ghost use Rattle.offset_script.specs.Grammar.{line_end};
 ghost use Rattle.offset_script.specs.Running.{Sends};
 ghost use Rattle.offset_script.specs.Faults.{fault_line};
 
+use crate::buffer::TextBuffer;
 use crate::devices::Sink;
 use crate::faults::RunFault;
-use crate::tokens::{MOST_DIGITS, digits};
+
+// The most bytes of the line of a fault with its line end: a number of 20 digits and the words fit.
+const ROOM: usize = 41;
 
 // Appends all bytes, and returns whether it did. It stops at the first failure, and tries nothing again.
 fn push_all<K: Sink>(output: &mut K, text: &[u8]) -> bool
@@ -26,10 +29,17 @@ fn push_all<K: Sink>(output: &mut K, text: &[u8]) -> bool
     true
 }
 
-/// Appends all bytes, and then flushes, also where there are none. Returns whether both succeeded. It stops at the
-/// first failure, and tries nothing again.
+/// Appends all bytes, and then flushes, also where there are none. Returns whether both succeeded. It stops
+/// at the first failure, and tries nothing again.
+///
+/// ```
+/// let mut output = IntoWrite::new(std::vec::Vec::new());
+/// assert!(send(&mut output, b"freed\n"));
+/// assert_eq!(output.into_inner(), b"freed\n");
+/// ```
 pub fn send<K: Sink>(output: &mut K, text: &[u8]) -> bool
-    // On `true` the whole text is appended, on `false` a beginning of it: the whole, where no push has failed.
+    // On `true` the whole text is appended, on `false` a beginning of it: the whole, where no push has
+    // failed.
     ensures sent { Sends (result || not (K.push_has_failed output.new)) text.now
         (K.held output.old) (K.held output.new) }
     // The result is `false` exactly where the sink failed in this call.
@@ -65,27 +75,17 @@ pub(crate) fn send_in_turn<K: Sink>(output: &mut K, pieces: &[Vec<u8>]) -> bool
     push_pieces(output, pieces) && output.flush()
 }
 
-// Appends the pieces of a text in turn, and then flushes. Returns whether all succeeded. It stops at the first failure,
-// and tries nothing again.
-fn send_pieces<K: Sink>(output: &mut K, pieces: &[&[u8]]) -> bool
-    ensures sent { Sends (result || not (K.push_has_failed output.new))
-        (flat_map (λ piece. piece.now) pieces.now) (K.held output.old) (K.held output.new) }
-    ensures failed { K.has_failed output.new ≡ (not result || K.has_failed output.old) }
-    ensures flushed { IsTrue result → K.is_flushed output.new ≡ true }
-{
-    for piece in pieces {
-        if !push_all(output, piece) {
-            return false;
-        }
-    }
-    output.flush()
-}
-
-/// Appends the line of a fault with its line end, and then flushes. Returns whether both succeeded. It stops at the
-/// first failure, tries nothing again, and allocates nothing.
+/// Appends the line of a fault with its line end, and then flushes. Returns whether both succeeded. It stops
+/// at the first failure, tries nothing again, and allocates nothing.
+///
+/// ```
+/// let mut output = IntoWrite::new(std::vec::Vec::new());
+/// assert!(send_fault(&mut output, RunFault::Read));
+/// assert_eq!(output.into_inner(), b"read failed\n");
+/// ```
 pub fn send_fault<K: Sink>(output: &mut K, fault: RunFault) -> bool
-    // On `true` the line of the fault with its line end is appended, on `false` a beginning of it: the whole, where no
-    // push has failed.
+    // On `true` the line of the fault with its line end is appended, on `false` a beginning of it: the whole,
+    // where no push has failed.
     ensures sent { Sends (result || not (K.push_has_failed output.new)) (fault_line fault ++ line_end)
         (K.held output.old) (K.held output.new) }
     // The result is `false` exactly where the sink failed in this call.
@@ -93,12 +93,14 @@ pub fn send_fault<K: Sink>(output: &mut K, fault: RunFault) -> bool
     // On `true` the sink is flushed.
     ensures flushed { IsTrue result → K.is_flushed output.new ≡ true }
 {
-    match fault.parts() {
-        (None, words) => send_pieces(output, &[words.as_bytes(), b"\n"]),
-        (Some(line), words) => {
-            let mut room = [0u8; MOST_DIGITS];
-            let number = digits(line, &mut room);
-            send_pieces(output, &[b"line ", number, b": ", words.as_bytes(), b"\n"])
-        }
+    let (number, words) = fault.parts();
+    let mut line: TextBuffer<ROOM> = TextBuffer::new();
+    line.put("\n");
+    line.put(words);
+    if let Some(number) = number {
+        line.put(": ");
+        line.put_number(u64::from(number));
+        line.put("line ");
     }
+    send(output, line.bytes())
 }

@@ -1,7 +1,6 @@
-//! Words and numbers of a line.
+//! Words and numbers of a line. It only reads the line.
 
 ghost use Rattle.std.specs.Prelude.{◌≡◌, ◌<◌, ◌∷◌, ◌==◌, [], length, position, IfSome};
-ghost use Rattle.std.specs.Fmt.{decimal};
 ghost use Rattle.std.specs.Option.{option_copied, option_map_or};
 ghost use Rattle.offset_script.specs.Grammar.{parts, number_of};
 
@@ -15,7 +14,8 @@ fn place_of(text: &[u8], at: u8) -> Option<usize>
     text.iter().position(|b| *b == at)
 }
 
-/// The part before the first byte `at`, and what comes after that byte. All of the text and `None` where there is none.
+/// The part before the first byte `at`, and what comes after that byte. All of the text and `None` where
+/// there is none.
 pub fn split_once(text: &[u8], at: u8) -> (&[u8], Option<&[u8]>)
     ensures parts { parts at text.now
         ≡ result.0.now ∷ option_map_or (parts at) (option_copied result.1) [] }
@@ -42,19 +42,4 @@ pub fn number(word: &[u8]) -> Option<u32>
         n = n * 10 + u64::from(*b - b'0');
     }
     u32::try_from(n).ok()
-}
-
-/// Writes the digits of a number, without leading zeros, to the end of `room`, and returns them.
-pub fn digits(n: u32, room: &mut [u8; MOST_DIGITS]) -> &[u8]
-    ensures { result.now ≡ decimal n }
-{
-    let mut rest = n;
-    let mut at = MOST_DIGITS - 1;
-    while rest >= 10 {
-        room[at] = b'0' + (rest % 10) as u8;
-        rest /= 10;
-        at -= 1;
-    }
-    room[at] = b'0' + rest as u8;
-    &room[at..]
 }

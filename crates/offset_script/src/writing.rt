@@ -1,5 +1,5 @@
-//! The text of the answers to a script, written while it is played: no list of answers is kept, unless full reports have
-//! many rows.
+//! The text of the answers to a script, written while it is played: no list of answers is kept, unless full
+//! reports have many rows.
 
 ghost use Rattle.std.specs.Prelude.{◌≡◌, ◌+◌, ◌++◌, ◌∷◌, ◌<◌, ◌≤◌, All, IfOk, IsTrue, OnOk, []};
 ghost use Rattle.std.specs.List.{flat_map};
@@ -8,10 +8,9 @@ ghost use Rattle.offset_script.specs.Machine as machine;
 ghost use Rattle.offset_script.specs.Machine.{answer_view};
 
 use crate::answers::{Answer, put_answer};
-use crate::playing::PlayerOf;
-use crate::scripts::{Command, IndexWidth, Script};
-use offset_allocator::laws::is_well_formed;
-use offset_allocator::{ByNode, Tables};
+use crate::listening::{Listener, play_script_to};
+use crate::scripts::{Command, Script};
+use offset_allocator::{AllocatorOf, Tables};
 use std::alloc::{AllocError, Global};
 use std::marker::Model;
 use std::mem::replace;
@@ -19,7 +18,8 @@ use std::mem::replace;
 // The room of a piece of text.
 const ROOM: usize = 65536;
 
-// A piece with this many bytes is full. The lines of one more answer, which has at most 256 rows, fit below `ROOM`.
+// A piece with this many bytes is full. The lines of one more answer, which has at most 256 rows, fit below
+// `ROOM`.
 const FULL: usize = 49152;
 
 // The text of a report with so many rows takes about as much memory as the report.
@@ -58,8 +58,8 @@ fn put_late(
     put_answer(last, answer)
 }
 
-// The text of answers, seen as its bytes. It grows in pieces, without a copy. After `FEW_ROWS` rows, which take more
-// memory as text, it keeps the answers, and their text is written at the end.
+// The text of answers, seen as its bytes. It grows in pieces, without a copy. After `FEW_ROWS` rows, which
+// take more memory as text, it keeps the answers, and their text is written at the end.
 #[derive(Drop)]
 struct Text {
     // the pieces that are full
@@ -67,7 +67,7 @@ struct Text {
     last: Vec<u8>,
     // the answers whose text follows
     late: Vec<Answer>,
-    // the rows beyond `SHORT` of the reports written so far
+    // the rows beyond `SHORT` of the reports written so far, but of those that open a piece
     rows: usize,
 }
 
@@ -136,46 +136,46 @@ impl Text {
     }
 }
 
-// Plays commands on an allocator, and returns the text of their answers in pieces.
-fn text_of_commands<T: Tables>(
-    alloc: Global,
-    size: u32,
-    max_allocs: u32,
-    commands: &[Command],
-) -> Result<Vec<Vec<u8>>, AllocError>
-    requires low { 2 ≤ max_allocs }
-    requires high { max_allocs + 1 < T.Index.MAX }
-    requires powers { All (λ c. IsTrue (has_valid_alignment c)) commands.now }
-    ensures { IfOk result (λ pieces. flat_map (λ piece. piece.items) pieces.items
-        ≡ text_of (machine.answers commands.now (machine.start size max_allocs))) }
-{
-    let mut player: PlayerOf<T> = PlayerOf::start(alloc, size, max_allocs)?;
-    // A step of the proof, which does nothing, here and below.
-    is_well_formed(&player.space);
-    let mut text = Text::new(alloc);
-    for command in commands {
-        let answer = player.call(alloc, *command)?;
-        is_well_formed(&player.space);
-        text.put(alloc, answer)?;
+impl Listener for Text {
+    ghost Heard = { λ text s cs. text ≡ text_of (machine.answers cs s) };
+
+    ghost played = { λ c. c };
+
+    fn played(command: Command) -> Command {
+        command
     }
-    // the space is given back before the rest of the text is written
-    drop(player);
-    text.pieces(alloc)
+
+    fn begin<T: Tables>(
+        alloc: Global,
+        _space: &AllocatorOf<T>,
+        _calls: usize,
+    ) -> Result<Self, AllocError> {
+        Ok(Text::new(alloc))
+    }
+
+    #[inline(always)]
+    fn hear<T: Tables>(
+        &mut self,
+        alloc: Global,
+        _space: &AllocatorOf<T>,
+        _command: Command,
+        answer: Answer,
+    ) -> Result<(), AllocError> {
+        self.put(alloc, answer)
+    }
 }
 
-/// Plays a script on an allocator of its index width, and returns the text of its answers in pieces: a line for each,
-/// and after the line of a full report one for each of its rows. It fails only where an allocation fails.
+/// Plays a script on an allocator of its index width, and returns the text of its answers in pieces: a line
+/// for each, and after the line of a full report one for each of its rows.
+///
+/// # Errors
+///
+/// It fails only where an allocation fails.
 pub(crate) fn text_of_script(alloc: Global, script: &Script) -> Result<Vec<Vec<u8>>, AllocError>
     ensures { IfOk result (λ pieces. flat_map (λ piece. piece.items) pieces.items
-        ≡ text_of (machine.answers script.now.commands.items (machine.start script.now.size script.now.max_allocs))) }
+        ≡ text_of (machine.answers script.now.commands.items
+        (machine.start script.now.size script.now.max_allocs))) }
 {
-    let commands = &script.commands;
-    match script.index {
-        IndexWidth::Bits16 => {
-            text_of_commands::<ByNode<u16>>(alloc, script.size, script.max_allocs, commands)
-        }
-        IndexWidth::Bits32 => {
-            text_of_commands::<ByNode<u32>>(alloc, script.size, script.max_allocs, commands)
-        }
-    }
+    let text: Text = play_script_to(alloc, script)?;
+    text.pieces(alloc)
 }

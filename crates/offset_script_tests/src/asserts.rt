@@ -1,5 +1,5 @@
-//! Assertions that are proved once: `assert!` and `assert_eq!` are proved anew wherever they are written, each for
-//! seconds. Only tests may end the process, so each crate of tests has its own.
+//! Assertions that are proved once: `assert!` and `assert_eq!` are proved anew wherever they are written,
+//! each for seconds. Only tests may end the process, so each crate of tests has its own.
 
 ghost use Rattle.std.specs.Prelude.{◌≡◌, true};
 

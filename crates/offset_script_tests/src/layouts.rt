@@ -1,5 +1,5 @@
-//! The answers and replies that each layout has to give. The layouts are named here alone, for scripts and for calls:
-//! the proof of a call takes seconds for each of them.
+//! The answers and replies that each layout has to give. The layouts are named here alone, for scripts and
+//! for calls: the proof of a call takes seconds for each of them.
 
 use crate::calls::{List, expect_replies};
 use crate::long_lists::expect_long;

@@ -1,4 +1,5 @@
-//! Tests of `offset_script`, of `offset_calls` and of `offset_lives`, and random tickets of `offset_guarded`.
+//! Tests of `offset_script`, of `offset_calls` and of `offset_pictures`, and random tickets of
+//! `offset_guarded`.
 #![tactic(auto)]
 
 #[cfg(test)]

@@ -1,5 +1,5 @@
-//! Lists of calls whose lengths are powers of two, with handles and with tickets: no clause says when memory is out, so a
-//! body that gives up at some lengths is proved, and refused here.
+//! Lists of calls whose lengths are powers of two, with handles and with tickets: no clause says when memory
+//! is out, so a body that gives up at some lengths is proved, and refused here.
 
 use crate::asserts::{assert_same, assert_that};
 use crate::layouts::{Trial, expect_of_each};

@@ -1,8 +1,8 @@
-//! Whole programs, with the line and the status of each fault: `run_program`, and `draw_program`, which draws nothing
-//! after a fault.
+//! Whole programs, with the line and the status of each fault: `run_program`, and `draw_program`, which draws
+//! nothing after a fault.
 
 use crate::asserts::{assert_same, assert_same_at, assert_that};
-use offset_lives::draw_program;
+use offset_pictures::draw_program;
 use offset_script::{FromRead, IntoWrite, Sink, Source, run_program};
 use offset_test_base::devices::{Reader, Writer};
 use std::alloc::Global;

@@ -4,7 +4,7 @@ ghost use Rattle.std.specs.Prelude.{◌≡◌, ◌≢◌, [], Some, Ok, Err, IfO
 ghost use Rattle.offset_script.specs.declared.faults.ScriptFault.{ScriptFault};
 ghost use Rattle.offset_script.specs.declared.faults.RunFault.TheVariants as faults;
 ghost use Rattle.offset_script.specs.Grammar.{meaning_of};
-ghost use Rattle.offset_script.specs.Running.{SendsAnswers};
+ghost use Rattle.offset_script.specs.Running.{IsTextOfAnswers, SendsText};
 
 use offset_script::{IntoWrite, RunFault, Source, run};
 use std::alloc::Global;
@@ -29,7 +29,8 @@ impl<'a> Source for Bytes<'a> {
 
 /// Plays a script, and returns the text of its answers, or the fault: that of the script, or `Memory`.
 pub fn answers_in_memory(alloc: Global, text: &[u8]) -> Result<Vec<u8>, RunFault>
-    ensures answers { IfOk result (λ bytes. SendsAnswers text.now true (Some []) (Some bytes.items)) }
+    ensures answers { IfOk result
+        (λ bytes. SendsText IsTextOfAnswers text.now true (Some []) (Some bytes.items)) }
     ensures fault { (f : ScriptFault) → result ≡ Err (faults.Script f) → meaning_of text.now ≡ Err f }
     ensures memory { IfErr result (λ f. (f ≢ faults.Read) × (f ≢ faults.Write)) }
 {

@@ -3,7 +3,7 @@
 use crate::playing::{Answer, Play};
 use crate::reading::{Call, Header, Line, Lines};
 use offset_allocator_proved::NodeIndex;
-use offset_lives::{Asked, Course, Global, Life, Reason, Refused, Vec};
+use offset_pictures::{Asked, Course, Global, Life, Reason, Refused, Vec};
 use offset_script::{Answer as Said, Command, IndexWidth, RunFault, ScriptFault};
 use std::io::BufRead;
 
@@ -171,7 +171,7 @@ pub fn course(from: impl BufRead) -> Result<Course, RunFault> {
 }
 
 /// The picture of a recording, as SVG, with this title: the one that is proved for its course. For a script
-/// it is that of `offset_picture`.
+/// it is that of `offset_picture_program`.
 pub fn draw(title: &str, from: impl BufRead) -> Result<String, RunFault> {
-    Ok(offset_lives::picture_of(Global, title, &course(from)?)?.into())
+    Ok(offset_pictures::picture_of(Global, title, &course(from)?)?.into())
 }

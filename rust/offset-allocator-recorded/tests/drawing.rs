@@ -2,7 +2,7 @@
 
 use offset_allocator_proved::Refusal;
 use offset_allocator_recorded::{course, draw, play, Global, RunFault};
-use offset_lives::{picture, Asked, Life, Reason, Refused};
+use offset_pictures::{picture, Asked, Life, Reason, Refused};
 
 fn below(state: &mut u64, n: usize) -> usize {
     *state = state.wrapping_mul(6_364_136_223_846_793_005).wrapping_add(1_442_695_040_888_963_407);

@@ -1,11 +1,14 @@
 // Printed by rust/erase from crates/offset_script/src/answers.rt: change it there.
 
-//! Answers, and their text.
+//! Answers, and their text. It reads spaces, and appends to texts.
 
 use crate::memory::Vec;
-use crate::line::Line;
-use offset_allocator::StorageReport;
-use crate::memory::AllocError;
+use crate::buffer::TextBuffer;
+use offset_allocator::{AllocatorOf, StorageReport, Tables};
+use crate::memory::{AllocError, Global};
+
+// The most bytes of a line. Three numbers of 20 digits and the words of a row fit.
+const ROOM: usize = 80;
 
 /// One size class of a full report.
 #[derive(Clone, Copy, PartialEq, Debug)]
@@ -31,8 +34,8 @@ pub enum Answer {
     Gone,
     /// The size of a grant in units.
     Size(u32),
-    /// The free units in all, and the largest class value of a free block. Both are 0 where the space has as many
-    /// blocks as its limit allows.
+    /// The free units in all, and the largest class value of a free block. Both are 0 where the space has as
+    /// many blocks as its limit allows.
     Report(StorageReport),
     /// The classes that have a free block, in rising order.
     Full(Vec<FullRow>),
@@ -42,56 +45,86 @@ pub enum Answer {
     Extended,
 }
 
-// Appends the line of a grant.
+/// The answer to `full`: a row for each class that has a free block.
+///
+/// # Errors
+///
+/// It fails only where an allocation fails.
+///
+/// ```
+/// # use offset_script::*;
+/// # let alloc = Global;
+/// let mut player = Player::<u32>::start(alloc, 1000, 16)?;
+/// let answer = full_answer(alloc, &player.space)?;
+/// assert!(matches!(answer, Answer::Full(rows) if rows.len() == 1));
+/// # Ok::<(), RunFault>(())
+/// ```
+pub fn full_answer<T: Tables>(alloc: Global, space: &AllocatorOf<T>) -> Result<Answer, AllocError> {
+    let report = space.storage_report_full();
+    let mut rows = Vec::new(alloc);
+    for class in 0..256u32 {
+        let region = report.free_regions[class as usize];
+        if region.count > 0 {
+            rows.push(FullRow {
+                class,
+                size: region.size,
+                count: region.count,
+            })?;
+        }
+    }
+    Ok(Answer::Full(rows))
+}
+
+// Appends the line of a grant. Each line is put together from its end.
 fn put_grant(out: &mut Vec<u8>, number: u64, offset: u32) -> Result<(), AllocError> {
-    let mut line = Line::new();
-    line.put(b"\n");
+    let mut line: TextBuffer<ROOM> = TextBuffer::new();
+    line.put("\n");
     line.put_number(u64::from(offset));
-    line.put(b" at ");
+    line.put(" at ");
     line.put_number(number);
-    line.put(b"grant ");
+    line.put("grant ");
     out.extend_from_slice(line.bytes())
 }
 
 // Appends the line of a size.
 fn put_size(out: &mut Vec<u8>, size: u32) -> Result<(), AllocError> {
-    let mut line = Line::new();
-    line.put(b"\n");
+    let mut line: TextBuffer<ROOM> = TextBuffer::new();
+    line.put("\n");
     line.put_number(u64::from(size));
-    line.put(b"size ");
+    line.put("size ");
     out.extend_from_slice(line.bytes())
 }
 
 // Appends the line of a report.
 fn put_report(out: &mut Vec<u8>, free: u32, largest: u32) -> Result<(), AllocError> {
-    let mut line = Line::new();
-    line.put(b"\n");
+    let mut line: TextBuffer<ROOM> = TextBuffer::new();
+    line.put("\n");
     line.put_number(u64::from(largest));
-    line.put(b" largest ");
+    line.put(" largest ");
     line.put_number(u64::from(free));
-    line.put(b"free ");
+    line.put("free ");
     out.extend_from_slice(line.bytes())
 }
 
 // Appends the first line of a full report.
 fn put_count(out: &mut Vec<u8>, count: usize) -> Result<(), AllocError> {
-    let mut line = Line::new();
-    line.put(b"\n");
+    let mut line: TextBuffer<ROOM> = TextBuffer::new();
+    line.put("\n");
     line.put_number(count as u64);
-    line.put(b"full ");
+    line.put("full ");
     out.extend_from_slice(line.bytes())
 }
 
 // Appends the line of a row, with its line end.
 fn put_row(out: &mut Vec<u8>, row: &FullRow) -> Result<(), AllocError> {
-    let mut line = Line::new();
-    line.put(b"\n");
+    let mut line: TextBuffer<ROOM> = TextBuffer::new();
+    line.put("\n");
     line.put_number(u64::from(row.count));
-    line.put(b" count ");
+    line.put(" count ");
     line.put_number(u64::from(row.size));
-    line.put(b" size ");
+    line.put(" size ");
     line.put_number(u64::from(row.class));
-    line.put(b"class ");
+    line.put("class ");
     out.extend_from_slice(line.bytes())
 }
 

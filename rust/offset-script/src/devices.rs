@@ -6,15 +6,15 @@ use std::io::{Read, Write};
 
 /// Bytes that come in pieces.
 pub trait Source {
-    /// Moves the first bytes of what is left to the beginning of `buf`, and returns their number. It is 0 only at the
-    /// end of the bytes, or for an empty `buf`. `None` is a failure, which takes nothing.
+    /// Moves the first bytes of what is left to the beginning of `buf`, and returns their number. It is 0
+    /// only at the end of the bytes, or for an empty `buf`. `None` is a failure, which takes nothing.
     fn pull(&mut self, buf: &mut [u8]) -> Option<usize>;
 }
 
 /// A receiver of bytes that come in pieces.
 pub trait Sink {
-    /// Appends the first bytes of `bytes`, at least one, and returns their number. `None` is a failure, which appends
-    /// nothing.
+    /// Appends the first bytes of `bytes`, at least one, and returns their number. `None` is a failure, which
+    /// appends nothing.
     fn push(&mut self, bytes: &[u8]) -> Option<usize>;
 
     /// Passes on what was appended, and appends nothing itself. `false` is a failure.
@@ -55,8 +55,8 @@ impl<R: Read> Source for FromRead<R> {
     }
 }
 
-/// A writer as a sink. Each call makes one write or one flush, and fails exactly where that does. A write that takes 0
-/// bytes is a failure too. It is flushed from a flush that succeeds to the next call.
+/// A writer as a sink. Each call makes one write or one flush, and fails exactly where that does. A write
+/// that takes 0 bytes is a failure too. It is flushed from a flush that succeeds to the next call.
 pub struct IntoWrite<W: Write> {
     inner: W,
     failed_push: bool,

@@ -1,6 +1,6 @@
 // Printed by rust/erase from crates/offset_script/src/dumping.rt: change it there.
 
-//! A space as JSON, for tools that draw or count its blocks.
+//! A space as JSON, for tools that draw or count its blocks. It only reads the space.
 
 use crate::memory::String;
 use crate::memory::Vec;
@@ -131,10 +131,19 @@ fn put_vma_numbers(text: &mut String, size: u32, sums: &Statistics) -> Result<()
     )
 }
 
-/// A space as JSON: an object with its `size` and `max_allocs`, its statistics by their names, and `blocks`, in space
-/// order: each with `offset` and `size`, and a used one with its `name`.
+/// A space as JSON: an object with its `size` and `max_allocs`, its statistics by their names, and `blocks`,
+/// in space order: each with `offset` and `size`, and a used one with its `name`.
 ///
 /// It returns the text, or `AllocError` where an allocation fails.
+///
+/// ```
+/// # use offset_script::*;
+/// # let alloc = Global;
+/// let mut player = Player::<u32>::start(alloc, 1000, 16)?;
+/// let text = json_of(&player.space, alloc)?;
+/// assert!(text.starts_with("{\"size\":1000,"));
+/// # Ok::<(), RunFault>(())
+/// ```
 pub fn json_of<T: Tables>(space: &AllocatorOf<T>, alloc: Global) -> Result<String, AllocError> {
     let blocks = blocks_in_order(alloc, space)?;
     let mut text = String::new(alloc);
@@ -145,10 +154,19 @@ pub fn json_of<T: Tables>(space: &AllocatorOf<T>, alloc: Global) -> Result<Strin
     Ok(text)
 }
 
-/// A space in the form of the dumps of VMA, the Vulkan Memory Allocator, as one block of memory: with the fields that its
-/// documentation names, for its `GpuMemDumpVis.py`. That script has not been tried on it.
+/// A space in the form of the dumps of VMA, the Vulkan Memory Allocator, as one block of memory: with the
+/// fields that its documentation names, for its `GpuMemDumpVis.py`. That script has not been tried on it.
 ///
 /// It returns the text, or `AllocError` where an allocation fails.
+///
+/// ```
+/// # use offset_script::*;
+/// # let alloc = Global;
+/// let mut player = Player::<u32>::start(alloc, 1000, 16)?;
+/// let text = vma_json_of(&player.space, alloc)?;
+/// assert!(text.starts_with("{\"General\":{\"API\":\"Vulkan\"}"));
+/// # Ok::<(), RunFault>(())
+/// ```
 pub fn vma_json_of<T: Tables>(space: &AllocatorOf<T>, alloc: Global) -> Result<String, AllocError> {
     let blocks = blocks_in_order(alloc, space)?;
     let mut text = String::new(alloc);

@@ -10,8 +10,8 @@ use core::fmt;
 pub enum ScriptFault {
     /// The text has more than 1,048,576 bytes.
     TooLong,
-    /// The first line that is neither empty nor a comment is no header; or there is no such line, and the number is one
-    /// more than that of line ends.
+    /// The first line that is neither empty nor a comment is no header; or there is no such line, and the
+    /// number is one more than that of line ends.
     BadHeader(u32),
     /// The header's node limit is below 2, or above what its index width admits.
     BadLimit(u32),
@@ -43,6 +43,13 @@ pub enum RunFault {
 
 impl RunFault {
     /// The status that a program ends with: 2 for a text that is no script, 3 for memory, and 4 for a device.
+    ///
+    /// ```
+    /// # use offset_script::*;
+    /// # let alloc = Global;
+    /// assert_eq!(RunFault::Read.status(), 4);
+    /// # Ok::<(), RunFault>(())
+    /// ```
     pub fn status(&self) -> u8 {
         match self {
             RunFault::Script(ScriptFault::Memory) | RunFault::Memory => 3,
@@ -51,7 +58,14 @@ impl RunFault {
         }
     }
 
-    /// The number of the faulty line of the text, where there is one, and what is wrong.
+    /// The number of the faulty line of the text, where there is one, and what is wrong, in at most 13 bytes.
+    ///
+    /// ```
+    /// # use offset_script::*;
+    /// # let alloc = Global;
+    /// assert_eq!(RunFault::Read.parts(), (None, "read failed"));
+    /// # Ok::<(), RunFault>(())
+    /// ```
     pub fn parts(&self) -> (Option<u32>, &'static str) {
         match self {
             RunFault::Script(ScriptFault::TooLong) => (None, "too long"),

@@ -17,8 +17,8 @@ pub fn an_extended_space_is_larger() {}
 /// Releases in a row leave the same sizes and the same live grants in any order.
 pub fn releases_commute() {}
 
-/// A nest leaves no trace: each of its grants is released in it, the last first, what lies between a grant and its
-/// release is a nest too, no other grant is released, and nothing is reset or extended.
+/// A nest leaves no trace: each of its grants is released in it, the last first, what lies between a grant
+/// and its release is a nest too, no other grant is released, and nothing is reset or extended.
 pub fn a_nest_leaves_no_trace() {}
 
 /// A report, a full report or a question for a size, put anywhere into the commands, changes no other answer.

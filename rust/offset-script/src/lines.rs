@@ -1,6 +1,6 @@
 // Printed by rust/erase from crates/offset_script/src/lines.rt: change it there.
 
-//! The lines of a text that are neither empty nor comments.
+//! The lines of a text that are neither empty nor comments. It only reads the text.
 
 use crate::tokens::split_once;
 
@@ -47,8 +47,8 @@ impl<'a> Lines<'a> {
         (number, line)
     }
 
-    /// Takes lines up to the next one that is neither empty nor a comment, and returns its number and its text, or
-    /// `None` where there is no such line.
+    /// Takes lines up to the next one that is neither empty nor a comment, and returns its number and its
+    /// text, or `None` where there is no such line.
     pub fn next_line(&mut self) -> Option<(u32, &'a [u8])> {
         while !self.rest.is_empty() {
             let (number, line) = self.take_line();

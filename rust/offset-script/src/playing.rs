@@ -1,30 +1,13 @@
 // Printed by rust/erase from crates/offset_script/src/playing.rt: change it there.
 
-//! Plays the commands of a script on an allocator.
+//! Plays commands on an allocator, of which it keeps the handles. Nothing else here changes a space.
 
 use crate::memory::Vec;
-use crate::answers::{Answer, FullRow};
-use crate::scripts::{Command, IndexWidth, Script};
-use offset_allocator::laws::is_well_formed;
+use crate::answers::{Answer, full_answer};
+use crate::listening::{Listener, play_script_to, play_to};
+use crate::scripts::{Command, Script};
 use offset_allocator::{Allocation, AllocatorOf, ByNode, NodeIndex, Tables};
 use crate::memory::{AllocError, Global};
-
-/// The answer to `full`: a row for each class that has a free block. It fails only where an allocation fails.
-pub fn full_answer<T: Tables>(alloc: Global, space: &AllocatorOf<T>) -> Result<Answer, AllocError> {
-    let report = space.storage_report_full();
-    let mut rows = Vec::new(alloc);
-    for class in 0..256u32 {
-        let region = report.free_regions[class as usize];
-        if region.count > 0 {
-            rows.push(FullRow {
-                class,
-                size: region.size,
-                count: region.count,
-            })?;
-        }
-    }
-    Ok(Answer::Full(rows))
-}
 
 /// A player of an allocator by node.
 pub type Player<NI = u32> = PlayerOf<ByNode<NI>>;
@@ -40,12 +23,23 @@ pub struct PlayerOf<T: Tables> {
 }
 
 impl<T: Tables> PlayerOf<T> {
-    /// A fresh space, and no grants. The limit has to be 2 to `T::Index::MAX - 2`. It fails only where an allocation
-    /// fails.
+    /// A fresh space, and no grants. The limit has to be 2 to `T::Index::MAX - 2`.
+    ///
+    /// # Errors
+    ///
+    /// It fails only where an allocation fails.
     ///
     /// # Panics
     ///
     /// It panics unless `max_allocs` is at least 2, and `max_allocs` is at most `NI::MAX - 2`.
+    ///
+    /// ```
+    /// # use offset_script::*;
+    /// # let alloc = Global;
+    /// let player = Player::<u16>::start(alloc, 1000, 16)?;
+    /// assert_eq!(player.space.size(), 1000);
+    /// # Ok::<(), RunFault>(())
+    /// ```
     #[track_caller]
     pub fn start(alloc: Global, size: u32, max_allocs: u32) -> Result<Self, AllocError> {
         assert!(2 <= max_allocs, "max_allocs must be at least 2");
@@ -59,6 +53,15 @@ impl<T: Tables> PlayerOf<T> {
     }
 
     /// The handle of the grant of this number, if it is live.
+    ///
+    /// ```
+    /// # use offset_script::*;
+    /// # let alloc = Global;
+    /// let mut player = Player::<u32>::start(alloc, 1000, 16)?;
+    /// player.call(alloc, Command::Alloc(300))?;
+    /// assert!(player.handle(1).is_some());
+    /// # Ok::<(), RunFault>(())
+    /// ```
     pub fn handle(&self, number: u32) -> Option<Allocation<T::Index>> {
         if number == 0 {
             return None;
@@ -69,8 +72,21 @@ impl<T: Tables> PlayerOf<T> {
         }
     }
 
-    /// The answer to a request with this result. The handle of a grant is kept under the next number. It fails only where
-    /// an allocation fails.
+    /// The answer to a request with this result. The handle of a grant is kept under the next number.
+    ///
+    /// # Errors
+    ///
+    /// It fails only where an allocation fails.
+    ///
+    /// ```
+    /// # use offset_script::*;
+    /// # let alloc = Global;
+    /// let mut player = Player::<u32>::start(alloc, 1000, 16)?;
+    /// let granted = player.space.allocate(300);
+    /// player.keep(granted)?;
+    /// assert_eq!(player.handle(1), granted);
+    /// # Ok::<(), RunFault>(())
+    /// ```
     pub fn keep(&mut self, granted: Option<Allocation<T::Index>>) -> Result<Answer, AllocError> {
         match granted {
             None => Ok(Answer::Refused),
@@ -140,12 +156,25 @@ impl<T: Tables> PlayerOf<T> {
         }
     }
 
-    /// The answer to one command. The alignment of a request has to be a power of two. It fails only where an
-    /// allocation fails.
+    /// The answer to one command. The alignment of a request has to be a power of two.
+    ///
+    /// # Errors
+    ///
+    /// It fails only where an allocation fails.
     ///
     /// # Panics
     ///
     /// It panics unless an alignment is a power of two.
+    ///
+    /// ```
+    /// # use offset_script::*;
+    /// # let alloc = Global;
+    /// let mut player = Player::<u32>::start(alloc, 1000, 16)?;
+    /// let answer = player.call(alloc, Command::Alloc(300))?;
+    /// assert!(matches!(answer, Answer::Grant { number: 1, offset: 0 }));
+    /// # Ok::<(), RunFault>(())
+    /// ```
+    #[inline(always)]
     #[track_caller]
     pub fn call(&mut self, alloc: Global, command: Command) -> Result<Answer, AllocError> {
         assert!(!matches!(command, Command::Align(_, align) if !align.is_power_of_two()), "an alignment must be a power of two");
@@ -162,16 +191,53 @@ impl<T: Tables> PlayerOf<T> {
     }
 }
 
-/// Plays commands on an allocator of `size` units with the node limit `max_allocs`, and returns their answers in order,
-/// one for each.
+// The answers in order.
+impl Listener for Vec<Answer> {
+    fn played(command: Command) -> Command {
+        command
+    }
+
+    fn begin<T: Tables>(
+        alloc: Global,
+        _space: &AllocatorOf<T>,
+        _calls: usize,
+    ) -> Result<Self, AllocError> {
+        Ok(Vec::new(alloc))
+    }
+
+    #[inline(always)]
+    fn hear<T: Tables>(
+        &mut self,
+        _alloc: Global,
+        _space: &AllocatorOf<T>,
+        _command: Command,
+        answer: Answer,
+    ) -> Result<(), AllocError> {
+        self.push(answer)?;
+        Ok(())
+    }
+}
+
+/// Plays commands on an allocator of `size` units with the node limit `max_allocs`, and returns their answers
+/// in order, one for each.
 ///
-/// The limit has to be 2 to `T::Index::MAX - 2`, and each alignment a power of two. All answers are kept in memory. It
-/// fails only where an allocation fails: of the allocator's tables, of the list of handles, or of the answers.
+/// The limit has to be 2 to `T::Index::MAX - 2`, and each alignment a power of two. All answers are kept in
+/// memory. It fails only where an allocation fails: of the allocator's tables, of the list of handles, or of
+/// the answers.
 ///
 /// # Panics
 ///
 /// It panics unless `max_allocs` is at least 2, and `max_allocs` is at most `NI::MAX - 2`, and each
 /// alignment is a power of two.
+///
+/// ```
+/// # use offset_script::*;
+/// # let alloc = Global;
+/// let script = parse(alloc, b"space 1000 nodes 16 index 32\nalloc 300\nfree 1\n")?;
+/// let answers = play_of::<offset_allocator::ByField<u16>>(alloc, 1000, 16, &script.commands)?;
+/// assert_eq!(answers.len(), 2);
+/// # Ok::<(), RunFault>(())
+/// ```
 #[track_caller]
 pub fn play_of<T: Tables>(
     alloc: Global,
@@ -182,16 +248,7 @@ pub fn play_of<T: Tables>(
     assert!(2 <= max_allocs, "max_allocs must be at least 2");
     assert!(max_allocs < T::Index::MAX - 1, "max_allocs must be at most NI::MAX - 2");
     assert!(commands.iter().all(|c| !matches!(c, Command::Align(_, align) if !align.is_power_of_two())), "each alignment must be a power of two");
-    let mut player: PlayerOf<T> = PlayerOf::start(alloc, size, max_allocs)?;
-    // A step of the proof, which does nothing, here and below.
-    is_well_formed(&player.space);
-    let mut found = Vec::new(alloc);
-    for command in commands {
-        let answer = player.call(alloc, *command)?;
-        is_well_formed(&player.space);
-        found.push(answer)?;
-    }
-    Ok(found)
+    play_to::<T, Vec<Answer>>(alloc, size, max_allocs, commands)
 }
 
 /// `play_of` by node, as `Allocator` is. The limit has to be 2 to `NI::MAX - 2`.
@@ -200,6 +257,15 @@ pub fn play_of<T: Tables>(
 ///
 /// It panics unless `max_allocs` is at least 2, and `max_allocs` is at most `NI::MAX - 2`, and each
 /// alignment is a power of two.
+///
+/// ```
+/// # use offset_script::*;
+/// # let alloc = Global;
+/// let script = parse(alloc, b"space 1000 nodes 16 index 32\nalloc 300\nfree 1\n")?;
+/// let answers = play::<u32>(alloc, 1000, 16, &script.commands)?;
+/// assert_eq!(answers.len(), 2);
+/// # Ok::<(), RunFault>(())
+/// ```
 #[track_caller]
 pub fn play<NI: NodeIndex>(
     alloc: Global,
@@ -213,12 +279,21 @@ pub fn play<NI: NodeIndex>(
     play_of::<ByNode<NI>>(alloc, size, max_allocs, commands)
 }
 
-/// Plays a script on an allocator of its index width, and returns the answers to its commands in order, one for each.
+/// Plays a script on an allocator of its index width, and returns the answers to its commands in order, one
+/// for each.
+///
+/// # Errors
 ///
 /// It fails only where an allocation fails.
+///
+/// ```
+/// # use offset_script::*;
+/// # let alloc = Global;
+/// let script = parse(alloc, b"space 1000 nodes 16 index 32\nalloc 300\nfree 1\n")?;
+/// let answers = play_script(alloc, &script)?;
+/// assert!(matches!(answers[0], Answer::Grant { number: 1, offset: 0 }));
+/// # Ok::<(), RunFault>(())
+/// ```
 pub fn play_script(alloc: Global, script: &Script) -> Result<Vec<Answer>, AllocError> {
-    match script.index {
-        IndexWidth::Bits16 => play::<u16>(alloc, script.size, script.max_allocs, &script.commands),
-        IndexWidth::Bits32 => play::<u32>(alloc, script.size, script.max_allocs, &script.commands),
-    }
+    play_script_to(alloc, script)
 }

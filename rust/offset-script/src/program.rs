@@ -3,26 +3,48 @@
 //! What a program does: a run, its status, and the line of its fault.
 
 use crate::devices::{Sink, Source};
-use crate::running::run;
+use crate::running::{Answers, Sent, run_of};
 use crate::sending::send_fault;
 use crate::memory::Global;
 
-/// Runs a script by `run`, writes the line of a fault to `errors`, and returns the status to exit with.
-///
-/// The status is 0 exactly where the run is `Ok`, 2 where the text is no script, 3 where an allocation failed, and 4
-/// where the source or the sink failed. A run that is `Ok` leaves `errors` as it was. A failure of `errors` does not
-/// change the status. To write the line takes no memory.
-pub fn run_program<S: Source, K: Sink, E: Sink>(
+/// `run_program`, by `run_of`: with another text of a script in place of that of its answers.
+pub fn run_program_of<X: Sent, S: Source, K: Sink, E: Sink>(
     alloc: Global,
+    sent: &X,
     input: &mut S,
     output: &mut K,
     errors: &mut E,
 ) -> u8 {
-    match run(alloc, input, output) {
+    match run_of(alloc, sent, input, output) {
         Ok(()) => 0,
         Err(fault) => {
             let _is_sent = send_fault(errors, fault);
             fault.status()
         }
     }
+}
+
+/// Runs a script by `run`, writes the line of a fault to `errors`, and returns the status to exit with.
+///
+/// The status is 0 exactly where the run is `Ok`, 2 where the text is no script, 3 where an allocation
+/// failed, and 4 where the source or the sink failed. A run that is `Ok` leaves `errors` as it was. A failure
+/// of `errors` does not change the status. To write the line takes no memory.
+///
+/// ```
+/// # use offset_script::*;
+/// # let alloc = Global;
+/// let mut input = FromRead::new(&b"no script"[..]);
+/// let mut output = IntoWrite::new(std::vec::Vec::new());
+/// let mut errors = IntoWrite::new(std::vec::Vec::new());
+/// assert_eq!(run_program(alloc, &mut input, &mut output, &mut errors), 2);
+/// assert_eq!(errors.into_inner(), b"line 1: bad header\n");
+/// # Ok::<(), RunFault>(())
+/// ```
+pub fn run_program<S: Source, K: Sink, E: Sink>(
+    alloc: Global,
+    input: &mut S,
+    output: &mut K,
+    errors: &mut E,
+) -> u8 {
+    run_program_of(alloc, &Answers, input, output, errors)
 }

@@ -3,7 +3,7 @@
 //! Reads a text as a script.
 
 use crate::memory::Vec;
-use crate::direct::read_common;
+use crate::common_lines::read_common;
 use crate::faults::ScriptFault;
 use crate::lines::Lines;
 use crate::scripts::{Command, Header, IndexWidth, Script};
@@ -50,7 +50,7 @@ fn pair_command(name: &[u8], n: u32, a: u32) -> Option<Command> {
     }
 }
 
-// The command that a line spells, if it does.
+// The command that a line spells, or `None`.
 fn command(line: &[u8]) -> Option<Command> {
     let (name, rest) = split_once(line, b' ');
     let Some(rest) = rest else {
@@ -78,7 +78,7 @@ fn width(word: &[u8]) -> Option<IndexWidth> {
     }
 }
 
-// The header that a line spells, if it does, whatever its limit.
+// The header that a line spells, or `None`, whatever its limit.
 fn header(line: &[u8]) -> Option<Header> {
     let (space, rest) = split_once(line, b' ');
     let (size, rest) = split_once(rest?, b' ');
@@ -115,10 +115,18 @@ impl Header {
 
 /// Reads a text as a script, and returns it, or the fault of its first faulty line.
 ///
-/// A text of more than 1,048,576 bytes is `TooLong`. Lines end with LF and are counted from 1; empty lines and those
-/// that begin with `#` are skipped. The first other line must be a header: it is `BadHeader` where it is none, or there
-/// is no such line, and `BadLimit` where its limit is not admitted. Each later line must be a command, or is
-/// `BadCommand`. `Memory` is returned only where an allocation failed.
+/// A text of more than 1,048,576 bytes is `TooLong`. Lines end with LF and are counted from 1; empty lines
+/// and those that begin with `#` are skipped. The first other line must be a header: it is `BadHeader` where
+/// it is none, or there is no such line, and `BadLimit` where its limit is not admitted. Each later line must
+/// be a command, or is `BadCommand`. `Memory` is returned only where an allocation failed.
+///
+/// ```
+/// # use offset_script::*;
+/// # let alloc = Global;
+/// let script = parse(alloc, b"space 1000 nodes 16 index 32\nalloc 300\n")?;
+/// assert_eq!((script.size, script.commands.len()), (1000, 1));
+/// # Ok::<(), RunFault>(())
+/// ```
 pub fn parse(alloc: Global, text: &[u8]) -> Result<Script, ScriptFault> {
     if text.len() > MAX_TEXT {
         return Err(ScriptFault::TooLong);

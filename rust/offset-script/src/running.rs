@@ -1,6 +1,6 @@
 // Printed by rust/erase from crates/offset_script/src/running.rt: change it there.
 
-//! Runs a script from a source to a sink.
+//! Runs a script from a source to a sink. Nothing is sent before all is read and made.
 
 use crate::memory::Vec;
 use crate::devices::{Sink, Source};
@@ -9,7 +9,7 @@ use crate::reading::{MAX_TEXT, parse};
 use crate::scripts::Script;
 use crate::sending::send_in_turn;
 use crate::writing::text_of_script;
-use crate::memory::Global;
+use crate::memory::{AllocError, Global};
 
 // The largest number of bytes that one pull requests.
 const PIECE: usize = 16384;
@@ -31,30 +31,86 @@ fn read_text<S: Source>(alloc: Global, input: &mut S) -> Result<Vec<u8>, RunFaul
 
 /// Reads a source to its end as a script, and returns it, or the fault.
 ///
-/// Of a text that is too long, 1,048,577 bytes are read. `Read` is returned exactly where the source failed in this
-/// call; no failed call is tried again. Where an allocation fails, the fault is `Memory`.
+/// Of a text that is too long, 1,048,577 bytes are read. `Read` is returned exactly where the source failed
+/// in this call; no failed call is tried again. Where an allocation fails, the fault is `Memory`.
+///
+/// ```
+/// # use offset_script::*;
+/// # let alloc = Global;
+/// let mut input = FromRead::new(&b"space 1000 nodes 16 index 32\nalloc 300\n"[..]);
+/// let script = read_script(alloc, &mut input)?;
+/// assert_eq!(script.max_allocs, 16);
+/// # Ok::<(), RunFault>(())
+/// ```
 pub fn read_script<S: Source>(alloc: Global, input: &mut S) -> Result<Script, RunFault> {
     let text = read_text(alloc, input)?;
     Ok(parse(alloc, &text)?)
 }
 
-/// Reads a script to its end, plays it, writes the text of its answers, and then flushes.
-///
-/// The script and the text of all answers are in memory at once: the text in pieces of 64 KiB, of which no copy is made,
-/// and the space beside it until the last command is played. Once 4,096 rows are written, beyond the first eight of each
-/// report, the other answers are kept as values in place of their text: 32 bytes each, and 12 to 24 for each row, which
-/// takes 23 to 43 as text. Their text is made when the space is given back.
-///
-/// Nothing is written unless the whole text is a script; of a text that is too long, 1,048,577 bytes are read. `Read`
-/// is returned exactly where the source failed in this call, and `Write` exactly where the sink did; then a beginning
-/// of the answers is written, and all of them where only the flush failed. No failed call is tried again. Where an
-/// allocation fails, the fault is `Memory`.
-pub fn run<S: Source, K: Sink>(alloc: Global, input: &mut S, output: &mut K) -> Result<(), RunFault> {
+/// What a run makes of a script: a text that it sends.
+pub trait Sent {
+    /// Appends the text of a script, and then flushes. Returns whether both succeeded. It stops at the first
+    /// failure, and tries nothing again. Where an allocation fails, nothing is appended.
+    fn send<K: Sink>(
+        &self,
+        alloc: Global,
+        script: &Script,
+        output: &mut K,
+    ) -> Result<bool, AllocError>;
+}
+
+/// `run`, with another text of a script in place of that of its answers.
+pub fn run_of<X: Sent, S: Source, K: Sink>(
+    alloc: Global,
+    sent: &X,
+    input: &mut S,
+    output: &mut K,
+) -> Result<(), RunFault> {
     let script = read_script(alloc, input)?;
-    let pieces = text_of_script(alloc, &script)?;
-    if send_in_turn(output, &pieces) {
+    if sent.send(alloc, &script, output)? {
         Ok(())
     } else {
         Err(RunFault::Write)
     }
+}
+
+// The answers of a script.
+pub(crate) struct Answers;
+
+impl Sent for Answers {
+    fn send<K: Sink>(
+        &self,
+        alloc: Global,
+        script: &Script,
+        output: &mut K,
+    ) -> Result<bool, AllocError> {
+        let pieces = text_of_script(alloc, script)?;
+        Ok(send_in_turn(output, &pieces))
+    }
+}
+
+/// Reads a script to its end, plays it, writes the text of its answers, and then flushes.
+///
+/// The script and the text of all answers are in memory at once: the text in pieces of 64 KiB, of which no
+/// copy is made, and the space beside it until the last command is played. Once 4,096 rows are written,
+/// beyond the first eight of each report, the other answers are kept as values in place of their text: 32
+/// bytes each, and 12 to 24 for each row, which takes 23 to 43 as text. Their text is made when the space is
+/// given back.
+///
+/// Nothing is written unless the whole text is a script; of a text that is too long, 1,048,577 bytes are
+/// read. `Read` is returned exactly where the source failed in this call, and `Write` exactly where the sink
+/// did; then a beginning of the answers is written, and all of them where only the flush failed. No failed
+/// call is tried again. Where an allocation fails, the fault is `Memory`.
+///
+/// ```
+/// # use offset_script::*;
+/// # let alloc = Global;
+/// let mut input = FromRead::new(&b"space 1000 nodes 16 index 32\nalloc 300\n"[..]);
+/// let mut output = IntoWrite::new(std::vec::Vec::new());
+/// run(alloc, &mut input, &mut output)?;
+/// assert_eq!(output.into_inner(), b"grant 1 at 0\n");
+/// # Ok::<(), RunFault>(())
+/// ```
+pub fn run<S: Source, K: Sink>(alloc: Global, input: &mut S, output: &mut K) -> Result<(), RunFault> {
+    run_of(alloc, &Answers, input, output)
 }

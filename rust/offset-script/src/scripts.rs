@@ -13,8 +13,8 @@ pub enum Command {
     Free(u32),
     /// Asks for the size of the grant of this number.
     Size(u32),
-    /// Asks for the free units in all, and the largest class value of a free block. Both are 0 where the space has as
-    /// many blocks as its limit allows.
+    /// Asks for the free units in all, and the largest class value of a free block. Both are 0 where the
+    /// space has as many blocks as its limit allows.
     Report,
     /// Asks for the classes that have a free block.
     Full,

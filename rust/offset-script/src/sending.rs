@@ -1,11 +1,14 @@
 // Printed by rust/erase from crates/offset_script/src/sending.rt: change it there.
 
-//! Sends texts to sinks.
+//! Sends texts to sinks. It takes no memory.
 
 use crate::memory::Vec;
+use crate::buffer::TextBuffer;
 use crate::devices::Sink;
 use crate::faults::RunFault;
-use crate::tokens::{MOST_DIGITS, digits};
+
+// The most bytes of the line of a fault with its line end: a number of 20 digits and the words fit.
+const ROOM: usize = 41;
 
 // Appends all bytes, and returns whether it did. It stops at the first failure, and tries nothing again.
 fn push_all<K: Sink>(output: &mut K, text: &[u8]) -> bool {
@@ -19,8 +22,17 @@ fn push_all<K: Sink>(output: &mut K, text: &[u8]) -> bool {
     true
 }
 
-/// Appends all bytes, and then flushes, also where there are none. Returns whether both succeeded. It stops at the
-/// first failure, and tries nothing again.
+/// Appends all bytes, and then flushes, also where there are none. Returns whether both succeeded. It stops
+/// at the first failure, and tries nothing again.
+///
+/// ```
+/// # use offset_script::*;
+/// # let alloc = Global;
+/// let mut output = IntoWrite::new(std::vec::Vec::new());
+/// assert!(send(&mut output, b"freed\n"));
+/// assert_eq!(output.into_inner(), b"freed\n");
+/// # Ok::<(), RunFault>(())
+/// ```
 pub fn send<K: Sink>(output: &mut K, text: &[u8]) -> bool {
     push_all(output, text) && output.flush()
 }
@@ -40,26 +52,26 @@ pub(crate) fn send_in_turn<K: Sink>(output: &mut K, pieces: &[Vec<u8>]) -> bool 
     push_pieces(output, pieces) && output.flush()
 }
 
-// Appends the pieces of a text in turn, and then flushes. Returns whether all succeeded. It stops at the first failure,
-// and tries nothing again.
-fn send_pieces<K: Sink>(output: &mut K, pieces: &[&[u8]]) -> bool {
-    for piece in pieces {
-        if !push_all(output, piece) {
-            return false;
-        }
-    }
-    output.flush()
-}
-
-/// Appends the line of a fault with its line end, and then flushes. Returns whether both succeeded. It stops at the
-/// first failure, tries nothing again, and allocates nothing.
+/// Appends the line of a fault with its line end, and then flushes. Returns whether both succeeded. It stops
+/// at the first failure, tries nothing again, and allocates nothing.
+///
+/// ```
+/// # use offset_script::*;
+/// # let alloc = Global;
+/// let mut output = IntoWrite::new(std::vec::Vec::new());
+/// assert!(send_fault(&mut output, RunFault::Read));
+/// assert_eq!(output.into_inner(), b"read failed\n");
+/// # Ok::<(), RunFault>(())
+/// ```
 pub fn send_fault<K: Sink>(output: &mut K, fault: RunFault) -> bool {
-    match fault.parts() {
-        (None, words) => send_pieces(output, &[words.as_bytes(), b"\n"]),
-        (Some(line), words) => {
-            let mut room = [0u8; MOST_DIGITS];
-            let number = digits(line, &mut room);
-            send_pieces(output, &[b"line ", number, b": ", words.as_bytes(), b"\n"])
-        }
+    let (number, words) = fault.parts();
+    let mut line: TextBuffer<ROOM> = TextBuffer::new();
+    line.put("\n");
+    line.put(words);
+    if let Some(number) = number {
+        line.put(": ");
+        line.put_number(u64::from(number));
+        line.put("line ");
     }
+    send(output, line.bytes())
 }

@@ -1,8 +1,8 @@
 //! Pictures whose coordinates were computed by hand.
 //!
-//! Call k of n, counted from 1, is at x = 120 + 1050 k / (n + 1), and the state before the first call begins at x =
-//! 120. Unit u of a plot that ends at the unit e is at y = 550 - 400 u / e in the plot of the ranges, and at y = 780 -
-//! 150 u / e in the plot of the reports.
+//! Call k of n, counted from 1, is at x = 120 + 1050 k / (n + 1), and the state before the first call begins
+//! at x = 120. Unit u of a plot that ends at the unit e is at y = 550 - 400 u / e in the plot of the ranges,
+//! and at y = 780 - 150 u / e in the plot of the reports.
 
 use super::support::Part::Lines;
 use super::support::{
@@ -13,8 +13,9 @@ use crate::asserts::{assert_same, assert_same_at, assert_that, assert_that_at};
 use std::alloc::{AllocError, Global};
 use std::process::Abort;
 
-// The stored run of `offset_picture`. With 9 calls, each takes 105 pixels. The highest unit is 192, and a twentieth
-// above it the space has ended, at 200: a unit is 2 pixels high in the upper plot, and 0.75 in the lower one.
+// The stored run of `offset_picture_program`. With 9 calls, each takes 105 pixels. The highest unit is 192,
+// and a twentieth above it the space has ended, at 200: a unit is 2 pixels high in the upper plot, and 0.75
+// in the lower one.
 const STORED: Picture = Picture {
     script: &[Lines(
         1,
@@ -49,12 +50,12 @@ alloc 192
         "<path class='out' d='M120 150H120V350H750V150H1170V150'/>",
         // free units: 100, 90, 70, 54, 64, 64, 164, 74, 200, 8
         "<path class='free' d='M120 780H120V705H225V712.5H330V727.5H435V739.5H540V732H750V657H855V724.5H960V630H1065V774H1170V780'/>",
-        // the classes of these numbers: from 32 on they rise by 4, from 64 on by 8, and from 128 on by 16. So they are
-        // 96 = 64 + 4 8, 88 = 64 + 3 8, 64, 52 = 32 + 5 4, 64, 64, 160 = 128 + 2 16, 72 = 64 + 8, 192 = 128 + 4 16, 8.
-        // Less 0.75 of each from 780: 708, 714, 732, 741, 732, 732, 660, 726, 636, 774
+        // the classes of these numbers: from 32 on they rise by 4, from 64 on by 8, and from 128 on by 16. So
+        // they are 96 = 64 + 4 8, 88 = 64 + 3 8, 64, 52 = 32 + 5 4, 64, 64, 160 = 128 + 2 16, 72 = 64 + 8,
+        // 192 = 128 + 4 16, 8. Less 0.75 of each from 780: 708, 714, 732, 741, 732, 732, 660, 726, 636, 774
         "<path class='joined' d='M120 780H120V708H225V714H330V732H435V741H540V732H750V660H855V726H960V636H1065V774H1170V780'/>",
-        // the classes of the largest blocks, 100, 90, 70, 52, 52, 52, 152, 62, 200, 8: 96, 88, 64, 52, 52, 52, 144,
-        // 60, 192, 8
+        // the classes of the largest blocks, 100, 90, 70, 52, 52, 52, 152, 62, 200, 8: 96, 88, 64, 52, 52,
+        // 52, 144, 60, 192, 8
         "<path class='most' d='M120 780H120V708H225V714H330V732H435V741H750V672H855V735H960V636H1065V774H1170V780'/>",
         ">9 calls on a space of 100 units, extended to 200, with 16 nodes<",
         // grants 1, 2 and 3 are live together, and grants 2, 3 and 4; 192 units of 200 are 96 percent
@@ -83,7 +84,8 @@ const EXAMPLES: [Picture; 10] = [
         ],
         counts: &[],
     },
-    // 1 call: it is at 645. The highest unit is 61, and the axis ends at 61 + 3 + 1. 40 is at 550 - 400 40 / 65.
+    // 1 call: it is at 645. The highest unit is 61, and the axis ends at 61 + 3 + 1. 40 is at 550 - 400 40 /
+    // 65.
     Picture {
         script: &[Lines(1, "space 1000 nodes 16 index 32\nalloc 61\n")],
         once: &[
@@ -93,7 +95,8 @@ const EXAMPLES: [Picture; 10] = [
         ],
         counts: &[],
     },
-    // Three grants, of which two are live at once, twice; the most units are in use at the first of these times.
+    // Three grants, of which two are live at once, twice; the most units are in use at the first of these
+    // times.
     Picture {
         script: &[Lines(
             1,
@@ -105,8 +108,8 @@ const EXAMPLES: [Picture; 10] = [
         ],
         counts: &[],
     },
-    // 6 calls, at 270, 420, 570, 720, 870 and 1020. A reset ends all lives, and numbers go on. 52, 48 and 96 are values
-    // of size classes, and so requests for all of a free block are granted.
+    // 6 calls, at 270, 420, 570, 720, 870 and 1020. A reset ends all lives, and numbers go on. 52, 48 and 96
+    // are values of size classes, and so requests for all of a free block are granted.
     Picture {
         script: &[Lines(
             1,
@@ -131,8 +134,8 @@ const EXAMPLES: [Picture; 10] = [
         ],
         counts: &[],
     },
-    // A width of 3 pixels has an edge: of 349 calls each takes 3 pixels, of 350 calls 2.99. The plot ends at unit 100,
-    // and the range of 96 units is 384 high.
+    // A width of 3 pixels has an edge: of 349 calls each takes 3 pixels, of 350 calls 2.99. The plot ends at
+    // unit 100, and the range of 96 units is 384 high.
     Picture {
         script: &[
             Lines(1, "space 100 nodes 16 index 32\nalloc 96\nfree 1\n"),
@@ -185,8 +188,8 @@ const EXAMPLES: [Picture; 10] = [
 
 // Scripts at the limits.
 const EXTREMES: [Picture; 9] = [
-    // The largest space, all free: 4294967295 units are of the class 15 2^28 = 4026531840, at 780 - 150 15/16 = 639.37,
-    // drawn to a tenth.
+    // The largest space, all free: 4294967295 units are of the class 15 2^28 = 4026531840, at 780 - 150 15/16
+    // = 639.37, drawn to a tenth.
     Picture {
         script: &[Lines(1, "space 4294967295 nodes 16 index 32\n")],
         once: &[
@@ -196,7 +199,8 @@ const EXTREMES: [Picture; 9] = [
         ],
         counts: &[],
     },
-    // There is one state, all along the axis. 100 free units are the whole height, and 96 of them are 144 pixels.
+    // There is one state, all along the axis. 100 free units are the whole height, and 96 of them are 144
+    // pixels.
     Picture {
         script: &[Lines(1, "space 100 nodes 16 index 32\n")],
         once: &[
@@ -261,8 +265,8 @@ const EXTREMES: [Picture; 9] = [
         ],
         counts: &[(RECTANGLE, 1)],
     },
-    // The largest space. The highest unit is 4,026,531,840, and the axis ends a twentieth above: the grant is 20/21 of
-    // 400 pixels high.
+    // The largest space. The highest unit is 4,026,531,840, and the axis ends a twentieth above: the grant is
+    // 20/21 of 400 pixels high.
     Picture {
         script: &[Lines(1, "space 4294967295 nodes 16 index 32\nalloc 4026531840\n")],
         once: &[
@@ -286,7 +290,8 @@ const EXTREMES: [Picture; 9] = [
         ],
         counts: &[],
     },
-    // With 3 nodes one grant leaves no node, and the report is 0, 0 though 90 units are free. 2 calls: 470 and 820.
+    // With 3 nodes one grant leaves no node, and the report is 0, 0 though 90 units are free. 2 calls: 470
+    // and 820.
     Picture {
         script: &[Lines(1, "space 100 nodes 3 index 32\nalloc 10\nalloc 10\n")],
         once: &[
@@ -427,7 +432,8 @@ fn each_age_ends_at_its_bound(rt: HostRuntime) {
     }
 }
 
-// Each life has the colour of its bin, and the longest lives come first. Two grants of 1 call, and one of 11 calls.
+// Each life has the colour of its bin, and the longest lives come first. Two grants of 1 call, and one of 11
+// calls.
 #[test]
 fn groups_grants_by_age(rt: HostRuntime) {
     let picture = picture_of(

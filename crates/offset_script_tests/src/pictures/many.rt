@@ -14,9 +14,10 @@ const PICTURES: [Picture; 5] = [
         once: &[],
         counts: &[(RECTANGLE, 20000), (GRANT_TITLE, 20000), ("merged", 0)],
     },
-    // A first grant of units 0 to 52 that is live to the end, and then grants of units 52 to 100 that are live for one
-    // call. With 40,003 calls one call takes 0.026 pixels. The first grant is at 120.02, and is not merged. All others
-    // touch, within a tenth of a pixel: from 120.05, and so from 120, to 1169.97, and so to 1170.
+    // A first grant of units 0 to 52 that is live to the end, and then grants of units 52 to 100 that are
+    // live for one call. With 40,003 calls one call takes 0.026 pixels. The first grant is at 120.02, and is
+    // not merged. All others touch, within a tenth of a pixel: from 120.05, and so from 120, to 1169.97, and
+    // so to 1170.
     Picture {
         script: &[
             Lines(1, "space 100 nodes 16 index 32\nalloc 52\n"),
@@ -29,14 +30,14 @@ const PICTURES: [Picture; 5] = [
         ],
         counts: &[(RECTANGLE, 2)],
     },
-    // The first grant is live to the end, and ends the plot at unit 1,000,000. All others are one unit each, less than
-    // a thousandth of a pixel high, and at the same height: from 156.7 to 156.8, drawn 0.3 pixels high. With 41,999
-    // calls one call takes 0.025 pixels.
+    // The first grant is live to the end, and ends the plot at unit 1,000,000. All others are one unit each,
+    // less than a thousandth of a pixel high, and at the same height: from 156.7 to 156.8, drawn 0.3 pixels
+    // high. With 41,999 calls one call takes 0.025 pixels.
     //
-    // Grants 2 to 20,001 are live for one call each, in calls 2 to 40,001: from 120.05, and so from 120, to 1120.025,
-    // and so to 1120.1. Grant 20,002 is live for 100 calls from call 40,002 on: from 1120.05, and so from 1120, to
-    // 1122.55, and so to 1122.6. It touches those before, and is of another age. Grant 20,003 is inside it, for 40
-    // calls from call 40,010 on.
+    // Grants 2 to 20,001 are live for one call each, in calls 2 to 40,001: from 120.05, and so from 120, to
+    // 1120.025, and so to 1120.1. Grant 20,002 is live for 100 calls from call 40,002 on: from 1120.05, and
+    // so from 1120, to 1122.55, and so to 1122.6. It touches those before, and is of another age. Grant
+    // 20,003 is inside it, for 40 calls from call 40,010 on.
     Picture {
         script: &[
             Lines(1, "space 1000000 nodes 16 index 32\nalloc 983040\n"),
@@ -58,9 +59,10 @@ const PICTURES: [Picture; 5] = [
         ],
         counts: &[(RECTANGLE, 3)],
     },
-    // Each call takes a twentieth of a pixel: 20,999 calls. Two states lie within one tenth of a pixel. Calls 2 and 3
-    // are at 120.1 and 120.15: fewer units are free for one call. Call 4,000 is at 320, and calls 4,002 and 4,003 are
-    // at 320.1 and 320.15: more units are free for one call. Calls 6,000 to 6,002 are at 420, 420.05 and 420.1.
+    // Each call takes a twentieth of a pixel: 20,999 calls. Two states lie within one tenth of a pixel. Calls
+    // 2 and 3 are at 120.1 and 120.15: fewer units are free for one call. Call 4,000 is at 320, and calls
+    // 4,002 and 4,003 are at 320.1 and 320.15: more units are free for one call. Calls 6,000 to 6,002 are at
+    // 420, 420.05 and 420.1.
     Picture {
         script: &[
             Lines(1, "space 100 nodes 16 index 32\nreport\nalloc 60\nfree 1\n"),
@@ -82,9 +84,9 @@ const PICTURES: [Picture; 5] = [
         ],
         counts: &[],
     },
-    // Each call takes a fiftieth of a pixel: 52,499 calls. Five states lie within one tenth of a pixel. Those after
-    // calls 5 to 9 are at 120.1 to 120.18: 100, 40, 10, 40 and 40 units are free, of which the last is neither the most
-    // nor the least.
+    // Each call takes a fiftieth of a pixel: 52,499 calls. Five states lie within one tenth of a pixel. Those
+    // after calls 5 to 9 are at 120.1 to 120.18: 100, 40, 10, 40 and 40 units are free, of which the last is
+    // neither the most nor the least.
     Picture {
         script: &[
             Lines(1, "space 100 nodes 16 index 32\n"),

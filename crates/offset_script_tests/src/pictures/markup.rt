@@ -121,8 +121,8 @@ impl<'a> Elements<'a> {
     }
 }
 
-// Whether a text is one element, with its elements closed in turn, and no bare `&`, `<` or `>` in text or attributes.
-// It knows no comments, declarations or other names, which pictures do not have.
+// Whether a text is one element, with its elements closed in turn, and no bare `&`, `<` or `>` in text or
+// attributes. It knows no comments, declarations or other names, which pictures do not have.
 fn is_well_formed(alloc: Global, text: &str) -> Result<bool, AllocError> {
     if !text.starts_with("<") || !are_names(text) {
         return Ok(false);

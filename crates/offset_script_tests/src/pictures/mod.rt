@@ -1,4 +1,4 @@
-//! Tests of `offset_lives`.
+//! Tests of `offset_pictures`.
 
 mod examples;
 mod many;

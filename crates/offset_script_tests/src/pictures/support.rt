@@ -2,7 +2,7 @@
 
 use crate::asserts::assert_same_at;
 use crate::playing::script_of;
-use offset_lives::picture;
+use offset_pictures::picture;
 use std::alloc::{AllocError, Global};
 use std::process::Abort;
 

@@ -34,8 +34,8 @@ fn expect_stop(rt: &impl Abort, alloc: Global, reader: Reader<'_>, stop: u32, wa
     assert_same_at(rt, &stop, &writer.flushes, &0);
 }
 
-// Each read gives one byte, and one of them fails once, or gives 0 bytes, which is the end of the text, even where more
-// would follow. Nothing is read after it, and nothing written.
+// Each read gives one byte, and one of them fails once, or gives 0 bytes, which is the end of the text, even
+// where more would follow. Nothing is read after it, and nothing written.
 #[test]
 fn stops_at_a_failed_or_empty_read(rt: HostRuntime) {
     for stop in 1..44u32 {
@@ -62,8 +62,8 @@ fn expect_failed_write(rt: &impl Abort, alloc: Global, writer: Writer, stop: u32
     assert_same_at(rt, &(fails, stop), &writer.flushes, &0);
 }
 
-// Each write takes one byte, and one of them fails once, or takes 0 bytes, which is a failure, even where more would be
-// taken. Nothing is written after it, and it is not flushed.
+// Each write takes one byte, and one of them fails once, or takes 0 bytes, which is a failure, even where
+// more would be taken. Nothing is written after it, and it is not flushed.
 #[test]
 fn stops_at_a_failed_or_empty_write(rt: HostRuntime) {
     for stop in 1..20u32 {
@@ -91,8 +91,8 @@ fn expect_read<'a>(
     reader
 }
 
-// The last read is the one that finds the end. Reading stops one byte after the largest length, in pieces of any
-// length.
+// The last read is the one that finds the end. Reading stops one byte after the largest length, in pieces of
+// any length.
 #[test]
 fn reads_in_pieces(rt: HostRuntime) {
     for (piece, reads) in [(1usize, 26u32), (2, 14), (4096, 2)] {

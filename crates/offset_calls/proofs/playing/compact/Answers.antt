@@ -14,7 +14,8 @@ returns-clause-takes g c = (
   refl,
   (
     _,
-    numbers_are c.args.player.now.handles.items c.in_ok-live_numbers.live_numbers.items c.collect.new.seen.found.items c.args.player.now.space c.in_ok-live_numbers.ensures (c.collect.ensures.moves c.if-moves.false),
+    numbers_are c.args.player.now.handles.items c.in_ok-live_numbers.live_numbers.items c.collect.new.seen.found.items c.args.player.now.space c.in_ok-live_numbers.ensures
+        (c.collect.ensures.moves c.if-moves.false),
     ap plain.Compacted (c.in_ok-numbered.ensures ∙ ap₂ (λ ks ms. joined (drop (length ks - length ms) ks) ms) c.deref-2.ensures.value c.deref-3.ensures.value),
   ),
 )

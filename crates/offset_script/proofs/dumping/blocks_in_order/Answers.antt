@@ -6,5 +6,6 @@ use Rattle.offset_script.proofs.dumping.blocks_in_order.Goals as goal
 
 pub returns : goal.returns
 returns g c =
-    let all = sym (append-nil (map as_placed c.loop-block.blocks.items)) ∙ ap (λ (l : List Placed). map as_placed c.loop-block.blocks.items ++ l) (sym c.in-None.ensures.steps.0) ∙ c.loop-block.invariant in
+    let all = sym (append-nil (map as_placed c.loop-block.blocks.items)) ∙ ap (λ (l : List Placed). map as_placed c.loop-block.blocks.items ++ l) (sym c.in-None.ensures.steps.0)
+    ∙ c.loop-block.invariant in
     ap (map as_placed) c.reverse.ensures.items ∙ map_reverse as_placed c.loop-block.blocks.items ∙ ap reverse all ∙ reverse-reverse (placed 0 c.args.space.now.blocks)

@@ -10,9 +10,11 @@ returns g c =
     let sums = c.statistics-sums.result in (
       sums,
       c.statistics-sums.ensures,
-      three_put (string_bytes c.new-text.result) (string_bytes c.put_vma_numbers.new.text) (string_bytes c.put_vma_blocks.new.text) _ (vma_numbers v.size sums) (joined vma_json true (placed 0 v.blocks)) _
+      three_put (string_bytes c.new-text.result) (string_bytes c.put_vma_numbers.new.text) (string_bytes c.put_vma_blocks.new.text) _ (vma_numbers v.size sums)
+          (joined vma_json true (placed 0 v.blocks)) _
           c.new-text.ensures.bytes
           (c.in_ok-put_vma_numbers.ensures ∙ ap (λ (n : ℕ). string_bytes c.new-text.result ++ vma_numbers n sums) c.size.ensures)
-          (c.in_ok-put_vma_blocks.ensures ∙ ap (λ (ps : List Placed). string_bytes c.put_vma_numbers.new.text ++ joined vma_json true ps) (ap (map as_placed) c.deref.ensures.value ∙ c.in_ok-blocks.ensures))
+          (c.in_ok-put_vma_blocks.ensures
+          ∙ ap (λ (ps : List Placed). string_bytes c.put_vma_numbers.new.text ++ joined vma_json true ps) (ap (map as_placed) c.deref.ensures.value ∙ c.in_ok-blocks.ensures))
           c.in_ok-write.ensures.bytes,
     )

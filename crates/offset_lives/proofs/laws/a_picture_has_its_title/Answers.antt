@@ -1,5 +1,0 @@
-use Rattle.offset_lives.specs.Picture.{style}
-use Rattle.offset_lives.proofs.laws.a_picture_has_its_title.Goals as goal
-
-pub returns : goal.returns
-returns c = λ title plan text p. (style, p.is_picture.body, p.is_picture.is)

@@ -1,5 +1,0 @@
-use Rattle.offset_lives.proofs.Shown.{lines_law}
-use Rattle.offset_lives.proofs.laws.each_line_shows_its_values.Goals as goal
-
-pub returns : goal.returns
-returns c = lines_law

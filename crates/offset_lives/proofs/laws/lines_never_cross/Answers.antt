@@ -1,5 +1,0 @@
-use Rattle.offset_lives.proofs.Levelled.{levels_law}
-use Rattle.offset_lives.proofs.laws.lines_never_cross.Goals as goal
-
-pub returns : goal.returns
-returns c = levels_law

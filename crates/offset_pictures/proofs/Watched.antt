@@ -1,0 +1,56 @@
+-- What is seen of a space while commands are played, one more command at a time.
+use Rattle.std.proofs.Common.{◌≡◌, ℕ, ◌+◌, List, [], ◌∷◌, ◌++◌, cond, length, map, refl, sym, ap, ap₂, ◌∙◌, append-nil, append_assoc, arith}
+use Rattle.std.proofs.lemmas.List.{map-append}
+use Rattle.offset_allocator.specs.declared.reports.StorageReport.{StorageReport}
+use Rattle.offset_allocator.specs.Requests.{IsReport}
+use Rattle.offset_allocator.specs.View.{View}
+use Rattle.offset_script.specs.declared.scripts.Command.{Command}
+use Rattle.offset_script.specs.Listening.{IsTold, Shows}
+use Rattle.offset_script.specs.Machine.{State, Answer, step, after, report}
+use Rattle.offset_script.specs.Machine as machine
+use Rattle.offset_script.proofs.Nests.{after-append}
+use Rattle.offset_pictures.specs.declared.refusing.Refused.{Refused}
+use Rattle.offset_pictures.specs.Growth.{is_refusal}
+use Rattle.offset_pictures.specs.Refusals.{numbers_of, numbers_of_view, refused_call, refused_from}
+use Rattle.offset_pictures.specs.Reports.{report_view, reports_from}
+use Rattle.offset_pictures.proofs.Reasoned.{by_numbers, refused_keeps, same_numbers}
+
+-- what a space reports is the report of the state that it shows
+same_report : (r : StorageReport) (v : View) (s : State) → Shows v s → IsReport r v → report_view r ≡ report s
+same_report r v s shown is = ap₂ machine.Report is.0 is.1 ∙ shown.report
+
+-- the first report
+pub first_report : (r : StorageReport) (v : View) (s : State) (none found : List StorageReport) → Shows v s → IsReport r v → none ≡ [] → found ≡ none ++ r ∷ [] → map report_view found ≡ report s ∷ []
+first_report r v s none found shown is empty e = ap (map report_view) (e ∙ ap (λ l. l ++ r ∷ []) empty) ∙ ap (λ x. x ∷ []) (same_report r v s shown is)
+
+reports-append : (cs : List Command) (c : Command) (s : State) → reports_from (cs ++ c ∷ []) s ≡ reports_from cs s ++ report (after (cs ++ c ∷ []) s) ∷ []
+reports-append [] c s = refl
+reports-append (d ∷ cs) c s = ap (λ l. report s ∷ l) (reports-append cs c (step d s).state)
+
+refused-append : (i : ℕ) (cs : List Command) (c : Command) (s : State) → let t = after cs s in
+    refused_from i (cs ++ c ∷ []) s ≡ refused_from i cs s ++ cond (is_refusal (step c t).answer) (refused_call (i + length cs) c (numbers_of t)) []
+refused-append i [] c s = append-nil _ ∙ ap (λ n. cond (is_refusal (step c s).answer) (refused_call n c (numbers_of s)) []) (omega arith)
+refused-append i (d ∷ cs) c s =
+    let t : State = after cs (step d s).state in
+    let first : List Refused = cond (is_refusal (step d s).answer) (refused_call i d (numbers_of s)) [] in
+    ap (λ l. first ++ l) (refused-append (i + 1) cs c (step d s).state)
+    ∙ sym (append_assoc first (refused_from (i + 1) cs (step d s).state) _)
+    ∙ ap (λ n. (first ++ refused_from (i + 1) cs (step d s).state) ++ cond (is_refusal (step c t).answer) (refused_call n c (numbers_of t)) []) (omega arith)
+
+-- one more report
+pub report_more : (cs : List Command) (s : State) (c : Command) (v : View) (a : Answer) (found more : List StorageReport) (r : StorageReport) → IsTold c (after cs s) v a → IsReport r v
+    → map report_view found ≡ reports_from cs s → more ≡ found ++ r ∷ [] → map report_view more ≡ reports_from (cs ++ c ∷ []) s
+report_more cs s c v a found more r told is so_far e =
+    ap (map report_view) e ∙ map-append report_view found (r ∷ [])
+    ∙ ap₂ (λ l x. l ++ x ∷ []) so_far (same_report r v _ told.shows is ∙ ap report (sym (after-append cs (c ∷ []) s)))
+    ∙ sym (reports-append cs c s)
+
+-- one more call, which may be refused
+pub refused_more : (cs : List Command) (s : State) (c : Command) (v : View) (a : Answer) (i : ℕ) (found more : List Refused) → IsTold c (after cs s) v a → i ≡ length cs
+    → found ≡ refused_from 0 cs s → more ≡ found ++ cond (is_refusal a) (refused_call i c (numbers_of_view v)) [] → more ≡ refused_from 0 (cs ++ c ∷ []) s
+refused_more cs s c v a i found more told at so_far e =
+    let t : State = after cs s in
+    let here : cond (is_refusal a) (refused_call i c (numbers_of_view v)) [] ≡ cond (is_refusal (step c t).answer) (refused_call (0 + length cs) c (numbers_of t)) [] =
+    ap₂ (λ x n. cond (is_refusal x) (refused_call n c (numbers_of_view v)) []) told.answer (at ∙ omega arith)
+    ∙ by_numbers (is_refusal (step c t).answer) (0 + length cs) c _ (numbers_of t) (λ f. same_numbers v _ told.shows ∙ refused_keeps c t f) in
+    e ∙ ap₂ (λ x y. x ++ y) so_far here ∙ sym (refused-append 0 cs c s)

@@ -1,0 +1,108 @@
+-- The whole text of a picture.
+use Rattle.std.specs.Prelude.{◌≡◌, ℕ, ◌+◌, ◌<◌, List, ◌++◌, IsUtf8, Option, codes, length, map}
+use Rattle.offset_script.specs.Grammar.{Plan}
+use Rattle.offset_pictures.specs.declared.course.Course.{Course}
+use Rattle.offset_pictures.specs.declared.figures.Figures.{Figures}
+use Rattle.offset_pictures.specs.declared.plots.Plot.{Plot}
+use Rattle.offset_pictures.specs.Figures.{AreFigures, counted, states}
+use Rattle.offset_pictures.specs.Growth.{AreSizes}
+use Rattle.offset_pictures.specs.Legend.{legend_text, notes_text}
+use Rattle.offset_pictures.specs.Lives.{life_view, lives_of}
+use Rattle.offset_pictures.specs.Places.{IsAxis, ranges_end, reports_end}
+use Rattle.offset_pictures.specs.Rectangles.{AreGrants}
+use Rattle.offset_pictures.specs.Refusals.{refused_of}
+use Rattle.offset_pictures.specs.Reports.{report_view, reports_of}
+use Rattle.offset_pictures.specs.StepLines.{beyond_text, refusals_text, reports_text}
+use Rattle.offset_pictures.specs.Ticks.{axes_text}
+use Rattle.offset_pictures.specs.Titles.{escaped, heading}
+use Rattle.offset_pictures.specs.Xml.{IsWellFormed}
+
+-- what a picture begins with, up to its title
+abbrev pub opening : List ℕ
+opening = codes "<svg xmlns='http://www.w3.org/2000/svg' width='1200' height='840' viewBox='0 0 1200 840' role='graphics-document document'>\n<title>"
+
+-- the colours, for light and for dark backgrounds, and the background itself
+abbrev pub style : List ℕ
+style =
+    codes "<style>\n"
+    ++ codes "text{font:14px sans-serif;fill:#1f2328}\n"
+    ++ codes ".big{font-size:18px;font-weight:bold}.figures{font-size:16px}.end{text-anchor:end}.middle{text-anchor:middle}\n"
+    ++ codes ".back{fill:#fff}.out{fill:#d8dee4}.grid{stroke:#d8dee4}.tick{stroke:#57606a}.refusal{stroke:#b00020;stroke-width:2}\n"
+    ++ codes ".why{fill:none;pointer-events:all}.edge{stroke:#fff;stroke-width:.7}\n"
+    ++ codes ".free{fill:#e3dfd2;stroke:#6e6a5c}.joined{fill:#f4c27a;stroke:#b35900}.most{fill:#cfe3f7;stroke:#1f5fae}\n"
+    ++ codes ".age1{fill:#f2d9bc}.age2{fill:#f0b87e}.age3{fill:#f0898c}.age4{fill:#b98298}\n"
+    ++ codes ".age5{fill:#b05c8f}.age6{fill:#635abf}.age7{fill:#0f5c80}.age8{fill:#044247}\n"
+    ++ codes "@media (prefers-color-scheme:dark){\n"
+    ++ codes "text{fill:#e6edf3}\n"
+    ++ codes ".back{fill:#0d1117}.out{fill:#30363d}.grid{stroke:#30363d}.tick{stroke:#8b949e}.refusal{stroke:#ff7b80}\n"
+    ++ codes ".edge{stroke:#0d1117}\n"
+    ++ codes ".free{fill:#403d33;stroke:#aaa594}.joined{fill:#8a5a1c;stroke:#f0a04b}.most{fill:#16324f;stroke:#6cb0f5}\n"
+    ++ codes "}\n"
+    ++ codes "</style>\n"
+    ++ codes "<rect class='back' width='1200' height='840'/>\n"
+
+-- the course of a script: its lives, reports, sizes and refusals are those of the plain machine, and each grant has one life
+pub record IsCourse (plan : Plan) (c : Course) : Type 0 where
+  pub limit : c.max_allocs ≡ plan.header.max_allocs
+  pub grants : c.grants ≡ length c.lives.items
+  pub lives : map life_view c.lives.items ≡ lives_of plan.header.size plan.header.max_allocs plan.commands
+  pub reports : map report_view c.reports.items ≡ reports_of plan.header.size plan.header.max_allocs plan.commands
+  pub sizes : AreSizes c.sizes.items plan.header.size plan.header.max_allocs plan.commands
+  pub refused : c.refused.items ≡ refused_of plan.header.size plan.header.max_allocs plan.commands
+
+-- a plot of so many calls: they run to the right, and its units upwards, to the unit `last` at the height `top`
+pub record IsPlot (count top height last : ℕ) (p : Plot) : Type 0 where
+  pub calls : IsAxis 12000 105000 (counted (count + 1)) p.calls
+  pub units : IsAxis top height last p.units
+
+-- What a picture of a course has below its heading: the legend; in the plot of the ranges the units that are not in the
+-- space yet, the axes, the rectangles of the lives, and the marks of refused calls with their reasons; in the plot of the reports their
+-- lines, and the axes; and the notes.
+pub record IsBody (c : Course) (text : List ℕ) : Type 0 where
+  pub figures : Figures
+  pub are : AreFigures figures c
+  pub above : Plot
+  pub is_above : IsPlot figures.calls 15000 40000 (ranges_end figures) above
+  pub below : Plot
+  pub is_below : IsPlot figures.calls 63000 15000 (reports_end figures) below
+  pub grants : List ℕ
+  pub merged : Option ℕ
+  pub are_grants : AreGrants above c.lives.items figures.calls merged grants
+  pub is : text
+      ≡ legend_text figures c.max_allocs above.units.most ++ beyond_text above c ++ axes_text above 6 12 ++ grants ++ refusals_text above c.reports.items c.refused.items ++ reports_text below c
+      ++ axes_text below 4 12
+      ++ notes_text merged
+
+-- the picture of a course, with this title: its accessible name, and the heading that it shows
+pub record IsPictureOf (title : List ℕ) (c : Course) (text : List ℕ) : Type 0 where
+  pub body : List ℕ
+  pub is_body : IsBody c body
+  pub is : text ≡ opening ++ escaped title ++ codes "</title>\n" ++ style ++ heading title ++ escaped title ++ codes "</text>\n" ++ body ++ codes "</svg>\n"
+
+-- the picture of a script, with this title
+pub record IsPicture (title : List ℕ) (plan : Plan) (text : List ℕ) : Type 0 where
+  pub course : Course
+  pub is_course : IsCourse plan course
+  pub is_picture : IsPictureOf title course text
+
+-- a text that begins with the tag of an SVG and the title, has the title once more as its heading, and ends with `</svg>`
+-- and a line end
+abbrev pub HasTitle : List ℕ → List ℕ → Type 0
+HasTitle title text = (inner body : List ℕ)
+    × (text ≡ opening ++ escaped title ++ codes "</title>\n" ++ inner ++ heading title ++ escaped title ++ codes "</text>\n" ++ body ++ codes "</svg>\n")
+
+-- each picture is such a text
+abbrev pub PicturesHaveTitles : Type 0
+PicturesHaveTitles = (title : List ℕ) (plan : Plan) (text : List ℕ) → IsPicture title plan text → HasTitle title text
+
+-- the figures of a course that has a state are fixed
+abbrev pub FiguresAreFixed : Type 0
+FiguresAreFixed = (c : Course) (f g : Figures) → 0 < states c → AreFigures f c → AreFigures g c → f ≡ g
+
+-- two pictures of one script, with one title, are the same text
+abbrev pub PicturesAreFixed : Type 0
+PicturesAreFixed = (title : List ℕ) (plan : Plan) (a b : List ℕ) → IsPicture title plan a → IsPicture title plan b → a ≡ b
+
+-- each picture whose title is UTF-8 is well-formed XML
+abbrev pub PicturesAreWellFormed : Type 0
+PicturesAreWellFormed = (title : List ℕ) (plan : Plan) (text : List ℕ) → IsUtf8 title → IsPicture title plan text → IsWellFormed text

@@ -1,0 +1,221 @@
+//! What the legend counts, over all states of a course.
+
+ghost use Rattle.std.specs.Prelude.{◌≡◌, ◌≤◌, ℕ, ◌+◌, ◌-◌, ◌<◌, ◌^◌, All, IfOk, OnOk, length, map, nat_eq};
+ghost use Rattle.std.specs.Prelude.{slice_index_or, if◌then◌else◌};
+ghost use Rattle.offset_pictures.specs.Lives.{IsOrdered, life_view};
+ghost use Rattle.offset_pictures.specs.Figures.{AreFigures, counted, end_of, largest};
+ghost use Rattle.offset_pictures.specs.Counting.{IsCount, raised, StartsAs, Sees};
+
+use crate::course::Course;
+use crate::living::Life;
+use offset_allocator::StorageReport;
+use std::alloc::{AllocError, Global};
+
+/// The numbers in a picture.
+#[derive(Clone, Copy, PartialEq, Debug)]
+pub struct Figures {
+    /// How many calls there are.
+    pub calls: u32,
+    /// How many requests were granted.
+    pub grants: u32,
+    /// How many calls returned `none`.
+    pub refusals: u32,
+    /// The most grants that are live at once.
+    pub most_live: u32,
+    /// The most units that are live at once.
+    pub most_used: u32,
+    /// The units of the space when most units are live.
+    pub size_then: u32,
+    /// The units of the space at first.
+    pub first_size: u32,
+    /// The units of the space at its largest.
+    pub largest_size: u32,
+    /// The end of the highest range.
+    pub highest: u32,
+    /// The first state whose largest free region is the smallest.
+    pub worst: u32,
+    /// The largest free region of that state.
+    pub worst_region: u32,
+    /// The free units of that state.
+    pub worst_free: u32,
+    /// In how many states units are free, and the node limit refuses every request.
+    pub full_states: u32,
+}
+
+/// A count as a `u32`, or the largest `u32` where it is larger.
+pub fn counted(count: usize) -> u32
+    ensures { result ≡ counted count }
+{
+    u32::try_from(count).unwrap_or(u32::MAX)
+}
+
+// A number of units as a `u32`, or the largest `u32` where it is larger.
+fn counted_units(units: u128) -> u32
+    ensures { result ≡ counted units }
+{
+    u32::try_from(units).unwrap_or(u32::MAX)
+}
+
+/// The end of the range of a life, or the largest `u32`.
+pub fn end_of(life: &Life) -> u32
+    ensures { result ≡ end_of life.now }
+{
+    life.offset.saturating_add(life.size)
+}
+
+// The end of the highest range, or 0.
+fn highest_of(lives: &[Life]) -> u32
+    ensures { result ≡ largest (map end_of lives.now) }
+{
+    let mut highest = 0;
+    for life in lives {
+        highest = end_of(life).max(highest);
+    }
+    highest
+}
+
+// A number of grants, and how many units they have.
+#[derive(Clone, Copy)]
+pub struct Count {
+    grants: usize,
+    units: u128,
+}
+
+const NONE: Count = Count {
+    grants: 0,
+    units: 0,
+};
+
+impl Count {
+    fn add(&mut self, other: Count)
+        requires grants { self.old.grants + other.grants < 2 ^ 64 }
+        requires units { self.old.units + other.units < 2 ^ 128 }
+        ensures grants { self.new.grants ≡ self.old.grants + other.grants }
+        ensures units { self.new.units ≡ self.old.units + other.units }
+    {
+        self.grants += other.grants;
+        self.units += other.units;
+    }
+}
+
+// Adds a grant of so many units to those of a call, if there is one.
+fn add(counts: &mut Vec<Count>, call: usize, units: u32)
+    requires grants { (c : ℕ) (d : Count) → c < length counts.old.items
+        → (slice_index_or counts.old.items c d).grants < 2 ^ 64 - 1 }
+    requires units { (c : ℕ) (d : Count) → c < length counts.old.items
+        → (slice_index_or counts.old.items c d).units < 2 ^ 127 }
+    ensures len { length counts.new.items ≡ length counts.old.items }
+    ensures counts { (c : ℕ) (d : Count) → c < length counts.old.items → slice_index_or counts.new.items c d
+        ≡ (if nat_eq call c then raised
+        (slice_index_or counts.old.items c d) units else slice_index_or counts.old.items c d) }
+{
+    if call < counts.len() {
+        let count = &mut counts[call];
+        count.grants += 1;
+        count.units += u128::from(units);
+    }
+}
+
+// What each call grants.
+fn begun(alloc: Global, calls: usize, lives: &[Life]) -> Result<Vec<Count>, AllocError>
+    ensures len { IfOk result (λ v. length v.items ≡ calls) }
+    ensures counts { IfOk result (λ v. (c : ℕ) (d : Count) → c < calls
+        → IsCount (λ l. nat_eq l.first c) lives.now (slice_index_or v.items c d)) }
+    ensures sizes { OnOk result (All (λ l. l.size < 4294967296) lives.now) }
+    ensures few { OnOk result (length lives.now < 2 ^ 64) }
+{
+    let mut counts = Vec::new(alloc);
+    counts.resize(calls, NONE)?;
+    for life in lives {
+        add(&mut counts, life.first, life.size);
+    }
+    Ok(counts)
+}
+
+// What each call ends.
+fn ended(alloc: Global, calls: usize, lives: &[Life]) -> Result<Vec<Count>, AllocError>
+    ensures len { IfOk result (λ v. length v.items ≡ calls) }
+    ensures counts { IfOk result (λ v. (c : ℕ) (d : Count) → c < calls
+        → IsCount (λ l. nat_eq l.last c) lives.now (slice_index_or v.items c d)) }
+    ensures sizes { OnOk result (All (λ l. l.size < 4294967296) lives.now) }
+    ensures few { OnOk result (length lives.now < 2 ^ 64) }
+{
+    let mut counts = Vec::new(alloc);
+    counts.resize(calls, NONE)?;
+    for life in lives {
+        add(&mut counts, life.last, life.size);
+    }
+    Ok(counts)
+}
+
+impl Figures {
+    // The numbers of the fresh space, and those that need no order of calls.
+    fn start(course: &Course) -> Self
+        ensures { StartsAs result course.now }
+    {
+        let first_size = course.sizes.first().copied().unwrap_or(0);
+        let report = course.reports.first();
+        Figures {
+            calls: counted(course.sizes.len().saturating_sub(1)),
+            grants: counted(course.grants),
+            refusals: counted(course.refused.len()),
+            most_live: 0,
+            most_used: 0,
+            size_then: first_size,
+            first_size,
+            largest_size: first_size,
+            highest: highest_of(&course.lives),
+            worst: 0,
+            worst_region: report.map_or(0, |report| report.largest_free_region),
+            worst_free: report.map_or(0, |report| report.total_free_space),
+            full_states: 0,
+        }
+    }
+
+    // Adds a state: how many grants and units are live in a space of this size, and its report.
+    fn see(&mut self, state: u32, live: u32, used: u32, size: u32, report: &StorageReport)
+        ensures { Sees state live used size report.now self.old self.new }
+    {
+        self.most_live = live.max(self.most_live);
+        if used > self.most_used {
+            self.most_used = used;
+            self.size_then = size;
+        }
+        self.largest_size = size.max(self.largest_size);
+        if report.largest_free_region < self.worst_region {
+            self.worst = state;
+            self.worst_region = report.largest_free_region;
+            self.worst_free = report.total_free_space;
+        }
+        if used < size && report.total_free_space == 0 {
+            self.full_states = self.full_states.saturating_add(1);
+        }
+    }
+}
+
+/// The numbers of a course.
+pub fn figures_of(alloc: Global, course: &Course) -> Result<Figures, AllocError>
+    requires { All IsOrdered (map life_view course.now.lives.items) }
+    ensures { IfOk result (λ f. AreFigures f course.now) }
+{
+    let states = course.sizes.len().min(course.reports.len());
+    let begun = begun(alloc, states, &course.lives)?;
+    let ended = ended(alloc, states, &course.lives)?;
+    let mut found = Figures::start(course);
+    let mut granted = NONE;
+    let mut gone = NONE;
+    for state in 0..states {
+        let live = counted(granted.grants - gone.grants);
+        let used = counted_units(granted.units - gone.units);
+        found.see(
+            counted(state),
+            live,
+            used,
+            course.sizes[state],
+            &course.reports[state],
+        );
+        granted.add(begun[state]);
+        gone.add(ended[state]);
+    }
+    Ok(found)
+}

@@ -1,0 +1,32 @@
+//! What a script does to its space: the life of each grant, the reports between the commands, and a picture
+//! of both.
+#![tactic(auto)]
+
+mod ages;
+mod axes;
+mod course;
+mod drawing;
+mod figures;
+pub mod laws;
+mod legend;
+mod levels;
+mod living;
+mod merging;
+mod numerals;
+mod plots;
+mod program;
+mod reasons;
+mod rectangles;
+mod refusing;
+mod shapes;
+mod step_lines;
+mod style;
+mod titles;
+mod watching;
+
+pub use course::{Course, course_of};
+pub use drawing::{picture, picture_of};
+pub use living::{Life, lives};
+pub use program::draw_program;
+pub use refusing::{Asked, Reason, Refused};
+pub use watching::reports;

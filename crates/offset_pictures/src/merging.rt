@@ -1,0 +1,129 @@
+//! Merges the rectangles of many grants.
+
+ghost use Rattle.std.specs.Prelude.{◌≡◌, ◌<◌, ◌≤◌, IfOk, IsTrue, map};
+ghost use Rattle.std.specs.List.{list_any};
+ghost use Rattle.offset_pictures.specs.Merging.{AreMerged, Place, IsAtTenth, covers, drawn, is_tiny, join};
+ghost use Rattle.offset_pictures.specs.Merging.{key_of, round_out, shape_of_key, touch};
+ghost use Rattle.offset_pictures.specs.Places.{shape_of};
+
+use crate::axes::TENTH;
+use crate::living::Life;
+use crate::plots::Plot;
+use crate::shapes::{Shape, shape_of};
+use std::alloc::{AllocError, Global};
+
+// Whether a rectangle is thinner than a tenth of a pixel.
+fn is_tiny(shape: &Shape) -> bool
+    ensures { result ≡ is_tiny shape.now }
+{
+    shape.width() < TENTH || shape.height() < TENTH
+}
+
+// The rectangle with its edges at whole tenths of a pixel around it.
+fn round_out(shape: &Shape) -> Shape
+    requires right { shape.now.right ≤ 120000 }
+    requires bottom { shape.now.bottom ≤ 120000 }
+    ensures { result ≡ round_out shape.now }
+{
+    Shape {
+        top: shape.top / TENTH * TENTH,
+        bottom: shape.bottom.div_ceil(TENTH) * TENTH,
+        age: shape.age,
+        left: shape.left / TENTH * TENTH,
+        right: shape.right.div_ceil(TENTH) * TENTH,
+    }
+}
+
+// A rectangle with its edges at whole tenths of a pixel, as a number. The numbers of two rectangles have
+// their order.
+#[tactic(auto, unfolding(crate::specs::Merging::shape_of_key))]
+fn key_of(shape: &Shape) -> u64
+    requires top { IsAtTenth shape.now.top }
+    requires bottom { IsAtTenth shape.now.bottom }
+    requires left { IsAtTenth shape.now.left }
+    requires right { IsAtTenth shape.now.right }
+    requires age { shape.now.age < 8 }
+    ensures is { result ≡ key_of shape.now }
+    ensures shape { shape_of_key result ≡ shape.now }
+{
+    let top = u64::from(shape.top / TENTH);
+    let bottom = u64::from(shape.bottom / TENTH);
+    let left = u64::from(shape.left / TENTH);
+    let right = u64::from(shape.right / TENTH);
+    (((top * 16_384 + bottom) * 8 + shape.age as u64) * 16_384 + left) * 16_384 + right
+}
+
+// The rectangle of a number.
+#[tactic(auto, unfolding(crate::specs::Merging::shape_of_key))]
+fn shape_of_key(key: u64) -> Shape
+    ensures { result ≡ shape_of_key key }
+{
+    Shape {
+        top: (key / 35_184_372_088_832) as u32 * TENTH,
+        bottom: (key / 2_147_483_648 % 16_384) as u32 * TENTH,
+        age: (key / 268_435_456 % 8) as usize,
+        left: (key / 16_384 % 16_384) as u32 * TENTH,
+        right: (key % 16_384) as u32 * TENTH,
+    }
+}
+
+// Whether two rectangles have the same height and age, and touch or overlap.
+fn touch(before: &Shape, shape: &Shape) -> bool
+    ensures { result ≡ touch before.now shape.now }
+{
+    before.top == shape.top
+        && before.bottom == shape.bottom
+        && before.age == shape.age
+        && shape.left <= before.right
+        && before.left <= shape.right
+}
+
+// Two rectangles that touch, as one.
+fn join(before: Shape, shape: &Shape) -> Shape
+    ensures { result ≡ join before shape.now }
+{
+    Shape {
+        left: shape.left.min(before.left),
+        right: shape.right.max(before.right),
+        ..before
+    }
+}
+
+/// The rectangles of lives. Those thinner than a tenth of a pixel are rounded to whole tenths, and then those
+/// of the same height and age that touch are merged.
+pub fn shapes_of(alloc: Global, plot: &Plot, lives: &[Life]) -> Result<Vec<Shape>, AllocError>
+    // Merging covers and uncovers no place: at each height and age they cover those that the rectangles of
+    // the lives do.
+    ensures covers { IfOk result (λ v. (p : Place) → list_any (covers p) v.items
+        ≡ list_any (covers p) (map (λ l. drawn (shape_of plot.now l)) lives.now)) }
+    // The list, in its order.
+    ensures is { IfOk result (λ v. AreMerged plot.now lives.now v.items) }
+{
+    let mut found = Vec::new(alloc);
+    let mut tiny: Vec<u64> = Vec::new(alloc);
+    for life in lives {
+        let shape = shape_of(plot, life);
+        if is_tiny(&shape) {
+            tiny.push(key_of(&round_out(&shape)))?;
+        } else {
+            found.push(shape)?;
+        }
+    }
+    tiny.sort()?;
+    let mut last: Option<Shape> = None;
+    for key in &tiny {
+        let shape = shape_of_key(*key);
+        match last {
+            Some(before) if touch(&before, &shape) => last = Some(join(before, &shape)),
+            Some(before) => {
+                found.push(before)?;
+                last = Some(shape);
+            }
+            None => last = Some(shape),
+        }
+    }
+    if let Some(before) = last {
+        found.push(before)?;
+    }
+    Ok(found)
+}

@@ -1,0 +1,129 @@
+//! Numbers as the picture writes them. It only appends text.
+
+ghost use Rattle.std.specs.Prelude.{◌≡◌, ◌+◌, ◌≤◌, ◌++◌, OnOk, length, string_bytes};
+ghost use Rattle.offset_pictures.specs.Drawing.{pixels_text};
+ghost use Rattle.offset_pictures.specs.Figures.{share_of};
+
+use offset_script::TextBuffer;
+use std::alloc::AllocError;
+use std::fmt;
+
+/// A piece of a picture's text: a title of five numbers fits, and so does a rectangle.
+pub type Piece = TextBuffer<160>;
+
+/// Appends a piece to a text.
+pub fn put_in(piece: &Piece, out: &mut String) -> Result<(), AllocError>
+    ensures { OnOk result (string_bytes out.new ≡ string_bytes out.old ++ piece.now) }
+{
+    out.push_str(piece.text())
+}
+
+/// A length in hundredths of a pixel, written in pixels: 1250 is 12.5.
+#[derive(Clone, Copy, PartialEq, Debug)]
+pub struct Pixels(pub u32);
+
+/// Puts a length in pixels before a text: at most 23 bytes.
+pub fn put_pixels<const ROOM: usize>(text: &mut TextBuffer<ROOM>, pixels: Pixels)
+    requires { 23 + length text.old ≤ ROOM }
+    ensures text { text.new ≡ pixels_text pixels.0 ++ text.old }
+    ensures length { length text.new ≤ 23 + length text.old }
+{
+    let hundredths = pixels.0 % 10;
+    let tenths = pixels.0 / 10 % 10;
+    if pixels.0 % 100 != 0 {
+        if hundredths != 0 {
+            text.put_digit(hundredths);
+        }
+        text.put_digit(tenths);
+        text.put(".");
+    }
+    text.put_number(u64::from(pixels.0 / 100));
+}
+
+impl fmt::Display for Pixels {
+    ghost use Rattle.std.specs.Prelude.{Some};
+    ghost use Rattle.offset_pictures.specs.Drawing.{pixels_text};
+
+    ghost output = { λ p. Some (pixels_text p.0) };
+
+    fn fmt<W: fmt::Write>(&self, f: &mut fmt::Formatter<W>) -> fmt::Result {
+        let mut text: TextBuffer<23> = TextBuffer::new();
+        put_pixels(&mut text, *self);
+        f.write_str(text.text())
+    }
+}
+
+/// A number with its digits in groups of three: 61,278,048.
+#[derive(Clone, Copy, PartialEq, Debug)]
+pub struct Grouped(pub u32);
+
+// The last three digits of a number, with zeros in front.
+#[derive(Clone, Copy)]
+struct Three(u32);
+
+impl fmt::Display for Three {
+    ghost use Rattle.std.specs.Prelude.{Some};
+    ghost use Rattle.offset_pictures.specs.Drawing.{three_digits};
+
+    ghost output = { λ t. Some (three_digits t.0) };
+
+    fn fmt<W: fmt::Write>(&self, f: &mut fmt::Formatter<W>) -> fmt::Result {
+        let hundreds = self.0 / 100 % 10;
+        let tens = self.0 / 10 % 10;
+        let ones = self.0 % 10;
+        write!(f, "{hundreds}{tens}{ones}")
+    }
+}
+
+impl fmt::Display for Grouped {
+    ghost use Rattle.std.specs.Prelude.{Some};
+    ghost use Rattle.offset_pictures.specs.Drawing.{grouped_text};
+
+    ghost output = { λ g. Some (grouped_text g.0) };
+
+    fn fmt<W: fmt::Write>(&self, f: &mut fmt::Formatter<W>) -> fmt::Result {
+        let number = self.0;
+        let thousands = self.0 / 1000;
+        let millions = self.0 / 1_000_000;
+        let billions = self.0 / 1_000_000_000;
+        let below_thousand = Three(number);
+        let below_million = Three(thousands);
+        let below_billion = Three(millions);
+        if billions > 0 {
+            write!(
+                f,
+                "{billions},{below_billion},{below_million},{below_thousand}"
+            )
+        } else if millions > 0 {
+            write!(f, "{millions},{below_million},{below_thousand}")
+        } else if thousands > 0 {
+            write!(f, "{thousands},{below_thousand}")
+        } else {
+            write!(f, "{number}")
+        }
+    }
+}
+
+/// A share in tenths of a percent, written in percent with one decimal: 957 is 95.7.
+#[derive(Clone, Copy, PartialEq, Debug)]
+pub struct Share(pub u64);
+
+/// The share of a space that is used, rounded down. Of a space of no units it is that of a space of one.
+pub fn share_of(used: u32, size: u32) -> Share
+    ensures { result.0 ≡ share_of used size }
+{
+    Share(u64::from(used) * 1000 / u64::from(size.max(1)))
+}
+
+impl fmt::Display for Share {
+    ghost use Rattle.std.specs.Prelude.{Some};
+    ghost use Rattle.offset_pictures.specs.Drawing.{share_text};
+
+    ghost output = { λ s. Some (share_text s.0) };
+
+    fn fmt<W: fmt::Write>(&self, f: &mut fmt::Formatter<W>) -> fmt::Result {
+        let percent = self.0 / 10;
+        let tenth = self.0 % 10;
+        write!(f, "{percent}.{tenth}")
+    }
+}

@@ -1,0 +1,190 @@
+//! The rectangles of lives, in a group for each age, whose class has the colour.
+
+ghost use Rattle.std.specs.Prelude.{◌≡◌, ℕ, List, ◌≤◌, ◌++◌, ◌↔◌, IfOk, IsTrue, OnOk, length, map};
+ghost use Rattle.std.specs.Prelude.{string_bytes};
+ghost use Rattle.offset_pictures.specs.Marks.{rectangle_text, title_text};
+ghost use Rattle.offset_pictures.specs.Places.{frame_of, shape_of};
+ghost use Rattle.offset_pictures.specs.Rectangles.{AreGrants, plain_of_age, titled_of_age};
+
+use crate::ages::AGES;
+use crate::living::Life;
+use crate::merging::shapes_of;
+use crate::numerals::{Piece, Pixels, put_in, put_pixels};
+use crate::plots::Plot;
+use crate::shapes::{Shape, shape_of};
+use std::alloc::{AllocError, Global};
+
+// The most grants that are drawn with a title each.
+const MOST_TITLES: usize = 20_000;
+
+// About how many bytes a rectangle takes, and one with a title: the text gets room for all of them at once.
+const RECTANGLE_BYTES: usize = 56;
+
+const TITLED_BYTES: usize = 136;
+
+// The smallest width and height that is drawn: 0.3 pixels.
+const SMALLEST: u32 = 30;
+
+// From this width and height on, a rectangle has an edge in the colour of the background: 3 pixels.
+const EDGED: u32 = 300;
+
+// A rectangle as it is drawn, in hundredths of a pixel, from its upper left corner.
+#[derive(Clone, Copy)]
+pub struct Frame {
+    x: u32,
+    y: u32,
+    width: u32,
+    height: u32,
+}
+
+// A rectangle that is too thin to be seen becomes 0.3 pixels thick, to the right and upwards.
+fn frame_of(shape: &Shape) -> Frame
+    ensures { result ≡ frame_of shape.now }
+{
+    let height = shape.height().max(SMALLEST);
+    Frame {
+        x: shape.left,
+        y: shape.bottom.saturating_sub(height),
+        width: shape.width().max(SMALLEST),
+        height,
+    }
+}
+
+impl Frame {
+    // Whether it has an edge: it is at least 3 pixels wide and high.
+    fn has_edge(&self) -> bool
+        ensures { IsTrue result ↔ (300 ≤ self.now.width × 300 ≤ self.now.height) }
+    {
+        self.width >= EDGED && self.height >= EDGED
+    }
+}
+
+// Puts the beginning of a rectangle's element before the end of its tag.
+fn put_shape(line: &mut Piece, shape: &Shape)
+    requires { length line.old ≤ 10 }
+    ensures { line.new ≡ rectangle_text (frame_of shape.now) ++ line.old }
+{
+    let frame = frame_of(shape);
+    if frame.has_edge() {
+        line.put(" class='edge'");
+    }
+    line.put("'");
+    put_pixels(line, Pixels(frame.height));
+    line.put("' height='");
+    put_pixels(line, Pixels(frame.width));
+    line.put("' width='");
+    put_pixels(line, Pixels(frame.y));
+    line.put("' y='");
+    put_pixels(line, Pixels(frame.x));
+    line.put("<rect x='");
+}
+
+// Appends the title of a life and the end of its element. `calls` is the number of all calls.
+fn put_title(out: &mut String, life: &Life, calls: u32) -> Result<(), AllocError>
+    ensures { OnOk result (string_bytes out.new ≡ string_bytes out.old ++ title_text life.now calls) }
+{
+    let last = life.last.saturating_add(1);
+    let mut line = Piece::new();
+    line.put("</title></rect>\n");
+    if last > calls as usize {
+        line.put("end");
+    } else {
+        line.put_number(last as u64);
+    }
+    line.put("-");
+    line.put_number(life.first.saturating_add(1) as u64);
+    line.put(", calls ");
+    line.put_number(u64::from(life.size));
+    line.put(", size ");
+    line.put_number(u64::from(life.offset));
+    line.put(", offset ");
+    line.put_number(life.number);
+    line.put("<title>grant ");
+    put_in(&line, out)
+}
+
+// The rectangles of lives, each as it is.
+fn single_shapes(alloc: Global, plot: &Plot, lives: &[Life]) -> Result<Vec<Shape>, AllocError>
+    ensures { IfOk result (λ v. v.items ≡ map (shape_of plot.now) lives.now) }
+{
+    lives.iter().map(|life| shape_of(plot, life)).collect(alloc)
+}
+
+// The rectangles of the lives of an age, each with its title.
+fn put_titled(
+    out: &mut String,
+    shapes: &[Shape],
+    lives: &[Life],
+    age: usize,
+    calls: u32,
+) -> Result<(), AllocError>
+    requires { length shapes.now ≡ length lives.now }
+    ensures { OnOk result (string_bytes out.new
+        ≡ string_bytes out.old ++ titled_of_age calls shapes.now lives.now age) }
+{
+    for (shape, life) in shapes.iter().zip(lives) {
+        if shape.age == age {
+            let mut line = Piece::new();
+            line.put(">");
+            put_shape(&mut line, shape);
+            put_in(&line, out)?;
+            put_title(out, life, calls)?;
+        }
+    }
+    Ok(())
+}
+
+// The rectangles of an age, without titles.
+fn put_plain(out: &mut String, shapes: &[Shape], age: usize) -> Result<(), AllocError>
+    ensures { OnOk result (string_bytes out.new
+        ≡ string_bytes out.old ++ plain_of_age shapes.now age) }
+{
+    for shape in shapes {
+        if shape.age == age {
+            let mut line = Piece::new();
+            line.put("/>\n");
+            put_shape(&mut line, shape);
+            put_in(&line, out)?;
+        }
+    }
+    Ok(())
+}
+
+/// Appends the rectangles of lives in groups by their age, the longest lives first. Of more than 20,000 lives
+/// they have no titles, and tiny ones are merged: then it returns the number of rectangles.
+pub fn put_grants(
+    alloc: Global,
+    out: &mut String,
+    plot: &Plot,
+    lives: &[Life],
+    calls: u32,
+) -> Result<Option<usize>, AllocError>
+    ensures { IfOk result (λ merged. (text : List ℕ)
+        × (string_bytes out.new ≡ string_bytes out.old ++ text)
+        × AreGrants plot.now lives.now calls merged text) }
+{
+    let is_merged = lives.len() > MOST_TITLES;
+    let shapes = if is_merged {
+        shapes_of(alloc, plot, lives)?
+    } else {
+        single_shapes(alloc, plot, lives)?
+    };
+    let bytes = if is_merged {
+        RECTANGLE_BYTES
+    } else {
+        TITLED_BYTES
+    };
+    // Room for all at once saves copies. Where it is refused, the text grows as it needs.
+    let _has_room = out.reserve(shapes.len().saturating_mul(bytes)).is_ok();
+    for age in (0..AGES.len()).rev() {
+        let number = age + 1;
+        writeln!(out, "<g class='age{number}'>")?;
+        if is_merged {
+            put_plain(out, &shapes, age)?;
+        } else {
+            put_titled(out, &shapes, lives, age, calls)?;
+        }
+        writeln!(out, "</g>")?;
+    }
+    Ok(is_merged.then_some(shapes.len()))
+}

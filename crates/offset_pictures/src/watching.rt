@@ -1,0 +1,109 @@
+//! What a script's space says while the script is played, without its full reports: what it reports after
+//! each command, and why it refuses commands. It only asks.
+
+ghost use Rattle.std.specs.Prelude.{◌≡◌, IfOk, map};
+ghost use Rattle.offset_script.specs.Machine.{answer_view, answers, start};
+ghost use Rattle.offset_pictures.specs.Watching.{HasSeen, replace_all_full, replace_full};
+ghost use Rattle.offset_pictures.specs.Refusals.{refused_of};
+ghost use Rattle.offset_pictures.specs.Reports.{report_view, reports_of};
+
+use crate::refusing::{Refused, note};
+use offset_allocator::{AllocatorOf, StorageReport, Tables};
+use offset_script::{Answer, Command, Listener, Script, play_script_to};
+use std::alloc::{AllocError, Global};
+
+/// What a script's space says while the script is played, with a report in place of each full report.
+#[derive(Drop)]
+pub struct Watched {
+    /// The answer to each command.
+    pub answers: Vec<Answer>,
+    /// The report of the fresh space, and the one after each command.
+    pub reports: Vec<StorageReport>,
+    /// The commands that were refused.
+    pub refused: Vec<Refused>,
+}
+
+impl Listener for Watched {
+    ghost Heard = { HasSeen };
+
+    ghost played = { replace_full };
+
+    // A report takes the place of a full report, whose rows would take much memory.
+    fn played(command: Command) -> Command {
+        match command {
+            Command::Full => Command::Report,
+            other => other,
+        }
+    }
+
+    fn begin<T: Tables>(
+        alloc: Global,
+        space: &AllocatorOf<T>,
+        calls: usize,
+    ) -> Result<Self, AllocError> {
+        let answers = Vec::with_capacity(alloc, calls)?;
+        let mut reports = Vec::with_capacity(alloc, calls.saturating_add(1))?;
+        reports.push(space.storage_report())?;
+        Ok(Watched {
+            answers,
+            reports,
+            refused: Vec::new(alloc),
+        })
+    }
+
+    #[inline(always)]
+    fn hear<T: Tables>(
+        &mut self,
+        _alloc: Global,
+        space: &AllocatorOf<T>,
+        command: Command,
+        answer: Answer,
+    ) -> Result<(), AllocError> {
+        let calls = self.answers.len();
+        note(&mut self.refused, space, calls, command, &answer)?;
+        self.answers.push(answer)?;
+        self.reports.push(space.storage_report())?;
+        Ok(())
+    }
+}
+
+/// Plays a script on an allocator of its index width, with a report in place of each full report.
+///
+/// # Errors
+///
+/// It fails only where an allocation fails.
+pub fn watch(alloc: Global, script: &Script) -> Result<Watched, AllocError>
+    ensures answers { IfOk result
+        (λ w. map answer_view w.answers.items
+        ≡ answers (replace_all_full script.now.commands.items) (start script.now.size script.now.max_allocs)) }
+    ensures reports { IfOk result
+        (λ w. map report_view w.reports.items
+        ≡ reports_of script.now.size script.now.max_allocs script.now.commands.items) }
+    ensures refused { IfOk result
+        (λ w. w.refused.items
+        ≡ refused_of script.now.size script.now.max_allocs script.now.commands.items) }
+{
+    play_script_to(alloc, script)
+}
+
+/// Plays a script, and returns the reports of its space before the first command and after each, in order.
+///
+/// It plays the script once, and makes no full report.
+///
+/// # Errors
+///
+/// It fails only where an allocation fails.
+///
+/// ```
+/// let found = reports(alloc, &script)?;
+/// assert_eq!((found[0].total_free_space, found[1].total_free_space), (1000, 700));
+/// ```
+pub fn reports(alloc: Global, script: &Script) -> Result<Vec<StorageReport>, AllocError>
+    // The reports are those of the plain machine: of the fresh space, and of the space after each command, in
+    // order.
+    ensures { IfOk result
+        (λ v. map report_view v.items
+        ≡ reports_of script.now.size script.now.max_allocs script.now.commands.items) }
+{
+    Ok(watch(alloc, script)?.reports)
+}

@@ -1,0 +1,41 @@
+// Printed by rust/erase from crates/offset_pictures/src/lib.rt: change it there.
+
+//! What a script does to its space: the life of each grant, the reports between the commands, and a picture
+//! of both.
+#![doc = include_str!("../README.md")]
+#![forbid(unsafe_code)]
+#![expect(clippy::collapsible_match)] // an arm of a `match` and a test within it have a name each in the proof
+#![expect(clippy::needless_range_loop)] // the proof speaks of the numbers of calls
+
+mod memory;
+
+pub use memory::{AllocError, Global, String, Vec};
+
+mod ages;
+mod axes;
+mod course;
+mod drawing;
+mod figures;
+pub mod laws;
+mod legend;
+mod levels;
+mod living;
+mod merging;
+mod numerals;
+mod plots;
+mod program;
+mod reasons;
+mod rectangles;
+mod refusing;
+mod shapes;
+mod step_lines;
+mod style;
+mod titles;
+mod watching;
+
+pub use course::{Course, course_of};
+pub use drawing::{picture, picture_of};
+pub use living::{Life, lives};
+pub use program::draw_program;
+pub use refusing::{Asked, Reason, Refused};
+pub use watching::reports;

@@ -1,0 +1,125 @@
+// Printed by rust/erase from crates/offset_script/src/common_lines.rt: change it there.
+
+//! Reads lines of the commonest commands, in one pass over each; all others are left to `reading`.
+
+use crate::memory::Vec;
+use crate::lines::Lines;
+use crate::scripts::Command;
+use crate::tokens::MOST_DIGITS;
+use crate::memory::AllocError;
+
+// The most bytes that are read here: a word, a space, and a number with its line end.
+const LONGEST: usize = 17;
+
+// The commands of a word and a number.
+#[derive(Clone, Copy)]
+enum Word {
+    Alloc,
+    Free,
+    Size,
+}
+
+impl Word {
+    // The command with this number.
+    fn with(self, n: u32) -> Command {
+        match self {
+            Word::Alloc => Command::Alloc(n),
+            Word::Free => Command::Free(n),
+            Word::Size => Command::Size(n),
+        }
+    }
+}
+
+// Four bytes as one number, to compare them together.
+fn joined(bytes: [u8; 4]) -> u32 {
+    u32::from_le_bytes(bytes)
+}
+
+// `allo`, `free` and `size`, joined.
+const ALLO: u32 = 0x6f6c_6c61;
+
+const FREE: u32 = 0x6565_7266;
+
+const SIZE: u32 = 0x657a_6973;
+
+// The word at the head of a text, and what comes after its space.
+fn word_before(text: &[u8]) -> Option<(Word, &[u8])> {
+    let [a, b, c, d, more @ ..] = text else {
+        return None;
+    };
+    match joined([*a, *b, *c, *d]) {
+        ALLO => match more {
+            [b'c', b' ', rest @ ..] => Some((Word::Alloc, rest)),
+            _ => None,
+        },
+        FREE => match more {
+            [b' ', rest @ ..] => Some((Word::Free, rest)),
+            _ => None,
+        },
+        SIZE => match more {
+            [b' ', rest @ ..] => Some((Word::Size, rest)),
+            _ => None,
+        },
+        _ => None,
+    }
+}
+
+// The value of a digit. It is 10 or more of any other byte.
+fn digit(b: u8) -> u64 {
+    u64::from(b).wrapping_sub(u64::from(b'0'))
+}
+
+// The number that a text begins with, and what comes after its line end. `None` where it does not begin so.
+#[inline(always)]
+fn number_before(text: &[u8]) -> Option<(u32, &[u8])> {
+    let mut n = 0u64;
+    // So few bytes that the loop is unrolled.
+    for i in 0..=MOST_DIGITS {
+        let d = digit(text[i]);
+        if d >= 10 {
+            if text[i] != b'\n' || i == 0 {
+                return None;
+            }
+            if n > u64::from(u32::MAX) {
+                return None;
+            }
+            return Some((n as u32, &text[i + 1..]));
+        }
+        n = n * 10 + d;
+    }
+    None
+}
+
+// The command on the first line of a text, if it is one of the commonest and its line end follows, and what
+// comes after that. Where it is `None` the line may be a command too.
+fn command_at_head(text: &[u8]) -> Option<(Command, &[u8])> {
+    if text.len() < LONGEST {
+        return None;
+    }
+    if let Some((word, rest)) = word_before(text) {
+        let (n, rest) = number_before(rest)?;
+        return Some((word.with(n), rest));
+    }
+    match text {
+        [b'r', b'e', b'p', b'o', b'r', b't', b'\n', rest @ ..] => Some((Command::Report, rest)),
+        _ => None,
+    }
+}
+
+/// Reads the lines at the head that are of the commonest commands, up to the first that is not, and appends
+/// these.
+///
+/// It is never inlined: with the code for all other lines around it the loop has too few registers.
+#[inline(never)]
+pub fn read_common(lines: &mut Lines, commands: &mut Vec<Command>) -> Result<(), AllocError> {
+    let mut rest = lines.rest;
+    let mut number = lines.number;
+    while let Some((command, after)) = command_at_head(rest) {
+        commands.push(command)?;
+        rest = after;
+        number += 1;
+    }
+    lines.rest = rest;
+    lines.number = number;
+    Ok(())
+}
