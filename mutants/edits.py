@@ -58,8 +58,9 @@ class Edit:
         return texts
 
     def functions(self):
-        """The names of the functions in whose bodies the edit is, or none where a part of it is elsewhere."""
-        file, found, texts = None, set(), {}
+        """The names of the functions in whose bodies the edit is, each with its path below the crate, or again its name
+        for one of a trait; none where a part of the edit is elsewhere."""
+        file, found, texts = None, {}, {}
         for line in self.lines:
             key, _, text = line.partition(":")
             text = text[1:] if text.startswith(" ") else text
@@ -69,10 +70,11 @@ class Edit:
                 old = text
             elif key == "new":
                 source = texts.get(file) or (TOP / "crates" / self.crate / file).read_text(encoding="utf-8")
-                name = function_at(source, source.index(old)) if file.endswith(".rt") else None
-                if not name:
-                    return set()
-                found.add(name)
+                at = function_at(source, source.index(old)) if file.endswith(".rt") else None
+                if not at:
+                    return {}
+                name, home = at
+                found[name] = name if home is None else "::".join([*module_of(file), *home, name])
                 texts[file] = source.replace(old, text)
         return found
 
@@ -89,12 +91,22 @@ class Edit:
 
 
 HEAD = re.compile(r"( *)(?:pub(?:\([a-z]+\))? )?(?:const )?(?:extern \"C\" )?fn (\w+)")
+HOME = re.compile(r"impl(?:<.*?>)? (\w+)(?:<.*>)? \{$")
+
+
+def module_of(file):
+    """The path of a file's module below the crate, in parts."""
+    parts = Path(file).with_suffix("").parts[1:]
+    return [] if parts in (("lib",), ("main",)) else [*parts]
 
 
 def bodies(source):
-    """The functions of a source: the name of each, and the places where its body begins and ends."""
-    at, head, place = 0, None, None
+    """The functions of a source: the name of each, the path of its type below the module (`None` for one of a trait),
+    and the places where its body begins and ends."""
+    at, head, place, home = 0, None, None, None
     for line in source.split("\n"):
+        if line[:1].isalpha():
+            home = [found[1]] if (found := HOME.match(line)) else None
         if began := HEAD.match(line):
             head, place, has_clauses = began, None, False
         has_clauses = head is not None and (has_clauses or line.lstrip().startswith(("requires", "ensures")))
@@ -102,19 +114,19 @@ def bodies(source):
         if head and place is None and (line == head[1] + "{" or line.endswith("{") and not has_clauses):
             place = at
         elif head and place is not None and line == head[1] + "}":
-            yield head[2], place, at
+            yield head[2], home if head[1] else [], place, at
             head = None
 
 
 def names(crate):
     """The name of each function of a crate, as often as there is one."""
     sources = [it.read_text(encoding="utf-8") for it in (TOP / "crates" / crate / "src").rglob("*.rt")]
-    return [name for source in sources for name, _, _ in bodies(source)]
+    return [name for source in sources for name, *_ in bodies(source)]
 
 
 def function_at(source, place):
-    """The name of the function in whose body this place is, or `None`."""
-    return next((name for name, begin, end in bodies(source) if begin <= place < end), None)
+    """The name and the type of the function in whose body this place is, or `None`."""
+    return next(((name, home) for name, home, begin, end in bodies(source) if begin <= place < end), None)
 
 
 def calls(crate):
@@ -122,7 +134,7 @@ def calls(crate):
     found = {}
     for file in (TOP / "crates" / crate / "src").rglob("*.rt"):
         source = file.read_text(encoding="utf-8")
-        for name, begin, end in bodies(source):
+        for name, _, begin, end in bodies(source):
             found.setdefault(name, set()).update(re.findall(r"\b(\w+)(?:::<[^(]*>)?\(", source[begin:end]))
     return found
 

@@ -183,18 +183,9 @@ impl<T: Tables> PlayerOf<T> {
         }
     }
 
-    /// The answer to one command. The alignment of a request has to be a power of two.
-    ///
-    /// # Errors
-    ///
-    /// It fails only where an allocation fails.
-    ///
-    /// ```
-    /// let answer = player.call(alloc, Command::Alloc(300))?;
-    /// assert!(matches!(answer, Answer::Grant { number: 1, offset: 0 }));
-    /// ```
+    // The answer to one command, with its code where it is called: loops over commands are shortest so.
     #[inline(always)]
-    pub fn call(&mut self, alloc: Global, command: Command) -> Result<Answer, AllocError>
+    pub(crate) fn take(&mut self, alloc: Global, command: Command) -> Result<Answer, AllocError>
         requires live { AreLive self.old.space self.old.handles.items }
         requires power { IsTrue (has_valid_alignment command) }
         ensures { IfOk result (λ a. Takes command self.old.space self.old.handles.items
@@ -210,6 +201,25 @@ impl<T: Tables> PlayerOf<T> {
             Command::Align(size, align) => self.allocate_aligned(size, align),
             Command::Extend(more) => Ok(self.extend(more)),
         }
+    }
+
+    /// The answer to one command. The alignment of a request has to be a power of two.
+    ///
+    /// # Errors
+    ///
+    /// It fails only where an allocation fails.
+    ///
+    /// ```
+    /// let answer = player.call(alloc, Command::Alloc(300))?;
+    /// assert!(matches!(answer, Answer::Grant { number: 1, offset: 0 }));
+    /// ```
+    pub fn call(&mut self, alloc: Global, command: Command) -> Result<Answer, AllocError>
+        requires live { AreLive self.old.space self.old.handles.items }
+        requires power { IsTrue (has_valid_alignment command) }
+        ensures { IfOk result (λ a. Takes command self.old.space self.old.handles.items
+            self.new.space self.new.handles.items (answer_view a)) }
+    {
+        self.take(alloc, command)
     }
 }
 

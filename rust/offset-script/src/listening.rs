@@ -60,7 +60,7 @@ pub(crate) fn play_to<T: Tables, L: Listener>(
     let mut listener = L::begin(alloc, &player.space, commands.len())?;
     for command in commands {
         let asked = L::played(*command);
-        let answer = player.call(alloc, asked)?;
+        let answer = player.take(alloc, asked)?;
         is_well_formed(&player.space);
         listener.hear(alloc, &player.space, asked, answer)?;
     }

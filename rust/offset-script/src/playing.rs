@@ -156,6 +156,21 @@ impl<T: Tables> PlayerOf<T> {
         }
     }
 
+    // The answer to one command, with its code where it is called: loops over commands are shortest so.
+    #[inline(always)]
+    pub(crate) fn take(&mut self, alloc: Global, command: Command) -> Result<Answer, AllocError> {
+        match command {
+            Command::Alloc(size) => self.allocate(size),
+            Command::Free(number) => Ok(self.release(number)),
+            Command::Size(number) => Ok(self.size(number)),
+            Command::Report => Ok(self.report()),
+            Command::Full => full_answer(alloc, &self.space),
+            Command::Reset => Ok(self.reset()),
+            Command::Align(size, align) => self.allocate_aligned(size, align),
+            Command::Extend(more) => Ok(self.extend(more)),
+        }
+    }
+
     /// The answer to one command. The alignment of a request has to be a power of two.
     ///
     /// # Errors
@@ -174,20 +189,10 @@ impl<T: Tables> PlayerOf<T> {
     /// assert!(matches!(answer, Answer::Grant { number: 1, offset: 0 }));
     /// # Ok::<(), RunFault>(())
     /// ```
-    #[inline(always)]
     #[track_caller]
     pub fn call(&mut self, alloc: Global, command: Command) -> Result<Answer, AllocError> {
         assert!(!matches!(command, Command::Align(_, align) if !align.is_power_of_two()), "an alignment must be a power of two");
-        match command {
-            Command::Alloc(size) => self.allocate(size),
-            Command::Free(number) => Ok(self.release(number)),
-            Command::Size(number) => Ok(self.size(number)),
-            Command::Report => Ok(self.report()),
-            Command::Full => full_answer(alloc, &self.space),
-            Command::Reset => Ok(self.reset()),
-            Command::Align(size, align) => self.allocate_aligned(size, align),
-            Command::Extend(more) => Ok(self.extend(more)),
-        }
+        self.take(alloc, command)
     }
 }
 
