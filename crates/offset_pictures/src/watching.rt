@@ -75,7 +75,8 @@ impl Listener for Watched {
 pub fn watch(alloc: Global, script: &Script) -> Result<Watched, AllocError>
     ensures answers { IfOk result
         (λ w. map answer_view w.answers.items
-        ≡ answers (replace_all_full script.now.commands.items) (start script.now.size script.now.max_allocs)) }
+        ≡ answers (replace_all_full script.now.commands.items)
+        (start script.now.size script.now.max_allocs)) }
     ensures reports { IfOk result
         (λ w. map report_view w.reports.items
         ≡ reports_of script.now.size script.now.max_allocs script.now.commands.items) }
