@@ -8,7 +8,7 @@ ghost use Rattle.offset_pictures.specs.Refusals.{refused_of};
 ghost use Rattle.offset_pictures.specs.Reports.{report_view, reports_of};
 
 use crate::refusing::{Refused, note};
-use offset_allocator::{AllocatorOf, StorageReport, Tables};
+use offset_allocator::{AllocatorOf, ByNode, StorageReport, Tables};
 use offset_script::{Answer, Command, Listener, Script, play_script_to};
 use std::alloc::{AllocError, Global};
 
@@ -84,7 +84,7 @@ pub fn watch(alloc: Global, script: &Script) -> Result<Watched, AllocError>
         (λ w. w.refused.items
         ≡ refused_of script.now.size script.now.max_allocs script.now.commands.items) }
 {
-    play_script_to(alloc, script)
+    play_script_to::<ByNode<u16>, ByNode<u32>, _>(alloc, script)
 }
 
 /// Plays a script, and returns the reports of its space before the first command and after each, in order.

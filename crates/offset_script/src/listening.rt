@@ -11,7 +11,7 @@ use crate::answers::Answer;
 use crate::playing::PlayerOf;
 use crate::scripts::{Command, IndexWidth, Script};
 use offset_allocator::laws::is_well_formed;
-use offset_allocator::{AllocatorOf, ByNode, Tables};
+use offset_allocator::{AllocatorOf, Tables};
 use std::alloc::{AllocError, Global};
 
 /// Makes something of commands while they are played: of their answers, and of what their space says.
@@ -89,35 +89,35 @@ pub(crate) fn play_to<T: Tables, L: Listener>(
     let mut listener = L::begin(alloc, &player.space, commands.len())?;
     for command in commands {
         let asked = L::played(*command);
-        let answer = player.take(alloc, asked)?;
+        let answer = player.call(alloc, asked)?;
         is_well_formed(&player.space);
         listener.hear(alloc, &player.space, asked, answer)?;
     }
     Ok(listener)
 }
 
-/// Plays a script on an allocator of its index width, drops its space, and returns the listener that has
-/// heard its commands.
+/// Plays a script on an allocator of its index width, by the layout named for that width, drops its space, and
+/// returns the listener that has heard its commands.
 ///
 /// # Errors
 ///
 /// It fails only where an allocation fails.
 ///
 /// ```
-/// let answers: Vec<Answer> = play_script_to(alloc, &script)?;
+/// let answers: Vec<Answer> = play_script_to::<ByNode<u16>, ByNode<u32>, _>(alloc, &script)?;
 /// assert_eq!(answers.len(), 2);
 /// ```
-pub fn play_script_to<L: Listener>(alloc: Global, script: &Script) -> Result<L, AllocError>
+pub fn play_script_to<Narrow, Wide, L>(alloc: Global, script: &Script) -> Result<L, AllocError>
+where
+    Narrow: Tables<Index = u16>,
+    Wide: Tables<Index = u32>,
+    L: Listener,
     ensures { IfOk result (λ l. L.Heard l (start script.now.size script.now.max_allocs)
         (map L.played script.now.commands.items)) }
 {
     let commands = &script.commands;
     match script.index {
-        IndexWidth::Bits16 => {
-            play_to::<ByNode<u16>, L>(alloc, script.size, script.max_allocs, commands)
-        }
-        IndexWidth::Bits32 => {
-            play_to::<ByNode<u32>, L>(alloc, script.size, script.max_allocs, commands)
-        }
+        IndexWidth::Bits16 => play_to::<Narrow, L>(alloc, script.size, script.max_allocs, commands),
+        IndexWidth::Bits32 => play_to::<Wide, L>(alloc, script.size, script.max_allocs, commands),
     }
 }

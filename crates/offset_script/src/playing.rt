@@ -183,26 +183,6 @@ impl<T: Tables> PlayerOf<T> {
         }
     }
 
-    // The answer to one command, with its code where it is called: loops over commands are shortest so.
-    #[inline(always)]
-    pub(crate) fn take(&mut self, alloc: Global, command: Command) -> Result<Answer, AllocError>
-        requires live { AreLive self.old.space self.old.handles.items }
-        requires power { IsTrue (has_valid_alignment command) }
-        ensures { IfOk result (λ a. Takes command self.old.space self.old.handles.items
-            self.new.space self.new.handles.items (answer_view a)) }
-    {
-        match command {
-            Command::Alloc(size) => self.allocate(size),
-            Command::Free(number) => Ok(self.release(number)),
-            Command::Size(number) => Ok(self.size(number)),
-            Command::Report => Ok(self.report()),
-            Command::Full => full_answer(alloc, &self.space),
-            Command::Reset => Ok(self.reset()),
-            Command::Align(size, align) => self.allocate_aligned(size, align),
-            Command::Extend(more) => Ok(self.extend(more)),
-        }
-    }
-
     /// The answer to one command. The alignment of a request has to be a power of two.
     ///
     /// # Errors
@@ -219,7 +199,16 @@ impl<T: Tables> PlayerOf<T> {
         ensures { IfOk result (λ a. Takes command self.old.space self.old.handles.items
             self.new.space self.new.handles.items (answer_view a)) }
     {
-        self.take(alloc, command)
+        match command {
+            Command::Alloc(size) => self.allocate(size),
+            Command::Free(number) => Ok(self.release(number)),
+            Command::Size(number) => Ok(self.size(number)),
+            Command::Report => Ok(self.report()),
+            Command::Full => full_answer(alloc, &self.space),
+            Command::Reset => Ok(self.reset()),
+            Command::Align(size, align) => self.allocate_aligned(size, align),
+            Command::Extend(more) => Ok(self.extend(more)),
+        }
     }
 }
 
@@ -322,5 +311,5 @@ pub fn play_script(alloc: Global, script: &Script) -> Result<Vec<Answer>, AllocE
         (λ v. map answer_view v.items
         ≡ machine.answers script.now.commands.items (machine.start script.now.size script.now.max_allocs)) }
 {
-    play_script_to(alloc, script)
+    play_script_to::<ByNode<u16>, ByNode<u32>, _>(alloc, script)
 }

@@ -10,7 +10,7 @@ ghost use Rattle.offset_script.specs.Machine.{answer_view};
 use crate::answers::{Answer, put_answer};
 use crate::listening::{Listener, play_script_to};
 use crate::scripts::{Command, Script};
-use offset_allocator::{AllocatorOf, Tables};
+use offset_allocator::{AllocatorOf, ByNode, Tables};
 use std::alloc::{AllocError, Global};
 use std::marker::Model;
 use std::mem::replace;
@@ -176,6 +176,6 @@ pub(crate) fn text_of_script(alloc: Global, script: &Script) -> Result<Vec<Vec<u
         ≡ text_of (machine.answers script.now.commands.items
         (machine.start script.now.size script.now.max_allocs))) }
 {
-    let text: Text = play_script_to(alloc, script)?;
+    let text: Text = play_script_to::<ByNode<u16>, ByNode<u32>, _>(alloc, script)?;
     text.pieces(alloc)
 }

@@ -5,7 +5,7 @@
 
 use crate::memory::Vec;
 use crate::refusing::{Refused, note};
-use offset_allocator::{AllocatorOf, StorageReport, Tables};
+use offset_allocator::{AllocatorOf, ByNode, StorageReport, Tables};
 use offset_script::{Answer, Command, Listener, Script, play_script_to};
 use crate::memory::{AllocError, Global};
 
@@ -65,7 +65,7 @@ impl Listener for Watched {
 ///
 /// It fails only where an allocation fails.
 pub fn watch(alloc: Global, script: &Script) -> Result<Watched, AllocError> {
-    play_script_to(alloc, script)
+    play_script_to::<ByNode<u16>, ByNode<u32>, _>(alloc, script)
 }
 
 /// Plays a script, and returns the reports of its space before the first command and after each, in order.

@@ -156,21 +156,6 @@ impl<T: Tables> PlayerOf<T> {
         }
     }
 
-    // The answer to one command, with its code where it is called: loops over commands are shortest so.
-    #[inline(always)]
-    pub(crate) fn take(&mut self, alloc: Global, command: Command) -> Result<Answer, AllocError> {
-        match command {
-            Command::Alloc(size) => self.allocate(size),
-            Command::Free(number) => Ok(self.release(number)),
-            Command::Size(number) => Ok(self.size(number)),
-            Command::Report => Ok(self.report()),
-            Command::Full => full_answer(alloc, &self.space),
-            Command::Reset => Ok(self.reset()),
-            Command::Align(size, align) => self.allocate_aligned(size, align),
-            Command::Extend(more) => Ok(self.extend(more)),
-        }
-    }
-
     /// The answer to one command. The alignment of a request has to be a power of two.
     ///
     /// # Errors
@@ -192,7 +177,16 @@ impl<T: Tables> PlayerOf<T> {
     #[track_caller]
     pub fn call(&mut self, alloc: Global, command: Command) -> Result<Answer, AllocError> {
         assert!(!matches!(command, Command::Align(_, align) if !align.is_power_of_two()), "an alignment must be a power of two");
-        self.take(alloc, command)
+        match command {
+            Command::Alloc(size) => self.allocate(size),
+            Command::Free(number) => Ok(self.release(number)),
+            Command::Size(number) => Ok(self.size(number)),
+            Command::Report => Ok(self.report()),
+            Command::Full => full_answer(alloc, &self.space),
+            Command::Reset => Ok(self.reset()),
+            Command::Align(size, align) => self.allocate_aligned(size, align),
+            Command::Extend(more) => Ok(self.extend(more)),
+        }
     }
 }
 
@@ -300,5 +294,5 @@ pub fn play<NI: NodeIndex>(
 /// # Ok::<(), RunFault>(())
 /// ```
 pub fn play_script(alloc: Global, script: &Script) -> Result<Vec<Answer>, AllocError> {
-    play_script_to(alloc, script)
+    play_script_to::<ByNode<u16>, ByNode<u32>, _>(alloc, script)
 }

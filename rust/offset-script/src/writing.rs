@@ -7,7 +7,7 @@ use crate::memory::Vec;
 use crate::answers::{Answer, put_answer};
 use crate::listening::{Listener, play_script_to};
 use crate::scripts::{Command, Script};
-use offset_allocator::{AllocatorOf, Tables};
+use offset_allocator::{AllocatorOf, ByNode, Tables};
 use crate::memory::{AllocError, Global};
 use core::mem::replace;
 
@@ -136,6 +136,6 @@ impl Listener for Text {
 ///
 /// It fails only where an allocation fails.
 pub(crate) fn text_of_script(alloc: Global, script: &Script) -> Result<Vec<Vec<u8>>, AllocError> {
-    let text: Text = play_script_to(alloc, script)?;
+    let text: Text = play_script_to::<ByNode<u16>, ByNode<u32>, _>(alloc, script)?;
     text.pieces(alloc)
 }

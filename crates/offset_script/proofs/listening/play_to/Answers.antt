@@ -4,8 +4,8 @@ use Rattle.offset_script.proofs.Simulation.{all_live, fresh_represents, run_begi
 use Rattle.offset_script.proofs.{Agreement.IsAtState, Asking.answers-append, Heard.shows, Heard.told, Nests.after-append, Well.well_start, Well.well_after}
 use Rattle.offset_script.proofs.listening.play_to.Goals as goal
 
-pub take-requires : goal.take-requires
-take-requires g c =
+pub call-requires : goal.call-requires
+call-requires g c =
     let s = start c.args.size c.args.max_allocs in
     let before = map g.L.Listener.played (take c.loop-command.command-index c.args.commands.now) in
     record {
@@ -45,7 +45,7 @@ loop-command-preserved g c =
     let more : map g.L.Listener.played (take (i + 1) cs) ≡ before ++ q ∷ [] =
     ap (map g.L.Listener.played) (take_more cs i _ within) ∙ map-append g.L.Listener.played (take i cs) _ ∙ ap (λ x. before ++ x ∷ []) (sym c.played-asked.ensures.command) in
     record {
-      represents = subst (IsAtState c.take.new.self.space c.take.new.self.handles.items) (sym (ap (λ l. after l s) more ∙ after-append before (q ∷ []) s)) t.1;
+      represents = subst (IsAtState c.call.new.self.space c.call.new.self.handles.items) (sym (ap (λ l. after l s) more ∙ after-append before (q ∷ []) s)) t.1;
       run = run_goes_on Takes _ _ _ _ _ _ _ _ _ _ _ _ c.loop-command.invariant.run c.in_ok-answer.ensures c.is_well_formed-in-loop-command.ensures more
           (ap (λ l. answers l s) more ∙ answers-append before (q ∷ []) s ∙ ap (λ a. answers before s ++ a ∷ []) (sym t.0.answer));
       heard = subst (g.L.Listener.Heard c.hear.new.self s) (sym more) (c.in_ok-hear.ensures s before t.0 c.loop-command.invariant.heard);
