@@ -1,4 +1,4 @@
-//! Merges the rectangles of many grants.
+//! Merges the rectangles of many grants. It only computes.
 
 ghost use Rattle.std.specs.Prelude.{◌≡◌, ◌<◌, ◌≤◌, IfOk, IsTrue, map};
 ghost use Rattle.std.specs.List.{list_any};

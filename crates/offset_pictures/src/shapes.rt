@@ -1,4 +1,4 @@
-//! The rectangle of a life, in hundredths of a pixel.
+//! The rectangle of a life, in hundredths of a pixel. It only computes.
 
 ghost use Rattle.std.specs.Prelude.{◌≡◌, ◌-◌, ◌<◌, ◌≤◌};
 ghost use Rattle.offset_pictures.specs.Places.{shape_of};

@@ -1,6 +1,6 @@
 // Printed by rust/erase from crates/offset_pictures/src/shapes.rt: change it there.
 
-//! The rectangle of a life, in hundredths of a pixel.
+//! The rectangle of a life, in hundredths of a pixel. It only computes.
 
 use crate::ages::age_of;
 use crate::living::Life;
