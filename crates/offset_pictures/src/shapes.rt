@@ -12,7 +12,7 @@ use crate::plots::Plot;
 pub struct Shape {
     pub top: u32,
     pub bottom: u32,
-    /// The bin of its age.
+    /// The group of its age.
     pub age: usize,
     pub left: u32,
     pub right: u32,

@@ -112,8 +112,11 @@ where
     Narrow: Tables<Index = u16>,
     Wide: Tables<Index = u32>,
     L: Listener,
-    ensures { IfOk result (λ l. L.Heard l (start script.now.size script.now.max_allocs)
+    ensures heard { IfOk result (λ l. L.Heard l (start script.now.size script.now.max_allocs)
         (map L.played script.now.commands.items)) }
+    ensures run { IfOk result (λ _. let cs = map L.played script.now.commands.items in
+        AreOfARun Takes script.now.size script.now.max_allocs cs
+        (answers cs (start script.now.size script.now.max_allocs))) }
 {
     let commands = &script.commands;
     match script.index {
