@@ -264,7 +264,7 @@ EXAMPLES = {
         },
     ),
     "offset_script": (
-        ["use offset_script::*;", "let alloc = Global;"],
+        ["use offset_allocator::ByNode;", "use offset_script::*;", "let alloc = Global;"],
         ["# Ok::<(), RunFault>(())"],
         {
             "script": 'let script = parse(alloc, b"space 1000 nodes 16 index 32\\nalloc 300\\nfree 1\\n")?;',

@@ -52,6 +52,7 @@ pub enum Answer {
 /// It fails only where an allocation fails.
 ///
 /// ```
+/// # use offset_allocator::ByNode;
 /// # use offset_script::*;
 /// # let alloc = Global;
 /// let mut player = Player::<u32>::start(alloc, 1000, 16)?;

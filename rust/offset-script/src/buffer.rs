@@ -28,6 +28,7 @@ impl<const ROOM: usize> TextBuffer<ROOM> {
     /// An end of no bytes.
     ///
     /// ```
+    /// # use offset_allocator::ByNode;
     /// # use offset_script::*;
     /// # let alloc = Global;
     /// let line = TextBuffer::<80>::new();
@@ -45,6 +46,7 @@ impl<const ROOM: usize> TextBuffer<ROOM> {
     /// Puts a text before it.
     ///
     /// ```
+    /// # use offset_allocator::ByNode;
     /// # use offset_script::*;
     /// # let alloc = Global;
     /// let mut line = TextBuffer::<80>::new();
@@ -69,6 +71,7 @@ impl<const ROOM: usize> TextBuffer<ROOM> {
     /// It panics unless a digit is below 10.
     ///
     /// ```
+    /// # use offset_allocator::ByNode;
     /// # use offset_script::*;
     /// # let alloc = Global;
     /// let mut line = TextBuffer::<80>::new();
@@ -88,6 +91,7 @@ impl<const ROOM: usize> TextBuffer<ROOM> {
     /// Puts the digits of a number before it, without leading zeros: at most 20.
     ///
     /// ```
+    /// # use offset_allocator::ByNode;
     /// # use offset_script::*;
     /// # let alloc = Global;
     /// let mut line = TextBuffer::<80>::new();
@@ -102,6 +106,7 @@ impl<const ROOM: usize> TextBuffer<ROOM> {
     /// Returns its bytes, which are text.
     ///
     /// ```
+    /// # use offset_allocator::ByNode;
     /// # use offset_script::*;
     /// # let alloc = Global;
     /// let mut line = TextBuffer::<80>::new();
@@ -118,6 +123,7 @@ impl<const ROOM: usize> TextBuffer<ROOM> {
     /// Returns it as text.
     ///
     /// ```
+    /// # use offset_allocator::ByNode;
     /// # use offset_script::*;
     /// # let alloc = Global;
     /// let mut line = TextBuffer::<80>::new();

@@ -137,6 +137,7 @@ fn put_vma_numbers(text: &mut String, size: u32, sums: &Statistics) -> Result<()
 /// It returns the text, or `AllocError` where an allocation fails.
 ///
 /// ```
+/// # use offset_allocator::ByNode;
 /// # use offset_script::*;
 /// # let alloc = Global;
 /// let mut player = Player::<u32>::start(alloc, 1000, 16)?;
@@ -160,6 +161,7 @@ pub fn json_of<T: Tables>(space: &AllocatorOf<T>, alloc: Global) -> Result<Strin
 /// It returns the text, or `AllocError` where an allocation fails.
 ///
 /// ```
+/// # use offset_allocator::ByNode;
 /// # use offset_script::*;
 /// # let alloc = Global;
 /// let mut player = Player::<u32>::start(alloc, 1000, 16)?;

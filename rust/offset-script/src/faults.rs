@@ -45,6 +45,7 @@ impl RunFault {
     /// The status that a program ends with: 2 for a text that is no script, 3 for memory, and 4 for a device.
     ///
     /// ```
+    /// # use offset_allocator::ByNode;
     /// # use offset_script::*;
     /// # let alloc = Global;
     /// assert_eq!(RunFault::Read.status(), 4);
@@ -61,6 +62,7 @@ impl RunFault {
     /// The number of the faulty line of the text, where there is one, and what is wrong, in at most 13 bytes.
     ///
     /// ```
+    /// # use offset_allocator::ByNode;
     /// # use offset_script::*;
     /// # let alloc = Global;
     /// assert_eq!(RunFault::Read.parts(), (None, "read failed"));

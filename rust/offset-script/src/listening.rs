@@ -75,6 +75,7 @@ pub(crate) fn play_to<T: Tables, L: Listener>(
 /// It fails only where an allocation fails.
 ///
 /// ```
+/// # use offset_allocator::ByNode;
 /// # use offset_script::*;
 /// # let alloc = Global;
 /// let script = parse(alloc, b"space 1000 nodes 16 index 32\nalloc 300\nfree 1\n")?;

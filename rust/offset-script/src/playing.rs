@@ -35,6 +35,7 @@ impl<T: Tables> PlayerOf<T> {
     /// It panics unless `max_allocs` is at least 2, and `max_allocs` is at most `NI::MAX - 2`.
     ///
     /// ```
+    /// # use offset_allocator::ByNode;
     /// # use offset_script::*;
     /// # let alloc = Global;
     /// let player = Player::<u16>::start(alloc, 1000, 16)?;
@@ -56,6 +57,7 @@ impl<T: Tables> PlayerOf<T> {
     /// The handle of the grant of this number, if it is live.
     ///
     /// ```
+    /// # use offset_allocator::ByNode;
     /// # use offset_script::*;
     /// # let alloc = Global;
     /// let mut player = Player::<u32>::start(alloc, 1000, 16)?;
@@ -80,6 +82,7 @@ impl<T: Tables> PlayerOf<T> {
     /// It fails only where an allocation fails.
     ///
     /// ```
+    /// # use offset_allocator::ByNode;
     /// # use offset_script::*;
     /// # let alloc = Global;
     /// let mut player = Player::<u32>::start(alloc, 1000, 16)?;
@@ -168,6 +171,7 @@ impl<T: Tables> PlayerOf<T> {
     /// It panics unless an alignment is a power of two.
     ///
     /// ```
+    /// # use offset_allocator::ByNode;
     /// # use offset_script::*;
     /// # let alloc = Global;
     /// let mut player = Player::<u32>::start(alloc, 1000, 16)?;
@@ -231,6 +235,7 @@ impl Listener for Vec<Answer> {
 /// alignment is a power of two.
 ///
 /// ```
+/// # use offset_allocator::ByNode;
 /// # use offset_script::*;
 /// # let alloc = Global;
 /// let script = parse(alloc, b"space 1000 nodes 16 index 32\nalloc 300\nfree 1\n")?;
@@ -259,6 +264,7 @@ pub fn play_of<T: Tables>(
 /// alignment is a power of two.
 ///
 /// ```
+/// # use offset_allocator::ByNode;
 /// # use offset_script::*;
 /// # let alloc = Global;
 /// let script = parse(alloc, b"space 1000 nodes 16 index 32\nalloc 300\nfree 1\n")?;
@@ -287,6 +293,7 @@ pub fn play<NI: NodeIndex>(
 /// It fails only where an allocation fails.
 ///
 /// ```
+/// # use offset_allocator::ByNode;
 /// # use offset_script::*;
 /// # let alloc = Global;
 /// let script = parse(alloc, b"space 1000 nodes 16 index 32\nalloc 300\nfree 1\n")?;

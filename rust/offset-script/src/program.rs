@@ -31,6 +31,7 @@ pub fn run_program_of<X: ScriptText, S: Source, K: Sink, E: Sink>(
 /// of `errors` does not change the status. To write the line takes no memory.
 ///
 /// ```
+/// # use offset_allocator::ByNode;
 /// # use offset_script::*;
 /// # let alloc = Global;
 /// let mut input = FromRead::new(&b"no script"[..]);

@@ -121,6 +121,7 @@ impl Header {
 /// be a command, or is `BadCommand`. `Memory` is returned only where an allocation failed.
 ///
 /// ```
+/// # use offset_allocator::ByNode;
 /// # use offset_script::*;
 /// # let alloc = Global;
 /// let script = parse(alloc, b"space 1000 nodes 16 index 32\nalloc 300\n")?;

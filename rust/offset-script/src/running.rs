@@ -35,6 +35,7 @@ fn read_text<S: Source>(alloc: Global, input: &mut S) -> Result<Vec<u8>, RunFaul
 /// in this call; no failed call is tried again. Where an allocation fails, the fault is `Memory`.
 ///
 /// ```
+/// # use offset_allocator::ByNode;
 /// # use offset_script::*;
 /// # let alloc = Global;
 /// let mut input = FromRead::new(&b"space 1000 nodes 16 index 32\nalloc 300\n"[..]);
@@ -103,6 +104,7 @@ impl ScriptText for AnswerText {
 /// call is tried again. Where an allocation fails, the fault is `Memory`.
 ///
 /// ```
+/// # use offset_allocator::ByNode;
 /// # use offset_script::*;
 /// # let alloc = Global;
 /// let mut input = FromRead::new(&b"space 1000 nodes 16 index 32\nalloc 300\n"[..]);

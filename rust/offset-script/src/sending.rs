@@ -26,6 +26,7 @@ fn push_all<K: Sink>(output: &mut K, text: &[u8]) -> bool {
 /// at the first failure, and tries nothing again.
 ///
 /// ```
+/// # use offset_allocator::ByNode;
 /// # use offset_script::*;
 /// # let alloc = Global;
 /// let mut output = IntoWrite::new(std::vec::Vec::new());
@@ -56,6 +57,7 @@ pub(crate) fn send_in_turn<K: Sink>(output: &mut K, pieces: &[Vec<u8>]) -> bool 
 /// at the first failure, tries nothing again, and allocates nothing.
 ///
 /// ```
+/// # use offset_allocator::ByNode;
 /// # use offset_script::*;
 /// # let alloc = Global;
 /// let mut output = IntoWrite::new(std::vec::Vec::new());
