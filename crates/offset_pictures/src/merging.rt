@@ -2,7 +2,8 @@
 
 ghost use Rattle.std.specs.Prelude.{◌≡◌, ◌<◌, ◌≤◌, IfOk, IsTrue, map};
 ghost use Rattle.std.specs.List.{list_any};
-ghost use Rattle.offset_pictures.specs.Merging.{AreMerged, Place, IsAtTenth, covers, rounded_if_tiny, is_tiny, join};
+ghost use Rattle.offset_pictures.specs.Merging.{AreMerged, Place, IsAtTenth, covers, is_tiny, join};
+ghost use Rattle.offset_pictures.specs.Merging.{rounded_if_tiny};
 ghost use Rattle.offset_pictures.specs.Merging.{key_of, round_out, shape_of_key, touch};
 ghost use Rattle.offset_pictures.specs.Places.{shape_of};
 

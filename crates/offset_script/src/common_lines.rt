@@ -3,8 +3,8 @@
 ghost use Rattle.std.specs.Prelude.{◌≡◌, ◌+◌, ◌-◌, ◌<◌, nat_lt, ◌≤◌, ◌++◌, length, All, IfOk, IfSome, IsTrue};
 ghost use Rattle.std.specs.Char.{is_ascii_digit};
 ghost use Rattle.std.specs.Int.{to_le_bytes, w32};
-ghost use Rattle.offset_script.specs.CommonLines.{BeginsWithNumber, BeginsWithCommand, ReadsCommands, name_of};
-ghost use Rattle.offset_script.specs.CommonLines.{counted};
+ghost use Rattle.offset_script.specs.CommonLines.{BeginsWithNumber, BeginsWithCommand, ReadsCommands};
+ghost use Rattle.offset_script.specs.CommonLines.{counted, name_of};
 ghost use Rattle.offset_script.specs.Grammar.{has_valid_alignment, significant_from};
 
 use crate::lines::Lines;
