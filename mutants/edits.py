@@ -58,8 +58,8 @@ class Edit:
         return texts
 
     def functions(self):
-        """The names of the functions in whose bodies the edit is, each with its path below the crate, or again its name
-        for one of a trait; none where a part of the edit is elsewhere."""
+        """The names of the functions in whose bodies the edit is, each with the end of its path that tells it from
+        others (for one of a trait its name alone); none where a part of the edit is elsewhere."""
         file, found, texts = None, {}, {}
         for line in self.lines:
             key, _, text = line.partition(":")
@@ -74,7 +74,7 @@ class Edit:
                 if not at:
                     return {}
                 name, home = at
-                found[name] = name if home is None else "::".join([*module_of(file), *home, name])
+                found[name] = name if home is None else "::".join([*(home or module_of(file)), name])
                 texts[file] = source.replace(old, text)
         return found
 
