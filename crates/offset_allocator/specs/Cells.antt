@@ -9,8 +9,8 @@ pub record Node : Type 0 where
   pub before : Option ℕ
   pub after : Option ℕ
 
--- what the chain of blocks works on: the nodes that were made, the stack of unused names, and how many nodes there is
--- memory for
+-- what the chain of blocks works on: the nodes that were made, the stack of unused names (its first entries: one for each
+-- node that no block has), and how many nodes there is memory for
 pub record ChainCells : Type 0 where
   pub nodes : List Node
   pub spare : List ℕ

@@ -1,5 +1,5 @@
 //! A bin for each size class: the names of its free blocks, in a list of links between the nodes, with a
-//! two-level mask.
+//! two-level mask. It touches the links of the bins, and leaves the chain as it is.
 ghost use Rattle.std.specs.Prelude.{◌≡◌, ◌+◌, ◌-◌, ◌<◌, ◌≤◌, ◌≢◌, ℕ, false, List, [], ◌∷◌, slice_index};
 ghost use Rattle.std.specs.Prelude.{slice_set};
 ghost use Rattle.std.specs.Prelude.{length, replicate, MatchOption};

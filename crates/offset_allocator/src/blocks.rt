@@ -1,4 +1,5 @@
-//! An iterator over the blocks of a space, from its end to its start.
+//! An iterator over the blocks of a space, from its end to its start. It reads the tables, and counts each
+//! cell.
 ghost use Rattle.std.specs.Prelude.{◌≡◌, ◌≤◌, ◌+◌, ⊤, IsSome};
 ghost use Rattle.std.specs.Iterator.{YieldsFirstBy, item_count};
 ghost use Rattle.offset_allocator.specs.Accesses.{Costs};

@@ -1,4 +1,5 @@
-//! The tables of a state that is read, made block by block from the end of the space, then name by name.
+//! The tables of a state that is read, made block by block from the end of the space, then name by name. It
+//! changes no other tables.
 ghost use Rattle.std.specs.Prelude.{◌≡◌, ◌+◌, ◌-◌, ◌*◌, ◌/◌, ◌%◌, ◌<◌, ◌≤◌, ◌∷◌, ◌++◌, [], ℕ};
 ghost use Rattle.std.specs.Prelude.{List, Option, None, Some, false};
 ghost use Rattle.std.specs.Prelude.{length, replicate, sum, take, IfOk, IsErr, IsSome};

@@ -1,4 +1,4 @@
-//! The layout with a table for each field of a node.
+//! The layout with a table for each field of a node. It alone touches the cells of these tables.
 
 ghost use Rattle.std.specs.Prelude.{◌≡◌, ◌+◌, ◌<◌, [], ◌∷◌, ◌++◌, length};
 

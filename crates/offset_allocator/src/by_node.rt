@@ -1,4 +1,5 @@
-//! The layout with one table of nodes: the fields of a node are in one cache line.
+//! The layout with one table of nodes: the fields of a node are in one cache line. It alone touches the cells
+//! of these tables.
 
 ghost use Rattle.std.specs.Prelude.{◌≡◌};
 ghost use Rattle.offset_allocator.specs.Cells.{blank};

@@ -1,5 +1,5 @@
 //! The layout with one table: a row has a node, and the entry of the stack of unused names at the row's
-//! place.
+//! place. It alone touches the cells of this table.
 
 use crate::accesses::Accesses;
 use crate::by_node::{Node, blank};

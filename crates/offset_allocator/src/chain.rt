@@ -1,4 +1,5 @@
-//! The blocks of the space, linked in space order, and the stack of unused names.
+//! The blocks of the space, linked in space order, and the stack of unused names. It touches these alone, and
+//! leaves the bins as they are.
 
 ghost use Rattle.std.specs.Prelude.{ℕ, ◌≡◌, ◌+◌, ◌-◌, ◌<◌, ◌≤◌, ◌^◌, List, [], ◌∷◌, ◌++◌, length, false};
 ghost use Rattle.std.specs.Prelude.{Some, IfSome};
@@ -115,7 +116,8 @@ pub(crate) fn point_on<T: Tables>(tables: &mut T, link: T::Index, name: u32, cou
     ensures nodes { length (T.cells tables.new).chain.nodes ≡ length (T.cells tables.old).chain.nodes }
     ensures cells { MatchOption (link_of T.Index.MAX (T.Index.number link)) ((T.cells tables.new).chain
         ≡ (T.cells tables.old).chain) (λ x. (T.cells tables.new).chain
-        ≡ put (T.cells tables.old).chain x (record (node (T.cells tables.old).chain x) { after = Some name })) }
+        ≡ put (T.cells tables.old).chain x
+        (record (node (T.cells tables.old).chain x) { after = Some name })) }
     ensures bins { (T.cells tables.new).bins ≡ (T.cells tables.old).bins }
     ensures accesses { Costs 0 1 count.old count.new }
 {

@@ -1,4 +1,5 @@
-//! Slides every live range to the front of the space, so that all free units are one block at its end.
+//! Slides every live range to the front of the space, so that all free units are one block at its end. It
+//! changes the chain by `gap`, and makes the bins anew.
 ghost use Rattle.std.specs.Prelude.{ℕ, ◌≡◌, ◌≢◌, ◌+◌, ◌*◌, ◌<◌, ◌≤◌, [], ◌∷◌, ◌++◌, Some, false, Bool, List};
 ghost use Rattle.std.specs.Prelude.{length};
 ghost use Rattle.std.specs.Prelude.{sum, unwrap_or};

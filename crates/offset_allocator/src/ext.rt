@@ -1,4 +1,4 @@
-//! What the allocator's users need of size classes.
+//! What the allocator's users need of size classes. It touches no table.
 
 ghost use Rattle.std.specs.Prelude.{◌≡◌, ◌≤◌};
 ghost use Rattle.offset_allocator.specs.Classes.{value, up};

@@ -1,5 +1,5 @@
 //! Makes room for a request: slides the live ranges of a run of blocks to its front, so that its free units
-//! are one block after them.
+//! are one block after them. It changes the chain by `gap`, and the bins of the blocks of the run.
 ghost use Rattle.std.specs.Prelude.{ℕ, ◌≡◌, ◌+◌, ◌*◌, ◌≤◌, List, ◌++◌, IfSome, length, sum};
 ghost use Rattle.std.specs.List.{FoldsTo};
 ghost use Rattle.offset_allocator.specs.Accesses.{Costs};

@@ -1,4 +1,4 @@
-//! How many names the bins have.
+//! How many names the bins have. It reads the tables, and counts each cell.
 
 ghost use Rattle.std.specs.Prelude.{◌≡◌, ◌≢◌, ℕ, ◌+◌, ◌<◌, ◌≤◌, [], ◌∷◌, length, sum};
 ghost use Rattle.offset_allocator.specs.View.{bin_at};

@@ -502,7 +502,8 @@ impl<T: Tables> AllocatorOf<T> {
         // when there is room for the blocks needed, and there is a free block in a size class whose blocks
         // all have at least the units needed.
         ensures granted { 1 ≤ units_needed size align → (IsSome result
-            ↔ (HasRoomFor (blocks_needed align) self.old × (units_needed size align ≤ largest_free self.old))) }
+            ↔ (HasRoomFor (blocks_needed align) self.old
+            × (units_needed size align ≤ largest_free self.old))) }
         ensures can_grant { IsSome result
             ↔ CanGrant (blocks_needed align) (units_needed size align) self.old }
         // A grant gives a name that was not live. Its range has exactly `size` units, lies in the space, and

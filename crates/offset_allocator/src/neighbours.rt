@@ -1,5 +1,5 @@
-//! A block and its neighbours: it is coalesced with the free ones, divided or resized, in both halves of a
-//! store.
+//! A block and its neighbours: it is coalesced with the free ones, divided or resized, by `chain` and `bins`
+//! together.
 ghost use Rattle.std.specs.Prelude.{ℕ, ◌≡◌, ◌+◌, ◌≤◌, ◌++◌, ◌∷◌, Some, false, length, ◌-◌, ◌<◌, IsSome};
 ghost use Rattle.offset_allocator.specs.Accesses.{Costs};
 ghost use Rattle.offset_allocator.specs.Classes.{down};

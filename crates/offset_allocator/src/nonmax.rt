@@ -1,4 +1,4 @@
-//! The index types `u32` and `u16`, and the names of their nodes.
+//! The index types `u32` and `u16`, and the names of their nodes. It touches no table.
 ghost use Rattle.std.specs.Prelude.{◌≡◌, ℕ, ◌%◌, ◌<◌, MatchOption};
 
 use crate::index::{NodeIndex, NodeIndexNonMax};

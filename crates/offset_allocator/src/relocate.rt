@@ -1,5 +1,5 @@
 //! A second range for what a live one holds, nearer to the start of the space, so that the end of a heap can
-//! be emptied.
+//! be emptied. It reads the tables, and changes them by a grant alone.
 ghost use Rattle.std.specs.Prelude.{◌≡◌, ◌+◌, ◌<◌, ◌≤◌, ℕ, None, Some, IfSome};
 ghost use Rattle.offset_allocator.specs.Accesses.{Costs};
 ghost use Rattle.offset_allocator.specs.Ranges.{Grants, IsLive, size_of};

@@ -1,4 +1,5 @@
-//! Ranges that become smaller or larger in place.
+//! Ranges that become smaller or larger in place. It changes one block and the free one after it, by
+//! `neighbours`.
 ghost use Rattle.std.specs.Prelude.{ℕ, ◌≡◌, ◌↔◌, ◌+◌, ◌<◌, ◌≤◌, false, IsTrue};
 ghost use Rattle.offset_allocator.specs.Accesses.{Costs};
 ghost use Rattle.offset_allocator.specs.Chain.{HasPlace, IsFreeAfter};

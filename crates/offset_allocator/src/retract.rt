@@ -1,4 +1,4 @@
-//! Takes free units off the end of a space.
+//! Takes free units off the end of a space. It changes the last block alone, by `chain` and `bins`.
 ghost use Rattle.std.specs.Prelude.{◌≡◌, ◌↔◌, ◌+◌, ◌<◌, ◌≤◌, IsTrue, IfSome, None, Some, false, true, length};
 ghost use Rattle.offset_allocator.specs.Accesses.{Costs};
 ghost use Rattle.offset_allocator.specs.Cells.{node};

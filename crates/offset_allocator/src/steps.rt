@@ -1,4 +1,5 @@
-//! The steps of the public calls. Each method leaves an allocator whose blocks and bins agree.
+//! The steps of the public calls, by `neighbours`, `chain` and `bins`. Each leaves an allocator whose blocks
+//! and bins agree.
 ghost use Rattle.std.specs.Prelude.{◌≡◌, ◌↔◌, ◌+◌, ◌-◌, ◌*◌, ◌<◌, ◌≤◌, ◌≢◌, ℕ, [], ◌∷◌, length, replicate};
 ghost use Rattle.std.specs.Prelude.{None, false, true};
 ghost use Rattle.std.specs.Prelude.{IsTrue, IsSome, IfSome, Some};

@@ -24,7 +24,8 @@ pub(crate) struct Store<T: Tables> {
     pub(crate) accesses: Accesses,
 }
 
-/// Makes one more node where fewer than `names` made nodes have no block; no more than one may be missing.
+/// Makes one more node where fewer than `names` of those that were made have no block, and at least
+/// `names - 1`.
 #[inline(always)]
 pub(crate) fn ensure_spare<T: Tables>(
     tables: &mut T,

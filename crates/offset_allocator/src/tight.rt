@@ -1,5 +1,6 @@
 //! Requests that take any free block that is large enough: where the first fit by classes finds none, the
-//! bins from the class of the request on are walked.
+//! bins from the class of the request on are walked. It changes the order of one bin, then grants as
+//! `allocate`.
 ghost use Rattle.std.specs.Prelude.{◌≡◌, ◌↔◌, ◌+◌, ◌*◌, ◌<◌, ◌≤◌, ◌%◌, ◌⊎◌, ◌++◌, ◌∷◌, ℕ, None, Some, false};
 ghost use Rattle.std.specs.Prelude.{length};
 ghost use Rattle.std.specs.Prelude.{nat_le, IsSome, IfSome};

@@ -1,7 +1,7 @@
 -- Two states that differ only in numbers, and in stamps of the same order in each class, give the same replies.
 use Rattle.offset_calls.proofs.Common.{◌≡◌, ℕ, ◌+◌, ◌-◌, ◌*◌, Bool, true, false, not, ◌&&◌, ◌||◌, ◌⊎◌, List, [], ◌∷◌, ◌++◌, map, sum, Option, None, is_some, nat_eq, nat_le, if◌then◌else◌, refl, sym}
 use Rattle.offset_calls.proofs.Common.{ap, ap₂, subst, subst₂, ◌∙◌, inl, inr, arith, eq-eqb, ne_eqb, le-leb, cases_eq, cases_lt, true≢false, false≢true, lt-leb, map-append, number_without, State}
-use Rattle.offset_calls.proofs.Common.{is_free, has_number, free_sizes, place_of, chosen_place, free_start, without_start, free_block, stamp_of_call, fits, Call, Reply, Answer, Compacted, Offset}
+use Rattle.offset_calls.proofs.Common.{is_free, has_number, free_sizes, place_of, chosen_place, units_at_start, without_start, free_block, stamp_of_call, fits, Call, Reply, Answer, Compacted, Offset}
 use Rattle.offset_calls.proofs.Common.{Refused_for, Outcome, starts_free, resize, resized, replies_only, number, move_of, moves, gathered, compact, offset_at, reason, step, replies, renumber}
 use Rattle.offset_calls.proofs.Common.{number_with, raise_move, raise}
 use Rattle.offset_script.specs.Totals.{live}
@@ -63,7 +63,7 @@ pub same_starts : (ps : List Pair) → starts_free (lefts ps) ≡ starts_free (r
 same_starts [] = refl
 same_starts (q ∷ ps) = same_free q.kind
 
-pub same_free_start : (ps : List Pair) → free_start (lefts ps) ≡ free_start (rights ps)
+pub same_free_start : (ps : List Pair) → units_at_start (lefts ps) ≡ units_at_start (rights ps)
 same_free_start [] = refl
 same_free_start (q ∷ ps) = ap (λ x. if x then q.size else 0) (same_free q.kind)
 
@@ -162,19 +162,19 @@ module _ (r : ℕ → ℕ) (g d : ℕ) (back : (k : ℕ) → r (number_with g d 
   resized_same : (n : ℕ) (xs : List Pair) (q : Pair) (ys : List Pair) (i j : ℕ) → a.pairs ≡ xs ++ q ∷ ys → q.kind ≡ Lives i j
       → AreSame r g d (resized n s (record { before = lefts xs; block = left q; after = lefts ys })) (resized n t (record { before = rights xs; block = right q; after = rights ys }))
   resized_same n xs q ys i j e l =
-      let m = q.size + free_start (lefts ys) - n in
+      let m = q.size + units_at_start (lefts ys) - n in
       record {
         reply = refl;
         state = subst₂ (λ bs cs. IsAlike r d (record { limit = s.limit; blocks = bs; calls = s.calls + 1; grants = s.grants })
             (record { limit = t.limit; blocks = cs; calls = t.calls + 1; grants = t.grants })) on_left on_right (resized_alike n m xs q ys i j e l);
       }
     where
-      on_left : lefts (xs ++ (pair n q.kind ∷ (pair_free_block (q.size + free_start (lefts ys) - n) (Frees (2 * (s.calls + 1) + 1) (2 * (t.calls + 1) + 1)) ++ without_pairs ys)))
-          ≡ lefts xs ++ (machine.block n (left_tag q.kind) ∷ (free_block (q.size + free_start (lefts ys) - n) (stamp_of_call s) ++ without_start (lefts ys)))
+      on_left : lefts (xs ++ (pair n q.kind ∷ (pair_free_block (q.size + units_at_start (lefts ys) - n) (Frees (2 * (s.calls + 1) + 1) (2 * (t.calls + 1) + 1)) ++ without_pairs ys)))
+          ≡ lefts xs ++ (machine.block n (left_tag q.kind) ∷ (free_block (q.size + units_at_start (lefts ys) - n) (stamp_of_call s) ++ without_start (lefts ys)))
       on_left = search (arith, map-append, left, lefts, left_tag, pair_free_block, lefts_free_block, lefts_without)
 
-      on_right : rights (xs ++ (pair n q.kind ∷ (pair_free_block (q.size + free_start (lefts ys) - n) (Frees (2 * (s.calls + 1) + 1) (2 * (t.calls + 1) + 1)) ++ without_pairs ys)))
-          ≡ rights xs ++ (machine.block n (right_tag q.kind) ∷ (free_block (q.size + free_start (rights ys) - n) (stamp_of_call t) ++ without_start (rights ys)))
+      on_right : rights (xs ++ (pair n q.kind ∷ (pair_free_block (q.size + units_at_start (lefts ys) - n) (Frees (2 * (s.calls + 1) + 1) (2 * (t.calls + 1) + 1)) ++ without_pairs ys)))
+          ≡ rights xs ++ (machine.block n (right_tag q.kind) ∷ (free_block (q.size + units_at_start (rights ys) - n) (stamp_of_call t) ++ without_start (rights ys)))
       on_right = search (arith, map-append, right, rights, right_tag, pair_free_block, lefts, rights_free_block, same_free_start, rights_without)
 
   resize_same : (k n : ℕ) (can can' : machine.Place → Bool) (o o' : Option machine.Place) → place_of k s.blocks ≡ o → IsSamePlace (λ q. Unit {0}) a.pairs o o'

@@ -23,7 +23,8 @@ pub use Rattle.offset_calls.specs.declared.calls.Call.{Call}
 pub use Rattle.offset_guarded.specs.Guard.{Guard, AreAlike, IsLive, range_of, Grants, IsSame, KeepsAll, KeepsLive, KeepsOthers, KeepsSerials, KeepsSizes, grant_of, serial_of}
 pub use Rattle.offset_guarded.specs.declared.ticket.Ticket.{Ticket}
 pub use Rattle.offset_script.specs.Histories.{number_without, HasNoLive, IsNest, IsCollapse, collapse, outline, releases}
-pub use Rattle.offset_script.specs.Machine.{State, is_free, has_number, total, free_sizes, place_of, chosen_place, is_short_of, free_start, without_start, free_block, stamp_of_call, fits, start, Tag}
+pub use Rattle.offset_script.specs.Machine.{State, is_free, has_number, total, free_sizes, place_of, chosen_place, is_short_of}
+pub use Rattle.offset_script.specs.Machine.{units_at_start, without_start, free_block, stamp_of_call, fits, start, Tag}
 pub use Rattle.offset_script.specs.Machine.{Live, Free, stamp_of_padding}
 pub use Rattle.offset_script.specs.Steps.{kept_name, IfNamed, Stays, IsKept}
 pub use Rattle.offset_script.specs.declared.scripts.Command.{Command}

@@ -35,7 +35,7 @@ in_without p (q ∷ []) i = elim (is_free (left_tag q.kind)) as (λ b. IsIn p (i
 in_without p (q ∷ x ∷ ps) (inl e) = inl e
 in_without p (q ∷ x ∷ ps) (inr i) = inr (in_without p (x ∷ ps) i)
 
-pub same_free_end : (ps : List Pair) → machine.free_end (lefts ps) ≡ machine.free_end (rights ps)
+pub same_free_end : (ps : List Pair) → machine.units_at_end (lefts ps) ≡ machine.units_at_end (rights ps)
 same_free_end [] = refl
 same_free_end (q ∷ []) = ap (λ b. if b then q.size else 0) (same_free q.kind)
 same_free_end (q ∷ x ∷ ps) = same_free_end (x ∷ ps)
@@ -69,7 +69,7 @@ rights_with ps n s u = map-append right (without_pairs ps) _ ∙ ap (λ l. right
 module _ (r : ℕ → ℕ) (d : ℕ) (s t : State) (a : IsAlike r d s t) where
   -- whether units can go off the end, and what is left
   pub same_can : (n : ℕ) → can_retract n s.blocks ≡ can_retract n t.blocks
-  same_can n = ap (nat_le n) (ap machine.free_end a.left_blocks ∙ same_free_end a.pairs ∙ ap machine.free_end (sym a.right_blocks))
+  same_can n = ap (nat_le n) (ap machine.units_at_end a.left_blocks ∙ same_free_end a.pairs ∙ ap machine.units_at_end (sym a.right_blocks))
 
   with_alike : (m n : ℕ) → m ≡ n
       → IsAlike r d (machine.leaves s (with_end m (stamp_of_call s) s.blocks) machine.Freed).state (machine.leaves t (with_end n (stamp_of_call t) t.blocks) machine.Freed).state
@@ -86,7 +86,7 @@ module _ (r : ℕ → ℕ) (d : ℕ) (s t : State) (a : IsAlike r d s t) where
   pub retracted_alike : (n : ℕ)
       → IsAlike r d (machine.leaves s (retracted n (stamp_of_call s) s.blocks) machine.Freed).state (machine.leaves t (retracted n (stamp_of_call t) t.blocks) machine.Freed).state
   retracted_alike zero = (same_quiet r d s t a machine.Freed machine.Freed refl).state
-  retracted_alike (suc n) = with_alike _ _ (ap (λ m. m - suc n) (ap machine.free_end a.left_blocks ∙ same_free_end a.pairs ∙ ap machine.free_end (sym a.right_blocks)))
+  retracted_alike (suc n) = with_alike _ _ (ap (λ m. m - suc n) (ap machine.units_at_end a.left_blocks ∙ same_free_end a.pairs ∙ ap machine.units_at_end (sym a.right_blocks)))
 
   -- a number has no part in where a grant begins
   raised_before : (o : ℕ) (x : machine.Answer) → begins_before o (raise_number d x) ≡ begins_before o x

@@ -391,7 +391,7 @@ module _ (v w : View) (hs left : List (Option Grant)) (r : Reply) (s : State) (f
       (is, subst (λ l. IsAtState w l (remakes s (retracted (suc n) (stamp_of_call s) s.blocks) Resized).state) (sym f) (record { formed = formed; agrees = agrees; grants = p.grants }))
 
   retract_step : (n : ℕ) (done : Bool) → Retracts n v w done → left ≡ hs → r ≡ (if done then Resized else Answer machine.Refused) → Follows (step (call.Retract n) s) w left r
-  retract_step n true (inl t) f is = stays _ Resized (ap (λ m. step (call.Retract m) s) t.0 ∙ retract_if 0 true (le-leb 0 (machine.free_end s.blocks) (omega arith))) t.1 f is
+  retract_step n true (inl t) f is = stays _ Resized (ap (λ m. step (call.Retract m) s) t.0 ∙ retract_if 0 true (le-leb 0 (machine.units_at_end s.blocks) (omega arith))) t.1 f is
   retract_step n true (inr t) f is = cut_step n t.0 t.1 f is
   retract_step n false t f is = stays _ (Answer machine.Refused)
       (retract_if n false (not_true _ (λ e. t.1 (can_too v (kept_name hs) s p.formed ws p.agrees n t.0 e)))) t.2 f is

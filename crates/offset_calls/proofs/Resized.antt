@@ -3,7 +3,7 @@ use Rattle.offset_calls.proofs.Common.{◌≡◌, ◌≢◌, ℕ, zero, suc, ◌
 use Rattle.offset_calls.proofs.Common.{if◌then◌else◌, refl, sym, ap, ap₂, subst, ◌∙◌, inl, inr, arith, le-leb, leb-true, leb-false, append-nil, length-append, false≢true, and_parts, and_right}
 use Rattle.std.specs.Prelude.{option_map, unwrap_or}
 use Rattle.offset_calls.proofs.Common.{map-append, AllByRecursion, Block, View, Place, units, IsWellFormed, IsApart, replace, HasRoomFor, size_of, SameSpace, Tag, Live, Free, State, is_free}
-use Rattle.offset_calls.proofs.Common.{has_number, total, is_short_of, stamp_of_call, stamp_of_padding, without_start, free_start, starts_free, can_shrink, can_grow, resized}
+use Rattle.offset_calls.proofs.Common.{has_number, total, is_short_of, stamp_of_call, stamp_of_padding, without_start, units_at_start, starts_free, can_shrink, can_grow, resized}
 use Rattle.std.proofs.Math.Bool.{or-true}
 use Rattle.offset_allocator.proofs.{ViewApart.right_false, Reading.size_at, Reading.size_is}
 use Rattle.offset_allocator.specs.{View.place_of, Resizing.CanShrink, Resizing.CanGrow, Resizing.Resizes, Resizing.free_after}
@@ -38,7 +38,7 @@ length_without (b ∷ bs) = search (arith, length, false≢true)
 pub well_resized : (s : State) → IsWell s → (k n : ℕ) (p : machine.Place) → machine.place_of k s.blocks ≡ Some p → (starts_free p.after ≡ true) ⊎ (is_short_of 1 s ≡ false)
     → IsWell (resized n s p).state
 well_resized s w k n p e fits =
-    let left = p.block.size + free_start p.after - n in
+    let left = p.block.size + units_at_start p.after - n in
     let blocks = p.before ++ (machine.block n p.block.tag ∷ (machine.free_block left (stamp_of_call s) ++ without_start p.after)) in
     let sizes : length blocks ≡ length p.before + suc (length (machine.free_block left (stamp_of_call s)) + length (without_start p.after)) = simp length-append in
     let f = found_at k s.blocks p e in
@@ -62,7 +62,7 @@ some_free : (ls : List Label) → named.free_start (names ls) ≢ [] → starts_
 some_free [] f = absurd (f refl)
 some_free (l ∷ ls) f = search (arith, f, not, by_name)
 
-free_units : (ls : List Label) → units (named.free_start (names ls)) ≡ free_start (tags ls)
+free_units : (ls : List Label) → units (named.free_start (names ls)) ≡ units_at_start (tags ls)
 free_units [] = refl
 free_units (l ∷ ls) = elim (is_free l.tag) as (λ x. units (if not (not x) then by_name l ∷ [] else []) ≡ (if x then l.size else 0)) [ true ↦ omega arith | false ↦ refl ]
 
@@ -108,10 +108,10 @@ module _ (v : View) (kept_name : ℕ → Option ℕ) (s : State) (w : IsWellForm
 
   pub grow_can : (n : ℕ) → can_grow n (plain_place spot) ≡ true → CanGrow x n v
   grow_can n c =
-      let parts = and_parts (nat_le spot.label.size n) (nat_le n (spot.label.size + free_start (tags spot.after))) c in
+      let parts = and_parts (nat_le spot.label.size n) (nat_le n (spot.label.size + units_at_start (tags spot.after))) c in
       let u = ap units after_found ∙ free_units spot.after in
       let z = size_found in
-      (let l = leb-true spot.label.size n parts.0 in omega arith, let l = leb-true n (spot.label.size + free_start (tags spot.after)) parts.1 in omega arith)
+      (let l = leb-true spot.label.size n parts.0 in omega arith, let l = leb-true n (spot.label.size + units_at_start (tags spot.after)) parts.1 in omega arith)
 
   -- what the range and the block after it become
   module _ (n : ℕ) (u : View) (w' : IsWellFormed u) (d : n ≢ spot.label.size) (f : Resizes x n v u) where
@@ -158,11 +158,11 @@ module _ (v : View) (kept_name : ℕ → Option ℕ) (s : State) (w : IsWellForm
         (apart_tagged (spot.before ++ (new ++ back.1)) (subst IsApart view_after f.apart)) in
         (apart_parts (tags spot.before) (machine.block n (Live k) ∷ (machine.block (suc m) (Free (stamp_of_call s)) ∷ tags back.1)) a).1.1.0
 
-    start : (without_start (tags spot.after) ≡ tags back.1) × (free_start (tags spot.after) ≡ total (tags back.0))
+    start : (without_start (tags spot.after) ≡ tags back.1) × (units_at_start (tags spot.after) ≡ total (tags back.0))
     start =
         let r = start_is (tags back.0) (tags back.1) (start_of (tags back.0) (tags back.1) (free_tagged back.0 free) apart.0 (ends f.left refl)) in
         let h = ap tags back.2 ∙ map-append by_tag back.0 back.1 in
-        (ap without_start h ∙ r.0, ap free_start h ∙ r.1)
+        (ap without_start h ∙ r.0, ap units_at_start h ∙ r.1)
 
     state : (resized n s (plain_place spot)).state.blocks ≡ tags (spot.before ++ (new ++ back.1))
     state = search (arith, tags, sizes, start, f, back, tags_after)

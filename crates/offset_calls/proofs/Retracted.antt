@@ -17,13 +17,13 @@ use Rattle.offset_script.specs.Machine as machine
 
 -- ---- lists that end with a free block
 
-pub end_is : (xs : List machine.Block) (b : machine.Block) → is_free b.tag ≡ true → (machine.without_end (xs ++ b ∷ []) ≡ xs) × (machine.free_end (xs ++ b ∷ []) ≡ b.size)
+pub end_is : (xs : List machine.Block) (b : machine.Block) → is_free b.tag ≡ true → (machine.without_end (xs ++ b ∷ []) ≡ xs) × (machine.units_at_end (xs ++ b ∷ []) ≡ b.size)
 end_is [] b e = (ap (λ x. if x then [] else b ∷ []) e, ap (λ x. if x then b.size else 0) e)
 end_is (x ∷ []) b e = let r = end_is [] b e in (ap (λ z. x ∷ z) r.0, r.1)
 end_is (x ∷ y ∷ xs) b e = let r = end_is (y ∷ xs) b e in (ap (λ z. x ∷ z) r.0, r.1)
 
 -- where there are free units at the end, the last block is free
-pub end_of : (bs : List machine.Block) → 1 ≤ machine.free_end bs → (xs : List machine.Block) × (b : machine.Block) × (bs ≡ xs ++ b ∷ []) × (is_free b.tag ≡ true)
+pub end_of : (bs : List machine.Block) → 1 ≤ machine.units_at_end bs → (xs : List machine.Block) × (b : machine.Block) × (bs ≡ xs ++ b ∷ []) × (is_free b.tag ≡ true)
 end_of [] l = absurd (omega arith)
 end_of (b ∷ []) l = elim (cases_Bool (is_free b.tag)) [
   | inl e ↦ ([], b, refl, e)
@@ -50,7 +50,7 @@ end_apart (x ∷ xs) n t a e = apart_append (x ∷ xs) (machine.free_block n t) 
 -- ---- every state stays well-formed
 
 module _ (s : State) (w : IsWell s) where
-  well_with_end : (n : ℕ) → 1 ≤ machine.free_end s.blocks → IsWell (machine.leaves s (with_end n (stamp_of_call s) s.blocks) machine.Freed).state
+  well_with_end : (n : ℕ) → 1 ≤ machine.units_at_end s.blocks → IsWell (machine.leaves s (with_end n (stamp_of_call s) s.blocks) machine.Freed).state
   well_with_end n l =
       let r = end_of s.blocks l in
       let at = end_is r.0 r.1 r.3 in
@@ -66,7 +66,7 @@ module _ (s : State) (w : IsWell s) where
 
   well_retracted : (n : ℕ) → can_retract n s.blocks ≡ true → IsWell (machine.leaves s (retracted n (stamp_of_call s) s.blocks) machine.Freed).state
   well_retracted zero e = well_quiet s w machine.Freed
-  well_retracted (suc n) e = well_with_end (machine.free_end s.blocks - suc n) (let l = leb-true (suc n) (machine.free_end s.blocks) e in omega arith)
+  well_retracted (suc n) e = well_with_end (machine.units_at_end s.blocks - suc n) (let l = leb-true (suc n) (machine.units_at_end s.blocks) e in omega arith)
 
   pub well_retract : (n : ℕ) → IsWell (retract n s).state
   well_retract n = cond_both (can_retract n s.blocks) _ _ (λ (o : Outcome). IsWell o.state) (λ e. well_retracted n e) (λ e. well_quiet s w machine.Gone)
@@ -129,13 +129,13 @@ module _ (v : View) (kept_name : ℕ → Option ℕ) (s : State) (w : IsWellForm
   -- whether units can go off the end
   pub can_too : (n : ℕ) → 1 ≤ n → can_retract n s.blocks ≡ true → CanRetract n v
   can_too n some e =
-      let l = leb-true n (machine.free_end s.blocks) e in
+      let l = leb-true n (machine.units_at_end s.blocks) e in
       let r = end_of s.blocks (omega (arith, l, some)) in
       let p = map_parts by_tag g.labels r.0 (r.1 ∷ []) (sym g.state ∙ r.2) in
       let h = map_first by_tag p.1 r.1 [] p.4 in
       let none = nil_from_length h.1 (sym (length-map h.1 by_tag) ∙ ap length h.4) in
       let free : is_free h.0.tag ≡ true = ap (λ (b : machine.Block). is_free b.tag) h.3 ∙ r.3 in
-      let size : h.0.size ≡ machine.free_end s.blocks = ap (λ (b : machine.Block). b.size) h.3 ∙ sym (ap machine.free_end r.2 ∙ (end_is r.0 r.1 r.3).1) in
+      let size : h.0.size ≡ machine.units_at_end s.blocks = ap (λ (b : machine.Block). b.size) h.3 ∙ sym (ap machine.units_at_end r.2 ∙ (end_is r.0 r.1 r.3).1) in
       (names p.0, by_name h.0, g.view ∙ ap names (p.2 ∙ ap (λ l. p.0 ++ l) (h.2 ∙ ap (λ l. h.0 ∷ l) none)) ∙ map-append by_name p.0 (h.0 ∷ []), ap not free, omega (arith, l, size))
 
   module _ (n : ℕ) (u : View) (w' : IsWellFormed u) (f : Cuts n v u) where
@@ -148,13 +148,13 @@ module _ (v : View) (kept_name : ℕ → Option ℕ) (s : State) (w : IsWellForm
     blocks_are : s.blocks ≡ tags at.front ++ by_tag at.label ∷ []
     blocks_are = g.state ∙ ap tags at.labels ∙ map-append by_tag at.front (at.label ∷ [])
 
-    ended : (machine.without_end s.blocks ≡ tags at.front) × (machine.free_end s.blocks ≡ at.label.size)
+    ended : (machine.without_end s.blocks ≡ tags at.front) × (machine.units_at_end s.blocks ≡ at.label.size)
     ended =
         let r = end_is (tags at.front) (by_tag at.label) is_free_end in
-        (ap machine.without_end blocks_are ∙ r.0, ap machine.free_end blocks_are ∙ r.1)
+        (ap machine.without_end blocks_are ∙ r.0, ap machine.units_at_end blocks_are ∙ r.1)
 
     pub can_there : can_retract n s.blocks ≡ true
-    can_there = le-leb n (machine.free_end s.blocks) (omega (arith, f.enough, ap (λ (b : Block). b.size) at.name, ended.1))
+    can_there = le-leb n (machine.units_at_end s.blocks) (omega (arith, f.enough, ap (λ (b : Block). b.size) at.name, ended.1))
 
     abbrev new : List Label
     new = end_labels at.front at.label.name (at.label.size - n) (stamp_of_call s)
@@ -165,7 +165,7 @@ module _ (v : View) (kept_name : ℕ → Option ℕ) (s : State) (w : IsWellForm
         (subst (λ (b : Block). SameSpace (record (replace v (names at.front) (b ∷ []) (end_part (names at.front) b.name (b.size - n)) []) { size = v.size - n }) u) (sym at.name)
         (subst (λ bs. SameSpace (record (replace v bs (f.last ∷ []) (end_part bs f.last.name (f.last.size - n)) []) { size = v.size - n }) u) (sym at.named) f.view))
 
-    left : with_end (machine.free_end s.blocks - n) (stamp_of_call s) s.blocks ≡ tags (at.front ++ (new ++ []))
+    left : with_end (machine.units_at_end s.blocks - n) (stamp_of_call s) s.blocks ≡ tags (at.front ++ (new ++ []))
     left = ap₂ (λ xs m. xs ++ end_block xs (m - n) (stamp_of_call s)) ended.0 ended.1
         ∙ ap (λ l. tags at.front ++ l) (sym (tags_end at.front at.label.name (at.label.size - n) (stamp_of_call s)) ∙ ap tags (sym (append-nil new)))
         ∙ sym (map-append by_tag at.front (new ++ []))
@@ -174,7 +174,7 @@ module _ (v : View) (kept_name : ℕ → Option ℕ) (s : State) (w : IsWellForm
     handles j = g.handles j ∙ ap (name_of j) at.labels ∙ name_append j at.front (at.label ∷ []) ∙ ap (option_or (name_of j at.front)) (name_skip j at.label [] is_free_end)
         ∙ sym (name_append j at.front (new ++ []) ∙ ap (option_or (name_of j at.front)) (ap (name_of j) (append-nil new) ∙ name_end j at.front at.label.name (at.label.size - n) (stamp_of_call s)))
 
-    pub cut_agrees : (a : machine.Answer) → HasBlocksOf u kept_name (machine.leaves s (with_end (machine.free_end s.blocks - n) (stamp_of_call s) s.blocks) a).state
+    pub cut_agrees : (a : machine.Answer) → HasBlocksOf u kept_name (machine.leaves s (with_end (machine.units_at_end s.blocks - n) (stamp_of_call s) s.blocks) a).state
     cut_agrees a = agrees_replaced v kept_name s w ws g u w' (v.size - n) at.front (at.label ∷ []) new [] (at.labels ∙ ap (λ l. at.front ++ l) (sym (append-nil (at.label ∷ []))))
-        same (machine.leaves s (with_end (machine.free_end s.blocks - n) (stamp_of_call s) s.blocks) a).state refl left
+        same (machine.leaves s (with_end (machine.units_at_end s.blocks - n) (stamp_of_call s) s.blocks) a).state refl left
         (rises_end (stamp_of_padding s) at.front at.label.name (at.label.size - n) (stamp_of_call s) (omega arith)) kept_name handles

@@ -148,7 +148,7 @@ module _ (s t : State) (a : IsSameSpace s t) where
   next_reply (call.RoomCost n) other = ap Room_costs (same_room_cost a.blocks.pairs _ _ (runs_same (value (up n))))
   next_reply (call.Relocate k) other = absurd (true≢false other)
   next_reply (call.Retract n) other = if_same (λ (x y : Outcome). without_offset x.reply ≡ without_offset y.reply) _ _ _ _ _ _
-      (ap (nat_le n) (ap machine.free_end a.blocks.left_blocks ∙ same_free_end a.blocks.pairs ∙ ap machine.free_end (sym a.blocks.right_blocks))) (λ z. refl) refl
+      (ap (nat_le n) (ap machine.units_at_end a.blocks.left_blocks ∙ same_free_end a.blocks.pairs ∙ ap machine.units_at_end (sym a.blocks.right_blocks))) (λ z. refl) refl
   next_reply call.First other = ap Beside (ap (first_live 0) a.blocks.left_blocks ∙ sent_first (λ n. n) 0 a.blocks.pairs sent_all ∙ sent_none (first_live 0 (rights a.blocks.pairs))
       ∙ ap (first_live 0) (sym a.blocks.right_blocks))
   next_reply call.Last other = ap Beside (ap (last_live 0) a.blocks.left_blocks ∙ sent_last (λ n. n) 0 a.blocks.pairs sent_all ∙ sent_none (last_live 0 (rights a.blocks.pairs))

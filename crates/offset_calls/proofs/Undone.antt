@@ -14,7 +14,7 @@ use Rattle.offset_script.specs.Machine as machine
 use Rattle.offset_calls.specs.declared.calls.Call.TheVariants as call
 
 -- a list that ends live
-ends_with_none : (bs : List machine.Block) → machine.ends_live bs ≡ true → (machine.without_end bs ≡ bs) × (machine.free_end bs ≡ 0)
+ends_with_none : (bs : List machine.Block) → machine.ends_live bs ≡ true → (machine.without_end bs ≡ bs) × (machine.units_at_end bs ≡ 0)
 ends_with_none [] e = absurd (false≢true e)
 ends_with_none (b ∷ []) e = elim (is_free b.tag) as (λ x. not x ≡ true → ((if x then [] else b ∷ []) ≡ b ∷ []) × ((if x then b.size else 0) ≡ 0)) [
   | true ↦ λ h. absurd (false≢true h)
@@ -51,26 +51,26 @@ module _ (s : State) (m : ℕ) where
   grown_is e = ap (λ b. (extended_if b).state) (is_done fits e)
 
   -- the blocks after it
-  ended : (machine.without_end grown.blocks ≡ machine.without_end s.blocks) × (machine.free_end grown.blocks ≡ machine.free_end s.blocks + suc m + 0)
-  ended = end_is (machine.without_end s.blocks) (machine.block (machine.free_end s.blocks + suc m + 0) (Free (stamp_of_call s))) refl
+  ended : (machine.without_end grown.blocks ≡ machine.without_end s.blocks) × (machine.units_at_end grown.blocks ≡ machine.units_at_end s.blocks + suc m + 0)
+  ended = end_is (machine.without_end s.blocks) (machine.block (machine.units_at_end s.blocks + suc m + 0) (Free (stamp_of_call s))) refl
 
-  back : step (call.Retract (suc m)) grown ≡ remakes grown (with_end (machine.free_end s.blocks) (stamp_of_call grown) s.blocks) Resized
+  back : step (call.Retract (suc m)) grown ≡ remakes grown (with_end (machine.units_at_end s.blocks) (stamp_of_call grown) s.blocks) Resized
   back =
       ap (λ b. if b then remakes grown (retracted (suc m) (stamp_of_call grown) grown.blocks) Resized else replies_only grown (Answer machine.Refused))
-      (le-leb (suc m) (machine.free_end grown.blocks) (omega (arith, ended.1)))
+      (le-leb (suc m) (machine.units_at_end grown.blocks) (omega (arith, ended.1)))
       ∙ ap₂ (λ xs n. remakes grown (xs ++ end_block xs n (stamp_of_call grown)) Resized) ended.0 (omega (arith, ended.1))
 
   pub undone : (step (call.Command (command.Extend (suc m))) s).reply ≡ Answer machine.Extended
-      → retract_again (suc m) s ≡ remakes grown (with_end (machine.free_end s.blocks) (stamp_of_call grown) s.blocks) Resized
+      → retract_again (suc m) s ≡ remakes grown (with_end (machine.units_at_end s.blocks) (stamp_of_call grown) s.blocks) Resized
   undone e = ap (step (call.Retract (suc m))) (grown_is e) ∙ back
 
 -- sizes and live grants
-same_outline : (bs : List machine.Block) (t : ℕ) → 1 ≤ machine.free_end bs → outline (with_end (machine.free_end bs) t bs) ≡ outline bs
+same_outline : (bs : List machine.Block) (t : ℕ) → 1 ≤ machine.units_at_end bs → outline (with_end (machine.units_at_end bs) t bs) ≡ outline bs
 same_outline bs t l =
     let r = end_of bs l in
     let e = end_is r.0 r.1 r.3 in
-    ap₂ (λ xs n. outline (xs ++ end_block xs n t)) (ap machine.without_end r.2 ∙ e.0) (ap machine.free_end r.2 ∙ e.1)
-    ∙ same r.0 r.1 r.3 (subst (λ n. 1 ≤ n) (ap machine.free_end r.2 ∙ e.1) l) ∙ sym (ap outline r.2)
+    ap₂ (λ xs n. outline (xs ++ end_block xs n t)) (ap machine.without_end r.2 ∙ e.0) (ap machine.units_at_end r.2 ∙ e.1)
+    ∙ same r.0 r.1 r.3 (subst (λ n. 1 ≤ n) (ap machine.units_at_end r.2 ∙ e.1) l) ∙ sym (ap outline r.2)
   where
     one : (b : machine.Block) → is_free b.tag ≡ true → (n : ℕ) → b.size ≡ n → outline (machine.block n (Free t) ∷ []) ≡ outline (b ∷ [])
     one b f n e = ap₂ (λ m h. (m, h) ∷ []) (sym e) (sym (free_holder b.tag f))
@@ -92,16 +92,16 @@ module _ (size limit : ℕ) (h : 2 ≤ limit) (cs : List Call) where
 
   pub state_law : (n : ℕ) → 1 ≤ n → (step (call.Command (command.Extend n)) s).reply ≡ Answer machine.Extended
       → ((retract_again n s).reply ≡ Resized)
-      × ((retract_again n s).state ≡ record s { calls = s.calls + 2; blocks = with_end (machine.free_end s.blocks) (stamp_of_call (step (call.Command (command.Extend n)) s).state) s.blocks })
+      × ((retract_again n s).state ≡ record s { calls = s.calls + 2; blocks = with_end (machine.units_at_end s.blocks) (stamp_of_call (step (call.Command (command.Extend n)) s).state) s.blocks })
   state_law zero l e = absurd (omega arith)
   state_law (suc m) l e =
       let u = undone s m e in (
         ap (λ (o : Outcome). o.reply) u,
         ap (λ (o : Outcome). o.state) u
-            ∙ ap₂ (λ c (g : State). record s { calls = c; blocks = with_end (machine.free_end s.blocks) (stamp_of_call g) s.blocks }) (omega arith) (sym (grown_is s m e)),
+            ∙ ap₂ (λ c (g : State). record s { calls = c; blocks = with_end (machine.units_at_end s.blocks) (stamp_of_call g) s.blocks }) (omega arith) (sym (grown_is s m e)),
       )
 
-  pub free_law : (n : ℕ) → 1 ≤ n → (step (call.Command (command.Extend n)) s).reply ≡ Answer machine.Extended → 1 ≤ machine.free_end s.blocks
+  pub free_law : (n : ℕ) → 1 ≤ n → (step (call.Command (command.Extend n)) s).reply ≡ Answer machine.Extended → 1 ≤ machine.units_at_end s.blocks
       → outline (retract_again n s).state.blocks ≡ outline s.blocks
   free_law n l e some = ap (λ (t : State). outline t.blocks) (state_law n l e).1 ∙ same_outline s.blocks _ some
 

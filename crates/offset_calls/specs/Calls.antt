@@ -7,7 +7,7 @@ use Rattle.offset_allocator.specs.declared.reports.Refusal.{Refusal}
 use Rattle.offset_allocator.specs.declared.reports.Refusal.TheVariants.{Nodes, TooLarge, Space, Fragmented}
 use Rattle.offset_allocator.specs.Classes.{value, up}
 use Rattle.offset_script.specs.Grammar.{has_valid_alignment}
-use Rattle.offset_script.specs.Machine.{Tag, Live, Free, Block, block, is_free, total, free_sizes, Place, place_of, chosen_place, free_block, free_start, without_start, State, is_short_of}
+use Rattle.offset_script.specs.Machine.{Tag, Live, Free, Block, block, is_free, total, free_sizes, Place, place_of, chosen_place, free_block, units_at_start, without_start, State, is_short_of}
 use Rattle.offset_script.specs.Machine.{stamp_of_call, answer_view}
 use Rattle.offset_script.specs.Machine as machine
 use Rattle.offset_script.specs.Totals.{live}
@@ -74,12 +74,12 @@ can_shrink n s p = nat_le n p.block.size && (starts_free p.after || not (is_shor
 
 -- a live block can grow to n units: it has at most as many, and with the free block directly after it at least as many
 abbrev pub can_grow : ℕ → Place → Bool
-can_grow n p = nat_le p.block.size n && nat_le n (p.block.size + free_start p.after)
+can_grow n p = nat_le p.block.size n && nat_le n (p.block.size + units_at_start p.after)
 
 -- a live block and the free block directly after it become n live units and a free block of the rest
 abbrev pub resized : ℕ → State → Place → Outcome
 resized n s p = remakes s (p.before ++ (block n p.block.tag
-    ∷ (free_block (p.block.size + free_start p.after - n) (stamp_of_call s) ++ without_start p.after))) Resized
+    ∷ (free_block (p.block.size + units_at_start p.after - n) (stamp_of_call s) ++ without_start p.after))) Resized
 
 -- a live block gets n units, where it can; nothing changes where it has as many
 abbrev pub resize : (Place → Bool) → ℕ → State → Option Place → Outcome

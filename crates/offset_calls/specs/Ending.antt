@@ -3,7 +3,7 @@
 use Rattle.std.specs.Prelude.{ℕ, zero, suc, ◌+◌, ◌-◌, Bool, false, List, [], ◌∷◌, ◌++◌, Option, Some, None}
 use Rattle.std.specs.Prelude.{nat_lt, nat_le, if◌then◌else◌}
 use Rattle.std.specs.Option.{option_or}
-use Rattle.offset_script.specs.Machine.{Tag, Live, Free, Block, block, total, free_block, free_end}
+use Rattle.offset_script.specs.Machine.{Tag, Live, Free, Block, block, total, free_block, units_at_end}
 use Rattle.offset_script.specs.Machine.{without_end, Place, State, Answer, Grant, Refused, Gone, Outcome}
 use Rattle.offset_script.specs.Machine.{returns_only, allocate}
 use Rattle.offset_calls.specs.declared.calls.LiveRange.{LiveRange}
@@ -23,7 +23,7 @@ relocate s (Some p) =
 
 -- whether n units can be taken off the end: the last block is free and has as many; 0 units always
 abbrev pub can_retract : ℕ → List Block → Bool
-can_retract n bs = nat_le n (free_end bs)
+can_retract n bs = nat_le n (units_at_end bs)
 
 -- a last free block of n units after others: nothing where n is 0, unless it is the only block
 abbrev pub end_block : List Block → ℕ → ℕ → List Block
@@ -37,7 +37,7 @@ with_end n stamp bs = without_end bs ++ end_block (without_end bs) n stamp
 -- a list without n units of its last block, which is free
 abbrev pub retracted : ℕ → ℕ → List Block → List Block
 retracted zero stamp bs = bs
-retracted (suc n) stamp bs = with_end (free_end bs - suc n) stamp bs
+retracted (suc n) stamp bs = with_end (units_at_end bs - suc n) stamp bs
 
 -- the live range of a block that begins at an offset
 abbrev pub live_range : ℕ → Tag → Option LiveRange

@@ -1,4 +1,4 @@
-//! Calls, and the replies to them.
+//! Calls, and the replies to them. It touches no space.
 
 ghost use Rattle.std.specs.Prelude.{◌≡◌, ◌↔◌, All, IsTrue};
 ghost use Rattle.offset_calls.specs.Calls.{is_valid};

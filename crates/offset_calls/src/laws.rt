@@ -4,7 +4,7 @@ ghost use Rattle.std.specs.Prelude.{◌≡◌, ◌≤◌, ◌+◌, ◌++◌, ◌
 ghost use Rattle.offset_script.specs.declared.scripts.Command.{Command};
 ghost use Rattle.offset_script.specs.Histories.{HasNoLive, IsCollapse, IsNest, collapse, outline, releases};
 ghost use Rattle.offset_script.specs.Machine as machine;
-ghost use Rattle.offset_script.specs.Machine.{State, ends_live, free_end, stamp_of_call, start, total};
+ghost use Rattle.offset_script.specs.Machine.{State, ends_live, units_at_end, stamp_of_call, start, total};
 ghost use Rattle.offset_script.specs.declared.scripts.Command.TheVariants as command;
 ghost use Rattle.offset_calls.specs.declared.calls.Call.{Call};
 ghost use Rattle.offset_calls.specs.declared.calls.Call.TheVariants as call;
@@ -72,7 +72,7 @@ pub fn retract_undoes_extend()
         → ((retract_again n s).reply ≡ plain.Resized)
         × ((retract_again n s).state ≡ record s {
           calls = s.calls + 2;
-          blocks = with_end (free_end s.blocks) (stamp_of_call grown.state) s.blocks;
+          blocks = with_end (units_at_end s.blocks) (stamp_of_call grown.state) s.blocks;
         }) }
     // Where the last block was live, no later reply is another.
     ensures live { (size limit : ℕ) → 2 ≤ limit → (cs : List Call) (n : ℕ) → 1 ≤ n
@@ -84,5 +84,5 @@ pub fn retract_undoes_extend()
     ensures free { (size limit : ℕ) → 2 ≤ limit → (cs : List Call) (n : ℕ) → 1 ≤ n
         → let s = after cs (start size limit) in
         (step (call.Command (command.Extend n)) s).reply ≡ plain.Answer machine.Extended
-        → 1 ≤ free_end s.blocks → outline (retract_again n s).state.blocks ≡ outline s.blocks }
+        → 1 ≤ units_at_end s.blocks → outline (retract_again n s).state.blocks ≡ outline s.blocks }
 {}

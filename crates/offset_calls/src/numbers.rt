@@ -1,4 +1,4 @@
-//! The numbers of grants, by their names.
+//! The numbers of grants, by their names. It touches its own list alone.
 
 ghost use Rattle.std.specs.Prelude.{◌≡◌, [], IfOk, ℕ, length, nat_eq, slice_index};
 ghost use Rattle.std.specs.Prelude.{if◌then◌else◌};

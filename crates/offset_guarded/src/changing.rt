@@ -1,4 +1,5 @@
-//! Calls that give a range another size, the space another size, and the ranges other places.
+//! Calls that give a range another size, the space another size, and the ranges other places. They change the
+//! allocator, and no serial.
 
 ghost use Rattle.std.specs.Prelude.{◌≡◌, ◌↔◌, ◌+◌, ◌*◌, ◌≤◌, None, Some, false, true, IsTrue, IsSome, IfSome};
 ghost use Rattle.std.specs.Prelude.{length};

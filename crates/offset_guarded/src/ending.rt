@@ -1,4 +1,4 @@
-//! The live ranges beside one another in space, and what goes off its end.
+//! The live ranges beside one another in space, and what goes off its end. It changes no serial.
 
 ghost use Rattle.std.specs.Prelude.{◌≡◌, ◌↔◌, ◌+◌, ◌≤◌, None, false, IsTrue, option_map};
 ghost use Rattle.offset_allocator.specs.Beside.{first_live, last_live, live_after, live_before};

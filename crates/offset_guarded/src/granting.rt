@@ -1,4 +1,4 @@
-//! Grants, each with the next serial, and why one is refused.
+//! Grants, each with the next serial, and why one is refused. Nothing else gives a serial.
 
 ghost use Rattle.std.specs.Prelude.{ℕ, ◌≡◌, ◌↔◌, ◌+◌, ◌*◌, ◌%◌, ◌<◌, ◌≤◌, None, Some, IsSome, IfSome};
 ghost use Rattle.std.specs.Prelude.{if◌then◌else◌};

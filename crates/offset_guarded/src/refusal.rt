@@ -1,4 +1,4 @@
-//! Why a request is refused.
+//! Why a request is refused. It touches no space.
 ghost use Rattle.std.specs.Prelude.{◌≡◌};
 ghost use Rattle.offset_guarded.specs.declared.refusal.Refusal.TheVariants.{Allocator};
 

@@ -1,4 +1,4 @@
-//! The serials of grants, by name.
+//! The serials of grants, by name. It touches its own numbers alone.
 ghost use Rattle.std.specs.Prelude.{ℕ, ◌≡◌, ◌↔◌, ◌+◌, ◌/◌, ◌<◌, ◌≤◌, [], ◌∷◌, ◌++◌, IfOk, IfSome, IsTrue};
 ghost use Rattle.std.specs.Prelude.{None, false};
 ghost use Rattle.std.specs.Prelude.{length, slice_set, vec_capacity, vec_len};

@@ -1,4 +1,4 @@
-//! The ticket of a grant.
+//! The ticket of a grant. It touches no space.
 
 /// A granted range, for calls on the `Guarded` that granted it. It is four numbers, and can be kept, copied
 /// and made from them anywhere: each call tests whether it is live.

@@ -1,4 +1,5 @@
-//! Heaps that are given back: empty ones, those of a number, and what all of them granted.
+//! Ranges and heaps that are given back: empty heaps, those of a number, and what all of them granted. It
+//! changes slots, and notes each in the index.
 ghost use Rattle.std.specs.Prelude.{ℕ, ◌≡◌, ◌↔◌, ◌+◌, ◌*◌, ◌^◌, ◌<◌, ◌≤◌, None, Some, IsSome, IsTrue};
 ghost use Rattle.std.specs.Prelude.{IfSome, false};
 ghost use Rattle.std.specs.Prelude.{length, true};

@@ -1,4 +1,5 @@
-//! Requests: which heap grants one, and when another heap is made for it.
+//! Requests: which heap grants one, and when another heap is made for it. It changes one slot, and notes it
+//! in the index.
 ghost use Rattle.std.specs.Prelude.{ℕ, ◌≡◌, ◌↔◌, ◌+◌, ◌*◌, ◌%◌, ◌^◌, ◌<◌, ◌≤◌, ◌⊎◌, None, Some, Ok};
 ghost use Rattle.std.specs.Prelude.{Err, false, true, length};
 ghost use Rattle.std.specs.Prelude.{IsTrue, IfOk, IfErr, IfSome, MatchOption, OnErr};

@@ -1,4 +1,4 @@
-//! How many heaps there may be, and how large.
+//! How many heaps there may be, and how large. It touches no heap.
 
 /// What the heaps of a `Heaps` are, and how many there may be.
 #[derive(Clone, Copy, PartialEq, Eq, Debug)]

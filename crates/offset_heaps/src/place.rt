@@ -1,4 +1,4 @@
-//! Where a range is: the number of its heap, and its ticket there.
+//! Where a range is: the number of its heap, and its ticket there. It touches no heap.
 
 use offset_guarded::Ticket;
 

@@ -1,4 +1,4 @@
-//! Why a request is refused.
+//! Why a request is refused. It touches no heap.
 
 use std::fmt;
 

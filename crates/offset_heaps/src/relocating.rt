@@ -1,5 +1,5 @@
 //! Second ranges in other heaps, so that a heap can be emptied; which one is the emptiest; and the live
-//! ranges of a heap.
+//! ranges of a heap. It changes one slot by a grant, and notes it in the index.
 ghost use Rattle.std.specs.Prelude.{ℕ, ◌≡◌, ◌↔◌, ◌+◌, ◌*◌, ◌^◌, ◌<◌, ◌≤◌, None, Some, IfSome, MatchOption};
 ghost use Rattle.std.specs.Prelude.{length, option_map};
 ghost use Rattle.offset_guarded.specs.declared.ticket.Ticket.{Ticket};

@@ -11,7 +11,7 @@ use Rattle.offset_pictures.specs.declared.course.Course.{Course}
 use Rattle.offset_pictures.specs.declared.living.Life.{Life}
 use Rattle.offset_pictures.specs.declared.plots.Plot.{Plot}
 use Rattle.offset_pictures.specs.declared.shapes.Shape.{Shape}
-use Rattle.offset_pictures.specs.Drawing.{pixels_text}
+use Rattle.offset_pictures.specs.Numerals.{pixels_text}
 use Rattle.offset_pictures.specs.Levels.{free_of, joined_of, most_of}
 use Rattle.offset_pictures.specs.Merging.{AreMerged}
 use Rattle.offset_pictures.specs.Picture.{IsBody, IsPictureOf, PicturesAreWellFormed, opening, style}

@@ -7,7 +7,7 @@ use Rattle.std.proofs.lemmas.Str.{encode_ascii, encodes-append}
 use Rattle.std.specs.Fmt.{decimal, digits, digits_onto, digit_glyph}
 use Rattle.std.specs.List.{list_all}
 use Rattle.std.specs.Prelude.{encode_utf8_all, ◌==◌}
-use Rattle.offset_pictures.specs.Drawing.{pixels_text, grouped_text, three_digits, share_text}
+use Rattle.offset_pictures.specs.Numerals.{pixels_text, grouped_text, three_digits, share_text}
 use Rattle.offset_pictures.specs.Xml.{IsContent, IsOf, is_plain, is_quoted}
 use Rattle.offset_pictures.specs.Xml.IsContent.{nothing, characters, entity, empty, full}
 

@@ -6,7 +6,7 @@ use Rattle.std.specs.Prelude.{flat_map, max, min}
 use Rattle.offset_pictures.specs.declared.axes.Axis.{Axis}
 use Rattle.offset_pictures.specs.declared.step_lines.Group.{Group}
 use Rattle.offset_pictures.specs.declared.plots.Plot.{Plot}
-use Rattle.offset_pictures.specs.Drawing.{pixels_text}
+use Rattle.offset_pictures.specs.Numerals.{pixels_text}
 use Rattle.offset_pictures.specs.Marks.{column_of, column_text, height_of}
 use Rattle.offset_pictures.specs.StepLines.{after_equal, group_before, groups_from, groups_text, join_groups, mark_text, one_of_each, one_state, place_of, steps_text}
 

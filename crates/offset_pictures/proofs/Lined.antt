@@ -11,7 +11,7 @@ use Rattle.offset_pictures.specs.declared.plots.Plot.{Plot}
 use Rattle.offset_pictures.specs.declared.step_lines.Column.{Column}
 use Rattle.offset_pictures.specs.declared.step_lines.Group.{Group}
 use Rattle.offset_pictures.specs.Axes.{along}
-use Rattle.offset_pictures.specs.Drawing.{pixels_text}
+use Rattle.offset_pictures.specs.Numerals.{pixels_text}
 use Rattle.offset_pictures.specs.Lines.{Step, Across, Upright, IsOn, path_text, step_text}
 use Rattle.offset_pictures.specs.Marks.{column_of, height_of}
 use Rattle.offset_pictures.specs.StepLines.{groups_from, groups_text, place_of, steps_text}

@@ -9,7 +9,7 @@ use Rattle.std.proofs.lemmas.List.Sorted.{list_any-IsPermutation}
 use Rattle.offset_pictures.specs.declared.living.Life.{Life}
 use Rattle.offset_pictures.specs.declared.shapes.Shape.{Shape}
 use Rattle.offset_pictures.specs.Axes.{along}
-use Rattle.offset_pictures.specs.Merging.{Place, covers, drawn, is_tiny, round_out, shape_of_key, touch, join}
+use Rattle.offset_pictures.specs.Merging.{Place, covers, rounded_if_tiny, is_tiny, round_out, shape_of_key, touch, join}
 
 -- a value that is cut to 64 bits lies where it lay
 pub along_capped : (span most v w : ℕ) → most < 4294967296 → v ≡ min w 18446744073709551615 → along span most v ≡ along span most w
@@ -41,10 +41,10 @@ pub one_more_life : (p : Place) (h : Life → Shape) (ls : List Life) (i : ℕ) 
 one_more_life p h ls i d less =
     any_map (covers p) h (take (i + 1) ls) ∙ list_any_more (λ l. covers p (h l)) ls i d less ∙ ap (λ b. b || covers p (h (get_or ls i d))) (sym (any_map (covers p) h (take i ls)))
 
-pub drawn_tiny : (s : Shape) → is_tiny s ≡ true → drawn s ≡ round_out s
+pub drawn_tiny : (s : Shape) → is_tiny s ≡ true → rounded_if_tiny s ≡ round_out s
 drawn_tiny s e = ap (λ b. if b then round_out s else s) e
 
-pub drawn_plain : (s : Shape) → is_tiny s ≡ false → drawn s ≡ s
+pub drawn_plain : (s : Shape) → is_tiny s ≡ false → rounded_if_tiny s ≡ s
 drawn_plain s e = ap (λ b. if b then round_out s else s) e
 
 pub no_last : (o : Option Shape) → ((x : Shape) → o ≡ Some x → ⊥) → o ≡ None

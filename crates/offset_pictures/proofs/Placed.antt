@@ -8,7 +8,7 @@ use Rattle.offset_pictures.specs.declared.plots.Plot.{Plot}
 use Rattle.offset_pictures.specs.declared.shapes.Shape.{Shape}
 use Rattle.offset_pictures.specs.Lives as plain
 use Rattle.offset_pictures.specs.Lives.{IsOrdered, life_view}
-use Rattle.offset_pictures.specs.Merging.{drawn, is_tiny, round_out}
+use Rattle.offset_pictures.specs.Merging.{rounded_if_tiny, is_tiny, round_out}
 use Rattle.offset_pictures.specs.Overlaps.{AreApart, AreDrawnApart, AreNearlyApart, IsAbove, IsLeftOf, RectanglesAreApart}
 use Rattle.offset_pictures.specs.Places.{frame_of, right_of, shape_of, up_of}
 use Rattle.offset_pictures.proofs.Apart.{apart_law}
@@ -76,13 +76,13 @@ near : (b : Bool) (s : Shape) → IsNear s (cond b (round_out s) s)
 near true s = record { right = omega arith; left = omega arith; bottom = omega arith; top = omega arith }
 near false s = record { right = omega arith; left = omega arith; bottom = omega arith; top = omega arith }
 
-beside : (s t : Shape) → s.right ≤ t.left → (drawn s).right ≤ (drawn t).left + 10
+beside : (s t : Shape) → s.right ≤ t.left → (rounded_if_tiny s).right ≤ (rounded_if_tiny t).left + 10
 beside s t l = let x = near (is_tiny s) s in let y = near (is_tiny t) t in omega (arith, x.right, y.left)
 
-beneath : (s t : Shape) → s.bottom ≤ t.top → (drawn s).bottom ≤ (drawn t).top + 10
+beneath : (s t : Shape) → s.bottom ≤ t.top → (rounded_if_tiny s).bottom ≤ (rounded_if_tiny t).top + 10
 beneath s t l = let x = near (is_tiny s) s in let y = near (is_tiny t) t in omega (arith, x.bottom, y.top)
 
-rounded_apart : (s t : Shape) → AreApart s t → AreNearlyApart (drawn s) (drawn t)
+rounded_apart : (s t : Shape) → AreApart s t → AreNearlyApart (rounded_if_tiny s) (rounded_if_tiny t)
 rounded_apart s t (inl l) = inl (beside s t l)
 rounded_apart s t (inr (inl l)) = inr (inl (beside t s l))
 rounded_apart s t (inr (inr (inl l))) = inr (inr (inl (beneath s t l)))

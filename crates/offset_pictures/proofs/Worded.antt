@@ -2,7 +2,7 @@
 use Rattle.std.proofs.Common.{ℕ, ◌+◌, ◌*◌, cond, List, [], ◌∷◌, ◌++◌, Option, Some, None, codes, nat_eq, nat_lt, refl}
 use Rattle.std.specs.Fmt.{decimal}
 use Rattle.offset_pictures.specs.declared.figures.Figures.{Figures}
-use Rattle.offset_pictures.specs.Drawing.{grouped_text, pixels_text, share_text}
+use Rattle.offset_pictures.specs.Numerals.{grouped_text, pixels_text, share_text}
 use Rattle.offset_pictures.specs.Figures.{counted, share_of}
 use Rattle.offset_pictures.specs.Legend.{age_key, ages_key, colours_text, end_text, full_text, legend_text, merged_text, notes_text, plural, size_text, use_text, worst_text}
 use Rattle.offset_pictures.specs.Xml.{IsContent}

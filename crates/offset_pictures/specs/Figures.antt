@@ -5,7 +5,7 @@ use Rattle.offset_pictures.specs.declared.course.Course.{Course}
 use Rattle.offset_pictures.specs.declared.figures.Figures.{Figures}
 use Rattle.offset_pictures.specs.Lives.{is_on, life_view}
 
--- the bin of age of a life of this many calls: how many of these numbers it exceeds
+-- the age group of a life of this many calls: how many of these numbers it exceeds
 abbrev pub age_of : ℕ → ℕ
 age_of calls = count_by (λ most. nat_lt most calls) (10 ∷ 30 ∷ 100 ∷ 300 ∷ 1000 ∷ 3000 ∷ 10000 ∷ [])
 

@@ -2,7 +2,7 @@
 use Rattle.std.specs.Prelude.{ℕ, ◌+◌, ◌*◌, List, [], ◌++◌, Option, Some, None, codes, nat_eq, nat_lt, if◌then◌else◌}
 use Rattle.std.specs.Fmt.{decimal}
 use Rattle.offset_pictures.specs.declared.figures.Figures.{Figures}
-use Rattle.offset_pictures.specs.Drawing.{grouped_text, pixels_text, share_text}
+use Rattle.offset_pictures.specs.Numerals.{grouped_text, pixels_text, share_text}
 use Rattle.offset_pictures.specs.Figures.{counted, share_of}
 
 -- the ending of a word after a number

@@ -1,6 +1,5 @@
 pub mod Axes
 pub mod Counting
-pub mod Drawing
 pub mod Ends
 pub mod Figures
 pub mod Growth
@@ -10,6 +9,7 @@ pub mod Lines
 pub mod Lives
 pub mod Marks
 pub mod Merging
+pub mod Numerals
 pub mod Overlaps
 pub mod Picture
 pub mod Places

@@ -2,7 +2,7 @@
 use Rattle.std.specs.Prelude.{◌≡◌, ℕ, ◌+◌, ◌<◌, ◌≤◌, ◌⊎◌, List, [], ◌∷◌, ◌++◌, codes, flat_map, length, max, min, slice_index}
 use Rattle.offset_pictures.specs.declared.axes.Axis.{Axis}
 use Rattle.offset_pictures.specs.declared.plots.Plot.{Plot}
-use Rattle.offset_pictures.specs.Drawing.{pixels_text}
+use Rattle.offset_pictures.specs.Numerals.{pixels_text}
 use Rattle.offset_pictures.specs.Marks.{height_of}
 use Rattle.offset_pictures.specs.Picture.{IsPlot}
 use Rattle.offset_pictures.specs.Places.{right_of, up_of}

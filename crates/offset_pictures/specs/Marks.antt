@@ -8,7 +8,7 @@ use Rattle.offset_pictures.specs.declared.step_lines.Column.{Column}
 use Rattle.offset_pictures.specs.declared.step_lines.Group.{Group}
 use Rattle.offset_pictures.specs.declared.step_lines.Pen.{Pen}
 use Rattle.offset_pictures.specs.Places.{up_of}
-use Rattle.offset_pictures.specs.Drawing.{pixels_text}
+use Rattle.offset_pictures.specs.Numerals.{pixels_text}
 
 -- the beginning of a rectangle's element: with an edge where it is at least 3 pixels wide and high
 abbrev pub rectangle_text : Frame → List ℕ

@@ -27,9 +27,9 @@ shape_of_key key = record { top = key / 35184372088832 * 10; bottom = key / 2147
 abbrev pub IsAtTenth : ℕ → Type 0
 IsAtTenth edge = (edge ≤ 120000) × (edge / 10 * 10 ≡ edge)
 
--- a tiny rectangle is drawn with its edges rounded
-abbrev pub drawn : Shape → Shape
-drawn s = if is_tiny s then round_out s else s
+-- a rectangle, with its edges rounded where it is tiny
+abbrev pub rounded_if_tiny : Shape → Shape
+rounded_if_tiny s = if is_tiny s then round_out s else s
 
 -- two rectangles of one height and one age touch or overlap
 abbrev pub touch : Shape → Shape → Bool

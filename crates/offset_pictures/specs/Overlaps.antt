@@ -6,7 +6,7 @@ use Rattle.offset_pictures.specs.declared.plots.Plot.{Plot}
 use Rattle.offset_pictures.specs.declared.rectangles.Frame.{Frame}
 use Rattle.offset_pictures.specs.declared.shapes.Shape.{Shape}
 use Rattle.offset_pictures.specs.Lives.{life_view, lives_of}
-use Rattle.offset_pictures.specs.Merging.{drawn}
+use Rattle.offset_pictures.specs.Merging.{rounded_if_tiny}
 use Rattle.offset_pictures.specs.Picture.{IsPlot}
 use Rattle.offset_pictures.specs.Places.{frame_of, shape_of}
 
@@ -38,7 +38,7 @@ AreDrawnApart f g = IsLeftOf f g ⊎ (IsLeftOf g f ⊎ (IsAbove f g ⊎ IsAbove 
 pub record AreRectanglesApart (p : Plot) (a b : Life) : Type 0 where
   pub exact : AreApart (shape_of p a) (shape_of p b)
   pub thicker : AreDrawnApart (frame_of (shape_of p a)) (frame_of (shape_of p b))
-  pub rounded : AreNearlyApart (drawn (shape_of p a)) (drawn (shape_of p b))
+  pub rounded : AreNearlyApart (rounded_if_tiny (shape_of p a)) (rounded_if_tiny (shape_of p b))
 
 -- so it is in any script, in the plot of the ranges, whatever its axes show
 abbrev pub RectanglesAreApart : Type 0

@@ -14,7 +14,7 @@ use Rattle.offset_pictures.specs.declared.refusing.Asked.TheVariants.{Alloc, Ali
 use Rattle.offset_pictures.specs.declared.refusing.Reason.{Reason}
 use Rattle.offset_pictures.specs.declared.refusing.Reason.TheVariants.{Request, Limit, NoRoom, Smaller, Larger}
 use Rattle.offset_pictures.specs.declared.refusing.Refused.{Refused}
-use Rattle.offset_pictures.specs.Drawing.{pixels_text}
+use Rattle.offset_pictures.specs.Numerals.{pixels_text}
 use Rattle.offset_pictures.specs.Marks.{counted_from_1}
 use Rattle.offset_pictures.specs.Places.{right_of}
 

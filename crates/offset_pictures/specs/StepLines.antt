@@ -6,7 +6,7 @@ use Rattle.offset_allocator.specs.declared.reports.StorageReport.{StorageReport}
 use Rattle.offset_pictures.specs.declared.plots.Plot.{Plot}
 use Rattle.offset_pictures.specs.declared.refusing.Refused.{Refused}
 use Rattle.offset_pictures.specs.declared.step_lines.Group.{Group}
-use Rattle.offset_pictures.specs.Drawing.{pixels_text}
+use Rattle.offset_pictures.specs.Numerals.{pixels_text}
 use Rattle.offset_pictures.specs.Levels.{free_of, joined_of, most_of}
 use Rattle.offset_pictures.specs.Marks.{column_of, column_text, counted_from_1, height_of, in_tenths}
 use Rattle.offset_pictures.specs.Places.{right_of}

@@ -2,7 +2,7 @@
 use Rattle.std.specs.Prelude.{ℕ, zero, suc, ◌+◌, ◌-◌, ◌*◌, ◌/◌, List, [], ◌∷◌, ◌++◌, codes, flat_map}
 use Rattle.offset_pictures.specs.declared.plots.Plot.{Plot}
 use Rattle.offset_pictures.specs.Axes.{round_step}
-use Rattle.offset_pictures.specs.Drawing.{grouped_text, pixels_text}
+use Rattle.offset_pictures.specs.Numerals.{grouped_text, pixels_text}
 use Rattle.offset_pictures.specs.Places.{right_of, up_of}
 
 -- the first n multiples of a number, from 0 on

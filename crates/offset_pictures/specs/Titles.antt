@@ -1,6 +1,6 @@
 -- How a text is written as XML.
 use Rattle.std.specs.Prelude.{ℕ, ◌/◌, Bool, ◌&&◌, not, List, [], ◌++◌, codes, chars, encode_utf8, flat_map, min, sum_by, nat_eq, nat_le, nat_lt, if◌then◌else◌}
-use Rattle.offset_pictures.specs.Drawing.{pixels_text}
+use Rattle.offset_pictures.specs.Numerals.{pixels_text}
 
 -- whether a character is no control character below the space, and neither U+FFFE nor U+FFFF: XML 1.0 allows these
 abbrev pub is_in_xml : ℕ → Bool

@@ -1,4 +1,4 @@
-//! The eight age groups of lives, each with a colour and its words in the legend.
+//! The eight age groups of lives, each with a colour and its words in the legend. It only computes.
 
 ghost use Rattle.std.specs.Prelude.{◌≡◌, ◌<◌};
 ghost use Rattle.offset_pictures.specs.Figures.{age_of};

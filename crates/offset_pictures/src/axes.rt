@@ -1,4 +1,4 @@
-//! Axes: where a value lies on the picture.
+//! Axes: where a value lies on the picture. It only computes.
 
 ghost use Rattle.std.specs.Prelude.{◌≡◌, ◌+◌, ◌-◌, ◌*◌, ◌^◌, ◌<◌, ◌≤◌};
 ghost use Rattle.offset_pictures.specs.Axes.{along, round_step};

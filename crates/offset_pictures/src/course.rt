@@ -1,4 +1,5 @@
-//! The course of calls, such as those of a script: all that a picture shows of them.
+//! The course of calls, such as those of a script: all that a picture shows of them. It plays the script, and
+//! keeps no space.
 
 ghost use Rattle.std.specs.Prelude.{◌≡◌, All, IfOk, length, map};
 ghost use Rattle.offset_script.specs.Machine as machine;

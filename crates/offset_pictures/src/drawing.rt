@@ -1,4 +1,4 @@
-//! The picture of a script.
+//! The picture of a script, from its parts in order. It only appends text.
 
 ghost use Rattle.std.specs.Prelude.{◌≡◌, ◌≤◌, ◌++◌, All, IfOk, OnOk, length, map, string_bytes};
 ghost use Rattle.offset_pictures.specs.Lives.{IsOrdered, life_view};

@@ -1,4 +1,4 @@
-//! What the legend counts, over all states of a course.
+//! What the legend counts, over all states of a course. It only reads the course.
 
 ghost use Rattle.std.specs.Prelude.{◌≡◌, ◌≤◌, ℕ, ◌+◌, ◌-◌, ◌<◌, ◌^◌, All, IfOk, OnOk, length, map, nat_eq};
 ghost use Rattle.std.specs.Prelude.{slice_index_or, if◌then◌else◌};

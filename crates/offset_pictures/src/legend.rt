@@ -1,4 +1,4 @@
-//! The words in a picture.
+//! The words in a picture. It only appends text.
 
 ghost use Rattle.std.specs.Prelude.{◌≡◌, ◌+◌, ◌*◌, ◌<◌, ◌++◌, OnOk, string_bytes};
 ghost use Rattle.offset_pictures.specs.Legend.{age_key, ages_key, colours_text, end_text, full_text};

@@ -1,5 +1,5 @@
 //! The heights of the lower plot: the free units, the largest free region, and what it would be without
-//! fragmentation.
+//! fragmentation. It only computes.
 
 ghost use Rattle.std.specs.Prelude.{◌≡◌, ◌≤◌, IfOk, map};
 ghost use Rattle.offset_pictures.specs.Levels.{free_of, joined, joined_of, most_of};

@@ -1,4 +1,4 @@
-//! The lives of grants.
+//! The lives of grants. It reads commands and their answers, which `lives` has by a play of its script.
 
 ghost use Rattle.std.specs.Prelude.{◌≡◌, ℕ, ◌+◌, ◌-◌, ◌^◌, ◌<◌, ◌≤◌, All, AllPairs, IfOk, length, map};
 ghost use Rattle.std.specs.Prelude.{get_or};

@@ -1,8 +1,9 @@
-//! Merges the rectangles of many grants.
+//! Merges the rectangles of many grants. It only computes.
 
 ghost use Rattle.std.specs.Prelude.{◌≡◌, ◌<◌, ◌≤◌, IfOk, IsTrue, map};
 ghost use Rattle.std.specs.List.{list_any};
-ghost use Rattle.offset_pictures.specs.Merging.{AreMerged, Place, IsAtTenth, covers, drawn, is_tiny, join};
+ghost use Rattle.offset_pictures.specs.Merging.{AreMerged, Place, IsAtTenth, covers, is_tiny, join};
+ghost use Rattle.offset_pictures.specs.Merging.{rounded_if_tiny};
 ghost use Rattle.offset_pictures.specs.Merging.{key_of, round_out, shape_of_key, touch};
 ghost use Rattle.offset_pictures.specs.Places.{shape_of};
 
@@ -95,7 +96,7 @@ pub fn shapes_of(alloc: Global, plot: &Plot, lives: &[Life]) -> Result<Vec<Shape
     // Merging covers and uncovers no place: at each height and age they cover those that the rectangles of
     // the lives do.
     ensures covers { IfOk result (λ v. (p : Place) → list_any (covers p) v.items
-        ≡ list_any (covers p) (map (λ l. drawn (shape_of plot.now l)) lives.now)) }
+        ≡ list_any (covers p) (map (λ l. rounded_if_tiny (shape_of plot.now l)) lives.now)) }
     // The list, in its order.
     ensures is { IfOk result (λ v. AreMerged plot.now lives.now v.items) }
 {

@@ -1,7 +1,7 @@
 //! Numbers as the picture writes them. It only appends text.
 
 ghost use Rattle.std.specs.Prelude.{◌≡◌, ◌+◌, ◌≤◌, ◌++◌, OnOk, length, string_bytes};
-ghost use Rattle.offset_pictures.specs.Drawing.{pixels_text};
+ghost use Rattle.offset_pictures.specs.Numerals.{pixels_text};
 ghost use Rattle.offset_pictures.specs.Figures.{share_of};
 
 use offset_script::TextBuffer;
@@ -42,7 +42,7 @@ pub fn put_pixels<const ROOM: usize>(text: &mut TextBuffer<ROOM>, pixels: Pixels
 
 impl fmt::Display for Pixels {
     ghost use Rattle.std.specs.Prelude.{Some};
-    ghost use Rattle.offset_pictures.specs.Drawing.{pixels_text};
+    ghost use Rattle.offset_pictures.specs.Numerals.{pixels_text};
 
     ghost output = { λ p. Some (pixels_text p.0) };
 
@@ -63,7 +63,7 @@ struct Three(u32);
 
 impl fmt::Display for Three {
     ghost use Rattle.std.specs.Prelude.{Some};
-    ghost use Rattle.offset_pictures.specs.Drawing.{three_digits};
+    ghost use Rattle.offset_pictures.specs.Numerals.{three_digits};
 
     ghost output = { λ t. Some (three_digits t.0) };
 
@@ -77,7 +77,7 @@ impl fmt::Display for Three {
 
 impl fmt::Display for Grouped {
     ghost use Rattle.std.specs.Prelude.{Some};
-    ghost use Rattle.offset_pictures.specs.Drawing.{grouped_text};
+    ghost use Rattle.offset_pictures.specs.Numerals.{grouped_text};
 
     ghost output = { λ g. Some (grouped_text g.0) };
 
@@ -117,7 +117,7 @@ pub fn share_of(used: u32, size: u32) -> Share
 
 impl fmt::Display for Share {
     ghost use Rattle.std.specs.Prelude.{Some};
-    ghost use Rattle.offset_pictures.specs.Drawing.{share_text};
+    ghost use Rattle.offset_pictures.specs.Numerals.{share_text};
 
     ghost output = { λ s. Some (share_text s.0) };
 

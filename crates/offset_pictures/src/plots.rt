@@ -1,4 +1,4 @@
-//! The two plots: where they are, and their axes with round numbers.
+//! The two plots: where they are, and their axes with round numbers. It only appends text.
 
 ghost use Rattle.std.specs.Prelude.{◌≡◌, ◌≤◌, ◌+◌, ◌++◌, OnOk, string_bytes};
 ghost use Rattle.offset_pictures.specs.Figures.{counted};

@@ -4,17 +4,17 @@ ghost use Rattle.offset_pictures.specs.Picture.{IsPicture};
 ghost use Rattle.offset_script.specs.Running.{Exits};
 
 use crate::drawing::picture;
-use offset_script::{Script, Sent, Sink, Source, run_program_of, send};
+use offset_script::{Script, ScriptText, Sink, Source, run_program_of, send};
 use std::alloc::{AllocError, Global};
 
 // The picture of a script, with this title.
 #[derive(Drop)]
-struct Titled<'a> {
+struct PictureText<'a> {
     title: &'a str,
 }
 
-impl<'a> Sent for Titled<'a> {
-    ghost IsText = { λ titled. IsPicture titled.title.now };
+impl<'a> ScriptText for PictureText<'a> {
+    ghost IsText = { λ it. IsPicture it.title.now };
 
     fn send<K: Sink>(
         &self,
@@ -53,5 +53,5 @@ pub fn draw_program<S: Source, K: Sink, E: Sink>(
     ensures { Exits (IsPicture title.now) S.Source K.Sink E.Sink
         input.old input.new output.old output.new errors.old errors.new result }
 {
-    run_program_of(alloc, &Titled { title }, input, output, errors)
+    run_program_of(alloc, &PictureText { title }, input, output, errors)
 }

@@ -1,4 +1,4 @@
-//! The rectangles of lives, in a group for each age, whose class has the colour.
+//! The rectangles of lives, in a group for each age, whose class has the colour. It only appends text.
 
 ghost use Rattle.std.specs.Prelude.{◌≡◌, ℕ, List, ◌≤◌, ◌++◌, ◌↔◌, IfOk, IsTrue, OnOk, length, map};
 ghost use Rattle.std.specs.Prelude.{string_bytes};

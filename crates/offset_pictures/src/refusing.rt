@@ -1,4 +1,5 @@
-//! Which calls were refused, and why: what a space says after a refused call, which left it as it was.
+//! Which calls were refused, and why: what a space says after a refused call, which left it as it was. It
+//! only asks the space.
 
 ghost use Rattle.std.specs.Prelude.{◌≡◌, ◌++◌, [], true, IsTrue, OnOk, option_to_list, if◌then◌else◌};
 ghost use Rattle.offset_allocator.specs.Relations.{IsAlignment};

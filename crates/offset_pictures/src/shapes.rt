@@ -1,4 +1,4 @@
-//! The rectangle of a life, in hundredths of a pixel.
+//! The rectangle of a life, in hundredths of a pixel. It only computes.
 
 ghost use Rattle.std.specs.Prelude.{◌≡◌, ◌-◌, ◌<◌, ◌≤◌};
 ghost use Rattle.offset_pictures.specs.Places.{shape_of};
@@ -12,7 +12,7 @@ use crate::plots::Plot;
 pub struct Shape {
     pub top: u32,
     pub bottom: u32,
-    /// The bin of its age.
+    /// The group of its age.
     pub age: usize,
     pub left: u32,
     pub right: u32,

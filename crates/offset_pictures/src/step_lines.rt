@@ -1,4 +1,5 @@
-//! Values of states, as a line of steps, and calls, as marks. Both are drawn to a tenth of a pixel.
+//! Values of states, as a line of steps, and calls, as marks. Both are drawn to a tenth of a pixel. It only
+//! appends text.
 
 ghost use Rattle.std.specs.Prelude.{◌≡◌, ℕ, ◌≤◌, ◌++◌, IfOk, OnOk, length, max, min, string_bytes, vec_len};
 ghost use Rattle.offset_pictures.specs.Marks.{column_of, column_text, height_of, in_tenths, IsAt};

@@ -1,4 +1,4 @@
-//! The fixed parts of the picture.
+//! The fixed parts of the picture. They are constants.
 
 /// What comes before the title.
 pub const OPENING: &str =

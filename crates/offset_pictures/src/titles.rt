@@ -1,4 +1,4 @@
-//! Text in a picture, where XML gives some characters a meaning of their own.
+//! Text in a picture, where XML gives some characters a meaning of their own. It only appends text.
 
 ghost use Rattle.std.specs.Prelude.{◌≡◌, ◌++◌, OnOk, chars, codes, string_bytes};
 ghost use Rattle.offset_pictures.specs.Titles.{escape, escaped, heading, is_in_xml, quarters, size_of};

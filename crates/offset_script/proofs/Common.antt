@@ -28,7 +28,7 @@ pub use Rattle.offset_script.specs.Histories.{renumber, raise_number, number_wit
 pub use Rattle.offset_script.specs.Histories.{answers_renumbered, HasNoLive, IsGrant, IsNest, HasFreshRestarts, HasTracelessNests, HasCommutingRows}
 pub use Rattle.offset_script.specs.Machine.{Live, Free, is_free, has_number, stamp, total, chosen_place, State, Answer, step, returns_only, leaves, stamp_of_padding, stamp_of_call, Tag, Block, block}
 pub use Rattle.offset_script.specs.Machine.{Place, fits, place_of, coalesce, Outcome, answers, after, request, grant, grant_or_refuse, release, size_at, report, reset, extend, start, is_short_of}
-pub use Rattle.offset_script.specs.Machine.{is_taken_before, here, choose, prepend, free_block, free_start, without_start, free_end, without_end, free_sizes, ends_live, row_view, answer_view}
+pub use Rattle.offset_script.specs.Machine.{is_taken_before, here, choose, prepend, free_block, units_at_start, without_start, units_at_end, without_end, free_sizes, ends_live, row_view, answer_view}
 pub use Rattle.offset_script.specs.Steps.{kept_name, Takes, IsRun, AreOfARun, IsKept, IfNamed, Stays, AreLive}
 pub use Rattle.offset_script.specs.declared.scripts.Command.{Command}
 pub use Rattle.offset_script.specs.declared.scripts.Command.TheVariants.{Alloc, Size, Report, Full, Reset, Align, Extend}

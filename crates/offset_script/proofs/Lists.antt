@@ -1,7 +1,7 @@
 -- What holds of lists of blocks: counts of tags, neighbours, free ends, and what coalesces.
 use Rattle.offset_script.proofs.Common.{◌≡◌, ℕ, zero, suc, ◌+◌, ◌≤◌, Bool, true, false, ◌&&◌, List, [], ◌∷◌, ◌++◌, length, nat_eq, if◌then◌else◌, refl, sym, ap, ap₂, subst, ◌∙◌, inl, inr, arith}
 use Rattle.offset_script.proofs.Common.{ne_eqb, append-nil, cases_eq, true≢false, false≢true, and_left, and_right, AllByRecursion, one, Tag, Live, Free, Block, block, is_free, has_number, total}
-use Rattle.offset_script.proofs.Common.{Place, free_block, free_start, without_start, free_end, without_end, coalesce, nil_from_length, cases_Bool}
+use Rattle.offset_script.proofs.Common.{Place, free_block, units_at_start, without_start, units_at_end, without_end, coalesce, nil_from_length, cases_Bool}
 use Rattle.offset_allocator.proofs.{ViewApart.left_false, ViewApart.right_false, Tallies.hit_cases, Tallies.one-same}
 use Rattle.offset_script.proofs.Members.{IsIn}
 
@@ -120,7 +120,7 @@ end_of xs fs f a e =
 pub start_of : (gs ys : List Block) → AreFree gs → AreApart gs → starts_free ys ≡ false → IsStart gs ys
 start_of gs ys f a e = record { few = few_free gs f a; free = f; live = λ h. ap (λ l. starts_free (l ++ ys)) (nil_from_length gs h) ∙ e }
 
-end_is : (xs fs : List Block) → IsEnd xs fs → (without_end (xs ++ fs) ≡ xs) × (free_end (xs ++ fs) ≡ total fs)
+end_is : (xs fs : List Block) → IsEnd xs fs → (without_end (xs ++ fs) ≡ xs) × (units_at_end (xs ++ fs) ≡ total fs)
 end_is [] [] e = (refl, refl)
 end_is [] (b ∷ []) e = (ap (λ x. if x then [] else b ∷ []) e.free.0, ap (λ x. if x then b.size else 0) e.free.0 ∙ omega arith)
 end_is [] (b ∷ c ∷ fs) e = absurd (let l = e.few in omega arith)
@@ -128,7 +128,7 @@ end_is (x ∷ []) [] e = (ap (λ y. if y then [] else x ∷ []) (e.live refl), a
 end_is (x ∷ []) (b ∷ fs) e = let r = end_is [] (b ∷ fs) (record { few = e.few; free = e.free; live = e.live }) in (ap (λ z. x ∷ z) r.0, r.1)
 end_is (x ∷ y ∷ xs) fs e = let r = end_is (y ∷ xs) fs (record { few = e.few; free = e.free; live = e.live }) in (ap (λ z. x ∷ z) r.0, r.1)
 
-pub start_is : (gs ys : List Block) → IsStart gs ys → (without_start (gs ++ ys) ≡ ys) × (free_start (gs ++ ys) ≡ total gs)
+pub start_is : (gs ys : List Block) → IsStart gs ys → (without_start (gs ++ ys) ≡ ys) × (units_at_start (gs ++ ys) ≡ total gs)
 start_is [] [] e = (refl, refl)
 start_is [] (y ∷ ys) e = (ap (λ x. if x then ys else y ∷ ys) (e.live refl), ap (λ x. if x then y.size else 0) (e.live refl))
 start_is (b ∷ []) ys e = (ap (λ x. if x then ys else b ∷ ys) e.free.0, ap (λ x. if x then b.size else 0) e.free.0 ∙ omega arith)

@@ -2,7 +2,7 @@ pub mod Devices
 pub mod Dumping
 pub mod Faults
 pub mod Grammar
-pub mod Heads
+pub mod CommonLines
 pub mod Histories
 pub mod Listening
 pub mod Machine

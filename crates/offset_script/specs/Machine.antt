@@ -97,9 +97,9 @@ free_block zero s = []
 free_block (suc n) s = block (suc n) (Free s) ∷ []
 
 -- the units of a free block at the start of a list, or 0
-abbrev pub free_start : List Block → ℕ
-free_start [] = 0
-free_start (b ∷ bs) = if is_free b.tag then b.size else 0
+abbrev pub units_at_start : List Block → ℕ
+units_at_start [] = 0
+units_at_start (b ∷ bs) = if is_free b.tag then b.size else 0
 
 -- a list without its first block, where that is free
 abbrev pub without_start : List Block → List Block
@@ -107,10 +107,10 @@ without_start [] = []
 without_start (b ∷ bs) = if is_free b.tag then bs else b ∷ bs
 
 -- the units of a free block at the end of a list, or 0
-abbrev pub free_end : List Block → ℕ
-free_end [] = 0
-free_end (b ∷ []) = if is_free b.tag then b.size else 0
-free_end (b ∷ c ∷ bs) = free_end (c ∷ bs)
+abbrev pub units_at_end : List Block → ℕ
+units_at_end [] = 0
+units_at_end (b ∷ []) = if is_free b.tag then b.size else 0
+units_at_end (b ∷ c ∷ bs) = units_at_end (c ∷ bs)
 
 -- a list without its last block, where that is free
 abbrev pub without_end : List Block → List Block
@@ -127,7 +127,7 @@ ends_live (b ∷ c ∷ bs) = ends_live (c ∷ bs)
 -- n units between two lists become free, with stamp s, and coalesce with a free block right before and one right after
 abbrev pub coalesce : List Block → ℕ → ℕ → List Block → List Block
 coalesce before n s after =
-    without_end before ++ block (free_end before + n + free_start after) (Free s) ∷ without_start after
+    without_end before ++ block (units_at_end before + n + units_at_start after) (Free s) ∷ without_start after
 
 -- ---- states and calls
 

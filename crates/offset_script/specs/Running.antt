@@ -108,27 +108,27 @@ pub record IsSent {K : Type 0} (IsText : Plan → List ℕ → Type 0) (plan : P
 
 -- what a run returned, and left of its source and its sink
 pub record Runs {S K : Type 0} (IsText : Plan → List ℕ → Type 0) (source : Source S) (sink : Sink K)
-    (input left : S) (old new : K) (ended : Result (Unit {0}) RunFault) : Type 0 where
+    (input input_after : S) (output output_after : K) (ended : Result (Unit {0}) RunFault) : Type 0 where
   -- where the text of the source is known
-  pub of_text : IfSome (source.left input) (λ text. IsRunOf IsText ended text (source.left left)
-      (sink.held old) (sink.held new) (sink.push_has_failed new))
+  pub of_text : IfSome (source.left input) (λ text. IsRunOf IsText ended text (source.left input_after)
+      (sink.held output) (sink.held output_after) (sink.push_has_failed output_after))
   -- after `Ok` the sink is flushed, if it says so
-  pub flushed : OnOk ended (sink.is_flushed new ≡ true)
+  pub flushed : OnOk ended (sink.is_flushed output_after ≡ true)
   -- after `Script`, `Memory` and `Read` the sink is as it was
-  pub untouched : IfErr ended (λ fault. fault ≢ Write → new ≡ old)
+  pub untouched : IfErr ended (λ fault. fault ≢ Write → output_after ≡ output)
   -- out of memory is `Memory`, and never `Script(Memory)`
   pub memory : ended ≢ Err (Script scripts.Memory)
   -- it is `Read` exactly where the source failed in this call
-  pub read : source.has_failed left ≡ (is_read_fault ended || source.has_failed input)
+  pub read : source.has_failed input_after ≡ (is_read_fault ended || source.has_failed input)
   -- it is `Write` exactly where the sink failed in this call
-  pub write : sink.has_failed new ≡ (is_write_fault ended || sink.has_failed old)
+  pub write : sink.has_failed output_after ≡ (is_write_fault ended || sink.has_failed output)
 
--- a run ended somehow, and a program with it: after `Ok` its status is 0, and `errors` is as it was; else it is that of the
--- fault, and the line of the fault was appended to `errors` and flushed, or `errors` failed
+-- a run ended somehow, and a program with it: after `Ok` its status is 0, and its log is as it was; else it is that of the
+-- fault, and the line of the fault was appended to the log and flushed, or the log failed
 pub record Exits {S K E : Type 0} (IsText : Plan → List ℕ → Type 0) (source : Source S) (sink : Sink K) (errors : Sink E)
-    (input left : S) (old new : K) (before after : E) (status : ℕ) : Type 0 where
+    (input input_after : S) (output output_after : K) (log log_after : E) (status : ℕ) : Type 0 where
   pub ended : Result (Unit {0}) RunFault
-  pub runs : Runs IsText source sink input left old new ended
-  pub tells : MatchResult ended (λ _. (status ≡ 0) × (after ≡ before))
-      (λ fault. (status ≡ fault_status fault) × WritesFault fault (errors.held before) (errors.held after)
-      (errors.has_failed before) (errors.has_failed after) (errors.push_has_failed after) (errors.is_flushed after))
+  pub runs : Runs IsText source sink input input_after output output_after ended
+  pub tells : MatchResult ended (λ _. (status ≡ 0) × (log_after ≡ log))
+      (λ fault. (status ≡ fault_status fault) × WritesFault fault (errors.held log) (errors.held log_after)
+      (errors.has_failed log) (errors.has_failed log_after) (errors.push_has_failed log_after) (errors.is_flushed log_after))

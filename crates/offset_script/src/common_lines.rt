@@ -3,8 +3,8 @@
 ghost use Rattle.std.specs.Prelude.{◌≡◌, ◌+◌, ◌-◌, ◌<◌, nat_lt, ◌≤◌, ◌++◌, length, All, IfOk, IfSome, IsTrue};
 ghost use Rattle.std.specs.Char.{is_ascii_digit};
 ghost use Rattle.std.specs.Int.{to_le_bytes, w32};
-ghost use Rattle.offset_script.specs.Heads.{BeginsWithNumber, BeginsWithCommand, ReadsCommands, name_of};
-ghost use Rattle.offset_script.specs.Heads.{counted};
+ghost use Rattle.offset_script.specs.CommonLines.{BeginsWithNumber, BeginsWithCommand, ReadsCommands};
+ghost use Rattle.offset_script.specs.CommonLines.{counted, name_of};
 ghost use Rattle.offset_script.specs.Grammar.{has_valid_alignment, significant_from};
 
 use crate::lines::Lines;
@@ -12,7 +12,8 @@ use crate::scripts::Command;
 use crate::tokens::MOST_DIGITS;
 use std::alloc::AllocError;
 
-// The most bytes that are read here: a word, a space, and a number with its line end.
+// The most bytes that are read here: a word, a space, and a number with its line end. Where fewer are left,
+// `reading` reads the line.
 const LONGEST: usize = 17;
 
 // The commands of a word and a number.

@@ -96,7 +96,7 @@ pub(crate) fn play_to<T: Tables, L: Listener>(
     Ok(listener)
 }
 
-/// Plays a script on an allocator of its index width, by the layout named for that width, drops its space, and
+/// Plays a script on an allocator of its index width, by the layout that is named for it, drops its space, and
 /// returns the listener that has heard its commands.
 ///
 /// # Errors
@@ -112,8 +112,11 @@ where
     Narrow: Tables<Index = u16>,
     Wide: Tables<Index = u32>,
     L: Listener,
-    ensures { IfOk result (λ l. L.Heard l (start script.now.size script.now.max_allocs)
+    ensures heard { IfOk result (λ l. L.Heard l (start script.now.size script.now.max_allocs)
         (map L.played script.now.commands.items)) }
+    ensures run { IfOk result (λ _. let cs = map L.played script.now.commands.items in
+        AreOfARun Takes script.now.size script.now.max_allocs cs
+        (answers cs (start script.now.size script.now.max_allocs))) }
 {
     let commands = &script.commands;
     match script.index {

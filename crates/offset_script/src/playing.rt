@@ -1,4 +1,5 @@
-//! Plays commands on an allocator, of which it keeps the handles. Nothing else here changes a space.
+//! Plays commands on an allocator, of which it keeps the handles. No other module of this crate changes a
+//! space.
 
 ghost use Rattle.std.specs.Prelude.{◌≡◌, ◌+◌, ◌<◌, ◌≤◌, ℕ, IsTrue, All, [], length, map, slice_index_or};
 ghost use Rattle.std.specs.Prelude.{vec_len};

@@ -1,24 +1,24 @@
-//! What a program does: a run, its status, and the line of its fault.
+//! What a program does: a run, its status, and the line of its fault. It touches the three streams alone.
 
 ghost use Rattle.offset_script.specs.Running.{Exits, IsTextOfAnswers};
 
 use crate::devices::{Sink, Source};
-use crate::running::{Answers, Sent, run_of};
+use crate::running::{AnswerText, ScriptText, run_of};
 use crate::sending::send_fault;
 use std::alloc::Global;
 
-/// `run_program`, by `run_of`: with another text of a script in place of that of its answers.
-pub fn run_program_of<X: Sent, S: Source, K: Sink, E: Sink>(
+/// `run_program`, with another text of a script in place of that of its answers.
+pub fn run_program_of<X: ScriptText, S: Source, K: Sink, E: Sink>(
     alloc: Global,
-    sent: &X,
+    text: &X,
     input: &mut S,
     output: &mut K,
     errors: &mut E,
 ) -> u8
-    ensures { Exits (X.IsText sent.now) S.Source K.Sink E.Sink
+    ensures { Exits (X.IsText text.now) S.Source K.Sink E.Sink
         input.old input.new output.old output.new errors.old errors.new result }
 {
-    match run_of(alloc, sent, input, output) {
+    match run_of(alloc, text, input, output) {
         Ok(()) => 0,
         Err(fault) => {
             let _is_sent = send_fault(errors, fault);
@@ -49,5 +49,5 @@ pub fn run_program<S: Source, K: Sink, E: Sink>(
     ensures { Exits IsTextOfAnswers S.Source K.Sink E.Sink
         input.old input.new output.old output.new errors.old errors.new result }
 {
-    run_program_of(alloc, &Answers, input, output, errors)
+    run_program_of(alloc, &AnswerText, input, output, errors)
 }

@@ -1,4 +1,4 @@
-//! Reads a text as a script.
+//! Reads a text as a script, the commonest lines by `common_lines`. It only reads the text.
 
 ghost use Rattle.std.specs.Prelude.{◌≡◌, IfSome, IsTrue};
 ghost use Rattle.offset_script.specs.Grammar.{plain_command, number_command, pair_command, command_of};

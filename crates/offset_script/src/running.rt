@@ -63,8 +63,8 @@ pub fn read_script<S: Source>(alloc: Global, input: &mut S) -> Result<Script, Ru
     Ok(parse(alloc, &text)?)
 }
 
-/// What a run makes of a script: a text that it sends.
-pub trait Sent {
+/// A text that a run makes of a script, and sends.
+pub trait ScriptText {
     // Whether this is the text of what a script means.
     ghost IsText: { Self → Plan → List ℕ → Type 0 };
 
@@ -82,26 +82,26 @@ pub trait Sent {
 }
 
 /// `run`, with another text of a script in place of that of its answers.
-pub fn run_of<X: Sent, S: Source, K: Sink>(
+pub fn run_of<X: ScriptText, S: Source, K: Sink>(
     alloc: Global,
-    sent: &X,
+    text: &X,
     input: &mut S,
     output: &mut K,
 ) -> Result<(), RunFault>
-    ensures { Runs (X.IsText sent.now) S.Source K.Sink input.old input.new output.old output.new result }
+    ensures { Runs (X.IsText text.now) S.Source K.Sink input.old input.new output.old output.new result }
 {
     let script = read_script(alloc, input)?;
-    if sent.send(alloc, &script, output)? {
+    if text.send(alloc, &script, output)? {
         Ok(())
     } else {
         Err(RunFault::Write)
     }
 }
 
-// The answers of a script.
-pub(crate) struct Answers;
+// The text of the answers to a script.
+pub(crate) struct AnswerText;
 
-impl Sent for Answers {
+impl ScriptText for AnswerText {
     ghost IsText = { λ _. IsTextOfAnswers };
 
     fn send<K: Sink>(
@@ -141,5 +141,5 @@ pub fn run<S: Source, K: Sink>(alloc: Global, input: &mut S, output: &mut K) -> 
     // bytes of one that is too long.
     ensures { Runs IsTextOfAnswers S.Source K.Sink input.old input.new output.old output.new result }
 {
-    run_of(alloc, &Answers, input, output)
+    run_of(alloc, &AnswerText, input, output)
 }

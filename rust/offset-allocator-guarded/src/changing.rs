@@ -1,6 +1,7 @@
 // Printed by rust/erase from crates/offset_guarded/src/changing.rt: change it there.
 
-//! Calls that give a range another size, the space another size, and the ranges other places.
+//! Calls that give a range another size, the space another size, and the ranges other places. They change the
+//! allocator, and no serial.
 
 use crate::GuardedOf;
 use crate::ticket::Ticket;

@@ -1,6 +1,6 @@
 // Printed by rust/erase from crates/offset_guarded/src/ending.rt: change it there.
 
-//! The live ranges beside one another in space, and what goes off its end.
+//! The live ranges beside one another in space, and what goes off its end. It changes no serial.
 
 use crate::GuardedOf;
 use crate::ticket::Ticket;

@@ -1,6 +1,6 @@
 // Printed by rust/erase from crates/offset_guarded/src/granting.rt: change it there.
 
-//! Grants, each with the next serial, and why one is refused.
+//! Grants, each with the next serial, and why one is refused. Nothing else gives a serial.
 
 use crate::GuardedOf;
 use crate::refusal::Refusal;

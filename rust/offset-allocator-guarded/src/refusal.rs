@@ -1,6 +1,6 @@
 // Printed by rust/erase from crates/offset_guarded/src/refusal.rt: change it there.
 
-//! Why a request is refused.
+//! Why a request is refused. It touches no space.
 
 use core::fmt;
 

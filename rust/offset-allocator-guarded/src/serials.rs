@@ -1,6 +1,6 @@
 // Printed by rust/erase from crates/offset_guarded/src/serials.rt: change it there.
 
-//! The serials of grants, by name.
+//! The serials of grants, by name. It touches its own numbers alone.
 
 use crate::memory::Vec;
 use crate::state::number;

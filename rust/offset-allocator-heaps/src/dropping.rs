@@ -1,6 +1,7 @@
 // Printed by rust/erase from crates/offset_heaps/src/dropping.rt: change it there.
 
-//! Heaps that are given back: empty ones, those of a number, and what all of them granted.
+//! Ranges and heaps that are given back: empty heaps, those of a number, and what all of them granted. It
+//! changes slots, and notes each in the index.
 
 use crate::HeapsOf;
 use crate::index::Index;

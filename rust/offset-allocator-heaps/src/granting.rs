@@ -1,6 +1,7 @@
 // Printed by rust/erase from crates/offset_heaps/src/granting.rt: change it there.
 
-//! Requests: which heap grants one, and when another heap is made for it.
+//! Requests: which heap grants one, and when another heap is made for it. It changes one slot, and notes it
+//! in the index.
 
 use crate::place::{Granted, Place};
 use crate::refusal::Refusal;

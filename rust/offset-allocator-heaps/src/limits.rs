@@ -1,6 +1,6 @@
 // Printed by rust/erase from crates/offset_heaps/src/limits.rt: change it there.
 
-//! How many heaps there may be, and how large.
+//! How many heaps there may be, and how large. It touches no heap.
 
 /// What the heaps of a `Heaps` are, and how many there may be.
 #[derive(Clone, Copy, PartialEq, Eq, Debug)]

@@ -1,6 +1,6 @@
 // Printed by rust/erase from crates/offset_heaps/src/place.rt: change it there.
 
-//! Where a range is: the number of its heap, and its ticket there.
+//! Where a range is: the number of its heap, and its ticket there. It touches no heap.
 
 use offset_guarded::Ticket;
 

@@ -1,6 +1,6 @@
 // Printed by rust/erase from crates/offset_heaps/src/refusal.rt: change it there.
 
-//! Why a request is refused.
+//! Why a request is refused. It touches no heap.
 
 use core::fmt;
 

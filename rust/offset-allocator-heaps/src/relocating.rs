@@ -1,7 +1,7 @@
 // Printed by rust/erase from crates/offset_heaps/src/relocating.rt: change it there.
 
 //! Second ranges in other heaps, so that a heap can be emptied; which one is the emptiest; and the live
-//! ranges of a heap.
+//! ranges of a heap. It changes one slot by a grant, and notes it in the index.
 
 use crate::place::Place;
 use crate::{HeapsOf, slots};

@@ -1,7 +1,7 @@
 // Printed by rust/erase from crates/offset_allocator/src/bins.rt: change it there.
 
 //! A bin for each size class: the names of its free blocks, in a list of links between the nodes, with a
-//! two-level mask.
+//! two-level mask. It touches the links of the bins, and leaves the chain as it is.
 
 use crate::accesses::Accesses;
 use crate::index::{NodeIndex, link_to, no_link, number};

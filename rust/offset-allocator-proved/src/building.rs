@@ -1,6 +1,7 @@
 // Printed by rust/erase from crates/offset_allocator/src/building.rt: change it there.
 
-//! The tables of a state that is read, made block by block from the end of the space, then name by name.
+//! The tables of a state that is read, made block by block from the end of the space, then name by name. It
+//! changes no other tables.
 
 use crate::accesses::Accesses;
 use crate::bins;

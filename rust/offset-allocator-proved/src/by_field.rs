@@ -1,6 +1,6 @@
 // Printed by rust/erase from crates/offset_allocator/src/by_field.rt: change it there.
 
-//! The layout with a table for each field of a node.
+//! The layout with a table for each field of a node. It alone touches the cells of these tables.
 
 use crate::memory::Vec;
 use crate::accesses::Accesses;

@@ -1,6 +1,7 @@
 // Printed by rust/erase from crates/offset_allocator/src/by_node.rt: change it there.
 
-//! The layout with one table of nodes: the fields of a node are in one cache line.
+//! The layout with one table of nodes: the fields of a node are in one cache line. It alone touches the cells
+//! of these tables.
 
 use crate::memory::Vec;
 use crate::accesses::Accesses;

@@ -1,7 +1,7 @@
 // Printed by rust/erase from crates/offset_allocator/src/by_row.rt: change it there.
 
 //! The layout with one table: a row has a node, and the entry of the stack of unused names at the row's
-//! place.
+//! place. It alone touches the cells of this table.
 
 use crate::memory::Vec;
 use crate::accesses::Accesses;

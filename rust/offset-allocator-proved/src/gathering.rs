@@ -1,7 +1,7 @@
 // Printed by rust/erase from crates/offset_allocator/src/gathering.rt: change it there.
 
 //! Makes room for a request: slides the live ranges of a run of blocks to its front, so that its free units
-//! are one block after them.
+//! are one block after them. It changes the chain by `gap`, and the bins of the blocks of the run.
 
 use crate::compact::{Move, report};
 use crate::gap::Gap;

@@ -1,6 +1,6 @@
 // Printed by rust/erase from crates/offset_allocator/src/lengths.rt: change it there.
 
-//! How many names the bins have.
+//! How many names the bins have. It reads the tables, and counts each cell.
 
 use crate::accesses::Accesses;
 use crate::index::{NodeIndex, number};

@@ -1,7 +1,7 @@
 // Printed by rust/erase from crates/offset_allocator/src/neighbours.rt: change it there.
 
-//! A block and its neighbours: it is coalesced with the free ones, divided or resized, in both halves of a
-//! store.
+//! A block and its neighbours: it is coalesced with the free ones, divided or resized, by `chain` and `bins`
+//! together.
 
 use crate::accesses::Accesses;
 use crate::small_float::uint_to_float_round_down;

@@ -1,7 +1,7 @@
 // Printed by rust/erase from crates/offset_allocator/src/relocate.rt: change it there.
 
 //! A second range for what a live one holds, nearer to the start of the space, so that the end of a heap can
-//! be emptied.
+//! be emptied. It reads the tables, and changes them by a grant alone.
 
 use crate::handle::Allocation;
 use crate::small_float::uint_to_float_round_up;

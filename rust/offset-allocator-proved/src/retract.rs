@@ -1,6 +1,6 @@
 // Printed by rust/erase from crates/offset_allocator/src/retract.rt: change it there.
 
-//! Takes free units off the end of a space.
+//! Takes free units off the end of a space. It changes the last block alone, by `chain` and `bins`.
 
 use crate::accesses::Accesses;
 use crate::small_float::uint_to_float_round_down;

@@ -1,6 +1,7 @@
 // Printed by rust/erase from crates/offset_allocator/src/steps.rt: change it there.
 
-//! The steps of the public calls. Each method leaves an allocator whose blocks and bins agree.
+//! The steps of the public calls, by `neighbours`, `chain` and `bins`. Each leaves an allocator whose blocks
+//! and bins agree.
 
 use crate::accesses::Accesses;
 use crate::handle::Allocation;

@@ -1,8 +1,8 @@
 // Printed by rust/erase from crates/offset_allocator/src/tables.rt: change it there.
 
-//! The tables, whatever their layout in memory: no other module reads or writes their cells. A function on
-//! single cells counts each that it touches; `with_capacity` makes tables, `clear` empties them, and neither
-//! counts.
+//! What every layout of the tables does: only the layouts, `by_node`, `by_field` and `by_row`, touch cells. A
+//! function on single cells counts each that it touches; `with_capacity` makes tables, `clear` empties them,
+//! and neither counts.
 
 use crate::accesses::Accesses;
 use crate::index::NodeIndex;

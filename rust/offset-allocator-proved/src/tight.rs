@@ -1,7 +1,8 @@
 // Printed by rust/erase from crates/offset_allocator/src/tight.rt: change it there.
 
 //! Requests that take any free block that is large enough: where the first fit by classes finds none, the
-//! bins from the class of the request on are walked.
+//! bins from the class of the request on are walked. It changes the order of one bin, then grants as
+//! `allocate`.
 
 use crate::accesses::Accesses;
 use crate::handle::Allocation;

@@ -1,6 +1,6 @@
 // Printed by rust/erase from crates/offset_pictures/src/ages.rt: change it there.
 
-//! The eight age groups of lives, each with a colour and its words in the legend.
+//! The eight age groups of lives, each with a colour and its words in the legend. It only computes.
 
 /// The age groups, rising: what the legend says of each. The rectangles of group k, counted from 0, have the
 /// class `age` with the number k + 1.

@@ -1,6 +1,6 @@
 // Printed by rust/erase from crates/offset_pictures/src/axes.rt: change it there.
 
-//! Axes: where a value lies on the picture.
+//! Axes: where a value lies on the picture. It only computes.
 
 /// A tenth of a pixel. Lengths are in hundredths of a pixel.
 pub const TENTH: u32 = 10;

@@ -1,6 +1,7 @@
 // Printed by rust/erase from crates/offset_pictures/src/course.rt: change it there.
 
-//! The course of calls, such as those of a script: all that a picture shows of them.
+//! The course of calls, such as those of a script: all that a picture shows of them. It plays the script, and
+//! keeps no space.
 
 use crate::memory::Vec;
 use crate::living::{Life, lives_of_answers};

@@ -1,6 +1,6 @@
 // Printed by rust/erase from crates/offset_pictures/src/drawing.rt: change it there.
 
-//! The picture of a script.
+//! The picture of a script, from its parts in order. It only appends text.
 
 use crate::memory::String;
 use crate::course::{Course, course_of};

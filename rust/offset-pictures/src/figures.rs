@@ -1,6 +1,6 @@
 // Printed by rust/erase from crates/offset_pictures/src/figures.rt: change it there.
 
-//! What the legend counts, over all states of a course.
+//! What the legend counts, over all states of a course. It only reads the course.
 
 use crate::memory::Vec;
 use crate::course::Course;

@@ -1,6 +1,6 @@
 // Printed by rust/erase from crates/offset_pictures/src/legend.rt: change it there.
 
-//! The words in a picture.
+//! The words in a picture. It only appends text.
 
 use crate::memory::String;
 use crate::ages::AGES;

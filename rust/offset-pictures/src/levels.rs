@@ -1,7 +1,7 @@
 // Printed by rust/erase from crates/offset_pictures/src/levels.rt: change it there.
 
 //! The heights of the lower plot: the free units, the largest free region, and what it would be without
-//! fragmentation.
+//! fragmentation. It only computes.
 
 use crate::memory::Vec;
 use offset_allocator::StorageReport;

@@ -1,6 +1,6 @@
 // Printed by rust/erase from crates/offset_pictures/src/living.rt: change it there.
 
-//! The lives of grants.
+//! The lives of grants. It reads commands and their answers, which `lives` has by a play of its script.
 
 use crate::memory::Vec;
 use offset_script::{Answer, Command, Script, play_script};

@@ -1,6 +1,6 @@
 // Printed by rust/erase from crates/offset_pictures/src/merging.rt: change it there.
 
-//! Merges the rectangles of many grants.
+//! Merges the rectangles of many grants. It only computes.
 
 use crate::memory::Vec;
 use crate::axes::TENTH;

@@ -1,6 +1,6 @@
 // Printed by rust/erase from crates/offset_pictures/src/plots.rt: change it there.
 
-//! The two plots: where they are, and their axes with round numbers.
+//! The two plots: where they are, and their axes with round numbers. It only appends text.
 
 use crate::memory::String;
 use crate::axes::{Axis, round_step};

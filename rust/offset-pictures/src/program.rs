@@ -3,15 +3,15 @@
 //! What a program that draws does: a picture, its status, and the line of its fault.
 
 use crate::drawing::picture;
-use offset_script::{Script, Sent, Sink, Source, run_program_of, send};
+use offset_script::{Script, ScriptText, Sink, Source, run_program_of, send};
 use crate::memory::{AllocError, Global};
 
 // The picture of a script, with this title.
-struct Titled<'a> {
+struct PictureText<'a> {
     title: &'a str,
 }
 
-impl<'a> Sent for Titled<'a> {
+impl<'a> ScriptText for PictureText<'a> {
     fn send<K: Sink>(
         &self,
         alloc: Global,
@@ -49,5 +49,5 @@ pub fn draw_program<S: Source, K: Sink, E: Sink>(
     output: &mut K,
     errors: &mut E,
 ) -> u8 {
-    run_program_of(alloc, &Titled { title }, input, output, errors)
+    run_program_of(alloc, &PictureText { title }, input, output, errors)
 }

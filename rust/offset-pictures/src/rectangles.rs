@@ -1,6 +1,6 @@
 // Printed by rust/erase from crates/offset_pictures/src/rectangles.rt: change it there.
 
-//! The rectangles of lives, in a group for each age, whose class has the colour.
+//! The rectangles of lives, in a group for each age, whose class has the colour. It only appends text.
 
 use crate::memory::String;
 use crate::memory::Vec;

@@ -1,6 +1,7 @@
 // Printed by rust/erase from crates/offset_pictures/src/refusing.rt: change it there.
 
-//! Which calls were refused, and why: what a space says after a refused call, which left it as it was.
+//! Which calls were refused, and why: what a space says after a refused call, which left it as it was. It
+//! only asks the space.
 
 use crate::memory::Vec;
 use offset_allocator::laws::is_well_formed;

@@ -1,6 +1,6 @@
 // Printed by rust/erase from crates/offset_pictures/src/shapes.rt: change it there.
 
-//! The rectangle of a life, in hundredths of a pixel.
+//! The rectangle of a life, in hundredths of a pixel. It only computes.
 
 use crate::ages::age_of;
 use crate::living::Life;
@@ -11,7 +11,7 @@ use crate::plots::Plot;
 pub struct Shape {
     pub top: u32,
     pub bottom: u32,
-    /// The bin of its age.
+    /// The group of its age.
     pub age: usize,
     pub left: u32,
     pub right: u32,

@@ -1,6 +1,7 @@
 // Printed by rust/erase from crates/offset_pictures/src/step_lines.rt: change it there.
 
-//! Values of states, as a line of steps, and calls, as marks. Both are drawn to a tenth of a pixel.
+//! Values of states, as a line of steps, and calls, as marks. Both are drawn to a tenth of a pixel. It only
+//! appends text.
 
 use crate::memory::String;
 use crate::memory::Vec;

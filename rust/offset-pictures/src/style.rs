@@ -1,6 +1,6 @@
 // Printed by rust/erase from crates/offset_pictures/src/style.rt: change it there.
 
-//! The fixed parts of the picture.
+//! The fixed parts of the picture. They are constants.
 
 /// What comes before the title.
 pub const OPENING: &str =

@@ -1,6 +1,6 @@
 // Printed by rust/erase from crates/offset_pictures/src/titles.rt: change it there.
 
-//! Text in a picture, where XML gives some characters a meaning of their own.
+//! Text in a picture, where XML gives some characters a meaning of their own. It only appends text.
 
 use crate::memory::String;
 use crate::numerals::Pixels;

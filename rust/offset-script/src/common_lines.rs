@@ -8,7 +8,8 @@ use crate::scripts::Command;
 use crate::tokens::MOST_DIGITS;
 use crate::memory::AllocError;
 
-// The most bytes that are read here: a word, a space, and a number with its line end.
+// The most bytes that are read here: a word, a space, and a number with its line end. Where fewer are left,
+// `reading` reads the line.
 const LONGEST: usize = 17;
 
 // The commands of a word and a number.

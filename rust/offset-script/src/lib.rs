@@ -37,6 +37,6 @@ pub use listening::{Listener, play_script_to};
 pub use playing::{Player, PlayerOf, play, play_of, play_script};
 pub use program::{run_program, run_program_of};
 pub use reading::parse;
-pub use running::{Sent, read_script, run, run_of};
+pub use running::{ScriptText, read_script, run, run_of};
 pub use scripts::{Command, IndexWidth, Script};
 pub use sending::{send, send_fault};

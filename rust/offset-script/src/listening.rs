@@ -67,7 +67,7 @@ pub(crate) fn play_to<T: Tables, L: Listener>(
     Ok(listener)
 }
 
-/// Plays a script on an allocator of its index width, by the layout named for that width, drops its space, and
+/// Plays a script on an allocator of its index width, by the layout that is named for it, drops its space, and
 /// returns the listener that has heard its commands.
 ///
 /// # Errors

@@ -1,6 +1,7 @@
 // Printed by rust/erase from crates/offset_script/src/playing.rt: change it there.
 
-//! Plays commands on an allocator, of which it keeps the handles. Nothing else here changes a space.
+//! Plays commands on an allocator, of which it keeps the handles. No other module of this crate changes a
+//! space.
 
 use crate::memory::Vec;
 use crate::answers::{Answer, full_answer};

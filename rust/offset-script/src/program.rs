@@ -1,21 +1,21 @@
 // Printed by rust/erase from crates/offset_script/src/program.rt: change it there.
 
-//! What a program does: a run, its status, and the line of its fault.
+//! What a program does: a run, its status, and the line of its fault. It touches the three streams alone.
 
 use crate::devices::{Sink, Source};
-use crate::running::{Answers, Sent, run_of};
+use crate::running::{AnswerText, ScriptText, run_of};
 use crate::sending::send_fault;
 use crate::memory::Global;
 
-/// `run_program`, by `run_of`: with another text of a script in place of that of its answers.
-pub fn run_program_of<X: Sent, S: Source, K: Sink, E: Sink>(
+/// `run_program`, with another text of a script in place of that of its answers.
+pub fn run_program_of<X: ScriptText, S: Source, K: Sink, E: Sink>(
     alloc: Global,
-    sent: &X,
+    text: &X,
     input: &mut S,
     output: &mut K,
     errors: &mut E,
 ) -> u8 {
-    match run_of(alloc, sent, input, output) {
+    match run_of(alloc, text, input, output) {
         Ok(()) => 0,
         Err(fault) => {
             let _is_sent = send_fault(errors, fault);
@@ -47,5 +47,5 @@ pub fn run_program<S: Source, K: Sink, E: Sink>(
     output: &mut K,
     errors: &mut E,
 ) -> u8 {
-    run_program_of(alloc, &Answers, input, output, errors)
+    run_program_of(alloc, &AnswerText, input, output, errors)
 }

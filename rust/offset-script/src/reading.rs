@@ -1,6 +1,6 @@
 // Printed by rust/erase from crates/offset_script/src/reading.rt: change it there.
 
-//! Reads a text as a script.
+//! Reads a text as a script, the commonest lines by `common_lines`. It only reads the text.
 
 use crate::memory::Vec;
 use crate::common_lines::read_common;

@@ -48,8 +48,8 @@ pub fn read_script<S: Source>(alloc: Global, input: &mut S) -> Result<Script, Ru
     Ok(parse(alloc, &text)?)
 }
 
-/// What a run makes of a script: a text that it sends.
-pub trait Sent {
+/// A text that a run makes of a script, and sends.
+pub trait ScriptText {
     /// Appends the text of a script, and then flushes. Returns whether both succeeded. It stops at the first
     /// failure, and tries nothing again. Where an allocation fails, nothing is appended.
     fn send<K: Sink>(
@@ -61,24 +61,24 @@ pub trait Sent {
 }
 
 /// `run`, with another text of a script in place of that of its answers.
-pub fn run_of<X: Sent, S: Source, K: Sink>(
+pub fn run_of<X: ScriptText, S: Source, K: Sink>(
     alloc: Global,
-    sent: &X,
+    text: &X,
     input: &mut S,
     output: &mut K,
 ) -> Result<(), RunFault> {
     let script = read_script(alloc, input)?;
-    if sent.send(alloc, &script, output)? {
+    if text.send(alloc, &script, output)? {
         Ok(())
     } else {
         Err(RunFault::Write)
     }
 }
 
-// The answers of a script.
-pub(crate) struct Answers;
+// The text of the answers to a script.
+pub(crate) struct AnswerText;
 
-impl Sent for Answers {
+impl ScriptText for AnswerText {
     fn send<K: Sink>(
         &self,
         alloc: Global,
@@ -114,5 +114,5 @@ impl Sent for Answers {
 /// # Ok::<(), RunFault>(())
 /// ```
 pub fn run<S: Source, K: Sink>(alloc: Global, input: &mut S, output: &mut K) -> Result<(), RunFault> {
-    run_of(alloc, &Answers, input, output)
+    run_of(alloc, &AnswerText, input, output)
 }

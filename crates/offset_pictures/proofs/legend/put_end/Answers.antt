@@ -1,7 +1,7 @@
 use Rattle.std.proofs.Common.{◌≡◌, ◌++◌, ◌∙◌, Bool, List, [], ◌∷◌, ℕ, codes, ap, lt-ltb, le-ltb, nat_lt, if◌then◌else◌}
 use Rattle.std.specs.Prelude.{string_bytes}
 use Rattle.offset_pictures.specs.declared.figures.Figures.{Figures}
-use Rattle.offset_pictures.specs.Drawing.{grouped_text, pixels_text}
+use Rattle.offset_pictures.specs.Numerals.{grouped_text, pixels_text}
 use Rattle.offset_pictures.proofs.Texts.{is_begun, goes_on, is_ended, is_put, is_left_out}
 use Rattle.offset_pictures.proofs.legend.put_end.Goals as goal
 use Rattle.offset_pictures.proofs.legend.put_end.Goals.{then-figures-end+in_ok-write+in_ok-writeln-2, else-figures-end}

@@ -1,6 +1,6 @@
 use Rattle.std.proofs.Common.{◌≡◌, ◌++◌, ◌∙◌, List, [], ◌∷◌, ℕ, codes, ap, subst, sym, append-nil}
 use Rattle.std.specs.Prelude.{string_bytes}
-use Rattle.offset_pictures.specs.Drawing.{grouped_text}
+use Rattle.offset_pictures.specs.Numerals.{grouped_text}
 use Rattle.offset_pictures.specs.Figures.{counted}
 use Rattle.offset_pictures.specs.Legend.{merged_text}
 use Rattle.offset_pictures.proofs.Texts.{in_a_row, is_begun, goes_on, is_ended, is_none}

@@ -7,7 +7,7 @@ use Rattle.std.specs.List.Sorted.{IsNonDecreasing}
 use Rattle.offset_pictures.specs.declared.living.Life.{Life}
 use Rattle.offset_pictures.specs.declared.plots.Plot.{Plot}
 use Rattle.offset_pictures.specs.declared.shapes.Shape.{Shape}
-use Rattle.offset_pictures.specs.Merging.{covers, drawn, is_tiny, join, key_of, large_shapes, merged, shape_of_key, tiny_shapes, touch}
+use Rattle.offset_pictures.specs.Merging.{covers, rounded_if_tiny, is_tiny, join, key_of, large_shapes, merged, shape_of_key, tiny_shapes, touch}
 use Rattle.offset_pictures.specs.Places.{shape_of}
 use Rattle.offset_pictures.proofs.Merged.{one_more_key, drawn_tiny, drawn_plain, no_last, tiny_life, plain_life, joins_last, pushes_last, starts_last, ends_with, ends_without, all_covered}
 use Rattle.offset_pictures.proofs.Listed.{large_is_pushed, large_stay, tiny_is_pushed, tiny_stay, large_all, tiny_all, one_joins, one_is_done, one_starts, last_is_done, none_is_done}
@@ -23,14 +23,14 @@ loop-life-preserved c =
     let shape : Shape = c.shape_of-shape.result in
     let is : shape ≡ shape_of plot (get_or ls i none) = c.shape_of-shape.ensures.shape in
     let less : i < length ls = omega arith in
-    let h : Life → Shape = λ l. drawn (shape_of plot l) in
+    let h : Life → Shape = λ l. rounded_if_tiny (shape_of plot l) in
     elim c.if-is_tiny.branch [
       | then-is_tiny+in_ok-push w ↦
           let x : Shape = w.round_out.result in
           let is_so : is_tiny shape ≡ true = sym c.is_tiny.ensures ∙ w.if-is_tiny.true in
           let pushed = ap (λ v. v.items) w.tiny-is ∙ w.in_ok-push.ensures.items in
           let tinier : map shape_of_key c.if-is_tiny.tiny.items ≡ map shape_of_key c.loop-life.tiny.items ++ x ∷ [] = one_more_key _ _ _ x pushed w.key_of.ensures.shape in
-          let drawn_is : x ≡ h (get_or ls i none) = w.round_out.ensures ∙ sym (drawn_tiny shape is_so) ∙ ap drawn is in
+          let drawn_is : x ≡ h (get_or ls i none) = w.round_out.ensures ∙ sym (drawn_tiny shape is_so) ∙ ap rounded_if_tiny is in
           record {
             covers = λ p.
                 ap (λ (v : List Shape). list_any (covers p) v || list_any (covers p) (map shape_of_key c.if-is_tiny.tiny.items)) (ap (λ v. v.items) w.found-is)
@@ -43,7 +43,7 @@ loop-life-preserved c =
       | else-is_tiny+in_ok-push-2 w ↦
           let is_not : is_tiny shape ≡ false = sym c.is_tiny.ensures ∙ w.if-is_tiny.false in
           let pushed = ap (λ v. v.items) w.found-is ∙ w.in_ok-push-2.ensures.items in
-          let drawn_is : shape ≡ h (get_or ls i none) = sym (drawn_plain shape is_not) ∙ ap drawn is in
+          let drawn_is : shape ≡ h (get_or ls i none) = sym (drawn_plain shape is_not) ∙ ap rounded_if_tiny is in
           record {
             covers = λ p.
                 ap (λ (v : List ℕ). list_any (covers p) c.if-is_tiny.found.items || list_any (covers p) (map shape_of_key v)) (ap (λ v. v.items) w.tiny-is)
@@ -100,7 +100,7 @@ returns-clause-covers c = λ p.
     let plot : Plot = c.args.plot.now in
     let ls : List Life = c.args.lives.now in
     let covered = all_covered p c.loop-life.found.items (map shape_of_key c.loop-life.tiny.items) (map shape_of_key c.deref-key-items.result.now)
-    (λ l. drawn (shape_of plot l)) ls c.loop-life.life-index c.loop-key.key-index _
+    (λ l. rounded_if_tiny (shape_of plot l)) ls c.loop-life.life-index c.loop-key.key-index _
     (omega arith) (omega (arith, length-map c.deref-key-items.result.now shape_of_key))
     (IsPermutation-map shape_of_key c.loop-life.tiny.items c.deref-key-items.result.now (subst (IsPermutation c.loop-life.tiny.items) (sym c.deref-key-items.ensures.value) c.sort.ensures.permutation))
     (c.loop-life.invariant.covers p)

@@ -1,7 +1,7 @@
 use Rattle.std.proofs.Common.{◌≡◌, ◌||◌, ◌++◌, drop, map, take}
 use Rattle.std.specs.Prelude.{option_to_list}
 use Rattle.std.specs.List.{list_any}
-use Rattle.offset_pictures.specs.Merging.{Place, covers, drawn, key_of, large_shapes, merged, shape_of_key, tiny_shapes}
+use Rattle.offset_pictures.specs.Merging.{Place, covers, rounded_if_tiny, key_of, large_shapes, merged, shape_of_key, tiny_shapes}
 use Rattle.offset_pictures.specs.Places.{shape_of}
 use Rattle.offset_pictures.proofs.Listed.{growing}
 use Rattle.offset_pictures.proofs.merging.shapes_of.Given as goal
@@ -10,7 +10,7 @@ use Rattle.offset_pictures.proofs.merging.shapes_of.Given as goal
 abbrev pub invariant-loop-life : goal.invariant-loop-life
 invariant-loop-life l = record {
   covers : (p : Place)
-      → (list_any (covers p) l.found.items || list_any (covers p) (map shape_of_key l.tiny.items)) ≡ list_any (covers p) (map (λ x. drawn (shape_of l.plot x)) (take l.life-index l.lives));
+      → (list_any (covers p) l.found.items || list_any (covers p) (map shape_of_key l.tiny.items)) ≡ list_any (covers p) (map (λ x. rounded_if_tiny (shape_of l.plot x)) (take l.life-index l.lives));
   large : l.found.items ++ large_shapes l.plot (drop l.life-index l.lives) ≡ large_shapes l.plot l.lives;
   tiny : l.tiny.items ++ map key_of (tiny_shapes l.plot (drop l.life-index l.lives)) ≡ map key_of (tiny_shapes l.plot l.lives);
 }

@@ -4,7 +4,7 @@ use Rattle.std.proofs.lemmas.Slice.Zip.{zip_turn, zip_end}
 use Rattle.std.specs.Prelude.{string_bytes}
 use Rattle.offset_pictures.specs.declared.axes.Axis.{Axis}
 use Rattle.offset_pictures.specs.declared.step_lines.Group.{Group}
-use Rattle.offset_pictures.specs.Drawing.{pixels_text}
+use Rattle.offset_pictures.specs.Numerals.{pixels_text}
 use Rattle.offset_pictures.specs.Marks.{IsAt}
 use Rattle.offset_pictures.specs.StepLines.{group_before, groups_from, groups_text, place_of}
 use Rattle.offset_pictures.proofs.Grouped.{state_joins, state_begins, state_is_first, last_group, no_group, no_open, steps_are_put}

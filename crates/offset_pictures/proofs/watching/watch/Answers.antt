@@ -8,7 +8,7 @@ pub returns : goal.returns
 returns c =
     let script = c.args.script.now in
     record {
-      answers = if_ok c.play_script_to.result (λ w seen. seen.answers) c.play_script_to.ensures;
-      reports = if_ok c.play_script_to.result (λ w seen. seen.reports ∙ quiet_reports script.size script.max_allocs script.commands.items) c.play_script_to.ensures;
-      refused = if_ok c.play_script_to.result (λ w seen. seen.refused ∙ quiet_refused script.size script.max_allocs script.commands.items) c.play_script_to.ensures;
+      answers = if_ok c.play_script_to.result (λ w seen. seen.answers) c.play_script_to.ensures.heard;
+      reports = if_ok c.play_script_to.result (λ w seen. seen.reports ∙ quiet_reports script.size script.max_allocs script.commands.items) c.play_script_to.ensures.heard;
+      refused = if_ok c.play_script_to.result (λ w seen. seen.refused ∙ quiet_refused script.size script.max_allocs script.commands.items) c.play_script_to.ensures.heard;
     }

@@ -1,4 +1,4 @@
-use Rattle.offset_script.proofs.Heads.{numbered_line}
+use Rattle.offset_script.proofs.CommonLines.{numbered_line}
 use Rattle.offset_script.proofs.common_lines.command_at_head.Goals as goal
 
 pub returns-in-Some : goal.returns-in-Some

@@ -1,5 +1,5 @@
 use Rattle.offset_script.proofs.Common.{◌<◌, length, arith, IsTrue, All-push, has_valid_alignment}
-use Rattle.offset_script.proofs.Heads.{reads_one_more, is_shorter, is_valid}
+use Rattle.offset_script.proofs.CommonLines.{reads_one_more, is_shorter, is_valid}
 use Rattle.offset_script.proofs.common_lines.read_common.Goals as goal
 
 pub loop-command-preserved : goal.loop-command-preserved

@@ -1,5 +1,5 @@
 use Rattle.offset_script.proofs.Common.{◌+◌, ◌^◌, ◌<◌, ◌≤◌, length, All, IsTrue, has_valid_alignment, significant_from}
-use Rattle.offset_script.specs.Heads.{ReadsCommands}
+use Rattle.offset_script.specs.CommonLines.{ReadsCommands}
 use Rattle.offset_script.proofs.common_lines.read_common.Given as goal
 
 abbrev pub invariant-loop-command : goal.invariant-loop-command

@@ -6,4 +6,4 @@ use Rattle.offset_script.proofs.writing.text_of_script.Goals as goal
 pub returns : goal.returns
 returns c =
     let script = c.args.script.now in
-    if_ok c.pieces.result (λ v is. is ∙ c.in_ok-text.ensures ∙ ap (λ l. text_of (answers l (start script.size script.max_allocs))) (map-id script.commands.items)) c.pieces.ensures
+    if_ok c.pieces.result (λ v is. is ∙ c.in_ok-text.ensures.heard ∙ ap (λ l. text_of (answers l (start script.size script.max_allocs))) (map-id script.commands.items)) c.pieces.ensures

@@ -2,7 +2,7 @@ use Rattle.std.proofs.Common.{◌≡◌, ◌+◌, ◌-◌, ◌*◌, ◌++◌, �
 use Rattle.std.specs.Prelude.{OnOk, flat_map, string_bytes}
 use Rattle.offset_pictures.specs.declared.plots.Plot.{Plot}
 use Rattle.offset_pictures.specs.Axes.{round_step}
-use Rattle.offset_pictures.specs.Drawing.{pixels_text}
+use Rattle.offset_pictures.specs.Numerals.{pixels_text}
 use Rattle.offset_pictures.specs.Ticks.{calls_tick, multiples_to}
 use Rattle.offset_pictures.proofs.Texts.{in_a_row, is_ended}
 use Rattle.offset_pictures.proofs.Ticked.{all_ticks, calls_tick_is_put, some_step, tick_is_left_out, tick_is_put}

@@ -5,8 +5,9 @@ use Rattle.offset_script.proofs.Common.{slice_split_at, All-from_recursion, Comm
 use Rattle.offset_script.proofs.Common.{Plan, ◌>>=!◌, commands_of, Result, Ok, Err}
 use Rattle.offset_script.proofs.{FirstLine.significant_step, Spelled.commands, Meaning.rest_of_plan}
 use Rattle.std.specs.{Char.is_ascii_digit}
-use Rattle.offset_script.specs.{declared.scripts.Command.TheVariants.Free, Spelling.IsNumbered, Spelling.IsSpelling, Heads.BeginsWithNumber, Heads.BeginsWithCommand, Heads.ReadsCommands}
-use Rattle.offset_script.specs.{Heads.name_of, Heads.counted}
+use Rattle.offset_script.specs.{declared.scripts.Command.TheVariants.Free, Spelling.IsNumbered, Spelling.IsSpelling}
+use Rattle.offset_script.specs.{CommonLines.BeginsWithNumber, CommonLines.BeginsWithCommand, CommonLines.ReadsCommands}
+use Rattle.offset_script.specs.{CommonLines.name_of, CommonLines.counted}
 use Rattle.offset_script.specs.{declared.scripts.Header.Header, declared.faults.ScriptFault.ScriptFault}
 use Rattle.offset_script.specs.declared.common_lines.Word.{Word}
 use Rattle.offset_script.specs.declared.common_lines.Word.TheVariants as words
