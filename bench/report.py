@@ -376,7 +376,7 @@ def brief(report):
             "[results.txt](results.txt) has all tables, [README.md](README.md) how they are measured.", "",
             when, "",
             "## Aims", "",
-            "Missed ([why](README.md#where-it-falls-short-and-why)):", "",
+            "Missed:", "",
             *pages.lines_of(head, missed), "",
             f"The other {len(aims) - len(missed)} are met.", "",
             "## A step", "",

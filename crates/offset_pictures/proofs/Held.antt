@@ -14,7 +14,7 @@ use Rattle.offset_pictures.specs.declared.plots.Plot.{Plot}
 use Rattle.offset_pictures.specs.declared.refusing.Refused.{Refused}
 use Rattle.offset_pictures.specs.declared.shapes.Shape.{Shape}
 use Rattle.offset_pictures.specs.Levels.{free_of, joined_of, most_of}
-use Rattle.offset_pictures.specs.Marks.{rectangle_text, title_text}
+use Rattle.offset_pictures.specs.Rectangles.{rectangle_text, title_text}
 use Rattle.offset_pictures.specs.Merging.{AreMerged}
 use Rattle.offset_pictures.specs.Places.{frame_of, shape_of}
 use Rattle.offset_pictures.specs.Reasons.{reasons_text}

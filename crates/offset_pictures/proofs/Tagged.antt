@@ -22,7 +22,8 @@ use Rattle.offset_pictures.specs.declared.step_lines.Column.{Column}
 use Rattle.offset_pictures.specs.declared.step_lines.Group.{Group}
 use Rattle.offset_pictures.specs.Axes.{round_step}
 use Rattle.offset_pictures.specs.Numerals.{grouped_text, pixels_text}
-use Rattle.offset_pictures.specs.Marks.{column_of, column_text, counted_from_1, height_of, title_text}
+use Rattle.offset_pictures.specs.Marks.{column_of, column_text, counted_from_1, height_of}
+use Rattle.offset_pictures.specs.Rectangles.{title_text}
 use Rattle.offset_pictures.specs.Places.{frame_of, right_of, up_of}
 use Rattle.offset_pictures.specs.Reasons.{asked_text, more_text, reason_text, reasons_text, report_after, report_text, rounded_text, said_text, spot_text, spots_of}
 use Rattle.offset_pictures.specs.Rectangles.{age_text, ages_text, falling_below, plain_of_age, plain_text, titled_of_age, titled_text}

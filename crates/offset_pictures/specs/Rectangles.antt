@@ -1,15 +1,30 @@
 -- The rectangles of grants, as they are written.
-use Rattle.std.specs.Prelude.{◌≡◌, ℕ, zero, suc, ◌+◌, List, [], ◌∷◌, ◌++◌, Option, Some, None, IsPermutation, codes, filter, flat_map, length, map, nat_eq, nat_lt}
+use Rattle.std.specs.Prelude.{◌≡◌, ℕ, zero, suc, ◌+◌, ◌&&◌, List, [], ◌∷◌, ◌++◌, Option, Some, None, IsPermutation, codes, filter, flat_map, length, map, nat_eq, nat_le, nat_lt}
+use Rattle.std.specs.Prelude.{if◌then◌else◌}
 use Rattle.std.specs.Bool.{MatchBool}
 use Rattle.std.specs.Fmt.{decimal}
 use Rattle.std.specs.List.{zip}
 use Rattle.offset_pictures.specs.declared.living.Life.{Life}
 use Rattle.offset_pictures.specs.declared.plots.Plot.{Plot}
+use Rattle.offset_pictures.specs.declared.rectangles.Frame.{Frame}
 use Rattle.offset_pictures.specs.declared.shapes.Shape.{Shape}
 use Rattle.offset_pictures.specs.Figures.{age_of}
-use Rattle.offset_pictures.specs.Marks.{rectangle_text, title_text}
+use Rattle.offset_pictures.specs.Marks.{counted_from_1}
 use Rattle.offset_pictures.specs.Merging.{AreMerged}
+use Rattle.offset_pictures.specs.Numerals.{pixels_text}
 use Rattle.offset_pictures.specs.Places.{frame_of, shape_of}
+
+-- the beginning of a rectangle's element: with an edge where it is at least 3 pixels wide and high
+abbrev pub rectangle_text : Frame → List ℕ
+rectangle_text f =
+    codes "<rect x='" ++ pixels_text f.x ++ codes "' y='" ++ pixels_text f.y ++ codes "' width='" ++ pixels_text f.width ++ codes "' height='" ++ pixels_text f.height ++ codes "'"
+    ++ (if nat_le 300 f.width && nat_le 300 f.height then codes " class='edge'" else [])
+
+-- the title of a life, where this is the number of all calls, and the end of its element
+abbrev pub title_text : Life → ℕ → List ℕ
+title_text l calls =
+    codes "<title>grant " ++ decimal l.number ++ codes ", offset " ++ decimal l.offset ++ codes ", size " ++ decimal l.size ++ codes ", calls " ++ decimal (counted_from_1 l.first) ++ codes "-"
+    ++ (if nat_lt calls (counted_from_1 l.last) then codes "end" else decimal (counted_from_1 l.last)) ++ codes "</title></rect>\n"
 
 -- a rectangle without a title
 abbrev pub plain_text : Shape → List ℕ

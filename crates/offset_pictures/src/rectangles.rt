@@ -2,7 +2,7 @@
 
 ghost use Rattle.std.specs.Prelude.{◌≡◌, ℕ, List, ◌≤◌, ◌++◌, ◌↔◌, IfOk, IsTrue, OnOk, length, map};
 ghost use Rattle.std.specs.Prelude.{string_bytes};
-ghost use Rattle.offset_pictures.specs.Marks.{rectangle_text, title_text};
+ghost use Rattle.offset_pictures.specs.Rectangles.{rectangle_text, title_text};
 ghost use Rattle.offset_pictures.specs.Places.{frame_of, shape_of};
 ghost use Rattle.offset_pictures.specs.Rectangles.{AreGrants, plain_of_age, titled_of_age};
 
@@ -28,7 +28,7 @@ const SMALLEST: u32 = 30;
 // From this width and height on, a rectangle has an edge in the colour of the background: 3 pixels.
 const EDGED: u32 = 300;
 
-// A rectangle as it is drawn, in hundredths of a pixel, from its upper left corner.
+// A rectangle as it is drawn, thick enough to be seen, in hundredths of a pixel, from its upper left corner.
 #[derive(Clone, Copy)]
 pub struct Frame {
     x: u32,

@@ -7,18 +7,18 @@ use Rattle.offset_script.proofs.{FirstLine.significant_step, Spelled.commands, M
 use Rattle.std.specs.{Char.is_ascii_digit}
 use Rattle.offset_script.specs.{declared.scripts.Command.TheVariants.Free, Spelling.IsNumbered, Spelling.IsSpelling}
 use Rattle.offset_script.specs.{CommonLines.BeginsWithNumber, CommonLines.BeginsWithCommand, CommonLines.ReadsCommands}
-use Rattle.offset_script.specs.{CommonLines.name_of, CommonLines.counted}
+use Rattle.offset_script.specs.{CommonLines.name_of, CommonLines.with_number}
 use Rattle.offset_script.specs.{declared.scripts.Header.Header, declared.faults.ScriptFault.ScriptFault}
 use Rattle.offset_script.specs.declared.common_lines.Word.{Word}
 use Rattle.offset_script.specs.declared.common_lines.Word.TheVariants as words
 
 -- a word and a number are a line
-abbrev spelled : (w : Word) (n : ℕ) (line : List ℕ) → IsNumbered (name_of w) n line → IsSpelling (counted w n) line
+abbrev spelled : (w : Word) (n : ℕ) (line : List ℕ) → IsNumbered (name_of w) n line → IsSpelling (with_number w n) line
 spelled words.Alloc n line h = h
 spelled words.Free n line h = h
 spelled words.Size n line h = h
 
-pub numbered_line : (w : Word) (n : ℕ) (text after rest : List ℕ) → text ≡ name_of w ++ after → BeginsWithNumber after n rest → BeginsWithCommand text (counted w n) rest
+pub numbered_line : (w : Word) (n : ℕ) (text after rest : List ℕ) → text ≡ name_of w ++ after → BeginsWithNumber after n rest → BeginsWithCommand text (with_number w n) rest
 numbered_line w n text after rest e b = record {
   line = name_of w ++ b.digits;
   spells = spelled w n (name_of w ++ b.digits) (b.digits, b.numeral, refl);

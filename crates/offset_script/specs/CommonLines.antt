@@ -14,10 +14,10 @@ name_of Free = codes "free "
 name_of Size = codes "size "
 
 -- the command of a word and a number
-abbrev pub counted : Word → ℕ → Command
-counted Alloc n = commands.Alloc n
-counted Free n = commands.Free n
-counted Size n = commands.Size n
+abbrev pub with_number : Word → ℕ → Command
+with_number Alloc n = commands.Alloc n
+with_number Free n = commands.Free n
+with_number Size n = commands.Size n
 
 -- a number, a line end and a rest
 pub record BeginsWithNumber (text : List ℕ) (n : ℕ) (rest : List ℕ) : Type 0 where

@@ -4,7 +4,7 @@ ghost use Rattle.std.specs.Prelude.{◌≡◌, ◌+◌, ◌-◌, ◌<◌, nat_lt
 ghost use Rattle.std.specs.Char.{is_ascii_digit};
 ghost use Rattle.std.specs.Int.{to_le_bytes, w32};
 ghost use Rattle.offset_script.specs.CommonLines.{BeginsWithNumber, BeginsWithCommand, ReadsCommands};
-ghost use Rattle.offset_script.specs.CommonLines.{counted, name_of};
+ghost use Rattle.offset_script.specs.CommonLines.{with_number, name_of};
 ghost use Rattle.offset_script.specs.Grammar.{has_valid_alignment, significant_from};
 
 use crate::lines::Lines;
@@ -27,7 +27,7 @@ enum Word {
 impl Word {
     // The command with this number.
     fn with(self, n: u32) -> Command
-        ensures { result ≡ counted self n }
+        ensures { result ≡ with_number self n }
     {
         match self {
             Word::Alloc => Command::Alloc(n),

@@ -76,6 +76,11 @@ impl<R: Read> Model for FromRead<R> {
 
 impl<R: Read> FromRead<R> {
     /// A source over a reader. It has not failed.
+    ///
+    /// ```
+    /// let mut input = FromRead::new(&b"space 1000 nodes 16 index 32\n"[..]);
+    /// assert!(read_script(alloc, &mut input)?.commands.is_empty());
+    /// ```
     pub fn new(inner: R) -> Self
         ensures { result ≡ record { inner = inner; has_failed = false } }
     {
@@ -86,6 +91,12 @@ impl<R: Read> FromRead<R> {
     }
 
     /// Returns the reader, as the reads have left it.
+    ///
+    /// ```
+    /// let mut input = FromRead::new(&b"ab"[..]);
+    /// assert_eq!(input.pull(&mut [0]), Some(1));
+    /// assert_eq!(input.into_inner(), b"b");
+    /// ```
     pub fn into_inner(self) -> R
         ensures { result ≡ self.inner }
     {
@@ -133,6 +144,11 @@ impl<W: Write> Model for IntoWrite<W> {
 
 impl<W: Write> IntoWrite<W> {
     /// A sink over a writer. It has not failed, and is not flushed.
+    ///
+    /// ```
+    /// let mut output = IntoWrite::new(std::vec::Vec::new());
+    /// assert!(send(&mut output, b"text"));
+    /// ```
     pub fn new(inner: W) -> Self
         ensures { result ≡ record {
           inner = inner;
@@ -150,6 +166,12 @@ impl<W: Write> IntoWrite<W> {
     }
 
     /// Returns the writer, as the writes have left it.
+    ///
+    /// ```
+    /// let mut output = IntoWrite::new(std::vec::Vec::new());
+    /// assert!(send(&mut output, b"text"));
+    /// assert_eq!(output.into_inner(), b"text");
+    /// ```
     pub fn into_inner(self) -> W
         ensures { result ≡ self.inner }
     {

@@ -26,7 +26,7 @@ const SMALLEST: u32 = 30;
 // From this width and height on, a rectangle has an edge in the colour of the background: 3 pixels.
 const EDGED: u32 = 300;
 
-// A rectangle as it is drawn, in hundredths of a pixel, from its upper left corner.
+// A rectangle as it is drawn, thick enough to be seen, in hundredths of a pixel, from its upper left corner.
 #[derive(Clone, Copy)]
 pub struct Frame {
     x: u32,

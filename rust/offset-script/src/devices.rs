@@ -29,6 +29,15 @@ pub struct FromRead<R: Read> {
 
 impl<R: Read> FromRead<R> {
     /// A source over a reader. It has not failed.
+    ///
+    /// ```
+    /// # use offset_allocator::ByNode;
+    /// # use offset_script::*;
+    /// # let alloc = Global;
+    /// let mut input = FromRead::new(&b"space 1000 nodes 16 index 32\n"[..]);
+    /// assert!(read_script(alloc, &mut input)?.commands.is_empty());
+    /// # Ok::<(), RunFault>(())
+    /// ```
     pub fn new(inner: R) -> Self {
         FromRead {
             inner,
@@ -37,6 +46,16 @@ impl<R: Read> FromRead<R> {
     }
 
     /// Returns the reader, as the reads have left it.
+    ///
+    /// ```
+    /// # use offset_allocator::ByNode;
+    /// # use offset_script::*;
+    /// # let alloc = Global;
+    /// let mut input = FromRead::new(&b"ab"[..]);
+    /// assert_eq!(input.pull(&mut [0]), Some(1));
+    /// assert_eq!(input.into_inner(), b"b");
+    /// # Ok::<(), RunFault>(())
+    /// ```
     pub fn into_inner(self) -> R {
         let FromRead { inner, failed: _ } = self;
         inner
@@ -66,6 +85,15 @@ pub struct IntoWrite<W: Write> {
 
 impl<W: Write> IntoWrite<W> {
     /// A sink over a writer. It has not failed, and is not flushed.
+    ///
+    /// ```
+    /// # use offset_allocator::ByNode;
+    /// # use offset_script::*;
+    /// # let alloc = Global;
+    /// let mut output = IntoWrite::new(std::vec::Vec::new());
+    /// assert!(send(&mut output, b"text"));
+    /// # Ok::<(), RunFault>(())
+    /// ```
     pub fn new(inner: W) -> Self {
         IntoWrite {
             inner,
@@ -76,6 +104,16 @@ impl<W: Write> IntoWrite<W> {
     }
 
     /// Returns the writer, as the writes have left it.
+    ///
+    /// ```
+    /// # use offset_allocator::ByNode;
+    /// # use offset_script::*;
+    /// # let alloc = Global;
+    /// let mut output = IntoWrite::new(std::vec::Vec::new());
+    /// assert!(send(&mut output, b"text"));
+    /// assert_eq!(output.into_inner(), b"text");
+    /// # Ok::<(), RunFault>(())
+    /// ```
     pub fn into_inner(self) -> W {
         let IntoWrite {
             inner,
