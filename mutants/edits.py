@@ -59,7 +59,7 @@ class Edit:
 
     def functions(self):
         """The names of the functions in whose bodies the edit is, each with the end of its path that tells it from
-        others (for one of a trait its name alone); none where a part of the edit is elsewhere."""
+        others, where that can be told; none where a part of the edit is elsewhere."""
         file, found, texts = None, {}, {}
         for line in self.lines:
             key, _, text = line.partition(":")
@@ -91,7 +91,7 @@ class Edit:
 
 
 HEAD = re.compile(r"( *)(?:pub(?:\([a-z]+\))? )?(?:const )?(?:extern \"C\" )?fn (\w+)")
-HOME = re.compile(r"impl(?:<.*?>)? (\w+)(?:<.*>)? \{$")
+IMPL = re.compile(r"impl(?:<(.*?)>)? (?:(?:\w+::)*(\w+) for )?([A-Z]\w*)(?:<([^<>]*)>)? \{$")
 
 
 def module_of(file):
@@ -100,13 +100,23 @@ def module_of(file):
     return [] if parts in (("lib",), ("main",)) else [*parts]
 
 
+def home_of(line):
+    """The name under which a check has what is written in an `impl` that begins with this line, or `None` where that has
+    arguments that are no parameters in it."""
+    found = IMPL.match(line)
+    parameters = re.findall(r"'?\w+", found[1] or "") if found else []
+    if not found or found[2] and any(it.strip() not in parameters for it in (found[4] or "").split(",") if it):
+        return None
+    return [found[3] + (found[2] or "")]
+
+
 def bodies(source):
-    """The functions of a source: the name of each, the path of its type below the module (`None` for one of a trait),
-    and the places where its body begins and ends."""
+    """The functions of a source: the name of each, the name of its `impl` (none where it has none, `None` where that
+    cannot be told), and the places where its body begins and ends."""
     at, head, place, home = 0, None, None, None
     for line in source.split("\n"):
         if line[:1].isalpha():
-            home = [found[1]] if (found := HOME.match(line)) else None
+            home = home_of(line)
         if began := HEAD.match(line):
             head, place, has_clauses = began, None, False
         has_clauses = head is not None and (has_clauses or line.lstrip().startswith(("requires", "ensures")))
