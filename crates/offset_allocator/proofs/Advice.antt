@@ -3,7 +3,7 @@ use Rattle.offset_allocator.proofs.Common.{◌≡◌, ◌≢◌, ◌↔◌, ℕ,
 use Rattle.offset_allocator.proofs.Common.{AllByRecursion, cases_lt, cases_eq, length-replicate, sum_by-cons, value, up, down, Block, View, free_sizes, bin_at, push, push_all, IsWellFormed, IsFresh}
 use Rattle.offset_allocator.proofs.Common.{Compacts, live, gathered, CanGrant, HasRoomFor, IsWhy, size_needed, common_steps}
 use Rattle.offset_allocator.proofs.Classes.{down_law, down_small, value_down, value_grows, up_reached}
-use Rattle.offset_allocator.proofs.{Always.adds_up, Counting.value_within_free, Emptied.none_at, Taken.HasFit, ViewFits.good_refusal, ViewOrders.names_same, ViewOrders.names_other}
+use Rattle.offset_allocator.proofs.{Always.adds_up, Counting.value_within_free, Emptied.none_at, Taken.HasFit, ViewFits.good_refusal, ViewBins.names_same, ViewBins.names_other}
 use Rattle.offset_allocator.specs.declared.reports.Refusal.{Refusal}
 use Rattle.offset_allocator.specs.declared.reports.Refusal.TheVariants.{Nodes, TooLarge, Space, Fragmented}
 
@@ -54,8 +54,8 @@ module _ (v : View) (w : IsWellFormed v) (blocks n : ℕ) (room : HasRoomFor blo
     pub open_still : HasRoomFor blocks u
     open_still = omega (arith, room, packed_fewer c.name v.blocks, ap (λ (x : View). length x.blocks) c.view, ap (λ (x : View). x.max_allocs) c.view)
 
-    bins_are : u.order ≡ push_all (gathered c.name (free_sizes v.blocks)) (replicate 256 [])
-    bins_are = ap (λ (x : View). x.order) c.view
+    bins_are : u.bins ≡ push_all (gathered c.name (free_sizes v.blocks)) (replicate 256 [])
+    bins_are = ap (λ (x : View). x.bins) c.view
 
     makes_room : (ns : List ℕ) → free_sizes v.blocks ≡ ns → size_needed n ≤ sum (free_sizes v.blocks) → HasFit n u
     makes_room [] e l = absurd (omega (arith, l, ap sum e))
@@ -83,18 +83,18 @@ module _ (v : View) (w : IsWellFormed v) (blocks n : ℕ) (room : HasRoomFor blo
   -- a fresh space of the same size
   pub fresh : (u : View) → IsFresh v.size v.max_allocs u → IsWhy blocks n v TooLarge ↔ (CanGrant blocks n u → ⊥)
   fresh u f = (
-    λ y g. absurd (omega (arith, y.1, (serves_alone f.name v.size n g.1.0 g.1.1 (subst (λ o. bin_at o g.1.0 ≢ []) order g.1.2)).1)),
+    λ y g. absurd (omega (arith, y.1, (serves_alone f.name v.size n g.1.0 g.1.1 (subst (λ o. bin_at o g.1.0 ≢ []) bins g.1.2)).1)),
     λ none. (
       room,
       elim (cases_lt v.size (value (up n))) [
         | inl l ↦ l
-        | inr l ↦ absurd (none (open_too, let t = alone_serves f.name v.size n (omega (arith, w.fits)) l in (down v.size, t.0, subst (λ o. bin_at o (down v.size) ≢ []) (sym order) t.1)))
+        | inr l ↦ absurd (none (open_too, let t = alone_serves f.name v.size n (omega (arith, w.fits)) l in (down v.size, t.0, subst (λ o. bin_at o (down v.size) ≢ []) (sym bins) t.1)))
       ],
     ),
   )
     where
-      order : u.order ≡ alone f.name v.size
-      order = ap (λ (x : View). x.order) f.view
+      bins : u.bins ≡ alone f.name v.size
+      bins = ap (λ (x : View). x.bins) f.view
 
       open_too : HasRoomFor blocks u
       open_too = omega (arith, room, w.some, ap (λ (x : View). length x.blocks) f.view, ap (λ (x : View). x.max_allocs) f.view)

@@ -1,7 +1,7 @@
 -- Sums and bounds of a well formed view.
 use Rattle.offset_allocator.proofs.Common.{◌≡◌, ℕ, ◌+◌, ◌*◌, ◌<◌, ◌≤◌, Bool, false, not, ◌&&◌, ◌↔◌, List, [], ◌∷◌, ◌++◌, length, sum, sym, ap, ap₂, subst, ◌∙◌, arith, le-leb, true≢false}
-use Rattle.offset_allocator.proofs.Common.{AllByRecursion, sum_by-cons, value, up, down, Block, View, used_units, used_of, one, starts_free, total_free, largest_free, units, free_sizes, free_block}
-use Rattle.offset_allocator.proofs.Common.{IsApart, IsWellFormed, max_size, IsFresh, CanGrant, common_steps}
+use Rattle.offset_allocator.proofs.Common.{AllByRecursion, sum_by-cons, value, up, down, Block, View, used_units, used_of, one, starts_free, reported_free, reported_largest, units, free_sizes, free_block}
+use Rattle.offset_allocator.proofs.Common.{AreCoalesced, IsWellFormed, max_size, IsFresh, CanGrant, common_steps}
 use Rattle.offset_allocator.proofs.Common.{None, Some, last_or, is_used_at, place_of, eq-eqb, ◌≢◌}
 use Rattle.std.specs.Prelude.{IsTrue}
 use Rattle.offset_allocator.proofs.{Taken.fitting, Classes.down_law, ViewTaken.well_alone}
@@ -15,20 +15,20 @@ pub adds_up : (v : View) → IsWellFormed v → used_units v.blocks + sum (free_
 adds_up v w = parted v.blocks ∙ w.whole
 
 -- free neighbours
-apart_after_one : (xs ys : List Block) → IsApart (xs ++ ys) → IsApart ys
+apart_after_one : (xs ys : List Block) → AreCoalesced (xs ++ ys) → AreCoalesced ys
 apart_after_one [] ys a = a
 apart_after_one (x ∷ xs) ys a = apart_after_one xs ys a.1
 
-alone_if : (run after : List Block) → IsApart (run ++ after) → AllByRecursion (λ b. b.used ≡ false) run → length run ≤ 1
+alone_if : (run after : List Block) → AreCoalesced (run ++ after) → AllByRecursion (λ b. b.used ≡ false) run → length run ≤ 1
 alone_if [] after a f = omega arith
 alone_if (b ∷ []) after a f = omega arith
 alone_if (b ∷ c ∷ run) after a f = absurd (true≢false (ap₂ (λ (x y : Bool). not x && not y) (sym f.0) (sym f.1.0) ∙ a.0))
 
 pub no_neighbours : (v : View) → IsWellFormed v → (before run after : List Block) → v.blocks ≡ before ++ (run ++ after) → AllByRecursion (λ b. b.used ≡ false) run → length run ≤ 1
-no_neighbours v w before run after e f = alone_if run after (apart_after_one before (run ++ after) (subst IsApart e w.apart)) f
+no_neighbours v w before run after e f = alone_if run after (apart_after_one before (run ++ after) (subst AreCoalesced e w.apart)) f
 
 -- free blocks are few: at most one more than the used ones, and no more where the first block is used
-few : (bs : List Block) → IsApart bs → length bs + one (not (starts_free bs)) ≤ 2 * used_of bs + 1
+few : (bs : List Block) → AreCoalesced bs → length bs + one (not (starts_free bs)) ≤ 2 * used_of bs + 1
 few [] a = grind arith
 few (b ∷ bs) a = grind (arith, few bs a.1)
 
@@ -36,7 +36,7 @@ pub few_blocks : (v : View) → IsWellFormed v → length v.blocks ≤ 2 * used_
 few_blocks v w = let h = few v.blocks w.apart in omega (arith, h)
 
 -- a full space
-pub reports_nothing : (v : View) → v.max_allocs ≤ length v.blocks + 1 → (total_free v ≡ 0) × (largest_free v ≡ 0)
+pub reports_nothing : (v : View) → v.max_allocs ≤ length v.blocks + 1 → (reported_free v ≡ 0) × (reported_largest v ≡ 0)
 reports_nothing v h = grind (arith, le-leb)
 
 head_of : (b c : Block) (bs cs : List Block) → b ∷ bs ≡ c ∷ cs → b ≡ c
@@ -64,7 +64,7 @@ module _ (size max_allocs n : ℕ) (v : View) (f : IsFresh size max_allocs v) (l
         let t = fitting n v formed h.1 in
         let block = only_block t.0.before t.0.block t.0.after (free_block f.name size) (sym there ∙ t.1) in
         (down_law size (up n) (omega arith)).0 (subst (λ z. up n ≤ down z) (ap (λ (b : Block). b.size) (sym block)) t.3),
-    λ l. (room, (down size, (down_law size (up n) (omega arith)).1 l, λ e. let o = formed.orders (down size) f.name in absurd (grind (arith, e, o)))),
+    λ l. (room, (down size, (down_law size (up n) (omega arith)).1 l, λ e. let o = formed.binned (down size) f.name in absurd (grind (arith, e, o)))),
   )
 
 -- free and used blocks

@@ -2,7 +2,7 @@
 use Rattle.offset_allocator.proofs.Common.{◌≡◌, ◌≢◌, ◌<◌, ◌≤◌, ◌+◌, ◌⊎◌, ℕ, List, [], ◌∷◌, ◌++◌, map, refl, sym, ap, subst, ◌∙◌, inl, inr, arith, length, drop, slice_index, slice_set, cases_eq}
 use Rattle.offset_allocator.proofs.Common.{length-set, length-map, get_or-set_same, get_or-set_other, get_or-map, ext_get_or, set-get_or, set-set, set_comm, BinCells, bin_at, times, push}
 use Rattle.offset_allocator.proofs.Common.{remove, IsLinked, IsAmong, first_of, names_from, HasBins, AreMasks, IsUnlisted, IsBinned, bins_in, common_steps}
-use Rattle.offset_allocator.proofs.{ViewOrders.names_same, ViewOrders.names_other, ViewOrders.times_without_le, ViewOrders.unlisted_removed, Walks.name_below, Walks.older_below, Walks.chain_fits}
+use Rattle.offset_allocator.proofs.{ViewBins.names_same, ViewBins.names_other, ViewBins.times_without_le, ViewBins.unlisted_removed, Walks.name_below, Walks.older_below, Walks.chain_fits}
 use Rattle.offset_allocator.proofs.{Walks.walk_is, Walks.IsLater, Walks.found, Walks.kept, Walks.led, Walks.not_first, Walks.first_same, Walks.newer_kept, Walks.next_among, Walks.older_kept}
 use Rattle.offset_allocator.proofs.{Walks.unlinked, Walks.without_first, Walks.without_later, Masks.flag, Masks.masked_same, Masks.flag_cons, Masks.flag_full, Tallies.hit_cases, Tallies.one-same}
 use Rattle.offset_allocator.proofs.{Tallies.times-join}
@@ -13,7 +13,7 @@ module _ {none : ℕ} {t : BinCells} {ls : List (List ℕ)} (k : HasBins none t 
   single c h x = elim (cases_eq c 0) [ inl e ↦ omega (arith, k.once c 1 x h (omega arith) (omega arith)) | inr n ↦ omega (arith, k.once c 0 x h (omega arith) n) ]
 
   pub fits : (c : ℕ) → c < 256 → length (bin_at ls c) ≤ length t.newer
-  fits c ch = chain_fits none t k.names_small none (bin_at ls c) (k.chains c ch) (single c ch)
+  fits c ch = chain_fits none t k.names_small none (bin_at ls c) (k.links c ch) (single c ch)
 
   -- the lists that the tables hold are those that contracts see
   pub shown : bins_in none t ≡ ls
@@ -23,7 +23,7 @@ module _ {none : ℕ} {t : BinCells} {ls : List (List ℕ)} (k : HasBins none t 
       ext_get_or [] (map (names_from none t.older (length t.older)) t.heads) ls (omega arith) (λ c h.
       let ch : c < 256 = omega arith in
       get_or-map (names_from none t.older (length t.older)) t.heads c 0 [] (omega arith) ∙ ap (names_from none t.older (length t.older)) (k.heads c ch)
-      ∙ walk_is none t k.names_small (length t.older) none (bin_at ls c) (omega (arith, k.older_len, fits c ch)) (k.chains c ch))
+      ∙ walk_is none t k.names_small (length t.older) none (bin_at ls c) (omega (arith, k.older_len, fits c ch)) (k.links c ch))
 
   -- class c has the names ys: only links of names that it has or had are written
   relisted : (c : ℕ) → c < 256 → (t' : BinCells) (ys : List ℕ) → length t'.newer ≡ length t.newer → length t'.older ≡ length t.older
@@ -42,10 +42,10 @@ module _ {none : ℕ} {t : BinCells} {ls : List (List ℕ)} (k : HasBins none t 
         heads_len = rw hd (length-set t.heads c (first_of none ys) ∙ hl);
         lists_len = length-set ls c ys ∙ ll;
         heads = grind (arith, common_steps, cases_eq, get_or-set_same, get_or-set_other);
-        chains = λ d h. elim (cases_eq d c) [
+        links = λ d h. elim (cases_eq d c) [
           | inl e ↦ rw (here d e) chain
-          | inr n ↦ rw (other d n) (kept none t t' nl none (bin_at ls d) (λ y a. same y (name_below none t k.names_small none (bin_at ls d) (k.chains d h) y a) (omega (arith, new y d h n))
-              (omega (arith, k.once d c y h ch n))) (k.chains d h))
+          | inr n ↦ rw (other d n) (kept none t t' nl none (bin_at ls d) (λ y a. same y (name_below none t k.names_small none (bin_at ls d) (k.links d h) y a) (omega (arith, new y d h n))
+              (omega (arith, k.once d c y h ch n))) (k.links d h))
         ];
         once = grind (arith, common_steps, cases_eq);
       }
@@ -53,7 +53,7 @@ module _ {none : ℕ} {t : BinCells} {ls : List (List ℕ)} (k : HasBins none t 
   module _ (c : ℕ) (ch : c < 256) where
     -- the first name
     pub head : bin_at ls c ≢ [] → (bin_at ls c ≡ slice_index t.heads c ∷ drop 1 (bin_at ls c)) × IsLinked none t none (slice_index t.heads c ∷ drop 1 (bin_at ls c))
-    head f = let e = cons (bin_at ls c) f (k.heads c ch) in (e, subst (IsLinked none t none) e (k.chains c ch))
+    head f = let e = cons (bin_at ls c) f (k.heads c ch) in (e, subst (IsLinked none t none) e (k.links c ch))
       where
         cons : (xs : List ℕ) → xs ≢ [] → slice_index t.heads c ≡ first_of none xs → xs ≡ slice_index t.heads c ∷ drop 1 xs
         cons [] f e = absurd (f refl)
@@ -78,23 +78,23 @@ module _ {none : ℕ} {t : BinCells} {ls : List (List ℕ)} (k : HasBins none t 
     none_left (x ∷ xs) b d e = absurd (omega (arith, d.0, k.names_small))
 
     pub is_first : (x : ℕ) → IsAmong x (bin_at ls c) → slice_index t.newer x ≡ none → (bin_at ls c ≢ []) × (slice_index t.heads c ≡ x)
-    is_first x a e = elim (found none t k.names_small none x (bin_at ls c) (k.chains c ch) a) [
+    is_first x a e = elim (found none t k.names_small none x (bin_at ls c) (k.links c ch) a) [
       | inl f ↦ (λ n. let q = ap (times x) n in omega arith, k.heads c ch ∙ ap (first_of none) f.1)
-      | inr f ↦ absurd (let l = name_below none t k.names_small none (bin_at ls c) (k.chains c ch) none
+      | inr f ↦ absurd (let l = name_below none t k.names_small none (bin_at ls c) (k.links c ch) none
           (rw (f.is, e) (omega (arith, times-join none f.front (none ∷ x ∷ f.rest), one-same none))) in omega (arith, k.names_small))
     ]
 
     pub below : (x : ℕ) → IsAmong x (bin_at ls c) → x < length t.newer
-    below x a = name_below none t k.names_small none (bin_at ls c) (k.chains c ch) x a
+    below x a = name_below none t k.names_small none (bin_at ls c) (k.links c ch) x a
 
     pub older_in : (x : ℕ) → IsAmong x (bin_at ls c) → slice_index t.older x ≢ none → slice_index t.older x < length t.newer
-    older_in x a n = older_below none t k.names_small none (bin_at ls c) (k.chains c ch) x a n
+    older_in x a n = older_below none t k.names_small none (bin_at ls c) (k.links c ch) x a n
 
     pub older_among : (x : ℕ) → IsAmong x (bin_at ls c) → slice_index t.older x ≢ none → IsAmong (slice_index t.older x) (bin_at ls c)
-    older_among x a n = next_among none t k.names_small none (bin_at ls c) (k.chains c ch) x a n
+    older_among x a n = next_among none t k.names_small none (bin_at ls c) (k.links c ch) x a n
 
     pub is_later : (x : ℕ) → IsAmong x (bin_at ls c) → slice_index t.newer x ≢ none → IsLater none t k.names_small x (bin_at ls c)
-    is_later x a n = elim (found none t k.names_small none x (bin_at ls c) (k.chains c ch) a) [ inl f ↦ absurd (n f.0) | inr f ↦ f ]
+    is_later x a n = elim (found none t k.names_small none x (bin_at ls c) (k.links c ch) a) [ inl f ↦ absurd (n f.0) | inr f ↦ f ]
 
     pub newer_in : (x : ℕ) → IsAmong x (bin_at ls c) → slice_index t.newer x ≢ none → slice_index t.newer x < length t.newer
     newer_in x a n =
@@ -132,8 +132,8 @@ module _ {none : ℕ} {t : BinCells} {ls : List (List ℕ)} (k : HasBins none t 
             omega arith,
             rw newer (get_or-set_other (slice_set t.newer x none) h x x 0 (not_head x l absent) ∙ get_or-set_same t.newer x none 0 l),
             rw older (get_or-set_same t.older x h 0 (omega (arith, k.older_len))) ∙ head,
-            led none t t' long none x (bin_at ls c) (single c ch) (linked_back (bin_at ls c) (k.chains c ch) head) (λ y a n. newer_kept y (apart y a) (λ e. n (e ∙ head)))
-                (λ y a. older_kept y (apart y a)) (k.chains c ch),
+            led none t t' long none x (bin_at ls c) (single c ch) (linked_back (bin_at ls c) (k.links c ch) head) (λ y a n. newer_kept y (apart y a) (λ e. n (e ∙ head)))
+                (λ y a. older_kept y (apart y a)) (k.links c ch),
           )
           (λ y b u v. let n : y ≢ x = λ e. let q = ap (λ i. times i (x ∷ [])) e in omega (arith, one-same x) in (newer_kept y n (not_head y b v), older_kept y n))
           (λ y d dh n. elim (hit_cases y x) [
@@ -171,7 +171,7 @@ module _ {none : ℕ} {t : BinCells} {ls : List (List ℕ)} (k : HasBins none t 
           → t'.newer ≡ slice_set t.newer after before → t'.older ≡ slice_set t.older before after → t'.heads ≡ t.heads → HasBins none t' (slice_set ls c (without x (bin_at ls c)))
       left x before after f be af newer older heads =
           let w : ℕ = slice_index t.newer x in
-          let chain : IsLinked none t none (f.front ++ w ∷ x ∷ f.rest) = rw f.is at (k.chains c ch) in
+          let chain : IsLinked none t none (f.front ++ w ∷ x ∷ f.rest) = rw f.is at (k.links c ch) in
           let o : (y : ℕ) → times y (f.front ++ w ∷ x ∷ f.rest) ≤ 1 = rw f.is at (single c ch) in
           let is : without x (bin_at ls c) ≡ f.front ++ w ∷ f.rest = ap (without x) f.is ∙ without_later x w f.front f.rest (o x) in
           let first : after ≡ first_of none f.rest = af ∙ rest_first f.front none chain in

@@ -19,7 +19,7 @@ pub use Rattle.std.specs.Int.{bit_at, Width, trailing_zeros, bit_not, IsPowerOfT
 pub use Rattle.std.specs.Int.Count.{count_trailing_zeros, count_leading_zeros, ones_step}
 pub use Rattle.std.specs.List.{AllByRecursion, FoldsTo, filter, prefix_len, range_with_len}
 pub use Rattle.std.specs.Prelude.{vec_len, vec_capacity}
-pub use Rattle.offset_allocator.specs.Bins.{IsBinned, IsUnlisted, IsAmong, first_of, AreMasks, IsFoundFrom, IsLinked, IsTail, HasBins}
+pub use Rattle.offset_allocator.specs.Bins.{IsFoundLast, IsBinned, IsUnlisted, IsAmong, first_of, AreMasks, IsFoundFrom, IsLinked, IsTail, HasBins}
 unfoldable pub use Rattle.offset_allocator.specs.Bins.{bins_in, names_from}
 pub use Rattle.offset_allocator.specs.Cells.{Node, Cells, ChainCells, link_of, BinCells, blank, AreShaped, mark_of, AreEmpty, IsBare}
 unfoldable pub use Rattle.offset_allocator.specs.Cells.{node, put, with_spare, with_node}
@@ -32,11 +32,15 @@ pub use Rattle.offset_allocator.specs.Layouts.{field_tables, FieldTables, node_i
 unfoldable pub use Rattle.offset_allocator.specs.Layouts.{nodes_of, nodes_in}
 pub use Rattle.offset_allocator.specs.Listing.{Placed, placed_at, placed}
 pub use Rattle.offset_allocator.specs.Ranges.{size_of, range_of, Range, IsLive, KeepsAll, Grants, KeepsOthers, AreDisjoint, KeepsRanges}
-pub use Rattle.offset_allocator.specs.Relations.{SameSpace, Splits, Frees, Resets, IsFresh, Extends, Aligns, Adds, Allocates, CanExtend, IsAlignment, IsSplitNearBest}
-pub use Rattle.offset_allocator.specs.Reports.{largest, count_of, IsGoodRefusal}
-pub use Rattle.offset_allocator.specs.Requests.{HasRoomFor, CanGrant, units_needed, blocks_needed, size_needed, IsFoundLast, IsWhy}
+pub use Rattle.offset_allocator.specs.Relations.{SameSpace, Splits, Frees, Resets, IsFresh, Extends, Aligns, Adds, Allocates, CanExtend}
+pub use Rattle.offset_allocator.specs.Requests.{IsAlignment, IsSplitNearBest}
+pub use Rattle.offset_allocator.specs.FreeSizes.{largest, count_of}
+pub use Rattle.offset_allocator.specs.Requests.{IsGoodRefusal}
+pub use Rattle.offset_allocator.specs.Requests.{HasRoomFor, CanGrant, units_needed, blocks_needed, size_needed, IsWhy}
 pub use Rattle.offset_allocator.specs.Resizing.{ResizesTo, Resizes, HasUnits, Shrinks, Grows, CanShrink, CanGrow, free_after}
-pub use Rattle.offset_allocator.specs.Soundness.{view_of, AreInBins, AreUnlisted, IsSound}
-pub use Rattle.offset_allocator.specs.View.{Block, View, units, IsWellFormed, count_named, bin_at, one, Place, times, free_block, push, free_sizes, IsApart, count_in_bin, free_start, place_of}
-pub use Rattle.offset_allocator.specs.View.{used_of, remove_all, free_part, remove, push_all, free_end, without_start, replace, without_end, used_block, IsNew, Grant, padding_to}
-pub use Rattle.offset_allocator.specs.View.{max_size, starts_free, is_used_at, ends_used, largest_free, used_units, total_free, tally}
+pub use Rattle.offset_allocator.specs.Bins.{ListsOnly}
+pub use Rattle.offset_allocator.specs.Soundness.{view_of, IsSound}
+pub use Rattle.offset_allocator.specs.View.{AreInBins}
+pub use Rattle.offset_allocator.specs.View.{Block, View, units, IsWellFormed, count_named, bin_at, one, Place, times, free_block, push, free_sizes, AreCoalesced, count_in_bin, free_start, place_of}
+pub use Rattle.offset_allocator.specs.View.{used_of, remove_all, free_part, remove, push_all, free_end, without_start, replace, without_end, used_block, IsNew, Handle, padding_to}
+pub use Rattle.offset_allocator.specs.View.{max_size, starts_free, is_used_at, ends_used, reported_largest, used_units, reported_free, tally}

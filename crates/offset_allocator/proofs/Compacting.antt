@@ -2,12 +2,12 @@
 use Rattle.offset_allocator.proofs.Common.{◌≡◌, ℕ, suc, ◌+◌, ◌≤◌, Bool, true, false, not, ◌&&◌, Some, None, List, [], ◌∷◌, ◌++◌, length, replicate, sum, if◌then◌else◌, nat_eq, refl, sym, ap, ap₂}
 use Rattle.offset_allocator.proofs.Common.{subst, ◌∙◌, arith, append-nil, length-append, eq-zero-or-pos, AllByRecursion, nat_tests, length-replicate, ext_get_or, down, Cells, ChainCells, Block}
 use Rattle.offset_allocator.proofs.Common.{View, Place}
-use Rattle.offset_allocator.proofs.Common.{one, free_block, units, free_sizes, used_of, count_named, count_in_bin, bin_at, push, push_all, IsApart, IsWellFormed, starts_free, live, moves}
+use Rattle.offset_allocator.proofs.Common.{one, free_block, units, free_sizes, used_of, count_named, count_in_bin, bin_at, push, push_all, AreCoalesced, IsWellFormed, starts_free, live, moves}
 use Rattle.offset_allocator.proofs.Common.{move_of, first_free, gathered, Compacts, SameSpace, HasPlace, blocks, IsBinned, bins_in, AreInBins, common_steps}
 use Rattle.offset_allocator.proofs.Sliding.{first_used, first_idle, live_used, live_idle, moves_used, moves_idle}
 use Rattle.offset_allocator.proofs.{Emptied.no_name, Emptied.none_at, Exchange.each-le, Exchange.there-below, Exchange.unused, Filed.share, Joints.stepped, Joints.free_units-append}
 use Rattle.offset_allocator.proofs.{Joints.free_units-free, Joints.free_units-used, Places.placed, Sound.Fields, Sound.AreSound, Sound.shown, Sound.well_counted, Tallies.one-same}
-use Rattle.offset_allocator.proofs.{Tallies.tally_append, Tallies.units-append, ViewOrders.times_put_all, ViewOrders.length_put, ViewTaken.replicate_none}
+use Rattle.offset_allocator.proofs.{Tallies.tally_append, Tallies.units-append, ViewBins.times_put_all, ViewBins.length_put, ViewTaken.replicate_none}
 use Rattle.offset_allocator.proofs.Tallies.{free_units, free_sum}
 
 abbrev pub AreUsed : List Block → Type 0
@@ -56,7 +56,7 @@ used_at_most [] = omega arith
 used_at_most (b ∷ bs) = let ih = used_at_most bs in elim b.used as (λ u. one u + used_of bs ≤ suc (length bs)) [ true ↦ omega arith | false ↦ omega arith ]
 
 -- a free block at the end is beside no other
-apart_end : (bs : List Block) (d : Block) → AreUsed bs → IsApart (bs ++ d ∷ [])
+apart_end : (bs : List Block) (d : Block) → AreUsed bs → AreCoalesced (bs ++ d ∷ [])
 apart_end [] d h = (elim d.used as (λ u. (not u && false) ≡ false) [ true ↦ refl | false ↦ refl ], tt)
 apart_end (b ∷ bs) d h = (ap (λ (u : Bool). not u && starts_free (bs ++ d ∷ [])) h.0, apart_end bs d h.1)
 
@@ -159,7 +159,7 @@ module _ (f : Fields) (s : AreSound f) where
         (there : HasPlace d.chain f.cells.chain.reserved last count hole (record { before = o.place.before ++ live o.place.after; block = free_block hole size; after = [] })) where
       module _ (sized : size ≡ o.place.block.size + sum (free_sizes o.place.after)) where
         abbrev left_view : View
-        left_view = record v { blocks = packed_blocks ++ free_block hole size ∷ []; order = push (down size) hole (replicate 256 []) }
+        left_view = record v { blocks = packed_blocks ++ free_block hole size ∷ []; bins = push (down size) hole (replicate 256 []) }
 
         fewer : length packed_blocks + 1 ≤ length v.blocks
         fewer = omega (arith, ap (λ (l : List Block). length l) o.is, length-append p.before (p.block ∷ p.after), length-append p.before (live p.after), live_fewer p.after)
@@ -173,7 +173,7 @@ module _ (f : Fields) (s : AreSound f) where
           fits = w.fits;
           apart = apart_end packed_blocks (free_block hole size) are_used;
           classes = length_put (down size) hole (replicate 256 []) ∙ length-replicate {A = List ℕ} 256 [];
-          orders = λ k y. omega (
+          binned = λ k y. omega (
             arith,
             times_put_all (free_block hole size ∷ []) (replicate 256 []) (length-replicate {A = List ℕ} 256 []) k y,
             replicate_none y k,
@@ -181,7 +181,7 @@ module _ (f : Fields) (s : AreSound f) where
             none_listed packed_blocks are_used k y,
           );
           room = omega (arith, w.room, fewer, length-append packed_blocks (free_block hole size ∷ []));
-          spare = omega (arith, w.room, fewer, used_at_most packed_blocks, tally_append (λ (b : Block). one b.used) packed_blocks (free_block hole size ∷ []));
+          few_used = omega (arith, w.room, fewer, used_at_most packed_blocks, tally_append (λ (b : Block). one b.used) packed_blocks (free_block hole size ∷ []));
         }
 
         compacted : (u : View) → SameSpace left_view u → Compacts v u
@@ -196,7 +196,7 @@ module _ (f : Fields) (s : AreSound f) where
                 tally_append (λ (b : Block). one (nat_eq hole b.name)) packed_blocks (free_block hole size ∷ []),
                 one-same hole,
               );
-              view = same ∙ ap₂ (λ (bs g : List Block). record v { blocks = bs ++ g; order = push_all g (replicate 256 []); accesses = u.accesses }) (sym o.live) (sym gathers);
+              view = same ∙ ap₂ (λ (bs g : List Block). record v { blocks = bs ++ g; bins = push_all g (replicate 256 []); accesses = u.accesses }) (sym o.live) (sym gathers);
             }
 
         pub packs : {top accesses : ℕ} → IsBinned f.max d.bins top → bins_in f.max d.bins ≡ push (down size) hole (replicate 256 [])

@@ -50,46 +50,46 @@ length_listed c (b ∷ bs) xs h = elim b.used as (λ u. ((x : ℕ) → times x x
       ]
     ] h
 
-pub length_names : (v : View) → IsWellFormed v → (c : ℕ) → length (bin_at v.order c) ≡ count_of c (free_sizes v.blocks)
-length_names v w c = length_listed c v.blocks (bin_at v.order c) (w.orders c)
+pub length_names : (v : View) → IsWellFormed v → (c : ℕ) → length (bin_at v.bins c) ≡ count_of c (free_sizes v.blocks)
+length_names v w c = length_listed c v.blocks (bin_at v.bins c) (w.binned c)
 
 module _ (v : View) (w : IsWellFormed v) where
-  counted : (c : ℕ) → bin_at v.order c ≢ [] → 1 ≤ count_of c (free_sizes v.blocks)
-  counted c n = go (bin_at v.order c) n (length_names v w c)
+  counted : (c : ℕ) → bin_at v.bins c ≢ [] → 1 ≤ count_of c (free_sizes v.blocks)
+  counted c n = go (bin_at v.bins c) n (length_names v w c)
     where
       go : (xs : List ℕ) → xs ≢ [] → length xs ≡ count_of c (free_sizes v.blocks) → 1 ≤ count_of c (free_sizes v.blocks)
       go [] n e = absurd (n refl)
       go (x ∷ xs) n e = omega arith
 
-  uncounted : (c : ℕ) → bin_at v.order c ≡ [] → count_of c (free_sizes v.blocks) ≡ 0
+  uncounted : (c : ℕ) → bin_at v.bins c ≡ [] → count_of c (free_sizes v.blocks) ≡ 0
   uncounted c e = omega (arith, length_names v w c, ap (λ (l : List ℕ). length l) e)
 
   -- a class that holds n units has no name where fewer units are free
-  pub class_within : (n c : ℕ) → up n ≤ c → bin_at v.order c ≢ [] → n ≤ sum (free_sizes v.blocks)
+  pub class_within : (n c : ℕ) → up n ≤ c → bin_at v.bins c ≢ [] → n ≤ sum (free_sizes v.blocks)
   class_within n c l some = elim (cases_lt c 256) [
     | inl h ↦ omega (arith, up_reached n (omega arith), value_grows (up n) c l, (value_within c (free_sizes v.blocks) (counted c some)).1)
-    | inr h ↦ absurd (some (get_or_past v.order c [] (omega (arith, w.classes))))
+    | inr h ↦ absurd (some (get_or_past v.bins c [] (omega (arith, w.classes))))
   ]
 
   -- a class that is large enough has no name where all free units are fewer than its smallest block
-  pub value_within_free : (n c : ℕ) → up n ≤ c → bin_at v.order c ≢ [] → value (up n) ≤ sum (free_sizes v.blocks)
+  pub value_within_free : (n c : ℕ) → up n ≤ c → bin_at v.bins c ≢ [] → value (up n) ≤ sum (free_sizes v.blocks)
   value_within_free n c l some = elim (cases_lt c 256) [
     | inl h ↦ omega (arith, value_grows (up n) c l, (value_within c (free_sizes v.blocks) (counted c some)).1)
-    | inr h ↦ absurd (some (get_or_past v.order c [] (omega (arith, w.classes))))
+    | inr h ↦ absurd (some (get_or_past v.bins c [] (omega (arith, w.classes))))
   ]
 
-  pub largest_none : ((c : ℕ) → c < 256 → bin_at v.order c ≡ []) → largest (free_sizes v.blocks) ≡ 0
+  pub largest_none : ((c : ℕ) → c < 256 → bin_at v.bins c ≡ []) → largest (free_sizes v.blocks) ≡ 0
   largest_none e = no_sizes (free_sizes v.blocks) (λ d h. uncounted d (e d h))
 
-  pub largest_some : (c : ℕ) → IsFoundLast v.order (Some c) → (largest (free_sizes v.blocks) ≡ value c) × (value c ≤ sum (free_sizes v.blocks))
+  pub largest_some : (c : ℕ) → IsFoundLast v.bins (Some c) → (largest (free_sizes v.blocks) ≡ value c) × (value c ≤ sum (free_sizes v.blocks))
   largest_some c k =
       let f = value_within c (free_sizes v.blocks) (counted c k.1) in
       (omega (arith, f.0, largest_most c (free_sizes v.blocks) (λ d l h. uncounted d (k.2 d l h))), f.1)
 
 -- ---- how many names the classes below c have
 abbrev pub names_below : ℕ → List (List ℕ) → ℕ
-names_below zero order = 0
-names_below (suc c) order = names_below c order + length (bin_at order c)
+names_below zero bins = 0
+names_below (suc c) bins = names_below c bins + length (bin_at bins c)
 
 -- how many sizes are of the classes below c
 abbrev pub sizes_below : ℕ → List ℕ → ℕ
@@ -104,12 +104,12 @@ pub sizes_more : (c : ℕ) (ns : List ℕ) → (sizes_below (suc c) ns ≡ sizes
 sizes_more c [] = grind arith
 sizes_more c (n ∷ ns) = grind (arith, cases_eq, eq-eqb, nat_tests, ne_eqb, sizes_more c ns)
 
-names_counts : (v : View) → IsWellFormed v → (c : ℕ) → names_below c v.order ≡ sizes_below c (free_sizes v.blocks)
+names_counts : (v : View) → IsWellFormed v → (c : ℕ) → names_below c v.bins ≡ sizes_below c (free_sizes v.blocks)
 names_counts v w zero = sym (sizes_none (free_sizes v.blocks))
 names_counts v w (suc c) = omega (arith, names_counts v w c, length_names v w c, (sizes_more c (free_sizes v.blocks)).0)
 
 -- all classes together have at most as many names as there are free blocks
-pub accesses_most : (v : View) → IsWellFormed v → (c new old : ℕ) → c ≡ 256 → new ≤ old + c + names_below c v.order → new ≤ old + 512 + 2 * length (free_sizes v.blocks)
+pub accesses_most : (v : View) → IsWellFormed v → (c new old : ℕ) → c ≡ 256 → new ≤ old + c + names_below c v.bins → new ≤ old + 512 + 2 * length (free_sizes v.blocks)
 accesses_most v w c new old e l = omega (arith, names_counts v w c, (sizes_more c (free_sizes v.blocks)).1)
 
 -- each size is of a class below 256
@@ -118,7 +118,7 @@ sizes_all [] = refl
 sizes_all (n ∷ ns) = let ih = sizes_all ns in let d = down_small n in grind (arith, nat_tests)
 
 -- the free blocks of a class are some of the free blocks
-pub names_few : (v : View) → IsWellFormed v → (c : ℕ) → length (bin_at v.order c) ≤ length (free_sizes v.blocks)
+pub names_few : (v : View) → IsWellFormed v → (c : ℕ) → length (bin_at v.bins c) ≤ length (free_sizes v.blocks)
 names_few v w c = omega (arith, length_names v w c, (sizes_more c (free_sizes v.blocks)).0, (sizes_more (suc c) (free_sizes v.blocks)).1)
 
 -- one class more

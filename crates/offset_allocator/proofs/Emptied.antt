@@ -2,8 +2,8 @@
 -- it, and where none is left the space is one free block.
 use Rattle.offset_allocator.proofs.Common.{◌≡◌, ℕ, ◌+◌, ◌*◌, append_assoc, ◌<◌, ◌≤◌, Bool, true, false, not, List, [], ◌∷◌, ◌++◌, length, replicate, Option, Some, None, IfSome, nat_eq, refl, sym, ap}
 use Rattle.offset_allocator.proofs.Common.{ap₂, subst, ◌∙◌, arith, inl, inr, length-replicate, ext_get_or, cases_lt, false≢true, not-false, down, Block, View, one, free_block, units}
-use Rattle.offset_allocator.proofs.Common.{count_named, used_of, times, count_in_bin, bin_at, push, IsApart, IsWellFormed, place_of, is_used_at, SameSpace, Frees, Resets, last_or, IsLive}
-use Rattle.offset_allocator.proofs.ViewOrders.{hit_at, hit_other, names_same, names_other, length_put}
+use Rattle.offset_allocator.proofs.Common.{count_named, used_of, times, count_in_bin, bin_at, push, AreCoalesced, IsWellFormed, place_of, is_used_at, SameSpace, Frees, Resets, last_or, IsLive}
+use Rattle.offset_allocator.proofs.ViewBins.{hit_at, hit_other, names_same, names_other, length_put}
 use Rattle.offset_allocator.proofs.{Ends.Ended, Ends.ended, Ends.last_none, Classes.down_small, Reading.used_live, ViewApart.apart_parts, ViewApart.left_false, Tallies.hit_cases, Tallies.tally_append}
 use Rattle.offset_allocator.proofs.{Tallies.one-same, Tallies.one-eq, ViewSteps.place_here, ViewTaken.replicate_none}
 
@@ -27,19 +27,19 @@ unused : (f : Bool) → one f ≡ 0 → f ≡ false
 unused true e = absurd (omega arith)
 unused false e = refl
 
-lone : (bs : List Block) → 1 ≤ length bs → IsApart bs → used_of bs ≡ 0 → (b : Block) × (bs ≡ free_block b.name b.size ∷ [])
+lone : (bs : List Block) → 1 ≤ length bs → AreCoalesced bs → used_of bs ≡ 0 → (b : Block) × (bs ≡ free_block b.name b.size ∷ [])
 lone [] s a u = absurd (omega arith)
 lone (b ∷ []) s a u = (b, ap (λ (f : Bool). record { name = b.name; size = b.size; used = f } ∷ []) (unused b.used (omega arith)))
 lone (b ∷ d ∷ bs) s a u = absurd (false≢true (sym (rw (unused b.used (omega arith), unused d.used (omega arith)) at a.0)))
 
 -- of two neighbours one is used
-pub half_used : (bs : List Block) → IsApart bs → length bs ≤ 2 * used_of bs + 1
+pub half_used : (bs : List Block) → AreCoalesced bs → length bs ≤ 2 * used_of bs + 1
 half_used [] a = grind arith
 half_used (b ∷ []) a = grind arith
 half_used (b ∷ d ∷ bs) a = grind (arith, not-false, half_used (d ∷ bs) a.1, half_used bs a.1.1)
 
 pub emptied : (v : View) → IsWellFormed v → used_of v.blocks ≡ 0 → (x : ℕ) × (x < v.max_allocs)
-    × (v ≡ record v { blocks = free_block x v.size ∷ []; order = push (down v.size) x (replicate 256 []) })
+    × (v ≡ record v { blocks = free_block x v.size ∷ []; bins = push (down v.size) x (replicate 256 []) })
 emptied v w u =
     let l = lone v.blocks w.some w.apart u in
     let x : ℕ = l.0.name in
@@ -49,31 +49,31 @@ emptied v w u =
       | inl b ↦ b
       | inr b ↦ absurd (omega (arith, w.below x b, ap (count_named x) l.1, one-same x))
     ] in
-    let order : v.order ≡ push (down n) x (replicate 256 []) =
-    ext_get_or [] v.order _ (w.classes ∙ sym (length_put (down n) x (replicate 256 []) ∙ length-replicate {A = List ℕ} 256 []))
-    (λ c _. same_at v.order x n c (λ y. w.orders c y ∙ ap (count_in_bin c y) l.1)) in (
+    let bins : v.bins ≡ push (down n) x (replicate 256 []) =
+    ext_get_or [] v.bins _ (w.classes ∙ sym (length_put (down n) x (replicate 256 []) ∙ length-replicate {A = List ℕ} 256 []))
+    (λ c _. same_at v.bins x n c (λ y. w.binned c y ∙ ap (count_in_bin c y) l.1)) in (
       x,
       below,
-      ap₂ (λ (bs : List Block) (o : List (List ℕ)). record v { blocks = bs; order = o }) l.1 order
-          ∙ ap (λ (k : ℕ). record v { blocks = free_block x k ∷ []; order = push (down k) x (replicate 256 []) }) sized,
+      ap₂ (λ (bs : List Block) (o : List (List ℕ)). record v { blocks = bs; bins = o }) l.1 bins
+          ∙ ap (λ (k : ℕ). record v { blocks = free_block x k ∷ []; bins = push (down k) x (replicate 256 []) }) sized,
     )
   where
-    same_at : (order : List (List ℕ)) (x n c : ℕ) → ((y : ℕ) → times y (bin_at order c) ≡ count_in_bin c y (free_block x n ∷ []))
-        → bin_at order c ≡ bin_at (push (down n) x (replicate 256 [])) c
-    same_at order x n c h =
+    same_at : (bins : List (List ℕ)) (x n c : ℕ) → ((y : ℕ) → times y (bin_at bins c) ≡ count_in_bin c y (free_block x n ∷ []))
+        → bin_at bins c ≡ bin_at (push (down n) x (replicate 256 [])) c
+    same_at bins x n c h =
         let long = length-replicate {A = List ℕ} 256 [] in
         elim (hit_cases c (down n)) [
           | inl f ↦
-              one_name x (bin_at order c) (λ y. h y ∙ (let k = hit_at c (down n) y x f.0 in omega arith))
+              one_name x (bin_at bins c) (λ y. h y ∙ (let k = hit_at c (down n) y x f.0 in omega arith))
               ∙ sym (ap (bin_at (push (down n) x (replicate 256 []))) f.0 ∙ names_same (replicate 256 []) (down n) (x ∷ bin_at (replicate 256 []) (down n)) long (down_small n)
               ∙ ap (λ (l : List ℕ). x ∷ l) (none_at (down n)))
           | inr f ↦
-              no_name (bin_at order c) (λ y. h y ∙ (let k = hit_other c (down n) y x f.0 in omega arith))
+              no_name (bin_at bins c) (λ y. h y ∙ (let k = hit_other c (down n) y x f.0 in omega arith))
               ∙ sym (names_other (replicate 256 []) (down n) c (x ∷ bin_at (replicate 256 []) (down n)) f.0 ∙ none_at c)
         ]
 
 -- where the last block is free
-module _ (bs : List Block) (last : ℕ) (ends : last_or None bs ≡ Some last) (each : (k : ℕ) → count_named k bs ≤ 1) (apart : IsApart bs) (idle : is_used_at (place_of last bs) ≡ false) where
+module _ (bs : List Block) (last : ℕ) (ends : last_or None bs ≡ Some last) (each : (k : ℕ) → count_named k bs ≤ 1) (apart : AreCoalesced bs) (idle : is_used_at (place_of last bs) ≡ false) where
   abbrev end : Ended last bs
   end = ended bs last ends
 
@@ -94,7 +94,7 @@ module _ (bs : List Block) (last : ℕ) (ends : last_or None bs ≡ Some last) (
       let e2 = ended front x e in
       let d : Block = e2.last in
       let is : bs ≡ e2.front ++ (d ∷ b ∷ []) = end.is ∙ ap (λ (l : List Block). l ++ b ∷ []) e2.is ∙ append_assoc e2.front (d ∷ []) (b ∷ []) in
-      let parts = apart_parts e2.front (d ∷ b ∷ []) (subst IsApart is apart) in
+      let parts = apart_parts e2.front (d ∷ b ∷ []) (subst AreCoalesced is apart) in
       let used : d.used ≡ true = not-false d.used (left_false (not d.used) (not b.used) parts.1.0 (ap not is_idle)) in
       let absent : count_named x e2.front ≡ 0 =
       omega (arith, one-eq x d.name e2.name, each x, ap (count_named x) is, tally_append (λ (d : Block). one (nat_eq x d.name)) e2.front (d ∷ b ∷ [])) in

@@ -1,12 +1,12 @@
 -- What more units at the end leave of the whole allocator.
 use Rattle.offset_allocator.proofs.Common.{◌≡◌, ◌↔◌, ℕ, ◌+◌, ◌-◌, ◌<◌, ◌≤◌, ◌^◌, Bool, true, false, not, ◌⊎◌, List, [], ◌∷◌, ◌++◌, length, refl, sym, ap, subst, ◌∙◌, inl, inr, arith, slice_set}
-use Rattle.offset_allocator.proofs.Common.{append-nil, true≢false, false≢true, AllByRecursion, down, Cells, ChainCells, Node, node, Block, View, count_named, bin_at, count_in_bin, IsApart}
+use Rattle.offset_allocator.proofs.Common.{append-nil, true≢false, false≢true, AllByRecursion, down, Cells, ChainCells, Node, node, Block, View, count_named, bin_at, count_in_bin, AreCoalesced}
 use Rattle.offset_allocator.proofs.Common.{IsWellFormed, IsNew, free_block, units, replace, remove_all, push, remove, times, ends_used, HasRoomFor, KeepsAll, Adds, CanExtend, Extends}
 use Rattle.offset_allocator.proofs.Common.{IsChain, HasPlace, blocks, IsAmong, IsUnlisted, bins_in, IsBinned, common_steps}
 use Rattle.offset_allocator.proofs.Tallies.{listed_named, tally_append, units-append, times-append, one-eq}
 use Rattle.offset_allocator.proofs.Joints.{stepped, free_most, unused_unlisted, remove_free, free_units-append, free_units-free}
 use Rattle.offset_allocator.proofs.{Sound.Fields, Sound.AreSound, Sound.shown, Sound.well_counted, Sound.well_same, Ends.Ended, Ends.ended, Places.at_place, Places.end_place, Filed.share}
-use Rattle.offset_allocator.proofs.{Filed.counts_once, ViewApart.ends_free, ViewApart.apart_parts, ViewApart.left_false, ViewOrders.times_remove_all, ViewTaken.well_added, Ranges.adds_keep}
+use Rattle.offset_allocator.proofs.{Filed.counts_once, ViewApart.ends_free, ViewApart.apart_parts, ViewApart.left_false, ViewBins.times_remove_all, ViewTaken.well_added, Ranges.adds_keep}
 use Rattle.offset_allocator.proofs.Tallies.{without, counted_none}
 use Rattle.offset_allocator.proofs.Tallies.{free_units, free_sum}
 
@@ -177,7 +177,7 @@ module _ {it : Fields} (r : EndsFree it) where
   last_listed =
       let k : ℕ = down (node it.cells.chain it.last).size in
       let there = counts_once (last_held refl) (ap (λ (n : Node). n.used) (at_place (last_held refl)) ∙ last_free) in
-      omega (arith, there, known_of.orders k it.last, ap (count_in_bin k it.last) last_of.is, tally_append (share k it.last) last_of.front (last_of.last ∷ []))
+      omega (arith, there, known_of.binned k it.last, ap (count_in_bin k it.last) last_of.is, tally_append (share k it.last) last_of.front (last_of.last ∷ []))
 
   pub last_unlisted : IsUnlisted it.last last_left
   last_unlisted d dh a =
@@ -185,8 +185,8 @@ module _ {it : Fields} (r : EndsFree it) where
       let bs : List Block = blocks it.cells.chain it.last in
       let split : (k y : ℕ) → count_in_bin k y bs ≡ count_in_bin k y last_of.front + count_in_bin k y (last_of.last ∷ []) = λ k y. ap (count_in_bin k y) last_of.is
       ∙ tally_append (share k y) last_of.front (last_of.last ∷ []) in
-      let left = times_remove_all (last_of.last ∷ []) l known_of.classes (λ k y. omega (arith, known_of.orders k y, known_of.distinct y, listed_named k y bs))
-      (λ k y. omega (arith, known_of.orders k y, split k y)) d it.last in
+      let left = times_remove_all (last_of.last ∷ []) l known_of.classes (λ k y. omega (arith, known_of.binned k y, known_of.distinct y, listed_named k y bs))
+      (λ k y. omega (arith, known_of.binned k y, split k y)) d it.last in
       let alone : count_named it.last last_of.front ≡ 0 = omega (
         arith,
         known_of.distinct it.last,
@@ -195,7 +195,7 @@ module _ {it : Fields} (r : EndsFree it) where
         one-eq it.last last_of.last.name last_of.name,
       ) in
       let there : 1 ≤ times it.last (bin_at (remove_all (last_of.last ∷ []) l) d) = rw last_removed at a in
-      omega (arith, there, left, known_of.orders d it.last, split d it.last, listed_named d it.last last_of.front, alone)
+      omega (arith, there, left, known_of.binned d it.last, split d it.last, listed_named d it.last last_of.front, alone)
 
 -- the last block is free
 module _ {it : Fields} {more : ℕ} (r : Growth it more false) where
@@ -221,7 +221,7 @@ module _ {it : Fields} {more : ℕ} (r : Growth it more false) where
       let size_is : (node it.cells.chain it.last).size ≡ units ((end r).last ∷ []) = omega (arith, size_at_end r) in
       let sum : (end r).last.size + more ≡ units ((end r).last ∷ []) + more = omega arith in
       let named = (end r).name in
-      let parts = apart_parts (end r).front ((end r).last ∷ []) (subst IsApart (end r).is (w r).apart) in
+      let parts = apart_parts (end r).front ((end r).last ∷ []) (subst AreCoalesced (end r).is (w r).apart) in
       grown r d k it.last (end r).front ((end r).last ∷ []) (end r).is (left_false (ends_free (end r).front) (not (end r).last.used) parts.2 (ap not (b_used r))) (b_used r, tt) (named, tt)
       (inl (omega (arith, one-eq it.last (end r).last.name named))) (inl (omega arith)) (λ n. absurd (cc))
       (rw (b_used r, named, sum) at chain) bins (rw (← is_left, ← size_is) eo)

@@ -2,9 +2,9 @@
 use Rattle.offset_allocator.proofs.Common.{not, ◌≡◌, ℕ, ◌+◌, ◌≤◌, Bool, true, false, ◌&&◌, Some, None, List, [], ◌∷◌, ◌++◌, length, nat_eq, refl, sym, ap, ◌∙◌, arith, inl, inr, down, ChainCells}
 use Rattle.offset_allocator.proofs.Common.{Node, node}
 use Rattle.offset_allocator.proofs.Common.{Block, Place, one, count_named, count_in_bin, bin_at, free_end, without_end, free_start, without_start, remove_all, HasPlace, first_or, IsAmong}
-use Rattle.offset_allocator.proofs.Common.{remove, IsUnlisted, AreInBins, AreUnlisted}
+use Rattle.offset_allocator.proofs.Common.{remove, IsUnlisted, AreInBins, ListsOnly}
 use Rattle.offset_allocator.proofs.Tallies.{listed_named, tally_append, hit_cases, one-eq, times-append}
-use Rattle.offset_allocator.proofs.{Exchange.each-le, Places.at_place, Places.next_place, Places.previous_place, ViewOrders.times_remove_all, ViewTaken.tally_end, ViewTaken.tally_start}
+use Rattle.offset_allocator.proofs.{Exchange.each-le, Places.at_place, Places.next_place, Places.previous_place, ViewBins.times_remove_all, ViewTaken.tally_end, ViewTaken.tally_start}
 use Rattle.offset_allocator.proofs.{Joints.remove_free}
 
 -- the sum that `count_in_bin` takes, of one block
@@ -83,7 +83,7 @@ module _ {c : ChainCells} {m last count x : ℕ} {p : Place} (h : HasPlace c m l
       omega (arith, f k y, parts k y, left k y, tally_append (share k y) p.before (without_start p.after))
 
   -- then a name that no block has is in no bin
-  pub unlisted_after : (n : ℕ) → AreUnlisted (p.before ++ record p.block { size = n } ∷ without_start p.after) (remove_all (free_start p.after) ls)
+  pub unlisted_after : (n : ℕ) → ListsOnly (p.before ++ record p.block { size = n } ∷ without_start p.after) (remove_all (free_start p.after) ls)
   unlisted_after n y e k b a = grind (arith, filed_after, listed_named, times-append)
 
 -- the block after a block is the same, whatever became of those before it

@@ -228,9 +228,9 @@ counts_past y c (b ∷ bs) l = omega (arith, counts_past y c bs l, missed (not b
     missed false k h e = refl
 
 -- the blocks and the bins agree
-pub orders_agree : (bs : List Block) (xs : List ℕ) → ((x : ℕ) → count_named x bs ≤ 1) → ((x : ℕ) → times x xs ≤ count_named x bs) → (c y : ℕ)
+pub bins_agree : (bs : List Block) (xs : List ℕ) → ((x : ℕ) → count_named x bs ≤ 1) → ((x : ℕ) → times x xs ≤ count_named x bs) → (c y : ℕ)
     → times y (bin_at (filed bs xs) c) ≡ count_in_bin c y (freed xs bs)
-orders_agree bs xs small once c y = elim (cases_lt c 256) [
+bins_agree bs xs small once c y = elim (cases_lt c 256) [
   | inl l ↦ times_of_bin y c bs xs l ∙ sym (counts_of_bin y c xs bs (small y) (once y))
   | inr g ↦ ap (times y) (get_or_past (filed bs xs) c [] (omega (arith, length-filed bs xs, g))) ∙ sym (counts_past y c (freed xs bs) g)
 ]

@@ -1,7 +1,7 @@
 -- The whole allocator after a block was freed.
 use Rattle.offset_allocator.proofs.Common.{◌≡◌, ℕ, ◌+◌, ◌<◌, ◌^◌, Bool, true, not, ◌&&◌, List, [], ◌∷◌, ◌++◌, Option, Some, None, if◌then◌else◌, refl, sym, ap, ap₂, subst, ◌∙◌, arith, nat_eq}
 use Rattle.offset_allocator.proofs.Common.{false≢true, down, Cells, Block, View, Place, one, count_named, count_in_bin, IsWellFormed, units, place_of, is_used_at, free_end, without_end, free_start}
-use Rattle.offset_allocator.proofs.Common.{without_start, remove_all, push, free_block, replace, IsApart, remove, IsChain, HasPlace, blocks, bins_in, IsBinned, IsSound, view_of, AreInBins}
+use Rattle.offset_allocator.proofs.Common.{without_start, remove_all, push, free_block, replace, AreCoalesced, remove, IsChain, HasPlace, blocks, bins_in, IsBinned, IsSound, view_of, AreInBins}
 use Rattle.offset_allocator.proofs.Common.{SameSpace, Frees, common_steps}
 use Rattle.offset_allocator.proofs.{Filed.share, Sound.Fields, Sound.AreSound, Sound.shown, Sound.well_counted, Places.located, ViewSteps.place_at, ViewTaken.well_frees, ViewTaken.tally_end}
 use Rattle.offset_allocator.proofs.{ViewTaken.tally_start, ViewApart.apart_parts, ViewApart.apart_coalesced, ViewApart.coalesced_parts, Released.idle_append, Released.idle_end, Released.idle_start}
@@ -97,7 +97,7 @@ module _ {f : Fields} {x : ℕ} (r : Release f x) where
 
   -- the bins hold the other free blocks
   pub filed : AreInBins (at.place.before ++ at.place.after) (bins_in f.max f.cells.bins)
-  filed k y = omega (arith, w.orders k y, ap (count_in_bin k y) at.list_is, tally_append (share k y) fs (b ∷ cs), share_used k y b used, tally_append (share k y) fs cs)
+  filed k y = omega (arith, w.binned k y, ap (count_in_bin k y) at.list_is, tally_append (share k y) fs (b ∷ cs), share_used k y b used, tally_append (share k y) fs cs)
 
   -- the size of the whole block, and the bins without the blocks that are coalesced into it
   abbrev pub whole : ℕ
@@ -118,7 +118,7 @@ module _ {f : Fields} {x : ℕ} (r : Release f x) where
       let freed : Block = free_block x (units gone) in
       let total = free_units-append (without_end fs) (freed ∷ without_start cs) ∙ ap (λ k. free_units (without_end fs) + k) (free_units-free freed (without_start cs) refl) in
       let left_view : View = replace v (without_end fs) gone (freed ∷ []) (without_start cs) in
-      let apart = apart_parts fs (b ∷ cs) (subst IsApart at.list_is w.apart) in
+      let apart = apart_parts fs (b ∷ cs) (subst AreCoalesced at.list_is w.apart) in
       let frees : (u : View) → SameSpace left_view u → Frees x v u = λ u same. record {
         before = without_end fs;
         left = free_end fs;
@@ -130,7 +130,7 @@ module _ {f : Fields} {x : ℕ} (r : Release f x) where
         used = used;
         free = idle_append (free_end fs) (free_start cs) (idle_end fs) (idle_start cs);
         view = same;
-        apart = subst IsApart (sym (ap (λ (u : View). u.blocks) same)) (apart_coalesced fs freed cs apart.0 apart.1.1);
+        apart = subst AreCoalesced (sym (ap (λ (u : View). u.blocks) same)) (apart_coalesced fs freed cs apart.0 apart.1.1);
       } in
       let named : IsChain d.chain f.cells.chain.reserved last' count' (without_end fs ++ free_block x whole ∷ without_start cs) =
       subst (λ y. IsChain d.chain f.cells.chain.reserved last' count' (without_end fs ++ free_block y whole ∷ without_start cs)) at.held.name chain in

@@ -8,7 +8,7 @@ use Rattle.offset_allocator.proofs.Tallies.{free_units, free_sum}
 
 -- one free block of the whole size
 abbrev pub fresh : ℕ → ℕ → View
-fresh size limit = record { size = size; max_allocs = limit; blocks = free_block 0 size ∷ []; order = push (down size) 0 (replicate 256 []); accesses = 0 }
+fresh size limit = record { size = size; max_allocs = limit; blocks = free_block 0 size ∷ []; bins = push (down size) 0 (replicate 256 []); accesses = 0 }
 
 -- a node whose block is the whole space
 abbrev pub whole_node : ℕ → Node
@@ -47,7 +47,7 @@ module _ {max : ℕ} (k : BinCells) (older : length k.older ≡ length k.newer) 
     heads_len = rw heads (length-replicate {A = ℕ} 256 max);
     lists_len = length-replicate {A = List ℕ} 256 [];
     heads = λ c h. rw (empty_at c h, heads) (get_or-replicate 256 c max 0 h);
-    chains = λ c h. rw (empty_at c h) tt;
+    links = λ c h. rw (empty_at c h) tt;
     once = λ c d x h l _. rw (empty_at c h, empty_at d l) (omega arith);
   }
 
@@ -76,7 +76,7 @@ pub started : (max m size : ℕ) (d : Cells) (top : ℕ) → 2 ≤ m → m + 1 <
     → bins_in max d.bins ≡ push (down size) 0 (replicate 256 []) → IsSound max size m d 0 0 top size × (view_of max size m d 0 0 ≡ fresh size m)
 started max m size d top two least sized memory space eb bins lists =
     let ev : view_of max size m d 0 0 ≡ fresh size m =
-    ap₂ (λ (b : List Block) (o : List (List ℕ)). let u : View = record { size = size; max_allocs = m; blocks = b; order = o; accesses = 0 } in u) eb lists in (
+    ap₂ (λ (b : List Block) (o : List (List ℕ)). let u : View = record { size = size; max_allocs = m; blocks = b; bins = o; accesses = 0 } in u) eb lists in (
       record {
         memory = memory;
         admitted = least;

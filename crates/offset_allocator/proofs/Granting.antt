@@ -1,15 +1,15 @@
 -- What a grant leaves of the whole allocator.
 use Rattle.offset_allocator.proofs.Common.{◌≡◌, ℕ, zero, suc, ◌+◌, ◌-◌, ◌<◌, ◌≤◌, ◌^◌, List, [], ◌∷◌, ◌++◌, length, refl, sym, ap, ap₂, ◌∙◌, arith, slice_set, append_assoc, le-leb, padding_to}
 use Rattle.offset_allocator.proofs.Common.{units_needed, times, count_in_bin, nat_eq, value, up, down, ◌%◌}
-use Rattle.offset_allocator.proofs.Common.{Cells, ChainCells, Block, View, Place, Grant, one, count_named, bin_at, IsWellFormed, IsNew, free_part, used_block, units, replace, remove_all, push_all}
+use Rattle.offset_allocator.proofs.Common.{Cells, ChainCells, Block, View, Place, Handle, one, count_named, bin_at, IsWellFormed, IsNew, free_part, used_block, units, replace, remove_all, push_all}
 use Rattle.offset_allocator.proofs.Common.{remove}
-use Rattle.offset_allocator.proofs.Common.{HasPlace, IsFoundFrom, Some, bins_in, IsBinned, AreUnlisted, SameSpace, Splits, common_steps}
+use Rattle.offset_allocator.proofs.Common.{HasPlace, IsFoundFrom, Some, bins_in, IsBinned, ListsOnly, SameSpace, Splits, common_steps}
 use Rattle.offset_allocator.proofs.Joints.{stepped, unused_unlisted, free_part_units, remove_free, free_units-append, free_units-free, free_units-used}
 use Rattle.offset_allocator.proofs.{Sound.Fields, Sound.AreSound, Sound.shown, Sound.well_counted, Exchange.each-le, Exchange.there-below, Places.placed, Places.end_fits, Classes.fits_size}
 use Rattle.offset_allocator.proofs.{Classes.value_clauses}
-use Rattle.offset_allocator.proofs.{Split.well_split, Split.part_room, Taken.Taken, Taken.taken, Taken.listed_block, ViewOrders.unlisted_removed, Tallies.one-same, Tallies.one-eq}
+use Rattle.offset_allocator.proofs.{Split.well_split, Split.part_room, Taken.Taken, Taken.taken, Taken.listed_block, ViewBins.unlisted_removed, Tallies.one-same, Tallies.one-eq}
 use Rattle.offset_allocator.proofs.{Tallies.times-append}
-use Rattle.offset_allocator.specs.Tight.{HoldsFirst}
+use Rattle.offset_allocator.specs.Requests.{NewestHolds}
 use Rattle.offset_allocator.proofs.Tallies.{without, counted_none}
 use Rattle.offset_allocator.proofs.Tallies.{free_units, free_sum}
 
@@ -25,8 +25,8 @@ abbrev pub popped : Fields → ℕ → ℕ → List (List ℕ)
 popped f class x = slice_set (bins_in f.max f.cells.bins) class (without x (bin_at (bins_in f.max f.cells.bins) class))
 
 -- a request for the value of a class with a block takes that class
-pub found_itself : (class : ℕ) → class < 256 → (xs : List ℕ) → (xs ≡ [] → ⊥) → (order : List (List ℕ)) → xs ≡ bin_at order class → IsFoundFrom (up (value class)) order (Some class)
-found_itself class l xs some order e =
+pub found_itself : (class : ℕ) → class < 256 → (xs : List ℕ) → (xs ≡ [] → ⊥) → (ls : List (List ℕ)) → xs ≡ bin_at ls class → IsFoundFrom (up (value class)) ls (Some class)
+found_itself class l xs some ls e =
     let again = (value_clauses class (value class % 2 ^ 32) l refl).up_again in
     (omega (arith, again), l, λ n. some (e ∙ n), λ d low high. absurd (omega (arith, again, low, high)))
 
@@ -56,7 +56,7 @@ module _ {f : Fields} {class x : ℕ} (call : Call f class x) where
   held e = rw e (placed (rw got.list_is at call.sound.space) got.name)
 
   -- the name is in no bin then
-  pub unlisted : AreUnlisted (got.place.before ++ got.place.block ∷ got.place.after) (popped f class x)
+  pub unlisted : ListsOnly (got.place.before ++ got.place.block ∷ got.place.after) (popped f class x)
   unlisted y e = unlisted_removed y x class ls w.classes call.classed (unused_unlisted v w y (ap (count_named y) got.list_is ∙ e))
 
   removed : remove_all (p.block ∷ []) ls ≡ popped f class x
@@ -111,7 +111,7 @@ module _ {f : Fields} {class x : ℕ} (call : Call f class x) where
       abbrev left_view : View
       left_view = replace v p.before (p.block ∷ []) parts p.after
 
-      abbrev grant : Grant
+      abbrev grant : Handle
       grant = record { name = x; offset = units p.before + padding }
 
       split : (needed : ℕ) → IsFoundFrom (up needed) ls (Some class) → (u : View) → SameSpace left_view u → Splits needed n padding_at v u grant
@@ -137,7 +137,7 @@ module _ {f : Fields} {class x : ℕ} (call : Call f class x) where
         grant = ap (λ i. record { name = i; offset = units p.before + padding }) (sym got.name);
         parts = parts;
         made = refl;
-        view = same ∙ ap (λ o. record v { blocks = p.before ++ (parts ++ p.after); order = push_all parts o; accesses = u.accesses }) (remove_free p.block ls got.free);
+        view = same ∙ ap (λ o. record v { blocks = p.before ++ (parts ++ p.after); bins = push_all parts o; accesses = u.accesses }) (remove_free p.block ls got.free);
       }
 
       pub granted : {top accesses : ℕ} → IsBinned f.max d.bins top
@@ -172,8 +172,8 @@ pub within : (n align o : ℕ) → 1 ≤ align → padding_to align o + n ≤ un
 within n align o l = omega arith
 
 -- a block of a class that is large enough for them holds them
-pub first_holds : (v : View) → IsWellFormed v → (n align class : ℕ) → 1 ≤ align → up (units_needed n align) ≤ class → HoldsFirst class n align v
+pub first_holds : (v : View) → IsWellFormed v → (n align class : ℕ) → 1 ≤ align → up (units_needed n align) ≤ class → NewestHolds class n align v
 first_holds v w n align class some l p older is newest =
     let listed = listed_block class p.block.name p.before p.block p.after refl (omega (arith, w.distinct p.block.name, ap (count_named p.block.name) is))
-    (omega (arith, w.orders class p.block.name, ap (times p.block.name) newest, one-same p.block.name, ap (count_in_bin class p.block.name) is)) in
+    (omega (arith, w.binned class p.block.name, ap (times p.block.name) newest, one-same p.block.name, ap (count_in_bin class p.block.name) is)) in
     omega (arith, within n align (units p.before) some, fits_size (units_needed n align) p.block.size (le-leb (up (units_needed n align)) (down p.block.size) (omega (arith, listed.1, l))))

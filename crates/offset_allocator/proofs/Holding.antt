@@ -1,20 +1,21 @@
 -- Requests for any free block that is large enough.
 use Rattle.offset_allocator.proofs.Common.{◌≡◌, ℕ, zero, suc, ◌+◌, ◌-◌, ◌%◌, ◌<◌, ◌≤◌, ◌^◌, ◌↔◌, Bool, true, false, List, [], ◌∷◌, ◌++◌, length, Option, Some, None, IsSome, IfSome, is_some}
 use Rattle.offset_allocator.proofs.Common.{nat_eq, nat_le, cond, refl, sym, ap, ap₂, subst, ◌∙◌, inl, inr, arith, append-nil, get_or_past, cases_lt, le-leb, leb-true, false≢true}
-use Rattle.offset_allocator.proofs.Common.{if◌then◌else◌, value, up, down, Block, View, Place, Grant, one, units, times, count_named, count_in_bin, bin_at, push, remove, place_of, padding_to}
+use Rattle.offset_allocator.proofs.Common.{if◌then◌else◌, value, up, down, Block, View, Place, Handle, one, units, times, count_named, count_in_bin, bin_at, push, remove, place_of, padding_to}
 use Rattle.offset_allocator.proofs.Common.{free_sizes}
 use Rattle.offset_allocator.proofs.Common.{IsWellFormed, Cells, Node, bins_in, IsBinned, IsFoundFrom, HasRoomFor, CanGrant, blocks_needed, units_needed, SameSpace, Splits}
 use Rattle.offset_allocator.proofs.Common.{Aligns, Grants, blocks}
 use Rattle.offset_allocator.proofs.{Sound.Fields, Sound.AreSound, Sound.shown, Sound.known_sound, Joints.stepped, Places.placed, Places.at_place, Taken.taken_among, Taken.fitting, Ranges.beside}
 use Rattle.offset_allocator.proofs.{Classes.down_law, Classes.down_small, Classes.value_down, Classes.fits_size, Classes.value_clauses, ViewSteps.place_here, Tallies.hit_cases, Tallies.one-same}
 use Rattle.offset_allocator.proofs.{Tallies.one-eq, Tallies.times-join}
-use Rattle.offset_allocator.proofs.{ViewOrders.times_put, ViewOrders.times_remove, ViewOrders.length_put, ViewOrders.length_remove, ViewOrders.names_same, Tallies.free_sum, Tallies.tally_append}
+use Rattle.offset_allocator.proofs.{ViewBins.times_put, ViewBins.times_remove, ViewBins.length_put, ViewBins.length_remove, ViewBins.names_same, Tallies.free_sum, Tallies.tally_append}
 use Rattle.offset_allocator.proofs.{Tallies.units-append, Tallies.listed_named}
 use Rattle.offset_allocator.proofs.{Granting.within, Split.well_split, Split.part_room, Ranges.split_grants, Served.split_as, Served.can_grant, Served.grants, Served.multiple, Padding.reaches}
 use Rattle.offset_allocator.proofs.{Largest.free_most}
 use Rattle.offset_allocator.proofs.{Classes.up_after, Classes.up_itself, Classes.up_reached, Classes.value_rises}
 use Rattle.offset_allocator.specs.Statistics.{greatest}
-use Rattle.offset_allocator.specs.Tight.{Holds, CanHold, holds, holds_in, listed_from, first_holding, with_first, AlignsTight, FillsFirst}
+use Rattle.offset_allocator.specs.Requests.{Holds}
+use Rattle.offset_allocator.specs.Tight.{CanHold, holds, holds_in, listed_from, first_holding, with_first, AlignsTight, FillsFirst}
 use Rattle.offset_allocator.specs.Tight.{IsWhyTight}
 use Rattle.offset_allocator.proofs.Common.{live, gathered, Compacts, IsFresh, free_block, common_steps, max, sum, sum_by-cons}
 use Rattle.offset_allocator.proofs.Advice.{open_still}
@@ -125,8 +126,8 @@ place_there v w p x is e =
     let alone = beside x p.before p.block p.after (sym e) (omega (arith, w.distinct x, ap (count_named x) is)) in
     ap (place_of x) is ∙ place_here x p.before p.block p.after alone.0 (sym e)
 
-pub block_listed : (v : View) → IsWellFormed v → (p : Place) → v.blocks ≡ p.before ++ (p.block ∷ p.after) → p.block.used ≡ false → 1 ≤ times p.block.name (bin_at v.order (down p.block.size))
-block_listed v w p is u = omega (arith, w.orders (down p.block.size) p.block.name, ap (count_in_bin (down p.block.size) p.block.name) is, counted p.before p.block p.after u)
+pub block_listed : (v : View) → IsWellFormed v → (p : Place) → v.blocks ≡ p.before ++ (p.block ∷ p.after) → p.block.used ≡ false → 1 ≤ times p.block.name (bin_at v.bins (down p.block.size))
+block_listed v w p is u = omega (arith, w.binned (down p.block.size) p.block.name, ap (count_in_bin (down p.block.size) p.block.name) is, counted p.before p.block p.after u)
   where
     counted : (fs : List Block) (b : Block) (cs : List Block) → b.used ≡ false → 1 ≤ count_in_bin (down b.size) b.name (fs ++ b ∷ cs)
     counted fs b cs u = grind (arith, tally_append, one-same)
@@ -145,8 +146,8 @@ pub record IsHolder (n align : ℕ) (v : View) (x : ℕ) : Type 0 where
 module _ (v : View) (w : IsWellFormed v) (n align : ℕ) where
   pub holder : (x : ℕ) → first_holding n align v ≡ Some x → IsHolder n align v x
   holder x e =
-      let m = find_met (λ y. holds n align (place_of y v.blocks)) (listed_from (down n) v.order) x e in
-      let d = listed_among v.order (down n) x m.0 in
+      let m = find_met (λ y. holds n align (place_of y v.blocks)) (listed_from (down n) v.bins) x e in
+      let d = listed_among v.bins (down n) x m.0 in
       let t = taken_among v w d.0 x d.1 in
       let at = place_there v w t.place x t.list_is t.name in
       record {
@@ -160,8 +161,8 @@ module _ (v : View) (w : IsWellFormed v) (n align : ℕ) where
   pub none_holds : first_holding n align v ≡ None → (p : Place) → v.blocks ≡ p.before ++ (p.block ∷ p.after) → p.block.used ≡ false → Holds n align p → ⊥
   none_holds e p is u h =
       let low = (down_law p.block.size (down n) (block_word v w p is)).1 (omega (arith, value_down n, h)) in
-      let listed = among_listed v.order (down n) (down p.block.size) p.block.name low (block_listed v w p is u) in
-      let no = find_none (λ y. holds n align (place_of y v.blocks)) (listed_from (down n) v.order) e p.block.name listed in
+      let listed = among_listed v.bins (down n) (down p.block.size) p.block.name low (block_listed v w p is u) in
+      let no = find_none (λ y. holds n align (place_of y v.blocks)) (listed_from (down n) v.bins) e p.block.name listed in
       false≢true (sym no ∙ ap (holds n align) (place_there v w p p.block.name is refl) ∙ le-leb (padding_to align (units p.before) + n) p.block.size h)
 
   -- what a request by classes takes holds it too
@@ -175,16 +176,16 @@ pub chosen_is : (f : Fields) → AreSound f → (n align : ℕ) → find (holds_
 chosen_is f s n align =
     let v = shown f in
     let w = (known_sound f s v refl).0 in
-    find_same (holds_in f.cells.chain n align) (λ y. holds n align (place_of y v.blocks)) (listed_from (down n) v.order)
+    find_same (holds_in f.cells.chain n align) (λ y. holds n align (place_of y v.blocks)) (listed_from (down n) v.bins)
     (λ x l.
-    let d = listed_among v.order (down n) x l in
+    let d = listed_among v.bins (down n) x l in
     let t = taken_among v w d.0 x d.1 in
     let at = at_place (placed (rw t.list_is at s.space) t.name) in
     ap₂ (λ (o m : ℕ). nat_le (padding_to align o + n) m) (ap (λ (i : Node). i.offset) at) (ap (λ (i : Node). i.size) at)
     ∙ sym (ap (holds n align) (place_there v w t.place x t.list_is t.name)))
 
 -- ---- a name that is brought to the front of its bin
-pub well_first : (v : View) → IsWellFormed v → (c x : ℕ) → c < 256 → 1 ≤ times x (bin_at v.order c) → IsWellFormed (with_first c x v)
+pub well_first : (v : View) → IsWellFormed v → (c x : ℕ) → c < 256 → 1 ≤ times x (bin_at v.bins c) → IsWellFormed (with_first c x v)
 well_first v w c x l there = record {
   some = w.some;
   distinct = w.distinct;
@@ -192,12 +193,12 @@ well_first v w c x l there = record {
   whole = w.whole;
   fits = w.fits;
   apart = w.apart;
-  classes = length_put c x (remove c x v.order) ∙ length_remove c x v.order ∙ w.classes;
-  orders = λ d y.
-      let once : times x (bin_at v.order c) ≡ 1 = omega (arith, there, w.orders c x, w.distinct x, listed_named c x v.blocks) in
-      omega (arith, times_put c x d y (remove c x v.order) (length_remove c x v.order ∙ w.classes) l, times_remove c x d y v.order w.classes l once, w.orders d y);
+  classes = length_put c x (remove c x v.bins) ∙ length_remove c x v.bins ∙ w.classes;
+  binned = λ d y.
+      let once : times x (bin_at v.bins c) ≡ 1 = omega (arith, there, w.binned c x, w.distinct x, listed_named c x v.blocks) in
+      omega (arith, times_put c x d y (remove c x v.bins) (length_remove c x v.bins ∙ w.classes) l, times_remove c x d y v.bins w.classes l once, w.binned d y);
   room = w.room;
-  spare = w.spare;
+  few_used = w.few_used;
 }
 
 pub brought : (f : Fields) → AreSound f → (c x : ℕ) → c < 256 → 1 ≤ times x (bin_at (bins_in f.max f.cells.bins) c) → (d : Cells) (last count top k : ℕ) → d.chain ≡ f.cells.chain → last ≡ f.last
@@ -209,8 +210,8 @@ brought f s c x l there d last count top k chain lasts counts bins lists =
     (stepped f s v d f.free k {last = last} {count = count} {top = top} {bs = blocks f.cells.chain f.last} well refl (rw (chain, lasts, counts) s.space) refl bins lists
     (sym (free_sum (blocks f.cells.chain f.last)) ∙ s.total)).0
 
-pub first_is : (v : View) → IsWellFormed v → (c x : ℕ) → c < 256 → bin_at (with_first c x v).order c ≡ x ∷ bin_at (remove c x v.order) c
-first_is v w c x l = names_same (remove c x v.order) c (x ∷ bin_at (remove c x v.order) c) (length_remove c x v.order ∙ w.classes) l
+pub first_is : (v : View) → IsWellFormed v → (c x : ℕ) → c < 256 → bin_at (with_first c x v).bins c ≡ x ∷ bin_at (remove c x v.bins) c
+first_is v w c x l = names_same (remove c x v.bins) c (x ∷ bin_at (remove c x v.bins) c) (length_remove c x v.bins ∙ w.classes) l
 
 -- what is split is the block that was brought to the front, and the class is its own
 pub record IsBrought (c x : ℕ) (b : Block) : Type 0 where
@@ -218,9 +219,9 @@ pub record IsBrought (c x : ℕ) (b : Block) : Type 0 where
   pub class : down b.size ≡ c
   pub name : b.name ≡ x
 
-pub at_first : (v : View) → IsWellFormed v → (c n x : ℕ) (padding_at : ℕ → ℕ) {w : View} {g : Grant} (s : Splits (value c) n padding_at (with_first c x v) w g) → IsBrought c x s.block
+pub at_first : (v : View) → IsWellFormed v → (c n x : ℕ) (padding_at : ℕ → ℕ) {w : View} {g : Handle} (s : Splits (value c) n padding_at (with_first c x v) w g) → IsBrought c x s.block
 at_first v known c n x padding_at s =
-    let order : List (List ℕ) = (with_first c x v).order in
+    let first_bins : List (List ℕ) = (with_first c x v).bins in
     let again = up_reached (value c) (omega (arith, s.fits, down_small s.block.size)) in
     let small : c < 256 = elim (cases_lt (up (value c)) c) [
       | inl l ↦ absurd (omega (arith, again, value_rises (up (value c)) c l))
@@ -232,39 +233,39 @@ at_first v known c n x padding_at s =
       | inl m ↦ absurd (let q = sym first ∙ s.smallest c (omega (arith, itself)) m in cc)
       | inr m ↦ omega (arith, m, s.fits, itself)
     ] in
-    let lists : x ∷ bin_at (remove c x v.order) c ≡ s.block.name ∷ s.older = sym first ∙ sym (ap (bin_at order) same) ∙ s.newest in
+    let lists : x ∷ bin_at (remove c x v.bins) c ≡ s.block.name ∷ s.older = sym first ∙ sym (ap (bin_at first_bins) same) ∙ s.newest in
     let named : s.block.name ≡ x = cc in
     record { small = small; class = same; name = named }
 
 -- ---- what contracts say of a request, from the relation that says it all
 -- what was counted before changes nothing
-pub fills_counted : (n align : ℕ) (v w : View) (k : ℕ) (r : Option Grant) → FillsFirst n align (record v { accesses = k }) w r → FillsFirst n align v w r
+pub fills_counted : (n align : ℕ) (v w : View) (k : ℕ) (r : Option Handle) → FillsFirst n align (record v { accesses = k }) w r → FillsFirst n align v w r
 fills_counted n align v w k None a = a
 fills_counted n align v w k (Some g) a = (a.0, (a.1.0, a.1.1, a.1.2, split_as a.1.3 v.accesses w.accesses (padding_to align) (λ o. refl)))
 
-pub tight_of : (n align : ℕ) (v m w : View) (r : Option Grant) → (CanGrant (blocks_needed align) (units_needed n align) v → ⊥) → SameSpace v m → FillsFirst n align m w r → AlignsTight n align v w r
+pub tight_of : (n align : ℕ) (v m w : View) (r : Option Handle) → (CanGrant (blocks_needed align) (units_needed n align) v → ⊥) → SameSpace v m → FillsFirst n align m w r → AlignsTight n align v w r
 tight_of n align v m w None refuses same a = fills_counted n align v w m.accesses None (subst (λ (u : View). FillsFirst n align u w None) same a)
 tight_of n align v m w (Some g) refuses same a = inr (refuses, fills_counted n align v w m.accesses (Some g) (subst (λ (u : View). FillsFirst n align u w (Some g)) same a))
 
 module _ (n align : ℕ) (v w : View) (known : IsWellFormed v) (some : 1 ≤ align) where
-  filled_holds : (g : Grant) → FillsFirst n align v w (Some g) → CanHold n align v
+  filled_holds : (g : Handle) → FillsFirst n align v w (Some g) → CanHold n align v
   filled_holds g a = let h = holder v known n align a.1.1 a.1.2 in (a.0, (h.place, h.there, h.free, h.holds))
 
-  pub can_hold : (r : Option Grant) → AlignsTight n align v w r → IsSome r ↔ CanHold n align v
+  pub can_hold : (r : Option Handle) → AlignsTight n align v w r → IsSome r ↔ CanHold n align v
   can_hold None a = (λ h. absurd (false≢true h), λ h. absurd (a.0 h))
   can_hold (Some g) (inl a) = (λ h. grant_holds v known n align some ((can_grant (blocks_needed align) (units_needed n align) n (padding_to align) v w known (Some g) a).0 refl), λ h. refl)
   can_hold (Some g) (inr a) = (λ h. filled_holds g a.1, λ h. refl)
 
-  pub plain : (r : Option Grant) → AlignsTight n align v w r → CanGrant (blocks_needed align) (units_needed n align) v → Aligns n align v w r
+  pub plain : (r : Option Handle) → AlignsTight n align v w r → CanGrant (blocks_needed align) (units_needed n align) v → Aligns n align v w r
   plain None a c = absurd (a.0 (grant_holds v known n align some c))
   plain (Some g) (inl a) c = a
   plain (Some g) (inr a) c = absurd (a.0 c)
 
-  pub same_space : (r : Option Grant) → AlignsTight n align v w r → r ≡ None → SameSpace v w
+  pub same_space : (r : Option Handle) → AlignsTight n align v w r → r ≡ None → SameSpace v w
   same_space None a e = a.1
   same_space (Some g) a e = absurd (cc)
 
-  pub grants_tight : (r : Option Grant) → AlignsTight n align v w r → IfSome r (Grants n v w)
+  pub grants_tight : (r : Option Handle) → AlignsTight n align v w r → IfSome r (Grants n v w)
   grants_tight None a = tt
   grants_tight (Some g) (inl a) = grants (blocks_needed align) (units_needed n align) n (padding_to align) v w known (omega arith) (λ o l. omega arith) (Some g) a
   grants_tight (Some g) (inr a) =
@@ -274,15 +275,15 @@ module _ (n align : ℕ) (v w : View) (known : IsWellFormed v) (some : 1 ≤ ali
       let h = holder v known n align x a.1.1.2 in
       let at = at_first v known c n x (padding_to align) s in
       let listed = block_listed v known (record { before = s.before; block = s.block; after = s.after }) s.blocks s.free in
-      let there = subst (λ d. 1 ≤ times x (bin_at v.order d)) at.class (subst (λ y. 1 ≤ times y (bin_at v.order (down s.block.size))) at.name listed) in
+      let there = subst (λ d. 1 ≤ times x (bin_at v.bins d)) at.class (subst (λ y. 1 ≤ times y (bin_at v.bins (down s.block.size))) at.name listed) in
       let first = well_first v known c x at.small there in
       let k = split_grants s first (well_split s (blocks_needed align) first a.1.0 (part_room s.padding_name s.padding (blocks_needed align) (omega arith) (λ l. omega (arith, l, s.padded)))) in
       record { not_live = k.not_live; range = k.range; within = k.within; disjoint = k.disjoint; others = k.others }
 
-  pub aligned_tight : (r : Option Grant) → AlignsTight n align v w r → IfSome r (λ h. h.offset % align ≡ 0)
+  pub aligned_tight : (r : Option Handle) → AlignsTight n align v w r → IfSome r (λ h. h.offset % align ≡ 0)
   aligned_tight None a = tt
   aligned_tight (Some g) (inl a) = multiple n align v w (Some g) some a
-  aligned_tight (Some g) (inr a) = let s = a.1.1.3 in subst (λ (h : Grant). h.offset % align ≡ 0) (sym s.grant) (rw s.padded (reaches align (units s.before) some))
+  aligned_tight (Some g) (inr a) = let s = a.1.1.3 in subst (λ (h : Handle). h.offset % align ≡ 0) (sym s.grant) (rw s.padded (reaches align (units s.before) some))
 
 -- ---- a plain request
 unpadded : (o : ℕ) → padding_to 1 o ≡ 0
@@ -309,18 +310,18 @@ largest_holds v n l = (
 )
 
 -- where a plain request by classes is refused, only the bin of its own class has a name from there on
-pub plain_listed : (v : View) → IsWellFormed v → (n : ℕ) → n < 2 ^ 32 → (CanGrant 1 n v → ⊥) → HasRoomFor 1 v → listed_from (down n) v.order ≡ bin_at v.order (down n)
+pub plain_listed : (v : View) → IsWellFormed v → (n : ℕ) → n < 2 ^ 32 → (CanGrant 1 n v → ⊥) → HasRoomFor 1 v → listed_from (down n) v.bins ≡ bin_at v.bins (down n)
 plain_listed v w n word refuses room =
     let after : up n ≤ down n + 1 = elim (cases_lt 0 n) [
       | inl l ↦ omega (arith, up_after n l word, (down_law n (down (n - 1)) word).1 (omega (arith, value_down (n - 1))))
       | inr l ↦ let z : n ≡ 0 = omega arith in omega (arith, ap up z, up_itself 0 (omega arith))
     ] in
-    let none : IsFoundFrom (down n + 1) v.order None = λ c l h. empty c (omega (arith, after, l)) (bin_at v.order c) refl in
-    listed_here v.order (down n) (omega (arith, down_small n, w.classes))
-    ∙ ap (λ (l : List ℕ). bin_at v.order (down n) ++ l) (listed_none v.order (down n + 1) w.classes (omega (arith, down_small n)) none)
-    ∙ append-nil (bin_at v.order (down n))
+    let none : IsFoundFrom (down n + 1) v.bins None = λ c l h. empty c (omega (arith, after, l)) (bin_at v.bins c) refl in
+    listed_here v.bins (down n) (omega (arith, down_small n, w.classes))
+    ∙ ap (λ (l : List ℕ). bin_at v.bins (down n) ++ l) (listed_none v.bins (down n + 1) w.classes (omega (arith, down_small n)) none)
+    ∙ append-nil (bin_at v.bins (down n))
   where
-    empty : (c : ℕ) → up n ≤ c → (xs : List ℕ) → bin_at v.order c ≡ xs → bin_at v.order c ≡ []
+    empty : (c : ℕ) → up n ≤ c → (xs : List ℕ) → bin_at v.bins c ≡ xs → bin_at v.bins c ≡ []
     empty c l [] e = e
     empty c l (x ∷ xs) e = absurd (refuses (room, (c, l, λ f. let q = sym e ∙ f in absurd (cc))))
 

@@ -5,10 +5,10 @@ use Rattle.offset_allocator.proofs.{Views.blocks-chain, Views.space-chain, Sound
 use Rattle.offset_allocator.proofs.Tallies.{free_units, free_sum}
 
 -- a name that no free block has is in no list
-pub unlisted : (v : View) → IsWellFormed v → (x : ℕ) → ((c : ℕ) → count_in_bin c x v.blocks ≡ 0) → IsUnlisted x v.order
-unlisted v w x h c ch a = omega (arith, a, w.orders c x, h c)
+pub unlisted : (v : View) → IsWellFormed v → (x : ℕ) → ((c : ℕ) → count_in_bin c x v.blocks ≡ 0) → IsUnlisted x v.bins
+unlisted v w x h c ch a = omega (arith, a, w.binned c x, h c)
 
-pub unused_unlisted : (v : View) → IsWellFormed v → (x : ℕ) → count_named x v.blocks ≡ 0 → IsUnlisted x v.order
+pub unused_unlisted : (v : View) → IsWellFormed v → (x : ℕ) → count_named x v.blocks ≡ 0 → IsUnlisted x v.bins
 unused_unlisted v w x h = unlisted v w x (λ c. omega (arith, listed_named c x v.blocks))
 
 -- whatever was counted
@@ -17,7 +17,7 @@ with_accesses k v = record v { accesses = k }
 
 -- the fields after a call: the tables hold the blocks and the bins of a well-formed view
 pub stepped : (f : Fields) → AreSound f → (v : View) (d : Cells) (free k : ℕ) {last count top : ℕ} {bs : List Block} → IsWellFormed v → v.max_allocs ≡ f.limit
-    → IsChain d.chain f.cells.chain.reserved last count bs → bs ≡ v.blocks → IsBinned f.max d.bins top → bins_in f.max d.bins ≡ v.order → free_units bs ≡ free
+    → IsChain d.chain f.cells.chain.reserved last count bs → bs ≡ v.blocks → IsBinned f.max d.bins top → bins_in f.max d.bins ≡ v.bins → free_units bs ≡ free
     → AreSound (record f { size = v.size; cells = d; last = last; count = count; top = top; free = free }) × (view_of f.max v.size f.limit d last k ≡ with_accesses k v)
 stepped f s v d free k {last} {count} {top} {bs} well limit chain eb bins eo total =
     let is = blocks-chain d.chain _ last count bs chain in
@@ -25,8 +25,8 @@ stepped f s v d free k {last} {count} {top} {bs} well limit chain eb bins eo tot
     grind (arith, common_steps, space-chain, well_counted)
 
 -- small parts of steps
-pub remove_free : (b : Block) (order : List (List ℕ)) → b.used ≡ false → remove_all (b ∷ []) order ≡ remove (down b.size) b.name order
-remove_free b order e = ap (λ (u : Bool). if u then order else remove (down b.size) b.name order) e
+pub remove_free : (b : Block) (ls : List (List ℕ)) → b.used ≡ false → remove_all (b ∷ []) ls ≡ remove (down b.size) b.name ls
+remove_free b ls e = ap (λ (u : Bool). if u then ls else remove (down b.size) b.name ls) e
 
 pub free_units-append : (xs ys : List Block) → free_units (xs ++ ys) ≡ free_units xs + free_units ys
 free_units-append xs ys = tally_append (λ (b : Block). if b.used then 0 else b.size) xs ys

@@ -18,7 +18,7 @@ pub record IsWalked (none : ℕ) (t : BinCells) (name : ℕ) (met whole : List �
   pub parts : whole ≡ met ++ rest
 
 pub walk_begins : {none : ℕ} {t : BinCells} {ls : List (List ℕ)} → HasBins none t ls → (c : ℕ) → c < 256 → IsWalked none t (slice_index t.heads c) [] (bin_at ls c)
-walk_begins {none} {t} {ls} k c l = record { before = none; rest = bin_at ls c; chain = k.chains c l; is = k.heads c l; parts = refl }
+walk_begins {none} {t} {ls} k c l = record { before = none; rest = bin_at ls c; chain = k.links c l; is = k.heads c l; parts = refl }
 
 pub walk_next : {none : ℕ} {t : BinCells} {name : ℕ} {met whole : List ℕ} → IsWalked none t name met whole → name ≢ none → (name < length t.newer) × (length met < length whole)
     × IsWalked none t (slice_index t.older name) (met ++ name ∷ []) whole
@@ -64,7 +64,7 @@ greatest_within (n ∷ ns) = let s = sum_by-cons (λ (i : ℕ). i) n ns in omega
 -- the largest free block is in the bin of the largest class that has one
 module _ (v : View) (w : IsWellFormed v) (f : ℕ → ℕ) (sized : (fs : List Block) (b : Block) (cs : List Block) → v.blocks ≡ fs ++ b ∷ cs → f b.name ≡ b.size)
     (small : (fs : List Block) (b : Block) (cs : List Block) → v.blocks ≡ fs ++ b ∷ cs → b.size < 2 ^ 32) where
-  named_most : (c : ℕ) (xs : List ℕ) → ((x : ℕ) → 1 ≤ times x xs → 1 ≤ times x (bin_at v.order c)) → greatest (map f xs) ≤ greatest (free_sizes v.blocks)
+  named_most : (c : ℕ) (xs : List ℕ) → ((x : ℕ) → 1 ≤ times x xs → 1 ≤ times x (bin_at v.bins c)) → greatest (map f xs) ≤ greatest (free_sizes v.blocks)
   named_most c [] h = omega arith
   named_most c (x ∷ xs) h =
       let ih = named_most c xs (λ y l. h y (omega (arith, l))) in
@@ -73,24 +73,24 @@ module _ (v : View) (w : IsWellFormed v) (f : ℕ → ℕ) (sized : (fs : List B
       let most = subst (λ (bs : List Block). t.place.block.size ≤ greatest (free_sizes bs)) (sym t.list_is) (free_most t.place.before t.place.block t.place.after t.free) in
       grind arith
 
-  module _ (c : ℕ) (last : IsFoundLast v.order (Some c)) where
-    some : (x : ℕ) × (1 ≤ times x (bin_at v.order c))
-    some = go (bin_at v.order c) last.1
+  module _ (c : ℕ) (last : IsFoundLast v.bins (Some c)) where
+    some : (x : ℕ) × (1 ≤ times x (bin_at v.bins c))
+    some = go (bin_at v.bins c) last.1
       where
         go : (xs : List ℕ) → (xs ≡ [] → ⊥) → (x : ℕ) × (1 ≤ times x xs)
         go [] n = absurd (n refl)
         go (x ∷ xs) n = (x, omega (arith, one-same x))
 
-    reached : value c ≤ greatest (map f (bin_at v.order c))
+    reached : value c ≤ greatest (map f (bin_at v.bins c))
     reached =
         let t = taken_among v w c some.0 some.1 in
         let p = t.place in
         let at : f some.0 ≡ p.block.size = ap f (sym t.name) ∙ sized p.before p.block p.after t.list_is in
-        omega (arith, (down_law p.block.size c (small p.before p.block p.after t.list_is)).0 (omega (arith, t.class)), at, member_most f some.0 (bin_at v.order c) some.1)
+        omega (arith, (down_law p.block.size c (small p.before p.block p.after t.list_is)).0 (omega (arith, t.class)), at, member_most f some.0 (bin_at v.bins c) some.1)
 
-    one_most : (fs : List Block) (b : Block) (cs : List Block) → v.blocks ≡ fs ++ b ∷ cs → b.used ≡ false → b.size ≤ greatest (map f (bin_at v.order c))
+    one_most : (fs : List Block) (b : Block) (cs : List Block) → v.blocks ≡ fs ++ b ∷ cs → b.used ≡ false → b.size ≤ greatest (map f (bin_at v.bins c))
     one_most fs b cs e u =
-        let listed : 1 ≤ times b.name (bin_at v.order (down b.size)) = omega (arith, w.orders (down b.size) b.name, ap (count_in_bin (down b.size) b.name) e, counted fs b cs u) in
+        let listed : 1 ≤ times b.name (bin_at v.bins (down b.size)) = omega (arith, w.binned (down b.size) b.name, ap (count_in_bin (down b.size) b.name) e, counted fs b cs u) in
         elim (cases_lt (down b.size) c) [
           | inl l ↦ elim (cases_lt b.size (value c)) [
             | inl m ↦ omega (arith, m, reached)
@@ -100,27 +100,27 @@ module _ (v : View) (w : IsWellFormed v) (f : ℕ → ℕ) (sized : (fs : List B
             | inl m ↦ absurd (omega (arith, listed, ap (times b.name) (above (down b.size) m)))
             | inr m ↦
                 let same : down b.size ≡ c = omega (arith, l, m) in
-                omega (arith, sized fs b cs e, member_most f b.name (bin_at v.order c) (subst (λ k. 1 ≤ times b.name (bin_at v.order k)) same listed))
+                omega (arith, sized fs b cs e, member_most f b.name (bin_at v.bins c) (subst (λ k. 1 ≤ times b.name (bin_at v.bins k)) same listed))
           ]
         ]
       where
         counted : (fs : List Block) (b : Block) (cs : List Block) → b.used ≡ false → 1 ≤ count_in_bin (down b.size) b.name (fs ++ b ∷ cs)
         counted fs b cs u = grind (arith, tally_append, one-same)
 
-        above : (d : ℕ) → c < d → bin_at v.order d ≡ []
-        above d m = elim (cases_lt d 256) [ inl h ↦ last.2 d m h | inr h ↦ get_or_past v.order d [] (omega (arith, w.classes, h)) ]
+        above : (d : ℕ) → c < d → bin_at v.bins d ≡ []
+        above d m = elim (cases_lt d 256) [ inl h ↦ last.2 d m h | inr h ↦ get_or_past v.bins d [] (omega (arith, w.classes, h)) ]
 
-    all_most : (fs bs : List Block) → v.blocks ≡ fs ++ bs → greatest (free_sizes bs) ≤ greatest (map f (bin_at v.order c))
+    all_most : (fs bs : List Block) → v.blocks ≡ fs ++ bs → greatest (free_sizes bs) ≤ greatest (map f (bin_at v.bins c))
     all_most fs [] e = omega arith
     all_most fs (b ∷ bs) e =
         let ih = all_most (fs ++ b ∷ []) bs (e ∙ sym (append_assoc fs (b ∷ []) bs)) in
-        elim b.used as (λ u. b.used ≡ u → greatest (if u then free_sizes bs else b.size ∷ free_sizes bs) ≤ greatest (map f (bin_at v.order c))) [
+        elim b.used as (λ u. b.used ≡ u → greatest (if u then free_sizes bs else b.size ∷ free_sizes bs) ≤ greatest (map f (bin_at v.bins c))) [
           | true ↦ λ u. ih
           | false ↦ λ u. let l = one_most fs b bs e u in grind arith
         ] refl
 
-    pub largest_names : greatest (map f (bin_at v.order c)) ≡ greatest (free_sizes v.blocks)
-    largest_names = omega (arith, named_most c (bin_at v.order c) (λ x l. l), all_most [] v.blocks refl)
+    pub largest_names : greatest (map f (bin_at v.bins c)) ≡ greatest (free_sizes v.blocks)
+    largest_names = omega (arith, named_most c (bin_at v.bins c) (λ x l. l), all_most [] v.blocks refl)
 
 -- no class of a free block has a value above 0: then each has no units
 pub greatest_none : (ns : List ℕ) → sum ns < 2 ^ 32 → largest ns ≡ 0 → greatest ns ≡ 0

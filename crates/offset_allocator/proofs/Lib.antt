@@ -64,7 +64,7 @@ pub mod StateWords
 pub mod Reading
 pub mod ViewApart
 pub mod ViewFits
-pub mod ViewOrders
+pub mod ViewBins
 pub mod ViewReplaced
 pub mod ViewSteps
 pub mod ViewTaken

@@ -56,10 +56,10 @@ none_left k bs e = ap (λ (l : List Block). reverse (placed 0 l)) (last_none (ta
 
 -- a node as a block at its place
 abbrev placed_node : ℕ → Node → Placed
-placed_node x n = record { offset = n.offset; size = n.size; grant = if n.used then Some (record { name = x; offset = n.offset }) else None }
+placed_node x n = record { offset = n.offset; size = n.size; handle = if n.used then Some (record { name = x; offset = n.offset }) else None }
 
 pub node_placed : (x : ℕ) (n : Node) (offset size : ℕ) (used : Bool) → offset ≡ n.offset → size ≡ n.size → used ≡ n.used
-    → placed_node x n ≡ record { offset = offset; size = size; grant = if used then Some (record { name = x; offset = offset }) else None }
+    → placed_node x n ≡ record { offset = offset; size = size; handle = if used then Some (record { name = x; offset = offset }) else None }
 node_placed x n offset size used e f g = rw (e, f, g)
 
 -- the last of the first k blocks is read from the node of x

@@ -3,7 +3,7 @@ use Rattle.offset_allocator.proofs.Common.{◌≡◌, ◌≢◌, ◌<◌, ℕ, �
 use Rattle.offset_allocator.proofs.Common.{length-set, get_or-set_same, get_or-set_other, bit_at, bit_not, or_lt, one_shl, and_le_l, pow_below, bit_at_set_same, bit_at_set_other, bit_at_clear_same}
 use Rattle.offset_allocator.proofs.Common.{bit_at_clear_other, bit_at-zero, cases_eq, bin_at, AreMasks}
 use Rattle.std.specs.Prelude.{min}
-use Rattle.offset_allocator.proofs.ViewOrders.{names_same, names_other}
+use Rattle.offset_allocator.proofs.ViewBins.{names_same, names_other}
 
 -- 0 for an empty list or a mask with no bit, else 1
 abbrev pub flag : List ℕ → ℕ

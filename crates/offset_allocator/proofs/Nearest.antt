@@ -4,38 +4,38 @@ use Rattle.offset_allocator.proofs.Common.{lt-ltb, Block, Place, one, units, tim
 use Rattle.offset_allocator.proofs.{Ends.Ended, Ends.ended, Tallies.hit_cases, Tallies.one-same, Tallies.one-eq, Tallies.times-append, Tallies.times-join, Tallies.units-append}
 use Rattle.offset_allocator.specs.Compacting.{newest, first_among, until}
 
-pub newest_few : (k : ℕ) (order : List (List ℕ)) → length (newest k order) ≤ k
-newest_few zero order = omega arith
+pub newest_few : (k : ℕ) (bins : List (List ℕ)) → length (newest k bins) ≤ k
+newest_few zero bins = omega arith
 newest_few (suc k) [] = omega arith
-newest_few (suc k) ([] ∷ order) = newest_few (suc k) order
-newest_few (suc k) ((x ∷ xs) ∷ order) = let ih = newest_few k order in omega arith
+newest_few (suc k) ([] ∷ bins) = newest_few (suc k) bins
+newest_few (suc k) ((x ∷ xs) ∷ bins) = let ih = newest_few k bins in omega arith
 
 -- the first bin that has some
-newest_found : (k : ℕ) (order : List (List ℕ)) (c d x : ℕ) (xs : List ℕ) → c ≤ d → d < length order → ((e : ℕ) → c ≤ e → e < d → bin_at order e ≡ [])
-    → bin_at order d ≡ x ∷ xs → newest (suc k) (drop c order) ≡ x ∷ newest k (drop (suc d) order)
+newest_found : (k : ℕ) (bins : List (List ℕ)) (c d x : ℕ) (xs : List ℕ) → c ≤ d → d < length bins → ((e : ℕ) → c ≤ e → e < d → bin_at bins e ≡ [])
+    → bin_at bins d ≡ x ∷ xs → newest (suc k) (drop c bins) ≡ x ∷ newest k (drop (suc d) bins)
 newest_found k [] c d x xs l h none some = absurd (omega arith)
-newest_found k (bin ∷ order) (suc c) zero x xs l h none some = absurd (omega arith)
-newest_found k (bin ∷ order) (suc c) (suc d) x xs l h none some = newest_found k order c d x xs (omega arith) (omega arith) (λ e a b. none (suc e) (omega arith) (omega arith)) some
-newest_found k (bin ∷ order) zero zero x xs l h none some = rw some refl
-newest_found k (bin ∷ order) zero (suc d) x xs l h none some =
+newest_found k (bin ∷ bins) (suc c) zero x xs l h none some = absurd (omega arith)
+newest_found k (bin ∷ bins) (suc c) (suc d) x xs l h none some = newest_found k bins c d x xs (omega arith) (omega arith) (λ e a b. none (suc e) (omega arith) (omega arith)) some
+newest_found k (bin ∷ bins) zero zero x xs l h none some = rw some refl
+newest_found k (bin ∷ bins) zero (suc d) x xs l h none some =
     let empty : bin ≡ [] = none 0 (omega arith) (omega arith) in
-    rw empty (newest_found k order 0 d x xs (omega arith) (omega arith) (λ e a b. none (suc e) (omega arith) (omega arith)) some)
+    rw empty (newest_found k bins 0 d x xs (omega arith) (omega arith) (λ e a b. none (suc e) (omega arith) (omega arith)) some)
 
-pub newest_next : (k : ℕ) (order : List (List ℕ)) (c d x : ℕ) (xs : List ℕ) → c ≤ d → d < length order → ((e : ℕ) → c ≤ e → e < d → bin_at order e ≡ [])
-    → bin_at order d ≡ x ∷ xs → newest (suc k) (drop c order) ≡ x ∷ newest k (drop (d + 1) order)
-newest_next k order c d x xs l h none some =
+pub newest_next : (k : ℕ) (bins : List (List ℕ)) (c d x : ℕ) (xs : List ℕ) → c ≤ d → d < length bins → ((e : ℕ) → c ≤ e → e < d → bin_at bins e ≡ [])
+    → bin_at bins d ≡ x ∷ xs → newest (suc k) (drop c bins) ≡ x ∷ newest k (drop (d + 1) bins)
+newest_next k bins c d x xs l h none some =
     let e : suc d ≡ d + 1 = omega arith in
-    newest_found k order c d x xs l h none some ∙ ap (λ n. x ∷ newest k (drop n order)) e
+    newest_found k bins c d x xs l h none some ∙ ap (λ n. x ∷ newest k (drop n bins)) e
 
 -- no bin that has some
-pub newest_none : (k : ℕ) (order : List (List ℕ)) (c : ℕ) → ((e : ℕ) → c ≤ e → e < length order → bin_at order e ≡ []) → newest k (drop c order) ≡ []
-newest_none zero order c none = refl
+pub newest_none : (k : ℕ) (bins : List (List ℕ)) (c : ℕ) → ((e : ℕ) → c ≤ e → e < length bins → bin_at bins e ≡ []) → newest k (drop c bins) ≡ []
+newest_none zero bins c none = refl
 newest_none (suc k) [] zero none = refl
 newest_none (suc k) [] (suc c) none = refl
-newest_none (suc k) (bin ∷ order) (suc c) none = newest_none (suc k) order c (λ e a b. none (suc e) (omega arith) (omega arith))
-newest_none (suc k) (bin ∷ order) zero none =
+newest_none (suc k) (bin ∷ bins) (suc c) none = newest_none (suc k) bins c (λ e a b. none (suc e) (omega arith) (omega arith))
+newest_none (suc k) (bin ∷ bins) zero none =
     let empty : bin ≡ [] = none 0 (omega arith) (omega arith) in
-    rw empty (newest_none (suc k) order 0 (λ e a b. none (suc e) (omega arith) (omega arith)))
+    rw empty (newest_none (suc k) bins 0 (λ e a b. none (suc e) (omega arith) (omega arith)))
 
 -- what is before a block that begins earlier is before one that begins later
 fewer_before : (f g h k : List Block) (a b : Block) → f ++ (a ∷ h) ≡ g ++ (b ∷ k) → units f < units g → (x : ℕ) → count_named x f ≤ count_named x g

@@ -1,7 +1,7 @@
 -- Blocks that are split, and the bins of their parts.
 use Rattle.offset_allocator.proofs.Common.{◌≡◌, ◌≢◌, ℕ, zero, suc, ◌-◌, ◌<◌, List, [], ◌∷◌, ◌++◌, length, refl, sym, arith, append-nil, get_or-set_same, get_or-set_other, cases_eq, ChainCells, down}
 use Rattle.offset_allocator.proofs.Common.{Block}
-use Rattle.offset_allocator.proofs.Common.{Place, free_part, free_block, used_block, push, push_all, IsUnlisted, HasPlace, AreUnlisted}
+use Rattle.offset_allocator.proofs.Common.{Place, free_part, free_block, used_block, push, push_all, IsUnlisted, HasPlace, ListsOnly}
 use Rattle.offset_allocator.proofs.{Classes.down_small, Exchange.each-le, Tallies.one-eq, Tallies.one-other, Tallies.times-append}
 
 unlisted_put : (y x c : ℕ) (ls : List (List ℕ)) → length ls ≡ 256 → c < 256 → y ≢ x → IsUnlisted y ls → IsUnlisted y (push c x ls)
@@ -44,7 +44,7 @@ padded_unlisted {c} {m} {last} {count} {x} fs {cs} {b} y (suc n) ls long h u =
     )) u
 
 -- the name of the padding is in its bin, and no other one is that was in none
-pub unlisted_part : (fs cs : List Block) (b d : Block) (y n : ℕ) (ls : List (List ℕ)) → d.name ≡ b.name → length ls ≡ 256 → AreUnlisted (fs ++ b ∷ cs) ls
-    → AreUnlisted ((fs ++ free_part y n) ++ d ∷ cs) (push_all (free_part y n) ls)
+pub unlisted_part : (fs cs : List Block) (b d : Block) (y n : ℕ) (ls : List (List ℕ)) → d.name ≡ b.name → length ls ≡ 256 → ListsOnly (fs ++ b ∷ cs) ls
+    → ListsOnly ((fs ++ free_part y n) ++ d ∷ cs) (push_all (free_part y n) ls)
 unlisted_part fs cs b d y zero ls same long u k z = grind (arith, times-append)
 unlisted_part fs cs b d y (suc n) ls same long u k z = grind (arith, times-append, unlisted_put, down_small, one-eq)

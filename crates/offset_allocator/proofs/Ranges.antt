@@ -1,7 +1,7 @@
 -- What each call leaves of the ranges of live handles.
 use Rattle.offset_allocator.proofs.Common.{◌-◌, ◌≡◌, ◌≢◌, ℕ, IfSome, zero, suc, ◌+◌, ◌≤◌, Bool, true, false, ◌&&◌, List, [], ◌∷◌, ◌++◌, Option, Some, None, nat_eq, if◌then◌else◌, refl, sym, ap}
 use Rattle.offset_allocator.proofs.Common.{subst, ◌∙◌}
-use Rattle.offset_allocator.proofs.Common.{inl, inr, arith, append_assoc, add-zero, add_assoc, eq-eqb, ne_eqb, false≢true, and_right, AllByRecursion, Block, View, Place, Grant, one, units}
+use Rattle.offset_allocator.proofs.Common.{inl, inr, arith, append_assoc, add-zero, add_assoc, eq-eqb, ne_eqb, false≢true, and_right, AllByRecursion, Block, View, Place, Handle, one, units}
 use Rattle.offset_allocator.proofs.Common.{count_named, used_block, free_block, free_part, IsWellFormed, place_of, Range, range_of, AreDisjoint, Grants, KeepsAll, KeepsOthers, KeepsRanges, Resizes}
 use Rattle.offset_allocator.proofs.Common.{HasUnits, SameSpace, Splits, Frees, Adds, common_steps}
 use Rattle.offset_allocator.proofs.{ViewSteps.place_at, ViewSteps.no_place, Released.idle_parts, Reading.range_at, Tallies.part_sums, Tallies.tally_append, Tallies.hit_cases, Tallies.units-append}
@@ -130,12 +130,12 @@ pub given_back : (x : ℕ) (v w z : View) → range_of x v ≡ None → KeepsRan
 given_back x v w z fresh kept others y r e = grind (arith, hit_cases)
 
 -- and a refusal too
-pub call_keeps : (n : ℕ) (v w : View) (o : Option Grant) → IfSome o (Grants n v w) → (o ≡ None → SameSpace v w) → KeepsRanges v w
+pub call_keeps : (n : ℕ) (v w : View) (o : Option Handle) → IfSome o (Grants n v w) → (o ≡ None → SameSpace v w) → KeepsRanges v w
 call_keeps n v w None h same = λ x r e. ap (range_of x) (same refl) ∙ e
 call_keeps n v w (Some g) h same = given_back g.name v v w h.not_live (λ x r e. e) h.others
 
 -- a grant has its units, in the space, where no live range is
-module _ {needed n : ℕ} {padding_at : ℕ → ℕ} {v w : View} {g : Grant} (s : Splits needed n padding_at v w g) (f : IsWellFormed v) (after : IsWellFormed w) where
+module _ {needed n : ℕ} {padding_at : ℕ → ℕ} {v w : View} {g : Handle} (s : Splits needed n padding_at v w g) (f : IsWellFormed v) (after : IsWellFormed w) where
   abbrev x : ℕ
   x = s.block.name
 

@@ -1,5 +1,5 @@
 -- Free blocks at the ends of lists.
-use Rattle.offset_allocator.proofs.Common.{◌≡◌, Bool, true, false, not, ◌&&◌, List, [], ◌∷◌, ◌++◌, if◌then◌else◌, refl, sym, ap, ap₂, ◌∙◌, append-nil, true≢false, AllByRecursion, Block, IsApart}
+use Rattle.offset_allocator.proofs.Common.{◌≡◌, Bool, true, false, not, ◌&&◌, List, [], ◌∷◌, ◌++◌, if◌then◌else◌, refl, sym, ap, ap₂, ◌∙◌, append-nil, true≢false, AllByRecursion, Block, AreCoalesced}
 use Rattle.offset_allocator.proofs.Common.{free_start, without_start, free_end, without_end, starts_free}
 use Rattle.offset_allocator.proofs.{Ends.end_free, ViewApart.ends_free, ViewApart.apart_parts, ViewApart.no_end, ViewApart.no_start}
 
@@ -24,17 +24,17 @@ pub idle_start : (bs : List Block) → AllByRecursion (λ b. b.used ≡ false) (
 idle_start [] = tt
 idle_start (b ∷ bs) = idle_if b b.used refl
 
-two_free : (b c : Block) (bs : List Block) → b.used ≡ false → c.used ≡ false → IsApart (b ∷ c ∷ bs) → ⊥
+two_free : (b c : Block) (bs : List Block) → b.used ≡ false → c.used ≡ false → AreCoalesced (b ∷ c ∷ bs) → ⊥
 two_free b c bs e f a = true≢false (ap₂ (λ (x y : Bool). not x && not y) (sym e) (sym f) ∙ a.0)
 
 -- free blocks after a list that ends in none are its free end
-pub end_is : (before left : List Block) → AllByRecursion (λ b. b.used ≡ false) left → IsApart (before ++ left) → ends_free before ≡ false → (free_end (before ++ left) ≡ left)
+pub end_is : (before left : List Block) → AllByRecursion (λ b. b.used ≡ false) left → AreCoalesced (before ++ left) → ends_free before ≡ false → (free_end (before ++ left) ≡ left)
     × (without_end (before ++ left) ≡ before)
 end_is before [] i a e = let n = no_end before e in (ap free_end (append-nil before) ∙ n.0, ap without_end (append-nil before) ∙ n.1)
 end_is before (b ∷ []) i a e = end_free before b i.0
 end_is before (b ∷ c ∷ left) i a e = absurd (two_free b c left i.0 i.1.0 (apart_parts before (b ∷ c ∷ left) a).1)
 
-pub start_is : (right after : List Block) → AllByRecursion (λ b. b.used ≡ false) right → IsApart (right ++ after) → starts_free after ≡ false → (free_start (right ++ after) ≡ right)
+pub start_is : (right after : List Block) → AllByRecursion (λ b. b.used ≡ false) right → AreCoalesced (right ++ after) → starts_free after ≡ false → (free_start (right ++ after) ≡ right)
     × (without_start (right ++ after) ≡ after)
 start_is [] after i a e = no_start after e
 start_is (b ∷ []) after i a e = (ap (λ (u : Bool). if not u then b ∷ [] else []) i.0, ap (λ (u : Bool). if not u then after else b ∷ after) i.0)

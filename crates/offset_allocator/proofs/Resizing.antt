@@ -1,7 +1,7 @@
 -- A block that is resized with the free block after it: what that leaves of a view, and of the whole allocator.
 use Rattle.offset_allocator.proofs.Common.{IsSome, ◌≡◌, ◌≢◌, ◌↔◌, ℕ, zero, suc, ◌+◌, ◌-◌, ◌<◌, ◌≤◌, Bool, true, false, ◌⊎◌, List, [], ◌∷◌, ◌++◌, length, Option, Some, None, is_some, nat_eq, refl, sym}
 use Rattle.offset_allocator.proofs.Common.{ap, ap₂, subst, ◌∙◌, inl, inr, arith, length-append, eq-zero-or-pos, if◌then◌else◌, false≢true, true≢false, and_right, Cells, Node, Block, View, Place, one}
-use Rattle.offset_allocator.proofs.Common.{units, count_named, used_of, used_block, IsApart, IsWellFormed, IsNew, free_start, without_start, free_part, remove_all, push_all, replace, HasRoomFor}
+use Rattle.offset_allocator.proofs.Common.{units, count_named, used_of, used_block, AreCoalesced, IsWellFormed, IsNew, free_start, without_start, free_part, remove_all, push_all, replace, HasRoomFor}
 use Rattle.offset_allocator.proofs.Common.{range_of, size_of, KeepsOthers, SameSpace, Resizes, ResizesTo, Shrinks, Grows, CanShrink, CanGrow, HasUnits, free_after, HasPlace, IsFreeAfter}
 use Rattle.offset_allocator.proofs.Common.{bins_in, IsBinned, option_map, unwrap_or, common_steps}
 use Rattle.offset_allocator.proofs.Freeing.{Release, at, used, w, remove_used, units_start}
@@ -48,11 +48,11 @@ module _ {x n : ℕ} {v u : View} (r : Resizes x n v u) (k : IsWellFormed v) whe
         some = omega arith;
         distinct = distinct_parts;
         names = named_parts;
-        apart = subst IsApart (ap (λ (z : View). z.blocks) r.view) r.apart;
+        apart = subst AreCoalesced (ap (λ (z : View). z.blocks) r.view) r.apart;
         room = grind (arith, common_steps, old_length, new_length, part_sums);
-        spare = omega (
+        few_used = omega (
           arith,
-          k.spare,
+          k.few_used,
           ap used_of r.blocks,
           tally_three (λ (b : Block). one b.used) r.before old r.after,
           tally_three (λ (b : Block). one b.used) r.before parts r.after,
@@ -135,9 +135,9 @@ module _ {f : Fields} {x : ℕ} (call : Release f x) where
           | inr s ↦ inl s
         ]
 
-    apart : IsApart (p.before ++ (new ++ after))
+    apart : AreCoalesced (p.before ++ (new ++ after))
     apart =
-        let parts = apart_parts p.before (p.block ∷ p.after) (subst IsApart (at call).list_is (w call).apart) in
+        let parts = apart_parts p.before (p.block ∷ p.after) (subst AreCoalesced (at call).list_is (w call).apart) in
         let tail = apart_without_start p.after parts.1.1 in
         apart_append p.before (new ++ after) parts.0 (refl, apart_free_part name left after tail.0 tail.1) (and_right (ends_free p.before) false refl)
 
@@ -153,9 +153,9 @@ module _ {f : Fields} {x : ℕ} (call : Release f x) where
     resized {top} accesses free bins lists total =
         let well = well_resized (resizes left_view refl) (w call) room in
         let flat : p.before ++ record p.block { size = n } ∷ (free_part name left ++ after) ≡ p.before ++ (new ++ after) = ap (λ b. p.before ++ b ∷ (free_part name left ++ after)) same_block in
-        let order : bins_in f.max d.bins ≡ push_all new (remove_all (p.block ∷ next) ls) = lists ∙ ap (push_all (free_part name left)) (sym (remove_used p.block next ls (used call))) in
+        let bins_are : bins_in f.max d.bins ≡ push_all new (remove_all (p.block ∷ next) ls) = lists ∙ ap (push_all (free_part name left)) (sym (remove_used p.block next ls (used call))) in
         let units_are = free_units-append p.before (new ++ after) in
-        let done = stepped f call.sound left_view d free accesses well refl there.chain flat bins order
+        let done = stepped f call.sound left_view d free accesses well refl there.chain flat bins bins_are
         (ap free_units flat ∙ units_are ∙ omega (arith, free_units-used (used_block x n) (free_part name left ++ after) refl, free_part_units name left after, had_free, total, enough)) in
         (done.0, resizes _ done.1)
 

@@ -1,9 +1,9 @@
 -- The words of a state and its parts, and the view of what is built of them.
 use Rattle.offset_allocator.proofs.Common.{◌≡◌, ℕ, suc, ◌+◌, ◌-◌, ◌*◌, ◌<◌, ◌≤◌, List, [], ◌∷◌, ◌++◌, length, take, drop, get_or, refl, sym, ap, ap₂, ◌∙◌, arith, append_assoc, nat_lt, if◌then◌else◌}
-use Rattle.offset_allocator.proofs.Common.{length-append, length-take-le, take-append-drop, Block, View, IsWellFormed, IsApart, units, count_named, times, used_of, max_size}
+use Rattle.offset_allocator.proofs.Common.{length-append, length-take-le, take-append-drop, Block, View, IsWellFormed, AreCoalesced, units, count_named, times, used_of, max_size}
 use Rattle.std.proofs.Math.Seq.{drop-append_seam, take-append_seam, get_or-append_seam, take-add, drop-cons}
 use Rattle.std.proofs.lemmas.List.{length-drop}
-use Rattle.offset_allocator.proofs.{Freed.length-filed, Freed.orders_agree, Freed.filed-freed, Laying.each_small, Laying.each_far, StateWords.length-words, StateWords.count-freed}
+use Rattle.offset_allocator.proofs.{Freed.length-filed, Freed.bins_agree, Freed.filed-freed, Laying.each_small, Laying.each_far, StateWords.length-words, StateWords.count-freed}
 use Rattle.offset_allocator.proofs.{StateWords.units-freed, StateWords.length-freed, StateWords.freed_again, StateWords.freed_same}
 use Rattle.offset_allocator.specs.Building.{AreEach, IsHeader}
 use Rattle.offset_allocator.specs.Relations.{SameSpace}
@@ -69,8 +69,8 @@ joined ws a b c e =
 -- the view of what is built
 pub well_built : (size limit count : ℕ) (bs : List Block) (free unused : List ℕ) → 1 ≤ length bs → units bs ≡ size → size ≤ max_size → AreEach bs unused → length bs + length unused ≤ limit
     → length bs + 1 ≤ limit
-    → ((x : ℕ) → times x free ≤ count_named x bs) → IsApart (freed free bs) → used_of (freed free bs) + 2 ≤ limit
-    → IsWellFormed (record { size = size; max_allocs = limit; blocks = freed free bs; order = filed bs free; accesses = count })
+    → ((x : ℕ) → times x free ≤ count_named x bs) → AreCoalesced (freed free bs) → used_of (freed free bs) + 2 ≤ limit
+    → IsWellFormed (record { size = size; max_allocs = limit; blocks = freed free bs; bins = filed bs free; accesses = count })
 well_built size limit count bs free unused some whole fits each made room once apart spare = record {
   some = omega (arith, some, length-freed free bs);
   distinct = λ x. omega (arith, count-freed x free bs, each_small bs unused each x);
@@ -79,17 +79,17 @@ well_built size limit count bs free unused some whole fits each made room once a
   fits = fits;
   apart = apart;
   classes = length-filed bs free;
-  orders = orders_agree bs free (λ x. omega (arith, each_small bs unused each x)) once;
+  binned = bins_agree bs free (λ x. omega (arith, each_small bs unused each x)) once;
   room = omega (arith, room, length-freed free bs);
-  spare = spare;
+  few_used = spare;
 }
 
 pub names_built : (size limit count : ℕ) (bs : List Block) (free unused : List ℕ) → AreEach bs unused → length bs + length unused ≤ limit → ((x : ℕ) → times x free ≤ count_named x bs)
-    → AreNamesOf (record { size = size; max_allocs = limit; blocks = freed free bs; order = filed bs free; accesses = count }) free unused
+    → AreNamesOf (record { size = size; max_allocs = limit; blocks = freed free bs; bins = filed bs free; accesses = count }) free unused
 names_built size limit count bs free unused each made once = record {
   free = freed_again free free bs;
   once = λ x. omega (arith, once x, count-freed x free bs);
-  order = filed-freed free bs free;
+  bins = filed-freed free bs free;
   each = λ x. ap (λ n. n + times x unused) (count-freed x free bs) ∙ each x ∙ ap (λ n. if nat_lt x (n + length unused) then 1 else 0) (sym (length-freed free bs));
   made = omega (arith, made, length-freed free bs);
 }
@@ -103,9 +103,9 @@ words-freed xs (b ∷ bs) = ap (λ l. l ++ b.name ∷ b.size ∷ []) (words-free
 pub text_built : {max most : ℕ} (ws : List ℕ) (h : Header) (count : ℕ) (bs : List Block) (x y z : List ℕ) → IsHeader max most ws h → x ≡ take (7 + 2 * h.blocks - 7) (drop 7 ws)
     → y ≡ take (7 + 2 * h.blocks + h.free - (7 + 2 * h.blocks)) (drop (7 + 2 * h.blocks) ws) → z ≡ take (length ws - 1 - (7 + 2 * h.blocks + h.free)) (drop (7 + 2 * h.blocks + h.free) ws)
     → block_words bs ≡ x → AreEach bs z → ((k : ℕ) → times k y ≤ count_named k bs) → checksum_from 0 (take (length ws - 1) ws) ≡ get_or ws (length ws - 1) 0
-    → IsTextOf (record { size = h.size; max_allocs = h.max_allocs; blocks = freed y bs; order = filed bs y; accesses = count }) ws
+    → IsTextOf (record { size = h.size; max_allocs = h.max_allocs; blocks = freed y bs; bins = filed bs y; accesses = count }) ws
 text_built ws h count bs x y z hd ex ey ez words each once check =
-    let v : View = record { size = h.size; max_allocs = h.max_allocs; blocks = freed y bs; order = filed bs y; accesses = count } in
+    let v : View = record { size = h.size; max_allocs = h.max_allocs; blocks = freed y bs; bins = filed bs y; accesses = count } in
     let n : ℕ = length ws - 1 in
     let j = joined ws (2 * h.blocks) h.free h.unused (omega (arith, hd.long)) in
     let lx : length x ≡ 2 * h.blocks = ap length ex ∙ length-take-le (7 + 2 * h.blocks - 7) (drop 7 ws) (omega (arith, hd.long, length-drop 7 ws)) ∙ omega arith in
@@ -133,11 +133,11 @@ text_parts {ws} {v} t a b ea eb =
     parted ws (1414742351 ∷ 1 ∷ v.size ∷ v.max_allocs ∷ length v.blocks ∷ length t.names ∷ length t.unused ∷ []) (block_words v.blocks) t.names t.unused _ (2 * a) b t.words refl
     (omega (arith, length-words v.blocks, ea)) eb
 
-view_parts : (v w : View) → w.size ≡ v.size → w.max_allocs ≡ v.max_allocs → w.blocks ≡ v.blocks → w.order ≡ v.order → SameSpace v w
+view_parts : (v w : View) → w.size ≡ v.size → w.max_allocs ≡ v.max_allocs → w.blocks ≡ v.blocks → w.bins ≡ v.bins → SameSpace v w
 view_parts v w s m b o =
     ap (λ (n : ℕ). record w { size = n }) s ∙ ap (λ (n : ℕ). record w { size = v.size; max_allocs = n }) m
     ∙ ap (λ (l : List Block). record w { size = v.size; max_allocs = v.max_allocs; blocks = l }) b
-    ∙ ap (λ (l : List (List ℕ)). record v { order = l; accesses = w.accesses }) o
+    ∙ ap (λ (l : List (List ℕ)). record v { bins = l; accesses = w.accesses }) o
 
 pub one_view : (v w : View) (ws : List ℕ) → IsTextOf v ws → IsTextOf w ws → SameSpace v w
 one_view v w ws t u =
@@ -148,5 +148,5 @@ one_view v w ws t u =
     let same_names : u.names ≡ t.names = sym q.second ∙ p.second in
     let same_words : block_words w.blocks ≡ block_words v.blocks = sym q.first ∙ p.first in
     let same_blocks : w.blocks ≡ v.blocks = sym u.are.free ∙ ap (λ l. freed l w.blocks) same_names ∙ freed_same t.names w.blocks v.blocks same_words ∙ t.are.free in
-    let same_order : w.order ≡ v.order = sym u.are.order ∙ ap₂ filed same_blocks same_names ∙ t.are.order in
-    view_parts v w (ap (λ l. get_or l 2 0) (sym u.words ∙ t.words)) (ap (λ l. get_or l 3 0) (sym u.words ∙ t.words)) same_blocks same_order
+    let same_bins : w.bins ≡ v.bins = sym u.are.bins ∙ ap₂ filed same_blocks same_names ∙ t.are.bins in
+    view_parts v w (ap (λ l. get_or l 2 0) (sym u.words ∙ t.words)) (ap (λ l. get_or l 3 0) (sym u.words ∙ t.words)) same_blocks same_bins

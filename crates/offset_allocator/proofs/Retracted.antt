@@ -1,7 +1,7 @@
 -- The last block of a space has fewer units, or goes.
 use Rattle.offset_allocator.proofs.Common.{◌≡◌, ℕ, zero, suc, ◌+◌, ◌-◌, ◌<◌, ◌≤◌, Bool, true, false, not, ◌&&◌, List, [], ◌∷◌, ◌++◌, length, refl, sym, ap, subst, ◌∙◌, arith, inl, inr, append-nil}
 use Rattle.offset_allocator.proofs.Common.{append_assoc, length-append}
-use Rattle.offset_allocator.proofs.Common.{Block, View, Cells, units, one, down, free_block, used_of, IsApart, IsWellFormed, IsChain, IsBinned, bins_in, blocks, push, push_all, remove_all, replace}
+use Rattle.offset_allocator.proofs.Common.{Block, View, Cells, units, one, down, free_block, used_of, AreCoalesced, IsWellFormed, IsChain, IsBinned, bins_in, blocks, push, push_all, remove_all, replace}
 use Rattle.offset_allocator.proofs.Common.{ends_used, KeepsAll, true≢false}
 use Rattle.offset_allocator.specs.Retracting.{CanRetract, Cuts, Retracts, end_part}
 use Rattle.offset_allocator.proofs.{Sound.Fields, Sound.AreSound, Sound.shown, Joints.stepped, Joints.free_units-append, Joints.free_units-free, Tallies.free_units, Tallies.free_sum}
@@ -48,8 +48,8 @@ module _ {it : Fields} (r : EndsFree it) (less : ℕ) (enough : less ≤ (last_o
   pub free_fits : less ≤ it.free
   free_fits = omega (arith, enough, its_free)
 
-  parts : IsApart (last_of r).front × IsApart ((last_of r).last ∷ []) × ((ends_free (last_of r).front && not (last_of r).last.used) ≡ false)
-  parts = apart_parts fs (b ∷ []) (subst IsApart (last_of r).is w.apart)
+  parts : AreCoalesced (last_of r).front × AreCoalesced ((last_of r).last ∷ []) × ((ends_free (last_of r).front && not (last_of r).last.used) ≡ false)
+  parts = apart_parts fs (b ∷ []) (subst AreCoalesced (last_of r).is w.apart)
 
   abbrev pub Cut : Cells → ℕ → ℕ → ℕ → ℕ → Type 0
   Cut d last count top k =
@@ -69,9 +69,9 @@ module _ {it : Fields} (r : EndsFree it) (less : ℕ) (enough : less ≤ (last_o
         names = λ x l. inl l;
         apart = apart_append fs (free_block b.name (b.size - less) ∷ []) parts.0 (refl, tt) (ap (λ (u : Bool). ends_free fs && not u) (sym (last_free r)) ∙ parts.2);
         room = omega (arith, w.room, ap (λ (l : List Block). length l) (last_of r).is, length-append fs (b ∷ []), length-append fs (free_block b.name (b.size - less) ∷ []));
-        spare = omega (
+        few_used = omega (
           arith,
-          w.spare,
+          w.few_used,
           ap used_of (last_of r).is,
           tally_append (λ (c : Block). one c.used) fs (b ∷ []),
           tally_append (λ (c : Block). one c.used) fs (free_block b.name (b.size - less)
@@ -115,7 +115,7 @@ module _ {it : Fields} (r : EndsFree it) (less : ℕ) (enough : less ≤ (last_o
     all_is = (last_of r).is ∙ ap (λ (l : List Block). l ++ b ∷ []) others ∙ append_assoc gs (a ∷ []) (b ∷ [])
 
     a_used : a.used ≡ true
-    a_used = other_used a.used b.used (one_used gs a b [] (subst IsApart all_is w.apart)) (last_free r)
+    a_used = other_used a.used b.used (one_used gs a b [] (subst AreCoalesced all_is w.apart)) (last_free r)
 
     abbrev cut_view : View
     cut_view = record (replace (shown it) gs (a ∷ (last_of r).last ∷ []) (a ∷ []) []) { size = it.size - less }
@@ -127,9 +127,9 @@ module _ {it : Fields} (r : EndsFree it) (less : ℕ) (enough : less ≤ (last_o
           some = omega arith;
           distinct = λ y. elim (hit_cases y a.name) [ inl i ↦ omega (arith, i.1) | inr i ↦ omega (arith, i.1) ];
           names = λ x l. inl (omega (arith, l));
-          apart = subst IsApart others parts.0;
+          apart = subst AreCoalesced others parts.0;
           room = omega (arith, w.room, ap (λ (l : List Block). length l) all_is, length-append gs (a ∷ b ∷ []), length-append gs (a ∷ []));
-          spare = omega (arith, w.spare, ap used_of all_is, tally_append (λ (c : Block). one c.used) gs (a ∷ b ∷ []), tally_append (λ (c : Block). one c.used) gs (a ∷ []));
+          few_used = omega (arith, w.few_used, ap used_of all_is, tally_append (λ (c : Block). one c.used) gs (a ∷ b ∷ []), tally_append (λ (c : Block). one c.used) gs (a ∷ []));
         })
         (omega (arith, whole, size_fits)) (omega (arith, w.fits))
 
@@ -149,8 +149,8 @@ module _ {it : Fields} (r : EndsFree it) (less : ℕ) (enough : less ≤ (last_o
           enough = enough;
           view =
               made.1
-              ∙ ap (λ (o : List (List ℕ)). record (shown it) { blocks = gs ++ a ∷ []; order = o; size = it.size - less; accesses = k }) removed
-              ∙ ap (λ (l : List Block). record (shown it) { blocks = l; order = remove_all (b ∷ []) (bins_in it.max it.cells.bins); size = it.size - less; accesses = k }) (sym others
+              ∙ ap (λ (o : List (List ℕ)). record (shown it) { blocks = gs ++ a ∷ []; bins = o; size = it.size - less; accesses = k }) removed
+              ∙ ap (λ (l : List Block). record (shown it) { blocks = l; bins = remove_all (b ∷ []) (bins_in it.max it.cells.bins); size = it.size - less; accesses = k }) (sym others
               ∙ sym (append-nil fs))
               ∙ ap (λ (new : List Block). record (replace (shown it) fs (b ∷ []) new []) { size = it.size - less; accesses = k }) (sym (gone (b.size - less) (omega (arith, whole))));
         } in (

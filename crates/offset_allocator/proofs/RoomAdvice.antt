@@ -1,6 +1,6 @@
 -- What has to move for a request, beside the reason of its refusal.
 use Rattle.offset_allocator.proofs.Common.{◌≡◌, ℕ, ◌^◌, ◌<◌, ◌≤◌, ◌⊎◌, Bool, true, false, not, ◌&&◌, Option, Some, None, List, [], ◌∷◌, ◌++◌, sum, if◌then◌else◌, refl, sym, ap, ap₂, subst, ◌∙◌, arith}
-use Rattle.offset_allocator.proofs.Common.{inl, inr, eq-zero-or-pos, true≢false, not-true, Block, View, IsWellFormed, IsApart, CanGrant, IsWhy, free_sizes}
+use Rattle.offset_allocator.proofs.Common.{inl, inr, eq-zero-or-pos, true≢false, not-true, Block, View, IsWellFormed, AreCoalesced, CanGrant, IsWhy, free_sizes}
 use Rattle.offset_allocator.proofs.Common.{starts_free, ends_used, used_of, one, value, up, down, times, units, first_free}
 use Rattle.offset_allocator.proofs.{Advice.none_free, Advice.free_within, Taken.HasFit, Taken.fitting, Classes.value_rises, Classes.down_law, Classes.value_grows, Classes.value_down}
 use Rattle.offset_allocator.proofs.{ViewFits.HasName, ViewFits.there_listed, ViewFits.there_middle, ViewApart.apart_parts}
@@ -138,7 +138,7 @@ module _ (v : View) (w : IsWellFormed v) (n : ℕ) (why : IsWhy 1 n v Fragmented
         (down_law b.size (up n) small).1 l,
         λ e. absurd (omega (
           arith,
-          w.orders (down b.size) b.name,
+          w.binned (down b.size) b.name,
           ap (times b.name) e,
           there_listed b v.blocks (subst (HasName b) (sym is) (there_middle front b back)) (ap not idle),
         )),
@@ -155,8 +155,8 @@ module _ (v : View) (w : IsWellFormed v) (n : ℕ) (why : IsWhy 1 n v Fragmented
           why.2 (why.0, alone_fits b front back is idle (omega (arith, l, free_sum (b ∷ []), free_units-free b [] idle)))
       go (b ∷ d ∷ rest) front back is s z l = two d.used refl
         where
-          apart : IsApart (b ∷ d ∷ rest)
-          apart = (apart_parts (b ∷ d ∷ rest) back (apart_parts front ((b ∷ d ∷ rest) ++ back) (subst IsApart is w.apart)).1).0
+          apart : AreCoalesced (b ∷ d ∷ rest)
+          apart = (apart_parts (b ∷ d ∷ rest) back (apart_parts front ((b ∷ d ∷ rest) ++ back) (subst AreCoalesced is w.apart)).1).0
 
           two : (u : Bool) → d.used ≡ u → ⊥
           two true e = omega (arith, z, ap one e)

@@ -1,18 +1,18 @@
 -- The whole allocator after a run has slid to its front.
 use Rattle.offset_allocator.proofs.Common.{◌%◌, ◌*◌, value, up, moves, Move, FoldsTo, CanGrant}
 use Rattle.std.specs.Prelude.{drop}
-use Rattle.offset_allocator.proofs.{Sliding.moves_idle, Compacting.live_whole, Classes.down_law, Classes.down_small, ViewOrders.names_same, ViewOrders.length_remove_all}
+use Rattle.offset_allocator.proofs.{Sliding.moves_idle, Compacting.live_whole, Classes.down_law, Classes.down_small, ViewBins.names_same, ViewBins.length_remove_all}
 use Rattle.offset_allocator.proofs.{Advice.free_within, Refusals.total_is, Runs.cheapest_cost, Runs.want_is}
 use Rattle.offset_allocator.proofs.Common.{◌≡◌, ◌≢◌, ℕ, ◌+◌, ◌^◌, ◌<◌, ◌≤◌, ◌⊎◌, Bool, true, false, not, ◌&&◌, Some, None, List, [], ◌∷◌, ◌++◌, length, sum, if◌then◌else◌, nat_eq, refl, sym, ap, ap₂}
 use Rattle.offset_allocator.proofs.Common.{subst, ◌∙◌, arith, inl, inr, append_assoc, append-nil, length-append, eq-zero-or-pos, true≢false, not-true, down, Cells, Block, View, Place}
-use Rattle.offset_allocator.proofs.Common.{one, free_block, units, free_sizes, used_of, count_named, count_in_bin, bin_at, push, push_all, remove, remove_all, replace, IsApart, IsWellFormed, IsNew}
+use Rattle.offset_allocator.proofs.Common.{one, free_block, units, free_sizes, used_of, count_named, count_in_bin, bin_at, push, push_all, remove, remove_all, replace, AreCoalesced, IsWellFormed, IsNew}
 use Rattle.offset_allocator.proofs.Common.{starts_free, ends_used, live, SameSpace, HasPlace, blocks, IsBinned, bins_in, AreInBins, IsAmong, last_or, first_or, Node, node}
 use Rattle.offset_allocator.proofs.{Exchange.each-le, Exchange.there-below, Joints.stepped, Joints.free_units-append, Joints.free_units-free, Joints.free_units-used, Joints.remove_free, Places.placed}
 use Rattle.offset_allocator.proofs.{Sound.Fields, Sound.AreSound, Sound.shown, Sound.well_counted}
 use Rattle.offset_allocator.proofs.{Tallies.one-same, Tallies.times-append, Tallies.tally_append, Tallies.tally_three, Tallies.units-append}
 use Rattle.offset_allocator.proofs.{Tallies.free_units, Tallies.free_sum, Tallies.counted_none, ViewApart.apart_parts, ViewApart.apart_append}
 use Rattle.offset_allocator.proofs.{ViewApart.ends_free, ViewApart.left_false, ViewApart.right_false, ViewReplaced.IsReplacement, ViewReplaced.well_replaced}
-use Rattle.offset_allocator.proofs.{ViewReplaced.orders_replaced, Filed.share, Filed.counts_once, Sliding.live_used}
+use Rattle.offset_allocator.proofs.{ViewReplaced.bins_replaced, Filed.share, Filed.counts_once, Sliding.live_used}
 use Rattle.offset_allocator.proofs.{Sliding.live_idle, Compacting.live_append, Compacting.live_units, Compacting.AreUsed}
 use Rattle.offset_allocator.proofs.{Compacting.live_are_used, Places.at_place}
 use Rattle.offset_allocator.specs.declared.room.RoomCost.{RoomCost}
@@ -67,7 +67,7 @@ live_no_free : (bs : List Block) → AreUsed bs → free_units bs ≡ 0
 live_no_free [] h = refl
 live_no_free (b ∷ bs) h = free_units-used b bs h.0 ∙ live_no_free bs h.1
 
-used_are_apart : (bs : List Block) → AreUsed bs → IsApart bs
+used_are_apart : (bs : List Block) → AreUsed bs → AreCoalesced bs
 used_are_apart [] h = tt
 used_are_apart (b ∷ bs) h = (ap (λ (u : Bool). not u && starts_free bs) h.0, used_are_apart bs h.1)
 
@@ -106,7 +106,7 @@ ends_free_is b (d ∷ []) k e h = ap not h
 ends_free_is b (d ∷ c ∷ bs) k e h = ends_free_is d (c ∷ bs) k e h
 
 -- blocks of which no two neighbours are free are at most twice as many as the used ones, and one
-apart_few : (bs : List Block) → IsApart bs → length bs ≤ 2 * used_of bs + 1
+apart_few : (bs : List Block) → AreCoalesced bs → length bs ≤ 2 * used_of bs + 1
 apart_few [] h = omega arith
 apart_few (b ∷ []) h = omega arith
 apart_few (b ∷ d ∷ bs) h = go b.used refl (apart_few (d ∷ bs) h.1) (apart_few bs h.1.1)
@@ -147,7 +147,7 @@ module _ (f : Fields) (s : AreSound f) (want : ℕ) (r : Run) (o : IsOpened want
   pub first_listed : (n : ℕ) → n ≡ (node f.cells.chain r.first).size → IsAmong r.first (bin_at ls (down n))
   first_listed n e = rw e (omega (
     arith,
-    w.orders (down (node f.cells.chain r.first).size) r.first,
+    w.binned (down (node f.cells.chain r.first).size) r.first,
     ap (count_in_bin (down (node f.cells.chain r.first).size) r.first) o.is,
     tally_append (share (down (node f.cells.chain r.first).size) r.first) o.front (run ++ o.back),
     counts_once first_at first_idle,
@@ -162,8 +162,8 @@ module _ (f : Fields) (s : AreSound f) (want : ℕ) (r : Run) (o : IsOpened want
   pub first_filed : (n : ℕ) → n ≡ (node f.cells.chain r.first).size → (ls' : List (List ℕ)) → ls' ≡ remove (down n) r.first ls → AreInBins (o.front ++ (o.rest ++ o.back)) ls'
   first_filed n e ls' q k y = rw (q ∙ removed n e) (omega (
     arith,
-    orders_replaced v o.front (o.block ∷ []) [] (o.rest ++ o.back) w o.is k y,
-    w.orders k y,
+    bins_replaced v o.front (o.block ∷ []) [] (o.rest ++ o.back) w o.is k y,
+    w.binned k y,
     ap (count_in_bin k y) o.is,
     tally_three (share k y) o.front (o.block ∷ []) (o.rest ++ o.back),
     tally_append (share k y) o.front (o.rest ++ o.back),
@@ -224,10 +224,10 @@ module _ (f : Fields) (s : AreSound f) (want : ℕ) (r : Run) (o : IsOpened want
     list_two : o.front ++ (live o.rest ++ (free_block x n ∷ o.back)) ≡ o.front ++ (new ++ o.back)
     list_two = ap (λ l. o.front ++ l) (sym (append_assoc (live o.rest) (free_block x n ∷ []) o.back)) ∙ ap (λ l. o.front ++ (l ++ o.back)) (sym new_is)
 
-    before_parts : IsApart o.front × IsApart (run ++ o.back) × ((ends_free o.front && starts_free (run ++ o.back)) ≡ false)
-    before_parts = apart_parts o.front (run ++ o.back) (subst IsApart o.is w.apart)
+    before_parts : AreCoalesced o.front × AreCoalesced (run ++ o.back) × ((ends_free o.front && starts_free (run ++ o.back)) ≡ false)
+    before_parts = apart_parts o.front (run ++ o.back) (subst AreCoalesced o.is w.apart)
 
-    after_parts : IsApart run × IsApart o.back × ((ends_free run && starts_free o.back) ≡ false)
+    after_parts : AreCoalesced run × AreCoalesced o.back × ((ends_free run && starts_free o.back) ≡ false)
     after_parts = apart_parts run o.back before_parts.1
 
     front_used : ends_free o.front ≡ false
@@ -236,8 +236,8 @@ module _ (f : Fields) (s : AreSound f) (want : ℕ) (r : Run) (o : IsOpened want
     back_used : starts_free o.back ≡ false
     back_used = right_false (ends_free run) (starts_free o.back) after_parts.2 (ends_free_is o.block o.rest r.end o.ends o.free)
 
-    apart : IsApart (o.front ++ (new ++ o.back))
-    apart = subst IsApart list_two (apart_append o.front (live o.rest ++ (free_block x n ∷ o.back)) before_parts.0
+    apart : AreCoalesced (o.front ++ (new ++ o.back))
+    apart = subst AreCoalesced list_two (apart_append o.front (live o.rest ++ (free_block x n ∷ o.back)) before_parts.0
         (apart_append (live o.rest) (free_block x n ∷ o.back) (used_are_apart (live o.rest) (live_are_used o.rest)) (back_used, after_parts.1)
         (ap (λ u. u && starts_free (free_block x n ∷ o.back)) (used_end (live o.rest) (live_are_used o.rest))))
         (ap (λ u. u && starts_free (live o.rest ++ (free_block x n ∷ o.back))) front_used))
@@ -263,9 +263,9 @@ module _ (f : Fields) (s : AreSound f) (want : ℕ) (r : Run) (o : IsOpened want
         new_length,
         live_few o.rest,
       );
-      spare = omega (
+      few_used = omega (
         arith,
-        w.spare,
+        w.few_used,
         ap used_of o.is,
         tally_three (λ (b : Block). one b.used) o.front run o.back,
         tally_three (λ (b : Block). one b.used) o.front new o.back,
@@ -327,8 +327,8 @@ module _ (f : Fields) (s : AreSound f) (want : ℕ) (r : Run) (o : IsOpened want
           units-append (live
               o.rest) (free_block x n ∷ []),
         ) in
-        let order : u.order ≡ push (down n) x (remove_all run ls) =
-        ap (λ (z : View). z.order) same ∙ ap (λ l. push_all l (remove_all run ls)) new_is ∙ pushed_used (live o.rest) (free_block x n ∷ []) (remove_all run ls) (live_are_used o.rest) in (
+        let bins : u.bins ≡ push (down n) x (remove_all run ls) =
+        ap (λ (z : View). z.bins) same ∙ ap (λ l. push_all l (remove_all run ls)) new_is ∙ pushed_used (live o.rest) (free_block x n ∷ []) (remove_all run ls) (live_are_used o.rest) in (
           omega (
             arith,
             ap (λ (z : View). length z.blocks) same,
@@ -347,7 +347,7 @@ module _ (f : Fields) (s : AreSound f) (want : ℕ) (r : Run) (o : IsOpened want
             (down_law n (up size) fits).1 (omega (arith, o.serves, room_is, is)),
             λ q. let k : x ∷ bin_at (remove_all run ls) (down n) ≡ [] =
                 sym (names_same (remove_all run ls) (down n) (x ∷ bin_at (remove_all run ls) (down n)) (length_remove_all run ls ∙ w.classes) (down_small n)) ∙ ap (λ (m : List
-                (List ℕ)). bin_at m (down n)) (sym order) ∙ q in
+                (List ℕ)). bin_at m (down n)) (sym bins) ∙ q in
                 absurd (cc),
           ),
         )
@@ -358,10 +358,10 @@ module _ (f : Fields) (s : AreSound f) (want : ℕ) (r : Run) (o : IsOpened want
         × ((h : SlidesRun want v (shown (record f { cells = d; last = last; count = count; top = top; accesses = accesses }))) × (h.run ≡ run) × (h.front ≡ o.front))
         × SameSpace left_view (shown (record f { cells = d; last = last; count = count; top = top; accesses = accesses }))
     slides {top} {accesses} k e binned lists =
-        let order : bins_in f.max d.bins ≡ left_view.order =
+        let bins : bins_in f.max d.bins ≡ left_view.bins =
         lists ∙ ap (λ m. push (down n) x (remove_all o.rest m)) (removed k e) ∙ sym (pushed_used (live o.rest) (free_block x n ∷ []) (remove_all run ls) (live_are_used o.rest))
         ∙ ap (λ l. push_all l (remove_all run ls)) (sym new_is) in
-        let done = stepped f s left_view d f.free accesses left_well refl there.chain list_is binned order total in (
+        let done = stepped f s left_view d f.free accesses left_well refl there.chain list_is binned bins total in (
           done.0,
           (
             record {
@@ -423,11 +423,11 @@ module _ (f : Fields) (s : AreSound f) (want : ℕ) (r : Run) (o : IsOpened want
 -- what the search has found
 module _ (f : Fields) (s : AreSound f) (v : View) (e : shown f ≡ v) (w : IsWellFormed v) (n k d want : ℕ) (r : Run) (up_is : k ≡ up n) (down_is : d ≡ down f.free) (l : k ≤ d)
     (want_value : want ≡ value k % 2 ^ 32) (h : IsCheapest want (blocks f.cells.chain f.last) (Some r)) where
-  total_free : f.free ≡ sum (free_sizes v.blocks)
-  total_free = total_is f s 0 0 ∙ ap (λ (u : View). sum (free_sizes u.blocks)) e
+  reported_free : f.free ≡ sum (free_sizes v.blocks)
+  reported_free = total_is f s 0 0 ∙ ap (λ (u : View). sum (free_sizes u.blocks)) e
 
   want_found : want ≡ value (up n)
-  want_found = want_is n k d f.free want (omega (arith, total_free, free_within v w, w.fits)) up_is down_is l want_value
+  want_found = want_is n k d f.free want (omega (arith, reported_free, free_within v w, w.fits)) up_is down_is l want_value
 
   pub found_cost : IsLeastCost (value (up n)) v.blocks (Some r.cost)
   found_cost =

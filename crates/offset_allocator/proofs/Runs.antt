@@ -505,7 +505,7 @@ pub cheapest_cost : (want : ℕ) (bs : List Block) (r : Run) → IsCheapest want
 cheapest_cost want bs r h = ((h.0.0, h.0.1, h.0.2, h.0.3), h.1)
 
 -- a bin that is found has a block that serves
-pub one_serves : (v : View) → IsWellFormed v → (n k : ℕ) (ls : List (List ℕ)) (r : Option ℕ) → k ≡ up n → ls ≡ v.order → IsFoundFrom k ls r → is_some r ≡ true
+pub one_serves : (v : View) → IsWellFormed v → (n k : ℕ) (ls : List (List ℕ)) (r : Option ℕ) → k ≡ up n → ls ≡ v.bins → IsFoundFrom k ls r → is_some r ≡ true
     → IsLeastCost (value (up n)) v.blocks (Some (record { units = 0; ranges = 0 }))
 one_serves v w n k ls None e o f s = absurd (cc)
 one_serves v w n k ls (Some c) e o f s =
@@ -514,11 +514,11 @@ one_serves v w n k ls (Some c) e o f s =
     single_run (value (up n)) v.blocks p.0.before p.0.after p.0.block p.1 p.2 (omega (arith, value_grows (up n) (down p.0.block.size) p.3, value_down p.0.block.size))
 
 -- where none is found, no free block is of such a class
-pub none_fits : (v : View) → IsWellFormed v → (n k : ℕ) (ls : List (List ℕ)) (r : Option ℕ) → k ≡ up n → ls ≡ v.order → IsFoundFrom k ls r → (is_some r ≡ true → ⊥) → HasFit n v → ⊥
+pub none_fits : (v : View) → IsWellFormed v → (n k : ℕ) (ls : List (List ℕ)) (r : Option ℕ) → k ≡ up n → ls ≡ v.bins → IsFoundFrom k ls r → (is_some r ≡ true → ⊥) → HasFit n v → ⊥
 none_fits v w n k ls (Some c) e o f s h = s refl
 none_fits v w n k ls None e o f s h = elim (cases_lt h.0 256) [
   | inl l ↦ h.2 (sym (ap (λ (m : List (List ℕ)). bin_at m h.0) o) ∙ f h.0 (omega (arith, e, h.1)) l)
-  | inr l ↦ h.2 (get_or_past v.order h.0 [] (omega (arith, l, w.classes)))
+  | inr l ↦ h.2 (get_or_past v.bins h.0 [] (omega (arith, l, w.classes)))
 ]
 
 -- the free units of a class that all free units together have not

@@ -91,36 +91,36 @@ filed_bins bs n (l ∷ ls) e h =
 
 module _ (v : View) (w : IsWellFormed v) where
   names : List ℕ
-  names = concat v.order
+  names = concat v.bins
 
   -- a name is in the bin of its class alone
-  in_class : (x : ℕ) → times x (concat v.order) ≡ count_in_bin (down (size_named x v.blocks)) x v.blocks
+  in_class : (x : ℕ) → times x (concat v.bins) ≡ count_in_bin (down (size_named x v.blocks)) x v.blocks
   in_class x =
-      only_of x (down (size_named x v.blocks)) v.order (omega (arith, w.classes, down_small (size_named x v.blocks)))
-      (λ j ne. w.orders j x ∙ other_class j x v.blocks (w.distinct x) ne)
-      ∙ w.orders (down (size_named x v.blocks)) x
+      only_of x (down (size_named x v.blocks)) v.bins (omega (arith, w.classes, down_small (size_named x v.blocks)))
+      (λ j ne. w.binned j x ∙ other_class j x v.blocks (w.distinct x) ne)
+      ∙ w.binned (down (size_named x v.blocks)) x
 
-  pub names_once : (x : ℕ) → times x (concat v.order) ≤ count_named x v.blocks
+  pub names_once : (x : ℕ) → times x (concat v.bins) ≤ count_named x v.blocks
   names_once x = omega (arith, in_class x, listed_named (down (size_named x v.blocks)) x v.blocks)
 
-  pub names_free : freed (concat v.order) v.blocks ≡ v.blocks
+  pub names_free : freed (concat v.bins) v.blocks ≡ v.blocks
   names_free = go [] v.blocks refl
     where
-      among : (x : ℕ) (u : Bool) → times x (concat v.order) ≡ one (not u) → not (is_among x (concat v.order)) ≡ u
-      among x true e = ap not (among_times x (concat v.order) e)
-      among x false e = elim (bool_cases (is_among x (concat v.order))) [ inl t ↦ ap not t | inr f ↦ absurd (omega (arith, e, times_among x (concat v.order) f)) ]
+      among : (x : ℕ) (u : Bool) → times x (concat v.bins) ≡ one (not u) → not (is_among x (concat v.bins)) ≡ u
+      among x true e = ap not (among_times x (concat v.bins) e)
+      among x false e = elim (bool_cases (is_among x (concat v.bins))) [ inl t ↦ ap not t | inr f ↦ absurd (omega (arith, e, times_among x (concat v.bins) f)) ]
 
-      go : (fs cs : List Block) → v.blocks ≡ fs ++ cs → freed (concat v.order) cs ≡ cs
+      go : (fs cs : List Block) → v.blocks ≡ fs ++ cs → freed (concat v.bins) cs ≡ cs
       go fs [] e = refl
       go fs (b ∷ cs) e =
           let r = at_block fs b cs (subst (λ bs. count_named b.name bs ≤ 1) e (w.distinct b.name)) in
           let size : size_named b.name v.blocks ≡ b.size = ap (size_named b.name) e ∙ r.0 in
-          let count : times b.name (concat v.order) ≡ one (not b.used) =
+          let count : times b.name (concat v.bins) ≡ one (not b.used) =
           in_class b.name ∙ ap (λ n. count_in_bin (down n) b.name v.blocks) size ∙ ap (count_in_bin (down b.size) b.name) e ∙ r.1 in
           ap₂ (λ (u : Bool) (l : List Block). record b { used = u } ∷ l) (among b.name b.used count) (go (fs ++ b ∷ []) cs (e ∙ sym (append_assoc fs (b ∷ []) cs)))
 
-  pub names_order : filed v.blocks (concat v.order) ≡ v.order
-  names_order = filed_bins v.blocks 0 v.order (omega (arith, w.classes)) (λ k x s. elim (cases_eq k (down (size_named x v.blocks))) [
+  pub names_bins : filed v.blocks (concat v.bins) ≡ v.bins
+  names_bins = filed_bins v.blocks 0 v.bins (omega (arith, w.classes)) (λ k x s. elim (cases_eq k (down (size_named x v.blocks))) [
     | inl e ↦ sym e ∙ omega arith
-    | inr ne ↦ absurd (omega (arith, s, w.orders k x, other_class k x v.blocks (w.distinct x) ne))
+    | inr ne ↦ absurd (omega (arith, s, w.binned k x, other_class k x v.blocks (w.distinct x) ne))
   ])

@@ -1,7 +1,7 @@
 -- What a split leaves is well formed.
 use Rattle.offset_allocator.proofs.Common.{◌≡◌, ℕ, zero, suc, ◌+◌, ◌<◌, ◌≤◌, Bool, true, false, not, if◌then◌else◌, ◌⊎◌, List, [], ◌∷◌, ◌++◌, length, nat_eq, sym, ap, ap₂, subst, ◌∙◌, arith}
 use Rattle.offset_allocator.proofs.Common.{length-append, append_assoc, Block}
-use Rattle.offset_allocator.proofs.Common.{View, Grant, one, used_block, count_named, used_of, IsApart, IsWellFormed, IsNew, free_part, replace, push_all, remove, down, SameSpace, Splits}
+use Rattle.offset_allocator.proofs.Common.{View, Handle, one, used_block, count_named, used_of, AreCoalesced, IsWellFormed, IsNew, free_part, replace, push_all, remove, down, SameSpace, Splits}
 use Rattle.offset_allocator.proofs.Common.{common_steps}
 use Rattle.offset_allocator.proofs.{Sound.well_same, ViewReplaced.well_replaced, ViewApart.apart_granted, Tallies.tally_three, Tallies.part_sums, Tallies.tally_append, Tallies.hit_cases}
 use Rattle.offset_allocator.proofs.{Tallies.units-append, Tallies.new_absent}
@@ -21,7 +21,7 @@ part_name : (v : View) (y n : ℕ) → (1 ≤ n → IsNew y v) → (x : ℕ) →
 part_name v y zero new x = grind arith
 part_name v y (suc n) new x = grind (arith, hit_cases)
 
-module _ {needed n : ℕ} {padding_at : ℕ → ℕ} {v u : View} {g : Grant} (s : Splits needed n padding_at v u g) where
+module _ {needed n : ℕ} {padding_at : ℕ → ℕ} {v u : View} {g : Handle} (s : Splits needed n padding_at v u g) where
   abbrev padding : List Block
   padding = free_part s.padding_name s.padding
 
@@ -33,8 +33,8 @@ module _ {needed n : ℕ} {padding_at : ℕ → ℕ} {v u : View} {g : Grant} (s
 
   -- it is one step of `replace`
   pub split_view : SameSpace (replace v s.before (s.block ∷ []) (free_part s.padding_name s.padding ++ (used_block s.block.name n ∷ free_part s.remainder_name s.remainder)) s.after) u
-  split_view = s.view ∙ ap₂ (λ parts order. record v { blocks = s.before ++ (parts ++ s.after); order = push_all parts order; accesses = u.accesses }) s.made
-      (sym (ap (λ (b : Bool). if b then v.order else remove (down s.block.size) s.block.name v.order) s.free))
+  split_view = s.view ∙ ap₂ (λ parts bins. record v { blocks = s.before ++ (parts ++ s.after); bins = push_all parts bins; accesses = u.accesses }) s.made
+      (sym (ap (λ (b : Bool). if b then v.bins else remove (down s.block.size) s.block.name v.bins) s.free))
 
   -- in a space with room for the blocks that it adds
   pub well_split : (k : ℕ) → IsWellFormed v → length v.blocks + k < v.max_allocs → length (free_part s.padding_name s.padding) + 1 ≤ k → IsWellFormed u
@@ -44,10 +44,10 @@ module _ {needed n : ℕ} {padding_at : ℕ → ℕ} {v u : View} {g : Grant} (s
         some = omega (arith, lengths);
         distinct = distinct;
         names = names;
-        apart = subst IsApart (sym (simp append_assoc)) (apart_granted s.before s.block s.after s.padding_name s.padding s.block.name n s.remainder_name s.remainder (ap not s.free)
-            (subst IsApart s.blocks w.apart));
+        apart = subst AreCoalesced (sym (simp append_assoc)) (apart_granted s.before s.block s.after s.padding_name s.padding s.block.name n s.remainder_name s.remainder (ap not s.free)
+            (subst AreCoalesced s.blocks w.apart));
         room = omega (arith, room, parts, old_length, new_length, (part_sums s.remainder_name s.remainder).0);
-        spare = omega (arith, room, parts, used_new, old_length, (part_sums s.remainder_name s.remainder).2, (part_sums s.padding_name s.padding).2, used_most s.before, used_most s.after);
+        few_used = omega (arith, room, parts, used_new, old_length, (part_sums s.remainder_name s.remainder).2, (part_sums s.padding_name s.padding).2, used_most s.before, used_most s.after);
       })
       (omega (arith, s.whole, units-append padding (used_block s.block.name n ∷ remainder), (part_sums s.remainder_name s.remainder).1, (part_sums s.padding_name s.padding).1))
       w.fits)

@@ -160,12 +160,12 @@ module _ {F A B : Type 0} {R : F → Move → F → Type 0} {p : Place} {run bac
       (filed_out (p.before ++ live s.done) (bs ++ back) b lists (subst (λ l. AreInBins ((p.before ++ live s.done) ++ l) lists) after_is filed) u long
       (λ y. omega (arith, seen _ _ (b ∷ (bs ++ back)) held y, times-append y (p.before ++ live s.done) (b ∷ (bs ++ back)))))
 
-  pub out_past : (order lists : List (List ℕ)) → b.used ≡ true → lists ≡ remove_all s.done order → lists ≡ remove_all (s.done ++ b ∷ []) order
-  out_past order lists u out = out ∙ sym (remove_all-append s.done (b ∷ []) order ∙ remove_used b [] (remove_all s.done order) u)
+  pub out_past : (bins lists : List (List ℕ)) → b.used ≡ true → lists ≡ remove_all s.done bins → lists ≡ remove_all (s.done ++ b ∷ []) bins
+  out_past bins lists u out = out ∙ sym (remove_all-append s.done (b ∷ []) bins ∙ remove_used b [] (remove_all s.done bins) u)
 
-  pub out_into : (order lists lists' : List (List ℕ)) → b.used ≡ false → lists' ≡ remove (down b.size) b.name lists → lists ≡ remove_all s.done order
-      → lists' ≡ remove_all (s.done ++ b ∷ []) order
-  out_into order lists lists' u n out = n ∙ ap (remove (down b.size) b.name) out ∙ sym (remove_all-append s.done (b ∷ []) order ∙ remove_free b (remove_all s.done order) u)
+  pub out_into : (bins lists lists' : List (List ℕ)) → b.used ≡ false → lists' ≡ remove (down b.size) b.name lists → lists ≡ remove_all s.done bins
+      → lists' ≡ remove_all (s.done ++ b ∷ []) bins
+  out_into bins lists lists' u n out = n ∙ ap (remove (down b.size) b.name) out ∙ sym (remove_all-append s.done (b ∷ []) bins ∙ remove_free b (remove_all s.done bins) u)
 
   -- the run ends in a free block
   pub goes_on : ends_used run ≡ false → b.used ≡ true → bs ≡ [] → ⊥

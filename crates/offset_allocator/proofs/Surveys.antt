@@ -1,6 +1,6 @@
 -- A walk over the blocks, from the end of the space to its start.
 use Rattle.offset_allocator.proofs.Common.{◌≡◌, ℕ, zero, suc, ◌+◌, ◌-◌, ◌<◌, ◌≤◌, not, Bool, None, Some, List, [], ◌∷◌, ◌++◌, length, take, drop, sum, refl, sym, ap, ap₂, subst, ◌∙◌, arith, true}
-use Rattle.offset_allocator.proofs.Common.{false, ◌⊎◌, inl, inr, ◌&&◌, true≢false, starts_free, IsApart, length_push, length-take-le, append_assoc, sum_by-cons, common_steps}
+use Rattle.offset_allocator.proofs.Common.{false, ◌⊎◌, inl, inr, ◌&&◌, true≢false, starts_free, AreCoalesced, length_push, length-take-le, append_assoc, sum_by-cons, common_steps}
 use Rattle.offset_allocator.proofs.Common.{ChainCells, Node, node, IsChain, IsRow, last_or, Block, units, free_sizes, used_of, one, count_named}
 use Rattle.std.proofs.Math.Seq.{drop-append_seam}
 use Rattle.offset_allocator.proofs.Listing.{ends_in}
@@ -56,7 +56,7 @@ sums_free b bs e = (grind (arith, common_steps, sum_by-cons), omega (arith, ap o
 pub sums_used : (b : Block) (bs : List Block) → b.used ≡ true → (sum (free_sizes (b ∷ bs)) ≡ sum (free_sizes bs)) × (used_of (b ∷ bs) ≡ used_of bs + 1)
 sums_used b bs e = (grind (arith, common_steps, sum_by-cons), omega (arith, ap one e))
 
-pub joined_apart : (b : Block) (bs : List Block) → ((not b.used ≡ false) ⊎ (starts_free bs ≡ false)) → IsApart bs → IsApart (b ∷ bs)
+pub joined_apart : (b : Block) (bs : List Block) → ((not b.used ≡ false) ⊎ (starts_free bs ≡ false)) → AreCoalesced bs → AreCoalesced (b ∷ bs)
 joined_apart b bs (inl e) a = (ap (λ u. u && starts_free bs) e, a)
 joined_apart b bs (inr e) a = (ap (λ u. not b.used && u) e ∙ and_false (not b.used), a)
   where
@@ -64,11 +64,11 @@ joined_apart b bs (inr e) a = (ap (λ u. not b.used && u) e ∙ and_false (not b
     and_false true = refl
     and_false false = refl
 
-pub not_apart : (b : Block) (bs : List Block) → not b.used ≡ true → starts_free bs ≡ true → IsApart (b ∷ bs) → ⊥
+pub not_apart : (b : Block) (bs : List Block) → not b.used ≡ true → starts_free bs ≡ true → AreCoalesced (b ∷ bs) → ⊥
 not_apart b bs e f a = true≢false (ap₂ (λ (u v : Bool). u && v) (sym e) (sym f) ∙ a.0)
 
 -- the blocks from a place on are apart where all are
-pub drop_apart : (bs : List Block) (k : ℕ) → IsApart bs → IsApart (drop k bs)
+pub drop_apart : (bs : List Block) (k : ℕ) → AreCoalesced bs → AreCoalesced (drop k bs)
 drop_apart bs zero a = a
 drop_apart [] (suc k) a = tt
 drop_apart (b ∷ bs) (suc k) a = drop_apart bs k a.1

@@ -3,7 +3,7 @@ use Rattle.offset_allocator.proofs.Common.{◌≡◌, ◌≢◌, ◌<◌, ◌≤
 use Rattle.offset_allocator.proofs.Common.{get_or-set_other, ne_eqb, cases_eq, get_or_append_left, Cells, BinCells, node, AreShaped, bin_at, remove, IsLinked, IsAmong, HasBins, IsBinned, IsUnlisted}
 use Rattle.offset_allocator.proofs.Common.{bins_in, common_steps}
 use Rattle.offset_allocator.proofs.Binned.{below, binned, head, newer_in, older_among}
-use Rattle.offset_allocator.proofs.{Tallies.one-same, ViewOrders.names_other, ViewOrders.names_same, ViewOrders.times_without_self}
+use Rattle.offset_allocator.proofs.{Tallies.one-same, ViewBins.names_other, ViewBins.names_same, ViewBins.times_without_self}
 
 module _ {max : ℕ} {t : Cells} (s : AreShaped max t) where
   -- a link is a name or none, and so no mark

@@ -50,11 +50,11 @@ module _ (v : View) (w : IsWellFormed v) (n : ℕ) (small : n ≤ 4294967295) (s
   word : n < 2 ^ 32
   word = omega (arith, small)
 
-  there : (b : Block) → HasName b v.blocks → not b.used ≡ true → bin_at v.order (down b.size) ≡ [] → ⊥
-  there b i f e = let l = there_listed b v.blocks i f in let o = w.orders (down b.size) b.name in let z = ap (times b.name) e in omega arith
+  there : (b : Block) → HasName b v.blocks → not b.used ≡ true → bin_at v.bins (down b.size) ≡ [] → ⊥
+  there b i f e = let l = there_listed b v.blocks i f in let o = w.binned (down b.size) b.name in let z = ap (times b.name) e in omega arith
 
   -- the block that is taken is of the smallest class from up n on that has one
-  pub near_best_fit : (b : Block) → HasName b v.blocks → ((c : ℕ) → up n ≤ c → c < down b.size → bin_at v.order c ≡ [])
+  pub near_best_fit : (b : Block) → HasName b v.blocks → ((c : ℕ) → up n ≤ c → c < down b.size → bin_at v.bins c ≡ [])
       → AllByRecursion (λ t. 9 * n ≤ 8 * t → 8 * b.size ≤ 9 * t) (free_sizes v.blocks)
   near_best_fit b i smallest = all_free (λ z. 9 * n ≤ 8 * z
       → 8 * b.size ≤ 9 * z) v.blocks (λ d j f l. near_best b.size d.size (fits_word b i) (fits_word d j) (elim (cases_lt (down d.size) (down b.size)) [

@@ -1,33 +1,33 @@
 -- A request that is granted, and released at once, leaves no trace.
 use Rattle.offset_allocator.proofs.Common.{◌≡◌, ℕ, zero, suc, ◌<◌, ◌≤◌, Bool, true, false, not, ◌&&◌, List, [], ◌∷◌, ◌++◌, length, Some, slice_set, refl, sym, ap, ap₂, subst, ◌∙◌, arith, append_assoc}
-use Rattle.offset_allocator.proofs.Common.{set-get_or, AllByRecursion, down, Block, View, Place, Grant, used_block, free_block, units, times, count_named, starts_free, IsApart, bin_at, push, remove}
+use Rattle.offset_allocator.proofs.Common.{set-get_or, AllByRecursion, down, Block, View, Place, Handle, used_block, free_block, units, times, count_named, starts_free, AreCoalesced, bin_at, push, remove}
 use Rattle.offset_allocator.proofs.Common.{push_all, remove_all, replace, free_start, without_start, free_end, without_end, free_part, IsWellFormed, place_of, SameSpace, Splits, Frees, Allocates}
 use Rattle.offset_allocator.proofs.ViewApart.{ends_free, apart_parts, left_false, right_false, no_end, no_start}
 use Rattle.offset_allocator.proofs.{Served.split_as, Served.well_served, Walks.without_first, Ranges.beside, Released.idle_parts, Released.end_is, Released.start_is, Classes.down_small}
-use Rattle.offset_allocator.proofs.{ViewOrders.names_same, ViewOrders.length_remove, ViewOrders.times_remove, ViewSteps.place_here, Tallies.listed_named, Tallies.part_sums, Tallies.new_absent}
+use Rattle.offset_allocator.proofs.{ViewBins.names_same, ViewBins.length_remove, ViewBins.times_remove, ViewSteps.place_here, Tallies.listed_named, Tallies.part_sums, Tallies.new_absent}
 use Rattle.offset_allocator.proofs.{Tallies.one-same}
 
-set_again : (order : List (List ℕ)) (c : ℕ) (l m : List ℕ) → slice_set (slice_set order c l) c m ≡ slice_set order c m
+set_again : (bins : List (List ℕ)) (c : ℕ) (l m : List ℕ) → slice_set (slice_set bins c l) c m ≡ slice_set bins c m
 set_again [] c l m = refl
-set_again (o ∷ order) zero l m = refl
-set_again (o ∷ order) (suc c) l m = ap (λ z. o ∷ z) (set_again order c l m)
+set_again (o ∷ bins) zero l m = refl
+set_again (o ∷ bins) (suc c) l m = ap (λ z. o ∷ z) (set_again bins c l m)
 
 -- a name that is put in and leaves
-remove_put : (c x : ℕ) (order : List (List ℕ)) → length order ≡ 256 → c < 256 → times x (bin_at order c) ≡ 0 → remove c x (push c x order) ≡ order
-remove_put c x order h b e = grind (arith, set_again, names_same, without_first, one-same, set-get_or)
+remove_put : (c x : ℕ) (bins : List (List ℕ)) → length bins ≡ 256 → c < 256 → times x (bin_at bins c) ≡ 0 → remove c x (push c x bins) ≡ bins
+remove_put c x bins h b e = grind (arith, set_again, names_same, without_first, one-same, set-get_or)
 
 -- a first name that leaves and is put in
-put_remove : (c x : ℕ) (xs : List ℕ) (order : List (List ℕ)) → length order ≡ 256 → c < 256 → bin_at order c ≡ x ∷ xs → times x xs ≡ 0 → push c x (remove c x order) ≡ order
-put_remove c x xs order h b e z = grind (arith, set_again, names_same, without_first, one-same, set-get_or)
+put_remove : (c x : ℕ) (xs : List ℕ) (bins : List (List ℕ)) → length bins ≡ 256 → c < 256 → bin_at bins c ≡ x ∷ xs → times x xs ≡ 0 → push c x (remove c x bins) ≡ bins
+put_remove c x xs bins h b e z = grind (arith, set_again, names_same, without_first, one-same, set-get_or)
 
 part_start : (x n : ℕ) (bs : List Block) → starts_free bs ≡ false → (free_start (free_part x n ++ bs) ≡ free_part x n) × (without_start (free_part x n ++ bs) ≡ bs)
 part_start x zero bs e = no_start bs e
 part_start x (suc n) bs e = (refl, refl)
 
-orders_back : (x n : ℕ) (order : List (List ℕ)) → length order ≡ 256 → (1 ≤ n → times x (bin_at order (down n)) ≡ 0)
-    → remove_all (free_part x n) (push_all (free_part x n) order) ≡ order
-orders_back x zero order h e = refl
-orders_back x (suc n) order h e = remove_put (down (suc n)) x order h (down_small (suc n)) (e (omega arith))
+bins_back : (x n : ℕ) (bins : List (List ℕ)) → length bins ≡ 256 → (1 ≤ n → times x (bin_at bins (down n)) ≡ 0)
+    → remove_all (free_part x n) (push_all (free_part x n) bins) ≡ bins
+bins_back x zero bins h e = refl
+bins_back x (suc n) bins h e = remove_put (down (suc n)) x bins h (down_small (suc n)) (e (omega arith))
 
 -- a name of a well-formed space is at one place
 one_place : (v : View) → IsWellFormed v → (x : ℕ) (fs gs cs ds : List Block) (b d : Block) → v.blocks ≡ fs ++ (b ∷ cs) → v.blocks ≡ gs ++ (d ∷ ds) → b.name ≡ x → d.name ≡ x
@@ -39,7 +39,7 @@ one_place v w x fs gs cs ds b d e f p q =
     (ap (λ (z : Place). z.before) same, ap (λ (z : Place). z.block) same, ap (λ (z : Place). z.after) same)
 
 -- a grant without padding, and its release
-module _ (n : ℕ) (v w u : View) (g : Grant) (known : IsWellFormed v) (left : IsWellFormed w) (s : Splits n n (λ offset. 0) v w g) (f : Frees g.name w u) where
+module _ (n : ℕ) (v w u : View) (g : Handle) (known : IsWellFormed v) (left : IsWellFormed w) (s : Splits n n (λ offset. 0) v w g) (f : Frees g.name w u) where
   abbrev x : ℕ
   x = s.block.name
 
@@ -49,17 +49,17 @@ module _ (n : ℕ) (v w u : View) (g : Grant) (known : IsWellFormed v) (left : I
   abbrev remainder : List Block
   remainder = free_part s.remainder_name s.remainder
 
-  abbrev order : List (List ℕ)
-  order = remove (down size) x v.order
+  abbrev bins : List (List ℕ)
+  bins = remove (down size) x v.bins
 
   named : g.name ≡ x
-  named = ap (λ (h : Grant). h.name) s.grant
+  named = ap (λ (h : Handle). h.name) s.grant
 
   old : s.block ≡ free_block x size
   old = ap (λ (u : Bool). record { name = s.block.name; size = s.block.size; used = u }) s.free
 
   -- what the grant leaves
-  split : w ≡ record v { blocks = s.before ++ (used_block x n ∷ (remainder ++ s.after)); order = push_all remainder order; accesses = w.accesses }
+  split : w ≡ record v { blocks = s.before ++ (used_block x n ∷ (remainder ++ s.after)); bins = push_all remainder bins; accesses = w.accesses }
   split = grind (arith, old, s.made)
 
   -- the release takes the block as the grant left it
@@ -68,17 +68,17 @@ module _ (n : ℕ) (v w u : View) (g : Grant) (known : IsWellFormed v) (left : I
       ∙ simp append_assoc) refl (f.named ∙ named)
 
   -- nothing free was beside the block
-  parts : IsApart s.before × IsApart (s.block ∷ s.after) × ((ends_free s.before && not s.block.used) ≡ false)
-  parts = apart_parts s.before (s.block ∷ s.after) (subst IsApart s.blocks known.apart)
+  parts : AreCoalesced s.before × AreCoalesced (s.block ∷ s.after) × ((ends_free s.before && not s.block.used) ≡ false)
+  parts = apart_parts s.before (s.block ∷ s.after) (subst AreCoalesced s.blocks known.apart)
 
-  left_parts : IsApart (f.before ++ f.left) × IsApart (f.block ∷ (f.right ++ f.after)) × ((ends_free (f.before ++ f.left) && not f.block.used) ≡ false)
-  left_parts = apart_parts (f.before ++ f.left) (f.block ∷ (f.right ++ f.after)) (subst IsApart (f.blocks ∙ simp append_assoc) left.apart)
+  left_parts : AreCoalesced (f.before ++ f.left) × AreCoalesced (f.block ∷ (f.right ++ f.after)) × ((ends_free (f.before ++ f.left) && not f.block.used) ≡ false)
+  left_parts = apart_parts (f.before ++ f.left) (f.block ∷ (f.right ++ f.after)) (subst AreCoalesced (f.blocks ∙ simp append_assoc) left.apart)
 
   abbrev freed : Block
   freed = free_block g.name (units (f.left ++ (f.block ∷ f.right)))
 
-  freed_parts : IsApart f.before × IsApart (freed ∷ f.after) × ((ends_free f.before && true) ≡ false)
-  freed_parts = apart_parts f.before (freed ∷ f.after) (subst IsApart (ap (λ (z : View). z.blocks) f.view) f.apart)
+  freed_parts : AreCoalesced f.before × AreCoalesced (freed ∷ f.after) × ((ends_free f.before && true) ≡ false)
+  freed_parts = apart_parts f.before (freed ∷ f.after) (subst AreCoalesced (ap (λ (z : View). z.blocks) f.view) f.apart)
 
   idle : AllByRecursion (λ b. b.used ≡ false) f.left × AllByRecursion (λ b. b.used ≡ false) f.right
   idle = idle_parts f.left f.right f.free
@@ -95,13 +95,13 @@ module _ (n : ℕ) (v w u : View) (g : Grant) (known : IsWellFormed v) (left : I
       let is = start_is f.right f.after idle.1 left_parts.1.1 (right_false true (starts_free f.after) freed_parts.1.0 refl) in
       (sym is.0 ∙ ap free_start (sym here.2) ∙ some.0, sym is.1 ∙ ap without_start (sym here.2) ∙ some.1)
 
-  once : times x (bin_at v.order (down size)) ≡ 1
-  once = omega (arith, known.orders (down size) x, known.distinct x, listed_named (down size) x v.blocks, ap (times x) s.newest, one-same x)
+  once : times x (bin_at v.bins (down size)) ≡ 1
+  once = omega (arith, known.binned (down size) x, known.distinct x, listed_named (down size) x v.blocks, ap (times x) s.newest, one-same x)
 
   older_absent : times x s.older ≡ 0
   older_absent = omega (arith, once, ap (times x) s.newest, one-same x)
 
-  rest_absent : 1 ≤ s.remainder → times s.remainder_name (bin_at order (down s.remainder)) ≡ 0
+  rest_absent : 1 ≤ s.remainder → times s.remainder_name (bin_at bins (down s.remainder)) ≡ 0
   rest_absent l = grind (arith, times_remove, down_small, once, listed_named, new_absent)
 
   sized : units (used_block x n ∷ remainder) ≡ size
@@ -115,16 +115,16 @@ module _ (n : ℕ) (v w u : View) (g : Grant) (known : IsWellFormed v) (left : I
       ∙ ap₂ (λ (l r : List Block). record (replace w l (f.block ∷ remainder) (free_block g.name (units (f.block ∷ remainder)) ∷ []) r) { accesses = u.accesses }) left_end.1 right_start.1
       ∙ ap₂ (λ (i : ℕ) (b : Block). record (replace w s.before (b ∷ remainder) (free_block i (units (b ∷ remainder)) ∷ []) s.after) { accesses = u.accesses }) named (sym here.1)
       ∙ ap (λ (z : View). record (replace z s.before (used_block x n ∷ remainder) (free_block x (units (used_block x n ∷ remainder)) ∷ []) s.after) { accesses = u.accesses }) split
-      ∙ ap (λ m. record v { blocks = s.before ++ (free_block x m ∷ s.after); order = push (down m) x (remove_all remainder (push_all remainder order)); accesses = u.accesses }) sized
-      ∙ ap₂ (λ bs o. record v { blocks = bs; order = o; accesses = u.accesses }) (ap (λ b. s.before ++ (b ∷ s.after)) (sym old) ∙ sym s.blocks)
-      (ap (push (down size) x) (orders_back s.remainder_name s.remainder order (length_remove (down size) x v.order ∙ known.classes) rest_absent)
-      ∙ put_remove (down size) x s.older v.order known.classes (down_small size) s.newest older_absent)
+      ∙ ap (λ m. record v { blocks = s.before ++ (free_block x m ∷ s.after); bins = push (down m) x (remove_all remainder (push_all remainder bins)); accesses = u.accesses }) sized
+      ∙ ap₂ (λ bs o. record v { blocks = bs; bins = o; accesses = u.accesses }) (ap (λ b. s.before ++ (b ∷ s.after)) (sym old) ∙ sym s.blocks)
+      (ap (push (down size) x) (bins_back s.remainder_name s.remainder bins (length_remove (down size) x v.bins ∙ known.classes) rest_absent)
+      ∙ put_remove (down size) x s.older v.bins known.classes (down_small size) s.newest older_absent)
 
 -- the same, for contracts
-pub is_undone : (n : ℕ) (v : View) → IsWellFormed v → (w u : View) (g : Grant) → Allocates n v w (Some g) → Frees g.name w u → SameSpace v u
+pub is_undone : (n : ℕ) (v : View) → IsWellFormed v → (w u : View) (g : Handle) → Allocates n v w (Some g) → Frees g.name w u → SameSpace v u
 is_undone n v known w u g a f = undone n v w u g known (well_served 1 n n (λ offset. 0) v w known (omega arith) (λ o l. absurd (omega arith)) g a) a.1 f
 
 -- a grant leaves no trace where it is released, though other requests were refused between
-pub taken_back : (n : ℕ) (v w u z : View) (g : Grant) → IsWellFormed v → Allocates n v w (Some g) → SameSpace w u → Frees g.name u z → SameSpace v z
+pub taken_back : (n : ℕ) (v w u z : View) (g : Handle) → IsWellFormed v → Allocates n v w (Some g) → SameSpace w u → Frees g.name u z → SameSpace v z
 taken_back n v w u z g known a same f =
     is_undone n v known (record w { accesses = u.accesses }) z g (a.0, split_as a.1 v.accesses u.accesses (λ offset. 0) (λ o. refl)) (subst (λ x. Frees g.name x z) same f)

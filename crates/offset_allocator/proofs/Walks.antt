@@ -165,15 +165,15 @@ module _ (none : ℕ) (t t' : BinCells) (w x : ℕ) (cs : List ℕ) (small : len
 
 pub tail_next : {none : ℕ} {t : BinCells} {name n total : ℕ} → IsTail none t name n total → name ≢ none → (name < length t.newer) × (n < total)
     × IsTail none t (slice_index t.older name) (n + 1) total
-tail_next {none} {t} {name} {n} {total} s ne = go s.names s.before s.chain s.is s.counted
+tail_next {none} {t} {name} {n} {total} s ne = go s.names s.before s.links s.is s.counted
   where
     go : (xs : List ℕ) (b : ℕ) → IsLinked none t b xs → name ≡ first_of none xs → n + length xs ≡ total → (name < length t.newer) × (n < total)
         × IsTail none t (slice_index t.older name) (n + 1) total
     go [] b c e l = absurd (ne e)
-    go (x ∷ xs) b c e l = (omega (arith, c.0), omega arith, record { before = x; names = xs; chain = c.3; is = ap (slice_index t.older) e ∙ c.2; counted = omega arith })
+    go (x ∷ xs) b c e l = (omega (arith, c.0), omega arith, record { before = x; names = xs; links = c.3; is = ap (slice_index t.older) e ∙ c.2; counted = omega arith })
 
 pub tail_end : {none : ℕ} {t : BinCells} {name n total : ℕ} → length t.newer ≤ none → IsTail none t name n total → name ≡ none → n ≡ total
-tail_end {none} {t} {name} {n} {total} small s e = go s.names s.before s.chain s.is s.counted
+tail_end {none} {t} {name} {n} {total} small s e = go s.names s.before s.links s.is s.counted
   where
     go : (xs : List ℕ) (b : ℕ) → IsLinked none t b xs → name ≡ first_of none xs → n + length xs ≡ total → n ≡ total
     go [] b c f l = omega arith

@@ -6,12 +6,12 @@ use Rattle.offset_allocator.specs.Store.{AreBinned, bins_of}
 use Rattle.offset_allocator.specs.declared.store.Store.{Store}
 use Rattle.offset_allocator.specs.declared.restoring.Header.{Header}
 use Rattle.offset_allocator.specs.State.{block_words, filed, freed}
-use Rattle.offset_allocator.specs.View.{Block, IsApart, count_named, one, times, units}
+use Rattle.offset_allocator.specs.View.{Block, AreCoalesced, count_named, one, times, units}
 
--- the tables have n nodes, memory for m, and no name in a bin
-pub record IsMade (max n m : ℕ) (c : Cells) : Type 0 where
+-- the tables have n nodes, memory for `limit` nodes, and no name in a bin
+pub record IsMade (max n limit : ℕ) (c : Cells) : Type 0 where
   pub nodes : length c.chain.nodes ≡ n
-  pub reserved : c.chain.reserved ≡ m
+  pub reserved : c.chain.reserved ≡ limit
   pub empty : AreEmpty max c.bins
 
 -- the last blocks of a space, all used, from an offset on, and some unused names: just these are marked as used
@@ -47,9 +47,9 @@ pub record IsBuilt {A B C : Type 0} (cells : A → Cells) (max size limit : ℕ)
   pub count : s.spare_count ≡ length unused
   pub spare : take (length unused) (cells s.tables).chain.spare ≡ unused
   pub binned : AreBinned cells max s
-  pub order : bins_of cells max s ≡ filed all free
+  pub bins : bins_of cells max s ≡ filed all free
   pub once : (x : ℕ) → times x free ≤ count_named x all
-  pub apart : IsApart (freed free all)
+  pub apart : AreCoalesced (freed free all)
 
 -- the sizes and counts that the words of a state begin with: as many words as they say, and as many nodes as the limit
 -- admits, which `max` and `most` admit

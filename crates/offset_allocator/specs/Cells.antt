@@ -74,11 +74,11 @@ pub record AreShaped (max : ℕ) (c : Cells) : Type 0 where
   pub word : max ≤ 4294967295
   pub flags : (x : ℕ) → x < length c.chain.nodes → (node c.chain x).used ≡ eqb (slice_index c.bins.newer x) (max - 1)
 
--- memory for m nodes, and one of them made, which is blank
-pub record IsBare (m : ℕ) (c : ChainCells) : Type 0 where
+-- memory for `limit` nodes, and one of them made, which is blank
+pub record IsBare (limit : ℕ) (c : ChainCells) : Type 0 where
   pub nodes : c.nodes ≡ blank ∷ []
   pub spare : c.spare ≡ 0 ∷ []
-  pub reserved : c.reserved ≡ m
+  pub reserved : c.reserved ≡ limit
 
 -- no bin has a name
 pub record AreEmpty (max : ℕ) (k : BinCells) : Type 0 where

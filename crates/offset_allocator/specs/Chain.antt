@@ -32,10 +32,10 @@ blocks_back c (suc f) (Some k) rest =
 unfoldable pub blocks : ChainCells → ℕ → List Block
 blocks c last = blocks_back c (length c.nodes) (Some last) []
 
--- the tables, with memory for m nodes, hold the blocks bs, which end in last, and have `spare_count` unused names
-pub record IsChain (c : ChainCells) (m last spare_count : ℕ) (bs : List Block) : Type 0 where
-  pub memory : c.reserved ≡ m
-  pub within : length c.nodes ≤ m
+-- the tables, with memory for `limit` nodes, hold the blocks bs, which end in last, and have `spare_count` unused names
+pub record IsChain (c : ChainCells) (limit last spare_count : ℕ) (bs : List Block) : Type 0 where
+  pub memory : c.reserved ≡ limit
+  pub within : length c.nodes ≤ limit
   pub stack : length c.spare ≡ length c.nodes
   pub row : IsRow c None 0 bs None
   pub ends : last_or None bs ≡ Some last
@@ -49,9 +49,9 @@ pub record IsChain (c : ChainCells) (m last spare_count : ℕ) (bs : List Block)
 abbrev pub IsSpace : ChainCells → ℕ → ℕ → Type 0
 IsSpace c last spare_count = IsChain c c.reserved last spare_count (blocks c last)
 
--- the tables, with memory for m nodes, hold a chain with the block x at a place
-pub record HasPlace (c : ChainCells) (m last spare_count x : ℕ) (p : Place) : Type 0 where
-  pub chain : IsChain c m last spare_count (p.before ++ p.block ∷ p.after)
+-- the tables, with memory for `limit` nodes, hold a chain with the block x at a place
+pub record HasPlace (c : ChainCells) (limit last spare_count x : ℕ) (p : Place) : Type 0 where
+  pub chain : IsChain c limit last spare_count (p.before ++ p.block ∷ p.after)
   pub name : p.block.name ≡ x
   -- it follows from the rest; every access to the node asks for it
   pub below : x < length c.nodes
@@ -64,12 +64,12 @@ coalesced_before p = record { before = without_end p.before; block = record p.bl
 abbrev pub coalesced_after : Place → Place
 coalesced_after p = record { before = p.before; block = record p.block { size = p.block.size + units (free_start p.after) }; after = without_start p.after }
 
--- the name is that of the free block directly before the block named x, and there is a name where one is
+-- the name of the free block directly before the block named x; where there is none, no free block is directly before it
 abbrev pub IsFreeBefore : ChainCells → ℕ → Option ℕ → Type 0
-IsFreeBefore c x None = (m last spare_count : ℕ) (p : Place) → HasPlace c m last spare_count x p → free_end p.before ≡ []
+IsFreeBefore c x None = (limit last spare_count : ℕ) (p : Place) → HasPlace c limit last spare_count x p → free_end p.before ≡ []
 IsFreeBefore c x (Some y) = (Some y ≡ (node c x).before) × ((node c y).used ≡ false)
 
--- the name is that of the free block directly after the block named x, and there is a name where one is
+-- the name of the free block directly after the block named x; where there is none, no free block is directly after it
 abbrev pub IsFreeAfter : ChainCells → ℕ → Option ℕ → Type 0
-IsFreeAfter c x None = (m last spare_count : ℕ) (p : Place) → HasPlace c m last spare_count x p → free_start p.after ≡ []
+IsFreeAfter c x None = (limit last spare_count : ℕ) (p : Place) → HasPlace c limit last spare_count x p → free_start p.after ≡ []
 IsFreeAfter c x (Some y) = (Some y ≡ (node c x).after) × ((node c y).used ≡ false)

@@ -54,10 +54,10 @@ until x (b ∷ bs) = if nat_eq x b.name then 1 else 1 + until x bs
 
 -- the newest blocks of the first k bins that have some: their names
 abbrev pub newest : ℕ → List (List ℕ) → List ℕ
-newest zero order = []
+newest zero bins = []
 newest (suc k) [] = []
-newest (suc k) ([] ∷ order) = newest (suc k) order
-newest (suc k) ((x ∷ xs) ∷ order) = x ∷ newest k order
+newest (suc k) ([] ∷ bins) = newest (suc k) bins
+newest (suc k) ((x ∷ xs) ∷ bins) = x ∷ newest k bins
 
 -- the name of the first block that has one of these names
 abbrev pub first_among : List ℕ → List Block → Option ℕ
@@ -84,4 +84,4 @@ pub record Compacts (v w : View) : Type 0 where
   pub name : ℕ
   pub below : name < v.max_allocs
   pub absent : count_named name (live v.blocks) ≡ 0
-  pub view : SameSpace (record v { blocks = live v.blocks ++ gathered name (free_sizes v.blocks); order = push_all (gathered name (free_sizes v.blocks)) (replicate 256 []) }) w
+  pub view : SameSpace (record v { blocks = live v.blocks ++ gathered name (free_sizes v.blocks); bins = push_all (gathered name (free_sizes v.blocks)) (replicate 256 []) }) w

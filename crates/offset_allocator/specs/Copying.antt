@@ -2,10 +2,10 @@
 use Rattle.std.specs.Prelude.{◌≡◌, ◌≢◌, ℕ, false, length, slice_index}
 use Rattle.offset_allocator.specs.Cells.{Cells, AreEmpty, node}
 
--- tables with n nodes, none of them used, memory for m, and no name in a bin
-pub record IsIdle (max n m : ℕ) (d : Cells) : Type 0 where
+-- tables with n nodes, none of them used, memory for `limit` nodes, and no name in a bin
+pub record IsIdle (max n limit : ℕ) (d : Cells) : Type 0 where
   pub nodes : length d.chain.nodes ≡ n
-  pub reserved : d.chain.reserved ≡ m
+  pub reserved : d.chain.reserved ≡ limit
   pub idle : (x : ℕ) → (node d.chain x).used ≡ false
   pub empty : AreEmpty max d.bins
 

@@ -5,11 +5,11 @@ use Rattle.offset_allocator.specs.Cells.{ChainCells, node, link_of}
 use Rattle.offset_allocator.specs.Chain.{IsRow, last_or}
 use Rattle.offset_allocator.specs.View.{Place, count_named, times, units}
 
--- the tables have memory for m nodes, and hold a chain except for the free block x at a place: no link leads to the node
+-- the tables have memory for `limit` nodes, and hold a chain except for the free block x at a place: no link leads to the node
 -- of x, and the links that led there may lead anywhere
-pub record HasGap (c : ChainCells) (m last spare_count x : ℕ) (p : Place) : Type 0 where
-  pub memory : c.reserved ≡ m
-  pub within : length c.nodes ≤ m
+pub record HasGap (c : ChainCells) (limit last spare_count x : ℕ) (p : Place) : Type 0 where
+  pub memory : c.reserved ≡ limit
+  pub within : length c.nodes ≤ limit
   pub stack : length c.spare ≡ length c.nodes
   pub front : (q : Option ℕ) × IsRow c None 0 p.before q
   pub back : (q : Option ℕ) × IsRow c q (units p.before + p.block.size) p.after None
@@ -24,9 +24,9 @@ pub record HasGap (c : ChainCells) (m last spare_count x : ℕ) (p : Place) : Ty
   pub gone : (node c x).used ≡ false
 
 -- this is that block, in numbers
-pub record IsGap {A B : Type 0} (max : ℕ) (number : A → ℕ) (gap : Gap A B) (c : ChainCells) (m last spare_count : ℕ) (p : Place)
+pub record IsGap {A B : Type 0} (max : ℕ) (number : A → ℕ) (gap : Gap A B) (c : ChainCells) (limit last spare_count : ℕ) (p : Place)
     : Type 0 where
-  pub there : HasGap c m last spare_count gap.name p
+  pub there : HasGap c limit last spare_count gap.name p
   pub offset : gap.offset ≡ units p.before
   pub size : gap.size ≡ p.block.size
   pub link : link_of max (number gap.before) ≡ last_or None p.before

@@ -9,6 +9,7 @@ pub mod Compacting
 pub mod Copies
 pub mod Copying
 pub mod Faults
+pub mod FreeSizes
 pub mod Gaps
 pub mod Layouts
 pub mod Listing

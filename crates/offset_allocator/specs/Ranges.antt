@@ -1,6 +1,6 @@
 -- The ranges of live handles, as their holders see them, and what a grant is.
 use Rattle.std.specs.Prelude.{◌≡◌, ℕ, ◌+◌, ◌≤◌, ◌≢◌, ◌⊎◌, Option, Some, None, IsSome, if◌then◌else◌, option_and_then, option_map, unwrap_or}
-use Rattle.offset_allocator.specs.View.{View, Grant, Place, place_of, units}
+use Rattle.offset_allocator.specs.View.{View, Handle, Place, place_of, units}
 
 -- some units from an offset on
 pub record Range : Type 0 where
@@ -32,7 +32,7 @@ abbrev pub KeepsOthers : ℕ → View → View → Type 0
 KeepsOthers x v w = (y : ℕ) → y ≢ x → range_of y w ≡ range_of y v
 
 -- what a grant of n units is
-pub record Grants (n : ℕ) (v w : View) (h : Grant) : Type 0 where
+pub record Grants (n : ℕ) (v w : View) (h : Handle) : Type 0 where
   -- its name was not live
   pub not_live : range_of h.name v ≡ None
   -- the name holds exactly n units, from the offset on

@@ -6,11 +6,11 @@ use Rattle.offset_allocator.specs.Bins.{IsBinned, bins_in}
 use Rattle.offset_allocator.specs.Chain.{IsChain}
 
 -- the tables hold the same bins
-abbrev pub KeepsBins : ℕ → Cells → Cells → ℕ → Type 0
-KeepsBins max c d top = IsBinned max c.bins top → IsBinned max d.bins top × (bins_in max d.bins ≡ bins_in max c.bins)
+abbrev pub SameBinLists : ℕ → Cells → Cells → ℕ → Type 0
+SameBinLists max c d top = IsBinned max c.bins top → IsBinned max d.bins top × (bins_in max d.bins ≡ bins_in max c.bins)
 
 -- the tables hold the same blocks and the same bins, with another number of unused names
 pub record Readies (max : ℕ) (c d : Cells) (spares spares' : ℕ) : Type 0 where
-  pub chain : (m last : ℕ) (bs : List Block) → IsChain c.chain m last spares bs → IsChain d.chain m last spares' bs
+  pub chain : (limit last : ℕ) (bs : List Block) → IsChain c.chain limit last spares bs → IsChain d.chain limit last spares' bs
   pub node : (x : ℕ) → node d.chain x ≡ node c.chain x
-  pub bins : (top : ℕ) → KeepsBins max c d top
+  pub bins : (top : ℕ) → SameBinLists max c d top

@@ -1,10 +1,10 @@
--- What each call leaves and returns: the relations that the last clauses of contracts state.
-use Rattle.std.specs.Prelude.{◌≡◌, ◌≢◌, ℕ, ◌+◌, ◌*◌, ◌%◌, ◌^◌, ◌<◌, ◌≤◌, ◌⊎◌, List, [], ◌∷◌, ◌++◌, replicate, Bool, true, false, IsTrue, Option, Some, None}
-use Rattle.std.specs.Int.{is_power_of_two, IsPowerOfTwo}
+-- What `allocate`, `allocate_aligned`, `free`, `extend` and `reset` leave and return, which their clauses `step` state;
+-- other calls have files of their own.
+use Rattle.std.specs.Prelude.{◌≡◌, ◌≢◌, ℕ, ◌+◌, ◌<◌, ◌≤◌, ◌⊎◌, List, [], ◌∷◌, ◌++◌, replicate, Bool, true, false, Option, Some, None}
 use Rattle.std.specs.List.{AllByRecursion}
 use Rattle.offset_allocator.specs.Classes.{up, down}
 use Rattle.offset_allocator.specs.Requests.{HasRoomFor, CanGrant, blocks_needed, units_needed}
-use Rattle.offset_allocator.specs.View.{View, Block, Grant, Place, units, bin_at, free_sizes, IsApart, IsNew, max_size, padding_to, replace, remove, push_all, free_block, free_part, place_of}
+use Rattle.offset_allocator.specs.View.{View, Block, Handle, units, bin_at, AreCoalesced, IsNew, max_size, padding_to, replace, remove, push_all, free_block, free_part}
 
 -- the same space, however many accesses are counted
 abbrev pub SameSpace : View → View → Type 0
@@ -18,11 +18,11 @@ IsCopy v w = w ≡ record v { accesses = 0 }
 pub record IsFresh (size max_allocs : ℕ) (w : View) : Type 0 where
   pub name : ℕ
   pub below : name < max_allocs
-  pub view : w ≡ record { size = size; max_allocs = max_allocs; blocks = free_block name size ∷ []; order = push_all (free_block name size ∷ []) (replicate 256 []); accesses = 0 }
+  pub view : w ≡ record { size = size; max_allocs = max_allocs; blocks = free_block name size ∷ []; bins = push_all (free_block name size ∷ []) (replicate 256 []); accesses = 0 }
 
 -- a free block is split into padding, n granted units and a remainder: the newest block of the smallest class that is
 -- large enough for the units needed and has a block
-pub record Splits (needed n : ℕ) (padding_at : ℕ → ℕ) (v w : View) (g : Grant) : Type 0 where
+pub record Splits (needed n : ℕ) (padding_at : ℕ → ℕ) (v w : View) (g : Handle) : Type 0 where
   pub before : List Block
   pub block : Block
   pub after : List Block
@@ -30,9 +30,9 @@ pub record Splits (needed n : ℕ) (padding_at : ℕ → ℕ) (v w : View) (g : 
   -- which block: a free one, of a class large enough, with no block in a smaller such class, the newest of its bin
   pub free : block.used ≡ false
   pub fits : up needed ≤ down block.size
-  pub smallest : (c : ℕ) → up needed ≤ c → c < down block.size → bin_at v.order c ≡ []
+  pub smallest : (c : ℕ) → up needed ≤ c → c < down block.size → bin_at v.bins c ≡ []
   pub older : List ℕ
-  pub newest : bin_at v.order (down block.size) ≡ block.name ∷ older
+  pub newest : bin_at v.bins (down block.size) ≡ block.name ∷ older
   -- its parts: the padding that its offset asks for, n units, and the remainder
   pub padding : ℕ
   pub padded : padding ≡ padding_at (units before)
@@ -52,17 +52,17 @@ pub record Splits (needed n : ℕ) (padding_at : ℕ → ℕ) (v w : View) (g : 
       ++ record block { size = n; used = true } ∷ free_part remainder_name remainder
   pub view : SameSpace (record v {
     blocks = before ++ (parts ++ after);
-    order = push_all parts (remove (down block.size) block.name v.order);
+    bins = push_all parts (remove (down block.size) block.name v.bins);
   }) w
 
 -- a request for n units: it is refused exactly when it cannot be granted, and then nothing changes
-abbrev pub Allocates : ℕ → View → View → Option Grant → Type 0
+abbrev pub Allocates : ℕ → View → View → Option Handle → Type 0
 Allocates n v w None = (CanGrant 1 n v → ⊥) × SameSpace v w
 Allocates n v w (Some g) = HasRoomFor 1 v × Splits n n (λ offset. 0) v w g
 
 -- a request for n units from a multiple of align on, likewise: it may add more blocks, and takes a block of a class
 -- large enough for the units needed
-abbrev pub Aligns : ℕ → ℕ → View → View → Option Grant → Type 0
+abbrev pub Aligns : ℕ → ℕ → View → View → Option Handle → Type 0
 Aligns n align v w None = (CanGrant (blocks_needed align) (units_needed n align) v → ⊥) × SameSpace v w
 Aligns n align v w (Some g) = HasRoomFor (blocks_needed align) v
     × Splits (units_needed n align) n (padding_to align) v w g
@@ -81,7 +81,7 @@ pub record Frees (x : ℕ) (v w : View) : Type 0 where
   pub free : AllByRecursion (λ b. b.used ≡ false) (left ++ right)
   pub view : SameSpace (replace v before (left ++ (block ∷ right)) (free_block x (units (left ++ (block ∷ right))) ∷ []) after) w
   -- afterwards no two free blocks are neighbours: so left and right are all the free neighbours there were
-  pub apart : IsApart w.blocks
+  pub apart : AreCoalesced w.blocks
 
 -- the space gets more units at its end: a free last block grows, and after a used one a new free block is added
 pub record Adds (more : ℕ) (v w : View) : Type 0 where
@@ -95,7 +95,7 @@ pub record Adds (more : ℕ) (v w : View) : Type 0 where
   pub new : last ≡ [] → IsNew name v
   pub view : SameSpace (record (replace v before last (free_block name (units last + more) ∷ []) []) { size = v.size + more }) w
   -- afterwards no two free blocks are neighbours: so last is the last block if that is free
-  pub apart : IsApart w.blocks
+  pub apart : AreCoalesced w.blocks
 
 -- a space can have this many units more: the sum is at most the largest size, and there is room for one more block or
 -- the last block is free
@@ -111,16 +111,4 @@ Extends more v w false = (1 ≤ more) × (CanExtend more v → ⊥) × SameSpace
 pub record Resets (v w : View) : Type 0 where
   pub name : ℕ
   pub below : name < v.max_allocs
-  pub view : SameSpace (record v { blocks = free_block name v.size ∷ []; order = push_all (free_block name v.size ∷ []) (replicate 256 []) }) w
-
--- the block of the grant was free before, and is a near best fit for n units: for an aligned request, the units needed
-pub record IsSplitNearBest (n : ℕ) (v : View) (g : Grant) : Type 0 where
-  pub place : Place
-  pub there : place_of g.name v.blocks ≡ Some place
-  pub free : place.block.used ≡ false
-  -- if a free block has at least 9/8 of n units, the block taken is at most 9/8 as large as that block
-  pub fit : AllByRecursion (λ size. 9 * n ≤ 8 * size → 8 * place.block.size ≤ 9 * size) (free_sizes v.blocks)
-
--- an alignment that a request may ask for, a power of two: a divisor of 2 ^ 32, or a power of two as std defines it
-abbrev pub IsAlignment : ℕ → Type 0
-IsAlignment align = (2 ^ 32 % align ≡ 0) ⊎ IsTrue (is_power_of_two align) ⊎ IsPowerOfTwo align
+  pub view : SameSpace (record v { blocks = free_block name v.size ∷ []; bins = push_all (free_block name v.size ∷ []) (replicate 256 []) }) w

@@ -1,26 +1,11 @@
--- When a request is granted, why it is refused, and the reports of an allocator.
-use Rattle.std.specs.Prelude.{◌≡◌, ◌≢◌, ℕ, ◌+◌, ◌-◌, min, max, ◌%◌, ◌^◌, ◌<◌, ◌≤◌, length, List, [], Option, Some, None, sum, codes, slice_index_or}
+-- When a request is granted, how near to a best fit, and why it is refused.
+use Rattle.std.specs.Prelude.{◌≡◌, ◌≢◌, ℕ, ◌+◌, ◌-◌, ◌*◌, ◌%◌, ◌^◌, ◌<◌, ◌≤◌, ◌⊎◌, false, IsTrue, List, [], ◌∷◌, ◌++◌, Some, codes, length, max, min, sum}
+use Rattle.std.specs.Int.{is_power_of_two, IsPowerOfTwo}
+use Rattle.std.specs.List.{AllByRecursion}
 use Rattle.offset_allocator.specs.declared.reports.Refusal.{Refusal}
 use Rattle.offset_allocator.specs.declared.reports.Refusal.TheVariants.{Nodes, TooLarge, Space, Fragmented}
-use Rattle.offset_allocator.specs.declared.reports.StorageReport.{StorageReport}
-use Rattle.offset_allocator.specs.declared.reports.StorageReportFull.{StorageReportFull}
-use Rattle.offset_allocator.specs.declared.reports.StorageReportFullRegion.{StorageReportFullRegion}
 use Rattle.offset_allocator.specs.Classes.{value, up}
-use Rattle.offset_allocator.specs.Reports.{count_of}
-use Rattle.offset_allocator.specs.View.{View, bin_at, free_sizes, total_free, largest_free}
-
--- the largest class whose bin is not empty, or none where all are empty
-abbrev pub IsFoundLast : List (List ℕ) → Option ℕ → Type 0
-IsFoundLast ls None = (c : ℕ) → c < 256 → bin_at ls c ≡ []
-IsFoundLast ls (Some c) = (c < 256) × (bin_at ls c ≡ [] → ⊥) × ((d : ℕ) → c < d → d < 256 → bin_at ls d ≡ [])
-
--- the short report of a view: its free units, and its largest free region
-abbrev pub IsReport : StorageReport → View → Type 0
-IsReport r v = (r.total_free_space ≡ total_free v) × (r.largest_free_region ≡ largest_free v)
-
--- the full report of a view: for each class its value, modulo 2 ^ 32, and the number of its free blocks
-abbrev pub IsFullReport : StorageReportFull → View → Type 0
-IsFullReport r v = (c : ℕ) (d : StorageReportFullRegion) → c < 256 → slice_index_or r.free_regions c d ≡ record { size = value c % 2 ^ 32; count = count_of c (free_sizes v.blocks) }
+use Rattle.offset_allocator.specs.View.{View, Handle, Place, bin_at, free_sizes, padding_to, place_of, units}
 
 -- there is room for k more blocks; one name always stays without a block, as in the original
 abbrev pub HasRoomFor : ℕ → View → Type 0
@@ -37,11 +22,31 @@ units_needed size align = size + align - 1
 -- when a request is granted: there is room for the blocks that it may add, and some bin is not empty whose class is
 -- large enough, which means that all its blocks have at least the units needed
 abbrev pub CanGrant : ℕ → ℕ → View → Type 0
-CanGrant blocks units v = HasRoomFor blocks v × ((c : ℕ) × (up units ≤ c) × (bin_at v.order c ≢ []))
+CanGrant blocks units v = HasRoomFor blocks v × ((c : ℕ) × (up units ≤ c) × (bin_at v.bins c ≢ []))
 
 -- the smallest size of a free block that the request may take: that of a class large enough, and at least one unit
 abbrev pub size_needed : ℕ → ℕ
 size_needed units = max 1 (value (up units))
+
+-- the block at a place holds n units from a multiple of align on
+abbrev pub Holds : ℕ → ℕ → Place → Type 0
+Holds n align p = padding_to align (units p.before) + n ≤ p.block.size
+
+-- the newest block of class c does
+abbrev pub NewestHolds : ℕ → ℕ → ℕ → View → Type 0
+NewestHolds c n align v = (p : Place) (older : List ℕ) → v.blocks ≡ p.before ++ (p.block ∷ p.after) → bin_at v.bins c ≡ p.block.name ∷ older → Holds n align p
+
+-- the block of the grant was free before, and is a near best fit for n units: for an aligned request, the units needed
+pub record IsSplitNearBest (n : ℕ) (v : View) (g : Handle) : Type 0 where
+  pub place : Place
+  pub there : place_of g.name v.blocks ≡ Some place
+  pub free : place.block.used ≡ false
+  -- if a free block has at least 9/8 of n units, the block taken is at most 9/8 as large as that block
+  pub fit : AllByRecursion (λ size. 9 * n ≤ 8 * size → 8 * place.block.size ≤ 9 * size) (free_sizes v.blocks)
+
+-- a refusal of n is justified: every free block is smaller than 9/8 of n
+abbrev pub IsGoodRefusal : ℕ → List ℕ → Type 0
+IsGoodRefusal n ns = AllByRecursion (λ t. 8 * t < 9 * n) ns
 
 -- why such a request is refused. Nodes: there is no room for the blocks. TooLarge: the whole space is smaller than any
 -- block of a class large enough. Space: so are all free units together. Fragmented: together they are enough, but no
@@ -58,3 +63,8 @@ refusal_words Nodes = codes "too few nodes are left"
 refusal_words TooLarge = codes "the request is too large for the space"
 refusal_words Space = codes "too few units are free"
 refusal_words Fragmented = codes "no free block is large enough until the space is compacted"
+
+-- an alignment that a request may ask for, a power of two, which a caller may show in either of three ways: it divides
+-- 2 ^ 32, or it is one to `is_power_of_two`, or to `IsPowerOfTwo`
+abbrev pub IsAlignment : ℕ → Type 0
+IsAlignment align = (2 ^ 32 % align ≡ 0) ⊎ IsTrue (is_power_of_two align) ⊎ IsPowerOfTwo align

@@ -1,7 +1,7 @@
 -- Ranges that become smaller or larger in place.
 use Rattle.std.specs.Prelude.{◌≡◌, ◌≢◌, ℕ, ◌+◌, ◌<◌, ◌≤◌, ◌⊎◌, Bool, true, false, List, [], ◌∷◌, ◌++◌, Some, option_map, unwrap_or}
 use Rattle.std.specs.List.{AllByRecursion}
-use Rattle.offset_allocator.specs.View.{View, Block, Place, units, count_named, place_of, free_start, free_part, used_block, replace, IsApart, IsNew}
+use Rattle.offset_allocator.specs.View.{View, Block, Place, units, count_named, place_of, free_start, free_part, used_block, replace, AreCoalesced, IsNew}
 use Rattle.offset_allocator.specs.Requests.{HasRoomFor}
 use Rattle.offset_allocator.specs.Ranges.{Range, range_of, size_of}
 use Rattle.offset_allocator.specs.Relations.{SameSpace}
@@ -47,7 +47,7 @@ pub record Resizes (x n : ℕ) (v w : View) : Type 0 where
   pub view : SameSpace (replace v before (block ∷ next) (used_block x n ∷ free_part name left) after) w
   -- afterwards no two free blocks are neighbours: so where units are left, next is the free block after it if there was
   -- one
-  pub apart : IsApart w.blocks
+  pub apart : AreCoalesced w.blocks
 
 -- the one change of both calls: it is refused exactly where the range cannot have n units, and then nothing changes, nor
 -- does it where the range has just as many

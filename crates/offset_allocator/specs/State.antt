@@ -49,7 +49,7 @@ pub record AreNamesOf (v : View) (names unused : List ℕ) : Type 0 where
   pub free : freed names v.blocks ≡ v.blocks
   pub once : (x : ℕ) → times x names ≤ count_named x v.blocks
   -- the bins are those that the names give
-  pub order : filed v.blocks names ≡ v.order
+  pub bins : filed v.blocks names ≡ v.bins
   -- each node that was made is that of one block, or unused
   pub each : (x : ℕ) → count_named x v.blocks + times x unused ≡ (if nat_lt x (length v.blocks + length unused) then 1 else 0)
   pub made : length v.blocks + length unused ≤ v.max_allocs

@@ -2,7 +2,7 @@
 use Rattle.std.specs.Prelude.{◌≡◌, ℕ, ◌+◌, max, List, [], ◌∷◌, length, map, sum}
 use Rattle.offset_allocator.specs.declared.statistics.Statistics.{Statistics}
 use Rattle.offset_allocator.specs.Cells.{ChainCells, node}
-use Rattle.offset_allocator.specs.Reports.{largest}
+use Rattle.offset_allocator.specs.FreeSizes.{largest}
 use Rattle.offset_allocator.specs.View.{View, free_sizes, used_of, used_units}
 
 -- the largest of some numbers, or 0 where there is none

@@ -6,17 +6,17 @@ use Rattle.offset_allocator.specs.View.{Place}
 use Rattle.offset_allocator.specs.Chain.{HasPlace}
 use Rattle.offset_allocator.specs.Bins.{IsBinned, bins_in}
 
--- the store, with memory for m nodes, holds a chain with the block x at a place
+-- the store, with memory for `limit` nodes, holds a chain with the block x at a place
 abbrev pub IsPlaceIn : {A B C : Type 0} → (A → Cells) → Store A B C → ℕ → ℕ → Place → Type 0
-IsPlaceIn cells s m x p = HasPlace (cells s.tables).chain m s.last s.spare_count x p
+IsPlaceIn cells s limit x p = HasPlace (cells s.tables).chain limit s.last s.spare_count x p
 
 -- its links and masks agree with its bins
 abbrev pub AreBinned : {A B C : Type 0} → (A → Cells) → ℕ → Store A B C → Type 0
-AreBinned cells none s = IsBinned none (cells s.tables).bins s.top_mask
+AreBinned cells max s = IsBinned max (cells s.tables).bins s.top_mask
 
 -- its bins
 abbrev pub bins_of : {A B C : Type 0} → (A → Cells) → ℕ → Store A B C → List (List ℕ)
-bins_of cells none s = bins_in none (cells s.tables).bins
+bins_of cells max s = bins_in max (cells s.tables).bins
 
 -- a change of the bins leaves the chain as it was
 abbrev pub SameChain : {A B C : Type 0} → (A → Cells) → Store A B C → Store A B C → Type 0

@@ -6,16 +6,8 @@ use Rattle.offset_allocator.specs.declared.reports.Refusal.TheVariants.{Nodes, T
 use Rattle.offset_allocator.specs.Cells.{ChainCells, node}
 use Rattle.offset_allocator.specs.Classes.{value, down}
 use Rattle.offset_allocator.specs.Relations.{SameSpace, Splits, Aligns}
-use Rattle.offset_allocator.specs.Requests.{HasRoomFor, CanGrant, blocks_needed, units_needed}
-use Rattle.offset_allocator.specs.View.{View, Grant, Place, units, place_of, padding_to, bin_at, push, remove, free_sizes}
-
--- the block at a place holds n units from a multiple of align on
-abbrev pub Holds : ℕ → ℕ → Place → Type 0
-Holds n align p = padding_to align (units p.before) + n ≤ p.block.size
-
--- the newest block of class c does
-abbrev pub HoldsFirst : ℕ → ℕ → ℕ → View → Type 0
-HoldsFirst c n align v = (p : Place) (older : List ℕ) → v.blocks ≡ p.before ++ (p.block ∷ p.after) → bin_at v.order c ≡ p.block.name ∷ older → Holds n align p
+use Rattle.offset_allocator.specs.Requests.{HasRoomFor, CanGrant, Holds, blocks_needed, units_needed}
+use Rattle.offset_allocator.specs.View.{View, Handle, Place, units, place_of, padding_to, push, remove, free_sizes}
 
 -- a free block holds n units from a multiple of align on, and there is room for the blocks that the request may add
 abbrev pub CanHold : ℕ → ℕ → View → Type 0
@@ -28,24 +20,24 @@ holds n align (Some p) = nat_le (padding_to align (units p.before) + n) p.block.
 
 -- the names of the bins from class c on: class by class, those of a bin from its newest on
 abbrev pub listed_from : ℕ → List (List ℕ) → List ℕ
-listed_from c order = concat (drop c order)
+listed_from c bins = concat (drop c bins)
 
 -- the first of them, from the class of n units on, whose block holds n units from a multiple of align on
 abbrev pub first_holding : ℕ → ℕ → View → Option ℕ
-first_holding n align v = find (λ x. holds n align (place_of x v.blocks)) (listed_from (down n) v.order)
+first_holding n align v = find (λ x. holds n align (place_of x v.blocks)) (listed_from (down n) v.bins)
 
 -- the name x is the first of the bin of class c
 abbrev pub with_first : ℕ → ℕ → View → View
-with_first c x v = record v { order = push c x (remove c x v.order) }
+with_first c x v = record v { bins = push c x (remove c x v.bins) }
 
 -- a request for the block that is first to hold it: this is split as if it were the newest of its bin, that of class c.
 -- It is refused where no free block holds it
-abbrev pub FillsFirst : ℕ → ℕ → View → View → Option Grant → Type 0
+abbrev pub FillsFirst : ℕ → ℕ → View → View → Option Handle → Type 0
 FillsFirst n align v w None = (CanHold n align v → ⊥) × SameSpace v w
 FillsFirst n align v w (Some g) = HasRoomFor (blocks_needed align) v × ((c x : ℕ) × (first_holding n align v ≡ Some x) × Splits (value c) n (padding_to align) (with_first c x v) w g)
 
 -- a request as `Aligns` has it, and where that refuses it, one for the block that is first to hold it
-abbrev pub AlignsTight : ℕ → ℕ → View → View → Option Grant → Type 0
+abbrev pub AlignsTight : ℕ → ℕ → View → View → Option Handle → Type 0
 AlignsTight n align v w None = FillsFirst n align v w None
 AlignsTight n align v w (Some g) = Aligns n align v w (Some g)
     ⊎ ((CanGrant (blocks_needed align) (units_needed n align) v → ⊥) × FillsFirst n align v w (Some g))

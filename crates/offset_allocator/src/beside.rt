@@ -1,10 +1,10 @@
 //! The live ranges beside one another in space. It reads tables, and counts each cell.
 ghost use Rattle.std.specs.Prelude.{ℕ, ◌≡◌, ◌+◌, ◌*◌, ◌≤◌, [], ◌∷◌, ◌++◌, Some, length, option_map, reverse};
 ghost use Rattle.offset_allocator.specs.Accesses.{Costs};
-ghost use Rattle.offset_allocator.specs.Beside.{first_grant, first_live, last_live, live_before, live_after};
+ghost use Rattle.offset_allocator.specs.Beside.{first_handle, first_live, last_live, live_before, live_after};
 ghost use Rattle.offset_allocator.specs.Chain.{HasPlace, IsSpace, blocks};
 ghost use Rattle.offset_allocator.specs.Listing.{placed};
-ghost use Rattle.offset_allocator.specs.View.{Grant, Place, IsApart, units};
+ghost use Rattle.offset_allocator.specs.View.{Handle, Place, AreCoalesced, units};
 
 use crate::accesses::Accesses;
 use crate::handle::Allocation;
@@ -18,12 +18,13 @@ fn live_up_to<T: Tables>(
     name: u32,
     count: &mut Accesses,
 ) -> Option<Allocation<T::Index>>
-    requires place { (m last spare : ℕ) × (p : Place)
-        × HasPlace (T.cells tables.now).chain m last spare name p
-        × IsApart (p.before ++ p.block ∷ p.after) }
-    ensures last { (m last spare : ℕ) (p : Place) → HasPlace (T.cells tables.now).chain m last spare name p
-        → IsApart (p.before ++ p.block ∷ p.after)
-        → result ≡ first_grant (reverse (placed 0 (p.before ++ p.block ∷ []))) }
+    requires place { (limit last spare_count : ℕ) × (p : Place)
+        × HasPlace (T.cells tables.now).chain limit last spare_count name p
+        × AreCoalesced (p.before ++ p.block ∷ p.after) }
+    ensures last { (limit last spare_count : ℕ) (p : Place)
+        → HasPlace (T.cells tables.now).chain limit last spare_count name p
+        → AreCoalesced (p.before ++ p.block ∷ p.after)
+        → result ≡ first_handle (reverse (placed 0 (p.before ++ p.block ∷ []))) }
     ensures accesses { Costs 2 3 count.old count.new }
 {
     tables.shape();
@@ -36,12 +37,13 @@ fn live_up_to<T: Tables>(
 
 // The handle of a block, or of the one after it where it is free.
 fn live_from<T: Tables>(tables: &T, name: u32, count: &mut Accesses) -> Option<Allocation<T::Index>>
-    requires place { (m last spare : ℕ) × (p : Place)
-        × HasPlace (T.cells tables.now).chain m last spare name p
-        × IsApart (p.before ++ p.block ∷ p.after) }
-    ensures first { (m last spare : ℕ) (p : Place) → HasPlace (T.cells tables.now).chain m last spare name p
-        → IsApart (p.before ++ p.block ∷ p.after)
-        → result ≡ first_grant (placed (units p.before) (p.block ∷ p.after)) }
+    requires place { (limit last spare_count : ℕ) × (p : Place)
+        × HasPlace (T.cells tables.now).chain limit last spare_count name p
+        × AreCoalesced (p.before ++ p.block ∷ p.after) }
+    ensures first { (limit last spare_count : ℕ) (p : Place)
+        → HasPlace (T.cells tables.now).chain limit last spare_count name p
+        → AreCoalesced (p.before ++ p.block ∷ p.after)
+        → result ≡ first_handle (placed (units p.before) (p.block ∷ p.after)) }
     ensures accesses { Costs 2 3 count.old count.new }
 {
     tables.shape();
@@ -56,8 +58,8 @@ fn live_from<T: Tables>(tables: &T, name: u32, count: &mut Accesses) -> Option<A
 // since the first block of the space is not known.
 fn first_used<T: Tables>(tables: &T, last: u32, count: &mut Accesses) -> Option<u32>
     requires space { (spare : ℕ) × IsSpace (T.cells tables.now).chain last spare }
-    ensures first { result ≡ option_map (λ (h : Grant). h.name)
-        (first_grant (placed 0 (blocks (T.cells tables.now).chain last))) }
+    ensures first { result ≡ option_map (λ (h : Handle). h.name)
+        (first_handle (placed 0 (blocks (T.cells tables.now).chain last))) }
     ensures accesses { count.new ≡ count.old + 2 * length (blocks (T.cells tables.now).chain last) }
 {
     let mut first = None;

@@ -1,5 +1,6 @@
 //! A bin for each size class: the names of its free blocks, in a list of links between the nodes, with a
-//! two-level mask. It touches the links of the bins, and leaves the chain as it is.
+//! two-level mask. It touches these links, the heads of the bins and the masks, and leaves the chain as it
+//! is.
 ghost use Rattle.std.specs.Prelude.{◌≡◌, ◌+◌, ◌-◌, ◌<◌, ◌≤◌, ◌≢◌, ℕ, false, List, [], ◌∷◌, slice_index};
 ghost use Rattle.std.specs.Prelude.{slice_set};
 ghost use Rattle.std.specs.Prelude.{length, replicate, MatchOption};
@@ -7,10 +8,9 @@ ghost use Rattle.offset_allocator.specs.Accesses.{Costs};
 ghost use Rattle.offset_allocator.specs.Cells.{AreEmpty, node};
 ghost use Rattle.offset_allocator.specs.Classes.{down};
 ghost use Rattle.offset_allocator.specs.View.{bin_at, push, remove};
-ghost use Rattle.offset_allocator.specs.Requests.{IsFoundLast};
 ghost use Rattle.offset_allocator.specs.Store.{AreBinned, SameChain, bins_of};
 ghost use Rattle.offset_allocator.specs.Bins.{IsUnlisted, IsFoundFrom, IsAmong, HasBins, AreMasks, bins_in};
-ghost use Rattle.offset_allocator.specs.Bins.{IsBinned};
+ghost use Rattle.offset_allocator.specs.Bins.{IsBinned, IsFoundLast};
 
 use crate::accesses::Accesses;
 use crate::index::{NodeIndex, link_to, no_link, number};
@@ -60,21 +60,21 @@ pub(crate) fn masks<T: Tables>(tables: &T, count: &mut Accesses) -> [u64; 4]
 
 /// As `find_at_or_above`, where the caller has read the masks.
 #[inline(always)]
-pub(crate) fn next_filled(masks: &[u64; 4], top_mask: u32, class: u32) -> Option<u32>
+pub(crate) fn find_in_masks(masks: &[u64; 4], top_mask: u32, class: u32) -> Option<u32>
     requires masked { (ls : List (List ℕ)) × AreMasks ls masks.now top_mask }
     requires classed { class < 256 }
     ensures smallest { (ls : List (List ℕ)) → AreMasks ls masks.now top_mask → IsFoundFrom class ls result }
 {
-    let place = class / 64;
-    let above = masks[place as usize] & (u64::MAX << (class % 64));
-    if above != 0 {
-        return Some(place * 64 + above.trailing_zeros());
+    let word = class / 64;
+    let rest = masks[word as usize] & (u64::MAX << (class % 64));
+    if rest != 0 {
+        return Some(word * 64 + rest.trailing_zeros());
     }
-    let others = top_mask & (u32::MAX << (place + 1));
-    if others == 0 {
+    let words = top_mask & (u32::MAX << (word + 1));
+    if words == 0 {
         return None;
     }
-    let found = others.trailing_zeros();
+    let found = words.trailing_zeros();
     Some(found * 64 + masks[found as usize].trailing_zeros())
 }
 

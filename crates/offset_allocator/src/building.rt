@@ -11,7 +11,7 @@ ghost use Rattle.offset_allocator.specs.Chain.{blocks as blocks_in};
 ghost use Rattle.offset_allocator.specs.Classes.{down};
 ghost use Rattle.offset_allocator.specs.State.{block_words, filed, freed};
 ghost use Rattle.offset_allocator.specs.Store.{AreBinned, bins_of};
-ghost use Rattle.offset_allocator.specs.View.{Block, IsApart, count_named, free_sizes, push, times};
+ghost use Rattle.offset_allocator.specs.View.{Block, AreCoalesced, count_named, free_sizes, push, times};
 ghost use Rattle.offset_allocator.specs.View.{units, used_block, used_of};
 
 use crate::accesses::Accesses;
@@ -46,8 +46,8 @@ fn prepend<T: Tables>(
         → (bs ≡ [] → ⊥) → last_or None bs ≡ Some last.old
         → last_or None (used_block name size ∷ bs) ≡ Some last.new }
     ensures only { link_of T.Index.MAX (T.Index.number next) ≡ None → last.new ≡ name }
-    ensures made { (n m : ℕ) → IsMade T.Index.MAX n m (T.cells tables.old)
-        → IsMade T.Index.MAX n m (T.cells tables.new) }
+    ensures made { (n limit : ℕ) → IsMade T.Index.MAX n limit (T.cells tables.old)
+        → IsMade T.Index.MAX n limit (T.cells tables.new) }
     ensures nodes { length (T.cells tables.new).chain.nodes ≡ length (T.cells tables.old).chain.nodes }
 {
     tables.set_block(name, offset, size, no_link(), next, count);
@@ -71,8 +71,8 @@ pub(crate) fn place_blocks<T: Tables>(
     ensures wrong { IsErr result → (bs : List Block) → block_words bs ≡ words.now → units bs ≡ size
         → ((x : ℕ) → count_named x bs ≤ 1)
         → ((x : ℕ) → length (T.cells tables.old).chain.nodes ≤ x → count_named x bs ≡ 0) → ⊥ }
-    ensures made { (n m : ℕ) → IsMade T.Index.MAX n m (T.cells tables.old)
-        → IsMade T.Index.MAX n m (T.cells tables.new) }
+    ensures made { (n limit : ℕ) → IsMade T.Index.MAX n limit (T.cells tables.old)
+        → IsMade T.Index.MAX n limit (T.cells tables.new) }
 {
     let nodes = tables.len();
     let mut left = size;
@@ -107,8 +107,8 @@ fn put_unused<T: Tables>(tables: &mut T, place: u32, name: u32, count: &mut Acce
         → take place (T.cells tables.old).chain.spare ≡ xs
         → HasBack (T.cells tables.new) o bs (xs ++ name ∷ [])
         × (take (place + 1) (T.cells tables.new).chain.spare ≡ xs ++ name ∷ []) }
-    ensures made { (n m : ℕ) → IsMade T.Index.MAX n m (T.cells tables.old)
-        → IsMade T.Index.MAX n m (T.cells tables.new) }
+    ensures made { (n limit : ℕ) → IsMade T.Index.MAX n limit (T.cells tables.old)
+        → IsMade T.Index.MAX n limit (T.cells tables.new) }
     ensures nodes { length (T.cells tables.new).chain.nodes ≡ length (T.cells tables.old).chain.nodes }
 {
     tables.shape();
@@ -131,8 +131,8 @@ pub(crate) fn place_unused<T: Tables>(
     ensures wrong { IsSome result → (o : ℕ) (bs : List Block) → HasBack (T.cells tables.old) o bs []
         → ((x : ℕ) → count_named x bs + times x words.now ≤ 1)
         → ((x : ℕ) → length (T.cells tables.old).chain.nodes ≤ x → times x words.now ≡ 0) → ⊥ }
-    ensures made { (n m : ℕ) → IsMade T.Index.MAX n m (T.cells tables.old)
-        → IsMade T.Index.MAX n m (T.cells tables.new) }
+    ensures made { (n limit : ℕ) → IsMade T.Index.MAX n limit (T.cells tables.old)
+        → IsMade T.Index.MAX n limit (T.cells tables.new) }
     ensures nodes { length (T.cells tables.new).chain.nodes ≡ length (T.cells tables.old).chain.nodes }
 {
     tables.shape();
@@ -153,8 +153,8 @@ pub(crate) fn clear_marks<T: Tables>(tables: &mut T, words: &[u32], count: &mut 
     ensures back { (o : ℕ) (bs : List Block) → HasBack (T.cells tables.old) o bs words.now
         → HasBack (T.cells tables.new) o bs [] }
     ensures spare { (T.cells tables.new).chain.spare ≡ (T.cells tables.old).chain.spare }
-    ensures made { (n m : ℕ) → IsMade T.Index.MAX n m (T.cells tables.old)
-        → IsMade T.Index.MAX n m (T.cells tables.new) }
+    ensures made { (n limit : ℕ) → IsMade T.Index.MAX n limit (T.cells tables.old)
+        → IsMade T.Index.MAX n limit (T.cells tables.new) }
 {
     for i in 0..words.len() {
         tables.set_used(words[i], false, count);
@@ -167,10 +167,10 @@ fn free_name<T: Tables>(store: &mut Store<T>, name: u32)
     requires binned { AreBinned T.cells T.Index.MAX store.old }
     requires named { name < length (T.cells store.old.tables).chain.nodes }
     requires unlisted { IsUnlisted name (bins_of T.cells T.Index.MAX store.old) }
-    ensures chain { (m : ℕ) (xs : List ℕ) (bs : List Block)
-        → IsChain (T.cells store.old.tables).chain m store.old.last store.old.spare_count (freed xs bs)
+    ensures chain { (limit : ℕ) (xs : List ℕ) (bs : List Block)
+        → IsChain (T.cells store.old.tables).chain limit store.old.last store.old.spare_count (freed xs bs)
         → count_named name bs ≡ 1
-        → IsChain (T.cells store.new.tables).chain m store.new.last store.new.spare_count
+        → IsChain (T.cells store.new.tables).chain limit store.new.last store.new.spare_count
         (freed (name ∷ xs) bs) }
     ensures binned { AreBinned T.cells T.Index.MAX store.new }
     ensures lists { bins_of T.cells T.Index.MAX store.new
@@ -191,16 +191,17 @@ fn free_name<T: Tables>(store: &mut Store<T>, name: u32)
 pub(crate) fn free_names<T: Tables>(store: &mut Store<T>, words: &[u32]) -> Option<usize>
     requires binned { AreBinned T.cells T.Index.MAX store.old }
     requires empty { bins_of T.cells T.Index.MAX store.old ≡ replicate 256 [] }
-    requires chain { (m : ℕ) × (bs : List Block) × (freed [] bs ≡ bs)
-        × IsChain (T.cells store.old.tables).chain m store.old.last store.old.spare_count bs }
-    ensures chain { result ≡ None → (m : ℕ) (bs : List Block) → freed [] bs ≡ bs
-        → IsChain (T.cells store.old.tables).chain m store.old.last store.old.spare_count bs
-        → IsChain (T.cells store.new.tables).chain m store.new.last store.new.spare_count (freed words.now bs)
+    requires chain { (limit : ℕ) × (bs : List Block) × (freed [] bs ≡ bs)
+        × IsChain (T.cells store.old.tables).chain limit store.old.last store.old.spare_count bs }
+    ensures chain { result ≡ None → (limit : ℕ) (bs : List Block) → freed [] bs ≡ bs
+        → IsChain (T.cells store.old.tables).chain limit store.old.last store.old.spare_count bs
+        → IsChain (T.cells store.new.tables).chain limit store.new.last store.new.spare_count
+        (freed words.now bs)
         × (bins_of T.cells T.Index.MAX store.new ≡ filed bs words.now)
         × ((x : ℕ) → times x words.now ≤ count_named x bs) }
     ensures binned { AreBinned T.cells T.Index.MAX store.new }
-    ensures wrong { IsSome result → (m : ℕ) (bs : List Block) → freed [] bs ≡ bs
-        → IsChain (T.cells store.old.tables).chain m store.old.last store.old.spare_count bs
+    ensures wrong { IsSome result → (limit : ℕ) (bs : List Block) → freed [] bs ≡ bs
+        → IsChain (T.cells store.old.tables).chain limit store.old.last store.old.spare_count bs
         → ((x : ℕ) → times x words.now ≤ count_named x bs) → ⊥ }
     ensures same { (store.new.last ≡ store.old.last) × (store.new.spare_count ≡ store.old.spare_count)
         × ((T.cells store.new.tables).chain.spare ≡ (T.cells store.old.tables).chain.spare) }
@@ -236,10 +237,10 @@ pub(crate) fn look_over<T: Tables>(
 ) -> Result<Overview, usize>
     requires space { (spare_count : ℕ) × IsSpace (T.cells tables.now).chain last spare_count }
     requires all { length (blocks_in (T.cells tables.now).chain last) ≡ blocks }
-    ensures found { IfOk result (λ s. IsApart (blocks_in (T.cells tables.now).chain last)
+    ensures found { IfOk result (λ s. AreCoalesced (blocks_in (T.cells tables.now).chain last)
         × (s.free_units ≡ sum (free_sizes (blocks_in (T.cells tables.now).chain last)))
         × (s.used ≡ used_of (blocks_in (T.cells tables.now).chain last))) }
-    ensures wrong { IsErr result → IsApart (blocks_in (T.cells tables.now).chain last) → ⊥ }
+    ensures wrong { IsErr result → AreCoalesced (blocks_in (T.cells tables.now).chain last) → ⊥ }
 {
     let mut found = Overview {
         free_units: 0,
@@ -339,7 +340,7 @@ pub(crate) fn build<T: Tables>(
     ensures wrong { IfOk result (λ r. IsErr r → (bs : List Block) → block_words bs ≡ blocks.now
         → units bs ≡ size
         → AreEach bs unused.now → ((x : ℕ) → times x free.now ≤ count_named x bs)
-        → IsApart (freed free.now bs) → ⊥) }
+        → AreCoalesced (freed free.now bs) → ⊥) }
 {
     let mut store = match lay_out(alloc, size, limit, blocks, unused)? {
         Err(wrong) => return Ok(Err(wrong)),

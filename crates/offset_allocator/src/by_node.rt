@@ -1,5 +1,5 @@
-//! The layout with one table of nodes: the fields of a node are in one cache line. It alone touches the cells
-//! of these tables.
+//! The layout with one table of nodes: the fields of a node are in one cache line or two. It alone touches
+//! the cells of these tables.
 
 ghost use Rattle.std.specs.Prelude.{◌≡◌};
 ghost use Rattle.offset_allocator.specs.Cells.{blank};
@@ -13,8 +13,8 @@ use std::alloc::{AllocError, Global};
 use std::marker::Model;
 
 /// A block's offset and size, the links to its neighbours in space, and the links to the next nodes of its
-/// bin. A link is the number of a node, or the largest number of its type, which names none. A used block is
-/// in no bin: its link to a newer node is the number below the largest, which names none either.
+/// bin. A link is the name of a node, or the largest number of its type, which is no link. A used block is
+/// in no bin: its link to a newer node is the number below the largest, which is no name either.
 #[derive(Clone, Copy)]
 pub(crate) struct Node<NI> {
     pub(crate) offset: u32,

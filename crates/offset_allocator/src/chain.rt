@@ -1,5 +1,5 @@
 //! The blocks of the space, linked in space order, and the stack of unused names. It touches these alone, and
-//! leaves the bins as they are.
+//! leaves the lists in the bins as they are: one cell says of a node in no bin whether its block is used.
 
 ghost use Rattle.std.specs.Prelude.{ℕ, ◌≡◌, ◌+◌, ◌-◌, ◌<◌, ◌≤◌, ◌^◌, List, [], ◌∷◌, ◌++◌, length, false};
 ghost use Rattle.std.specs.Prelude.{Some, IfSome};
@@ -9,7 +9,7 @@ ghost use Rattle.offset_allocator.specs.View.{units};
 ghost use Rattle.offset_allocator.specs.Accesses.{Costs};
 ghost use Rattle.offset_allocator.specs.Cells.{IsBare, node, put, link_of};
 ghost use Rattle.offset_allocator.specs.Bins.{IsUnlisted, bins_in};
-ghost use Rattle.offset_allocator.specs.Readies.{KeepsBins, Readies};
+ghost use Rattle.offset_allocator.specs.Readies.{SameBinLists, Readies};
 ghost use Rattle.offset_allocator.specs.Store.{IsPlaceIn, SameBins};
 ghost use Rattle.offset_allocator.specs.Chain.{IsChain, IsSpace, HasPlace, blocks, coalesced_before};
 ghost use Rattle.offset_allocator.specs.Chain.{coalesced_after};
@@ -137,13 +137,13 @@ pub(crate) fn split<T: Tables>(
     whole: u32,
     size: u32,
 ) -> u32
-    requires place { (m : ℕ) × (p : Place) × IsPlaceIn T.cells store.old m name p }
+    requires place { (limit : ℕ) × (p : Place) × IsPlaceIn T.cells store.old limit name p }
     requires spare { 0 < store.old.spare_count }
     requires offset { offset ≡ (node (T.cells store.old.tables).chain name).offset }
     requires whole { whole ≡ (node (T.cells store.old.tables).chain name).size }
     requires within { size ≤ whole }
-    ensures place { (m : ℕ) (p : Place) → IsPlaceIn T.cells store.old m name p
-        → IsPlaceIn T.cells store.new m name (record p {
+    ensures place { (limit : ℕ) (p : Place) → IsPlaceIn T.cells store.old limit name p
+        → IsPlaceIn T.cells store.new limit name (record p {
           block = record p.block { size = size };
           after = free_block result (p.block.size - size) ∷ p.after;
         }) }
@@ -151,7 +151,7 @@ pub(crate) fn split<T: Tables>(
     ensures nodes { length (T.cells store.new.tables).chain.nodes
         ≡ length (T.cells store.old.tables).chain.nodes }
     ensures spares { store.new.spare_count + 1 ≡ store.old.spare_count }
-    ensures fresh { (m : ℕ) (p : Place) → IsPlaceIn T.cells store.old m name p
+    ensures fresh { (limit : ℕ) (p : Place) → IsPlaceIn T.cells store.old limit name p
         → count_named result (p.before ++ p.block ∷ p.after) ≡ 0 }
     ensures below { result < length (T.cells store.old.tables).chain.nodes }
     ensures accesses { Costs 8 9 store.old.accesses store.new.accesses }
@@ -173,13 +173,13 @@ pub(crate) fn split<T: Tables>(
 /// name `following` is unused again.
 #[tactic(auto, using(crate::proofs::Nodes::lengths))]
 pub(crate) fn coalesce_after<T: Tables>(store: &mut Store<T>, name: u32, following: u32, whole: u32)
-    requires place { (m : ℕ) × (p : Place) × IsPlaceIn T.cells store.old m name p }
+    requires place { (limit : ℕ) × (p : Place) × IsPlaceIn T.cells store.old limit name p }
     requires next { Some following ≡ (node (T.cells store.old.tables).chain name).after }
     requires free { (node (T.cells store.old.tables).chain following).used ≡ false }
     requires whole { whole ≡ (node (T.cells store.old.tables).chain name).size
         + (node (T.cells store.old.tables).chain following).size }
-    ensures place { (m : ℕ) (p : Place) → IsPlaceIn T.cells store.old m name p
-        → IsPlaceIn T.cells store.new m name (coalesced_after p) }
+    ensures place { (limit : ℕ) (p : Place) → IsPlaceIn T.cells store.old limit name p
+        → IsPlaceIn T.cells store.new limit name (coalesced_after p) }
     ensures bins { SameBins T.cells store.old store.new }
     ensures nodes { length (T.cells store.new.tables).chain.nodes
         ≡ length (T.cells store.old.tables).chain.nodes }
@@ -200,13 +200,13 @@ pub(crate) fn coalesce_after<T: Tables>(store: &mut Store<T>, name: u32, followi
 /// name `previous` is unused again.
 #[tactic(auto, using(crate::proofs::Nodes::lengths))]
 pub(crate) fn coalesce_before<T: Tables>(store: &mut Store<T>, previous: u32, name: u32, whole: u32)
-    requires place { (m : ℕ) × (p : Place) × IsPlaceIn T.cells store.old m name p }
+    requires place { (limit : ℕ) × (p : Place) × IsPlaceIn T.cells store.old limit name p }
     requires previous { Some previous ≡ (node (T.cells store.old.tables).chain name).before }
     requires free { (node (T.cells store.old.tables).chain previous).used ≡ false }
     requires whole { whole ≡ (node (T.cells store.old.tables).chain previous).size
         + (node (T.cells store.old.tables).chain name).size }
-    ensures place { (m : ℕ) (p : Place) → IsPlaceIn T.cells store.old m name p
-        → IsPlaceIn T.cells store.new m name (coalesced_before p) }
+    ensures place { (limit : ℕ) (p : Place) → IsPlaceIn T.cells store.old limit name p
+        → IsPlaceIn T.cells store.new limit name (coalesced_before p) }
     ensures bins { SameBins T.cells store.old store.new }
     ensures nodes { length (T.cells store.new.tables).chain.nodes
         ≡ length (T.cells store.old.tables).chain.nodes }
@@ -228,11 +228,12 @@ pub(crate) fn coalesce_before<T: Tables>(store: &mut Store<T>, previous: u32, na
 #[tactic(auto, using(crate::proofs::Nodes::lengths))]
 pub(crate) fn set_used<T: Tables>(tables: &mut T, name: u32, used: bool, count: &mut Accesses)
     requires { name < length (T.cells tables.old).chain.nodes }
-    ensures place { (m last spare : ℕ) (p : Place) → HasPlace (T.cells tables.old).chain m last spare name p
-        → HasPlace (T.cells tables.new).chain m last spare name
+    ensures place { (limit last spare_count : ℕ) (p : Place)
+        → HasPlace (T.cells tables.old).chain limit last spare_count name p
+        → HasPlace (T.cells tables.new).chain limit last spare_count name
         (record p { block = record p.block { used = used } }) }
     ensures bins { (top : ℕ) → IsUnlisted name (bins_in T.Index.MAX (T.cells tables.old).bins)
-        → KeepsBins T.Index.MAX (T.cells tables.old) (T.cells tables.new) top }
+        → SameBinLists T.Index.MAX (T.cells tables.old) (T.cells tables.new) top }
     ensures nodes { length (T.cells tables.new).chain.nodes ≡ length (T.cells tables.old).chain.nodes }
     ensures accesses { count.new ≡ count.old + 1 }
 {
@@ -243,11 +244,11 @@ pub(crate) fn set_used<T: Tables>(tables: &mut T, name: u32, used: bool, count: 
 /// is returned.
 #[tactic(auto, using(crate::proofs::Nodes::lengths))]
 pub(crate) fn split_before<T: Tables>(store: &mut Store<T>, name: u32, cut: u32) -> u32
-    requires place { (m : ℕ) × (p : Place) × IsPlaceIn T.cells store.old m name p }
+    requires place { (limit : ℕ) × (p : Place) × IsPlaceIn T.cells store.old limit name p }
     requires spare { 0 < store.old.spare_count }
     requires within { cut ≤ (node (T.cells store.old.tables).chain name).size }
-    ensures place { (m : ℕ) (p : Place) → IsPlaceIn T.cells store.old m name p
-        → IsPlaceIn T.cells store.new m name (record {
+    ensures place { (limit : ℕ) (p : Place) → IsPlaceIn T.cells store.old limit name p
+        → IsPlaceIn T.cells store.new limit name (record {
           before = p.before ++ free_block result cut ∷ [];
           block = record p.block { size = p.block.size - cut };
           after = p.after;
@@ -256,7 +257,7 @@ pub(crate) fn split_before<T: Tables>(store: &mut Store<T>, name: u32, cut: u32)
     ensures nodes { length (T.cells store.new.tables).chain.nodes
         ≡ length (T.cells store.old.tables).chain.nodes }
     ensures spares { store.new.spare_count + 1 ≡ store.old.spare_count }
-    ensures fresh { (m : ℕ) (p : Place) → IsPlaceIn T.cells store.old m name p
+    ensures fresh { (limit : ℕ) (p : Place) → IsPlaceIn T.cells store.old limit name p
         → count_named result (p.before ++ p.block ∷ p.after) ≡ 0 }
     ensures below { result < length (T.cells store.old.tables).chain.nodes }
     ensures accesses { Costs 11 12 store.old.accesses store.new.accesses }
@@ -279,14 +280,14 @@ pub(crate) fn split_before<T: Tables>(store: &mut Store<T>, name: u32, cut: u32)
 /// Adds units to the last block.
 #[tactic(auto, using(crate::proofs::Nodes::lengths))]
 pub(crate) fn grow<T: Tables>(tables: &mut T, last: u32, more: u32, count: &mut Accesses)
-    requires place { (m spare : ℕ) × (before : List Block) × (b : Block)
-        × HasPlace (T.cells tables.old).chain m last spare last
+    requires place { (limit spare_count : ℕ) × (before : List Block) × (b : Block)
+        × HasPlace (T.cells tables.old).chain limit last spare_count last
         (record { before = before; block = b; after = [] }) }
     requires fits { units (blocks (T.cells tables.old).chain last) + more < 2 ^ 32 }
-    ensures place { (m spare : ℕ) (before : List Block) (b : Block)
-        → HasPlace (T.cells tables.old).chain m last spare last
+    ensures place { (limit spare_count : ℕ) (before : List Block) (b : Block)
+        → HasPlace (T.cells tables.old).chain limit last spare_count last
         (record { before = before; block = b; after = [] })
-        → HasPlace (T.cells tables.new).chain m last spare last (record {
+        → HasPlace (T.cells tables.new).chain limit last spare_count last (record {
           before = before;
           block = record b { size = b.size + more };
           after = [];
@@ -302,13 +303,13 @@ pub(crate) fn grow<T: Tables>(tables: &mut T, last: u32, more: u32, count: &mut 
 /// Leaves the last block fewer units.
 #[tactic(auto, using(crate::proofs::Nodes::lengths))]
 pub(crate) fn trim<T: Tables>(tables: &mut T, last: u32, size: u32, count: &mut Accesses)
-    requires place { (m spare : ℕ) × (before : List Block) × (b : Block)
-        × HasPlace (T.cells tables.old).chain m last spare last
+    requires place { (limit spare_count : ℕ) × (before : List Block) × (b : Block)
+        × HasPlace (T.cells tables.old).chain limit last spare_count last
         (record { before = before; block = b; after = [] }) }
-    ensures place { (m spare : ℕ) (before : List Block) (b : Block)
-        → HasPlace (T.cells tables.old).chain m last spare last
+    ensures place { (limit spare_count : ℕ) (before : List Block) (b : Block)
+        → HasPlace (T.cells tables.old).chain limit last spare_count last
         (record { before = before; block = b; after = [] })
-        → size ≤ b.size → HasPlace (T.cells tables.new).chain m last spare last (record {
+        → size ≤ b.size → HasPlace (T.cells tables.new).chain limit last spare_count last (record {
           before = before;
           block = record b { size = size };
           after = [];
@@ -322,12 +323,12 @@ pub(crate) fn trim<T: Tables>(tables: &mut T, last: u32, size: u32, count: &mut 
 
 /// Takes the last block, which is free, off the end; `previous` is the last one then.
 pub(crate) fn drop_end<T: Tables>(store: &mut Store<T>, previous: u32, size: u32)
-    requires place { (m : ℕ) × (before : List Block) × (a b : Block)
-        × IsPlaceIn T.cells store.old m previous (record { before = before; block = a; after = b ∷ [] })
+    requires place { (limit : ℕ) × (before : List Block) × (a b : Block)
+        × IsPlaceIn T.cells store.old limit previous (record { before = before; block = a; after = b ∷ [] })
         × (b.used ≡ false) × (size ≡ b.size) }
-    ensures place { (m : ℕ) (before : List Block) (a b : Block)
-        → IsPlaceIn T.cells store.old m previous (record { before = before; block = a; after = b ∷ [] })
-        → b.used ≡ false → IsPlaceIn T.cells store.new m previous
+    ensures place { (limit : ℕ) (before : List Block) (a b : Block)
+        → IsPlaceIn T.cells store.old limit previous (record { before = before; block = a; after = b ∷ [] })
+        → b.used ≡ false → IsPlaceIn T.cells store.new limit previous
         (record { before = before; block = a; after = [] }) }
     ensures bins { SameBins T.cells store.old store.new }
     ensures last { store.new.last ≡ previous }

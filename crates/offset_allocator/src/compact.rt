@@ -12,7 +12,7 @@ ghost use Rattle.offset_allocator.specs.Chain.{IsSpace, HasPlace, blocks};
 ghost use Rattle.offset_allocator.specs.Compacting.{live, moves, move_of, Compacts, KeepsSizes, IsCalledWith};
 ghost use Rattle.offset_allocator.specs.Compacting.{IsStart, first_among, first_free, newest, until};
 ghost use Rattle.offset_allocator.specs.Compacting.{until_free};
-ghost use Rattle.offset_allocator.specs.Soundness.{AreInBins};
+ghost use Rattle.offset_allocator.specs.View.{AreInBins};
 ghost use Rattle.offset_allocator.specs.Store.{IsPlaceIn, SameBins};
 
 use crate::accesses::Accesses;
@@ -81,7 +81,7 @@ fn search_start<T: Tables>(tables: &T, top_mask: u32, last: u32, count: &mut Acc
         if class > 255 {
             return start;
         }
-        let Some(found) = bins::next_filled(&masks, top_mask, class) else {
+        let Some(found) = bins::find_in_masks(&masks, top_mask, class) else {
             return start;
         };
         let name = tables.head(found, count);
@@ -157,12 +157,13 @@ fn slide<T: Tables, F: FnMut(Move<T::Index>)>(
     size: u32,
     moved: &mut F,
 ) -> Gap<T::Index>
-    requires place { (m : ℕ) × (p : Place) × IsPlaceIn T.cells store.old m name p × (p.block.used ≡ false) }
+    requires place { (limit : ℕ) × (p : Place) × IsPlaceIn T.cells store.old limit name p
+        × (p.block.used ≡ false) }
     requires size { size ≡ (node (T.cells store.old.tables).chain name).size }
     requires callable { F.IsAlwaysCallable moved.old }
     ensures callable { F.IsAlwaysCallable moved.new }
-    ensures place { (m : ℕ) (p : Place) → IsPlaceIn T.cells store.old m name p → p.block.used ≡ false
-        → IsPlaceIn T.cells store.new m result.name (record {
+    ensures place { (limit : ℕ) (p : Place) → IsPlaceIn T.cells store.old limit name p → p.block.used ≡ false
+        → IsPlaceIn T.cells store.new limit result.name (record {
           before = p.before ++ live p.after;
           block = free_block result.name result.size;
           after = [];
@@ -172,7 +173,8 @@ fn slide<T: Tables, F: FnMut(Move<T::Index>)>(
         (moves (units p.before + p.block.size) (units p.before) p.after) moved.new
         × (store.new.accesses ≤ store.old.accesses + 7 * length p.after + 9) }
     ensures bins { SameBins T.cells store.old store.new }
-    ensures accesses_min { (m : ℕ) (p : Place) → IsPlaceIn T.cells store.old m name p → p.block.used ≡ false
+    ensures accesses_min { (limit : ℕ) (p : Place) → IsPlaceIn T.cells store.old limit name p
+        → p.block.used ≡ false
         → store.old.accesses + 4 * length p.after + 7 ≤ store.new.accesses }
 {
     store.tables.shape();

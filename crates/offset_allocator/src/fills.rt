@@ -1,4 +1,4 @@
-//! Requests the memory of tables, and fills it within its bounds.
+//! Requests the memory of tables, and fills it within its bounds. It touches the vectors that it is given.
 ghost use Rattle.std.specs.Prelude.{◌≡◌, ◌+◌, ◌*◌, ◌<◌, [], ◌∷◌, ◌++◌, vec_len, vec_capacity, IfOk};
 ghost use Rattle.offset_allocator.specs.Cells.{link_bytes};
 

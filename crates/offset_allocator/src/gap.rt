@@ -32,12 +32,13 @@ pub(crate) fn open<T: Tables>(
     size: u32,
     count: &mut Accesses,
 ) -> Gap<T::Index>
-    requires place { (m last spare : ℕ) × (p : Place)
-        × HasPlace (T.cells tables.now).chain m last spare name p }
+    requires place { (limit last spare_count : ℕ) × (p : Place)
+        × HasPlace (T.cells tables.now).chain limit last spare_count name p }
     requires size { size ≡ (node (T.cells tables.now).chain name).size }
-    ensures gap { (m last spare : ℕ) (p : Place) → HasPlace (T.cells tables.now).chain m last spare name p
+    ensures gap { (limit last spare_count : ℕ) (p : Place)
+        → HasPlace (T.cells tables.now).chain limit last spare_count name p
         → p.block.used ≡ false
-        → IsGap T.Index.MAX T.Index.number result (T.cells tables.now).chain m last spare p }
+        → IsGap T.Index.MAX T.Index.number result (T.cells tables.now).chain limit last spare_count p }
     ensures accesses { count.new ≡ count.old + 2 }
 {
     Gap {
@@ -51,14 +52,14 @@ pub(crate) fn open<T: Tables>(
 /// Slides the block `next` of `more` units, which is directly after the gap, to its front.
 #[tactic(auto, using(crate::proofs::Nodes::lengths))]
 pub(crate) fn pass<T: Tables>(store: &mut Store<T>, gap: &mut Gap<T::Index>, next: u32, more: u32)
-    requires place { (m : ℕ) × (p : Place) × (b : Block) × (bs : List Block)
-        × IsGap T.Index.MAX T.Index.number gap.old (T.cells store.old.tables).chain m store.old.last
+    requires place { (limit : ℕ) × (p : Place) × (b : Block) × (bs : List Block)
+        × IsGap T.Index.MAX T.Index.number gap.old (T.cells store.old.tables).chain limit store.old.last
         store.old.spare_count p × (p.after ≡ b ∷ bs) × (b.name ≡ next) }
     requires more { more ≡ (node (T.cells store.old.tables).chain next).size }
-    ensures gap { (m : ℕ) (p : Place) (b : Block) (bs : List Block)
-        → IsGap T.Index.MAX T.Index.number gap.old (T.cells store.old.tables).chain m store.old.last
+    ensures gap { (limit : ℕ) (p : Place) (b : Block) (bs : List Block)
+        → IsGap T.Index.MAX T.Index.number gap.old (T.cells store.old.tables).chain limit store.old.last
         store.old.spare_count p → p.after ≡ b ∷ bs → b.name ≡ next
-        → IsGap T.Index.MAX T.Index.number gap.new (T.cells store.new.tables).chain m store.new.last
+        → IsGap T.Index.MAX T.Index.number gap.new (T.cells store.new.tables).chain limit store.new.last
         store.new.spare_count (record { before = p.before ++ b ∷ []; block = p.block; after = bs }) }
     ensures bins { SameBins T.cells store.old store.new }
     ensures accesses { Costs 3 4 store.old.accesses store.new.accesses }
@@ -74,14 +75,14 @@ pub(crate) fn pass<T: Tables>(store: &mut Store<T>, gap: &mut Gap<T::Index>, nex
 
 /// Coalesces the free block `next` of `more` units, which is directly after the gap and in no bin, with it.
 pub(crate) fn gather<T: Tables>(store: &mut Store<T>, gap: &mut Gap<T::Index>, next: u32, more: u32)
-    requires place { (m : ℕ) × (p : Place) × (b : Block) × (bs : List Block)
-        × IsGap T.Index.MAX T.Index.number gap.old (T.cells store.old.tables).chain m store.old.last
+    requires place { (limit : ℕ) × (p : Place) × (b : Block) × (bs : List Block)
+        × IsGap T.Index.MAX T.Index.number gap.old (T.cells store.old.tables).chain limit store.old.last
         store.old.spare_count p × (p.after ≡ b ∷ bs) × (b.name ≡ next) × (b.used ≡ false) }
     requires more { more ≡ (node (T.cells store.old.tables).chain next).size }
-    ensures gap { (m : ℕ) (p : Place) (b : Block) (bs : List Block)
-        → IsGap T.Index.MAX T.Index.number gap.old (T.cells store.old.tables).chain m store.old.last
+    ensures gap { (limit : ℕ) (p : Place) (b : Block) (bs : List Block)
+        → IsGap T.Index.MAX T.Index.number gap.old (T.cells store.old.tables).chain limit store.old.last
         store.old.spare_count p → p.after ≡ b ∷ bs → b.name ≡ next → b.used ≡ false
-        → IsGap T.Index.MAX T.Index.number gap.new (T.cells store.new.tables).chain m store.new.last
+        → IsGap T.Index.MAX T.Index.number gap.new (T.cells store.new.tables).chain limit store.new.last
         store.new.spare_count (record {
           before = p.before;
           block = record p.block { size = p.block.size + b.size };
@@ -101,15 +102,15 @@ pub(crate) fn gather<T: Tables>(store: &mut Store<T>, gap: &mut Gap<T::Index>, n
 /// Puts the free block back into the chain, before the one that the link `after` names.
 #[tactic(auto, using(crate::proofs::Nodes::lengths))]
 pub(crate) fn close<T: Tables>(store: &mut Store<T>, gap: Gap<T::Index>, after: T::Index)
-    requires place { (m : ℕ) × (p : Place)
-        × IsGap T.Index.MAX T.Index.number gap (T.cells store.old.tables).chain m store.old.last
+    requires place { (limit : ℕ) × (p : Place)
+        × IsGap T.Index.MAX T.Index.number gap (T.cells store.old.tables).chain limit store.old.last
         store.old.spare_count p
         × (link_of T.Index.MAX (T.Index.number after) ≡ first_or None p.after) }
-    ensures place { (m : ℕ) (p : Place)
-        → IsGap T.Index.MAX T.Index.number gap (T.cells store.old.tables).chain m store.old.last
+    ensures place { (limit : ℕ) (p : Place)
+        → IsGap T.Index.MAX T.Index.number gap (T.cells store.old.tables).chain limit store.old.last
         store.old.spare_count p
         → link_of T.Index.MAX (T.Index.number after) ≡ first_or None p.after
-        → IsPlaceIn T.cells store.new m gap.name p }
+        → IsPlaceIn T.cells store.new limit gap.name p }
     ensures bins { SameBins T.cells store.old store.new }
     ensures accesses { Costs 4 6 store.old.accesses store.new.accesses }
 {

@@ -9,7 +9,7 @@ ghost use Rattle.offset_allocator.specs.View.{Block, Place, free_block, free_siz
 ghost use Rattle.offset_allocator.specs.Compacting.{IsCalledWith, KeepsSizes, live, moves};
 ghost use Rattle.offset_allocator.specs.Classes.{up, value};
 ghost use Rattle.offset_allocator.specs.Room.{IsLeastCost, IsStretch, MakesRoom, ranges_of};
-ghost use Rattle.offset_allocator.specs.Soundness.{AreInBins};
+ghost use Rattle.offset_allocator.specs.View.{AreInBins};
 ghost use Rattle.offset_allocator.specs.Store.{AreBinned, IsPlaceIn, bins_of};
 
 use crate::compact::{Move, report};
@@ -30,14 +30,15 @@ fn slide_to<T: Tables, F: FnMut(Move<T::Index>)>(
     end: u32,
     moved: &mut F,
 ) -> Gap<T::Index>
-    requires place { (m : ℕ) × (p : Place) × (run back : List Block) × IsPlaceIn T.cells store.old m name p
+    requires place { (limit : ℕ) × (p : Place) × (run back : List Block)
+        × IsPlaceIn T.cells store.old limit name p
         × IsStretch p run back end × AreInBins (p.before ++ p.after) (bins_of T.cells T.Index.MAX store.old) }
     requires binned { AreBinned T.cells T.Index.MAX store.old }
     requires size { size ≡ (node (T.cells store.old.tables).chain name).size }
     requires callable { F.IsAlwaysCallable moved.old }
-    ensures place { (m : ℕ) (p : Place) (run back : List Block) → IsPlaceIn T.cells store.old m name p
+    ensures place { (limit : ℕ) (p : Place) (run back : List Block) → IsPlaceIn T.cells store.old limit name p
         → IsStretch p run back end → AreInBins (p.before ++ p.after) (bins_of T.cells T.Index.MAX store.old)
-        → IsPlaceIn T.cells store.new m result.name (record {
+        → IsPlaceIn T.cells store.new limit result.name (record {
           before = p.before ++ live run;
           block = free_block result.name result.size;
           after = back;

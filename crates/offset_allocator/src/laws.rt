@@ -7,11 +7,13 @@ ghost use Rattle.std.specs.Int.{IsPowerOfTwo};
 ghost use Rattle.std.specs.List.{AllByRecursion};
 ghost use Rattle.offset_allocator.specs.Accesses.{Costs};
 ghost use Rattle.offset_allocator.specs.Classes.{value, up, down};
-ghost use Rattle.offset_allocator.specs.View.{View, Block, Grant, IsWellFormed, free_sizes, total_free};
-ghost use Rattle.offset_allocator.specs.View.{largest_free, padding_to, used_of, used_units};
+ghost use Rattle.offset_allocator.specs.View.{View, Block, Handle, IsWellFormed, free_sizes, reported_free};
+ghost use Rattle.offset_allocator.specs.View.{reported_largest, padding_to, used_of, used_units};
 ghost use Rattle.offset_allocator.specs.Ranges.{Range, range_of, AreDisjoint};
-ghost use Rattle.offset_allocator.specs.Relations.{IsAlignment, SameSpace, Allocates, Frees, IsFresh};
-ghost use Rattle.offset_allocator.specs.Requests.{CanGrant, HasRoomFor, IsReport, IsWhy};
+ghost use Rattle.offset_allocator.specs.Relations.{SameSpace, Allocates, Frees, IsFresh};
+ghost use Rattle.offset_allocator.specs.Requests.{IsAlignment};
+ghost use Rattle.offset_allocator.specs.Reports.{IsReport};
+ghost use Rattle.offset_allocator.specs.Requests.{CanGrant, HasRoomFor, IsWhy};
 ghost use Rattle.offset_allocator.specs.State.{IsStateOf};
 ghost use Rattle.offset_allocator.specs.Statistics.{AreStatistics};
 ghost use Rattle.offset_allocator.specs.Tight.{CanHold, IsWhyTight};
@@ -46,7 +48,7 @@ pub use crate::tight::{refusal_tight_aligned_counted, refusal_tight_counted};
 /// The contract says this of each grant that a request for `n` can have here, whichever unused name its
 /// remainder takes. The count of accesses grows by at most 192.
 pub fn undo<T: Tables>(allocator: &mut AllocatorOf<T>, n: u32) -> bool
-    ensures undone { (w u : View) (g : Grant) → Allocates n allocator.old w (Some g) → Frees g.name w u
+    ensures undone { (w u : View) (g : Handle) → Allocates n allocator.old w (Some g) → Frees g.name w u
         → SameSpace allocator.old u }
     ensures same { SameSpace allocator.old allocator.new }
     ensures granted { IsTrue result ↔ CanGrant 1 n allocator.old }
@@ -171,7 +173,7 @@ pub fn a_full_space_refuses<T: Tables>(allocator: &AllocatorOf<T>)
         + 1
         → CanGrant blocks units allocator.now → ⊥ }
     ensures reports { allocator.now.max_allocs ≤ length allocator.now.blocks + 1
-        → (total_free allocator.now ≡ 0) × (largest_free allocator.now ≡ 0) }
+        → (reported_free allocator.now ≡ 0) × (reported_largest allocator.now ≡ 0) }
 {
     allocator.formed();
 }

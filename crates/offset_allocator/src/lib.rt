@@ -4,9 +4,9 @@
 //! A *block* is a run of units, used or free; no two free blocks are neighbours. Each block has a *node* of
 //! the tables, whose index is the block's *name*; the range of a used block, and its name, are *live*. A
 //! *size class* is a range of sizes, and its *bin* the list of the free blocks of that class, the newest
-//! first, which is the one that last became free or changed its size. A range has the name of the free block
-//! that it was granted from, and leaves it to the block that `free` makes; which unused name a new free block
-//! has otherwise is left open.
+//! first, which is the one that last became free or changed its size. A range takes over the name of the
+//! free block that it is cut from, and what remains of that block gets an unused name, which one is left
+//! open. Where the range is freed, the coalesced block keeps the range's name.
 //!
 //! ```
 //! let mut vertices = Allocator::<u32>::new(alloc, 1 << 20)?;
@@ -23,11 +23,14 @@ ghost use Rattle.std.specs.Prelude.{false, true, IsTrue, IsSome, IfSome, IfOk, l
 ghost use Rattle.offset_allocator.specs.Accesses.{Costs};
 ghost use Rattle.offset_allocator.specs.Ranges.{Range, range_of, size_of, Grants, IsLive, KeepsAll};
 ghost use Rattle.offset_allocator.specs.Ranges.{KeepsOthers};
-ghost use Rattle.offset_allocator.specs.Reports.{IsGoodRefusal};
-ghost use Rattle.offset_allocator.specs.View.{count_named, is_full, free_sizes, largest_free, used_of};
-ghost use Rattle.offset_allocator.specs.Relations.{Allocates, Aligns, Frees, Extends, CanExtend, IsAlignment};
-ghost use Rattle.offset_allocator.specs.Relations.{SameSpace, IsSplitNearBest, IsFresh, Resets};
-ghost use Rattle.offset_allocator.specs.Requests.{IsReport, IsFullReport, CanGrant, IsWhy, HasRoomFor};
+ghost use Rattle.offset_allocator.specs.Requests.{IsGoodRefusal};
+ghost use Rattle.offset_allocator.specs.View.{count_named, is_full, free_sizes, reported_largest, used_of};
+ghost use Rattle.offset_allocator.specs.Relations.{Allocates, Aligns, Frees, Extends, CanExtend};
+ghost use Rattle.offset_allocator.specs.Requests.{IsAlignment};
+ghost use Rattle.offset_allocator.specs.Relations.{SameSpace, IsFresh, Resets};
+ghost use Rattle.offset_allocator.specs.Requests.{IsSplitNearBest};
+ghost use Rattle.offset_allocator.specs.Reports.{IsReport, IsFullReport};
+ghost use Rattle.offset_allocator.specs.Requests.{CanGrant, IsWhy, HasRoomFor};
 ghost use Rattle.offset_allocator.specs.Requests.{blocks_needed};
 ghost use Rattle.offset_allocator.specs.Requests.{units_needed};
 ghost use Rattle.offset_allocator.specs.Listing.{listing};
@@ -266,8 +269,8 @@ impl<T: Tables> AllocatorOf<T> {
     }
 
     /// Whether `max_allocs - 1` blocks exist. Then every request is refused, and the short report is 0, 0,
-    /// until blocks coalesce (by `free`, `compact` or `reset`) or `grow_in_place` takes the whole of a free
-    /// block.
+    /// until blocks coalesce (by `free`, `compact`, `make_room` or `reset`), or `grow_in_place` or `retract`
+    /// takes the whole of a free block.
     ///
     /// ```
     /// let mut space = Allocator::<u32>::with_max_allocs(alloc, 1000, 3)?;
@@ -299,7 +302,7 @@ impl<T: Tables> AllocatorOf<T> {
     pub fn allocate(&mut self, size: u32) -> Option<Allocation<T::Index>>
         // A request of at least one unit is granted exactly when `size` is at most the `largest_free_region`
         // of the report, which is 0 at the node limit.
-        ensures granted { 1 ≤ size → (IsSome result ↔ (size ≤ largest_free self.old)) }
+        ensures granted { 1 ≤ size → (IsSome result ↔ (size ≤ reported_largest self.old)) }
         // Any request, of 0 units too, is granted exactly when there is room for one more block, and there is
         // a free block in a size class whose blocks all have at least `size` units.
         ensures can_grant { IsSome result ↔ CanGrant 1 size self.old }
@@ -366,8 +369,8 @@ impl<T: Tables> AllocatorOf<T> {
         reports::is_live_counted(self, allocation, &mut Accesses::new())
     }
 
-    /// The units of the range that a live handle has: exactly those that `allocate`, `allocate_aligned`,
-    /// `shrink` or `grow_in_place` last gave it. It is 0 where the handle is not live, and for a live range
+    /// The units of the range that a live handle has: exactly those that its grant, `shrink` or
+    /// `grow_in_place` last gave it. It is 0 where the handle is not live, and for a live range
     /// of no units too. It makes at most 8 accesses to the tables.
     ///
     /// ```
@@ -503,7 +506,7 @@ impl<T: Tables> AllocatorOf<T> {
         // all have at least the units needed.
         ensures granted { 1 ≤ units_needed size align → (IsSome result
             ↔ (HasRoomFor (blocks_needed align) self.old
-            × (units_needed size align ≤ largest_free self.old))) }
+            × (units_needed size align ≤ reported_largest self.old))) }
         ensures can_grant { IsSome result
             ↔ CanGrant (blocks_needed align) (units_needed size align) self.old }
         // A grant gives a name that was not live. Its range has exactly `size` units, lies in the space, and

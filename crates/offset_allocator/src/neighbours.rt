@@ -1,5 +1,5 @@
 //! A block and its neighbours: it is coalesced with the free ones, divided or resized, by `chain` and `bins`
-//! together.
+//! together; of the tables it reads sizes and offsets itself.
 ghost use Rattle.std.specs.Prelude.{ℕ, ◌≡◌, ◌+◌, ◌≤◌, ◌++◌, ◌∷◌, Some, false, length, ◌-◌, ◌<◌, IsSome};
 ghost use Rattle.offset_allocator.specs.Accesses.{Costs};
 ghost use Rattle.offset_allocator.specs.Classes.{down};
@@ -8,7 +8,8 @@ ghost use Rattle.offset_allocator.specs.View.{Place, free_end, free_start, push,
 ghost use Rattle.offset_allocator.specs.View.{without_start, used_block, units, push_all};
 ghost use Rattle.offset_allocator.specs.Chain.{HasPlace, IsFreeAfter, IsFreeBefore, coalesced_before};
 ghost use Rattle.offset_allocator.specs.Chain.{coalesced_after};
-ghost use Rattle.offset_allocator.specs.Soundness.{AreInBins, AreUnlisted};
+ghost use Rattle.offset_allocator.specs.Bins.{ListsOnly};
+ghost use Rattle.offset_allocator.specs.View.{AreInBins};
 ghost use Rattle.offset_allocator.specs.Store.{IsPlaceIn, AreBinned, bins_of};
 ghost use Rattle.offset_allocator.specs.Bins.{IsUnlisted};
 
@@ -21,8 +22,8 @@ use crate::{bins, chain};
 // The name of a free block directly before a block, if there is one.
 #[inline(always)]
 fn free_before<T: Tables>(tables: &T, name: u32, count: &mut Accesses) -> Option<u32>
-    requires place { (m last spare : ℕ) × (p : Place)
-        × HasPlace (T.cells tables.now).chain m last spare name p }
+    requires place { (limit last spare_count : ℕ) × (p : Place)
+        × HasPlace (T.cells tables.now).chain limit last spare_count name p }
     ensures free { IsFreeBefore (T.cells tables.now).chain name result }
     ensures accesses { Costs 1 2 count.old count.new }
 {
@@ -37,8 +38,8 @@ fn free_before<T: Tables>(tables: &T, name: u32, count: &mut Accesses) -> Option
 /// The name of a free block directly after a block, if there is one.
 #[inline(always)]
 pub(crate) fn free_after<T: Tables>(tables: &T, name: u32, count: &mut Accesses) -> Option<u32>
-    requires place { (m last spare : ℕ) × (p : Place)
-        × HasPlace (T.cells tables.now).chain m last spare name p }
+    requires place { (limit last spare_count : ℕ) × (p : Place)
+        × HasPlace (T.cells tables.now).chain limit last spare_count name p }
     ensures free { IsFreeAfter (T.cells tables.now).chain name result }
     ensures accesses { Costs 1 2 count.old count.new }
 {
@@ -54,14 +55,14 @@ pub(crate) fn free_after<T: Tables>(tables: &T, name: u32, count: &mut Accesses)
 // block. The size of the whole is returned.
 #[inline(always)]
 fn with_before<T: Tables>(store: &mut Store<T>, name: u32, size: u32) -> u32
-    requires place { (m : ℕ) × (p : Place) × IsPlaceIn T.cells store.old m name p
+    requires place { (limit : ℕ) × (p : Place) × IsPlaceIn T.cells store.old limit name p
         × AreInBins (p.before ++ p.after) (bins_of T.cells T.Index.MAX store.old) }
     requires binned { AreBinned T.cells T.Index.MAX store.old }
     requires size { size ≡ (node (T.cells store.old.tables).chain name).size }
-    ensures place { (m : ℕ) (p : Place) → IsPlaceIn T.cells store.old m name p
-        → IsPlaceIn T.cells store.new m name (coalesced_before p) }
+    ensures place { (limit : ℕ) (p : Place) → IsPlaceIn T.cells store.old limit name p
+        → IsPlaceIn T.cells store.new limit name (coalesced_before p) }
     ensures binned { AreBinned T.cells T.Index.MAX store.new }
-    ensures lists { (m : ℕ) (p : Place) → IsPlaceIn T.cells store.old m name p
+    ensures lists { (limit : ℕ) (p : Place) → IsPlaceIn T.cells store.old limit name p
         → bins_of T.cells T.Index.MAX store.new
         ≡ remove_all (free_end p.before) (bins_of T.cells T.Index.MAX store.old) }
     ensures nodes { length (T.cells store.new.tables).chain.nodes
@@ -83,15 +84,15 @@ fn with_before<T: Tables>(store: &mut Store<T>, name: u32, size: u32) -> u32
 // the block. The size of the whole is returned.
 #[inline(always)]
 fn with_after<T: Tables>(store: &mut Store<T>, name: u32, size: u32, next: Option<u32>) -> u32
-    requires place { (m : ℕ) × (p : Place) × IsPlaceIn T.cells store.old m name p
+    requires place { (limit : ℕ) × (p : Place) × IsPlaceIn T.cells store.old limit name p
         × AreInBins (p.before ++ p.after) (bins_of T.cells T.Index.MAX store.old) }
     requires binned { AreBinned T.cells T.Index.MAX store.old }
     requires size { size ≡ (node (T.cells store.old.tables).chain name).size }
     requires next { IsFreeAfter (T.cells store.old.tables).chain name next }
-    ensures place { (m : ℕ) (p : Place) → IsPlaceIn T.cells store.old m name p
-        → IsPlaceIn T.cells store.new m name (coalesced_after p) }
+    ensures place { (limit : ℕ) (p : Place) → IsPlaceIn T.cells store.old limit name p
+        → IsPlaceIn T.cells store.new limit name (coalesced_after p) }
     ensures binned { AreBinned T.cells T.Index.MAX store.new }
-    ensures lists { (m : ℕ) (p : Place) → IsPlaceIn T.cells store.old m name p
+    ensures lists { (limit : ℕ) (p : Place) → IsPlaceIn T.cells store.old limit name p
         → bins_of T.cells T.Index.MAX store.new
         ≡ remove_all (free_start p.after) (bins_of T.cells T.Index.MAX store.old) }
     ensures spares { store.old.spare_count ≤ store.new.spare_count }
@@ -116,15 +117,15 @@ fn with_after<T: Tables>(store: &mut Store<T>, name: u32, size: u32, next: Optio
 /// there.
 #[inline(always)]
 pub(crate) fn coalesce<T: Tables>(store: &mut Store<T>, name: u32, size: u32)
-    requires place { (m : ℕ) × (p : Place) × IsPlaceIn T.cells store.old m name p
+    requires place { (limit : ℕ) × (p : Place) × IsPlaceIn T.cells store.old limit name p
         × AreInBins (p.before ++ p.after) (bins_of T.cells T.Index.MAX store.old) }
     requires binned { AreBinned T.cells T.Index.MAX store.old }
     requires idle { (node (T.cells store.old.tables).chain name).used ≡ false }
     requires size { size ≡ (node (T.cells store.old.tables).chain name).size }
-    ensures place { (m : ℕ) (p : Place) → IsPlaceIn T.cells store.old m name p
-        → IsPlaceIn T.cells store.new m name (coalesced_after (coalesced_before p)) }
+    ensures place { (limit : ℕ) (p : Place) → IsPlaceIn T.cells store.old limit name p
+        → IsPlaceIn T.cells store.new limit name (coalesced_after (coalesced_before p)) }
     ensures binned { AreBinned T.cells T.Index.MAX store.new }
-    ensures lists { (m : ℕ) (p : Place) → IsPlaceIn T.cells store.old m name p
+    ensures lists { (limit : ℕ) (p : Place) → IsPlaceIn T.cells store.old limit name p
         → bins_of T.cells T.Index.MAX store.new
         ≡ push (down (node (T.cells store.new.tables).chain name).size) name
         (remove_all (free_start p.after)
@@ -155,13 +156,13 @@ pub(crate) fn coalesce<T: Tables>(store: &mut Store<T>, name: u32, size: u32)
 // Where there are none, nothing changes, and the name returned is that of the block.
 #[inline(always)]
 fn split_padding<T: Tables>(store: &mut Store<T>, name: u32, units: u32) -> u32
-    requires place { (m : ℕ) × (p : Place) × IsPlaceIn T.cells store.old m name p
-        × AreUnlisted (p.before ++ p.block ∷ p.after) (bins_of T.cells T.Index.MAX store.old) }
+    requires place { (limit : ℕ) × (p : Place) × IsPlaceIn T.cells store.old limit name p
+        × ListsOnly (p.before ++ p.block ∷ p.after) (bins_of T.cells T.Index.MAX store.old) }
     requires binned { AreBinned T.cells T.Index.MAX store.old }
     requires spare { 0 < store.old.spare_count }
     requires within { units ≤ (node (T.cells store.old.tables).chain name).size }
-    ensures place { (m : ℕ) (p : Place) → IsPlaceIn T.cells store.old m name p
-        → IsPlaceIn T.cells store.new m name (record {
+    ensures place { (limit : ℕ) (p : Place) → IsPlaceIn T.cells store.old limit name p
+        → IsPlaceIn T.cells store.new limit name (record {
           before = p.before ++ free_part result units;
           block = record p.block { size = p.block.size - units };
           after = p.after;
@@ -194,14 +195,14 @@ fn split_remainder<T: Tables>(
     size: u32,
     left: u32,
 ) -> u32
-    requires place { (m : ℕ) × (p : Place) × IsPlaceIn T.cells store.old m name p
-        × AreUnlisted (p.before ++ p.block ∷ p.after) (bins_of T.cells T.Index.MAX store.old) }
+    requires place { (limit : ℕ) × (p : Place) × IsPlaceIn T.cells store.old limit name p
+        × ListsOnly (p.before ++ p.block ∷ p.after) (bins_of T.cells T.Index.MAX store.old) }
     requires binned { AreBinned T.cells T.Index.MAX store.old }
     requires spare { 0 < store.old.spare_count }
     requires offset { offset ≡ (node (T.cells store.old.tables).chain name).offset }
     requires whole { size + left ≡ (node (T.cells store.old.tables).chain name).size }
-    ensures place { (m : ℕ) (p : Place) → IsPlaceIn T.cells store.old m name p
-        → IsPlaceIn T.cells store.new m name (record p {
+    ensures place { (limit : ℕ) (p : Place) → IsPlaceIn T.cells store.old limit name p
+        → IsPlaceIn T.cells store.new limit name (record p {
           block = record p.block { size = size };
           after = free_part result left ++ p.after;
         }) }
@@ -221,12 +222,12 @@ fn split_remainder<T: Tables>(
     rest
 }
 
-/// The units of a block that is split: of the padding, of the grant, and those that are left.
+/// The units of a block that is split: of the padding, of the grant, and of the remainder.
 #[derive(Clone, Copy)]
 pub(crate) struct Parts {
     pub(crate) padding: u32,
     pub(crate) size: u32,
-    pub(crate) left: u32,
+    pub(crate) remainder: u32,
 }
 
 /// Splits a block into a free padding, the granted units from `start` on, which are used and keep its name,
@@ -238,34 +239,34 @@ pub(crate) fn divide<T: Tables>(
     start: u32,
     parts: Parts,
 ) -> (u32, u32)
-    requires place { (m : ℕ) × (p : Place) × IsPlaceIn T.cells store.old m name p
-        × AreUnlisted (p.before ++ p.block ∷ p.after) (bins_of T.cells T.Index.MAX store.old) }
+    requires place { (limit : ℕ) × (p : Place) × IsPlaceIn T.cells store.old limit name p
+        × ListsOnly (p.before ++ p.block ∷ p.after) (bins_of T.cells T.Index.MAX store.old) }
     requires binned { AreBinned T.cells T.Index.MAX store.old }
     requires unlisted { IsUnlisted name (bins_of T.cells T.Index.MAX store.old) }
     requires spare { 0 < store.old.spare_count }
     requires two { 0 < parts.padding → 1 < store.old.spare_count }
     requires start { start ≡ (node (T.cells store.old.tables).chain name).offset + parts.padding }
-    requires whole { parts.padding + parts.size + parts.left
+    requires whole { parts.padding + parts.size + parts.remainder
         ≡ (node (T.cells store.old.tables).chain name).size }
-    ensures place { (m : ℕ) (p : Place) → IsPlaceIn T.cells store.old m name p
-        → IsPlaceIn T.cells store.new m name (record {
+    ensures place { (limit : ℕ) (p : Place) → IsPlaceIn T.cells store.old limit name p
+        → IsPlaceIn T.cells store.new limit name (record {
           before = p.before ++ free_part result.0 parts.padding;
           block = used_block p.block.name parts.size;
-          after = free_part result.1 parts.left ++ p.after;
+          after = free_part result.1 parts.remainder ++ p.after;
         }) }
     ensures binned { AreBinned T.cells T.Index.MAX store.new }
     ensures lists { bins_of T.cells T.Index.MAX store.new
         ≡ push_all (free_part result.0 parts.padding ++ used_block name parts.size
-        ∷ free_part result.1 parts.left)
+        ∷ free_part result.1 parts.remainder)
         (bins_of T.cells T.Index.MAX store.old) }
     ensures nodes { length (T.cells store.new.tables).chain.nodes
         ≡ length (T.cells store.old.tables).chain.nodes }
     ensures accesses { Costs 1 35 store.old.accesses store.new.accesses }
 {
-    let front = split_padding(store, name, parts.padding);
+    let padding_name = split_padding(store, name, parts.padding);
     chain::set_used(&mut store.tables, name, true, &mut store.accesses);
-    let rest = split_remainder(store, name, start, parts.size, parts.left);
-    (front, rest)
+    let remainder_name = split_remainder(store, name, start, parts.size, parts.remainder);
+    (padding_name, remainder_name)
 }
 
 /// Makes a block of `old_size` units one of `size` units, from the same offset on. What remains of it and of
@@ -279,22 +280,22 @@ pub(crate) fn resize<T: Tables>(
     next: Option<u32>,
     size: u32,
 ) -> u32
-    requires place { (m : ℕ) × (p : Place) × IsPlaceIn T.cells store.old m name p
+    requires place { (limit : ℕ) × (p : Place) × IsPlaceIn T.cells store.old limit name p
         × AreInBins (p.before ++ p.after) (bins_of T.cells T.Index.MAX store.old)
         × (size ≤ p.block.size + units (free_start p.after)) }
     requires binned { AreBinned T.cells T.Index.MAX store.old }
     requires spare { 0 < store.old.spare_count }
     requires old_size { old_size ≡ (node (T.cells store.old.tables).chain name).size }
     requires next { IsFreeAfter (T.cells store.old.tables).chain name next }
-    ensures place { (m : ℕ) (p : Place) → IsPlaceIn T.cells store.old m name p
-        → IsPlaceIn T.cells store.new m name (record {
+    ensures place { (limit : ℕ) (p : Place) → IsPlaceIn T.cells store.old limit name p
+        → IsPlaceIn T.cells store.new limit name (record {
           before = p.before;
           block = record p.block { size = size };
           after = free_part result (p.block.size + units (free_start p.after) - size)
               ++ without_start p.after;
         }) }
     ensures binned { AreBinned T.cells T.Index.MAX store.new }
-    ensures lists { (m : ℕ) (p : Place) → IsPlaceIn T.cells store.old m name p
+    ensures lists { (limit : ℕ) (p : Place) → IsPlaceIn T.cells store.old limit name p
         → bins_of T.cells T.Index.MAX store.new
         ≡ push_all (free_part result (p.block.size + units (free_start p.after) - size))
         (remove_all (free_start p.after) (bins_of T.cells T.Index.MAX store.old)) }

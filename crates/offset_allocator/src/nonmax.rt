@@ -25,8 +25,8 @@ impl NonMaxU32 {
     /// The name of this number, or `None` for 4294967295.
     ///
     /// ```
-    /// assert_eq!(NonMaxU16::new(7).unwrap().get(), 7);
-    /// assert!(NonMaxU16::new(u16::MAX).is_none());
+    /// assert_eq!(NonMaxU32::new(7).unwrap().get(), 7);
+    /// assert!(NonMaxU32::new(u32::MAX).is_none());
     /// ```
     pub fn new(value: u32) -> Option<Self>
         ensures { MatchOption result (value ≡ 4294967295) (λ n. (value < 4294967295) × (n ≡ value)) }
@@ -41,7 +41,7 @@ impl NonMaxU32 {
     /// The number.
     ///
     /// ```
-    /// assert_eq!(NonMaxU16::new(7).unwrap().get(), 7);
+    /// assert_eq!(NonMaxU32::new(7).unwrap().get(), 7);
     /// ```
     pub fn get(self) -> u32
         ensures number { result ≡ self }
@@ -157,8 +157,8 @@ impl NonMaxU16 {
     /// The name of this number, or `None` for 65535.
     ///
     /// ```
-    /// assert_eq!(NonMaxU32::new(7).unwrap().get(), 7);
-    /// assert!(NonMaxU32::new(u32::MAX).is_none());
+    /// assert_eq!(NonMaxU16::new(7).unwrap().get(), 7);
+    /// assert!(NonMaxU16::new(u16::MAX).is_none());
     /// ```
     pub fn new(value: u16) -> Option<Self>
         ensures { MatchOption result (value ≡ 65535) (λ n. (value < 65535) × (n ≡ value)) }
@@ -173,7 +173,7 @@ impl NonMaxU16 {
     /// The number.
     ///
     /// ```
-    /// assert_eq!(NonMaxU32::new(7).unwrap().get(), 7);
+    /// assert_eq!(NonMaxU16::new(7).unwrap().get(), 7);
     /// ```
     pub fn get(self) -> u16
         ensures number { result ≡ self }

@@ -5,7 +5,7 @@ ghost use Rattle.offset_allocator.specs.Accesses.{Costs};
 ghost use Rattle.offset_allocator.specs.Ranges.{Grants, IsLive, size_of};
 ghost use Rattle.offset_allocator.specs.Relations.{Allocates, SameSpace};
 ghost use Rattle.offset_allocator.specs.Relocating.{Relocates, offset_of};
-ghost use Rattle.offset_allocator.specs.View.{View, Grant};
+ghost use Rattle.offset_allocator.specs.View.{View, Handle};
 
 use crate::handle::Allocation;
 use crate::small_float::uint_to_float_round_up;
@@ -17,7 +17,7 @@ impl<T: Tables> AllocatorOf<T> {
     // granted, its range begins there.
     fn would_begin(&mut self, size: u32) -> Option<u32>
         ensures same { SameSpace self.old self.new }
-        ensures begins { (w : View) (g : Grant) → Allocates size self.old w (Some g) → result
+        ensures begins { (w : View) (g : Handle) → Allocates size self.old w (Some g) → result
             ≡ Some g.offset }
         ensures accesses { Costs 1 4 self.old.accesses self.new.accesses }
     {

@@ -4,10 +4,11 @@ ghost use Rattle.std.specs.Prelude.{◌≡◌, ◌<◌, ◌≤◌, ◌+◌, ◌*
 ghost use Rattle.std.specs.Prelude.{length, option_map, replicate, slice_set};
 ghost use Rattle.offset_allocator.specs.Accesses.{Costs};
 ghost use Rattle.offset_allocator.specs.Classes.{value};
-ghost use Rattle.offset_allocator.specs.View.{free_sizes, largest_free};
+ghost use Rattle.offset_allocator.specs.View.{free_sizes, reported_largest};
 ghost use Rattle.offset_allocator.specs.Ranges.{Range, range_of, size_of, IsLive};
-ghost use Rattle.offset_allocator.specs.Relations.{IsAlignment};
-ghost use Rattle.offset_allocator.specs.Requests.{IsReport, IsFullReport, CanGrant, IsWhy, blocks_needed};
+ghost use Rattle.offset_allocator.specs.Requests.{IsAlignment};
+ghost use Rattle.offset_allocator.specs.Reports.{IsReport, IsFullReport};
+ghost use Rattle.offset_allocator.specs.Requests.{CanGrant, IsWhy, blocks_needed};
 ghost use Rattle.offset_allocator.specs.Requests.{units_needed};
 
 use crate::accesses::Accesses;
@@ -159,7 +160,7 @@ pub fn storage_report_counted<T: Tables>(
 ) -> StorageReport
     ensures report { IsReport result allocator.now }
     ensures accesses { Costs 0 8 count.old count.new }
-    ensures accesses_min { 1 ≤ largest_free allocator.now → count.old + 1 ≤ count.new }
+    ensures accesses_min { 1 ≤ reported_largest allocator.now → count.old + 1 ≤ count.new }
 {
     if allocator.names_left() < 2 {
         return StorageReport {

@@ -16,10 +16,11 @@ use crate::{AllocatorOf, neighbours, store};
 // The units of the free block `next`, if any, directly after a block.
 #[inline(always)]
 fn units_after<T: Tables>(tables: &T, name: u32, next: Option<u32>, count: &mut Accesses) -> u32
-    requires place { (m last spare : ℕ) × (p : Place)
-        × HasPlace (T.cells tables.now).chain m last spare name p }
+    requires place { (limit last spare_count : ℕ) × (p : Place)
+        × HasPlace (T.cells tables.now).chain limit last spare_count name p }
     requires next { IsFreeAfter (T.cells tables.now).chain name next }
-    ensures units { (m last spare : ℕ) (p : Place) → HasPlace (T.cells tables.now).chain m last spare name p
+    ensures units { (limit last spare_count : ℕ) (p : Place)
+        → HasPlace (T.cells tables.now).chain limit last spare_count name p
         → result
         ≡ units (free_start p.after) }
     ensures accesses { Costs 0 1 count.old count.new }

@@ -1,6 +1,6 @@
-//! Size classes: sizes to classes and back, as a small float of 5 bits of exponent and 3 of mantissa.
-//! Each size up to 15 is a class of its own; from there on the 256 classes rise in steps of at most an
-//! eighth.
+//! Size classes: sizes to classes and back, as a small float of 5 bits of exponent and 3 of mantissa. Each
+//! size up to 15 is a class of its own (those below 8 without an exponent); from there on the 256 classes
+//! rise in steps of at most an eighth. It touches no table.
 
 ghost use Rattle.std.specs.Prelude.{◌≡◌, ◌<◌, ◌≤◌, ◌%◌, ◌^◌, ◌*◌, ◌-◌, ◌↔◌, ℕ};
 ghost use Rattle.offset_allocator.specs.Classes.{value, up, down, IsExponent};

@@ -2,7 +2,7 @@
 ghost use Rattle.std.specs.Prelude.{◌≡◌, ◌≤◌, ◌+◌, ◌*◌, ◌<◌, ◌↔◌, IsTrue, true, length, sum};
 ghost use Rattle.offset_allocator.specs.Accesses.{Costs};
 ghost use Rattle.offset_allocator.specs.Bins.{HasBins, bins_in};
-ghost use Rattle.offset_allocator.specs.Reports.{largest};
+ghost use Rattle.offset_allocator.specs.FreeSizes.{largest};
 ghost use Rattle.offset_allocator.specs.View.{bin_at, free_sizes, used_of, used_units};
 ghost use Rattle.offset_allocator.specs.Statistics.{AreStatistics, greatest, sizes_of};
 

@@ -1,5 +1,6 @@
-//! The steps of the public calls, by `neighbours`, `chain` and `bins`. Each leaves an allocator whose blocks
-//! and bins agree.
+//! The steps of the public calls, by `store`, `neighbours`, `chain` and `bins`; offsets and sizes are read
+//! here too. Each leaves an allocator whose blocks and bins agree, and whose `free_total` is the sum of its
+//! free units.
 ghost use Rattle.std.specs.Prelude.{◌≡◌, ◌↔◌, ◌+◌, ◌-◌, ◌*◌, ◌<◌, ◌≤◌, ◌≢◌, ℕ, [], ◌∷◌, length, replicate};
 ghost use Rattle.std.specs.Prelude.{None, false, true};
 ghost use Rattle.std.specs.Prelude.{IsTrue, IsSome, IfSome, Some};
@@ -9,7 +10,7 @@ ghost use Rattle.offset_allocator.specs.Cells.{IsBare};
 ghost use Rattle.offset_allocator.specs.Bins.{IsFoundFrom};
 ghost use Rattle.offset_allocator.specs.Store.{AreBinned, bins_of};
 ghost use Rattle.offset_allocator.specs.Ranges.{range_of, IsLive, KeepsAll, KeepsOthers};
-ghost use Rattle.offset_allocator.specs.Tight.{HoldsFirst};
+ghost use Rattle.offset_allocator.specs.Requests.{NewestHolds};
 ghost use Rattle.offset_allocator.specs.View.{IsWellFormed, bin_at, ends_used, padding_to, free_block, push};
 ghost use Rattle.offset_allocator.specs.View.{used_of};
 ghost use Rattle.offset_allocator.specs.Relations.{Splits, Aligns, Frees, Adds, SameSpace, Resets};
@@ -42,12 +43,12 @@ pub(crate) fn start<T: Tables>(store: &mut Store<T>, size: u32, max_allocs: u32)
     requires limit_max { max_allocs + 1 < T.Index.MAX }
     ensures sound { IsSound T.Index.MAX size max_allocs
         (T.cells store.new.tables) 0 0 store.new.top_mask size }
-    // under the first name, and no other name was used
+    // under the name 0; of the view, no access is counted
     ensures view { view_of T.Index.MAX size max_allocs (T.cells store.new.tables) 0 0 ≡ record {
       size = size;
       max_allocs = max_allocs;
       blocks = free_block 0 size ∷ [];
-      order = push (down size) 0 (replicate 256 []);
+      bins = push (down size) 0 (replicate 256 []);
       accesses = 0;
     } }
     ensures last { store.new.last ≡ store.old.last }
@@ -107,8 +108,8 @@ impl<T: Tables> AllocatorOf<T> {
         self.max_allocs - self.block_count()
     }
 
-    /// Whether the node limit admits this number of further blocks. The first test is mostly enough, and
-    /// costs less.
+    /// Whether the node limit admits this number of further blocks. The first test costs less, and is mostly
+    /// enough: at most `max_allocs` nodes are made, so it implies the second.
     #[inline(always)]
     pub(crate) fn has_room_for(&self, blocks: u32) -> bool
         ensures { IsTrue result ↔ HasRoomFor blocks self.now }
@@ -123,9 +124,9 @@ impl<T: Tables> AllocatorOf<T> {
         requires some { 1 ≤ align }
         requires enough { HasRoomFor (blocks_needed align) self.old }
         requires classed { class < 256 }
-        requires filled { bin_at self.old.order class ≢ [] }
-        requires holds { HoldsFirst class size align self.old }
-        ensures step { (needed : ℕ) → IsFoundFrom (up needed) self.old.order (Some class)
+        requires filled { bin_at self.old.bins class ≢ [] }
+        requires holds { NewestHolds class size align self.old }
+        ensures step { (needed : ℕ) → IsFoundFrom (up needed) self.old.bins (Some class)
             → Splits needed size (padding_to align) self.old self.new result }
         ensures accesses { Costs 6 59 self.old.accesses self.new.accesses }
     {
@@ -143,7 +144,7 @@ impl<T: Tables> AllocatorOf<T> {
         let parts = Parts {
             padding,
             size,
-            left: whole - (padding + size),
+            remainder: whole - (padding + size),
         };
         neighbours::divide(&mut self.store, name, start, parts);
         self.free_total -= size;

@@ -1,4 +1,5 @@
-//! The tables with the numbers that belong to them, and the nodes that are made before names are taken.
+//! The tables with the numbers that belong to them, and the nodes that are made before names are taken: it
+//! touches the nodes that it makes, and the stack of unused names.
 ghost use Rattle.std.specs.Prelude.{ℕ, ◌≡◌, ◌+◌, ◌≤◌, List, length};
 ghost use Rattle.offset_allocator.specs.Accesses.{Costs};
 ghost use Rattle.offset_allocator.specs.Chain.{IsChain};
@@ -8,9 +9,9 @@ ghost use Rattle.offset_allocator.specs.Readies.{Readies};
 use crate::accesses::Accesses;
 use crate::tables::Tables;
 
-/// The tables, and with them: which bins are not empty, the last block, how many nodes no block has. It has
-/// no invariant: `neighbours` changes it in the middle of a step, and the invariant of `Allocator` holds
-/// between steps.
+/// The tables, and with them: which words of the masks are not 0, the last block, and how many made nodes
+/// no block has. It has no invariant: `neighbours` changes it in the middle of a step, and the invariant of
+/// `Allocator` holds between steps.
 #[derive(Drop)]
 pub(crate) struct Store<T: Tables> {
     pub(crate) tables: T,
@@ -24,8 +25,8 @@ pub(crate) struct Store<T: Tables> {
     pub(crate) accesses: Accesses,
 }
 
-/// Makes one more node where fewer than `names` of those that were made have no block, and at least
-/// `names - 1`.
+/// Makes sure that `names` nodes have no block, where at least `names - 1` have none: it makes one more node
+/// where they are too few.
 #[inline(always)]
 pub(crate) fn ensure_spare<T: Tables>(
     tables: &mut T,
@@ -33,9 +34,9 @@ pub(crate) fn ensure_spare<T: Tables>(
     names: u32,
     count: &mut Accesses,
 )
-    requires memory { (m last : ℕ) × (bs : List Block)
-        × IsChain (T.cells tables.old).chain m last spare_count.old bs
-        × (length bs + names ≤ m) }
+    requires memory { (limit last : ℕ) × (bs : List Block)
+        × IsChain (T.cells tables.old).chain limit last spare_count.old bs
+        × (length bs + names ≤ limit) }
     requires next { names ≤ spare_count.old + 1 }
     ensures readies { Readies T.Index.MAX (T.cells tables.old)
         (T.cells tables.new) spare_count.old spare_count.new }
@@ -57,9 +58,9 @@ pub(crate) fn ensure_spares<T: Tables>(
     names: u32,
     count: &mut Accesses,
 )
-    requires memory { (m last : ℕ) × (bs : List Block)
-        × IsChain (T.cells tables.old).chain m last spare_count.old bs
-        × (length bs + names ≤ m) }
+    requires memory { (limit last : ℕ) × (bs : List Block)
+        × IsChain (T.cells tables.old).chain limit last spare_count.old bs
+        × (length bs + names ≤ limit) }
     requires some { 1 ≤ names }
     requires few { names ≤ 2 }
     ensures readies { Readies T.Index.MAX (T.cells tables.old)

@@ -44,7 +44,8 @@ pub trait Tables: Drop {
     fn len(&self) -> u32
         ensures { result ≡ length (cells self.now).chain.nodes };
 
-    /// Makes one more node, which is blank, and puts its name at a place of the stack of unused names.
+    /// Makes one more node, which is blank. Its name is a new last entry of the stack of unused names, and
+    /// becomes the one at a place of it.
     fn add(&mut self, place: u32, count: &mut Accesses)
         requires memory { length (cells self.old).chain.nodes < (cells self.old).chain.reserved }
         requires place { place ≤ length (cells self.old).chain.nodes }
@@ -60,7 +61,7 @@ pub trait Tables: Drop {
     fn shape(&self)
         ensures { AreShaped Self.Index.MAX (cells self.now) };
 
-    /// The link to a node.
+    /// The link to a node: its name is below the largest number.
     fn link_to(&self, name: u32) -> Self::Index
         requires { name < length (cells self.now).chain.nodes }
         ensures { link_of Self.Index.MAX (Self.Index.number result) ≡ Some name };

@@ -9,7 +9,8 @@ ghost use Rattle.offset_allocator.specs.Accesses.{Costs};
 ghost use Rattle.offset_allocator.specs.Bins.{HasBins, IsBinned, bins_in};
 ghost use Rattle.offset_allocator.specs.Classes.{down, value};
 ghost use Rattle.offset_allocator.specs.Ranges.{Grants};
-ghost use Rattle.offset_allocator.specs.Relations.{Aligns, Allocates, IsAlignment, SameSpace, Splits};
+ghost use Rattle.offset_allocator.specs.Relations.{Aligns, Allocates, SameSpace, Splits};
+ghost use Rattle.offset_allocator.specs.Requests.{IsAlignment};
 ghost use Rattle.offset_allocator.specs.Requests.{CanGrant, HasRoomFor, blocks_needed, units_needed};
 ghost use Rattle.offset_allocator.specs.Statistics.{greatest};
 ghost use Rattle.offset_allocator.specs.Tight.{AlignsTight, CanHold, FillsFirst, IsWhyTight, first_holding};
@@ -108,7 +109,7 @@ pub fn refusal_tight_aligned_counted<T: Tables>(
     ensures granted { result ≡ None ↔ CanHold size align allocator.now }
     ensures why { IfSome result (IsWhyTight size align allocator.now) }
     ensures accesses { Costs 0 (2
-        + 6 * length (listed_from (down size) allocator.now.order)) count.old count.new }
+        + 6 * length (listed_from (down size) allocator.now.bins)) count.old count.new }
 {
     allocator.formed();
     if allocator.names_left() <= align.min(2) {
@@ -140,7 +141,7 @@ pub fn refusal_tight_counted<T: Tables>(
     ensures granted { result ≡ None ↔ CanHold size 1 allocator.now }
     ensures why { IfSome result (IsWhyTight size 1 allocator.now) }
     ensures accesses { Costs 0 (2
-        + 6 * length (listed_from (down size) allocator.now.order)) count.old count.new }
+        + 6 * length (listed_from (down size) allocator.now.bins)) count.old count.new }
 {
     refusal_tight_aligned_counted(allocator, size, 1, count)
 }
@@ -182,7 +183,7 @@ impl<T: Tables> AllocatorOf<T> {
         requires some { 1 ≤ align }
         requires enough { HasRoomFor (blocks_needed align) self.old }
         ensures step { FillsFirst size align self.old self.new result }
-        ensures accesses { Costs 0 (73 + 6 * length (listed_from (down size) self.old.order))
+        ensures accesses { Costs 0 (73 + 6 * length (listed_from (down size) self.old.bins))
             self.old.accesses self.new.accesses }
         ensures accesses_min { IsSome result → self.old.accesses + 15 ≤ self.new.accesses }
     {
@@ -209,7 +210,7 @@ impl<T: Tables> AllocatorOf<T> {
             ⊎ ((CanGrant (blocks_needed align) (units_needed size align) self.old → ⊥)
             × HasRoomFor (blocks_needed align) self.old
             × (self.new.accesses ≤ self.old.accesses + 134
-            + 6 * length (listed_from (down size) self.old.order))) }
+            + 6 * length (listed_from (down size) self.old.bins))) }
         ensures grows { self.old.accesses ≤ self.new.accesses }
         ensures accesses_min { IsSome result → self.old.accesses + 7 ≤ self.new.accesses }
     {
@@ -255,7 +256,7 @@ impl<T: Tables> AllocatorOf<T> {
         ensures same { result ≡ None → SameSpace self.old self.new }
         // At most 140 accesses to table cells, and 6 for each free block of the class; for a grant at least
         // 7.
-        ensures accesses { Costs 0 (140 + 6 * length (bin_at self.old.order (down size)))
+        ensures accesses { Costs 0 (140 + 6 * length (bin_at self.old.bins (down size)))
             self.old.accesses self.new.accesses }
         ensures accesses_min { IsSome result → self.old.accesses + 7 ≤ self.new.accesses }
         // The step as a whole: which block, which remainder, which bins.
@@ -291,7 +292,7 @@ impl<T: Tables> AllocatorOf<T> {
         // The range begins at a multiple of the alignment.
         ensures aligned { IfSome result (λ h. h.offset % align ≡ 0) }
         ensures same { result ≡ None → SameSpace self.old self.new }
-        ensures accesses { Costs 0 (140 + 6 * length (listed_from (down size) self.old.order))
+        ensures accesses { Costs 0 (140 + 6 * length (listed_from (down size) self.old.bins))
             self.old.accesses self.new.accesses }
         ensures accesses_min { IsSome result → self.old.accesses + 7 ≤ self.new.accesses }
         ensures step { AlignsTight size align self.old self.new result }

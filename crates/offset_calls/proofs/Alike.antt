@@ -1,13 +1,13 @@
 -- Two states that differ only in numbers, and in stamps of the same order in each class, give the same replies.
 use Rattle.offset_calls.proofs.Common.{◌≡◌, ℕ, ◌+◌, ◌-◌, ◌*◌, Bool, true, false, not, ◌&&◌, ◌||◌, ◌⊎◌, List, [], ◌∷◌, ◌++◌, map, sum, Option, None, is_some, nat_eq, nat_le, if◌then◌else◌, refl, sym}
 use Rattle.offset_calls.proofs.Common.{ap, ap₂, subst, subst₂, ◌∙◌, inl, inr, arith, eq-eqb, ne_eqb, le-leb, cases_eq, cases_lt, true≢false, false≢true, lt-leb, map-append, number_without, State}
-use Rattle.offset_calls.proofs.Common.{is_free, has_number, free_sizes, place_of, chosen_place, units_at_start, without_start, free_block, stamp_of_call, fits, Call, Reply, Answer, Compacted, Offset}
+use Rattle.offset_calls.proofs.Common.{is_free, has_number, free_sizes, place_of, chosen_place, units_at_start, without_start, free_part, stamp_of_call, fits, Call, Reply, Answer, Compacted, Offset}
 use Rattle.offset_calls.proofs.Common.{Refused_for, Outcome, starts_free, resize, resized, replies_only, number, move_of, moves, gathered, compact, offset_at, reason, step, replies, renumber}
 use Rattle.offset_calls.proofs.Common.{number_with, raise_move, raise}
 use Rattle.offset_script.specs.Totals.{live}
 use Rattle.offset_script.proofs.Alike.{IsAlike, IsMatched, IsFreshKind, alike_step, same_placed, same_quiet, same_leaves, fresh_kinds, matched_in_new, agree_in_new, either}
 use Rattle.offset_script.proofs.Pairs.{Kind, Lives, Frees, Pair, pair, left_tag, right_tag, left, right, lefts, rights, AreAgreed, IsSameOrder, IsSamePlace, neither, both, same_free, same_total}
-use Rattle.offset_script.proofs.Pairs.{same_units, same_short, same_free_sizes, same_chosen, pair_free_block, lefts_free_block, rights_free_block, in_free_block}
+use Rattle.offset_script.proofs.Pairs.{same_units, same_short, same_free_sizes, same_chosen, pair_free_part, lefts_free_part, rights_free_part, in_free_part}
 use Rattle.offset_script.proofs.{Members.IsIn, Members.in_append, Members.in_left, Members.in_right, Tests.if_same, Found.found_at}
 use Rattle.std.specs.Option.{option_or}
 use Rattle.offset_allocator.specs.{Classes.down, View.padding_to}
@@ -124,7 +124,7 @@ module _ (r : ℕ → ℕ) (g d : ℕ) (back : (k : ℕ) → r (number_with g d 
   -- a live pair that gets another size, beside pairs that were there and new free ones
   module _ (n m : ℕ) (xs : List Pair) (q : Pair) (ys : List Pair) (i j : ℕ) (e : a.pairs ≡ xs ++ q ∷ ys) (l : q.kind ≡ Lives i j) where
     abbrev ps : List Pair
-    ps = xs ++ (pair n q.kind ∷ (pair_free_block m (Frees (2 * (s.calls + 1) + 1) (2 * (t.calls + 1) + 1)) ++ without_pairs ys))
+    ps = xs ++ (pair n q.kind ∷ (pair_free_part m (Frees (2 * (s.calls + 1) + 1) (2 * (t.calls + 1) + 1)) ++ without_pairs ys))
 
     here : IsIn q a.pairs
     here = subst (IsIn q) (sym e) (in_right q xs (q ∷ ys) (inl refl))
@@ -134,8 +134,8 @@ module _ (r : ℕ → ℕ) (g d : ℕ) (back : (k : ℕ) → r (number_with g d 
     which x h = elim (in_append x xs _ h) [
       | inl o ↦ inl (inl (subst (IsIn x) (sym e) (in_left x xs (q ∷ ys) o)))
       | inr (inl z) ↦ inr (ap (λ (z : Pair). z.kind) z)
-      | inr (inr o) ↦ elim (in_append x (pair_free_block m (Frees (2 * (s.calls + 1) + 1) (2 * (t.calls + 1) + 1))) (without_pairs ys) o) [
-        | inl f ↦ inl (inr (fresh_kinds s.grants t.grants s.calls t.calls x (inr (inr (in_free_block x m _ f)))))
+      | inr (inr o) ↦ elim (in_append x (pair_free_part m (Frees (2 * (s.calls + 1) + 1) (2 * (t.calls + 1) + 1))) (without_pairs ys) o) [
+        | inl f ↦ inl (inr (fresh_kinds s.grants t.grants s.calls t.calls x (inr (inr (in_free_part x m _ f)))))
         | inr f ↦ inl (inl (subst (IsIn x) (sym e) (in_right x xs (q ∷ ys) (inr (in_without x ys f)))))
       ]
     ]
@@ -169,13 +169,13 @@ module _ (r : ℕ → ℕ) (g d : ℕ) (back : (k : ℕ) → r (number_with g d 
             (record { limit = t.limit; blocks = cs; calls = t.calls + 1; grants = t.grants })) on_left on_right (resized_alike n m xs q ys i j e l);
       }
     where
-      on_left : lefts (xs ++ (pair n q.kind ∷ (pair_free_block (q.size + units_at_start (lefts ys) - n) (Frees (2 * (s.calls + 1) + 1) (2 * (t.calls + 1) + 1)) ++ without_pairs ys)))
-          ≡ lefts xs ++ (machine.block n (left_tag q.kind) ∷ (free_block (q.size + units_at_start (lefts ys) - n) (stamp_of_call s) ++ without_start (lefts ys)))
-      on_left = search (arith, map-append, left, lefts, left_tag, pair_free_block, lefts_free_block, lefts_without)
+      on_left : lefts (xs ++ (pair n q.kind ∷ (pair_free_part (q.size + units_at_start (lefts ys) - n) (Frees (2 * (s.calls + 1) + 1) (2 * (t.calls + 1) + 1)) ++ without_pairs ys)))
+          ≡ lefts xs ++ (machine.block n (left_tag q.kind) ∷ (free_part (q.size + units_at_start (lefts ys) - n) (stamp_of_call s) ++ without_start (lefts ys)))
+      on_left = search (arith, map-append, left, lefts, left_tag, pair_free_part, lefts_free_part, lefts_without)
 
-      on_right : rights (xs ++ (pair n q.kind ∷ (pair_free_block (q.size + units_at_start (lefts ys) - n) (Frees (2 * (s.calls + 1) + 1) (2 * (t.calls + 1) + 1)) ++ without_pairs ys)))
-          ≡ rights xs ++ (machine.block n (right_tag q.kind) ∷ (free_block (q.size + units_at_start (rights ys) - n) (stamp_of_call t) ++ without_start (rights ys)))
-      on_right = search (arith, map-append, right, rights, right_tag, pair_free_block, lefts, rights_free_block, same_free_start, rights_without)
+      on_right : rights (xs ++ (pair n q.kind ∷ (pair_free_part (q.size + units_at_start (lefts ys) - n) (Frees (2 * (s.calls + 1) + 1) (2 * (t.calls + 1) + 1)) ++ without_pairs ys)))
+          ≡ rights xs ++ (machine.block n (right_tag q.kind) ∷ (free_part (q.size + units_at_start (rights ys) - n) (stamp_of_call t) ++ without_start (rights ys)))
+      on_right = search (arith, map-append, right, rights, right_tag, pair_free_part, lefts, rights_free_part, same_free_start, rights_without)
 
   resize_same : (k n : ℕ) (can can' : machine.Place → Bool) (o o' : Option machine.Place) → place_of k s.blocks ≡ o → IsSamePlace (λ q. Unit {0}) a.pairs o o'
       → ((xs : List Pair) (q : Pair) (ys : List Pair) → can (record { before = lefts xs; block = left q; after = lefts ys }) ≡ can' (record { before = rights xs; block = right q; after = rights ys }))

@@ -1,7 +1,7 @@
 -- Calls on a guarded allocator, played one after the other: whatever tickets they pass.
 use Rattle.offset_calls.proofs.Common.{◌≡◌, ℕ, zero, suc, ◌+◌, ◌<◌, ◌≤◌, Bool, true, false, ◌&&◌, List, [], ◌∷◌, ◌++◌, length, map, take, All, get_or, Option, Some, None, IsTrue, is_some, nat_eq}
 use Rattle.offset_calls.proofs.Common.{slice_get, option_map, if◌then◌else◌, refl, sym, ap, ap₂, subst, ◌∙◌, inl, inr, arith, eq-eqb, ne_eqb, append-nil, append_assoc, length-append, AllByRecursion}
-use Rattle.offset_calls.proofs.Common.{cases_eq, eqb-true, and_parts, false≢true, length-map, map-append, take_more, Block, Grant, Place, IsWellFormed, is_used_at, IsFresh, Ticket, Guard, AreAlike}
+use Rattle.offset_calls.proofs.Common.{cases_eq, eqb-true, and_parts, false≢true, length-map, map-append, take_more, Block, Handle, Place, IsWellFormed, is_used_at, IsFresh, Ticket, Guard, AreAlike}
 use Rattle.offset_calls.proofs.Common.{IsLive, range_of, kept_name, State, start, Call, Reply, after, is_valid, replies, reply_view, step, renumber, AreKept, IsGrantOf, IsGrown, IsLedger, Serves}
 use Rattle.offset_calls.proofs.Common.{IsNumberOf, handle_of, handles_of, is_that, live_name, meant, number_in, number_of, passed, ticket_of}
 use Rattle.std.specs.Option.{option_map_or}
@@ -34,7 +34,7 @@ is_used_after b None = refl
 is_used_after b (Some p) = refl
 
 -- a live name is kept for some number
-live_kept : (hs : List (Option Grant)) (x : ℕ) (bs : List Block) → AllByRecursion (λ (b : Block). b.used ≡ true → (k : ℕ) × (kept_name hs k ≡ Some b.name)) bs → is_used_at (place_of x bs) ≡ true
+live_kept : (hs : List (Option Handle)) (x : ℕ) (bs : List Block) → AllByRecursion (λ (b : Block). b.used ≡ true → (k : ℕ) × (kept_name hs k ≡ Some b.name)) bs → is_used_at (place_of x bs) ≡ true
     → (k : ℕ) × (kept_name hs k ≡ Some x)
 live_kept hs x [] a h = absurd (false≢true h)
 live_kept hs x (b ∷ bs) a h = search (arith, cases_eq, eq-eqb, ne_eqb, is_used_after, (live_kept hs x bs a.1))
@@ -65,7 +65,7 @@ module _ (g : Guard) (ts more : List Ticket) (is : IsLedger g ts) (kept : AreKep
 
       go : (b : Bool) → is_some (range_of t g) ≡ b → kept_name (handles_of g ts) (number_of (ts ++ more) t) ≡ live_name (Some t) g
       go true e = live e
-      go false e = dead e ∙ sym (ap (λ b. option_map (λ (h : Grant). h.name) (if b then Some (Rattle.offset_guarded.specs.Guard.grant_of t) else None)) e)
+      go false e = dead e ∙ sym (ap (λ b. option_map (λ (h : Handle). h.name) (if b then Some (Rattle.offset_guarded.specs.Guard.handle_in t) else None)) e)
 
   -- so does the number of a call
   pub is_number : (c : TicketCall) → IsNumberOf (option_map_or (number_of (ts ++ more)) c.ticket (number_in c.call)) (passed ts c) g ts

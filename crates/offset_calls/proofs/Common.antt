@@ -11,7 +11,7 @@ pub use Rattle.offset_allocator.specs.Listing.{Placed, placed, listing, as_place
 pub use Rattle.offset_allocator.specs.Ranges.{Range, size_of}
 pub use Rattle.offset_allocator.specs.Relations.{IsFresh, SameSpace, Extends, Frees, Resets}
 pub use Rattle.offset_allocator.specs.Requests.{HasRoomFor, IsWhy, size_needed, blocks_needed, units_needed}
-pub use Rattle.offset_allocator.specs.View.{Block, Grant, Place, IsWellFormed, is_used_at, View, one, count_named, bin_at, push_all, times, count_in_bin, units, IsApart, replace}
+pub use Rattle.offset_allocator.specs.View.{Block, Handle, Place, IsWellFormed, is_used_at, View, one, count_named, bin_at, push_all, times, count_in_bin, units, AreCoalesced, replace}
 pub use Rattle.offset_allocator.specs.declared.reports.Refusal.TheVariants.{Nodes, TooLarge, Space, Fragmented}
 pub use Rattle.offset_calls.specs.Calls.{Reply, Answer, Compacted, Offset, Refused_for, Outcome, starts_free, resize, resized, replies_only, number, move_of, moves, gathered, compact, offset_at}
 pub use Rattle.offset_calls.specs.Calls.{shortage, reason, step, replies, after, is_valid, reply_view, Move, Resized, can_shrink, can_grow, move_view}
@@ -20,11 +20,11 @@ pub use Rattle.offset_calls.specs.Steps.{AreKept, AreNumbered, Takes, IsReason, 
 pub use Rattle.offset_calls.specs.Tickets.{IsGrantOf, IsGrown, IsLedger, Serves, IsNumberOf, handle_of, handles_of, is_that, live_name, meant, number_in, number_of, passed, ticket_of, AreInOrder}
 pub use Rattle.offset_calls.specs.Tickets.{IsStored}
 pub use Rattle.offset_calls.specs.declared.calls.Call.{Call}
-pub use Rattle.offset_guarded.specs.Guard.{Guard, AreAlike, IsLive, range_of, Grants, IsSame, KeepsAll, KeepsLive, KeepsOthers, KeepsSerials, KeepsSizes, grant_of, serial_of}
+pub use Rattle.offset_guarded.specs.Guard.{Guard, AreAlike, IsLive, range_of, Grants, IsSame, KeepsAll, KeepsLive, KeepsOthers, KeepsSerials, KeepsSizes, handle_in, serial_of}
 pub use Rattle.offset_guarded.specs.declared.ticket.Ticket.{Ticket}
 pub use Rattle.offset_script.specs.Histories.{number_without, HasNoLive, IsNest, IsCollapse, collapse, outline, releases}
 pub use Rattle.offset_script.specs.Machine.{State, is_free, has_number, total, free_sizes, place_of, chosen_place, is_short_of}
-pub use Rattle.offset_script.specs.Machine.{units_at_start, without_start, free_block, stamp_of_call, fits, start, Tag}
+pub use Rattle.offset_script.specs.Machine.{units_at_start, without_start, free_part, stamp_of_call, fits, start, Tag}
 pub use Rattle.offset_script.specs.Machine.{Live, Free, stamp_of_padding}
 pub use Rattle.offset_script.specs.Steps.{kept_name, IfNamed, Stays, IsKept}
 pub use Rattle.offset_script.specs.declared.scripts.Command.{Command}

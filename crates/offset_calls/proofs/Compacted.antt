@@ -1,10 +1,10 @@
 -- A compaction: what is left agrees with the plain machine, and the moves are the same.
 use Rattle.offset_calls.proofs.Common.{◌≡◌, ℕ, ◌+◌, ◌≤◌, Bool, true, false, not, ◌&&◌, List, [], ◌∷◌, ◌++◌, length, replicate, sum, Option, Some, None, nat_eq, if◌then◌else◌, refl, sym, ap, ap₂}
 use Rattle.offset_calls.proofs.Common.{subst, subst₂, ◌∙◌, inl, inr, arith, eq-eqb, ne_eqb, length-append, cases_eq, true≢false, false≢true, map-append, length-replicate, AllByRecursion, Block, View}
-use Rattle.offset_calls.proofs.Common.{Grant, one, count_named, bin_at, push_all, IsWellFormed, Compacts, kept_name, Tag, Live, Free, State, is_free, has_number, free_sizes, stamp_of_call, Move}
+use Rattle.offset_calls.proofs.Common.{Handle, one, count_named, bin_at, push_all, IsWellFormed, Compacts, kept_name, Tag, Live, Free, State, is_free, has_number, free_sizes, stamp_of_call, Move}
 use Rattle.offset_calls.proofs.Common.{moves, gathered, compact, number, AreNumbered}
 use Rattle.offset_allocator.specs.Classes.{down}
-use Rattle.offset_allocator.proofs.{Emptied.none_at, Classes.down_small, Tallies.hit_cases, ViewOrders.names_same, ViewOrders.names_other}
+use Rattle.offset_allocator.proofs.{Emptied.none_at, Classes.down_small, Tallies.hit_cases, ViewBins.names_same, ViewBins.names_other}
 use Rattle.offset_script.proofs.Agreement.{Label, by_name, by_tag, name_of, IsFalling, stamp_of, HasBlocksOf}
 use Rattle.offset_script.proofs.Lists.{AreApart, apart_append, count, hit, count-append, ends_free, starts_free}
 use Rattle.offset_script.proofs.{Ends.free_sizes_labels, Ends.name_append, Ends.or_none, Labels.names, Labels.tags, Members.IsIn, Well.IsWell, Well.well_leaves}
@@ -104,7 +104,7 @@ compact_agrees v kept_name s g u f =
     (ap (named_moves.gathered f.name) (sym same_sizes) ∙ sym (gathered_names f.name (stamp_of_call s) (free_sizes s.blocks))) ∙ sym (map-append by_name (live_labels g.labels) free) in
     let state = ap₂ (λ a b. a ++ b) (ap live g.state ∙ sym (live_tags g.labels)) (sym (gathered_tags f.name (stamp_of_call s) (free_sizes s.blocks)))
     ∙ sym (map-append by_tag (live_labels g.labels) free) in
-    let newest = λ (c : ℕ). subst (λ o. IsFalling (λ x. stamp_of x (live_labels g.labels ++ free)) (bin_at o c)) (sym (ap (λ (x : View). x.order) f.view))
+    let newest = λ (c : ℕ). subst (λ o. IsFalling (λ x. stamp_of x (live_labels g.labels ++ free)) (bin_at o c)) (sym (ap (λ (x : View). x.bins) f.view))
     (gathered_newest _ f.name (named.free_sizes v.blocks) c) in
     let limit = g.limit ∙ sym (ap (λ (x : View). x.max_allocs) f.view) in
     let handles : (k : ℕ) → kept_name k ≡ name_of k (live_labels g.labels ++ free) = λ k. search (arith, g.handles, live_name_of, or_none, gathered_name_of, name_append) in
@@ -177,7 +177,7 @@ plain_step from to l ls t b = if is_free t then moves (from + l.size) to (tags l
     ++ moves (from + l.size) (to + l.size) (tags ls)
 
 -- the moves are those of the plain machine, where the name of each label has one number
-pub moves_agree : (handles : List (Option Grant)) (from to : ℕ) (ls : List Label) (ms : List Move)
+pub moves_agree : (handles : List (Option Handle)) (from to : ℕ) (ls : List Label) (ms : List Move)
     → ((l : Label) → IsIn l ls → (k : ℕ) → l.tag ≡ Live k → (j : ℕ) → kept_name handles j ≡ Some l.name → j ≡ k)
     → AreNumbered handles (named_moves.moves from to (names ls)) ms → ms ≡ moves from to (tags ls)
 moves_agree handles from to [] [] h a = refl
@@ -199,7 +199,7 @@ moves_agree handles from to (l ∷ ls) ms h a = go l.tag refl (nat_eq from to) r
     go (Live k) t false e ms a ih = first k t ms (ih (to + l.size)) (subst₂ (λ y b. AreNumbered handles (named_step from to l ls (not (is_free y)) b) ms) t e a)
         ∙ sym (ap₂ (plain_step from to l ls) t e)
 
-module _ (v : View) (handles : List (Option Grant)) (s : State) (w : IsWellFormed v) (ws : IsWell s) (g : HasBlocksOf v (kept_name handles) s) where
+module _ (v : View) (handles : List (Option Handle)) (s : State) (w : IsWellFormed v) (ws : IsWell s) (g : HasBlocksOf v (kept_name handles) s) where
   pub one_number : (l : Label) → IsIn l g.labels → (k : ℕ) → l.tag ≡ Live k → (j : ℕ) → kept_name handles j ≡ Some l.name → j ≡ k
   one_number l i k t j e = only_number j k g.labels l (subst (λ bs. count_named l.name bs ≤ 1) g.view (w.distinct l.name)) (sym (g.handles j) ∙ e) i t
 

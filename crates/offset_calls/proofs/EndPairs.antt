@@ -4,7 +4,7 @@ use Rattle.offset_calls.proofs.Common.{inl, inr, map-append, option_map, State, 
 use Rattle.std.specs.Option.{option_or}
 use Rattle.offset_script.proofs.Alike.{IsAlike, IsSameOutcome, alike_step, same_quiet, same_leaves, fresh_kinds}
 use Rattle.offset_script.proofs.Pairs.{Kind, Lives, Frees, Pair, pair, left_tag, right_tag, left, right, lefts, rights, IsSamePlace, neither, both, same_free, same_total}
-use Rattle.offset_script.proofs.Pairs.{pair_free_block, lefts_free_block, rights_free_block, in_free_block}
+use Rattle.offset_script.proofs.Pairs.{pair_free_part, lefts_free_part, rights_free_part, in_free_part}
 use Rattle.offset_script.proofs.{Members.IsIn, Members.in_append, Tests.if_same}
 use Rattle.offset_script.specs.Histories.{raise_number}
 use Rattle.offset_script.specs.declared.scripts.Command.TheVariants as command
@@ -43,20 +43,20 @@ same_free_end (q ∷ x ∷ ps) = same_free_end (x ∷ ps)
 -- what is left at the end
 abbrev end_pairs : List Pair → ℕ → Kind → List Pair
 end_pairs [] n k = pair n k ∷ []
-end_pairs (q ∷ ps) n k = pair_free_block n k
+end_pairs (q ∷ ps) n k = pair_free_part n k
 
 lefts_end : (ps : List Pair) (n s u : ℕ) → lefts (end_pairs ps n (Frees s u)) ≡ end_block (lefts ps) n s
 lefts_end [] n s u = refl
-lefts_end (q ∷ ps) n s u = lefts_free_block n s u
+lefts_end (q ∷ ps) n s u = lefts_free_part n s u
 
 rights_end : (ps : List Pair) (n s u : ℕ) → rights (end_pairs ps n (Frees s u)) ≡ end_block (rights ps) n u
 rights_end [] n s u = refl
-rights_end (q ∷ ps) n s u = rights_free_block n s u
+rights_end (q ∷ ps) n s u = rights_free_part n s u
 
 in_end : (p : Pair) (ps : List Pair) (n : ℕ) (k : Kind) → IsIn p (end_pairs ps n k) → p.kind ≡ k
 in_end p [] n k (inl e) = ap (λ (z : Pair). z.kind) e
 in_end p [] n k (inr i) = absurd i
-in_end p (q ∷ ps) n k i = in_free_block p n k i
+in_end p (q ∷ ps) n k i = in_free_part p n k i
 
 lefts_with : (ps : List Pair) (n s u : ℕ) → lefts (without_pairs ps ++ end_pairs (without_pairs ps) n (Frees s u)) ≡ with_end n s (lefts ps)
 lefts_with ps n s u = map-append left (without_pairs ps) _ ∙ ap (λ l. lefts (without_pairs ps) ++ l) (lefts_end (without_pairs ps) n s u)

@@ -1,14 +1,14 @@
 -- A request for any free block that holds it takes the same block on the plain machine.
 use Rattle.offset_calls.proofs.Common.{◌≡◌, ◌≢◌, ℕ, zero, suc, ◌+◌, ◌-◌, ◌<◌, ◌≤◌, Bool, true, false, not, ◌&&◌, ◌⊎◌, List, [], ◌∷◌, ◌++◌, length, Option, Some, None, nat_lt, nat_le, if◌then◌else◌}
 use Rattle.offset_calls.proofs.Common.{refl, sym, ap, ap₂, subst, ◌∙◌, inl, inr, arith, eq-eqb, lt-leb, le-leb, leb-true, lt-ltb, cases_eq, cases_lt, true≢false, and_parts, get_or_past, slice_set}
-use Rattle.offset_calls.proofs.Common.{nat_eq, is_some, map-append, push_all, View, Grant, times}
+use Rattle.offset_calls.proofs.Common.{nat_eq, is_some, map-append, push_all, View, Handle, times}
 use Rattle.offset_calls.proofs.Common.{bin_at, units, IsWellFormed, SameSpace, State, is_free, total, chosen_place, is_short_of, replace, blocks_needed, units_needed, HasRoomFor}
 use Rattle.std.proofs.Common.{cond}
 use Rattle.std.proofs.lemmas.Bool.{not-false, or_left}
 use Rattle.std.specs.List.{concat, find, filter}
 use Rattle.std.specs.Option.{option_or}
 use Rattle.offset_allocator.specs.{Classes.down, View.Place, View.place_of, View.padding_to, View.push, View.remove, View.used_block, View.free_part, Relations.Aligns}
-use Rattle.offset_allocator.specs.{Requests.CanGrant, Tight.Holds, Tight.CanHold, Tight.first_holding, Tight.listed_from, Tight.with_first, Tight.FillsFirst, Tight.AlignsTight}
+use Rattle.offset_allocator.specs.{Requests.CanGrant, Requests.Holds, Tight.CanHold, Tight.first_holding, Tight.listed_from, Tight.with_first, Tight.FillsFirst, Tight.AlignsTight}
 use Rattle.offset_allocator.specs.Tight as named
 use Rattle.offset_allocator.proofs.{Holding.find_met, Holding.find_none, Holding.find_past, Holding.find_here, Holding.holder, Holding.place_there, Holding.block_word, Holding.at_first}
 use Rattle.offset_allocator.proofs.{Holding.grant_holds}
@@ -19,7 +19,7 @@ use Rattle.offset_script.proofs.Chosen.{names_whole}
 use Rattle.offset_script.proofs.Lists as lists
 use Rattle.offset_script.proofs.{Ends.total_units, Labels.names, Labels.tags}
 use Rattle.offset_script.proofs.Agreed.{IsMatch, with_name, agrees_but, agrees_quiet, grant_agrees, has_room, labelled, room_for, serve_agrees}
-use Rattle.offset_allocator.proofs.ViewOrders.{length_remove, names_same}
+use Rattle.offset_allocator.proofs.ViewBins.{length_remove, names_same}
 use Rattle.std.proofs.lemmas.List.{set-set}
 use Rattle.offset_script.specs.Machine.{is_taken_before}
 use Rattle.offset_script.specs.Machine as machine
@@ -141,20 +141,20 @@ module _ (v : View) (w : IsWellFormed v) (ls : List Label) (a : IsLabelled v ls)
     same_name : (l : Spot) → ls ≡ whole l → is_free l.label.tag ≡ true → Holds n align (named_place l) → is_taken_before (by_tag at.0.label) (by_tag l.label) ≡ false → at.0.label.name ≡ l.label.name
     same_name l el fl hl best = elim (cases_eq l.label.name x) [
       | inl same ↦ at.2 ∙ sym same
-      | inr d ↦ absurd (elim (first_least passes v.order (down n) (down l.label.size) x l.label.name e low listed pass) [
+      | inr d ↦ absurd (elim (first_least passes v.bins (down n) (down l.label.size) x l.label.name e low listed pass) [
         | inl r ↦
             let class : down at.0.label.size ≡ r.0 = class_of r.0 r.2 in
             true≢false (sym (or_left (nat_lt (down at.0.label.size) (down l.label.size)) _ (lt-ltb _ _ (omega (arith, class, r.1)))) ∙ best)
         | inr f ↦
-            let class : down at.0.label.size ≡ down l.label.size = class_of (down l.label.size) (find_met passes (bin_at v.order (down l.label.size)) x f).0 in
-            let less = find_falls (λ y. stamp_of y ls) passes (bin_at v.order (down l.label.size)) x l.label.name (a.newest (down l.label.size)) f pass listed d in
+            let class : down at.0.label.size ≡ down l.label.size = class_of (down l.label.size) (find_met passes (bin_at v.bins (down l.label.size)) x f).0 in
+            let less = find_falls (λ y. stamp_of y ls) passes (bin_at v.bins (down l.label.size)) x l.label.name (a.newest (down l.label.size)) f pass listed d in
             let mine : stamp_of x ls ≡ machine.stamp at.0.label.tag = ap₂ stamp_of (sym at.2) at.1 ∙ spot_stamp v w at.0 (a.view ∙ ap names at.1) in
             let other : stamp_of l.label.name ls ≡ machine.stamp l.label.tag = ap (stamp_of l.label.name) el ∙ spot_stamp v w l (a.view ∙ ap names el) in
             true≢false (sym (newer_before at.0.label l.label class (omega (arith, less, mine, other))) ∙ best)
       ])
     ]
       where
-        listed : 1 ≤ times l.label.name (bin_at v.order (down l.label.size))
+        listed : 1 ≤ times l.label.name (bin_at v.bins (down l.label.size))
         listed = listed_spot v w l (a.view ∙ ap names el) fl
 
         low : down n ≤ down l.label.size
@@ -163,7 +163,7 @@ module _ (v : View) (w : IsWellFormed v) (ls : List Label) (a : IsLabelled v ls)
         pass : passes l.label.name ≡ true
         pass = ap (named.holds n align) (place_of_spot v w l (a.view ∙ ap names el)) ∙ le-leb (padding_to align (units (names l.before)) + n) l.label.size hl
 
-        class_of : (j : ℕ) → 1 ≤ times x (bin_at v.order j) → down at.0.label.size ≡ j
+        class_of : (j : ℕ) → 1 ≤ times x (bin_at v.bins j) → down at.0.label.size ≡ j
         class_of j h =
             let t = taken_among v w j x h in
             let same = same_some (named_place at.0) t.place (sym (place_of_spot v w at.0 (a.view ∙ ap names at.1)) ∙ ap (λ y. place_of y v.blocks) at.2 ∙ place_there v w t.place x t.list_is t.name) in
@@ -196,17 +196,17 @@ filter_again f (y ∷ ys) = go (f y) refl (filter_again f ys)
     go true e ih = ap (λ b. if b then y ∷ filter f (filter f ys) else filter f (filter f ys)) e ∙ ap (λ l. y ∷ l) ih
     go false e ih = ih
 
-removed_again : (c x : ℕ) (order : List (List ℕ)) → length order ≡ 256 → c < 256 → remove c x (push c x (remove c x order)) ≡ remove c x order
-removed_again c x order long small =
+removed_again : (c x : ℕ) (bins : List (List ℕ)) → length bins ≡ 256 → c < 256 → remove c x (push c x (remove c x bins)) ≡ remove c x bins
+removed_again c x bins long small =
     let f : ℕ → Bool = λ y. not (nat_eq y x) in
-    let left = filter f (bin_at order c) in
-    let first = names_same order c left long small in
-    let more = names_same (remove c x order) c (x ∷ bin_at (remove c x order) c) (length_remove c x order ∙ long) small in
-    let gone : filter f (x ∷ left) ≡ left = ap (λ b. if b then x ∷ filter f left else filter f left) (ap not (eq-eqb x x refl)) ∙ filter_again f (bin_at order c) in
-    ap (λ l. slice_set (push c x (remove c x order)) c (filter f l)) (more ∙ ap (λ l. x ∷ l) first)
-    ∙ ap (slice_set (push c x (remove c x order)) c) gone
-    ∙ set-set (remove c x order) c (x ∷ bin_at (remove c x order) c) left
-    ∙ set-set order c left left
+    let left = filter f (bin_at bins c) in
+    let first = names_same bins c left long small in
+    let more = names_same (remove c x bins) c (x ∷ bin_at (remove c x bins) c) (length_remove c x bins ∙ long) small in
+    let gone : filter f (x ∷ left) ≡ left = ap (λ b. if b then x ∷ filter f left else filter f left) (ap not (eq-eqb x x refl)) ∙ filter_again f (bin_at bins c) in
+    ap (λ l. slice_set (push c x (remove c x bins)) c (filter f l)) (more ∙ ap (λ l. x ∷ l) first)
+    ∙ ap (slice_set (push c x (remove c x bins)) c) gone
+    ∙ set-set (remove c x bins) c (x ∷ bin_at (remove c x bins) c) left
+    ∙ set-set bins c left left
 
 -- ---- such a request on both sides
 module _ (v : View) (kept_name : ℕ → Option ℕ) (s : State) (w : IsWellFormed v) (ws : IsWell s) (g : HasBlocksOf v kept_name s) (n align : ℕ) (some : 1 ≤ align) where
@@ -241,7 +241,7 @@ module _ (v : View) (kept_name : ℕ → Option ℕ) (s : State) (w : IsWellForm
 
   module _ (u : View) (w' : IsWellFormed u) where
     -- a request that is granted by classes
-    by_class : (r : Grant) → Aligns n align v u (Some r) → IsMatch u kept_name s.grants (Some r) asked
+    by_class : (r : Handle) → Aligns n align v u (Some r) → IsMatch u kept_name s.grants (Some r) asked
     unfolding asked place
     by_class r a =
         let c = chosen v w g.labels is_labelled (units_needed n align) n (padding_to align) u r a.1 in
@@ -253,13 +253,13 @@ module _ (v : View) (kept_name : ℕ → Option ℕ) (s : State) (w : IsWellForm
         (serve_agrees v kept_name s w ws g (blocks_needed align) (units_needed n align) n (padding_to align) u w' (Some r) (aligned_serves n align v u (Some r) a))
 
     -- what a grant says of the place of the block that is split
-    abbrev IsGrantAt : Grant → (padding remainder front rest : ℕ) → Place → Type 0
+    abbrev IsGrantAt : Handle → (padding remainder front rest : ℕ) → Place → Type 0
     IsGrantAt a padding remainder front rest q = (a ≡ record { name = q.block.name; offset = units q.before + padding }) × (padding ≡ padding_to align (units q.before))
         × (padding + n + remainder ≡ q.block.size)
         × SameSpace (replace v q.before (q.block ∷ []) (free_part front padding ++ used_block q.block.name n ∷ free_part rest remainder) q.after) u
 
     -- one that takes the block which holds it
-    by_units : (r : Grant) → (CanGrant (blocks_needed align) (units_needed n align) v → ⊥) → FillsFirst n align v u (Some r) → IsMatch u kept_name s.grants (Some r) asked
+    by_units : (r : Handle) → (CanGrant (blocks_needed align) (units_needed n align) v → ⊥) → FillsFirst n align v u (Some r) → IsMatch u kept_name s.grants (Some r) asked
     unfolding asked place
     by_units r refuses a =
         let c = a.1.0 in
@@ -270,23 +270,23 @@ module _ (v : View) (kept_name : ℕ → Option ℕ) (s : State) (w : IsWellForm
         let there : named_place h.spot ≡ place_at t.before t.block t.after =
         same_some (named_place h.spot) (place_at t.before t.block t.after)
         (sym (place_of_spot v w h.spot (g.view ∙ ap names h.split)) ∙ ap (λ y. place_of y v.blocks) h.name ∙ place_there v w (place_at t.before t.block t.after) x t.blocks b.name) in
-        let removed : (order : List (List ℕ)) → (if t.block.used then order else remove (down t.block.size) t.block.name order) ≡ remove c x order =
-        λ order. ap (λ b. if b then order else remove (down t.block.size) t.block.name order) t.free ∙ ap₂ (λ d y. remove d y order) b.class b.name in
-        let order = removed (with_first c x v).order ∙ removed_again c x v.order w.classes b.small ∙ sym (removed v.order) in
+        let removed : (bins : List (List ℕ)) → (if t.block.used then bins else remove (down t.block.size) t.block.name bins) ≡ remove c x bins =
+        λ bins. ap (λ b. if b then bins else remove (down t.block.size) t.block.name bins) t.free ∙ ap₂ (λ d y. remove d y bins) b.class b.name in
+        let bins = removed (with_first c x v).bins ∙ removed_again c x v.bins w.classes b.small ∙ sym (removed v.bins) in
         let parts = free_part t.padding_name t.padding ++ used_block t.block.name n ∷ free_part t.remainder_name t.remainder in
         let view : SameSpace (replace v t.before (t.block ∷ []) parts t.after) u =
-        split_view t ∙ ap (λ o. record v { blocks = t.before ++ (parts ++ t.after); order = push_all parts o; accesses = u.accesses }) order in
+        split_view t ∙ ap (λ o. record v { blocks = t.before ++ (parts ++ t.after); bins = push_all parts o; accesses = u.accesses }) bins in
         let at = subst (IsGrantAt r t.padding t.remainder t.padding_name t.remainder_name) (sym there) (t.grant, t.padded, t.whole, view) in
         let is : asked ≡ machine.grant s n t.padding (plain_place h.spot) =
         ap₂ (λ b o. if b then machine.returns_only s machine.Refused else machine.grant_or_refuse s n (padding_to align) o) (has_room v kept_name s w ws g (blocks_needed align) a.0)
         (ap₂ option_or (none_by_class a.0 refuses) (ap (holding_place n align 0) g.state ∙ h.is))
         ∙ ap (λ m. machine.grant s n m (plain_place h.spot)) (ap (padding_to align) (total_units h.spot.before) ∙ sym at.1) in
-        let answer = ap (machine.Grant (s.grants + 1)) (ap (λ m. m + t.padding) (total_units h.spot.before) ∙ sym (ap (λ (a : Grant). a.offset) at.0)) in
-        let agrees = subst (λ x. HasBlocksOf u (with_name (s.grants + 1) x kept_name) (machine.grant s n t.padding (plain_place h.spot)).state) (sym (ap (λ (a : Grant). a.name) at.0))
+        let answer = ap (machine.Grant (s.grants + 1)) (ap (λ m. m + t.padding) (total_units h.spot.before) ∙ sym (ap (λ (a : Handle). a.offset) at.0)) in
+        let agrees = subst (λ x. HasBlocksOf u (with_name (s.grants + 1) x kept_name) (machine.grant s n t.padding (plain_place h.spot)).state) (sym (ap (λ (a : Handle). a.name) at.0))
         (grant_agrees v kept_name s w ws g u w' n t.padding t.remainder t.padding_name t.remainder_name h.spot h.split h.free at.2 at.3) in
         subst (IsMatch u kept_name s.grants (Some r)) (sym is) (record { answer = answer; agrees = agrees; grants_after = refl })
 
-    asked_agrees : (r : Option Grant) → AlignsTight n align v u r → IsMatch u kept_name s.grants r asked
+    asked_agrees : (r : Option Handle) → AlignsTight n align v u r → IsMatch u kept_name s.grants r asked
     asked_agrees None a = subst (IsMatch u kept_name s.grants None) (sym (refused_is a.0))
         (record { answer = refl; agrees = agrees_but v u kept_name _ a.1 (agrees_quiet v kept_name s g machine.Refused); grants_after = refl })
     asked_agrees (Some r) (inl a) = by_class r a
@@ -302,5 +302,5 @@ module _ (v : View) (kept_name : ℕ → Option ℕ) (s : State) (w : IsWellForm
     ]
 
     -- the machine's request leaves what agrees, and has the same answer
-    pub tight_agrees : (r : Option Grant) → AlignsTight n align v u r → IsMatch u kept_name s.grants r (allocate_tight n align s)
+    pub tight_agrees : (r : Option Handle) → AlignsTight n align v u r → IsMatch u kept_name s.grants r (allocate_tight n align s)
     tight_agrees r a = subst (IsMatch u kept_name s.grants r) (sym allocate_is) (asked_agrees r a)

@@ -2,7 +2,7 @@
 use Rattle.offset_calls.proofs.Common.{◌≡◌, ◌≢◌, ◌⊎◌, ℕ, zero, suc, ◌+◌, ◌-◌, ◌<◌, ◌≤◌, leb-false, Bool, true, false, not, ◌&&◌, List, [], ◌∷◌, length, sum, Option, Some, None, is_some, IfSome}
 use Rattle.offset_calls.proofs.Common.{IsTrue, option_map}
 use Rattle.offset_calls.proofs.Common.{option_and_then, nat_eq, nat_lt, nat_le, if◌then◌else◌, refl, sym, ap, ap₂, subst, ◌∙◌, inl, inr, arith, eq-eqb, ne_eqb, le-leb, leb-true, lt-ltb, le-ltb}
-use Rattle.offset_calls.proofs.Common.{cases_eq, cases_lt, true≢false, false≢true, and_parts, lt-leb, Nodes, TooLarge, Space, Fragmented, View, Grant, times, count_in_bin, bin_at, units, IsWellFormed}
+use Rattle.offset_calls.proofs.Common.{cases_eq, cases_lt, true≢false, false≢true, and_parts, lt-leb, Nodes, TooLarge, Space, Fragmented, View, Handle, times, count_in_bin, bin_at, units, IsWellFormed}
 use Rattle.offset_calls.proofs.Common.{HasRoomFor, IsWhy, size_needed, blocks_needed, units_needed, Range, size_of, SameSpace, kept_name, IfNamed, Stays, State, is_free, free_sizes, total}
 use Rattle.offset_calls.proofs.Common.{chosen_place, is_short_of, fits, Call, Reply, Answer, Resized, Compacted, Offset, Refused_for, Outcome, can_shrink, can_grow, resize, resized, replies_only}
 use Rattle.offset_calls.proofs.Common.{shortage, reason, offset_at, step, after, is_valid, compact, starts_free, Takes, IsReason}
@@ -15,7 +15,7 @@ use Rattle.std.specs.Prelude.{max}
 use Rattle.std.proofs.lemmas.Bool.{cond_both}
 use Rattle.std.specs.Option.{option_or}
 use Rattle.offset_allocator.specs.{View.padding_to, Tight.CanHold, Tight.IsWhyTight}
-use Rattle.offset_script.proofs.{Chosen.named_place, Found.chosen_at, Lists.whole, Tests.same_some, Well.free_part, Well.well_grant}
+use Rattle.offset_script.proofs.{Chosen.named_place, Found.chosen_at, Lists.whole, Tests.same_some, Well.free_part_is, Well.well_grant}
 use Rattle.offset_calls.specs.Steps.{IsReasonTight, TakesTight}
 use Rattle.offset_calls.specs.Tight.{holding_place, request_tight, allocate_tight, lack, reason_held, reason_tight}
 use Rattle.offset_calls.specs.Calls.{answered}
@@ -39,7 +39,7 @@ use Rattle.offset_script.proofs.Simulation as script
 use Rattle.offset_calls.specs.declared.calls.Call.TheVariants as call
 
 -- the plain machine has this reply, and a view and handles represent the state that it leaves
-abbrev pub Follows : Outcome → View → List (Option Grant) → Reply → Type 0
+abbrev pub Follows : Outcome → View → List (Option Handle) → Reply → Type 0
 Follows o w left r = (r ≡ o.reply) × IsAtState w left o.state
 
 -- what resizing does, by cases
@@ -87,7 +87,7 @@ grow_fits : (s : State) (n : ℕ) (p : machine.Place) → n ≢ p.block.size →
 grow_fits s n p d c = search (arith, nat_le, and_parts, leb-true)
 
 -- a request that takes any free block which holds it
-module _ (s : State) (w : IsWell s) (spare needed n align : ℕ) (enough : (o x : ℕ) → length (machine.free_block (padding_to align o) x) + 1 ≤ spare) where
+module _ (s : State) (w : IsWell s) (spare needed n align : ℕ) (enough : (o x : ℕ) → length (machine.free_part (padding_to align o) x) + 1 ≤ spare) where
   -- a place that it takes is that of a free block
   tight_place : (c h : Option machine.Place) → chosen_place needed s.blocks ≡ c → holding_place n align 0 s.blocks ≡ h → (p : machine.Place) → option_or c h ≡ Some p
       → (s.blocks ≡ whole p) × (is_free p.block.tag ≡ true)
@@ -112,8 +112,8 @@ module _ (s : State) (w : IsWell s) (spare needed n align : ℕ) (enough : (o x 
 
 well_tight : (s : State) → IsWell s → (n align : ℕ) → IsWell (allocate_tight n align s).state
 well_tight s w n align = cond_both (nat_le align 1) _ _ (λ (o : machine.Outcome). IsWell o.state)
-    (λ e. well_request s w 1 n n align (λ o x. subst (λ m. length (machine.free_block m x) + 1 ≤ 1) (sym (no_padding align o (leb-true align 1 e))) (omega arith)))
-    (λ e. well_request s w 2 (n + align - 1) n align (λ o x. let h = (free_part (padding_to align o) x).3 in omega arith))
+    (λ e. well_request s w 1 n n align (λ o x. subst (λ m. length (machine.free_part m x) + 1 ≤ 1) (sym (no_padding align o (leb-true align 1 e))) (omega arith)))
+    (λ e. well_request s w 2 (n + align - 1) n align (λ o x. let h = (free_part_is (padding_to align o) x).3 in omega arith))
   where
     -- an alignment of at most 1 asks for no padding
     no_padding : (align o : ℕ) → align ≤ 1 → padding_to align o ≡ 0
@@ -143,7 +143,7 @@ pub well_calls : (cs : List Call) (s : State) → IsWell s → IsWell (after cs 
 well_calls [] s w = w
 well_calls (c ∷ cs) s w = well_calls cs _ (well_call c s w)
 
-module _ (v w : View) (hs left : List (Option Grant)) (r : Reply) (s : State) (formed : IsWellFormed w) (ws : IsWell s) (p : IsAtState v hs s) where
+module _ (v w : View) (hs left : List (Option Handle)) (r : Reply) (s : State) (formed : IsWellFormed w) (ws : IsWell s) (p : IsAtState v hs s) where
   -- a call that leaves all as it is
   stays : (o : Outcome) (x : Reply) → o ≡ replies_only s x → SameSpace v w → left ≡ hs → r ≡ x → Follows o w left r
   stays o x e same f is = search (arith, agrees_but, agrees_quiet)
@@ -220,18 +220,18 @@ module _ (v w : View) (hs left : List (Option Grant)) (r : Reply) (s : State) (f
   listed c x [] h = absurd (omega arith)
   listed c x (l ∷ ls) h = search (arith, (listed c x ls), names, not, nat_eq, cases_eq, ne_eqb)
 
-  some_chosen : (n : ℕ) → (c : ℕ) × (up n ≤ c) × (bin_at v.order c ≢ []) → is_some (chosen_place n s.blocks) ≡ true
+  some_chosen : (n : ℕ) → (c : ℕ) × (up n ≤ c) × (bin_at v.bins c ≢ []) → is_some (chosen_place n s.blocks) ≡ true
   some_chosen n h = go (chosen_place n s.blocks) refl
     where
       first : (xs : List ℕ) → xs ≢ [] → (x : ℕ) × (1 ≤ times x xs)
       first [] d = absurd (d refl)
       first (x ∷ xs) d = (x, elim (hit_cases x x) [ inl i ↦ omega (arith, i.1) | inr i ↦ absurd (i.0 refl) ])
 
-      x : (x : ℕ) × (1 ≤ times x (bin_at v.order h.0))
-      x = first (bin_at v.order h.0) h.2
+      x : (x : ℕ) × (1 ≤ times x (bin_at v.bins h.0))
+      x = first (bin_at v.bins h.0) h.2
 
       l : (l : Label) × IsIn l p.agrees.labels × (is_free l.tag ≡ true) × (h.0 ≡ down l.size)
-      l = listed h.0 x.0 p.agrees.labels (let o = p.formed.orders h.0 x.0 in let q = x.1 in let z = ap (count_in_bin h.0 x.0) p.agrees.view in omega arith)
+      l = listed h.0 x.0 p.agrees.labels (let o = p.formed.binned h.0 x.0 in let q = x.1 in let z = ap (count_in_bin h.0 x.0) p.agrees.view in omega arith)
 
       fit : fits n (by_tag l.0) ≡ true
       fit = ap₂ (λ a b. a && b) l.2 (le-leb (up n) (down l.0.size) (let a = h.1 in let b = l.3 in omega arith))
@@ -374,7 +374,7 @@ module _ (v w : View) (hs left : List (Option Grant)) (r : Reply) (s : State) (f
 
   -- calls at the end of the space
   relocate_step : (k : ℕ) (o : Option ℕ) → kept_name hs k ≡ o
-      → IfNamed o (λ x. (g : Option Grant) × (a : machine.Answer) × Relocates x v w g × IsKept g hs left a × (r ≡ Answer a)) (Stays v hs w left × (r ≡ Answer machine.Gone))
+      → IfNamed o (λ x. (g : Option Handle) × (a : machine.Answer) × Relocates x v w g × IsKept g hs left a × (r ≡ Answer a)) (Stays v hs w left × (r ≡ Answer machine.Gone))
       → Follows (step (call.Relocate k) s) w left r
   relocate_step k None e t = quiet _ (Answer machine.Gone) (ap (λ o. answered (relocate s o)) (gone_there k e)) t.0 t.1
   relocate_step k (Some x) e t = relocated v w hs left r s formed ws p k x e t.0 t.1 t.2 t.3 t.4

@@ -1,6 +1,6 @@
 -- The numbers of grants by their names, from one call to the next.
 use Rattle.offset_calls.proofs.Common.{◌≡◌, ℕ, zero, suc, ◌+◌, ◌-◌, ◌<◌, ◌≤◌, ◌⊎◌, List, [], ◌∷◌, ◌++◌, length, Option, Some, None, nat_eq, if◌then◌else◌, sym, ap, subst, ◌∙◌, inl, inr, arith}
-use Rattle.offset_calls.proofs.Common.{slice_set, option_map, eq-eqb, ne_eqb, cases_eq, cases_lt, length-append, add-one, get_or, get_or_past, Grant, View, IsWellFormed, kept_name, IfNamed, IsKept}
+use Rattle.offset_calls.proofs.Common.{slice_set, option_map, eq-eqb, ne_eqb, cases_eq, cases_lt, length-append, add-one, get_or, get_or_past, Handle, View, IsWellFormed, kept_name, IfNamed, IsKept}
 use Rattle.offset_calls.proofs.Common.{Call, Reply, Takes}
 use Rattle.offset_calls.proofs.Common.{Command, IsTrue, is_valid}
 use Rattle.std.specs.List.{slice_index}
@@ -18,20 +18,20 @@ use Rattle.offset_script.specs.Machine as machine
 use Rattle.offset_script.specs.Steps as script
 
 -- a handle that is kept is among the handles
-pub kept_within : (handles : List (Option Grant)) (k x : ℕ) → kept_name handles k ≡ Some x → k ≤ length handles
+pub kept_within : (handles : List (Option Handle)) (k x : ℕ) → kept_name handles k ≡ Some x → k ≤ length handles
 kept_within handles zero x e = omega arith
 kept_within handles (suc k) x e = elim (cases_lt k (length handles)) [
   | inl l ↦ omega (arith, l)
-  | inr m ↦ absurd (let none = ap (option_map (λ (h : Grant). h.name)) (get_or_past handles k None m) in cc)
+  | inr m ↦ absurd (let none = ap (option_map (λ (h : Handle). h.name)) (get_or_past handles k None m) in cc)
 ]
 
 -- a number that is looked up by its name is that of a grant with this name
-pub number_kept : (handles : List (Option Grant)) (numbers : List ℕ) (k n x y : ℕ) → AreNumbers handles (length handles) numbers → kept_name handles k ≡ Some x → n ≡ slice_index numbers y → y ≡ x
+pub number_kept : (handles : List (Option Handle)) (numbers : List ℕ) (k n x y : ℕ) → AreNumbers handles (length handles) numbers → kept_name handles k ≡ Some x → n ≡ slice_index numbers y → y ≡ x
     → kept_name handles n ≡ Some x
 number_kept handles numbers k n x y a h e f = subst (λ j. kept_name handles j ≡ Some x) (sym (e ∙ ap (slice_index numbers) f ∙ a.numbered k x (kept_within handles k x h) h)) h
 
 -- no grants were read, and there are none
-pub numbers_begin : (handles : List (Option Grant)) (read : ℕ) (numbers : List ℕ) → handles ≡ [] → read ≡ 0 → AreNumbers handles read numbers
+pub numbers_begin : (handles : List (Option Handle)) (read : ℕ) (numbers : List ℕ) → handles ≡ [] → read ≡ 0 → AreNumbers handles read numbers
 numbers_begin handles read numbers none e =
     let nothing : (k x : ℕ) → kept_name handles k ≡ Some x → ⊥ = λ k x h.
     let i = kept_within handles k x h in let l = ap length none in let z : k ≡ 0 = omega arith in let f = subst (λ j. kept_name handles j ≡ Some x) z h in cc in
@@ -41,14 +41,14 @@ numbers_begin handles read numbers none e =
       numbered = λ k x l h. absurd (nothing k x h);
     }
 
-module _ (handles : List (Option Grant)) (i : ℕ) (d : Option Grant) (numbers now : List ℕ) (within : i < length handles) (a : AreNumbers handles i numbers) where
-  read_at : kept_name handles (i + 1) ≡ option_map (λ (h : Grant). h.name) (get_or handles i d)
-  read_at = ap (kept_name handles) (add-one i) ∙ ap (option_map (λ (h : Grant). h.name)) (get_or_default handles i None d within)
+module _ (handles : List (Option Handle)) (i : ℕ) (d : Option Handle) (numbers now : List ℕ) (within : i < length handles) (a : AreNumbers handles i numbers) where
+  read_at : kept_name handles (i + 1) ≡ option_map (λ (h : Handle). h.name) (get_or handles i d)
+  read_at = ap (kept_name handles) (add-one i) ∙ ap (option_map (λ (h : Handle). h.name)) (get_or_default handles i None d within)
 
   -- one more handle is read, and there is none
   pub read_none : get_or handles i d ≡ None → ((x : ℕ) → slice_index now x ≡ slice_index numbers x) → AreNumbers handles (i + 1) now
   read_none none same =
-      let gone : kept_name handles (i + 1) ≡ None = read_at ∙ ap (option_map (λ (h : Grant). h.name)) none in
+      let gone : kept_name handles (i + 1) ≡ None = read_at ∙ ap (option_map (λ (h : Handle). h.name)) none in
       record {
         within = omega (arith, within);
         apart = a.apart;
@@ -59,9 +59,10 @@ module _ (handles : List (Option Grant)) (i : ℕ) (d : Option Grant) (numbers n
       }
 
   -- one more handle is read, and its number is put at its name
-  pub read_one : (h : Grant) (y : ℕ) → get_or handles i d ≡ Some h → y ≡ h.name → ((x : ℕ) → slice_index now x ≡ (if nat_eq x y then i + 1 else slice_index numbers x)) → AreNumbers handles (i + 1) now
+  pub read_one : (h : Handle) (y : ℕ) → get_or handles i d ≡ Some h → y ≡ h.name → ((x : ℕ) → slice_index now x ≡ (if nat_eq x y then i + 1 else slice_index numbers x))
+      → AreNumbers handles (i + 1) now
   read_one h y is named put =
-      let own : kept_name handles (i + 1) ≡ Some y = read_at ∙ ap (option_map (λ (h : Grant). h.name)) is ∙ ap Some (sym named) in
+      let own : kept_name handles (i + 1) ≡ Some y = read_at ∙ ap (option_map (λ (h : Handle). h.name)) is ∙ ap Some (sym named) in
       record {
         within = omega (arith, within);
         apart = a.apart;
@@ -73,48 +74,48 @@ module _ (handles : List (Option Grant)) (i : ℕ) (d : Option Grant) (numbers n
       }
 
 -- a call makes no grant, and no name becomes kept; or it makes one, whose name was not kept
-abbrev pub IsNext : List (Option Grant) → List (Option Grant) → Type 0
+abbrev pub IsNext : List (Option Handle) → List (Option Handle) → Type 0
 IsNext hs left = ((length left ≡ length hs) × ((k x : ℕ) → kept_name left k ≡ Some x → kept_name hs k ≡ Some x))
-    ⊎ ((h : Grant) × (left ≡ hs ++ Some h ∷ []) × ((k : ℕ) → kept_name hs k ≡ Some h.name → ⊥))
+    ⊎ ((h : Handle) × (left ≡ hs ++ Some h ∷ []) × ((k : ℕ) → kept_name hs k ≡ Some h.name → ⊥))
 
-next_same : (hs left : List (Option Grant)) → left ≡ hs → IsNext hs left
+next_same : (hs left : List (Option Handle)) → left ≡ hs → IsNext hs left
 next_same hs left e = inl (ap length e, λ k x h. sym (ap (λ l. kept_name l k) e) ∙ h)
 
 -- a handle is removed
-kept_before : (hs : List (Option Grant)) (i k x : ℕ) → kept_name (slice_set hs i None) k ≡ Some x → kept_name hs k ≡ Some x
+kept_before : (hs : List (Option Handle)) (i k x : ℕ) → kept_name (slice_set hs i None) k ≡ Some x → kept_name hs k ≡ Some x
 kept_before hs i zero x e = e
 kept_before hs i (suc k) x e = elim (cases_eq k i) [
-  | inr n ↦ sym (ap (option_map (λ (h : Grant). h.name)) (get_or-set_other hs i k None None n)) ∙ e
+  | inr n ↦ sym (ap (option_map (λ (h : Handle). h.name)) (get_or-set_other hs i k None None n)) ∙ e
   | inl s ↦ elim (cases_lt i (length hs)) [
-    | inl l ↦ absurd (let gone = ap (option_map (λ (h : Grant). h.name)) (get_or-set_same hs i None None l) in let f = subst (λ j. kept_name (slice_set hs i None) (suc j) ≡ Some x) s e in cc)
+    | inl l ↦ absurd (let gone = ap (option_map (λ (h : Handle). h.name)) (get_or-set_same hs i None None l) in let f = subst (λ j. kept_name (slice_set hs i None) (suc j) ≡ Some x) s e in cc)
     | inr m ↦ sym (ap (λ l. kept_name l (suc k)) (set_past hs i None m)) ∙ e
   ]
 ]
 
-next_without : (hs left : List (Option Grant)) (i : ℕ) → left ≡ slice_set hs i None → IsNext hs left
+next_without : (hs left : List (Option Handle)) (i : ℕ) → left ≡ slice_set hs i None → IsNext hs left
 next_without hs left i e = inl (ap length e ∙ length-set hs i None, λ k x h. kept_before hs i k x (sym (ap (λ l. kept_name l k) e) ∙ h))
 
-module _ (v w : View) (hs left : List (Option Grant)) (before : IsWellFormed v) (after : IsWellFormed w) (live : AreLive v hs) where
+module _ (v w : View) (hs left : List (Option Handle)) (before : IsWellFormed v) (after : IsWellFormed w) (live : AreLive v hs) where
   -- the name of a grant was not kept
-  not_kept : (needed n : ℕ) (padding_at : ℕ → ℕ) (h : Grant) → Splits needed n padding_at v w h → (k : ℕ) → kept_name hs k ≡ Some h.name → ⊥
+  not_kept : (needed n : ℕ) (padding_at : ℕ → ℕ) (h : Handle) → Splits needed n padding_at v w h → (k : ℕ) → kept_name hs k ≡ Some h.name → ⊥
   not_kept needed n padding_at h s k e = let none = (split_grants s before after).not_live in let some = live k h.name e in cc
 
-  next_granted : (needed n : ℕ) (padding_at : ℕ → ℕ) (h : Grant) → Splits needed n padding_at v w h → left ≡ hs ++ Some h ∷ [] → IsNext hs left
+  next_granted : (needed n : ℕ) (padding_at : ℕ → ℕ) (h : Handle) → Splits needed n padding_at v w h → left ≡ hs ++ Some h ∷ [] → IsNext hs left
   next_granted needed n padding_at h s e = inr (h, e, not_kept needed n padding_at h s)
 
-  next_allocated : (n : ℕ) (a : machine.Answer) (r : Option Grant) → Allocates n v w r → IsKept r hs left a → IsNext hs left
+  next_allocated : (n : ℕ) (a : machine.Answer) (r : Option Handle) → Allocates n v w r → IsKept r hs left a → IsNext hs left
   next_allocated n a None t k = next_same hs left k.0
   next_allocated n a (Some h) t k = next_granted _ _ _ h t.1 k.0
 
-  next_aligned : (n align : ℕ) (a : machine.Answer) (r : Option Grant) → Aligns n align v w r → IsKept r hs left a → IsNext hs left
+  next_aligned : (n align : ℕ) (a : machine.Answer) (r : Option Handle) → Aligns n align v w r → IsKept r hs left a → IsNext hs left
   next_aligned n align a None t k = next_same hs left k.0
   next_aligned n align a (Some h) t k = next_granted _ _ _ h t.1 k.0
 
-  next_tight : (n align : ℕ) → 1 ≤ align → (a : machine.Answer) (r : Option Grant) → AlignsTight n align v w r → IsKept r hs left a → IsNext hs left
+  next_tight : (n align : ℕ) → 1 ≤ align → (a : machine.Answer) (r : Option Handle) → AlignsTight n align v w r → IsKept r hs left a → IsNext hs left
   next_tight n align some a None t k = next_same hs left k.0
   next_tight n align some a (Some h) t k = inr (h, k.0, λ j e. let none = (grants_tight n align v w before some (Some h) t).not_live in let kept = live j h.name e in cc)
 
-  next_relocated : (x : ℕ) (a : machine.Answer) (r : Option Grant) → Relocates x v w r → IsKept r hs left a → IsNext hs left
+  next_relocated : (x : ℕ) (a : machine.Answer) (r : Option Handle) → Relocates x v w r → IsKept r hs left a → IsNext hs left
   next_relocated x a None t k = next_same hs left k.0
   next_relocated x a (Some h) t k = next_granted _ _ _ h t.0.1 k.0
 
@@ -155,7 +156,7 @@ module _ (v w : View) (hs left : List (Option Grant)) (before : IsWellFormed v) 
   next_call (call.After k) r valid t = next_same hs left t.0.1
 
 -- the numbers that were read stay right
-pub numbers_next : (hs left : List (Option Grant)) (read : ℕ) (numbers : List ℕ) → IsNext hs left → AreNumbers hs read numbers → AreNumbers left read numbers
+pub numbers_next : (hs left : List (Option Handle)) (read : ℕ) (numbers : List ℕ) → IsNext hs left → AreNumbers hs read numbers → AreNumbers left read numbers
 numbers_next hs left read numbers (inl r) a = record {
   within = omega (arith, r.0, a.within);
   apart = λ j k x d e. a.apart j k x (r.1 j x d) (r.1 k x e);

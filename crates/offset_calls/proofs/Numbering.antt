@@ -1,7 +1,7 @@
 -- The moves of a compaction, and the numbers of the ranges that move.
 use Rattle.offset_calls.proofs.Common.{◌≡◌, ℕ, suc, ◌+◌, ◌-◌, ◌<◌, ◌≤◌, Bool, true, false, List, [], ◌∷◌, ◌++◌, map, drop, length, reverse, Option, Some, None, option_map}
 use Rattle.offset_calls.proofs.Common.{unwrap_or, if◌then◌else◌, refl, sym, ap, ap₂, subst, subst₂, ◌∙◌, inl, inr, arith, append_assoc, append-nil, length-append, eq-eqb, ne_eqb, cases_eq}
-use Rattle.offset_calls.proofs.Common.{false≢true, map-append, length-map, reverse-append, AllByRecursion, FoldsTo, Block, Grant, View, Range, live, Placed, placed, listing, kept_name}
+use Rattle.offset_calls.proofs.Common.{false≢true, map-append, length-map, reverse-append, AllByRecursion, FoldsTo, Block, Handle, View, Range, live, Placed, placed, listing, kept_name}
 use Rattle.offset_calls.proofs.Common.{AreKept, AreMoves, AreNumbered, joined}
 use Rattle.std.proofs.{Math.Seq.drop-append_seam, lemmas.List.drop-map}
 use Rattle.offset_allocator.specs.{Ranges.IsLive, Ranges.range_of, Compacting.Move, Compacting.moves}
@@ -63,7 +63,7 @@ are_more (n ∷ ms) (y ∷ xs) m x a e f g = (a.0, a.1, a.2, are_more ms xs m x 
 are_more ms xs m x a e f g = absurd a
 
 -- numbers whose names are those of the moves
-numbers_join : (handles : List (Option Grant)) (ks : List ℕ) (ms : List Moved) (xs : List Move) → map (kept_name handles) ks ≡ names_of xs → AreMoves ms xs
+numbers_join : (handles : List (Option Handle)) (ks : List ℕ) (ms : List Moved) (xs : List Move) → map (kept_name handles) ks ≡ names_of xs → AreMoves ms xs
     → AreNumbered handles xs (joined ks ms)
 numbers_join handles [] [] [] e a = tt
 numbers_join handles (k ∷ ks) [] [] e a = tt
@@ -77,7 +77,7 @@ drop_map f n xs = sym (drop-map f n xs)
 drop_front : {A : Type 0} (xs ys : List A) (n : ℕ) → n ≡ length xs → drop n (xs ++ ys) ≡ ys
 drop_front xs ys n e = rw e (drop-append_seam xs ys)
 
-module _ (handles : List (Option Grant)) (ks : List ℕ) (ms : List Moved) (v : View) (e : map (kept_name handles) ks ≡ live_names v.blocks) (a : AreMoves ms (moves 0 0 v.blocks)) where
+module _ (handles : List (Option Handle)) (ks : List ℕ) (ms : List Moved) (v : View) (e : map (kept_name handles) ks ≡ live_names v.blocks) (a : AreMoves ms (moves 0 0 v.blocks)) where
   numbers_parts : IsLast v.blocks (moves 0 0 v.blocks)
   numbers_parts = last_move 0 0 v.blocks (omega arith)
 
@@ -93,27 +93,27 @@ module _ (handles : List (Option Grant)) (ks : List ℕ) (ms : List Moved) (v : 
   numbers_are = search (arith, numbers_join, drop, length, drop_map, numbers_parts, drop_front, numbers_length)
 
 -- the names of the used ones of blocks at their places
-abbrev pub placed_name : Option Grant → List (Option ℕ)
+abbrev pub placed_name : Option Handle → List (Option ℕ)
 placed_name None = []
 placed_name (Some g) = Some g.name ∷ []
 
 abbrev pub placed_names : List Placed → List (Option ℕ)
 placed_names [] = []
-placed_names (p ∷ ps) = placed_name p.grant ++ placed_names ps
+placed_names (p ∷ ps) = placed_name p.handle ++ placed_names ps
 
 placed_names-append : (ps qs : List Placed) → placed_names (ps ++ qs) ≡ placed_names ps ++ placed_names qs
 placed_names-append [] qs = refl
-placed_names-append (p ∷ ps) qs = ap (λ l. placed_name p.grant ++ l) (placed_names-append ps qs) ∙ sym (append_assoc (placed_name p.grant) (placed_names ps) (placed_names qs))
+placed_names-append (p ∷ ps) qs = ap (λ l. placed_name p.handle ++ l) (placed_names-append ps qs) ∙ sym (append_assoc (placed_name p.handle) (placed_names ps) (placed_names qs))
 
 placed_names-reverse : (ps : List Placed) → reverse (placed_names (reverse ps)) ≡ placed_names ps
 placed_names-reverse [] = refl
 placed_names-reverse (p ∷ ps) =
     ap (λ l. reverse (placed_names l)) (reverse-append (p ∷ []) ps)
-    ∙ ap reverse (placed_names-append (reverse ps) (p ∷ []) ∙ ap (λ l. placed_names (reverse ps) ++ l) (append-nil (placed_name p.grant)))
-    ∙ reverse-append (placed_names (reverse ps)) (placed_name p.grant)
-    ∙ ap₂ (λ x y. x ++ y) (single p.grant) (placed_names-reverse ps)
+    ∙ ap reverse (placed_names-append (reverse ps) (p ∷ []) ∙ ap (λ l. placed_names (reverse ps) ++ l) (append-nil (placed_name p.handle)))
+    ∙ reverse-append (placed_names (reverse ps)) (placed_name p.handle)
+    ∙ ap₂ (λ x y. x ++ y) (single p.handle) (placed_names-reverse ps)
   where
-    single : (g : Option Grant) → reverse (placed_name g) ≡ placed_name g
+    single : (g : Option Handle) → reverse (placed_name g) ≡ placed_name g
     single None = refl
     single (Some g) = refl
 
@@ -126,36 +126,36 @@ pub walked_names : (bs : List Block) → reverse (placed_names (reverse (placed 
 walked_names bs = placed_names-reverse (placed 0 bs) ∙ placed_names-live 0 bs
 
 -- the grants of placed blocks are kept
-abbrev pub AreAllKept : List (Option Grant) → List Placed → Type 0
-AreAllKept handles ps = AllByRecursion (λ (p : Placed). (g : Grant) → p.grant ≡ Some g → (k : ℕ) × (kept_name handles k ≡ Some g.name)) ps
+abbrev pub AreAllKept : List (Option Handle) → List Placed → Type 0
+AreAllKept handles ps = AllByRecursion (λ (p : Placed). (g : Handle) → p.handle ≡ Some g → (k : ℕ) × (kept_name handles k ≡ Some g.name)) ps
 
-kept-append : (handles : List (Option Grant)) (ps qs : List Placed) → AreAllKept handles ps → AreAllKept handles qs → AreAllKept handles (ps ++ qs)
+kept-append : (handles : List (Option Handle)) (ps qs : List Placed) → AreAllKept handles ps → AreAllKept handles qs → AreAllKept handles (ps ++ qs)
 kept-append handles [] qs a b = b
 kept-append handles (p ∷ ps) qs a b = (a.0, kept-append handles ps qs a.1 b)
 
-pub kept-reverse : (handles : List (Option Grant)) (ps : List Placed) → AreAllKept handles ps → AreAllKept handles (reverse ps)
+pub kept-reverse : (handles : List (Option Handle)) (ps : List Placed) → AreAllKept handles ps → AreAllKept handles (reverse ps)
 kept-reverse handles [] a = tt
 kept-reverse handles (p ∷ ps) a = subst (AreAllKept handles) (sym (reverse-append (p ∷ []) ps)) (kept-append handles (reverse ps) (p ∷ []) (kept-reverse handles ps a.1) (a.0, tt))
 
 -- the grant of a block
-abbrev grant_if : Bool → ℕ → ℕ → Option Grant
+abbrev grant_if : Bool → ℕ → ℕ → Option Handle
 grant_if u x o = if u then Some (record { name = x; offset = o }) else None
 
-pub kept-placed : (handles : List (Option Grant)) (o : ℕ) (bs : List Block) → AllByRecursion (λ (b : Block). b.used ≡ true → (k : ℕ) × (kept_name handles k ≡ Some b.name)) bs
+pub kept-placed : (handles : List (Option Handle)) (o : ℕ) (bs : List Block) → AllByRecursion (λ (b : Block). b.used ≡ true → (k : ℕ) × (kept_name handles k ≡ Some b.name)) bs
     → AreAllKept handles (placed o bs)
 kept-placed handles o [] a = tt
 kept-placed handles o (b ∷ bs) a = (go b.used refl, kept-placed handles (o + b.size) bs a.1)
   where
-    go : (u : Bool) → b.used ≡ u → (g : Grant) → grant_if b.used b.name o ≡ Some g → (k : ℕ) × (kept_name handles k ≡ Some g.name)
+    go : (u : Bool) → b.used ≡ u → (g : Handle) → grant_if b.used b.name o ≡ Some g → (k : ℕ) × (kept_name handles k ≡ Some g.name)
     go true u g e = search (arith, option_map)
     go false u g e = absurd (let f : grant_if false b.name o ≡ Some g = sym (ap (λ v. grant_if v b.name o) u) ∙ e in cc)
 
-pub kept-listing : (v : View) (handles : List (Option Grant)) → AreKept v handles → AreAllKept handles (listing v)
+pub kept-listing : (v : View) (handles : List (Option Handle)) → AreKept v handles → AreAllKept handles (listing v)
 kept-listing v handles a = kept-reverse handles (placed 0 v.blocks) (kept-placed handles 0 v.blocks a)
 
 -- one more walked block
-pub walk_used : (handles : List (Option Grant)) (ks : List ℕ) (k : ℕ) (p : Placed) (ps : List Placed) (g : Grant) (all : List (Option ℕ)) → map (kept_name handles) ks ++ placed_names (p ∷ ps) ≡ all
-    → p.grant ≡ Some g → kept_name handles k ≡ Some g.name
+pub walk_used : (handles : List (Option Handle)) (ks : List ℕ) (k : ℕ) (p : Placed) (ps : List Placed) (g : Handle) (all : List (Option ℕ)) → map (kept_name handles) ks ++ placed_names (p ∷ ps) ≡ all
+    → p.handle ≡ Some g → kept_name handles k ≡ Some g.name
     → map (kept_name handles) (ks ++ k ∷ []) ++ placed_names ps ≡ all
 walk_used handles ks k p ps g all e f h = search (arith, map-append, map, append_assoc)
 
@@ -165,7 +165,7 @@ map-reverse f (x ∷ xs) = ap (map f) (reverse-append (x ∷ []) xs) ∙ map-app
     ∙ sym (reverse-append (f x ∷ []) (map f xs))
 
 -- all are walked
-pub walk_ends : (handles : List (Option Grant)) (ks left : List ℕ) (v : View) → map (kept_name handles) ks ++ [] ≡ placed_names (listing v) → left ≡ reverse ks
+pub walk_ends : (handles : List (Option Handle)) (ks left : List ℕ) (v : View) → map (kept_name handles) ks ++ [] ≡ placed_names (listing v) → left ≡ reverse ks
     → map (kept_name handles) left ≡ live_names v.blocks
 walk_ends handles ks left v e f = search (arith, map, map-reverse, reverse, append-nil, walked_names)
 

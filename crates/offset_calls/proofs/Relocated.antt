@@ -2,7 +2,7 @@
 use Rattle.offset_calls.proofs.Common.{◌≡◌, ◌≢◌, ℕ, zero, suc, ◌+◌, ◌-◌, ◌<◌, ◌≤◌, Bool, true, false, not, List, [], ◌∷◌, ◌++◌, length, Option, Some, None, nat_eq, nat_le}
 use Rattle.offset_calls.proofs.Common.{if◌then◌else◌, refl, sym, ap, ap₂, subst, ◌∙◌, inl, inr, arith}
 use Rattle.offset_calls.proofs.Common.{eq-eqb, ne_eqb, cases_eq, cases_lt, leb-true, lt-ltb, le-ltb, and_parts, option_map, option_and_then, unwrap_or}
-use Rattle.offset_calls.proofs.Common.{AllByRecursion, Block, View, Grant, Place, one, count_named, times, bin_at, units, IsWellFormed, HasRoomFor, Range, SameSpace, kept_name, IsKept}
+use Rattle.offset_calls.proofs.Common.{AllByRecursion, Block, View, Handle, Place, one, count_named, times, bin_at, units, IsWellFormed, HasRoomFor, Range, SameSpace, kept_name, IsKept}
 use Rattle.offset_calls.proofs.Common.{State, is_free, total, chosen_place, is_short_of, fits, Reply, Answer}
 use Rattle.offset_allocator.specs.{Classes.up, Classes.down, Relations.Allocates, Relocating.Relocates, Relocating.offset_of, View.IsNew, View.used_block, View.free_part}
 use Rattle.offset_allocator.proofs.{Classes.fits_size, Taken.taken, Tallies.hit_cases, Split.well_split, Served.plain_serves}
@@ -58,28 +58,28 @@ unused (suc m) bs l = elim (cases_lt 0 (count_named m bs)) [
 -- ---- the smallest class from another on whose bin has a name
 
 abbrev IsLeast : List (List ℕ) → ℕ → ℕ → Type 0
-IsLeast order a c = (a ≤ c) × (bin_at order c ≢ []) × ((e : ℕ) → a ≤ e → e < c → bin_at order e ≡ [])
+IsLeast bins a c = (a ≤ c) × (bin_at bins c ≢ []) × ((e : ℕ) → a ≤ e → e < c → bin_at bins e ≡ [])
 
-least_step : (order : List (List ℕ)) (a : ℕ) → ((c : ℕ) × IsLeast order (a + 1) c) → (xs : List ℕ) → bin_at order a ≡ xs → (c : ℕ) × IsLeast order a c
-least_step order a r [] e = (
+least_step : (bins : List (List ℕ)) (a : ℕ) → ((c : ℕ) × IsLeast bins (a + 1) c) → (xs : List ℕ) → bin_at bins a ≡ xs → (c : ℕ) × IsLeast bins a c
+least_step bins a r [] e = (
   r.0,
   (
     omega (arith, r.1.0),
     r.1.1,
-    λ k l m. elim (cases_eq k a) [ inl f ↦ ap (bin_at order) f ∙ e | inr n ↦ r.1.2 k (omega (arith, l, n)) m ],
+    λ k l m. elim (cases_eq k a) [ inl f ↦ ap (bin_at bins) f ∙ e | inr n ↦ r.1.2 k (omega (arith, l, n)) m ],
   ),
 )
-least_step order a r (x ∷ xs) e = (a, (omega arith, λ z. let f : (x ∷ xs) ≡ [] = sym e ∙ z in cc, λ k l m. absurd (omega arith)))
+least_step bins a r (x ∷ xs) e = (a, (omega arith, λ z. let f : (x ∷ xs) ≡ [] = sym e ∙ z in cc, λ k l m. absurd (omega arith)))
 
-least : (order : List (List ℕ)) (d a c : ℕ) → c ≡ a + d → bin_at order c ≢ [] → (k : ℕ) × IsLeast order a k
-least order zero a c e some = (c, (omega arith, some, λ k l m. absurd (omega arith)))
-least order (suc d) a c e some = least_step order a (least order d (a + 1) c (omega arith) some) (bin_at order a) refl
+least : (bins : List (List ℕ)) (d a c : ℕ) → c ≡ a + d → bin_at bins c ≢ [] → (k : ℕ) × IsLeast bins a k
+least bins zero a c e some = (c, (omega arith, some, λ k l m. absurd (omega arith)))
+least bins (suc d) a c e some = least_step bins a (least bins d (a + 1) c (omega arith) some) (bin_at bins a) refl
 
 -- ---- a request that is granted
 
 -- the grant of n units of the newest block of the smallest class
-granted_from : (v : View) → IsWellFormed v → (n c : ℕ) → HasRoomFor 1 v → IsLeast v.order (up n) c → (xs : List ℕ) → bin_at v.order c ≡ xs
-    → (u : View) × (g : Grant) × Allocates n v u (Some g)
+granted_from : (v : View) → IsWellFormed v → (n c : ℕ) → HasRoomFor 1 v → IsLeast v.bins (up n) c → (xs : List ℕ) → bin_at v.bins c ≡ xs
+    → (u : View) × (g : Handle) × Allocates n v u (Some g)
 granted_from v w n c room least [] e = absurd (least.1 e)
 granted_from v w n c room least (x ∷ xs) e =
     let t = taken v w c x xs e in
@@ -88,9 +88,9 @@ granted_from v w n c room least (x ∷ xs) e =
     let enough : n ≤ t.place.block.size = fits_size n t.place.block.size (le-leb (up n) (down t.place.block.size) fit) in
     let left = t.place.block.size - n in
     let parts = used_block t.place.block.name n ∷ free_part y.0 left in
-    let newest : bin_at v.order (down t.place.block.size) ≡ t.place.block.name ∷ xs = ap (bin_at v.order) t.class ∙ e ∙ ap (λ (z : ℕ). z ∷ xs) (sym t.name) in
+    let newest : bin_at v.bins (down t.place.block.size) ≡ t.place.block.name ∷ xs = ap (bin_at v.bins) t.class ∙ e ∙ ap (λ (z : ℕ). z ∷ xs) (sym t.name) in
     let new : 1 ≤ left → IsNew y.0 v = λ l. record { below = y.1; absent = y.2 } in (
-      record v { blocks = t.place.before ++ (parts ++ t.place.after); order = named.push_all parts (named.remove (down t.place.block.size) t.place.block.name v.order) },
+      record v { blocks = t.place.before ++ (parts ++ t.place.after); bins = named.push_all parts (named.remove (down t.place.block.size) t.place.block.name v.bins) },
       record { name = t.place.block.name; offset = units t.place.before + 0 },
       (
         room,
@@ -123,7 +123,7 @@ granted_from v w n c room least (x ∷ xs) e =
 
 module _ (v : View) (kept_name : ℕ → Option ℕ) (s : State) (w : IsWellFormed v) (ws : IsWell s) (g : HasBlocksOf v kept_name s) (n : ℕ) where
   -- what the machine chooses is listed in a class that is large enough
-  fit_of : (p : machine.Place) → chosen_place n s.blocks ≡ Some p → (c : ℕ) × (up n ≤ c) × (bin_at v.order c ≢ [])
+  fit_of : (p : machine.Place) → chosen_place n s.blocks ≡ Some p → (c : ℕ) × (up n ≤ c) × (bin_at v.bins c ≢ [])
   fit_of p e =
       let c = chosen_at n s.blocks p e in
       let r = plain_spot g.labels p (sym g.state ∙ c.0) in
@@ -133,21 +133,21 @@ module _ (v : View) (kept_name : ℕ → Option ℕ) (s : State) (w : IsWellForm
       (down r.0.label.size, leb-true (up n) (down r.0.label.size) parts.1, λ z. absurd (omega (arith, listed, ap (times r.0.label.name) z)))
 
   -- where the machine grants a request, the allocator can
-  granted_too : is_short_of 1 s ≡ false → (p : machine.Place) → chosen_place n s.blocks ≡ Some p → (u : View) × (h : Grant) × Allocates n v u (Some h)
+  granted_too : is_short_of 1 s ≡ false → (p : machine.Place) → chosen_place n s.blocks ≡ Some p → (u : View) × (h : Handle) × Allocates n v u (Some h)
   granted_too e p f =
       let h = fit_of p f in
-      let l = least v.order (h.0 - up n) (up n) h.0 (omega (arith, h.1)) h.2 in
-      granted_from v w n l.0 (room_for v kept_name s w ws g 1 e) l.1 (bin_at v.order l.0) refl
+      let l = least v.bins (h.0 - up n) (up n) h.0 (omega (arith, h.1)) h.2 in
+      granted_from v w n l.0 (room_for v kept_name s w ws g 1 e) l.1 (bin_at v.bins l.0) refl
 
   -- the machine has the answer of a grant
-  pub answer_is : (u : View) → IsWellFormed u → (h : Grant) → Allocates n v u (Some h) → (machine.allocate n s).answer ≡ machine.Grant (s.grants + 1) h.offset
+  pub answer_is : (u : View) → IsWellFormed u → (h : Handle) → Allocates n v u (Some h) → (machine.allocate n s).answer ≡ machine.Grant (s.grants + 1) h.offset
   answer_is u formed h a = (serve_agrees v kept_name s w ws g 1 n n (λ offset. 0) u formed (Some h) (plain_serves n v u (Some h) a)).answer
 
-  formed_after : (u : View) (h : Grant) → Allocates n v u (Some h) → IsWellFormed u
+  formed_after : (u : View) (h : Handle) → Allocates n v u (Some h) → IsWellFormed u
   formed_after u h a = well_split a.1 1 w a.0 (subst (λ m. length (free_part a.1.padding_name m) + 1 ≤ 1) (sym a.1.padded) (omega arith))
 
   -- where no grant begins before an offset, the machine's does not
-  pub not_before : (o : ℕ) → ((u : View) (h : Grant) → Allocates n v u (Some h) → o ≤ h.offset) → begins_before o (machine.allocate n s).answer ≡ false
+  pub not_before : (o : ℕ) → ((u : View) (h : Handle) → Allocates n v u (Some h) → o ≤ h.offset) → begins_before o (machine.allocate n s).answer ≡ false
   not_before o none = go (is_short_of 1 s) refl (chosen_place n s.blocks) refl
     where
       go : (b : Bool) → is_short_of 1 s ≡ b → (c : Option machine.Place) → chosen_place n s.blocks ≡ c → begins_before o (machine.allocate n s).answer ≡ false
@@ -157,7 +157,7 @@ module _ (v : View) (kept_name : ℕ → Option ℕ) (s : State) (w : IsWellForm
           let r = granted_too e p f in
           ap (begins_before o) (answer_is r.0 (formed_after r.0 r.1 r.2) r.1 r.2) ∙ le-ltb r.1.offset o (none r.0 r.1 r.2)
 
-module _ (v w : View) (hs left : List (Option Grant)) (r : Reply) (s : State) (formed : IsWellFormed w) (ws : IsWell s) (p : IsAtState v hs s) (k x : ℕ) (e : kept_name hs k ≡ Some x) where
+module _ (v w : View) (hs left : List (Option Handle)) (r : Reply) (s : State) (formed : IsWellFormed w) (ws : IsWell s) (p : IsAtState v hs s) (k x : ℕ) (e : kept_name hs k ≡ Some x) where
   abbrev at : Spot
   at = spot v (kept_name hs) s p.formed ws p.agrees k x e
 
@@ -180,7 +180,7 @@ module _ (v w : View) (hs left : List (Option Grant)) (r : Reply) (s : State) (f
       subst (λ (o : machine.Outcome). (r ≡ Answer o.answer) × IsAtState w left o.state) (sym o)
       (is, subst (λ l. IsAtState w l (machine.returns_only s machine.Refused).state) (sym f) (record { formed = formed; agrees = agrees; grants = p.grants }))
 
-  relocates_there : (g : Option Grant) (a : machine.Answer) → Relocates x v w g → IsKept g hs left a → r ≡ Answer a
+  relocates_there : (g : Option Handle) (a : machine.Answer) → Relocates x v w g → IsKept g hs left a → r ≡ Answer a
       → (r ≡ (answered (relocate s (Some (plain_place at)))).reply) × IsAtState w left (relocate s (Some (plain_place at))).state
   relocates_there None a t kept is =
       let n = size_found v (kept_name hs) s p.formed ws p.agrees k x e in
@@ -200,7 +200,7 @@ module _ (v w : View) (hs left : List (Option Grant)) (r : Reply) (s : State) (f
       subst (λ (o : machine.Outcome). (r ≡ Answer o.answer) × IsAtState w left o.state) (sym o) (is ∙ ap Answer f.0, f.1)
 
   -- the plain machine relocates where the allocator does
-  pub relocated : (g : Option Grant) (a : machine.Answer) → Relocates x v w g → IsKept g hs left a → r ≡ Answer a
+  pub relocated : (g : Option Handle) (a : machine.Answer) → Relocates x v w g → IsKept g hs left a → r ≡ Answer a
       → (r ≡ (answered (relocate s (machine.place_of k s.blocks))).reply) × IsAtState w left (relocate s (machine.place_of k s.blocks)).state
   relocated g a t kept is = subst (λ o. (r ≡ (answered (relocate s o)).reply) × IsAtState w left (relocate s o).state)
       (sym (found v (kept_name hs) s p.formed ws p.agrees k x e).placed) (relocates_there g a t kept is)

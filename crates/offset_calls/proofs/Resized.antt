@@ -2,16 +2,16 @@
 use Rattle.offset_calls.proofs.Common.{◌≡◌, ◌≢◌, ℕ, zero, suc, ◌+◌, ◌-◌, ◌<◌, ◌≤◌, Bool, true, false, not, ◌&&◌, ◌||◌, ◌⊎◌, List, [], ◌∷◌, ◌++◌, length, Option, Some, None, nat_eq, nat_le}
 use Rattle.offset_calls.proofs.Common.{if◌then◌else◌, refl, sym, ap, ap₂, subst, ◌∙◌, inl, inr, arith, le-leb, leb-true, leb-false, append-nil, length-append, false≢true, and_parts, and_right}
 use Rattle.std.specs.Prelude.{option_map, unwrap_or}
-use Rattle.offset_calls.proofs.Common.{map-append, AllByRecursion, Block, View, Place, units, IsWellFormed, IsApart, replace, HasRoomFor, size_of, SameSpace, Tag, Live, Free, State, is_free}
+use Rattle.offset_calls.proofs.Common.{map-append, AllByRecursion, Block, View, Place, units, IsWellFormed, AreCoalesced, replace, HasRoomFor, size_of, SameSpace, Tag, Live, Free, State, is_free}
 use Rattle.offset_calls.proofs.Common.{has_number, total, is_short_of, stamp_of_call, stamp_of_padding, without_start, units_at_start, starts_free, can_shrink, can_grow, resized}
 use Rattle.std.proofs.Math.Bool.{or-true}
 use Rattle.offset_allocator.proofs.{ViewApart.right_false, Reading.size_at, Reading.size_is}
 use Rattle.offset_allocator.specs.{View.place_of, Resizing.CanShrink, Resizing.CanGrow, Resizing.Resizes, Resizing.free_after}
 use Rattle.offset_script.proofs.Agreed.{live_at, LiveAt, room_for, has_room, agrees_replaced, new_labels, names_new, tags_new, name_new, rises_new, name_replaced}
-use Rattle.offset_script.proofs.Lists.{AreApart, apart_parts, apart_append, count, count-append, count_free_block, ends_free, few_free, number_of, start_is, start_of}
+use Rattle.offset_script.proofs.Lists.{AreApart, apart_parts, apart_append, count, count-append, count_free_part, ends_free, few_free, number_of, start_is, start_of}
 use Rattle.offset_script.proofs.{Agreement.Label, Agreement.by_name, Agreement.by_tag, Agreement.name_of, Agreement.HasBlocksOf, Chosen.Spot, Chosen.place_at, Chosen.named_spot, Chosen.named_place}
 use Rattle.offset_script.proofs.{Chosen.plain_place, Chosen.place_of_spot, Ends.AreFree, Ends.free_named, Ends.free_tagged, Ends.apart_tagged, Ends.total_units, Ends.name_free, Labels.names}
-use Rattle.offset_script.proofs.{Labels.tags, Labels.map_three, Members.map_parts, Tests.same_some, Found.found_at, Well.IsWell, Well.apart_free_block, Well.free_part as plain_part, Well.well_leaves}
+use Rattle.offset_script.proofs.{Labels.tags, Labels.map_three, Members.map_parts, Tests.same_some, Found.found_at, Well.IsWell, Well.apart_free_part, Well.free_part_is, Well.well_leaves}
 use Rattle.offset_allocator.specs.View as named
 use Rattle.offset_script.specs.Machine as machine
 use Rattle.offset_script.proofs.Lists as lists
@@ -39,19 +39,19 @@ pub well_resized : (s : State) → IsWell s → (k n : ℕ) (p : machine.Place) 
     → IsWell (resized n s p).state
 well_resized s w k n p e fits =
     let left = p.block.size + units_at_start p.after - n in
-    let blocks = p.before ++ (machine.block n p.block.tag ∷ (machine.free_block left (stamp_of_call s) ++ without_start p.after)) in
-    let sizes : length blocks ≡ length p.before + suc (length (machine.free_block left (stamp_of_call s)) + length (without_start p.after)) = simp length-append in
+    let blocks = p.before ++ (machine.block n p.block.tag ∷ (machine.free_part left (stamp_of_call s) ++ without_start p.after)) in
+    let sizes : length blocks ≡ length p.before + suc (length (machine.free_part left (stamp_of_call s)) + length (without_start p.after)) = simp length-append in
     let f = found_at k s.blocks p e in
     let tag = number_of k p.block.tag f.1 in
     let parts = apart_parts p.before (p.block ∷ p.after) (subst AreApart f.0 w.apart) in
     let old = ap length f.0 ∙ length-append p.before (p.block ∷ p.after) in
-    let few = (plain_part left (stamp_of_call s)).3 in
+    let few = (free_part_is left (stamp_of_call s)).3 in
     let shorter = length_without p.after in
     let room : length blocks + 1 ≤ s.limit = elim fits [ inl free ↦ omega (arith, shorter.1 free, w.room) | inr room ↦ omega (arith, leb-false s.limit (length s.blocks + 1) room) ] in
-    let start = ap (λ t. is_free t && lists.starts_free (machine.free_block left (stamp_of_call s) ++ without_start p.after)) tag in
-    let rest = apart_free_block left (stamp_of_call s) (without_start p.after) (apart_without p.after parts.1.1) (starts_after p.after parts.1.1) in
+    let start = ap (λ t. is_free t && lists.starts_free (machine.free_part left (stamp_of_call s) ++ without_start p.after)) tag in
+    let rest = apart_free_part left (stamp_of_call s) (without_start p.after) (apart_without p.after parts.1.1) (starts_after p.after parts.1.1) in
     let apart = apart_append p.before _ parts.0 (start, rest) (ap (λ t. ends_free p.before && is_free t) tag ∙ and_right (ends_free p.before) false refl) in
-    well_leaves s w blocks machine.Freed (omega arith) room apart (λ t. search (arith, f, count-append, count_free_block, count_without))
+    well_leaves s w blocks machine.Freed (omega arith) room apart (λ t. search (arith, f, count-append, count_free_part, count_without))
 
 -- a free block directly after, by names and by tags
 free_some : (ls : List Label) → starts_free (tags ls) ≡ true → named.free_start (names ls) ≢ []
@@ -148,14 +148,14 @@ module _ (v : View) (kept_name : ℕ → Option ℕ) (s : State) (w : IsWellForm
     view_after : u.blocks ≡ names (spot.before ++ (new ++ back.1))
     view_after = ap (λ (x : View). x.blocks) same ∙ sym (map_three by_name spot.before new back.1)
 
-    tags_after : tags (spot.before ++ (new ++ back.1)) ≡ tags spot.before ++ (machine.block n (Live k) ∷ (machine.free_block f.left (stamp_of_call s) ++ tags back.1))
+    tags_after : tags (spot.before ++ (new ++ back.1)) ≡ tags spot.before ++ (machine.block n (Live k) ∷ (machine.free_part f.left (stamp_of_call s) ++ tags back.1))
     tags_after = map_three by_tag spot.before new back.1 ∙ ap (λ z. tags spot.before ++ (z ++ tags back.1)) (tags_new 0 0 x n k f.name f.left (stamp_of_padding s))
 
     ends : (m : ℕ) → f.left ≡ m → lists.starts_free (tags back.1) ≡ false
     ends zero h = after_free back.0 (lists.starts_free (tags back.1)) free apart.0 (let z = sizes in omega arith) apart.2
     ends (suc m) h =
-        let a = subst AreApart (tags_after ∙ ap (λ l. tags spot.before ++ (machine.block n (Live k) ∷ (machine.free_block l (stamp_of_call s) ++ tags back.1))) h)
-        (apart_tagged (spot.before ++ (new ++ back.1)) (subst IsApart view_after f.apart)) in
+        let a = subst AreApart (tags_after ∙ ap (λ l. tags spot.before ++ (machine.block n (Live k) ∷ (machine.free_part l (stamp_of_call s) ++ tags back.1))) h)
+        (apart_tagged (spot.before ++ (new ++ back.1)) (subst AreCoalesced view_after f.apart)) in
         (apart_parts (tags spot.before) (machine.block n (Live k) ∷ (machine.block (suc m) (Free (stamp_of_call s)) ∷ tags back.1)) a).1.1.0
 
     start : (without_start (tags spot.after) ≡ tags back.1) × (units_at_start (tags spot.after) ≡ total (tags back.0))

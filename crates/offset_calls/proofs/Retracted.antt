@@ -8,9 +8,9 @@ use Rattle.std.specs.Option.{option_or}
 use Rattle.offset_allocator.proofs.ViewApart.{left_false}
 use Rattle.offset_allocator.specs.{View.free_part, Retracting.CanRetract, Retracting.Cuts, Retracting.end_part}
 use Rattle.offset_script.proofs.Agreed.{agrees_replaced, free_labels}
-use Rattle.offset_script.proofs.Lists.{AreApart, apart_parts, apart_append, count, hit, count-append, count_free_block, ends_free}
+use Rattle.offset_script.proofs.Lists.{AreApart, apart_parts, apart_append, count, hit, count-append, count_free_part, ends_free}
 use Rattle.offset_script.proofs.{Agreement.Label, Agreement.by_name, Agreement.by_tag, Agreement.name_of, Agreement.HasBlocksOf, Ends.name_append, Ends.name_skip}
-use Rattle.offset_script.proofs.{Labels.names, Labels.tags, Labels.AreRising, Members.map_parts, Members.map_first, Well.IsWell, Well.well_leaves, Well.well_quiet, Well.free_part as plain_part}
+use Rattle.offset_script.proofs.{Labels.names, Labels.tags, Labels.AreRising, Members.map_parts, Members.map_first, Well.IsWell, Well.well_leaves, Well.well_quiet, Well.free_part_is}
 use Rattle.offset_calls.specs.Calls.{Outcome, retract}
 use Rattle.offset_calls.specs.Ending.{can_retract, end_block, with_end, retracted}
 use Rattle.offset_script.specs.Machine as machine
@@ -35,17 +35,17 @@ end_of (b ∷ c ∷ bs) l = let r = end_of (c ∷ bs) l in (b ∷ r.0, r.1, ap (
 pub end_sizes : (xs : List machine.Block) (n t : ℕ) → (1 ≤ length (xs ++ end_block xs n t)) × (length (xs ++ end_block xs n t) ≤ length xs + 1)
 end_sizes [] n t = (omega arith, omega arith)
 end_sizes (x ∷ xs) n t =
-    let few = (plain_part n t).3 in
-    let sum = length-append (x ∷ xs) (machine.free_block n t) in
+    let few = (free_part_is n t).3 in
+    let sum = length-append (x ∷ xs) (machine.free_part n t) in
     (omega (arith, sum), omega (arith, sum, few))
 
 pub end_count : (u : Tag) (xs : List machine.Block) (n t : ℕ) → count u (xs ++ end_block xs n t) ≤ count u xs + hit u (Free t)
 end_count u [] n t = omega arith
-end_count u (x ∷ xs) n t = omega (arith, count-append u (x ∷ xs) (machine.free_block n t), count_free_block u n t)
+end_count u (x ∷ xs) n t = omega (arith, count-append u (x ∷ xs) (machine.free_part n t), count_free_part u n t)
 
 pub end_apart : (xs : List machine.Block) (n t : ℕ) → AreApart xs → ends_free xs ≡ false → AreApart (xs ++ end_block xs n t)
 end_apart [] n t a e = (refl, tt)
-end_apart (x ∷ xs) n t a e = apart_append (x ∷ xs) (machine.free_block n t) a (plain_part n t).1 (and_left (ends_free (x ∷ xs)) _ e)
+end_apart (x ∷ xs) n t a e = apart_append (x ∷ xs) (machine.free_part n t) a (free_part_is n t).1 (and_left (ends_free (x ∷ xs)) _ e)
 
 -- ---- every state stays well-formed
 
@@ -82,7 +82,7 @@ names_free : (x n t : ℕ) → names (free_labels x n t) ≡ free_part x n
 names_free x zero t = refl
 names_free x (suc n) t = refl
 
-tags_free : (x n t : ℕ) → tags (free_labels x n t) ≡ machine.free_block n t
+tags_free : (x n t : ℕ) → tags (free_labels x n t) ≡ machine.free_part n t
 tags_free x zero t = refl
 tags_free x (suc n) t = refl
 

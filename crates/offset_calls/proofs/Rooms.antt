@@ -1,8 +1,8 @@
 -- Making room: what is left agrees with the plain machine, and the cost and the moves are the same.
 use Rattle.offset_calls.proofs.Common.{◌≡◌, ℕ, suc, ◌+◌, ◌<◌, ◌≤◌, ◌&&◌, Bool, true, false, not, List, [], ◌∷◌, ◌++◌, map, length, sum, Option, Some, None, option_map, nat_eq, if◌then◌else◌, drop}
 use Rattle.offset_calls.proofs.Common.{refl, sym, ap, ap₂, subst, ◌∙◌, inl, inr, arith, eq-eqb, ne_eqb, length-append, append_assoc, map-append, cases_eq, cases_lt, true≢false, false≢true, Block}
-use Rattle.offset_calls.proofs.Common.{View, Grant}
-use Rattle.offset_calls.proofs.Common.{IsWellFormed, IsApart, SameSpace, FoldsTo, kept_name, Tag, Live, Free, State, is_free, total, units, stamp_of_call, stamp_of_padding, replace, Move, Reply}
+use Rattle.offset_calls.proofs.Common.{View, Handle}
+use Rattle.offset_calls.proofs.Common.{IsWellFormed, AreCoalesced, SameSpace, FoldsTo, kept_name, Tag, Live, Free, State, is_free, total, units, stamp_of_call, stamp_of_padding, replace, Move, Reply}
 use Rattle.offset_calls.proofs.Common.{Outcome}
 use Rattle.offset_calls.proofs.Common.{moves, AreNumbered, replies_only}
 use Rattle.std.proofs.lemmas.Bool.{cond_both}
@@ -126,14 +126,14 @@ noted : (ms acc xs : List named_moves.Move) → FoldsTo Notes acc ms xs → xs �
 noted [] acc xs h = sym h ∙ sym (Rattle.offset_calls.proofs.Common.append-nil acc)
 noted (m ∷ ms) acc xs h = noted ms h.0 xs h.2 ∙ ap (λ l. l ++ ms) h.1 ∙ append_assoc acc (m ∷ []) ms
 
-none_numbered : (handles : List (Option Grant)) (xs : List named_moves.Move) (ms : List Move) → xs ≡ [] → AreNumbered handles xs ms → ms ≡ []
+none_numbered : (handles : List (Option Handle)) (xs : List named_moves.Move) (ms : List Move) → xs ≡ [] → AreNumbered handles xs ms → ms ≡ []
 none_numbered handles [] [] e a = refl
 none_numbered handles [] (m ∷ ms) e a = absurd a
 none_numbered handles (x ∷ xs) ms e a = absurd (cc)
 
-module _ (v : View) (hs : List (Option Grant)) (s : State) (w : IsWellFormed v) (ws : IsWell s) (g : HasBlocksOf v (kept_name hs) s) where
-  blocks_apart : IsApart (names g.labels)
-  blocks_apart = subst IsApart g.view w.apart
+module _ (v : View) (hs : List (Option Handle)) (s : State) (w : IsWellFormed v) (ws : IsWell s) (g : HasBlocksOf v (kept_name hs) s) where
+  blocks_apart : AreCoalesced (names g.labels)
+  blocks_apart = subst AreCoalesced g.view w.apart
 
   -- a run that slides is the one that the machine finds
   module _ (u : View) (w' : IsWellFormed u) (want : ℕ) (c : RoomCost) (least : IsLeastCost want v.blocks (Some c)) (h : SlidesRun want v u) (cost : c ≡ cost_of h.run) where
@@ -226,7 +226,7 @@ module _ (v : View) (hs : List (Option Grant)) (s : State) (w : IsWellFormed v) 
 
 -- ---- the step
 
-module _ (v w : View) (hs left : List (Option Grant)) (r : Reply) (s : State) (formed : IsWellFormed w) (ws : IsWell s) (p : IsAtState v hs s) (e : left ≡ hs) where
+module _ (v w : View) (hs left : List (Option Handle)) (r : Reply) (s : State) (formed : IsWellFormed w) (ws : IsWell s) (p : IsAtState v hs s) (e : left ≡ hs) where
   -- the machine has this reply, and leaves what the allocator does
   abbrev Agrees : Outcome → Type 0
   Agrees o = (r ≡ o.reply) × IsAtState w left o.state

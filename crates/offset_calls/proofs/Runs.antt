@@ -2,7 +2,7 @@
 use Rattle.offset_calls.proofs.Common.{◌≡◌, ℕ, ◌+◌, ◌-◌, ◌<◌, ◌≤◌, ◌⊎◌, ◌&&◌, ◌||◌, Bool, true, false, not, List, [], ◌∷◌, ◌++◌, map, length, sum, Option, Some, None, option_map, nat_eq, nat_lt}
 use Rattle.offset_calls.proofs.Common.{nat_le}
 use Rattle.offset_calls.proofs.Common.{if◌then◌else◌, refl, sym, ap, ap₂, subst, ◌∙◌, inl, inr, arith, append-nil, append_assoc, length-append, cases_lt, cases_eq, true≢false, false≢true, drop}
-use Rattle.offset_calls.proofs.Common.{leb-true, leb-false, Block, one, IsApart, total, is_free, Tag}
+use Rattle.offset_calls.proofs.Common.{leb-true, leb-false, Block, one, AreCoalesced, total, is_free, Tag}
 use Rattle.std.proofs.lemmas.Bool.Decides.{nat_tests}
 use Rattle.std.proofs.lemmas.List.{append_cancel_left}
 use Rattle.offset_allocator.specs.declared.room.RoomCost.{RoomCost}
@@ -63,7 +63,7 @@ ends_free_is (b ∷ c ∷ bs) s e = last c bs e
     last c [] e = ap not e
     last c (d ∷ bs) e = last d bs e
 
-module _ (want : ℕ) (bs : List Block) (apart : IsApart bs) where
+module _ (want : ℕ) (bs : List Block) (apart : AreCoalesced bs) where
   -- of two of them none begins before the other
   not_before : (f r b f' r' b' : List Block) → IsChosen want bs f r b → IsChosen want bs f' r' b' → (z : Block) (zs : List Block) → f' ≡ f ++ z ∷ zs → ⊥
   not_before f r b f' r' b' h k z zs e =
@@ -76,7 +76,7 @@ module _ (want : ℕ) (bs : List Block) (apart : IsApart bs) where
   not_longer : (f r b r' b' : List Block) → IsChosen want bs f r b → IsChosen want bs f r' b' → (z : Block) (zs : List Block) → r ≡ r' ++ z ∷ zs → ⊥
   not_longer f r b r' b' h k z zs e =
       let whole : bs ≡ f ++ (r' ++ ((z ∷ zs) ++ b)) = h.is ∙ ap (λ l. f ++ l) (ap (λ l. l ++ b) e ∙ append_assoc r' (z ∷ zs) b) in
-      let parts = apart_parts r' ((z ∷ zs) ++ b) (apart_parts f (r' ++ ((z ∷ zs) ++ b)) (subst IsApart whole apart)).1 in
+      let parts = apart_parts r' ((z ∷ zs) ++ b) (apart_parts f (r' ++ ((z ∷ zs) ++ b)) (subst AreCoalesced whole apart)).1 in
       let used : not z.used ≡ false = right_false (ends_free r') (not z.used) parts.2 (ends_free_is r' k.begins k.ends) in
       let more : 1 ≤ one z.used = go z.used used in
       let at_most = subst (λ l. IsAtMost (cost_of l) (cost_of r')) e (h.least r' (run_of k) k.serves) in
@@ -347,7 +347,7 @@ pub record IsLabelledRun (want : ℕ) (ls : List Label) (front run back : List B
   pub found : cheapest want (tags ls) ≡ Some (record { front = tags f; run = tags r; back = tags b })
 
 -- the run that slides is the one that the machine finds
-pub chosen_is : (want : ℕ) (ls : List Label) → IsApart (names ls) → (front run back : List Block) → IsChosen want (names ls) front run back → IsLabelledRun want ls front run back
+pub chosen_is : (want : ℕ) (ls : List Label) → AreCoalesced (names ls) → (front run back : List Block) → IsChosen want (names ls) front run back → IsLabelledRun want ls front run back
 chosen_is want ls apart front run back h = go (cheapest want (tags ls)) refl (best want ls)
   where
     go : (o : Option Split) → cheapest want (tags ls) ≡ o → IsBest want ls o → IsLabelledRun want ls front run back

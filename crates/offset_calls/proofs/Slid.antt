@@ -1,6 +1,6 @@
 -- The moves that make room, as a closure collects them, and the numbers of the ranges that move.
 use Rattle.offset_calls.proofs.Common.{◌≡◌, ℕ, ◌+◌, ◌<◌, Bool, true, false, List, [], ◌∷◌, ◌++◌, map, length, get_or, All, Option, Some, None, zero, suc, refl, sym, ap, subst, ◌∙◌, arith}
-use Rattle.offset_calls.proofs.Common.{inl, inr, append_assoc, append-nil, cases_eq, AllByRecursion, FoldsTo, Block, Grant, View, kept_name, AreNumbered}
+use Rattle.offset_calls.proofs.Common.{inl, inr, append_assoc, append-nil, cases_eq, AllByRecursion, FoldsTo, Block, Handle, View, kept_name, AreNumbered}
 use Rattle.offset_allocator.specs.declared.room.RoomCost.{RoomCost}
 use Rattle.offset_allocator.specs.Compacting.{Move, moves, move_of}
 use Rattle.offset_allocator.specs.Room.{MakesRoom}
@@ -101,12 +101,12 @@ module _ (P : ℕ → Type 0) where
         noted_named _ [] xs t.2 tt (moves_named _ _ t.0.run (all_split t.0.run t.0.back parts.1).0)
   ]
 
-  slides_named : (ss : List (Grant × Moved)) → AllByRecursion (λ (m : Move). P m.name) (map named_move ss) → AllByRecursion (λ (s : Grant × Moved). P s.0.name) ss
+  slides_named : (ss : List (Handle × Moved)) → AllByRecursion (λ (m : Move). P m.name) (map named_move ss) → AllByRecursion (λ (s : Handle × Moved). P s.0.name) ss
   slides_named [] a = tt
   slides_named (s ∷ ss) a = (a.0, slides_named ss a.1)
 
-  pub all_slides : (want : ℕ) (v w : View) (c : Option RoomCost) (ss : List (Grant × Moved)) → MakesRoom Notes want v [] c w (map named_move ss)
-      → AllByRecursion (λ (b : Block). b.used ≡ true → P b.name) v.blocks → AllByRecursion (λ (s : Grant × Moved). P s.0.name) ss
+  pub all_slides : (want : ℕ) (v w : View) (c : Option RoomCost) (ss : List (Handle × Moved)) → MakesRoom Notes want v [] c w (map named_move ss)
+      → AllByRecursion (λ (b : Block). b.used ≡ true → P b.name) v.blocks → AllByRecursion (λ (s : Handle × Moved). P s.0.name) ss
   all_slides want v w c ss m a = slides_named ss (room_named want v w c (map named_move ss) m a)
 
 -- each of a list, by its place
@@ -116,13 +116,13 @@ each_at P (x ∷ xs) a zero d l = a.0
 each_at P (x ∷ xs) a (suc i) d l = each_at P xs a.1 i d (omega (arith, l))
 
 -- moves with the numbers of their names
-pub all_numbered : (hs : List (Option Grant)) (number : ℕ → ℕ) → ((k x : ℕ) → kept_name hs k ≡ Some x → number x ≡ k) → (ss : List (Grant × Moved))
-    → AllByRecursion (λ (s : Grant × Moved). (k : ℕ) × (kept_name hs k ≡ Some s.0.name)) ss → AreNumbered hs (map named_move ss) (map (numbered_move number) ss)
+pub all_numbered : (hs : List (Option Handle)) (number : ℕ → ℕ) → ((k x : ℕ) → kept_name hs k ≡ Some x → number x ≡ k) → (ss : List (Handle × Moved))
+    → AllByRecursion (λ (s : Handle × Moved). (k : ℕ) × (kept_name hs k ≡ Some s.0.name)) ss → AreNumbered hs (map named_move ss) (map (numbered_move number) ss)
 all_numbered hs number each [] a = tt
 all_numbered hs number each (s ∷ ss) a = (ap (kept_name hs) (each a.0.0 s.0.name a.0.1) ∙ a.0.1, refl, refl, refl, all_numbered hs number each ss a.1)
 
 -- one more move of a loop over slides
-pub one_more : (number : ℕ → ℕ) (ss : List (Grant × Moved)) (found left : List Moved) (i : ℕ) (d d' : Grant × Moved) (n : ℕ) → i < length ss
+pub one_more : (number : ℕ → ℕ) (ss : List (Handle × Moved)) (found left : List Moved) (i : ℕ) (d d' : Handle × Moved) (n : ℕ) → i < length ss
     → map move_view found ++ map (numbered_move number) (drop i ss) ≡ map (numbered_move number) ss
     → left ≡ found ++ record { number = n; from = (get_or ss i d).1.from; to = (get_or ss i d).1.to; size = (get_or ss i d).1.size } ∷ [] → n ≡ number (get_or ss i d').0.name
     → map move_view left ++ map (numbered_move number) (drop (i + 1) ss) ≡ map (numbered_move number) ss
@@ -132,7 +132,7 @@ one_more number ss found left i d d' n l e more is =
     let m : Moved = record { number = n; from = s.1.from; to = s.1.to; size = s.1.size } in
     let rest : f s ∷ map f (drop (i + 1) ss) ≡ map f (drop i ss) = ap (λ k. f s ∷ map f (drop k ss)) (add-one i) ∙ ap (map f) (sym (drop-cons ss i d l)) in
     let front : map move_view left ≡ map move_view found ++ move_view m ∷ [] = ap (map move_view) more ∙ map-append move_view found (m ∷ []) in
-    let named : n ≡ number s.0.name = is ∙ ap (λ (t : Grant × Moved). number t.0.name) (get_or_default ss i d' d l) in
+    let named : n ≡ number s.0.name = is ∙ ap (λ (t : Handle × Moved). number t.0.name) (get_or_default ss i d' d l) in
     let same : move_view m ≡ f s = ap (λ (k : ℕ). record { number = k; from = s.1.from; to = s.1.to; size = s.1.size }) named in
     ap (λ k. k ++ map f (drop (i + 1) ss)) front ∙ append_assoc (map move_view found) (move_view m ∷ []) (map f (drop (i + 1) ss))
     ∙ ap (λ x. map move_view found ++ x ∷ map f (drop (i + 1) ss)) same ∙ ap (λ k. map move_view found ++ k) rest ∙ e
@@ -140,7 +140,7 @@ one_more number ss found left i d d' n l e more is =
 -- ---- the step
 
 -- room is made, with the moves that were collected
-pub room_takes : (want : ℕ) (v w : View) (c : Option RoomCost) (hs : List (Option Grant)) (number : ℕ → ℕ) (ss : List (Grant × Moved)) (ms : List Numbered)
+pub room_takes : (want : ℕ) (v w : View) (c : Option RoomCost) (hs : List (Option Handle)) (number : ℕ → ℕ) (ss : List (Handle × Moved)) (ms : List Numbered)
     → ((k x : ℕ) → kept_name hs k ≡ Some x → number x ≡ k) → IsLeastCost want v.blocks c → IsMade want v c w (map named_move ss) → AreKept v hs
     → ms ≡ map (numbered_move number) ss → TakesRoom want v hs w (Made_room c ms)
 room_takes want v w c hs number ss ms each least makes kept is = (
@@ -154,11 +154,11 @@ room_takes want v w c hs number ss ms each least makes kept is = (
 )
 
 -- each range that moves has a live name then
-pub slides_live : (want : ℕ) (v w : View) (c : Option RoomCost) (hs : List (Option Grant)) (ss : List (Grant × Moved)) (P : ℕ → Type 0) → ((k x : ℕ) → kept_name hs k ≡ Some x → P x)
-    → IsMade want v c w (map named_move ss) → AreKept v hs → All (λ (s : Grant × Moved). P s.0.name) ss
-slides_live want v w c hs ss P each makes kept = each_at (λ (s : Grant × Moved). P s.0.name) ss (also ss (all_slides (λ x. (k : ℕ) × (kept_name hs k ≡ Some x)) want v w c ss makes.made kept))
+pub slides_live : (want : ℕ) (v w : View) (c : Option RoomCost) (hs : List (Option Handle)) (ss : List (Handle × Moved)) (P : ℕ → Type 0) → ((k x : ℕ) → kept_name hs k ≡ Some x → P x)
+    → IsMade want v c w (map named_move ss) → AreKept v hs → All (λ (s : Handle × Moved). P s.0.name) ss
+slides_live want v w c hs ss P each makes kept = each_at (λ (s : Handle × Moved). P s.0.name) ss (also ss (all_slides (λ x. (k : ℕ) × (kept_name hs k ≡ Some x)) want v w c ss makes.made kept))
   where
-    also : (ss : List (Grant × Moved)) → AllByRecursion (λ (s : Grant × Moved). (k : ℕ) × (kept_name hs k ≡ Some s.0.name)) ss → AllByRecursion (λ (s : Grant × Moved). P s.0.name) ss
+    also : (ss : List (Handle × Moved)) → AllByRecursion (λ (s : Handle × Moved). (k : ℕ) × (kept_name hs k ≡ Some s.0.name)) ss → AllByRecursion (λ (s : Handle × Moved). P s.0.name) ss
     also [] a = tt
     also (s ∷ ss) a = (each a.0.0 s.0.name a.0.1, also ss a.1)
 

@@ -1,10 +1,10 @@
 -- The handles of tickets, and what each call leaves of them.
 use Rattle.offset_calls.proofs.Common.{◌≡◌, ◌≢◌, ℕ, zero, suc, ◌+◌, ◌<◌, Bool, ◌&&◌, List, [], ◌∷◌, ◌++◌, length, Option, Some, None, IfSome, is_some, nat_eq, slice_get, slice_index_or, slice_set}
-use Rattle.offset_calls.proofs.Common.{option_map, if◌then◌else◌, refl, sym, ap, ap₂, subst, ◌∙◌, inl, inr, arith, length-append, false≢true, map-append, length-map, Grant, View, Ticket, Guard}
-use Rattle.offset_calls.proofs.Common.{AreAlike, Grants, IsLive, IsSame, KeepsAll, KeepsLive, KeepsOthers, KeepsSerials, KeepsSizes, grant_of, range_of, serial_of, Extends, Frees, Resets, Command}
+use Rattle.offset_calls.proofs.Common.{option_map, if◌then◌else◌, refl, sym, ap, ap₂, subst, ◌∙◌, inl, inr, arith, length-append, false≢true, map-append, length-map, Handle, View, Ticket, Guard}
+use Rattle.offset_calls.proofs.Common.{AreAlike, Grants, IsLive, IsSame, KeepsAll, KeepsLive, KeepsOthers, KeepsSerials, KeepsSizes, handle_in, range_of, serial_of, Extends, Frees, Resets, Command}
 use Rattle.offset_calls.proofs.Common.{kept_name, IsKept, blocks_needed, units_needed, Call, Answer, Refused_for, renumber, IsReason, AreInOrder, IsGrown, IsLedger, IsStored, Serves, IsNumberOf}
 use Rattle.offset_calls.proofs.Common.{handle_of, handles_of, live_name, ticket_of}
-use Rattle.offset_allocator.specs.{View.free_sizes, Reports.rows_below, declared.reports.Refusal.Refusal}
+use Rattle.offset_allocator.specs.{View.free_sizes, FreeSizes.rows_below, declared.reports.Refusal.Refusal}
 use Rattle.offset_guarded.proofs.Guards.{live_fits}
 use Rattle.offset_script.proofs.Simulation.{if_some}
 use Rattle.offset_allocator.specs.Ranges as named
@@ -29,8 +29,8 @@ order-append realm n (x ∷ ts) t o s r = (o.0, o.1, order-append realm (n + 1) 
 -- ---- handles
 
 -- the handle of a ticket, if it is live
-abbrev handle_if : Bool → Ticket → Option Grant
-handle_if b t = if b then Some (grant_of t) else None
+abbrev handle_if : Bool → Ticket → Option Handle
+handle_if b t = if b then Some (handle_in t) else None
 
 -- handles stay where tickets do
 pub same_handles : (g h : Guard) (ts : List Ticket) → KeepsLive g h → handles_of h ts ≡ handles_of g ts
@@ -59,7 +59,7 @@ freed_handles g h t u realm n (x ∷ ts) zero o e a k gone =
 freed_handles g h t u realm n (x ∷ ts) (suc i) o e a k gone = search (arith, (freed_handles g h t u realm (n + 1) ts i o.2 e a k gone), is_some, in_order)
 
 -- one more ticket has one more handle
-pub more_handles : (size : ℕ) (g h : Guard) (ts : List Ticket) (t : Ticket) → IsLedger g ts → Grants size g h t → handles_of h (ts ++ t ∷ []) ≡ handles_of g ts ++ Some (grant_of t) ∷ []
+pub more_handles : (size : ℕ) (g h : Guard) (ts : List Ticket) (t : Ticket) → IsLedger g ts → Grants size g h t → handles_of h (ts ++ t ∷ []) ≡ handles_of g ts ++ Some (handle_in t) ∷ []
 more_handles size g h ts t is n =
     map-append (handle_of h) ts (t ∷ [])
     ∙ ap₂ (λ b l. l ++ handle_if b t ∷ []) (ap is_some n.range) (other_handles g h t g.realm 0 ts is.order n.others (λ i l d. let s = n.serial in let a = is.all in omega arith))
@@ -82,7 +82,7 @@ pub kept_of : (g : Guard) (ts : List Ticket) (k : ℕ) → kept_name (handles_of
 kept_of g ts zero = refl
 kept_of g ts (suc k) = at ts k
   where
-    at : (ts : List Ticket) (k : ℕ) → option_map (λ (h : Grant). h.name) (slice_index_or (handles_of g ts) k None) ≡ live_name (slice_get ts k) g
+    at : (ts : List Ticket) (k : ℕ) → option_map (λ (h : Handle). h.name) (slice_index_or (handles_of g ts) k None) ≡ live_name (slice_get ts k) g
     at [] k = refl
     at (t ∷ ts) zero = refl
     at (t ∷ ts) (suc k) = at ts k
@@ -113,7 +113,7 @@ same_live g h same t = search (arith, is_some, nat_eq)
 
 -- a request
 pub stored : (n : ℕ) (g h : Guard) (ts us : List Ticket) (r : Option Ticket) (a : machine.Answer) → IsLedger g ts → IfSome r (Grants n g h) → (r ≡ None → IsSame g h) → IsStored r ts us a
-    → IsKept (option_map grant_of r) (handles_of g ts) (handles_of h us) a × IsLedger h us × IsGrown ts us (Answer a) × (h.realm ≡ g.realm)
+    → IsKept (option_map handle_in r) (handles_of g ts) (handles_of h us) a × IsLedger h us × IsGrown ts us (Answer a) × (h.realm ≡ g.realm)
 stored n g h ts us None a is some none f = search (arith, same_handles, same_live, same_ledger)
 stored n g h ts us (Some t) a is some none f = (
   (ap (handles_of h) f.0 ∙ more_handles n g h ts t is some, f.1 ∙ ap (λ k. machine.Grant k t.offset) (sym (length-map us (handle_of h)))),
@@ -124,7 +124,7 @@ stored n g h ts us (Some t) a is some none f = (
 
 -- the live name of a live ticket
 pub live_named_by : (t : Ticket) (g : Guard) → IsLive t g → live_name (Some t) g ≡ Some t.name
-live_named_by t g h = ap (λ b. option_map (λ (h : Grant). h.name) (handle_if b t)) h
+live_named_by t g h = ap (λ b. option_map (λ (h : Handle). h.name) (handle_if b t)) h
 
 -- two live tickets with one name are of one grant
 pub alike : (t u : Ticket) (g : Guard) → IsLive t g → IsLive u g → u.name ≡ t.name → AreAlike u t

@@ -75,14 +75,14 @@ same_outline bs t l =
     one : (b : machine.Block) → is_free b.tag ≡ true → (n : ℕ) → b.size ≡ n → outline (machine.block n (Free t) ∷ []) ≡ outline (b ∷ [])
     one b f n e = ap₂ (λ m h. (m, h) ∷ []) (sym e) (sym (free_holder b.tag f))
 
-    cut : (b : machine.Block) → is_free b.tag ≡ true → (n : ℕ) → b.size ≡ n → 1 ≤ n → outline (machine.free_block n t) ≡ outline (b ∷ [])
+    cut : (b : machine.Block) → is_free b.tag ≡ true → (n : ℕ) → b.size ≡ n → 1 ≤ n → outline (machine.free_part n t) ≡ outline (b ∷ [])
     cut b f zero e l = absurd (omega arith)
     cut b f (suc n) e l = one b f (suc n) e
 
     same : (xs : List machine.Block) (b : machine.Block) → is_free b.tag ≡ true → 1 ≤ b.size → outline (xs ++ end_block xs b.size t) ≡ outline (xs ++ b ∷ [])
     same [] b f l = one b f b.size refl
     same (x ∷ xs) b f l =
-        map-append (λ (c : machine.Block). (c.size, holder c.tag)) (x ∷ xs) (machine.free_block b.size t)
+        map-append (λ (c : machine.Block). (c.size, holder c.tag)) (x ∷ xs) (machine.free_part b.size t)
         ∙ ap (λ o. outline (x ∷ xs) ++ o) (cut b f b.size refl l)
         ∙ sym (map-append (λ (c : machine.Block). (c.size, holder c.tag)) (x ∷ xs) (b ∷ []))
 

@@ -1,13 +1,13 @@
 -- The plain stamped machine over every call: beside the commands of a script, the calls that resize a range, compact
--- the space, make room for a request, take any free block that is large enough, and ask for an offset, for the reason of
--- a refusal, or for what room would cost. States and stamps are those of the script's machine.
+-- the space, make room for a request, take any free block that is large enough, grant a second range, take units off the
+-- end, and ask for an offset, for the reason of a refusal, for what room would cost, or for the live range beside one. States and stamps are those of the script's machine.
 use Rattle.std.specs.Prelude.{ℕ, ◌+◌, ◌-◌, max, Bool, true, false, not, ◌&&◌, ◌||◌, List, [], ◌∷◌, ◌++◌, length, map, sum, Option, Some, None, is_some, nat_eq, nat_lt, nat_le, if◌then◌else◌}
 use Rattle.std.specs.Int.{is_power_of_two}
 use Rattle.offset_allocator.specs.declared.reports.Refusal.{Refusal}
 use Rattle.offset_allocator.specs.declared.reports.Refusal.TheVariants.{Nodes, TooLarge, Space, Fragmented}
 use Rattle.offset_allocator.specs.Classes.{value, up}
 use Rattle.offset_script.specs.Grammar.{has_valid_alignment}
-use Rattle.offset_script.specs.Machine.{Tag, Live, Free, Block, block, is_free, total, free_sizes, Place, place_of, chosen_place, free_block, units_at_start, without_start, State, is_short_of}
+use Rattle.offset_script.specs.Machine.{Tag, Live, Free, Block, block, is_free, total, free_sizes, Place, place_of, chosen_place, free_part, units_at_start, without_start, State, is_short_of}
 use Rattle.offset_script.specs.Machine.{stamp_of_call, answer_view}
 use Rattle.offset_script.specs.Machine as machine
 use Rattle.offset_script.specs.Totals.{live}
@@ -79,7 +79,7 @@ can_grow n p = nat_le p.block.size n && nat_le n (p.block.size + units_at_start 
 -- a live block and the free block directly after it become n live units and a free block of the rest
 abbrev pub resized : ℕ → State → Place → Outcome
 resized n s p = remakes s (p.before ++ (block n p.block.tag
-    ∷ (free_block (p.block.size + units_at_start p.after - n) (stamp_of_call s) ++ without_start p.after))) Resized
+    ∷ (free_part (p.block.size + units_at_start p.after - n) (stamp_of_call s) ++ without_start p.after))) Resized
 
 -- a live block gets n units, where it can; nothing changes where it has as many
 abbrev pub resize : (Place → Bool) → ℕ → State → Option Place → Outcome

@@ -3,7 +3,7 @@
 use Rattle.std.specs.Prelude.{ℕ, zero, suc, ◌+◌, ◌-◌, Bool, false, List, [], ◌∷◌, ◌++◌, Option, Some, None}
 use Rattle.std.specs.Prelude.{nat_lt, nat_le, if◌then◌else◌}
 use Rattle.std.specs.Option.{option_or}
-use Rattle.offset_script.specs.Machine.{Tag, Live, Free, Block, block, total, free_block, units_at_end}
+use Rattle.offset_script.specs.Machine.{Tag, Live, Free, Block, block, total, free_part, units_at_end}
 use Rattle.offset_script.specs.Machine.{without_end, Place, State, Answer, Grant, Refused, Gone, Outcome}
 use Rattle.offset_script.specs.Machine.{returns_only, allocate}
 use Rattle.offset_calls.specs.declared.calls.LiveRange.{LiveRange}
@@ -28,7 +28,7 @@ can_retract n bs = nat_le n (units_at_end bs)
 -- a last free block of n units after others: nothing where n is 0, unless it is the only block
 abbrev pub end_block : List Block → ℕ → ℕ → List Block
 end_block [] n stamp = block n (Free stamp) ∷ []
-end_block (b ∷ bs) n stamp = free_block n stamp
+end_block (b ∷ bs) n stamp = free_part n stamp
 
 -- a list whose last block, where that is free, gives way to a free one of n units
 abbrev pub with_end : ℕ → ℕ → List Block → List Block

@@ -1,7 +1,7 @@
 -- What `play_calls` returns.
 use Rattle.std.specs.Prelude.{◌≡◌, ℕ, List}
 use Rattle.offset_script.specs.Machine.{start}
-use Rattle.offset_script.specs.Steps.{AreOfARun}
+use Rattle.offset_script.specs.Steps.{AreStepsFromFresh}
 use Rattle.offset_calls.specs.declared.calls.Call.{Call}
 use Rattle.offset_calls.specs.Calls.{Reply}
 use Rattle.offset_calls.specs.Calls as plain
@@ -11,5 +11,5 @@ use Rattle.offset_calls.specs.Steps.{Takes}
 pub record AreReplies (size limit : ℕ) (calls : List Call) (found : List Reply) : Type 0 where
   -- they are those of the plain machine
   pub replies : found ≡ plain.replies calls (start size limit)
-  -- they are those of a run of the allocator's named steps on a fresh space
-  pub run : AreOfARun Takes size limit calls found
+  -- they are those of the allocator's named steps on a fresh space, one after the other
+  pub steps : AreStepsFromFresh Takes size limit calls found

@@ -2,7 +2,7 @@
 use Rattle.std.specs.Prelude.{◌≡◌, ℕ, List, [], ◌∷◌, ◌++◌, Option}
 use Rattle.offset_allocator.specs.declared.room.RoomCost.{RoomCost}
 use Rattle.offset_allocator.specs.Room.{MakesRoom}
-use Rattle.offset_allocator.specs.View.{Grant, View}
+use Rattle.offset_allocator.specs.View.{Handle, View}
 use Rattle.offset_allocator.specs.Compacting as named
 use Rattle.offset_calls.specs.declared.calls.Moved.{Moved}
 use Rattle.offset_calls.specs.Calls.{Move}
@@ -16,9 +16,9 @@ pub record IsMade (want : ℕ) (v : View) (c : Option RoomCost) (w : View) (xs :
   pub made : MakesRoom Notes want v [] c w xs
 
 -- a move of the range that has this handle after it
-abbrev pub named_move : Grant × Moved → named.Move
+abbrev pub named_move : Handle × Moved → named.Move
 named_move s = record { name = s.0.name; from = s.1.from; to = s.1.to; size = s.1.size }
 
 -- the same with the number of its name
-abbrev pub numbered_move : (ℕ → ℕ) → Grant × Moved → Move
+abbrev pub numbered_move : (ℕ → ℕ) → Handle × Moved → Move
 numbered_move number s = record { number = number s.0.name; from = s.1.from; to = s.1.to; size = s.1.size }

@@ -2,7 +2,7 @@
 use Rattle.std.specs.Prelude.{◌≡◌, ◌≤◌, ◌↔◌, ℕ, Bool, true, List, [], ◌∷◌, length, Option, Some, None, IfSome, option_map, slice_index, if◌then◌else◌}
 use Rattle.std.specs.List.{AllByRecursion}
 use Rattle.offset_allocator.specs.declared.reports.Refusal.{Refusal}
-use Rattle.offset_allocator.specs.View.{View, Block, Grant}
+use Rattle.offset_allocator.specs.View.{View, Block, Handle}
 use Rattle.offset_allocator.specs.Ranges.{Range, range_of}
 use Rattle.offset_allocator.specs.Requests.{CanGrant, IsWhy, blocks_needed, units_needed}
 use Rattle.offset_allocator.specs.Resizing.{Shrinks, Grows}
@@ -37,7 +37,7 @@ joined (k ∷ ks) (m ∷ ms) = record { number = k; from = m.from; to = m.to; si
 joined ks ms = []
 
 -- the moves of a compaction, each with the number of the grant whose handle has its name
-abbrev pub AreNumbered : List (Option Grant) → List named.Move → List Move → Type 0
+abbrev pub AreNumbered : List (Option Handle) → List named.Move → List Move → Type 0
 AreNumbered handles [] [] = Unit {0}
 AreNumbered handles (m ∷ ms) (r ∷ rs) = (kept_name handles r.number ≡ Some m.name) × (r.from ≡ m.from) × (r.to ≡ m.to)
     × (r.size ≡ m.size) × AreNumbered handles ms rs
@@ -52,82 +52,82 @@ abbrev pub IsReasonTight : ℕ → ℕ → View → Option Refusal → Type 0
 IsReasonTight n align v r = (r ≡ None ↔ CanHold n align v) × IfSome r (IsWhyTight n align v)
 
 -- such a request, whose grant is kept, with this reply
-abbrev pub TakesTight : ℕ → ℕ → View → List (Option Grant) → View → List (Option Grant) → Reply → Type 0
-TakesTight n align v handles w left r = (g : Option Grant) × (a : machine.Answer) × AlignsTight n align v w g
-    × IsKept g handles left a × (r ≡ Answer a)
+abbrev pub TakesTight : ℕ → ℕ → View → List (Option Handle) → View → List (Option Handle) → Reply → Type 0
+TakesTight n align v handles w kept r = (g : Option Handle) × (a : machine.Answer) × AlignsTight n align v w g
+    × IsKept g handles kept a × (r ≡ Answer a)
 
 -- room is made for a request, and the moves are replied with the numbers of their grants
-abbrev pub TakesRoom : ℕ → View → List (Option Grant) → View → Reply → Type 0
+abbrev pub TakesRoom : ℕ → View → List (Option Handle) → View → Reply → Type 0
 TakesRoom want v handles w r = (c : Option RoomCost) × IsLeastCost want v.blocks c × (xs : List named.Move)
     × IsMade want v c w xs × (ms : List Move) × AreNumbered handles xs ms × (r ≡ Made_room c ms)
 
 -- a live range, or none, with the number of the grant whose handle has its name
-abbrev pub IsNumbered : List (Option Grant) → Option Grant → Option LiveRange → Type 0
+abbrev pub IsNumbered : List (Option Handle) → Option Handle → Option LiveRange → Type 0
 IsNumbered handles None None = Unit {0}
 IsNumbered handles (Some g) (Some r) = (kept_name handles r.number ≡ Some g.name) × (r.offset ≡ g.offset)
 IsNumbered handles g r = ⊥
 
 -- the reply to a question for this live range, or for none
-abbrev pub Finds : List (Option Grant) → Option Grant → Reply → Type 0
+abbrev pub Finds : List (Option Handle) → Option Handle → Reply → Type 0
 Finds handles g r = (found : Option LiveRange) × IsNumbered handles g found × (r ≡ Beside found)
 
 -- the step of a call from the view v to the view w, with this reply: the handles of the grants so far are those in
--- `handles` before it, and in `left` after it, that of grant k at k - 1 while the grant is live
-abbrev pub Takes : Call → View → List (Option Grant) → View → List (Option Grant) → Reply → Type 0
-Takes (call.Command c) v handles w left r = (a : machine.Answer) × script.Takes c v handles w left a × (r ≡ Answer a)
-Takes (call.Shrink k n) v handles w left r = IfNamed (kept_name handles k)
-    (λ x. (done : Bool) × Shrinks x n v w done × (left ≡ handles)
+-- `handles` before it, and in `kept` after it, that of grant k at k - 1 while the grant is live
+abbrev pub Takes : Call → View → List (Option Handle) → View → List (Option Handle) → Reply → Type 0
+Takes (call.Command c) v handles w kept r = (a : machine.Answer) × script.Takes c v handles w kept a × (r ≡ Answer a)
+Takes (call.Shrink k n) v handles w kept r = IfNamed (kept_name handles k)
+    (λ x. (done : Bool) × Shrinks x n v w done × (kept ≡ handles)
     × (r ≡ (if done then Resized else Answer machine.Refused)))
-    (Stays v handles w left × (r ≡ Answer machine.Gone))
-Takes (call.Grow k n) v handles w left r = IfNamed (kept_name handles k)
-    (λ x. (done : Bool) × Grows x n v w done × (left ≡ handles)
+    (Stays v handles w kept × (r ≡ Answer machine.Gone))
+Takes (call.Grow k n) v handles w kept r = IfNamed (kept_name handles k)
+    (λ x. (done : Bool) × Grows x n v w done × (kept ≡ handles)
     × (r ≡ (if done then Resized else Answer machine.Refused)))
-    (Stays v handles w left × (r ≡ Answer machine.Gone))
-Takes call.Compact v handles w left r = Compacts v w × (left ≡ handles)
+    (Stays v handles w kept × (r ≡ Answer machine.Gone))
+Takes call.Compact v handles w kept r = Compacts v w × (kept ≡ handles)
     × ((ms : List Move) × AreNumbered handles (moves 0 0 v.blocks) ms × (r ≡ Compacted ms))
-Takes (call.Offset k) v handles w left r = Stays v handles w left × IfNamed (kept_name handles k)
+Takes (call.Offset k) v handles w kept r = Stays v handles w kept × IfNamed (kept_name handles k)
     (λ x. (o : ℕ) × (option_map (λ (q : Range). q.offset) (range_of x v) ≡ Some o) × (r ≡ Offset o))
     (r ≡ Answer machine.Gone)
-Takes (call.Refusal n) v handles w left r = Stays v handles w left
+Takes (call.Refusal n) v handles w kept r = Stays v handles w kept
     × ((why : Option Refusal) × IsReason 1 n v why × (r ≡ Refused_for why))
-Takes (call.RefusalAligned n align) v handles w left r = Stays v handles w left
+Takes (call.RefusalAligned n align) v handles w kept r = Stays v handles w kept
     × ((why : Option Refusal) × IsReason (blocks_needed align) (units_needed n align) v why × (r ≡ Refused_for why))
-Takes (call.Tight n) v handles w left r = TakesTight n 1 v handles w left r
-Takes (call.TightAligned n align) v handles w left r = TakesTight n align v handles w left r
-Takes (call.RefusalTight n) v handles w left r = Stays v handles w left
+Takes (call.Tight n) v handles w kept r = TakesTight n 1 v handles w kept r
+Takes (call.TightAligned n align) v handles w kept r = TakesTight n align v handles w kept r
+Takes (call.RefusalTight n) v handles w kept r = Stays v handles w kept
     × ((why : Option Refusal) × IsReasonTight n 1 v why × (r ≡ Refused_for why))
-Takes (call.RefusalTightAligned n align) v handles w left r = Stays v handles w left
+Takes (call.RefusalTightAligned n align) v handles w kept r = Stays v handles w kept
     × ((why : Option Refusal) × IsReasonTight n align v why × (r ≡ Refused_for why))
-Takes (call.MakeRoom n) v handles w left r = TakesRoom (value (up n)) v handles w r × (left ≡ handles)
-Takes (call.RoomCost n) v handles w left r = Stays v handles w left
+Takes (call.MakeRoom n) v handles w kept r = TakesRoom (value (up n)) v handles w r × (kept ≡ handles)
+Takes (call.RoomCost n) v handles w kept r = Stays v handles w kept
     × ((c : Option RoomCost) × IsLeastCost (value (up n)) v.blocks c × (r ≡ Room_costs c))
-Takes (call.Relocate k) v handles w left r = IfNamed (kept_name handles k)
-    (λ x. (g : Option Grant) × (a : machine.Answer) × Relocates x v w g
-    × IsKept g handles left a × (r ≡ Answer a))
-    (Stays v handles w left × (r ≡ Answer machine.Gone))
-Takes (call.Retract n) v handles w left r = (done : Bool) × Retracts n v w done × (left ≡ handles)
+Takes (call.Relocate k) v handles w kept r = IfNamed (kept_name handles k)
+    (λ x. (g : Option Handle) × (a : machine.Answer) × Relocates x v w g
+    × IsKept g handles kept a × (r ≡ Answer a))
+    (Stays v handles w kept × (r ≡ Answer machine.Gone))
+Takes (call.Retract n) v handles w kept r = (done : Bool) × Retracts n v w done × (kept ≡ handles)
     × (r ≡ (if done then Resized else Answer machine.Refused))
-Takes call.First v handles w left r = Stays v handles w left × Finds handles (named_beside.first_live v) r
-Takes call.Last v handles w left r = Stays v handles w left × Finds handles (named_beside.last_live v) r
-Takes (call.Before k) v handles w left r = Stays v handles w left
+Takes call.First v handles w kept r = Stays v handles w kept × Finds handles (named_beside.first_live v) r
+Takes call.Last v handles w kept r = Stays v handles w kept × Finds handles (named_beside.last_live v) r
+Takes (call.Before k) v handles w kept r = Stays v handles w kept
     × IfNamed (kept_name handles k) (λ x. Finds handles (named_beside.live_before x v) r)
     (r ≡ Answer machine.Gone)
-Takes (call.After k) v handles w left r = Stays v handles w left
+Takes (call.After k) v handles w kept r = Stays v handles w kept
     × IfNamed (kept_name handles k) (λ x. Finds handles (named_beside.live_after x v) r)
     (r ≡ Answer machine.Gone)
 
 -- each used block has a handle that is kept
-abbrev pub AreKept : View → List (Option Grant) → Type 0
+abbrev pub AreKept : View → List (Option Handle) → Type 0
 AreKept v handles =
     AllByRecursion (λ (b : Block). b.used ≡ true → (k : ℕ) × (kept_name handles k ≡ Some b.name)) v.blocks
 
 -- a grant, if there is one, has the name of a handle that is kept
-abbrev pub IsKeptSome : List (Option Grant) → Option Grant → Type 0
-IsKeptSome handles o = (g : Grant) → o ≡ Some g → (k : ℕ) × (kept_name handles k ≡ Some g.name)
+abbrev pub IsKeptSome : List (Option Handle) → Option Handle → Type 0
+IsKeptSome handles o = (g : Handle) → o ≡ Some g → (k : ℕ) × (kept_name handles k ≡ Some g.name)
 
 -- No two handles that are kept have one name, and at the name of each of the first `read` that is kept is the number of
 -- its grant.
-pub record AreNumbers (handles : List (Option Grant)) (read : ℕ) (numbers : List ℕ) : Type 0 where
+pub record AreNumbers (handles : List (Option Handle)) (read : ℕ) (numbers : List ℕ) : Type 0 where
   pub within : read ≤ length handles
   pub apart : (j k x : ℕ) → kept_name handles j ≡ Some x → kept_name handles k ≡ Some x → j ≡ k
   pub numbered : (k x : ℕ) → k ≤ read → kept_name handles k ≡ Some x → slice_index numbers x ≡ k

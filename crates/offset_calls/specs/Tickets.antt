@@ -3,9 +3,9 @@ use Rattle.std.specs.Prelude.{◌≡◌, ℕ, zero, suc, ◌+◌, Bool, false, �
 use Rattle.std.specs.Prelude.{if◌then◌else◌}
 use Rattle.std.specs.List.{Contains}
 use Rattle.std.specs.Option.{option_map_or, option_or}
-use Rattle.offset_allocator.specs.View.{Grant}
+use Rattle.offset_allocator.specs.View.{Handle}
 use Rattle.offset_guarded.specs.declared.ticket.Ticket.{Ticket}
-use Rattle.offset_guarded.specs.Guard.{Guard, grant_of, range_of}
+use Rattle.offset_guarded.specs.Guard.{Guard, handle_in, range_of}
 use Rattle.offset_script.specs.declared.scripts.Command.{Command}
 use Rattle.offset_script.specs.declared.scripts.Command.TheVariants as command
 use Rattle.offset_script.specs.Steps.{kept_name}
@@ -65,11 +65,11 @@ IsGrantOf rs t = Contains rs (Answer (machine.Grant t.serial t.offset))
 -- ---- tickets that are kept
 
 -- the handle of a live ticket
-abbrev pub handle_of : Guard → Ticket → Option Grant
-handle_of g t = if is_some (range_of t g) then Some (grant_of t) else None
+abbrev pub handle_of : Guard → Ticket → Option Handle
+handle_of g t = if is_some (range_of t g) then Some (handle_in t) else None
 
 -- the handles of the grants so far, that of grant k at k - 1 while its ticket is live
-abbrev pub handles_of : Guard → List Ticket → List (Option Grant)
+abbrev pub handles_of : Guard → List Ticket → List (Option Handle)
 handles_of g ts = map (handle_of g) ts
 
 -- tickets of a realm, with the serials after n
@@ -84,7 +84,7 @@ pub record IsLedger (g : Guard) (ts : List Ticket) : Type 0 where
 
 -- the name of a ticket, if there is one and it is live
 abbrev pub live_name : Option Ticket → Guard → Option ℕ
-live_name o g = option_and_then (λ (t : Ticket). option_map (λ (h : Grant). h.name) (handle_of g t)) o
+live_name o g = option_and_then (λ (t : Ticket). option_map (λ (h : Handle). h.name) (handle_of g t)) o
 
 -- the grant of this number is live exactly if the ticket is, and then they have one name
 abbrev pub IsNumberOf : ℕ → Option Ticket → Guard → List Ticket → Type 0

@@ -3,7 +3,7 @@
 //!
 //! `offset_script` plays the commands of a script. Here `shrink`, `grow_in_place`, `compact`, `make_room`,
 //! `relocate`, `retract` and the tight requests, and the questions for an offset, for the reason of a
-//! refusal, for the cost of room and for the ranges beside one, are calls too. The answers are proved to be
+//! refusal, for the cost of room and for the ranges beside one, are calls too. The replies are proved to be
 //! those of the plain stamped list of blocks, which `specs/Calls.antt` extends by these calls, for every
 //! lawful layout and index type.
 #![tactic(auto)]

@@ -4,7 +4,7 @@ use Rattle.std.proofs.Common.{slice_set, if◌then◌else◌, refl, sym}
 use Rattle.std.proofs.Common.{ap, ap₂, subst, ◌∙◌, inl, inr, arith, eq-eqb, ne_eqb}
 use Rattle.std.proofs.lemmas.Bool.{cases_eq, eqb-true, and_parts}
 use Rattle.std.proofs.lemmas.List.{get_or-set_same, get_or-set_other}
-use Rattle.offset_allocator.specs.View.{Block, View, Grant, Place, IsWellFormed, count_named, place_of}
+use Rattle.offset_allocator.specs.View.{Block, View, Handle, Place, IsWellFormed, count_named, place_of}
 use Rattle.offset_allocator.specs.Ranges.{Range}
 use Rattle.offset_allocator.specs.Ranges as named
 use Rattle.offset_allocator.specs.Relations.{Aligns, Allocates}
@@ -81,13 +81,13 @@ pub cell_given : (made next t : Table) (y name x : ℕ) → next ≡ record made
 cell_given made next t y name x e same l given cells = search (arith, cell_set, nat_eq)
 
 -- a request leaves the node limit
-pub same_limit : (n align : ℕ) (v w : View) (h : Grant) → Aligns n align v w (Some h) → w.max_allocs ≡ v.max_allocs
+pub same_limit : (n align : ℕ) (v w : View) (h : Handle) → Aligns n align v w (Some h) → w.max_allocs ≡ v.max_allocs
 same_limit n align v w h t = ap (λ (z : View). z.max_allocs) t.1.view
 
-pub same_limit_plain : (n : ℕ) (v w : View) (h : Grant) → Allocates n v w (Some h) → w.max_allocs ≡ v.max_allocs
+pub same_limit_plain : (n : ℕ) (v w : View) (h : Handle) → Allocates n v w (Some h) → w.max_allocs ≡ v.max_allocs
 same_limit_plain n v w h t = ap (λ (z : View). z.max_allocs) t.1.view
 
-module _ (max n realm : ℕ) (v w : View) (t u : Table) (h : Grant) (is : IsGuarded max v t) (g : named.Grants n v w h)
+module _ (max n realm : ℕ) (v w : View) (t u : Table) (h : Handle) (is : IsGuarded max v t) (g : named.Grants n v w h)
     (cells : (x : ℕ) → cell x u.cells ≡ (if nat_eq x h.name then t.given + 1 else cell x t.cells)) (given : u.given ≡ t.given + 1) where
   here : (x : ℕ) → x ≡ h.name → cell x u.cells ≡ t.given + 1
   here x e = cells x ∙ ap (λ b. if b then t.given + 1 else cell x t.cells) (eq-eqb x h.name e)
@@ -128,7 +128,7 @@ pub can_hold : (n align : ℕ) (g h : Guard) → g ≡ h → g.given < last_seri
     → (true ≡ true → (h.given < last_serial) × CanHold n align h.space) × ((h.given < last_serial) × CanHold n align h.space → true ≡ true)
 can_hold n align g h shows left can = (λ e. subst (λ h. (h.given < last_serial) × CanHold n align h.space) shows (left, can), λ h. refl)
 
-pub same_limit_tight : (n align : ℕ) (v w : View) (h : Grant) → AlignsTight n align v w (Some h) → w.max_allocs ≡ v.max_allocs
+pub same_limit_tight : (n align : ℕ) (v w : View) (h : Handle) → AlignsTight n align v w (Some h) → w.max_allocs ≡ v.max_allocs
 same_limit_tight n align v w h (inl t) = same_limit n align v w h t
 same_limit_tight n align v w h (inr t) = ap (λ (z : View). z.max_allocs) t.1.1.3.view
 

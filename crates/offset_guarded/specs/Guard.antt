@@ -1,6 +1,6 @@
 -- What contracts see of a guarded allocator: which tickets are live, and what a call leaves of them.
 use Rattle.std.specs.Prelude.{codes, ◌≡◌, ℕ, ◌+◌, ◌<◌, ◌≤◌, Bool, ◌&&◌, List, Option, Some, None, IsSome, is_some, nat_eq, slice_index_or, if◌then◌else◌, option_map}
-use Rattle.offset_allocator.specs.View.{View, Grant}
+use Rattle.offset_allocator.specs.View.{View, Handle}
 use Rattle.offset_allocator.specs.Ranges.{Range}
 use Rattle.offset_allocator.specs.Ranges as named
 use Rattle.offset_allocator.specs.Relations.{SameSpace}
@@ -90,11 +90,11 @@ abbrev pub IsCopy : Guard → Guard → Type 0
 IsCopy g h = h ≡ record g { space = record g.space { accesses = 0 } }
 
 -- the handle of a ticket
-abbrev pub grant_of : Ticket → Grant
-grant_of t = record { name = t.name; offset = t.offset }
+abbrev pub handle_in : Ticket → Handle
+handle_in t = record { name = t.name; offset = t.offset }
 
 -- the ticket that a handle has now
-abbrev pub ticket_at : Grant → Guard → Ticket
+abbrev pub ticket_at : Handle → Guard → Ticket
 ticket_at h g = record { offset = h.offset; name = h.name; serial = serial_of h.name g; realm = g.realm }
 
 -- a serial is left for one more grant
@@ -111,7 +111,7 @@ pub record Grants (n : ℕ) (g h : Guard) (t : Ticket) : Type 0 where
   pub not_live : range_of t g ≡ None
   pub range : range_of t h ≡ Some (record { offset = t.offset; size = n })
   -- these lie in the space, and share no unit with a range that is live
-  pub space : named.Grants n g.space h.space (grant_of t)
+  pub space : named.Grants n g.space h.space (handle_in t)
   -- every other ticket has the range that it had
   pub others : KeepsOthers t g h
 

@@ -3,7 +3,7 @@
 ghost use Rattle.std.specs.Prelude.{◌≡◌, ◌↔◌, ◌+◌, ◌≤◌, None, false, IsTrue, option_map};
 ghost use Rattle.offset_allocator.specs.Beside.{first_live, last_live, live_after, live_before};
 ghost use Rattle.offset_allocator.specs.Retracting.{CanRetract, Retracts};
-ghost use Rattle.offset_allocator.specs.View.{Grant};
+ghost use Rattle.offset_allocator.specs.View.{Handle};
 ghost use Rattle.offset_guarded.specs.Guard.{IsLive, IsSame, KeepsAll, ticket_at};
 
 use crate::GuardedOf;
@@ -33,7 +33,7 @@ impl<T: Tables> GuardedOf<T> {
     /// assert_eq!(guarded.first_live(), mesh);
     /// ```
     pub fn first_live(&self) -> Option<Ticket>
-        ensures { result ≡ option_map (λ (h : Grant). ticket_at h self.now) (first_live self.now.space) }
+        ensures { result ≡ option_map (λ (h : Handle). ticket_at h self.now) (first_live self.now.space) }
     {
         match self.space.first_live() {
             None => None,
@@ -50,7 +50,7 @@ impl<T: Tables> GuardedOf<T> {
     /// assert_eq!(guarded.last_live(), texture);
     /// ```
     pub fn last_live(&self) -> Option<Ticket>
-        ensures { result ≡ option_map (λ (h : Grant). ticket_at h self.now) (last_live self.now.space) }
+        ensures { result ≡ option_map (λ (h : Handle). ticket_at h self.now) (last_live self.now.space) }
     {
         match self.space.last_live() {
             None => None,
@@ -68,7 +68,7 @@ impl<T: Tables> GuardedOf<T> {
     /// ```
     pub fn live_before(&self, ticket: Ticket) -> Option<Ticket>
         ensures before { IsLive ticket self.now → result
-            ≡ option_map (λ (h : Grant). ticket_at h self.now) (live_before ticket.name self.now.space) }
+            ≡ option_map (λ (h : Handle). ticket_at h self.now) (live_before ticket.name self.now.space) }
         ensures gone { (IsLive ticket self.now → ⊥) → result ≡ None }
     {
         match self.handle(ticket) {
@@ -90,7 +90,7 @@ impl<T: Tables> GuardedOf<T> {
     /// ```
     pub fn live_after(&self, ticket: Ticket) -> Option<Ticket>
         ensures after { IsLive ticket self.now → result
-            ≡ option_map (λ (h : Grant). ticket_at h self.now) (live_after ticket.name self.now.space) }
+            ≡ option_map (λ (h : Handle). ticket_at h self.now) (live_after ticket.name self.now.space) }
         ensures gone { (IsLive ticket self.now → ⊥) → result ≡ None }
     {
         match self.handle(ticket) {

@@ -6,12 +6,13 @@ ghost use Rattle.std.specs.Prelude.{length, nat_eq, option_map};
 ghost use Rattle.offset_allocator.specs.Ranges as named;
 ghost use Rattle.offset_allocator.specs.Ranges.{size_of};
 ghost use Rattle.offset_allocator.specs.Relocating.{Relocates, offset_of};
-ghost use Rattle.offset_allocator.specs.View.{bin_at, largest_free};
-ghost use Rattle.offset_allocator.specs.Relations.{Aligns, Allocates, IsAlignment};
+ghost use Rattle.offset_allocator.specs.View.{bin_at, reported_largest};
+ghost use Rattle.offset_allocator.specs.Relations.{Aligns, Allocates};
+ghost use Rattle.offset_allocator.specs.Requests.{IsAlignment};
 ghost use Rattle.offset_allocator.specs.Requests.{CanGrant, blocks_needed, units_needed};
 ghost use Rattle.offset_allocator.specs.Classes.{down};
 ghost use Rattle.offset_allocator.specs.Tight.{AlignsTight, CanHold, listed_from};
-ghost use Rattle.offset_guarded.specs.Guard.{Grants, IsLive, IsSame, IsWhy, IsWhyTight, cell, grant_of};
+ghost use Rattle.offset_guarded.specs.Guard.{Grants, IsLive, IsSame, IsWhy, IsWhyTight, cell, handle_in};
 ghost use Rattle.offset_guarded.specs.Guard.{last_serial};
 ghost use Rattle.offset_guarded.specs.Guard.{HasSerialLeft};
 
@@ -70,7 +71,7 @@ impl<T: Tables> GuardedOf<T> {
         // It is granted exactly when a serial is left and the allocator can grant it: for at least one unit,
         // when `size` is at most the reported `largest_free_region`.
         ensures granted { 1 ≤ size
-            → (IsSome result ↔ (HasSerialLeft self.old × (size ≤ largest_free self.old.space))) }
+            → (IsSome result ↔ (HasSerialLeft self.old × (size ≤ reported_largest self.old.space))) }
         ensures can_grant { IsSome result ↔ (HasSerialLeft self.old × CanGrant 1 size self.old.space) }
         // A grant has the next serial, and its ticket was not live. Its range has exactly `size` units, lies
         // in the space, and overlaps no live range. Every other ticket keeps its range, if it has one.
@@ -79,7 +80,7 @@ impl<T: Tables> GuardedOf<T> {
         ensures same { result ≡ None → IsSame self.old self.new }
         // The step of the allocator, where a serial is left.
         ensures step { HasSerialLeft self.old
-            → Allocates size self.old.space self.new.space (option_map grant_of result) }
+            → Allocates size self.old.space self.new.space (option_map handle_in result) }
         ensures accesses_max { self.new.space.accesses ≤ self.old.space.accesses + 64 }
     {
         if self.serials.is_spent() {
@@ -110,7 +111,7 @@ impl<T: Tables> GuardedOf<T> {
         ensures aligned { IfSome result (λ t. t.offset % align ≡ 0) }
         ensures same { result ≡ None → IsSame self.old self.new }
         ensures step { HasSerialLeft self.old
-            → Aligns size align self.old.space self.new.space (option_map grant_of result) }
+            → Aligns size align self.old.space self.new.space (option_map handle_in result) }
         ensures accesses_max { self.new.space.accesses ≤ self.old.space.accesses + 128 }
     {
         if self.serials.is_spent() {
@@ -140,9 +141,9 @@ impl<T: Tables> GuardedOf<T> {
         ensures grants { IfSome result (Grants size self.old self.new) }
         ensures same { result ≡ None → IsSame self.old self.new }
         ensures step { HasSerialLeft self.old
-            → AlignsTight size 1 self.old.space self.new.space (option_map grant_of result) }
+            → AlignsTight size 1 self.old.space self.new.space (option_map handle_in result) }
         ensures accesses_max { self.new.space.accesses
-            ≤ self.old.space.accesses + 140 + 6 * length (bin_at self.old.space.order (down size)) }
+            ≤ self.old.space.accesses + 140 + 6 * length (bin_at self.old.space.bins (down size)) }
     {
         if self.serials.is_spent() {
             return None;
@@ -171,9 +172,9 @@ impl<T: Tables> GuardedOf<T> {
         ensures aligned { IfSome result (λ t. t.offset % align ≡ 0) }
         ensures same { result ≡ None → IsSame self.old self.new }
         ensures step { HasSerialLeft self.old
-            → AlignsTight size align self.old.space self.new.space (option_map grant_of result) }
+            → AlignsTight size align self.old.space self.new.space (option_map handle_in result) }
         ensures accesses_max { self.new.space.accesses
-            ≤ self.old.space.accesses + 140 + 6 * length (listed_from (down size) self.old.space.order) }
+            ≤ self.old.space.accesses + 140 + 6 * length (listed_from (down size) self.old.space.bins) }
     {
         if self.serials.is_spent() {
             return None;
@@ -207,7 +208,7 @@ impl<T: Tables> GuardedOf<T> {
         ensures same { result ≡ None → IsSame self.old self.new }
         // The step of the allocator, where the ticket is live and a serial is left.
         ensures step { IsLive ticket self.old → HasSerialLeft self.old
-            → Relocates ticket.name self.old.space self.new.space (option_map grant_of result) }
+            → Relocates ticket.name self.old.space self.new.space (option_map handle_in result) }
         ensures accesses_max { self.new.space.accesses ≤ self.old.space.accesses + 80 }
     {
         let handle = self.handle(ticket)?;

@@ -1,8 +1,9 @@
 -- What a heap has room for.
 use Rattle.std.proofs.Common.{◌≡◌, ℕ, ◌+◌, ◌<◌, ◌≤◌, Bool, true, false, ◌&&◌, [], ◌∷◌, Option, Some, None, length, if◌then◌else◌, refl, ap, ◌∙◌, inl, inr, arith, eq-eqb, ne_eqb}
 use Rattle.std.proofs.lemmas.Bool.{cases_eq, cases_lt, lt-ltb, le-ltb}
-use Rattle.offset_allocator.specs.Reports.{largest}
-use Rattle.offset_allocator.specs.Requests.{CanGrant, HasRoomFor, IsReport}
+use Rattle.offset_allocator.specs.FreeSizes.{largest}
+use Rattle.offset_allocator.specs.Reports.{IsReport}
+use Rattle.offset_allocator.specs.Requests.{CanGrant, HasRoomFor}
 use Rattle.offset_allocator.specs.Relations.{IsFresh}
 use Rattle.offset_allocator.specs.View.{View, IsWellFormed, free_block, free_sizes}
 use Rattle.offset_allocator.specs.declared.reports.StorageReport.{StorageReport}

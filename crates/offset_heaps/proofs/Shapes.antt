@@ -1,19 +1,19 @@
 -- A heap that was made has the size and the node limit of its kind.
 use Rattle.std.proofs.Common.{◌≡◌, ℕ, ◌<◌, ◌≤◌, Option, Some, IfSome, refl, ap, ◌∙◌, subst, inl, inr, arith}
 use Rattle.offset_allocator.specs.Tight.{AlignsTight}
-use Rattle.offset_allocator.specs.View.{Grant, View}
-use Rattle.offset_guarded.specs.Guard.{Guard, grant_of}
+use Rattle.offset_allocator.specs.View.{Handle, View}
+use Rattle.offset_guarded.specs.Guard.{Guard, handle_in}
 use Rattle.offset_guarded.specs.declared.ticket.Ticket.{Ticket}
 use Rattle.offset_heaps.specs.declared.limits.Limits.{Limits}
 use Rattle.offset_heaps.specs.Heaps.{IsNew, IsOfKind, larger_limit}
 use Rattle.offset_heaps.specs.Slots.{Serves, ServesTight}
 use Rattle.offset_heaps.proofs.Sound.{kind_kept}
 
-size_tight : (n : ℕ) (v w : View) (h : Grant) → AlignsTight n 1 v w (Some h) → w.size ≡ v.size
+size_tight : (n : ℕ) (v w : View) (h : Handle) → AlignsTight n 1 v w (Some h) → w.size ≡ v.size
 size_tight n v w h (inl a) = ap (λ (v : View). v.size) a.1.view
 size_tight n v w h (inr f) = ap (λ (v : View). v.size) f.1.1.3.view
 
-limit_tight : (n : ℕ) (v w : View) (h : Grant) → AlignsTight n 1 v w (Some h) → w.max_allocs ≡ v.max_allocs
+limit_tight : (n : ℕ) (v w : View) (h : Handle) → AlignsTight n 1 v w (Some h) → w.max_allocs ≡ v.max_allocs
 limit_tight n v w h (inl a) = ap (λ (v : View). v.max_allocs) a.1.view
 limit_tight n v w h (inr f) = ap (λ (v : View). v.max_allocs) f.1.1.3.view
 
@@ -26,6 +26,6 @@ kind_usual limits k realm size align g o t l new by =
 pub kind_larger : (limits : Limits) (k realm size : ℕ) (g : Guard) (o : Option Guard) (t : Ticket) → limits.most ≤ k → 1 ≤ size → IsNew size larger_limit realm g → ServesTight size (Some g) o t
     → IfSome o (IsOfKind limits k)
 kind_larger limits k realm size g o t l some new by =
-    kind_kept limits k (Some g) o by.before by.after by.was by.is (size_tight size by.before.space by.after.space (grant_of t) by.step)
-    (limit_tight size by.before.space by.after.space (grant_of t) by.step)
+    kind_kept limits k (Some g) o by.before by.after by.was by.is (size_tight size by.before.space by.after.space (handle_in t) by.step)
+    (limit_tight size by.before.space by.after.space (handle_in t) by.step)
     (inr (l, let units = ap (λ (v : View). v.size) new.space.view in omega (arith, units, some), ap (λ (v : View). v.max_allocs) new.space.view))

@@ -1,7 +1,7 @@
 -- The live ranges of a heap, by their places.
 use Rattle.std.proofs.Common.{◌≡◌, ℕ, Option, Some, None, IsSome, option_map, refl, sym, ap, ◌∙◌, subst}
 use Rattle.offset_allocator.specs.Beside.{last_live, live_before}
-use Rattle.offset_allocator.specs.View.{Grant}
+use Rattle.offset_allocator.specs.View.{Handle}
 use Rattle.offset_guarded.specs.Guard as guarded
 use Rattle.offset_guarded.specs.Guard.{Guard, ticket_at}
 use Rattle.offset_guarded.specs.declared.ticket.Ticket.{Ticket}
@@ -12,16 +12,16 @@ use Rattle.offset_heaps.specs.Relocating.{last_place, place_before, place_in}
 abbrev pub placed : ℕ → ℕ → Ticket → Place
 placed k realm t = record { heap = k; realm = realm; ticket = t }
 
-fused : (k realm : ℕ) (g : Guard) (x : Option Grant) → option_map (placed k realm) (option_map (λ (h : Grant). ticket_at h g) x) ≡ option_map (place_in k realm g) x
+fused : (k realm : ℕ) (g : Guard) (x : Option Handle) → option_map (placed k realm) (option_map (λ (h : Handle). ticket_at h g) x) ≡ option_map (place_in k realm g) x
 fused k realm g None = refl
 fused k realm g (Some h) = refl
 
-pub last_of : (k realm : ℕ) (g : Guard) (o : Option Guard) (t : Option Ticket) (r : Option Place) → o ≡ Some g → t ≡ option_map (λ (h : Grant). ticket_at h g) (last_live g.space)
+pub last_of : (k realm : ℕ) (g : Guard) (o : Option Guard) (t : Option Ticket) (r : Option Place) → o ≡ Some g → t ≡ option_map (λ (h : Handle). ticket_at h g) (last_live g.space)
     → r ≡ option_map (placed k realm) t → r ≡ last_place k realm o
 last_of k realm g o t r there is made = made ∙ ap (option_map (placed k realm)) is ∙ fused k realm g (last_live g.space) ∙ sym (ap (last_place k realm) there)
 
 pub before_of : (k realm : ℕ) (u : Ticket) (g : Guard) (o : Option Guard) (t : Option Ticket) (r : Option Place) → o ≡ Some g
-    → t ≡ option_map (λ (h : Grant). ticket_at h g) (live_before u.name g.space) → r ≡ option_map (placed k realm) t → r ≡ place_before k realm u o
+    → t ≡ option_map (λ (h : Handle). ticket_at h g) (live_before u.name g.space) → r ≡ option_map (placed k realm) t → r ≡ place_before k realm u o
 before_of k realm u g o t r there is made =
     made ∙ ap (option_map (placed k realm)) is ∙ fused k realm g (live_before u.name g.space) ∙ sym (ap (place_before k realm u) there)
 

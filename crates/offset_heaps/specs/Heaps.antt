@@ -4,11 +4,11 @@ use Rattle.std.specs.Prelude.{slice_index_or, slice_set, max, sum, if◌then◌e
 use Rattle.offset_allocator.specs.Classes.{value, down}
 use Rattle.offset_allocator.specs.Ranges.{Range}
 use Rattle.offset_allocator.specs.Relations.{Aligns, Frees, IsFresh}
-use Rattle.offset_allocator.specs.Reports.{largest}
+use Rattle.offset_allocator.specs.FreeSizes.{largest}
 use Rattle.offset_allocator.specs.Requests.{blocks_needed, units_needed}
 use Rattle.offset_allocator.specs.Tight.{AlignsTight}
 use Rattle.offset_allocator.specs.View.{bin_at, free_sizes, used_of, used_units}
-use Rattle.offset_guarded.specs.Guard.{Guard, grant_of, last_serial}
+use Rattle.offset_guarded.specs.Guard.{Guard, handle_in, last_serial}
 use Rattle.offset_guarded.specs.Guard as guarded
 use Rattle.offset_guarded.specs.declared.ticket.Ticket.{Ticket}
 use Rattle.offset_heaps.specs.declared.place.Place.{Place}
@@ -128,10 +128,10 @@ pub record Grants (size align : ℕ) (hs ks : Heaps) (grant : Granted) : Type 0 
   pub before : Guard
   pub after : Guard
   pub heap : IsBefore size align hs grant before
-  pub step : (Aligns size align before.space after.space (Some (grant_of grant.place.ticket))
+  pub step : (Aligns size align before.space after.space (Some (handle_in grant.place.ticket))
       × (after.space.accesses ≤ before.space.accesses + 128))
-      ⊎ ((grant.is_new ≡ true) × AlignsTight size 1 before.space after.space (Some (grant_of grant.place.ticket))
-      × (after.space.accesses ≤ before.space.accesses + 140 + 6 * length (bin_at before.space.order (down size))))
+      ⊎ ((grant.is_new ≡ true) × AlignsTight size 1 before.space after.space (Some (handle_in grant.place.ticket))
+      × (after.space.accesses ≤ before.space.accesses + 140 + 6 * length (bin_at before.space.bins (down size))))
   pub grants : guarded.Grants size before after grant.place.ticket
   pub realm : grant.place.realm ≡ hs.realm
   pub number : grant.place.heap < length hs.slots

@@ -2,7 +2,7 @@
 use Rattle.std.specs.Prelude.{◌≡◌, ◌≢◌, ℕ, ◌+◌, ◌<◌, ◌≤◌, List, Option, Some, None, false, option_map, unwrap_or}
 use Rattle.offset_allocator.specs.Beside.{last_live, live_before}
 use Rattle.offset_allocator.specs.Ranges.{Range}
-use Rattle.offset_allocator.specs.View.{Grant, used_of}
+use Rattle.offset_allocator.specs.View.{Handle, used_of}
 use Rattle.offset_guarded.specs.Guard.{Guard, ticket_at}
 use Rattle.offset_guarded.specs.declared.ticket.Ticket.{Ticket}
 use Rattle.offset_heaps.specs.declared.place.Place.{Place}
@@ -60,7 +60,7 @@ abbrev pub NoneLive : ℕ → List (Option Guard) → Type 0
 NoneLive n slots = (k : ℕ) → k < n → HasLive (slot k slots) → ⊥
 
 -- the place that a handle has now in the heap of a number
-abbrev pub place_in : ℕ → ℕ → Guard → Grant → Place
+abbrev pub place_in : ℕ → ℕ → Guard → Handle → Place
 place_in k realm g h = record { heap = k; realm = realm; ticket = ticket_at h g }
 
 -- the place of the live range that is the last one in its heap

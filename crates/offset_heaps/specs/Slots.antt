@@ -4,7 +4,7 @@ use Rattle.offset_allocator.specs.Classes.{down}
 use Rattle.offset_allocator.specs.Relations.{Aligns, Frees, Resets}
 use Rattle.offset_allocator.specs.Tight.{AlignsTight, CanHold}
 use Rattle.offset_allocator.specs.View.{bin_at}
-use Rattle.offset_guarded.specs.Guard.{Guard, HasSerialLeft, grant_of}
+use Rattle.offset_guarded.specs.Guard.{Guard, HasSerialLeft, handle_in}
 use Rattle.offset_guarded.specs.Guard as guarded
 use Rattle.offset_guarded.specs.declared.ticket.Ticket.{Ticket}
 use Rattle.offset_heaps.specs.Heaps.{empties, is_empty, slot, range_in}
@@ -15,7 +15,7 @@ pub record Serves (size align : ℕ) (old new : Option Guard) (t : Ticket) : Typ
   pub after : Guard
   pub was : old ≡ Some before
   pub is : new ≡ Some after
-  pub step : Aligns size align before.space after.space (Some (grant_of t))
+  pub step : Aligns size align before.space after.space (Some (handle_in t))
   pub grants : guarded.Grants size before after t
   pub accesses : after.space.accesses ≤ before.space.accesses + 128
   pub aligned : t.offset % align ≡ 0
@@ -31,9 +31,9 @@ pub record ServesTight (size : ℕ) (old new : Option Guard) (t : Ticket) : Type
   pub after : Guard
   pub was : old ≡ Some before
   pub is : new ≡ Some after
-  pub step : AlignsTight size 1 before.space after.space (Some (grant_of t))
+  pub step : AlignsTight size 1 before.space after.space (Some (handle_in t))
   pub grants : guarded.Grants size before after t
-  pub accesses : after.space.accesses ≤ before.space.accesses + 140 + 6 * length (bin_at before.space.order (down size))
+  pub accesses : after.space.accesses ≤ before.space.accesses + 140 + 6 * length (bin_at before.space.bins (down size))
 
 -- every other ticket has the range that it had
 abbrev pub KeepsOthersIn : Ticket → Option Guard → Option Guard → Type 0

@@ -3,7 +3,7 @@
 ghost use Rattle.std.specs.Prelude.{ℕ, ◌≡◌, ◌↔◌, ◌+◌, ◌*◌, ◌%◌, ◌^◌, ◌<◌, ◌≤◌, ◌⊎◌, None, Some, Ok};
 ghost use Rattle.std.specs.Prelude.{Err, false, true, length};
 ghost use Rattle.std.specs.Prelude.{IsTrue, IfOk, IfErr, IfSome, MatchOption, OnErr};
-ghost use Rattle.offset_allocator.specs.Relations.{IsAlignment};
+ghost use Rattle.offset_allocator.specs.Requests.{IsAlignment};
 ghost use Rattle.offset_allocator.specs.Requests.{blocks_needed, units_needed};
 ghost use Rattle.offset_heaps.specs.Slots.{IsBelow};
 

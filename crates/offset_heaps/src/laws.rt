@@ -1,7 +1,7 @@
 //! Laws: what holds of all heaps. Its functions do nothing.
 ghost use Rattle.std.specs.Prelude.{ℕ, List, ◌≡◌, ◌+◌, ◌<◌, ◌≤◌, Some, IfSome, length};
 ghost use Rattle.offset_allocator.specs.Ranges.{AreDisjoint, Range};
-ghost use Rattle.offset_allocator.specs.Requests.{IsReport};
+ghost use Rattle.offset_allocator.specs.Reports.{IsReport};
 ghost use Rattle.offset_allocator.specs.declared.reports.StorageReport.{StorageReport};
 ghost use Rattle.offset_guarded.specs.Guard.{Guard, HasSerialLeft};
 ghost use Rattle.offset_heaps.specs.Heaps.{Heaps, room, AreAlike, heap_at, numbers, range_of};

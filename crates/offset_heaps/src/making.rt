@@ -1,7 +1,7 @@
 //! Heaps that are made for a request, which they grant at once. It touches nothing else.
 ghost use Rattle.std.specs.Prelude.{◌≡◌, ◌+◌, ◌<◌, ◌≤◌, IfOk, Some};
 ghost use Rattle.offset_allocator.specs.Classes.{down, value};
-ghost use Rattle.offset_allocator.specs.Relations.{IsAlignment};
+ghost use Rattle.offset_allocator.specs.Requests.{IsAlignment};
 ghost use Rattle.offset_allocator.specs.Requests.{units_needed};
 ghost use Rattle.offset_guarded.specs.Guard.{Guard};
 ghost use Rattle.offset_heaps.specs.Heaps.{IsNew, larger_limit};

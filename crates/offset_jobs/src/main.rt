@@ -2,7 +2,7 @@
 //! results.
 //!
 //! The words are the job, the seed, the number of rounds, and the size of a round's inputs. Each round has
-//! inputs of its own. `all` does every job of those. `docs/PERF.md` says how they are timed; `.ci/speed`
+//! inputs of its own. `all` does every job of those. `bench/README.md` says how they are timed; `.ci/speed`
 //! counts instructions, of some more jobs too (`rows`).
 #![tactic(auto)]
 

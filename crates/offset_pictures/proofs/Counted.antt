@@ -40,9 +40,9 @@ on w s (l ∷ ls) h = omega (
   on w s ls (All-tail IsOrdered (life_view l) (map life_view ls) h),
 )
 
-raised_by : (b : Bool) (c new : Count) (units : ℕ) → new ≡ (if b then raised c units else c) → (new.grants ≡ c.grants + (if b then 1 else 0)) × (new.units ≡ c.units + (if b then units else 0))
-raised_by true c new units e = (ap (λ x. x.grants) e, ap (λ x. x.units) e)
-raised_by false c new units e = (ap (λ x. x.grants) e ∙ sym (add-zero c.grants), ap (λ x. x.units) e ∙ sym (add-zero c.units))
+raised_by : (b : Bool) (c new : Count) (units : ℕ) → new ≡ (if b then raised c units else c) → (new.lives ≡ c.lives + (if b then 1 else 0)) × (new.units ≡ c.units + (if b then units else 0))
+raised_by true c new units e = (ap (λ x. x.lives) e, ap (λ x. x.units) e)
+raised_by false c new units e = (ap (λ x. x.lives) e ∙ sym (add-zero c.lives), ap (λ x. x.units) e ∙ sym (add-zero c.units))
 
 -- one more life
 pub counted_more : (test : Life → Bool) (ls : List Life) (i : ℕ) (d : Life) (c new : Count) → i < length ls → IsCount test (take i ls) c
@@ -50,7 +50,7 @@ pub counted_more : (test : Life → Bool) (ls : List Life) (i : ℕ) (d : Life) 
 counted_more test ls i d c new less h e =
     let r = raised_by (test (get_or ls i d)) c new (get_or ls i d).size e in
     record {
-      grants = omega (arith, r.0, h.grants, sum_by_more (λ l. if test l then 1 else 0) ls i d less);
+      lives = omega (arith, r.0, h.lives, sum_by_more (λ l. if test l then 1 else 0) ls i d less);
       units = omega (arith, r.1, h.units, sum_by_more (λ l. if test l then l.size else 0) ls i d less);
     }
 
@@ -59,19 +59,19 @@ at_most true x h = omega arith
 at_most false x h = omega arith
 
 -- a count of lives is not large
-pub few : (test : Life → Bool) (ls : List Life) (c : Count) → IsCount test ls c → All (λ l. l.size < 4294967296) ls → (c.grants ≤ length ls) × (c.units ≤ length ls * 4294967295)
+pub few : (test : Life → Bool) (ls : List Life) (c : Count) → IsCount test ls c → All (λ l. l.size < 4294967296) ls → (c.lives ≤ length ls) × (c.units ≤ length ls * 4294967295)
 few test ls c h sizes =
     let bounded : All (λ l. (if test l then l.size else 0) ≤ 4294967295) ls =
     All-weaker (λ l. l.size < 4294967296) (λ l. (if test l then l.size else 0) ≤ 4294967295) (λ l less. at_most (test l) l.size less) ls sizes in
-    (omega (arith, h.grants, count_by-le-length test ls), omega (arith, h.units, sum_by-le (λ l. if test l then l.size else 0) 4294967295 ls bounded))
+    (omega (arith, h.lives, count_by-le-length test ls), omega (arith, h.units, sum_by-le (λ l. if test l then l.size else 0) 4294967295 ls bounded))
 
 -- before the first call no life has begun, and none is on
 none_below : (key w : Life → ℕ) (ls : List Life) → sum_by (below key w 0) ls ≡ 0
 none_below key w [] = refl
 none_below key w (l ∷ ls) = let one : below key w 0 l ≡ 0 = grind (arith, nat_tests) in omega (arith, sum_by-cons (below key w 0) l ls, one, none_below key w ls)
 
-pub none_yet : (key : Life → ℕ) (ls : List Life) → IsCount (λ l. nat_lt (key l) 0) ls (record { grants = 0; units = 0 })
-none_yet key ls = record { grants = sym (none_below key (λ _. 1) ls); units = sym (none_below key (λ l. l.size) ls) }
+pub none_yet : (key : Life → ℕ) (ls : List Life) → IsCount (λ l. nat_lt (key l) 0) ls (record { lives = 0; units = 0 })
+none_yet key ls = record { lives = sym (none_below key (λ _. 1) ls); units = sym (none_below key (λ l. l.size) ls) }
 
 pub none_on : (w : Life → ℕ) (ls : List Life) → sum_by (λ l. if is_on 0 (life_view l) then w l else 0) ls ≡ 0
 none_on w [] = refl
@@ -81,18 +81,18 @@ none_on w (l ∷ ls) =
 
 -- the counts before a call, and those at it
 pub joins : (key : Life → ℕ) (s : ℕ) (ls given : List Life) (counts : List Count) (d g : Count) → given ≡ ls → IsCount (λ l. nat_lt (key l) s) ls g
-    → IsCount (λ l. nat_eq (key l) s) given (get_or counts s d) → d ≡ get_or counts s d → IsCount (λ l. nat_lt (key l) (s + 1)) ls (record { grants = g.grants + d.grants; units = g.units + d.units })
+    → IsCount (λ l. nat_eq (key l) s) given (get_or counts s d) → d ≡ get_or counts s d → IsCount (λ l. nat_lt (key l) (s + 1)) ls (record { lives = g.lives + d.lives; units = g.units + d.units })
 joins key s ls given counts d g same before here is =
     let h : IsCount (λ l. nat_eq (key l) s) ls d = subst (λ x. IsCount (λ l. nat_eq (key l) s) ls x) (sym is) (subst (λ x. IsCount (λ l. nat_eq (key l) s) x (get_or counts s d)) same here) in
     record {
-      grants = omega (arith, before.grants, h.grants, next key (λ _. 1) s ls);
+      lives = omega (arith, before.lives, h.lives, next key (λ _. 1) s ls);
       units = omega (arith, before.units, h.units, next key (λ l. l.size) s ls);
     }
 
 -- what is on, by the counts of what has begun and ended
 pub grants_on : (s : ℕ) (ls : List Life) (g e : Count) → All IsOrdered (map life_view ls) → IsCount (λ l. nat_lt l.first s) ls g → IsCount (λ l. nat_lt l.last s) ls e
-    → g.grants ≡ e.grants + count_by (λ l. is_on s (life_view l)) ls
-grants_on s ls g e h begun ended = omega (arith, begun.grants, ended.grants, on (λ _. 1) s ls h)
+    → g.lives ≡ e.lives + count_by (λ l. is_on s (life_view l)) ls
+grants_on s ls g e h begun ended = omega (arith, begun.lives, ended.lives, on (λ _. 1) s ls h)
 
 pub units_on : (s : ℕ) (ls : List Life) (g e : Count) → All IsOrdered (map life_view ls) → IsCount (λ l. nat_lt l.first s) ls g → IsCount (λ l. nat_lt l.last s) ls e
     → g.units ≡ e.units + sum_by (λ l. if is_on s (life_view l) then l.size else 0) ls

@@ -1,5 +1,5 @@
 -- The parts of a picture.
-use Rattle.std.proofs.Common.{◌≡◌, ℕ, List, [], ◌++◌, ◌∙◌, ap, append_assoc, refl, sym, Result, Ok, Err}
+use Rattle.std.proofs.Common.{◌≡◌, ℕ, List, [], ◌++◌, ◌∙◌, ap, Result, Ok, Err}
 use Rattle.std.specs.Prelude.{IfOk}
 
 -- the parts of a picture, in the order in which they are written
@@ -12,13 +12,13 @@ has_parts p₀ p₁ p₂ p₃ p₄ p₅ p₆ p₇ p₈ x₀ x₁ x₂ x₃ x₄ 
     ∙ ap (λ (x : List ℕ). x ++ p₆) (e₅
     ∙ ap (λ (x : List ℕ). x ++ p₅) (e₄ ∙ ap (λ (x : List ℕ). x ++ p₄) (e₃ ∙ ap (λ (x : List ℕ). x ++ p₃) (e₂ ∙ ap (λ (x : List ℕ). x ++ p₂) (e₁ ∙ ap (λ (x : List ℕ). x ++ p₁) e₀)))))))
 
--- the same, where the heading is written with its title
-pub has_title : (p₀ p₁ p₂ p₃ h e t p₇ p₈ x₀ x₁ x₂ x₃ x₆ x₇ x₈ : List ℕ)
-    → x₀ ≡ p₀ → x₁ ≡ x₀ ++ p₁ → x₂ ≡ x₁ ++ p₂ → x₃ ≡ x₂ ++ p₃ → x₆ ≡ x₃ ++ (h ++ e ++ t) → x₇ ≡ x₆ ++ p₇ → x₈ ≡ x₇ ++ p₈
-    → x₈ ≡ p₀ ++ p₁ ++ p₂ ++ p₃ ++ h ++ e ++ t ++ p₇ ++ p₈
-has_title p₀ p₁ p₂ p₃ h e t p₇ p₈ x₀ x₁ x₂ x₃ x₆ x₇ x₈ e₀ e₁ e₂ e₃ e₆ e₇ e₈ =
-    has_parts p₀ p₁ p₂ p₃ h e t p₇ p₈ x₀ x₁ x₂ x₃ (x₃ ++ h) (x₃ ++ h ++ e) x₆ x₇ x₈ e₀ e₁ e₂ e₃ refl refl
-    (e₆ ∙ sym (append_assoc x₃ (h ++ e) t) ∙ ap (λ o. o ++ t) (sym (append_assoc x₃ h e))) e₇ e₈
+-- the parts of a picture with its title
+pub has_title : (p₀ p₁ p₂ p₃ p₄ p₅ p₆ x₀ x₁ x₂ x₃ x₄ x₅ x₆ : List ℕ)
+    → x₀ ≡ p₀ → x₁ ≡ x₀ ++ p₁ → x₂ ≡ x₁ ++ p₂ → x₃ ≡ x₂ ++ p₃ → x₄ ≡ x₃ ++ p₄ → x₅ ≡ x₄ ++ p₅ → x₆ ≡ x₅ ++ p₆
+    → x₆ ≡ p₀ ++ p₁ ++ p₂ ++ p₃ ++ p₄ ++ p₅ ++ p₆
+has_title p₀ p₁ p₂ p₃ p₄ p₅ p₆ x₀ x₁ x₂ x₃ x₄ x₅ x₆ e₀ e₁ e₂ e₃ e₄ e₅ e₆ =
+    e₆ ∙ ap (λ (x : List ℕ). x ++ p₆) (e₅
+    ∙ ap (λ (x : List ℕ). x ++ p₅) (e₄ ∙ ap (λ (x : List ℕ). x ++ p₄) (e₃ ∙ ap (λ (x : List ℕ). x ++ p₃) (e₂ ∙ ap (λ (x : List ℕ). x ++ p₂) (e₁ ∙ ap (λ (x : List ℕ). x ++ p₁) e₀)))))
 
 -- the parts below the heading, of which the first is put after nothing
 pub has_all : (p₁ p₂ p₃ p₄ p₅ p₆ p₇ p₈ x₀ x₁ x₂ x₃ x₄ x₅ x₆ x₇ x₈ : List ℕ)

@@ -1,5 +1,5 @@
 -- A picture is well-formed XML.
-use Rattle.std.proofs.Common.{◌≡◌, ℕ, ◌+◌, ◌/◌, ◌∙◌, Bool, true, false, cond, List, [], ◌∷◌, ◌++◌, Option}
+use Rattle.std.proofs.Common.{◌≡◌, ℕ, ◌/◌, ◌∙◌, Bool, true, false, cond, List, [], ◌∷◌, ◌++◌, Option}
 use Rattle.std.proofs.Common.{Some, None, append-nil, append_assoc, ap, arith, codes, drop, length, map, nat_eq, nat_lt, refl, subst, sym}
 use Rattle.std.proofs.lemmas.Bool.Decides.{nat_tests}
 use Rattle.std.proofs.lemmas.Str.{scalars-chars}
@@ -15,27 +15,28 @@ use Rattle.offset_pictures.specs.Numerals.{pixels_text}
 use Rattle.offset_pictures.specs.Levels.{free_of, joined_of, most_of}
 use Rattle.offset_pictures.specs.Merging.{AreMerged}
 use Rattle.offset_pictures.specs.Picture.{IsBody, IsPictureOf, PicturesAreWellFormed, opening, style}
-use Rattle.offset_pictures.specs.Places.{shape_of}
+use Rattle.offset_pictures.specs.Plots.{bottom_of}
+use Rattle.offset_pictures.specs.Shapes.{shape_of}
 use Rattle.offset_pictures.specs.Rectangles.{ages_text, plain_of_age, titled_of_age}
-use Rattle.offset_pictures.specs.Titles.{escape, escaped, heading, is_in_xml, quarters}
+use Rattle.offset_pictures.specs.Titles.{escape, escaped, heading_text, is_shown, quarters}
 use Rattle.offset_pictures.specs.Xml.{IsContent, IsWellFormed, is_plain}
 use Rattle.offset_pictures.specs.Xml.IsContent.{nothing, characters, entity}
 use Rattle.offset_pictures.proofs.Formed.{and_both, both, joins, words}
 use Rattle.offset_pictures.proofs.Nested.{Attributes, InPieces, end, ◌⊙◌, none, one, Grows, ◌⊕◌, content, document, empty_tag, full_tag, in_pieces, literal, quoted}
 use Rattle.offset_pictures.proofs.Tagged.{at, axes_content, line_content, plain_content, refusals_content, titled_content}
-use Rattle.offset_pictures.proofs.Texts.{in_a_row, same_text}
+use Rattle.offset_pictures.proofs.Texts.{same_text}
 use Rattle.offset_pictures.proofs.Worded.{legend_content, notes_content}
 
 -- ---- the title
 
 -- a character that is written as it is
-as_it_is : (c : ℕ) → IsScalar c → nat_eq c 38 ≡ false → nat_eq c 60 ≡ false → nat_eq c 62 ≡ false → is_in_xml c ≡ true → is_plain c ≡ true
+as_it_is : (c : ℕ) → IsScalar c → nat_eq c 38 ≡ false → nat_eq c 60 ≡ false → nat_eq c 62 ≡ false → is_shown c ≡ true → is_plain c ≡ true
 as_it_is c s a b d x = grind (arith, nat_tests)
 
 one_character : (c : ℕ) → is_plain c ≡ true → IsContent (encode_utf8 c)
 one_character c h = subst IsContent (append-nil (encode_utf8 c)) (characters (encode_utf8 c) [] (c ∷ [], and_both (is_plain c) true h refl, append-nil (encode_utf8 c)) nothing)
 
-by_tests : (c : ℕ) (a b d e : Bool) → IsScalar c → nat_eq c 38 ≡ a → nat_eq c 60 ≡ b → nat_eq c 62 ≡ d → is_in_xml c ≡ e
+by_tests : (c : ℕ) (a b d e : Bool) → IsScalar c → nat_eq c 38 ≡ a → nat_eq c 60 ≡ b → nat_eq c 62 ≡ d → is_shown c ≡ e
     → IsContent (cond a (codes "&amp;") (cond b (codes "&lt;") (cond d (codes "&gt;") (cond e (encode_utf8 c) (codes " ")))))
 by_tests c true b d e s x y z w = entity (codes "amp") [] (0, omega arith, refl) nothing
 by_tests c false true d e s x y z w = entity (codes "lt") [] (1, omega arith, refl) nothing
@@ -47,7 +48,7 @@ are_escaped : (cs : List ℕ) → all_scalars cs ≡ true → IsContent (flat_ma
 are_escaped [] h = nothing
 are_escaped (c ∷ cs) h =
     let x = both _ (all_scalars cs) h in
-    joins (escape c) (flat_map escape cs) (by_tests c (nat_eq c 38) (nat_eq c 60) (nat_eq c 62) (is_in_xml c) x.0 refl refl refl refl) (are_escaped cs x.1)
+    joins (escape c) (flat_map escape cs) (by_tests c (nat_eq c 38) (nat_eq c 60) (nat_eq c 62) (is_shown c) x.0 refl refl refl refl) (are_escaped cs x.1)
 
 title_content : (title : List ℕ) → IsUtf8 title → IsContent (escaped title)
 title_content title h = are_escaped (chars title) (scalars-chars title h)
@@ -67,22 +68,22 @@ is_style =
 
 -- ---- the whole text
 
-are_grants : (b : Bool) (p : Plot) (ls : List Life) (calls : ℕ) (merged : Option ℕ) (text : List ℕ)
+are_written : (b : Bool) (p : Plot) (ls : List Life) (calls : ℕ) (merged : Option ℕ) (text : List ℕ)
     → MatchBool b ((shapes : List Shape) × AreMerged p ls shapes × (merged ≡ Some (length shapes)) × (text ≡ ages_text (plain_of_age shapes)))
     ((merged ≡ None) × (text ≡ ages_text (titled_of_age calls (map (shape_of p) ls) ls)))
     → IsContent text
-are_grants true p ls calls merged text x = subst IsContent (sym x.3) (plain_content x.0)
-are_grants false p ls calls merged text x = subst IsContent (sym x.1) (titled_content calls (map (shape_of p) ls) ls)
+are_written true p ls calls merged text x = subst IsContent (sym x.3) (plain_content x.0)
+are_written false p ls calls merged text x = subst IsContent (sym x.1) (titled_content calls (map (shape_of p) ls) ls)
 
 body_content : (c : Course) (text : List ℕ) → IsBody c text → IsContent text
 body_content c text x =
-    let p = x.above in
-    let q = x.below in
-    let base = q.units.start + q.units.span in
+    let p = x.ranges in
+    let q = x.reports in
+    let base = bottom_of q in
     subst IsContent (sym x.is)
     (joins _ _ (joins _ _ (joins _ _ (joins _ _ (joins _ _ (joins _ _ (joins _ _ (legend_content x.figures c.max_allocs p.units.most)
     (line_content (codes "out") p p.units.start c.sizes.items (quoted (codes "out") refl))) (axes_content p 6 12))
-    (are_grants (nat_lt 20000 (length c.lives.items)) p c.lives.items x.figures.calls x.merged x.grants x.are_grants)) (refusals_content p c.reports.items c.refused.items))
+    (are_written (nat_lt 20000 (length c.lives.items)) p c.lives.items x.figures.calls x.merged x.rectangles x.are_rectangles)) (refusals_content p c.reports.items c.refused.items))
     (joins _ _ (joins _ _ (line_content (codes "free") q base (map free_of c.reports.items) (quoted (codes "free") refl))
     (line_content (codes "joined") q base (map joined_of c.reports.items) (quoted (codes "joined") refl)))
     (line_content (codes "most") q base (map most_of c.reports.items) (quoted (codes "most") refl)))) (axes_content q 4 12)) (notes_content x.merged))
@@ -131,8 +132,7 @@ is_well_formed title c text u x =
     document (codes "svg") text refl are_svg
     (literal (codes "\n") refl ⊕ full_tag (codes "title") refl none (content t) ⊕ literal (codes "\n") refl ⊕ is_style
     ⊕ content (heading_content (nat_lt 256 width) (460800 / width) (escaped title) t) ⊕ content (body_content c x.body x.is_body))
-    (x.is ∙ sym (same_text opening (escaped title ∷ codes "</title>\n" ∷ style ∷ heading title ∷ escaped title ∷ codes "</text>\n" ∷ x.body ∷ codes "</svg>\n" ∷ []))
-    ∙ ap (λ z. in_a_row opening (escaped title ∷ codes "</title>\n" ∷ style ∷ z ∷ [])) (sym (three (heading title) (escaped title) (codes "</text>\n") (x.body ++ codes "</svg>\n"))))
+    (x.is ∙ sym (same_text opening (escaped title ∷ codes "</title>\n" ∷ style ∷ heading_text title ∷ x.body ∷ codes "</svg>\n" ∷ [])))
 
 pub xml_law : PicturesAreWellFormed
 xml_law title plan text u x = is_well_formed title x.course text u x.is_picture

@@ -3,8 +3,8 @@ use Rattle.std.proofs.Common.{ℕ, ◌+◌, ◌-◌, ◌*◌, ◌/◌, ◌<◌, 
 use Rattle.std.proofs.Math.Nat.{mul-le-mul_left}
 use Rattle.std.proofs.lemmas.Nat.{le-div}
 use Rattle.offset_pictures.specs.declared.axes.Axis.{Axis}
-use Rattle.offset_pictures.specs.Axes.{along}
-use Rattle.offset_pictures.specs.Marks.{height_of}
+use Rattle.offset_pictures.specs.Scales.{along}
+use Rattle.offset_pictures.specs.Axes.{y_of}
 
 quotient_rises : (a b m : ℕ) → 0 < m → a ≤ b → a / m ≤ b / m
 quotient_rises a b m pos h = le-div (a / m) b m pos (omega arith)
@@ -17,7 +17,7 @@ along_rises span most v w pos h =
 tenths_rise : (a b : ℕ) → a ≤ b → a / 10 * 10 ≤ b / 10 * 10
 tenths_rise a b h = omega (arith, quotient_rises a b 10 (omega arith) h)
 
-pub height_falls : (units : Axis) (v w : ℕ) → 0 < units.most → v ≤ w → height_of units w ≤ height_of units v
-height_falls units v w pos h =
+pub y_falls : (units : Axis) (v w : ℕ) → 0 < units.most → v ≤ w → y_of units w ≤ y_of units v
+y_falls units v w pos h =
     let further = along_rises units.span units.most v w pos h in
     tenths_rise (units.start + units.span - along units.span units.most w) (units.start + units.span - along units.span units.most v) (omega arith)

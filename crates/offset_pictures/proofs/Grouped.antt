@@ -7,8 +7,9 @@ use Rattle.offset_pictures.specs.declared.axes.Axis.{Axis}
 use Rattle.offset_pictures.specs.declared.step_lines.Group.{Group}
 use Rattle.offset_pictures.specs.declared.plots.Plot.{Plot}
 use Rattle.offset_pictures.specs.Numerals.{pixels_text}
-use Rattle.offset_pictures.specs.Marks.{column_of, column_text, height_of}
-use Rattle.offset_pictures.specs.StepLines.{after_equal, group_before, groups_from, groups_text, join_groups, mark_text, one_of_each, one_state, place_of, steps_text}
+use Rattle.offset_pictures.specs.StepLines.{column_of, column_text, group_before, groups_from, groups_text, join_groups, one_state, steps_text}
+use Rattle.offset_pictures.specs.Axes.{y_of, x_of}
+use Rattle.offset_pictures.specs.Marks.{after_equal, mark_text, one_of_each}
 
 -- ---- groups
 
@@ -57,7 +58,7 @@ before_other a b [] other = stays_before a b [] other
 before_other a b (h ∷ hs) other = stays_at (nat_eq b.left h.left) a b h hs other refl
 
 -- the states to come, one of which is this one
-next_state : (calls : Axis) (i v place : ℕ) (values : List ℕ) → i < length values → v ≡ get_or values i v → place ≡ place_of calls i
+next_state : (calls : Axis) (i v place : ℕ) (values : List ℕ) → i < length values → v ≡ get_or values i v → place ≡ x_of calls i
     → groups_from calls i (drop i values) ≡ group_before (one_state place v) (groups_from calls (i + 1) (drop (i + 1) values))
 next_state calls i v place values less is at =
     at_drop_more (groups_from calls i) values i v less
@@ -77,7 +78,7 @@ is_record next l x y z el ex ey ez =
     ap₂ (λ (a b : ℕ). record { left = a; least = b; most = next.most; last = next.last }) el ex ∙ ap₂ (λ (a b : ℕ). record { left = l; least = x; most = a; last = b }) ey ez
 
 -- a state that joins the open group, which is then `next`
-pub state_joins : (u calls : Axis) (i v place pen : ℕ) (group : Option Group) (g next : Group) (values out whole : List ℕ) → i < length values → v ≡ get_or values i v → place ≡ place_of calls i
+pub state_joins : (u calls : Axis) (i v place pen : ℕ) (group : Option Group) (g next : Group) (values out whole : List ℕ) → i < length values → v ≡ get_or values i v → place ≡ x_of calls i
     → g.left ≡ place
     → next.left ≡ g.left → next.least ≡ min v g.least → next.most ≡ max v g.most → next.last ≡ v → group ≡ Some g
     → out ++ groups_text u pen (opened group (groups_from calls i (drop i values))) ≡ whole
@@ -91,20 +92,20 @@ state_joins u calls i v place pen group g next values out whole less is at same 
     ∙ ap (λ o. out ++ groups_text u pen (opened o (groups_from calls i (drop i values)))) (sym started) ∙ before
 
 -- a state at another place, before which the open group is written
-pub state_begins : (u calls : Axis) (i v place pen : ℕ) (group : Option Group) (g : Group) (values out new whole : List ℕ) → i < length values → v ≡ get_or values i v → place ≡ place_of calls i
+pub state_begins : (u calls : Axis) (i v place pen : ℕ) (group : Option Group) (g : Group) (values out new whole : List ℕ) → i < length values → v ≡ get_or values i v → place ≡ x_of calls i
     → nat_eq g.left place ≡ false
     → new ≡ out ++ column_text (column_of u g) pen → group ≡ Some g → out ++ groups_text u pen (opened group (groups_from calls i (drop i values))) ≡ whole
-    → new ++ groups_text u (height_of u g.last) (opened (Some (one_state place v)) (groups_from calls (i + 1) (drop (i + 1) values))) ≡ whole
+    → new ++ groups_text u (y_of u g.last) (opened (Some (one_state place v)) (groups_from calls (i + 1) (drop (i + 1) values))) ≡ whole
 state_begins u calls i v place pen group g values out new whole less is at other put started before =
     let to_come : List Group = groups_from calls (i + 1) (drop (i + 1) values) in
-    ap (λ o. o ++ groups_text u (height_of u g.last) (group_before (one_state place v) to_come)) put
+    ap (λ o. o ++ groups_text u (y_of u g.last) (group_before (one_state place v) to_come)) put
     ∙ append_assoc out (column_text (column_of u g) pen) _
     ∙ ap (λ gs. out ++ groups_text u pen gs) (sym (before_other g (one_state place v) to_come other))
     ∙ ap (λ gs. out ++ groups_text u pen (group_before g gs)) (sym (next_state calls i v place values less is at))
     ∙ ap (λ o. out ++ groups_text u pen (opened o (groups_from calls i (drop i values)))) (sym started) ∙ before
 
 -- the first state
-pub state_is_first : (u calls : Axis) (i v place pen : ℕ) (group : Option Group) (values out whole : List ℕ) → i < length values → v ≡ get_or values i v → place ≡ place_of calls i → group ≡ None
+pub state_is_first : (u calls : Axis) (i v place pen : ℕ) (group : Option Group) (values out whole : List ℕ) → i < length values → v ≡ get_or values i v → place ≡ x_of calls i → group ≡ None
     → out ++ groups_text u pen (opened group (groups_from calls i (drop i values))) ≡ whole
     → out ++ groups_text u pen (opened (Some (one_state place v)) (groups_from calls (i + 1) (drop (i + 1) values))) ≡ whole
 state_is_first u calls i v place pen group values out whole less is at started before =

@@ -8,8 +8,9 @@ use Rattle.offset_script.specs.declared.scripts.Command.TheVariants as command
 use Rattle.offset_script.specs.Machine.{State, Answer, step, answers, start, is_short_of}
 use Rattle.offset_script.specs.Machine as machine
 use Rattle.offset_script.specs.Totals.{added_units, added_by}
-use Rattle.offset_pictures.specs.Growth.{is_refusal, refusals_from, refusals_of, AreSizes}
-use Rattle.offset_pictures.specs.Watching.{replace_full, replace_all_full}
+use Rattle.offset_pictures.specs.Refusals.{is_refusal, refused_calls, refused_calls_from}
+use Rattle.offset_pictures.specs.Course.{AreSizes}
+use Rattle.offset_pictures.specs.Watching.{replace_all_full, replace_full}
 use Rattle.offset_pictures.proofs.Quieter.{quiet_state}
 
 added_next : (cs : List Command) (s : State) (i : ℕ) (c : Command) (a : Answer) → i < length cs
@@ -24,11 +25,11 @@ pub added_more : (cs : List Command) (s : State) (i : ℕ) (c : Command) (a : An
 added_more cs s i c a less = rw (add-one i) (added_next cs s i c a less)
 
 refused_next : (k : ℕ) (given : List Answer) (i : ℕ) (a : Answer) → i < length given
-    → refusals_from k (take (suc i) given) ≡ refusals_from k (take i given) ++ (if is_refusal (get_or given i a) then (k + i) ∷ [] else [])
+    → refused_calls_from k (take (suc i) given) ≡ refused_calls_from k (take i given) ++ (if is_refusal (get_or given i a) then (k + i) ∷ [] else [])
 refused_next k [] i a less = absurd (omega arith)
 refused_next k (b ∷ given) zero a less = ap (λ n. if is_refusal b then n ∷ [] else []) (omega arith)
 refused_next k (b ∷ given) (suc i) a less = later (is_refusal b) k _ _ _
-    (refused_next (k + 1) given i a (omega arith) ∙ ap (λ n. refusals_from (k + 1) (take i given) ++ (if is_refusal (get_or given i a) then n ∷ [] else [])) (omega arith))
+    (refused_next (k + 1) given i a (omega arith) ∙ ap (λ n. refused_calls_from (k + 1) (take i given) ++ (if is_refusal (get_or given i a) then n ∷ [] else [])) (omega arith))
   where
     later : (b : Bool) (n : ℕ) (xs ys zs : List ℕ) → xs ≡ ys ++ zs → (if b then n ∷ xs else xs) ≡ (if b then n ∷ ys else ys) ++ zs
     later true n xs ys zs e = ap (λ l. n ∷ l) e
@@ -36,13 +37,13 @@ refused_next k (b ∷ given) (suc i) a less = later (is_refusal b) k _ _ _
 
 -- whether one more call is refused
 pub refused_more : (given : List Answer) (i : ℕ) (a : Answer) → i < length given
-    → refusals_from 0 (take (i + 1) given) ≡ refusals_from 0 (take i given) ++ (if is_refusal (get_or given i a) then i ∷ [] else [])
-refused_more given i a less = rw (add-one i) (refused_next 0 given i a less ∙ ap (λ n. refusals_from 0 (take i given) ++ (if is_refusal (get_or given i a) then n ∷ [] else [])) (zero-add i))
+    → refused_calls_from 0 (take (i + 1) given) ≡ refused_calls_from 0 (take i given) ++ (if is_refusal (get_or given i a) then i ∷ [] else [])
+refused_more given i a less = rw (add-one i) (refused_next 0 given i a less ∙ ap (λ n. refused_calls_from 0 (take i given) ++ (if is_refusal (get_or given i a) then n ∷ [] else [])) (zero-add i))
 
-pub refused_step : (given : List Answer) (i : ℕ) (a : Answer) (b : Bool) (old new : List ℕ) → i < length given → is_refusal (get_or given i a) ≡ b → old ≡ refusals_from 0 (take i given)
-    → new ≡ old ++ (if b then i ∷ [] else []) → new ≡ refusals_from 0 (take (i + 1) given)
+pub refused_step : (given : List Answer) (i : ℕ) (a : Answer) (b : Bool) (old new : List ℕ) → i < length given → is_refusal (get_or given i a) ≡ b → old ≡ refused_calls_from 0 (take i given)
+    → new ≡ old ++ (if b then i ∷ [] else []) → new ≡ refused_calls_from 0 (take (i + 1) given)
 refused_step given i a b old new less is before e =
-    e ∙ ap (λ l. l ++ (if b then i ∷ [] else [])) before ∙ ap (λ v. refusals_from 0 (take i given) ++ (if v then i ∷ [] else [])) (sym is) ∙ sym (refused_more given i a less)
+    e ∙ ap (λ l. l ++ (if b then i ∷ [] else [])) before ∙ ap (λ v. refused_calls_from 0 (take i given) ++ (if v then i ∷ [] else [])) (sym is) ∙ sym (refused_more given i a less)
 
 -- one more size
 pub size_pushed : (xs : List ℕ) (x i : ℕ) (f : ℕ → ℕ) → length xs ≡ i + 1 → ((k : ℕ) → k ≤ i → get_or xs k 0 ≡ f k) → x ≡ f (i + 1) → (k : ℕ) → k ≤ i + 1 → get_or (xs ++ x ∷ []) k 0 ≡ f k
@@ -98,10 +99,10 @@ quiet_sizes sizes size limit cs h =
     let n : length (replace_all_full cs) ≡ length cs = length-map cs replace_full in
     (omega (arith, h.0), λ i l. h.1 i (omega arith) ∙ ap (λ x. min (size + x) 4294967295) (quiet_added_by i cs (start size limit)))
 
-quiet_refused : (i : ℕ) (cs : List Command) (s : State) → refusals_from i (answers (replace_all_full cs) s) ≡ refusals_from i (answers cs s)
+quiet_refused : (i : ℕ) (cs : List Command) (s : State) → refused_calls_from i (answers (replace_all_full cs) s) ≡ refused_calls_from i (answers cs s)
 quiet_refused i [] s = refl
 quiet_refused i (c ∷ cs) s =
-    ap₂ (λ b l. if b then i ∷ l else l) (quiet_refusal c s) (ap (λ t. refusals_from (i + 1) (answers (replace_all_full cs) t)) (quiet_state c s) ∙ quiet_refused (i + 1) cs (step c s).state)
+    ap₂ (λ b l. if b then i ∷ l else l) (quiet_refusal c s) (ap (λ t. refused_calls_from (i + 1) (answers (replace_all_full cs) t)) (quiet_state c s) ∙ quiet_refused (i + 1) cs (step c s).state)
 
-pub quiet_refusals : (size limit : ℕ) (cs : List Command) → refusals_of size limit (replace_all_full cs) ≡ refusals_of size limit cs
+pub quiet_refusals : (size limit : ℕ) (cs : List Command) → refused_calls size limit (replace_all_full cs) ≡ refused_calls size limit cs
 quiet_refusals size limit cs = quiet_refused 0 cs (start size limit)

@@ -14,12 +14,12 @@ use Rattle.offset_pictures.specs.declared.plots.Plot.{Plot}
 use Rattle.offset_pictures.specs.declared.refusing.Refused.{Refused}
 use Rattle.offset_pictures.specs.declared.shapes.Shape.{Shape}
 use Rattle.offset_pictures.specs.Levels.{free_of, joined_of, most_of}
-use Rattle.offset_pictures.specs.Rectangles.{rectangle_text, title_text}
+use Rattle.offset_pictures.specs.Rectangles.{age_text, ages_text, AreRectangles, falling_below, frame_of, plain_of_age, rectangle_text, title_text, titled_of_age, titled_text}
 use Rattle.offset_pictures.specs.Merging.{AreMerged}
-use Rattle.offset_pictures.specs.Places.{frame_of, shape_of}
+use Rattle.offset_pictures.specs.Shapes.{shape_of}
 use Rattle.offset_pictures.specs.Reasons.{reasons_text}
-use Rattle.offset_pictures.specs.Rectangles.{AreGrants, age_text, ages_text, falling_below, plain_of_age, titled_of_age, titled_text}
-use Rattle.offset_pictures.specs.StepLines.{line_text, marks_text, refusals_text, reports_text}
+use Rattle.offset_pictures.specs.StepLines.{line_text, reports_text}
+use Rattle.offset_pictures.specs.Marks.{marks_text, refusals_text}
 
 -- what the group of an age holds
 abbrev pub held : Bool → ℕ → List Shape → List Life → ℕ → List ℕ
@@ -88,14 +88,14 @@ no_age_to_come h (suc n) out whole none before = absurd (omega arith)
 -- ---- what is written for many lives, and for few
 
 pub many_lives : (plot : Plot) (ls : List Life) (calls : ℕ) (shapes : List Shape) (merged : Option ℕ) → nat_lt 20000 (length ls) ≡ true → AreMerged plot ls shapes → merged ≡ Some (length shapes)
-    → AreGrants plot ls calls merged (ages_text (held (nat_lt 20000 (length ls)) calls shapes ls))
+    → AreRectangles plot ls calls merged (ages_text (held (nat_lt 20000 (length ls)) calls shapes ls))
 many_lives plot ls calls shapes merged many are is =
     subst (λ b. MatchBool b ((ss : List Shape) × AreMerged plot ls ss × (merged ≡ Some (length ss)) × (ages_text (held (nat_lt 20000 (length ls)) calls shapes ls) ≡ ages_text (plain_of_age ss)))
     ((merged ≡ None) × (ages_text (held (nat_lt 20000 (length ls)) calls shapes ls) ≡ ages_text (titled_of_age calls (map (shape_of plot) ls) ls)))) (sym many)
     (shapes, are, is, ap (λ b. ages_text (held b calls shapes ls)) many)
 
 pub few_lives : (plot : Plot) (ls : List Life) (calls : ℕ) (shapes : List Shape) (merged : Option ℕ) → nat_lt 20000 (length ls) ≡ false → shapes ≡ map (shape_of plot) ls → merged ≡ None
-    → AreGrants plot ls calls merged (ages_text (held (nat_lt 20000 (length ls)) calls shapes ls))
+    → AreRectangles plot ls calls merged (ages_text (held (nat_lt 20000 (length ls)) calls shapes ls))
 few_lives plot ls calls shapes merged few are is =
     subst (λ b. MatchBool b ((ss : List Shape) × AreMerged plot ls ss × (merged ≡ Some (length ss)) × (ages_text (held (nat_lt 20000 (length ls)) calls shapes ls) ≡ ages_text (plain_of_age ss)))
     ((merged ≡ None) × (ages_text (held (nat_lt 20000 (length ls)) calls shapes ls) ≡ ages_text (titled_of_age calls (map (shape_of plot) ls) ls)))) (sym few)

@@ -6,7 +6,7 @@ use Rattle.std.proofs.lemmas.List.Sums.{sum_by-cons}
 use Rattle.std.specs.Prelude.{sum}
 use Rattle.std.specs.List.{prefix_len, range_with_len}
 use Rattle.offset_allocator.specs.Classes.{value, down}
-use Rattle.offset_allocator.specs.Reports.{largest}
+use Rattle.offset_allocator.specs.FreeSizes.{largest}
 use Rattle.offset_allocator.proofs.Classes.{value_down, value_grows}
 use Rattle.offset_script.specs.declared.scripts.Command.{Command}
 use Rattle.offset_script.specs.Machine.{State, Report, free_sizes, is_short_of, report, start, step}

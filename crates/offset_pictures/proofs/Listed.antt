@@ -5,8 +5,8 @@ use Rattle.std.specs.Prelude.{filter}
 use Rattle.offset_pictures.specs.declared.living.Life.{Life}
 use Rattle.offset_pictures.specs.declared.plots.Plot.{Plot}
 use Rattle.offset_pictures.specs.declared.shapes.Shape.{Shape}
-use Rattle.offset_pictures.specs.Merging.{is_tiny, join, key_of, large_shapes, merged, merged_after, round_out, tiny_shapes, touch}
-use Rattle.offset_pictures.specs.Places.{shape_of}
+use Rattle.offset_pictures.specs.Merging.{is_tiny, join, key_of, large_shapes, merge, merge_after, round_out, tiny_shapes, touch}
+use Rattle.offset_pictures.specs.Shapes.{shape_of}
 
 -- ---- the rectangles that are not tiny, and the numbers of those that are
 
@@ -59,15 +59,15 @@ tiny_all plot i ls keys whole all before = sym (append-nil keys) ∙ ap (λ x. k
 -- ---- merging: the last rectangle, which may still grow, before those to come
 
 abbrev pub growing : Option Shape → List Shape → List Shape
-growing None bs = merged bs
-growing (Some a) bs = merged_after a bs
+growing None bs = merge bs
+growing (Some a) bs = merge_after a bs
 
 merged_next : (i : ℕ) (d a b : Shape) (tiny : List Shape) (t : Bool) → i < length tiny → b ≡ get_or tiny i d → touch a b ≡ t
-    → merged_after a (drop i tiny) ≡ cond t (merged_after (join a b) (drop (i + 1) tiny)) (a ∷ merged_after b (drop (i + 1) tiny))
+    → merge_after a (drop i tiny) ≡ cond t (merge_after (join a b) (drop (i + 1) tiny)) (a ∷ merge_after b (drop (i + 1) tiny))
 merged_next i d a b tiny t less is e =
-    at_drop_more (merged_after a) tiny i d less
-    ∙ ap (λ (x : Shape). cond (touch a x) (merged_after (join a x) (drop (i + 1) tiny)) (a ∷ merged_after x (drop (i + 1) tiny))) (sym is)
-    ∙ ap (λ c. cond c (merged_after (join a b) (drop (i + 1) tiny)) (a ∷ merged_after b (drop (i + 1) tiny))) e
+    at_drop_more (merge_after a) tiny i d less
+    ∙ ap (λ (x : Shape). cond (touch a x) (merge_after (join a x) (drop (i + 1) tiny)) (a ∷ merge_after x (drop (i + 1) tiny))) (sym is)
+    ∙ ap (λ c. cond c (merge_after (join a b) (drop (i + 1) tiny)) (a ∷ merge_after b (drop (i + 1) tiny))) e
 
 pub one_joins : (i : ℕ) (d a b : Shape) (last next : Option Shape) (tiny found more whole : List Shape) → i < length tiny → b ≡ get_or tiny i d → touch a b ≡ true → more ≡ found → last ≡ Some a
     → next ≡ Some (join a b) → found ++ growing last (drop i tiny) ≡ whole → more ++ growing next (drop (i + 1) tiny) ≡ whole
@@ -85,14 +85,14 @@ pub one_starts : (i : ℕ) (d b : Shape) (last next : Option Shape) (tiny found 
     → found ++ growing last (drop i tiny) ≡ whole → more ++ growing next (drop (i + 1) tiny) ≡ whole
 one_starts i d b last next tiny found more whole less is same last-is next-is before =
     ap (λ x. x ++ growing next (drop (i + 1) tiny)) same ∙ ap (λ x. found ++ growing x (drop (i + 1) tiny)) next-is
-    ∙ ap (λ x. found ++ merged_after x (drop (i + 1) tiny)) is ∙ ap (λ x. found ++ x) (sym (at_drop_more merged tiny i d less)) ∙ ap (λ x. found ++ growing x (drop i tiny)) (sym last-is) ∙ before
+    ∙ ap (λ x. found ++ merge_after x (drop (i + 1) tiny)) is ∙ ap (λ x. found ++ x) (sym (at_drop_more merge tiny i d less)) ∙ ap (λ x. found ++ growing x (drop i tiny)) (sym last-is) ∙ before
 
 pub last_is_done : (i : ℕ) (a : Shape) (last : Option Shape) (tiny found more whole : List Shape) → length tiny ≤ i → more ≡ found ++ a ∷ [] → last ≡ Some a → found ++ growing last (drop i tiny)
     ≡ whole
     → more ≡ whole
 last_is_done i a last tiny found more whole all push last-is before =
-    push ∙ ap (λ x. found ++ x) (sym (at_drop_all (merged_after a) tiny i all)) ∙ ap (λ x. found ++ growing x (drop i tiny)) (sym last-is) ∙ before
+    push ∙ ap (λ x. found ++ x) (sym (at_drop_all (merge_after a) tiny i all)) ∙ ap (λ x. found ++ growing x (drop i tiny)) (sym last-is) ∙ before
 
 pub none_is_done : (i : ℕ) (last : Option Shape) (tiny found more whole : List Shape) → length tiny ≤ i → more ≡ found → last ≡ None → found ++ growing last (drop i tiny) ≡ whole → more ≡ whole
 none_is_done i last tiny found more whole all same last-is before =
-    same ∙ sym (append-nil found) ∙ ap (λ x. found ++ x) (sym (at_drop_all merged tiny i all)) ∙ ap (λ x. found ++ growing x (drop i tiny)) (sym last-is) ∙ before
+    same ∙ sym (append-nil found) ∙ ap (λ x. found ++ x) (sym (at_drop_all merge tiny i all)) ∙ ap (λ x. found ++ growing x (drop i tiny)) (sym last-is) ∙ before

@@ -3,9 +3,9 @@ use Rattle.std.proofs.Common.{◌≡◌, ℕ, Bool, true, false, cond, List, [],
 use Rattle.std.proofs.lemmas.List.Elements.{All-cons, All-nil, All-weaker, Contains-append_left, Contains-append_right, Contains-push}
 use Rattle.std.specs.Prelude.{Contains}
 use Rattle.offset_pictures.specs.declared.refusing.Refused.{Refused}
-use Rattle.offset_pictures.specs.Marks.{counted_from_1, in_tenths}
-use Rattle.offset_pictures.specs.Places.{right_of}
-use Rattle.offset_pictures.specs.StepLines.{EachRefusalIsMarked, IsMarked, after_equal, marked_places, one_of_each, place_of}
+use Rattle.offset_pictures.specs.Numerals.{counted_from_1}
+use Rattle.offset_pictures.specs.Axes.{in_tenths, x_of, right_of}
+use Rattle.offset_pictures.specs.Marks.{after_equal, EachRefusalIsMarked, IsMarked, marked_xs, one_of_each}
 
 in_more : (n x : ℕ) (ms : List ℕ) → Contains ms x → Contains (n ∷ ms) x
 in_more n x ms h = Contains-append_right (n ∷ []) ms x h
@@ -35,5 +35,5 @@ near marks place h = (in_tenths place, h, omega arith, omega arith)
 
 pub marks_law : EachRefusalIsMarked
 marks_law calls refused =
-    All-weaker (λ (r : Refused). Contains (marked_places calls refused) (place_of calls (counted_from_1 r.call))) (λ r. IsMarked (marked_places calls refused) (right_of calls (counted_from_1 r.call)))
-    (λ r h. near (marked_places calls refused) (right_of calls (counted_from_1 r.call)) h) refused (each_has_one (λ (r : Refused). place_of calls (counted_from_1 r.call)) refused)
+    All-weaker (λ (r : Refused). Contains (marked_xs calls refused) (x_of calls (counted_from_1 r.call))) (λ r. IsMarked (marked_xs calls refused) (right_of calls (counted_from_1 r.call)))
+    (λ r h. near (marked_xs calls refused) (right_of calls (counted_from_1 r.call)) h) refused (each_has_one (λ (r : Refused). x_of calls (counted_from_1 r.call)) refused)

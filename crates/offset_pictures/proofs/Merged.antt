@@ -8,15 +8,15 @@ use Rattle.std.proofs.lemmas.List.Folds.{list_any-append, list_any_more}
 use Rattle.std.proofs.lemmas.List.Sorted.{list_any-IsPermutation}
 use Rattle.offset_pictures.specs.declared.living.Life.{Life}
 use Rattle.offset_pictures.specs.declared.shapes.Shape.{Shape}
-use Rattle.offset_pictures.specs.Axes.{along}
-use Rattle.offset_pictures.specs.Merging.{Place, covers, rounded_if_tiny, is_tiny, round_out, shape_of_key, touch, join}
+use Rattle.offset_pictures.specs.Scales.{along}
+use Rattle.offset_pictures.specs.Merging.{Point, covers, rounded_if_tiny, is_tiny, round_out, shape_of_key, touch, join}
 
 -- a value that is cut to 64 bits lies where it lay
 pub along_capped : (span most v w : ℕ) → most < 4294967296 → v ≡ min w 18446744073709551615 → along span most v ≡ along span most w
 along_capped span most v w h e = let same : min v most ≡ min w most = omega arith in ap (λ m. m * span / most) same
 
 -- two rectangles that touch cover what their union covers
-pub join_covers : (p : Place) (a b : Shape) → touch a b ≡ true → covers p (join a b) ≡ (covers p a || covers p b)
+pub join_covers : (p : Point) (a b : Shape) → touch a b ≡ true → covers p (join a b) ≡ (covers p a || covers p b)
 join_covers p a b h = grind (arith, nat_tests)
 
 or_false : (b : Bool) → (b || false) ≡ b
@@ -24,7 +24,7 @@ or_false true = refl
 or_false false = refl
 
 -- what a list covers, with one more at its end
-pub one_more : (p : Place) (xs ys : List Shape) (x : Shape) → ys ≡ xs ++ x ∷ [] → list_any (covers p) ys ≡ (list_any (covers p) xs || covers p x)
+pub one_more : (p : Point) (xs ys : List Shape) (x : Shape) → ys ≡ xs ++ x ∷ [] → list_any (covers p) ys ≡ (list_any (covers p) xs || covers p x)
 one_more p xs ys x e =
     ap (list_any (covers p)) e ∙ list_any-append (covers p) xs (x ∷ []) ∙ ap (λ b. list_any (covers p) xs || b) (or_false (covers p x))
 
@@ -36,7 +36,7 @@ any_map t h (l ∷ ls) = ap (λ b. t (h l) || b) (any_map t h ls)
 pub one_more_key : (keys more : List ℕ) (key : ℕ) (x : Shape) → more ≡ keys ++ key ∷ [] → shape_of_key key ≡ x → map shape_of_key more ≡ map shape_of_key keys ++ x ∷ []
 one_more_key keys more key x e is = ap (map shape_of_key) e ∙ map-append shape_of_key keys (key ∷ []) ∙ ap (λ (y : Shape). map shape_of_key keys ++ y ∷ []) is
 
-pub one_more_life : (p : Place) (h : Life → Shape) (ls : List Life) (i : ℕ) (d : Life) → i < length ls
+pub one_more_life : (p : Point) (h : Life → Shape) (ls : List Life) (i : ℕ) (d : Life) → i < length ls
     → list_any (covers p) (map h (take (i + 1) ls)) ≡ (list_any (covers p) (map h (take i ls)) || covers p (h (get_or ls i d)))
 one_more_life p h ls i d less =
     any_map (covers p) h (take (i + 1) ls) ∙ list_any_more (λ l. covers p (h l)) ls i d less ∙ ap (λ b. b || covers p (h (get_or ls i d))) (sym (any_map (covers p) h (take i ls)))
@@ -63,14 +63,14 @@ or_left false true c false e = ap (λ x. x || false) e
 or_left false false c true e = ap (λ x. x || true) e
 or_left false false c false e = ap (λ x. x || false) e
 
-pub tiny_life : (p : Place) (found tiny tinier : List Shape) (h : Life → Shape) (ls : List Life) (i : ℕ) (d : Life) (x : Shape) → i < length ls → tinier ≡ tiny ++ x ∷ [] → x ≡ h (get_or ls i d)
+pub tiny_life : (p : Point) (found tiny tinier : List Shape) (h : Life → Shape) (ls : List Life) (i : ℕ) (d : Life) (x : Shape) → i < length ls → tinier ≡ tiny ++ x ∷ [] → x ≡ h (get_or ls i d)
     → (list_any (covers p) found || list_any (covers p) tiny) ≡ list_any (covers p) (map h (take i ls))
     → (list_any (covers p) found || list_any (covers p) tinier) ≡ list_any (covers p) (map h (take (i + 1) ls))
 tiny_life p found tiny tinier h ls i d x less e is before =
     ap (λ b. list_any (covers p) found || b) (one_more p tiny tinier x e) ∙ or_right (list_any (covers p) found) (list_any (covers p) tiny) _ (covers p x) before
     ∙ ap (λ y. list_any (covers p) (map h (take i ls)) || covers p y) is ∙ sym (one_more_life p h ls i d less)
 
-pub plain_life : (p : Place) (found more tiny : List Shape) (h : Life → Shape) (ls : List Life) (i : ℕ) (d : Life) (x : Shape) → i < length ls → more ≡ found ++ x ∷ [] → x ≡ h (get_or ls i d)
+pub plain_life : (p : Point) (found more tiny : List Shape) (h : Life → Shape) (ls : List Life) (i : ℕ) (d : Life) (x : Shape) → i < length ls → more ≡ found ++ x ∷ [] → x ≡ h (get_or ls i d)
     → (list_any (covers p) found || list_any (covers p) tiny) ≡ list_any (covers p) (map h (take i ls))
     → (list_any (covers p) more || list_any (covers p) tiny) ≡ list_any (covers p) (map h (take (i + 1) ls))
 plain_life p found more tiny h ls i d x less e is before =
@@ -78,7 +78,7 @@ plain_life p found more tiny h ls i d x less e is before =
     ∙ ap (λ y. list_any (covers p) (map h (take i ls)) || covers p y) is ∙ sym (one_more_life p h ls i d less)
 
 -- the rectangles that are done, and the last one, which may still grow
-abbrev pub so_far : Place → List Shape → Option Shape → Bool
+abbrev pub so_far : Point → List Shape → Option Shape → Bool
 so_far p found last = list_any (covers p) found || list_any (covers p) (option_to_list last)
 
 assoc : (r t b : Bool) → ((r || t) || b) ≡ (r || (t || b))
@@ -100,14 +100,14 @@ shift_start true b = refl
 shift_start false b = or_false b
 
 -- one more tiny rectangle is covered, where it is covered beside the rectangles before
-more_covered : (p : Place) (tiny : List Shape) (i : ℕ) (d b : Shape) (now before rest : Bool) → i < length tiny → b ≡ get_or tiny i d → now ≡ (before || covers p b)
+more_covered : (p : Point) (tiny : List Shape) (i : ℕ) (d b : Shape) (now before rest : Bool) → i < length tiny → b ≡ get_or tiny i d → now ≡ (before || covers p b)
     → before ≡ (rest || list_any (covers p) (take i tiny)) → now ≡ (rest || list_any (covers p) (take (i + 1) tiny))
 more_covered p tiny i d b now before rest less is shifted e =
     shifted ∙ ap (λ x. x || covers p b) e ∙ assoc rest (list_any (covers p) (take i tiny)) (covers p b) ∙ ap (λ x. rest || (list_any (covers p) (take i tiny) || covers p x)) is
     ∙ ap (λ x. rest || x) (sym (list_any_more (covers p) tiny i d less))
 
 -- it is joined to the last one
-pub joins_last : (p : Place) (found more tiny : List Shape) (last next : Option Shape) (i : ℕ) (d a b : Shape) (rest : Bool) → i < length tiny → b ≡ get_or tiny i d → more ≡ found → last ≡ Some a
+pub joins_last : (p : Point) (found more tiny : List Shape) (last next : Option Shape) (i : ℕ) (d a b : Shape) (rest : Bool) → i < length tiny → b ≡ get_or tiny i d → more ≡ found → last ≡ Some a
     → next ≡ Some (join a b) → touch a b ≡ true → so_far p found last ≡ (rest || list_any (covers p) (take i tiny)) → so_far p more next ≡ (rest || list_any (covers p) (take (i + 1) tiny))
 joins_last p found more tiny last next i d a b rest less is found-is last-is next-is h before =
     let shifted : so_far p more next ≡ (so_far p found last || covers p b) =
@@ -116,7 +116,7 @@ joins_last p found more tiny last next i d a b rest less is found-is last-is nex
     more_covered p tiny i d b (so_far p more next) (so_far p found last) rest less is shifted before
 
 -- the last one is done, and it becomes the last one
-pub pushes_last : (p : Place) (found more tiny : List Shape) (last next : Option Shape) (i : ℕ) (d a b : Shape) (rest : Bool) → i < length tiny → b ≡ get_or tiny i d → more ≡ found ++ a ∷ []
+pub pushes_last : (p : Point) (found more tiny : List Shape) (last next : Option Shape) (i : ℕ) (d a b : Shape) (rest : Bool) → i < length tiny → b ≡ get_or tiny i d → more ≡ found ++ a ∷ []
     → last ≡ Some a → next ≡ Some b → so_far p found last ≡ (rest || list_any (covers p) (take i tiny)) → so_far p more next ≡ (rest || list_any (covers p) (take (i + 1) tiny))
 pushes_last p found more tiny last next i d a b rest less is more-is last-is next-is before =
     let shifted : so_far p more next ≡ (so_far p found last || covers p b) =
@@ -125,7 +125,7 @@ pushes_last p found more tiny last next i d a b rest less is more-is last-is nex
     more_covered p tiny i d b (so_far p more next) (so_far p found last) rest less is shifted before
 
 -- it is the first one
-pub starts_last : (p : Place) (found more tiny : List Shape) (last next : Option Shape) (i : ℕ) (d b : Shape) (rest : Bool) → i < length tiny → b ≡ get_or tiny i d → more ≡ found → last ≡ None
+pub starts_last : (p : Point) (found more tiny : List Shape) (last next : Option Shape) (i : ℕ) (d b : Shape) (rest : Bool) → i < length tiny → b ≡ get_or tiny i d → more ≡ found → last ≡ None
     → next ≡ Some b → so_far p found last ≡ (rest || list_any (covers p) (take i tiny)) → so_far p more next ≡ (rest || list_any (covers p) (take (i + 1) tiny))
 starts_last p found more tiny last next i d b rest less is more-is last-is next-is before =
     let shifted : so_far p more next ≡ (so_far p found last || covers p b) =
@@ -133,16 +133,16 @@ starts_last p found more tiny last next i d b rest less is more-is last-is next-
     more_covered p tiny i d b (so_far p more next) (so_far p found last) rest less is shifted before
 
 -- in the end the last one is done too
-pub ends_with : (p : Place) (found more : List Shape) (last : Option Shape) (a : Shape) → more ≡ found ++ a ∷ [] → last ≡ Some a → list_any (covers p) more ≡ so_far p found last
+pub ends_with : (p : Point) (found more : List Shape) (last : Option Shape) (a : Shape) → more ≡ found ++ a ∷ [] → last ≡ Some a → list_any (covers p) more ≡ so_far p found last
 ends_with p found more last a more-is last-is =
     one_more p found more a more-is ∙ ap (λ x. list_any (covers p) found || x) (sym (or_false (covers p a))) ∙ ap (so_far p found) (sym last-is)
 
-pub ends_without : (p : Place) (found more : List Shape) (last : Option Shape) → more ≡ found → last ≡ None → list_any (covers p) more ≡ so_far p found last
+pub ends_without : (p : Point) (found more : List Shape) (last : Option Shape) → more ≡ found → last ≡ None → list_any (covers p) more ≡ so_far p found last
 ends_without p found more last more-is last-is =
     ap (list_any (covers p)) more-is ∙ sym (or_false (list_any (covers p) found)) ∙ ap (so_far p found) (sym last-is)
 
 -- what the sorted tiny rectangles cover is what the lives do
-pub all_covered : (p : Place) (found tiny sorted : List Shape) (h : Life → Shape) (ls : List Life) (i j : ℕ) (now : Bool) → length ls ≤ i → length sorted ≤ j → IsPermutation tiny sorted
+pub all_covered : (p : Point) (found tiny sorted : List Shape) (h : Life → Shape) (ls : List Life) (i j : ℕ) (now : Bool) → length ls ≤ i → length sorted ≤ j → IsPermutation tiny sorted
     → (list_any (covers p) found || list_any (covers p) tiny) ≡ list_any (covers p) (map h (take i ls)) → now ≡ (list_any (covers p) found || list_any (covers p) (take j sorted))
     → now ≡ list_any (covers p) (map h ls)
 all_covered p found tiny sorted h ls i j now all all_sorted same before e =

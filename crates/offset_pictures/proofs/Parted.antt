@@ -7,8 +7,7 @@ use Rattle.std.proofs.lemmas.List.Sums.{count_by-le-length}
 use Rattle.std.specs.Prelude.{IsPermutation, filter, flat_map, not}
 use Rattle.offset_pictures.specs.declared.living.Life.{Life}
 use Rattle.offset_pictures.specs.declared.plots.Plot.{Plot}
-use Rattle.offset_pictures.specs.Figures.{age_of}
-use Rattle.offset_pictures.specs.Places.{shape_of}
+use Rattle.offset_pictures.specs.Shapes.{age_of, shape_of}
 use Rattle.offset_pictures.specs.Rectangles.{EachLifeHasARectangle, falling_below, lives_of_age, titled_of_age, titled_text}
 
 -- the elements with a key

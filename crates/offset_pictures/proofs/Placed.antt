@@ -10,7 +10,9 @@ use Rattle.offset_pictures.specs.Lives as plain
 use Rattle.offset_pictures.specs.Lives.{IsOrdered, life_view}
 use Rattle.offset_pictures.specs.Merging.{rounded_if_tiny, is_tiny, round_out}
 use Rattle.offset_pictures.specs.Overlaps.{AreApart, AreDrawnApart, AreNearlyApart, IsAbove, IsLeftOf, RectanglesAreApart}
-use Rattle.offset_pictures.specs.Places.{frame_of, right_of, shape_of, up_of}
+use Rattle.offset_pictures.specs.Axes.{right_of, up_of}
+use Rattle.offset_pictures.specs.Rectangles.{frame_of}
+use Rattle.offset_pictures.specs.Shapes.{shape_of}
 use Rattle.offset_pictures.proofs.Apart.{apart_law}
 use Rattle.offset_pictures.proofs.Lined.{along_grows, along_within}
 use Rattle.offset_pictures.proofs.Ordered.{lives_are_ordered}

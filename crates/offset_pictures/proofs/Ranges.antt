@@ -3,7 +3,7 @@ use Rattle.std.proofs.Common.{◌≡◌, ◌≢◌, ℕ, zero, suc, ◌+◌, ◌
 use Rattle.std.proofs.Common.{ne_eqb, eq-eqb, append-nil}
 use Rattle.offset_allocator.specs.View.{one}
 use Rattle.std.proofs.lemmas.Bool.{cases_eq, true≢false, false≢true}
-use Rattle.offset_script.specs.Machine.{Tag, Live, Free, Block, block, is_free, has_number, total, Place, place_of, free_block, coalesce}
+use Rattle.offset_script.specs.Machine.{Tag, Live, Free, Block, block, is_free, has_number, total, Place, place_of, free_part, coalesce}
 use Rattle.offset_script.proofs.Lists.{count, hit, whole, count-append, total-append, AreFree, coalesced}
 use Rattle.offset_script.proofs.Found.{found_at, number_hit}
 use Rattle.offset_script.proofs.Well.{granted_blocks}
@@ -44,9 +44,9 @@ other_number k j (Free s) n e = refl
 past : (k offset : ℕ) (b : Block) (bs : List Block) → has_number k b.tag ≡ false → range_of k offset (b ∷ bs) ≡ range_of k (offset + b.size) bs
 past k offset b bs e = ap (λ x. if x then Some (offset, b.size) else range_of k (offset + b.size) bs) e
 
-range_free_block : (k offset n s : ℕ) (bs : List Block) → range_of k offset (free_block n s ++ bs) ≡ range_of k (offset + n) bs
-range_free_block k offset zero s bs = ap (λ o. range_of k o bs) (omega arith)
-range_free_block k offset (suc n) s bs = refl
+range_free_part : (k offset n s : ℕ) (bs : List Block) → range_of k offset (free_part n s ++ bs) ≡ range_of k (offset + n) bs
+range_free_part k offset zero s bs = ap (λ o. range_of k o bs) (omega arith)
+range_free_part k offset (suc n) s bs = refl
 
 -- a number that no block has
 pub range_none : (k offset : ℕ) (bs : List Block) → count (Live k) bs ≡ 0 → range_of k offset bs ≡ None
@@ -100,12 +100,12 @@ range_gone k n s bs p once found =
 pub range_kept : (k : ℕ) (p : Place) (n padding front g rest : ℕ) → is_free p.block.tag ≡ true → padding + n ≤ p.block.size → k ≢ g
     → range_of k 0 (granted_blocks p n padding front g rest) ≡ range_of k 0 (whole p)
 range_kept k p n padding front g rest free within other =
-    let left : List Block = free_block (p.block.size - (padding + n)) rest ++ p.after in
-    at_start k p.before (free_block padding front ++ (block n (Live g) ∷ left))
+    let left : List Block = free_part (p.block.size - (padding + n)) rest ++ p.after in
+    at_start k p.before (free_part padding front ++ (block n (Live g) ∷ left))
     ∙ ap (either_of (range_of k 0 p.before))
-    (range_free_block k (total p.before) padding front (block n (Live g) ∷ left)
+    (range_free_part k (total p.before) padding front (block n (Live g) ∷ left)
     ∙ past k (total p.before + padding) (block n (Live g)) left (ne_eqb k g other)
-    ∙ range_free_block k (total p.before + padding + n) (p.block.size - (padding + n)) rest p.after
+    ∙ range_free_part k (total p.before + padding + n) (p.block.size - (padding + n)) rest p.after
     ∙ ap (λ o. range_of k o p.after) (omega arith)
     ∙ sym (past k (total p.before) p.block p.after (free_number k p.block.tag free)))
     ∙ sym (at_start k p.before (p.block ∷ p.after))
@@ -114,6 +114,6 @@ range_kept k p n padding front g rest free within other =
 pub range_granted : (p : Place) (n padding front g rest : ℕ) → count (Live g) p.before ≡ 0 → range_of g 0 (granted_blocks p n padding front g rest) ≡ Some (total p.before + padding, n)
 range_granted p n padding front g rest none =
     at_start g p.before _
-    ∙ ap (λ r. either_of r (range_of g (total p.before) (free_block padding front ++ (block n (Live g) ∷ (free_block (p.block.size - (padding + n)) rest ++ p.after))))) (range_none g 0 p.before none)
-    ∙ range_free_block g (total p.before) padding front _
-    ∙ ap (λ x. if x then Some (total p.before + padding, n) else range_of g (total p.before + padding + n) (free_block (p.block.size - (padding + n)) rest ++ p.after)) (eq-eqb g g refl)
+    ∙ ap (λ r. either_of r (range_of g (total p.before) (free_part padding front ++ (block n (Live g) ∷ (free_part (p.block.size - (padding + n)) rest ++ p.after))))) (range_none g 0 p.before none)
+    ∙ range_free_part g (total p.before) padding front _
+    ∙ ap (λ x. if x then Some (total p.before + padding, n) else range_of g (total p.before + padding + n) (free_part (p.block.size - (padding + n)) rest ++ p.after)) (eq-eqb g g refl)

@@ -1,12 +1,11 @@
 -- Which calls of the plain machine are refused, and why.
 use Rattle.offset_script.proofs.Common.{◌≡◌, ℕ, zero, suc, ◌+◌, ◌-◌, Bool, true, false, List, [], ◌∷◌, ◌++◌}
-use Rattle.offset_script.proofs.Common.{length, sum, Option, Some, None, nat_le, nat_lt, cond, refl, sym, ap, ap₂, subst, ◌∙◌, arith}
-use Rattle.offset_script.proofs.Common.{le-leb, le-ltb, lt-leb, lt-ltb, false≢true, map, value, up}
+use Rattle.offset_script.proofs.Common.{None, Option, Some, ap, ap₂, arith, cond, false≢true, le-leb, le-ltb, length, lt-leb, lt-ltb, map, nat_le, nat_lt, refl, subst, sum, sym, up, value, ◌∙◌}
 use Rattle.offset_allocator.specs.declared.reports.Refusal.{Refusal}
 use Rattle.offset_allocator.specs.declared.reports.Refusal.TheVariants.{Nodes, TooLarge, Space, Fragmented}
 use Rattle.offset_allocator.specs.Relations.{SameSpace}
 use Rattle.offset_allocator.specs.Requests.{CanGrant, IsWhy, blocks_needed, size_needed, units_needed}
-use Rattle.offset_allocator.specs.View.{IsWellFormed, View, Grant, max_size}
+use Rattle.offset_allocator.specs.View.{IsWellFormed, View, Handle, max_size}
 use Rattle.offset_allocator.specs.View as named
 use Rattle.offset_script.specs.declared.scripts.Command.{Command}
 use Rattle.offset_script.specs.declared.scripts.Command.TheVariants as command
@@ -17,9 +16,9 @@ use Rattle.offset_script.specs.Listening.{Shows}
 use Rattle.offset_script.specs.Steps.{IsKept, Takes}
 use Rattle.offset_allocator.proofs.Advice.{free_within}
 use Rattle.offset_pictures.specs.declared.refusing.Refused.{Refused}
-use Rattle.offset_pictures.specs.Growth.{is_refusal, refusals_from}
-use Rattle.offset_pictures.specs.Watching.{replace_full, replace_all_full}
-use Rattle.offset_pictures.specs.Refusals.{IsRefusedBy, Numbers, RefusalsHaveReasons, numbers_of, numbers_of_view, refused_call, refused_from, refused_of, shortage}
+use Rattle.offset_pictures.specs.Refusals.{is_refusal, IsRefusedBy, Numbers, numbers_of, numbers_of_view, refusals_with_reasons, refusals_with_reasons_from}
+use Rattle.offset_pictures.specs.Refusals.{RefusalsHaveReasons, refused_call, refused_calls_from, shortage}
+use Rattle.offset_pictures.specs.Watching.{replace_all_full, replace_full}
 use Rattle.offset_pictures.proofs.Quieter.{quiet_state}
 
 -- ---- the numbers of a space
@@ -91,13 +90,13 @@ refused_keeps (command.Extend (suc more)) s e = by_extend _ s _ e
 
 -- ---- a refused request cannot be granted, then and after
 
-not_kept : (h : Grant) (hs left : List (Option Grant)) (a : Answer) → IsKept (Some h) hs left a → is_refusal a ≡ true → ⊥
+not_kept : (h : Handle) (hs left : List (Option Handle)) (a : Answer) → IsKept (Some h) hs left a → is_refusal a ≡ true → ⊥
 not_kept h hs left a k e = false≢true (sym (ap is_refusal k.1) ∙ e)
 
 still_not : (v w : View) (spare needed : ℕ) → SameSpace v w → (CanGrant spare needed v → ⊥) → CanGrant spare needed w → ⊥
 still_not v w spare needed same none = subst (λ u. CanGrant spare needed u → ⊥) (sym same) none
 
-pub is_refused : (c : Command) (v w : View) (hs left : List (Option Grant)) (a : Answer) → Takes c v hs w left a → is_refusal a ≡ true → IsRefusedBy w c
+pub is_refused : (c : Command) (v w : View) (hs left : List (Option Handle)) (a : Answer) → Takes c v hs w left a → is_refusal a ≡ true → IsRefusedBy w c
 is_refused (command.Alloc n) v w hs left a (None, t, k) e = still_not v w 1 n t.1 t.0
 is_refused (command.Alloc n) v w hs left a (Some h, t, k) e = absurd (not_kept h hs left a k e)
 is_refused (command.Free k) v w hs left a t e = tt
@@ -126,11 +125,11 @@ quiet_call i command.Reset s = refl
 quiet_call i (command.Align n align) s = refl
 quiet_call i (command.Extend more) s = refl
 
-quiet_from : (i : ℕ) (cs : List Command) (s : State) → refused_from i (replace_all_full cs) s ≡ refused_from i cs s
+quiet_from : (i : ℕ) (cs : List Command) (s : State) → refusals_with_reasons_from i (replace_all_full cs) s ≡ refusals_with_reasons_from i cs s
 quiet_from i [] s = refl
-quiet_from i (c ∷ cs) s = ap₂ (λ x y. x ++ y) (quiet_call i c s) (ap (refused_from (i + 1) (replace_all_full cs)) (quiet_state c s) ∙ quiet_from (i + 1) cs (step c s).state)
+quiet_from i (c ∷ cs) s = ap₂ (λ x y. x ++ y) (quiet_call i c s) (ap (refusals_with_reasons_from (i + 1) (replace_all_full cs)) (quiet_state c s) ∙ quiet_from (i + 1) cs (step c s).state)
 
-pub quiet_refused : (size limit : ℕ) (cs : List Command) → refused_of size limit (replace_all_full cs) ≡ refused_of size limit cs
+pub quiet_refused : (size limit : ℕ) (cs : List Command) → refusals_with_reasons size limit (replace_all_full cs) ≡ refusals_with_reasons size limit cs
 quiet_refused size limit cs = quiet_from 0 cs (start size limit)
 
 -- ---- the calls with a reason are those that are refused
@@ -156,10 +155,10 @@ one_call i command.Reset s rest = refl
 one_call i (command.Align n align) s rest = listed _ _ rest
 one_call i (command.Extend more) s rest = listed _ _ rest
 
-have_reasons : (i : ℕ) (cs : List Command) (s : State) → map (λ (r : Refused). r.call) (refused_from i cs s) ≡ refusals_from i (answers cs s)
+have_reasons : (i : ℕ) (cs : List Command) (s : State) → map (λ (r : Refused). r.call) (refusals_with_reasons_from i cs s) ≡ refused_calls_from i (answers cs s)
 have_reasons i [] s = refl
 have_reasons i (c ∷ cs) s =
-    one_call i c s (refused_from (i + 1) cs (step c s).state)
+    one_call i c s (refusals_with_reasons_from (i + 1) cs (step c s).state)
     ∙ ap (λ rest. cond (is_refusal (step c s).answer) (i ∷ rest) rest) (have_reasons (i + 1) cs (step c s).state)
 
 pub reasons_law : RefusalsHaveReasons

@@ -17,7 +17,7 @@ use Rattle.offset_pictures.specs.declared.living.Life.{Life}
 use Rattle.offset_pictures.specs.declared.plots.Plot.{Plot}
 use Rattle.offset_pictures.specs.declared.refusing.Refused.{Refused}
 use Rattle.offset_pictures.specs.declared.shapes.Shape.{Shape}
-use Rattle.offset_pictures.specs.Figures.{AreFigures, AreTotals, IsFirstLargest, IsFirstSmallest, count_below, counted, end_of, largest, states}
+use Rattle.offset_pictures.specs.Figures.{AreFigures, AreTotals, count_below, counted, end_of, IsFirstLargest, IsFirstSmallest, largest, states}
 use Rattle.offset_pictures.specs.Legend.{legend_text, notes_text}
 use Rattle.offset_pictures.specs.Levels.{free_of, joined_of, most_of}
 use Rattle.offset_pictures.specs.Lives.{is_on, life_view}
@@ -26,13 +26,16 @@ use Rattle.offset_pictures.specs.Reports.{report_view, reports_from}
 use Rattle.offset_script.specs.declared.scripts.Command.{Command}
 use Rattle.offset_script.specs.Grammar.{Plan}
 use Rattle.offset_script.specs.Machine.{Answer, Report, State, start}
-use Rattle.offset_pictures.specs.Merging.{AreMerged, key_of, large_shapes, merged, shape_of_key, tiny_shapes}
-use Rattle.offset_pictures.specs.Picture.{IsBody, IsCourse, IsPictureOf, IsPlot, PicturesAreFixed, opening, style}
-use Rattle.offset_pictures.specs.Places.{ranges_end, reports_end, shape_of}
-use Rattle.offset_pictures.specs.Rectangles.{AreGrants, ages_text, plain_of_age, titled_of_age}
-use Rattle.offset_pictures.specs.StepLines.{line_text, refusals_text}
+use Rattle.offset_pictures.specs.Merging.{AreMerged, key_of, large_shapes, merge, shape_of_key, tiny_shapes}
+use Rattle.offset_pictures.specs.Picture.{IsBody, IsPictureOf, opening, PicturesAreFixed, style}
+use Rattle.offset_pictures.specs.Course.{IsCourse}
+use Rattle.offset_pictures.specs.Plots.{IsPlot, bottom_of, ranges_end, reports_end}
+use Rattle.offset_pictures.specs.Shapes.{shape_of}
+use Rattle.offset_pictures.specs.Rectangles.{ages_text, AreRectangles, plain_of_age, titled_of_age}
+use Rattle.offset_pictures.specs.StepLines.{line_text}
+use Rattle.offset_pictures.specs.Marks.{refusals_text}
 use Rattle.offset_pictures.specs.Ticks.{axes_text}
-use Rattle.offset_pictures.specs.Titles.{escaped, heading}
+use Rattle.offset_pictures.specs.Titles.{escaped, heading_text}
 use Rattle.offset_pictures.proofs.Fixed.{figures_law}
 
 -- ---- lists
@@ -130,18 +133,18 @@ one_plot p q x y e f =
 
 -- ---- rectangles
 
-abbrev AreGrantsBy : Bool → Plot → List Life → ℕ → Option ℕ → List ℕ → Type 0
-AreGrantsBy b plot lives calls merged text = MatchBool b
+abbrev AreRectanglesBy : Bool → Plot → List Life → ℕ → Option ℕ → List ℕ → Type 0
+AreRectanglesBy b plot lives calls merged text = MatchBool b
     ((shapes : List Shape) × AreMerged plot lives shapes × (merged ≡ Some (length shapes)) × (text ≡ ages_text (plain_of_age shapes)))
     ((merged ≡ None) × (text ≡ ages_text (titled_of_age calls (map (shape_of plot) lives) lives)))
 
 one_merging : (p : Plot) (ls : List Life) (s t : List Shape) → AreMerged p ls s → AreMerged p ls t → s ≡ t
-one_merging p ls s t x y = x.3 ∙ ap (λ keys. large_shapes p ls ++ merged (map shape_of_key keys)) (one_sorted (map key_of (tiny_shapes p ls)) x.0 y.0 x.1 y.1 x.2 y.2) ∙ sym y.3
+one_merging p ls s t x y = x.3 ∙ ap (λ keys. large_shapes p ls ++ merge (map shape_of_key keys)) (one_sorted (map key_of (tiny_shapes p ls)) x.0 y.0 x.1 y.1 x.2 y.2) ∙ sym y.3
 
-one_grants : (b : Bool) (p : Plot) (ls : List Life) (calls : ℕ) (m n : Option ℕ) (s t : List ℕ) → AreGrantsBy b p ls calls m s → AreGrantsBy b p ls calls n t → (m ≡ n) × (s ≡ t)
-one_grants true p ls calls m n s t x y =
+one_rectangles : (b : Bool) (p : Plot) (ls : List Life) (calls : ℕ) (m n : Option ℕ) (s t : List ℕ) → AreRectanglesBy b p ls calls m s → AreRectanglesBy b p ls calls n t → (m ≡ n) × (s ≡ t)
+one_rectangles true p ls calls m n s t x y =
     let e = one_merging p ls x.0 y.0 x.1 y.1 in (x.2 ∙ ap (λ z. Some (length z)) e ∙ sym y.2, x.3 ∙ ap (λ z. ages_text (plain_of_age z)) e ∙ sym y.3)
-one_grants false p ls calls m n s t x y = (x.0 ∙ sym y.0, x.1 ∙ sym y.1)
+one_rectangles false p ls calls m n s t x y = (x.0 ∙ sym y.0, x.1 ∙ sym y.1)
 
 -- ---- figures
 
@@ -206,35 +209,35 @@ like_figures c d f e x = record {
 
 -- the text below the heading, of what is read for it
 abbrev whole : Figures → ℕ → Plot → Plot → List ℕ → List Refused → List StorageReport → List ℕ → Option ℕ → List ℕ
-whole f nodes p q sizes refused reports grants merged =
-    legend_text f nodes p.units.most ++ line_text (codes "out") p p.units.start sizes ++ axes_text p 6 12 ++ grants ++ refusals_text p reports refused
-    ++ (line_text (codes "free") q (q.units.start + q.units.span) (map free_of reports) ++ line_text (codes "joined") q (q.units.start + q.units.span) (map joined_of reports)
-    ++ line_text (codes "most") q (q.units.start + q.units.span) (map most_of reports))
+whole f nodes p q sizes refused reports rectangles merged =
+    legend_text f nodes p.units.most ++ line_text (codes "out") p p.units.start sizes ++ axes_text p 6 12 ++ rectangles ++ refusals_text p reports refused
+    ++ (line_text (codes "free") q (bottom_of q) (map free_of reports) ++ line_text (codes "joined") q (bottom_of q) (map joined_of reports)
+    ++ line_text (codes "most") q (bottom_of q) (map most_of reports))
     ++ axes_text q 4 12 ++ notes_text merged
 
 pub one_body : (c d : Course) (a b : List ℕ) → IsLike c d → 0 < states d → IsBody c a → IsBody d b → a ≡ b
 one_body c d a b e some x y =
     let f : x.figures ≡ y.figures = figures_law d x.figures y.figures some (like_figures c d x.figures e x.are) y.are in
-    let p : x.above ≡ y.above = one_plot x.above y.above x.is_above y.is_above (ap (λ g. g.calls) f) (ap ranges_end f) in
-    let q : x.below ≡ y.below = one_plot x.below y.below x.is_below y.is_below (ap (λ g. g.calls) f) (ap reports_end f) in
-    let here : AreGrants y.above d.lives.items y.figures.calls x.merged x.grants =
-    moved (λ t ls n. AreGrants t ls n x.merged x.grants) x.above y.above c.lives.items d.lives.items x.figures.calls y.figures.calls p e.lives (ap (λ g. g.calls) f) x.are_grants in
-    let g = one_grants (nat_lt 20000 (length d.lives.items)) y.above d.lives.items y.figures.calls x.merged y.merged x.grants y.grants here y.are_grants in
+    let p : x.ranges ≡ y.ranges = one_plot x.ranges y.ranges x.is_ranges y.is_ranges (ap (λ g. g.calls) f) (ap ranges_end f) in
+    let q : x.reports ≡ y.reports = one_plot x.reports y.reports x.is_reports y.is_reports (ap (λ g. g.calls) f) (ap reports_end f) in
+    let here : AreRectangles y.ranges d.lives.items y.figures.calls x.merged x.rectangles =
+    moved (λ t ls n. AreRectangles t ls n x.merged x.rectangles) x.ranges y.ranges c.lives.items d.lives.items x.figures.calls y.figures.calls p e.lives (ap (λ g. g.calls) f) x.are_rectangles in
+    let g = one_rectangles (nat_lt 20000 (length d.lives.items)) y.ranges d.lives.items y.figures.calls x.merged y.merged x.rectangles y.rectangles here y.are_rectangles in
     x.is
-    ∙ ap (λ z. whole z c.max_allocs x.above x.below c.sizes.items c.refused.items c.reports.items x.grants x.merged) f
-    ∙ ap (λ z. whole y.figures z x.above x.below c.sizes.items c.refused.items c.reports.items x.grants x.merged) e.nodes
-    ∙ ap (λ z. whole y.figures d.max_allocs z x.below c.sizes.items c.refused.items c.reports.items x.grants x.merged) p
-    ∙ ap (λ z. whole y.figures d.max_allocs y.above z c.sizes.items c.refused.items c.reports.items x.grants x.merged) q
-    ∙ ap (λ z. whole y.figures d.max_allocs y.above y.below z c.refused.items c.reports.items x.grants x.merged) e.sizes
-    ∙ ap (λ z. whole y.figures d.max_allocs y.above y.below d.sizes.items z c.reports.items x.grants x.merged) e.refused
-    ∙ ap (λ z. whole y.figures d.max_allocs y.above y.below d.sizes.items d.refused.items z x.grants x.merged) e.reports
-    ∙ ap₂ (λ t m. whole y.figures d.max_allocs y.above y.below d.sizes.items d.refused.items d.reports.items t m) g.1 g.0
+    ∙ ap (λ z. whole z c.max_allocs x.ranges x.reports c.sizes.items c.refused.items c.reports.items x.rectangles x.merged) f
+    ∙ ap (λ z. whole y.figures z x.ranges x.reports c.sizes.items c.refused.items c.reports.items x.rectangles x.merged) e.nodes
+    ∙ ap (λ z. whole y.figures d.max_allocs z x.reports c.sizes.items c.refused.items c.reports.items x.rectangles x.merged) p
+    ∙ ap (λ z. whole y.figures d.max_allocs y.ranges z c.sizes.items c.refused.items c.reports.items x.rectangles x.merged) q
+    ∙ ap (λ z. whole y.figures d.max_allocs y.ranges y.reports z c.refused.items c.reports.items x.rectangles x.merged) e.sizes
+    ∙ ap (λ z. whole y.figures d.max_allocs y.ranges y.reports d.sizes.items z c.reports.items x.rectangles x.merged) e.refused
+    ∙ ap (λ z. whole y.figures d.max_allocs y.ranges y.reports d.sizes.items d.refused.items z x.rectangles x.merged) e.reports
+    ∙ ap₂ (λ t m. whole y.figures d.max_allocs y.ranges y.reports d.sizes.items d.refused.items d.reports.items t m) g.1 g.0
     ∙ sym y.is
 
 pub one_picture : (title : List ℕ) (c d : Course) (a b : List ℕ) → IsLike c d → 0 < states d → IsPictureOf title c a → IsPictureOf title d b → a ≡ b
 one_picture title c d a b e some x y =
     x.is
-    ∙ ap (λ body. opening ++ escaped title ++ codes "</title>\n" ++ style ++ heading title ++ escaped title ++ codes "</text>\n" ++ body ++ codes "</svg>\n")
+    ∙ ap (λ body. opening ++ escaped title ++ codes "</title>\n" ++ style ++ heading_text title ++ body ++ codes "</svg>\n")
     (one_body c d x.body y.body e some x.is_body y.is_body)
     ∙ sym y.is
 

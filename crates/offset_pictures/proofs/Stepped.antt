@@ -2,7 +2,7 @@
 use Rattle.std.proofs.Common.{◌≡◌, ℕ, ◌+◌, ◌*◌, ◌<◌, ◌≤◌, ◌∙◌, List, length, get_or, drop, ap, if◌then◌else◌, le-leb}
 use Rattle.std.proofs.lemmas.Bool.{lt-leb}
 use Rattle.std.proofs.lemmas.List.{at_drop_more}
-use Rattle.offset_pictures.specs.Axes.{first_step}
+use Rattle.offset_pictures.specs.Scales.{first_step}
 
 -- the number at a place is large enough
 pub taken : (most count : ℕ) (steps : List ℕ) (i : ℕ) → i < length steps → most ≤ get_or steps i 0 * count → first_step most count (drop i steps) ≡ get_or steps i 0

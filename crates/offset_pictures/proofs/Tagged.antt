@@ -20,21 +20,19 @@ use Rattle.offset_pictures.specs.declared.rectangles.Frame.{Frame}
 use Rattle.offset_pictures.specs.declared.shapes.Shape.{Shape}
 use Rattle.offset_pictures.specs.declared.step_lines.Column.{Column}
 use Rattle.offset_pictures.specs.declared.step_lines.Group.{Group}
-use Rattle.offset_pictures.specs.Axes.{round_step}
-use Rattle.offset_pictures.specs.Numerals.{grouped_text, pixels_text}
-use Rattle.offset_pictures.specs.Marks.{column_of, column_text, counted_from_1, height_of}
-use Rattle.offset_pictures.specs.Rectangles.{title_text}
-use Rattle.offset_pictures.specs.Places.{frame_of, right_of, up_of}
+use Rattle.offset_pictures.specs.Axes.{y_of, right_of, up_of}
+use Rattle.offset_pictures.specs.Scales.{round_step}
+use Rattle.offset_pictures.specs.Numerals.{counted_from_1, grouped_text, pixels_text}
+use Rattle.offset_pictures.specs.StepLines.{column_of, column_text, groups_from, groups_text, line_text, steps_text}
+use Rattle.offset_pictures.specs.Rectangles.{age_text, ages_text, falling_below, frame_of, plain_of_age, plain_text, title_text, titled_of_age, titled_text}
 use Rattle.offset_pictures.specs.Reasons.{asked_text, more_text, reason_text, reasons_text, report_after, report_text, rounded_text, said_text, spot_text, spots_of}
-use Rattle.offset_pictures.specs.Rectangles.{age_text, ages_text, falling_below, plain_of_age, plain_text, titled_of_age, titled_text}
-use Rattle.offset_pictures.specs.StepLines.{groups_from, groups_text, line_text, mark_text, marked_places, marks_text, refusals_text, steps_text}
+use Rattle.offset_pictures.specs.Marks.{mark_text, marked_xs, marks_text, refusals_text}
 use Rattle.offset_pictures.specs.Ticks.{axes_text, calls_text, calls_tick, multiples_to, units_tick}
 use Rattle.offset_pictures.specs.Xml.{IsContent}
 use Rattle.offset_pictures.specs.Xml.IsContent.{nothing}
 use Rattle.offset_pictures.proofs.Texts.{in_a_row, joined_up, same_text}
-use Rattle.offset_pictures.proofs.Nested.{IsQuoted, ◌⊛◌, end, ◌⊙◌, Attributes, InPieces, none, one, Grows, ◌⊕◌, content, empty_tag, full_tag, in_pieces, literal, quoted}
+use Rattle.offset_pictures.proofs.Nested.{Attributes, Grows, InPieces, IsQuoted, content, each, empty_tag, end, full_tag, in_pieces, literal, none, number_in_value, one, quoted, ◌⊕◌, ◌⊙◌, ◌⊛◌}
 use Rattle.offset_pictures.proofs.Formed.{decimal_numeric, grouped_numeric, joins, number_words, pixels_numeric, words}
-use Rattle.offset_pictures.proofs.Nested.{each, number_in_value}
 
 -- a number of pixels in a value, and numbers in text
 pub at : (n : ℕ) → IsQuoted (pixels_text n)
@@ -118,7 +116,7 @@ is_column c pen =
 
 are_groups : (u : Axis) (pen : ℕ) (gs : List Group) → IsQuoted (groups_text u pen gs)
 are_groups u pen [] = no_steps
-are_groups u pen (g ∷ gs) = is_column (column_of u g) pen ⊛ are_groups u (height_of u g.last) gs
+are_groups u pen (g ∷ gs) = is_column (column_of u g) pen ⊛ are_groups u (y_of u g.last) gs
 
 are_steps : (p : Plot) (base : ℕ) (values : List ℕ) → IsQuoted (steps_text p base values)
 are_steps p base values =
@@ -227,7 +225,7 @@ refusals_content p reports refused =
     either_content (nat_eq (length refused) 0) [] _ nothing
     (in_pieces (codes "<path class='refusal' d='") (marks_text p.calls bottom refused ∷ codes "'/>\n" ∷ reasons_text p reports refused ∷ [])
     (empty_tag (codes "path") refl
-    (one (codes "class") refl (quoted (codes "refusal") refl ⊙ end) (one (codes "d") refl (are_marks bottom (marked_places p.calls refused) ⊙ end) none)) ⊕ literal (codes "\n") refl
+    (one (codes "class") refl (quoted (codes "refusal") refl ⊙ end) (one (codes "d") refl (are_marks bottom (marked_xs p.calls refused) ⊙ end) none)) ⊕ literal (codes "\n") refl
     ⊕ content (are_reasons p reports refused))
     (ap (λ t. in_a_row (codes "<path class='refusal' d='") (marks_text p.calls bottom refused ∷ codes "'/>\n" ∷ t ∷ [])) (sym (append-nil (reasons_text p reports refused)))))
 

@@ -4,7 +4,7 @@ use Rattle.std.proofs.Math.Nat.{div-le_of_le-mul, div-lt_iff_lt-mul}
 use Rattle.std.proofs.lemmas.Nat.{le-div}
 use Rattle.offset_pictures.specs.declared.plots.Plot.{Plot}
 use Rattle.offset_pictures.specs.Numerals.{grouped_text, pixels_text}
-use Rattle.offset_pictures.specs.Places.{right_of, up_of}
+use Rattle.offset_pictures.specs.Axes.{right_of, up_of}
 use Rattle.offset_pictures.proofs.Texts.{goes_on, in_a_row, is_begun}
 use Rattle.std.specs.Prelude.{flat_map}
 use Rattle.std.proofs.lemmas.List.{flat_map_more}

@@ -2,7 +2,7 @@
 use Rattle.std.proofs.Common.{◌≡◌, ℕ, ◌+◌, List, [], ◌∷◌, ◌++◌, cond, length, map, refl, sym, ap, ap₂, ◌∙◌, append-nil, append_assoc, arith}
 use Rattle.std.proofs.lemmas.List.{map-append}
 use Rattle.offset_allocator.specs.declared.reports.StorageReport.{StorageReport}
-use Rattle.offset_allocator.specs.Requests.{IsReport}
+use Rattle.offset_allocator.specs.Reports.{IsReport}
 use Rattle.offset_allocator.specs.View.{View}
 use Rattle.offset_script.specs.declared.scripts.Command.{Command}
 use Rattle.offset_script.specs.Listening.{IsTold, Shows}
@@ -10,8 +10,7 @@ use Rattle.offset_script.specs.Machine.{State, Answer, step, after, report}
 use Rattle.offset_script.specs.Machine as machine
 use Rattle.offset_script.proofs.Nests.{after-append}
 use Rattle.offset_pictures.specs.declared.refusing.Refused.{Refused}
-use Rattle.offset_pictures.specs.Growth.{is_refusal}
-use Rattle.offset_pictures.specs.Refusals.{numbers_of, numbers_of_view, refused_call, refused_from}
+use Rattle.offset_pictures.specs.Refusals.{is_refusal, numbers_of, numbers_of_view, refusals_with_reasons_from, refused_call}
 use Rattle.offset_pictures.specs.Reports.{report_view, reports_from}
 use Rattle.offset_pictures.proofs.Reasoned.{by_numbers, refused_keeps, same_numbers}
 
@@ -28,14 +27,14 @@ reports-append [] c s = refl
 reports-append (d ∷ cs) c s = ap (λ l. report s ∷ l) (reports-append cs c (step d s).state)
 
 refused-append : (i : ℕ) (cs : List Command) (c : Command) (s : State) → let t = after cs s in
-    refused_from i (cs ++ c ∷ []) s ≡ refused_from i cs s ++ cond (is_refusal (step c t).answer) (refused_call (i + length cs) c (numbers_of t)) []
+    refusals_with_reasons_from i (cs ++ c ∷ []) s ≡ refusals_with_reasons_from i cs s ++ cond (is_refusal (step c t).answer) (refused_call (i + length cs) c (numbers_of t)) []
 refused-append i [] c s = append-nil _ ∙ ap (λ n. cond (is_refusal (step c s).answer) (refused_call n c (numbers_of s)) []) (omega arith)
 refused-append i (d ∷ cs) c s =
     let t : State = after cs (step d s).state in
     let first : List Refused = cond (is_refusal (step d s).answer) (refused_call i d (numbers_of s)) [] in
     ap (λ l. first ++ l) (refused-append (i + 1) cs c (step d s).state)
-    ∙ sym (append_assoc first (refused_from (i + 1) cs (step d s).state) _)
-    ∙ ap (λ n. (first ++ refused_from (i + 1) cs (step d s).state) ++ cond (is_refusal (step c t).answer) (refused_call n c (numbers_of t)) []) (omega arith)
+    ∙ sym (append_assoc first (refusals_with_reasons_from (i + 1) cs (step d s).state) _)
+    ∙ ap (λ n. (first ++ refusals_with_reasons_from (i + 1) cs (step d s).state) ++ cond (is_refusal (step c t).answer) (refused_call n c (numbers_of t)) []) (omega arith)
 
 -- one more report
 pub report_more : (cs : List Command) (s : State) (c : Command) (v : View) (a : Answer) (found more : List StorageReport) (r : StorageReport) → IsTold c (after cs s) v a → IsReport r v
@@ -47,7 +46,7 @@ report_more cs s c v a found more r told is so_far e =
 
 -- one more call, which may be refused
 pub refused_more : (cs : List Command) (s : State) (c : Command) (v : View) (a : Answer) (i : ℕ) (found more : List Refused) → IsTold c (after cs s) v a → i ≡ length cs
-    → found ≡ refused_from 0 cs s → more ≡ found ++ cond (is_refusal a) (refused_call i c (numbers_of_view v)) [] → more ≡ refused_from 0 (cs ++ c ∷ []) s
+    → found ≡ refusals_with_reasons_from 0 cs s → more ≡ found ++ cond (is_refusal a) (refused_call i c (numbers_of_view v)) [] → more ≡ refusals_with_reasons_from 0 (cs ++ c ∷ []) s
 refused_more cs s c v a i found more told at so_far e =
     let t : State = after cs s in
     let here : cond (is_refusal a) (refused_call i c (numbers_of_view v)) [] ≡ cond (is_refusal (step c t).answer) (refused_call (0 + length cs) c (numbers_of t)) [] =

@@ -2,8 +2,8 @@
 use Rattle.std.proofs.Common.{ℕ, ◌+◌, ◌*◌, cond, List, [], ◌∷◌, ◌++◌, Option, Some, None, codes, nat_eq, nat_lt, refl}
 use Rattle.std.specs.Fmt.{decimal}
 use Rattle.offset_pictures.specs.declared.figures.Figures.{Figures}
-use Rattle.offset_pictures.specs.Numerals.{grouped_text, pixels_text, share_text}
-use Rattle.offset_pictures.specs.Figures.{counted, share_of}
+use Rattle.offset_pictures.specs.Numerals.{grouped_text, pixels_text, share_of, share_text}
+use Rattle.offset_pictures.specs.Figures.{counted}
 use Rattle.offset_pictures.specs.Legend.{age_key, ages_key, colours_text, end_text, full_text, legend_text, merged_text, notes_text, plural, size_text, use_text, worst_text}
 use Rattle.offset_pictures.specs.Xml.{IsContent}
 use Rattle.offset_pictures.specs.Xml.IsContent.{nothing}
@@ -126,10 +126,10 @@ is_full : (f : Figures) → IsContent (full_text f)
 is_full f =
     either_content (nat_lt 0 f.full_states) _ []
     (in_pieces (codes "<text class='end' x='")
-    (pixels_text 117000 ∷ codes "' y='" ∷ pixels_text 62000 ∷ codes "'>At the node limit, after " ∷ grouped_text f.full_states ∷ codes " call" ∷ plural f.full_states ∷ codes ", "
+    (pixels_text 117000 ∷ codes "' y='" ∷ pixels_text 62000 ∷ codes "'>At the node limit, " ∷ grouped_text f.full_states ∷ codes " time" ∷ plural f.full_states ∷ codes ", "
     ∷ codes "0 units are reported as free.</text>\n" ∷ [])
     (full_tag (codes "text") refl (in_class (quoted (codes "end") refl) (at 117000) (at 62000))
-    (literal (codes "At the node limit, after ") refl ⊕ grouped f.full_states ⊕ literal (codes " call") refl ⊕ is_plural f.full_states ⊕ literal (codes ", ") refl
+    (literal (codes "At the node limit, ") refl ⊕ grouped f.full_states ⊕ literal (codes " time") refl ⊕ is_plural f.full_states ⊕ literal (codes ", ") refl
     ⊕ literal (codes "0 units are reported as free.") refl)
     ⊕ literal (codes "\n") refl)
     refl)

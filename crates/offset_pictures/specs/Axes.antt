@@ -1,21 +1,28 @@
--- Where a value is on an axis.
-use Rattle.std.specs.Prelude.{ℕ, ◌*◌, ◌/◌, List, [], ◌∷◌, min, nat_le, if◌then◌else◌}
+-- Where a value is on an axis, in hundredths of a pixel.
+use Rattle.std.specs.Prelude.{◌≡◌, ℕ, ◌+◌, ◌-◌, ◌*◌, ◌/◌}
+use Rattle.offset_pictures.specs.declared.axes.Axis.{Axis}
+use Rattle.offset_pictures.specs.Scales.{along}
 
--- how far from the value 0 a value is, on an axis of this length with this value at its end; one beyond it lies there
-abbrev pub along : ℕ → ℕ → ℕ → ℕ
-along span most value = min value most * span / most
+-- where a value lies, on an axis that runs to the right, from 0 at its start, and on one that runs upwards, to the largest
+-- value at its start: y counts down from the top of the picture
+abbrev pub right_of : Axis → ℕ → ℕ
+right_of a value = a.start + along a.span a.most value
 
--- the round numbers that 32 bits hold
-abbrev pub round_numbers : List ℕ
-round_numbers =
-    1 ∷ 2 ∷ 5 ∷ 10 ∷ 20 ∷ 50 ∷ 100 ∷ 200 ∷ 500 ∷ 1000 ∷ 2000 ∷ 5000 ∷ 10000 ∷ 20000 ∷ 50000 ∷ 100000 ∷ 200000 ∷ 500000 ∷ 1000000 ∷ 2000000 ∷ 5000000
-    ∷ 10000000 ∷ 20000000 ∷ 50000000 ∷ 100000000 ∷ 200000000 ∷ 500000000 ∷ 1000000000 ∷ 2000000000 ∷ []
+abbrev pub up_of : Axis → ℕ → ℕ
+up_of a value = a.start + a.span - along a.span a.most value
 
--- the first of these numbers of which `count` add up to at least `most`; the last round number where there is none
-abbrev pub first_step : ℕ → ℕ → List ℕ → ℕ
-first_step most count [] = 2000000000
-first_step most count (step ∷ steps) = if nat_le most (step * count) then step else first_step most count steps
+-- a length in whole tenths of a pixel
+abbrev pub in_tenths : ℕ → ℕ
+in_tenths length = length / 10 * 10
 
--- the smallest round number of which `count` add up to at least `most`
-abbrev pub round_step : ℕ → ℕ → ℕ
-round_step most count = first_step most count round_numbers
+-- to a tenth of a pixel: the x of a state, and of the call that begins it, on an axis of calls, and the y of a value, on an
+-- axis of units
+abbrev pub x_of : Axis → ℕ → ℕ
+x_of calls state = in_tenths (right_of calls state)
+
+abbrev pub y_of : Axis → ℕ → ℕ
+y_of units value = in_tenths (up_of units value)
+
+-- the left or upper end of an axis, how long it is, and the largest value that it shows
+abbrev pub IsAxis : ℕ → ℕ → ℕ → Axis → Type 0
+IsAxis start span most a = (a.start ≡ start) × (a.span ≡ span) × (a.most ≡ most)

@@ -7,13 +7,13 @@ use Rattle.offset_pictures.specs.declared.figures.Count.{Count}
 use Rattle.offset_pictures.specs.declared.figures.Figures.{Figures}
 use Rattle.offset_pictures.specs.Figures.{AreTotals, counted, size_after, region_after, free_after}
 
--- a count with one more grant, of so many units
+-- a count with one more life, of so many units
 abbrev pub raised : Count → ℕ → Count
-raised c units = record { grants = c.grants + 1; units = c.units + units }
+raised c units = record { lives = c.lives + 1; units = c.units + units }
 
 -- how many of these lives pass a test, and how many units they have
 pub record IsCount (test : Life → Bool) (ls : List Life) (c : Count) : Type 0 where
-  pub grants : c.grants ≡ count_by test ls
+  pub lives : c.lives ≡ count_by test ls
   pub units : c.units ≡ sum_by (λ l. if test l then l.size else 0) ls
 
 -- the numbers before any state is seen

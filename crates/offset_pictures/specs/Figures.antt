@@ -1,19 +1,9 @@
--- The numbers in a picture.
-use Rattle.std.specs.Prelude.{◌≡◌, ℕ, zero, suc, ◌+◌, ◌-◌, ◌*◌, ◌/◌, ◌<◌, ◌≤◌, Bool, ◌&&◌, List, [], ◌∷◌, length, map, fold, count_by, sum_by, slice_index, min, max, nat_eq, nat_lt, if◌then◌else◌}
+-- What the legend of a picture counts, and what its plots are scaled by.
+use Rattle.std.specs.Prelude.{◌≡◌, ℕ, zero, suc, ◌+◌, ◌-◌, ◌<◌, ◌≤◌, Bool, ◌&&◌, List, length, map, fold, count_by, sum_by, slice_index, min, max, nat_eq, nat_lt, if◌then◌else◌}
 use Rattle.offset_pictures.specs.declared.living.Life.{Life}
 use Rattle.offset_pictures.specs.declared.course.Course.{Course}
 use Rattle.offset_pictures.specs.declared.figures.Figures.{Figures}
 use Rattle.offset_pictures.specs.Lives.{is_on, life_view}
-
--- the age group of a life of this many calls: how many of these numbers it exceeds
-abbrev pub age_of : ℕ → ℕ
-age_of calls = count_by (λ most. nat_lt most calls) (10 ∷ 30 ∷ 100 ∷ 300 ∷ 1000 ∷ 3000 ∷ 10000 ∷ [])
-
--- the used share of a space in tenths of a percent, rounded down; a space of no units counts as one of one unit
-abbrev pub share_of : ℕ → ℕ → ℕ
-share_of used size = used * 1000 / max size 1
-
--- ---- what a picture says of a course
 
 -- a number as the picture has it: at most the largest of 32 bits
 abbrev pub counted : ℕ → ℕ
@@ -72,7 +62,8 @@ pub record AreTotals (f : Figures) (c : Course) : Type 0 where
   pub first_size : f.first_size ≡ size_after c 0
   pub highest : f.highest ≡ largest (map end_of c.lives.items)
 
--- the numbers of a course: where it has a state, each peak is that of one, and the size, or the report, is of that state
+-- the numbers of a course: where it has a state, each extreme is that of the first state that has it, and the size then,
+-- or the report, is of that state
 pub record AreFigures (f : Figures) (c : Course) : Type 0 where
   pub totals : AreTotals f c
   pub live : 0 < states c → (s : ℕ) × IsFirstLargest (live_after c) (states c) s × (f.most_live ≡ live_after c s)

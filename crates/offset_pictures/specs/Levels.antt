@@ -1,4 +1,4 @@
--- The heights of the lower plot of a picture.
+-- The values of the lower plot of a picture.
 use Rattle.std.specs.Prelude.{ℕ, ◌≤◌, List, All}
 use Rattle.offset_allocator.specs.Classes.{value, down}
 use Rattle.offset_allocator.specs.declared.reports.StorageReport.{StorageReport}

@@ -1,8 +1,8 @@
 pub mod Axes
 pub mod Counting
+pub mod Course
 pub mod Ends
 pub mod Figures
-pub mod Growth
 pub mod Legend
 pub mod Levels
 pub mod Lines
@@ -12,11 +12,13 @@ pub mod Merging
 pub mod Numerals
 pub mod Overlaps
 pub mod Picture
-pub mod Places
+pub mod Plots
 pub mod Reasons
 pub mod Rectangles
 pub mod Refusals
 pub mod Reports
+pub mod Scales
+pub mod Shapes
 pub mod StepLines
 pub mod Ticks
 pub mod Titles

@@ -6,7 +6,7 @@ use Rattle.offset_script.specs.declared.scripts.Command.TheVariants as command
 use Rattle.offset_script.specs.Machine.{Block, has_number, total, Answer, State, answers, after, start}
 use Rattle.offset_script.specs.Machine as machine
 use Rattle.offset_script.specs.Totals.{requested_units}
-use Rattle.offset_pictures.specs.declared.living.Life as program
+use Rattle.offset_pictures.specs.declared.living.Life as living
 
 -- the grant of this number has size units from offset on; it is live from after call first to call last, counted from 0, and
 -- `lived` is how many calls that are
@@ -19,7 +19,7 @@ pub record Life : Type 0 where
   pub lived : ℕ
 
 -- a life of the program, as plain data
-abbrev pub life_view : program.Life → Life
+abbrev pub life_view : living.Life → Life
 life_view l = record { number = l.number; offset = l.offset; size = l.size; first = l.first; last = l.last; lived = l.lived }
 
 -- whether a command leaves grant k live: all do but a reset and a release of k

@@ -1,35 +1,47 @@
--- Where lines of steps and marks of calls are, and the steps as they are written. Lengths are in hundredths of a pixel.
-use Rattle.std.specs.Prelude.{◌≡◌, ℕ, ◌+◌, ◌*◌, ◌/◌, ◌&&◌, List, [], ◌++◌, codes, MatchOption, min, nat_eq, if◌then◌else◌}
+-- The marks of refused calls, below a plot. Lengths are in hundredths of a pixel.
+use Rattle.std.specs.Prelude.{ℕ, ◌+◌, ◌<◌, ◌≤◌, List, [], ◌∷◌, ◌++◌, All, Contains, codes, flat_map, length, map, nat_eq, if◌then◌else◌}
+use Rattle.offset_allocator.specs.declared.reports.StorageReport.{StorageReport}
 use Rattle.offset_pictures.specs.declared.axes.Axis.{Axis}
-use Rattle.offset_pictures.specs.declared.step_lines.Column.{Column}
-use Rattle.offset_pictures.specs.declared.step_lines.Group.{Group}
-use Rattle.offset_pictures.specs.declared.step_lines.Pen.{Pen}
-use Rattle.offset_pictures.specs.Places.{up_of}
-use Rattle.offset_pictures.specs.Numerals.{pixels_text}
+use Rattle.offset_pictures.specs.declared.plots.Plot.{Plot}
+use Rattle.offset_pictures.specs.declared.refusing.Refused.{Refused}
+use Rattle.offset_pictures.specs.Axes.{right_of, x_of}
+use Rattle.offset_pictures.specs.Numerals.{counted_from_1, pixels_text}
+use Rattle.offset_pictures.specs.Plots.{bottom_of}
+use Rattle.offset_pictures.specs.Reasons.{reasons_text}
 
--- a call counted from 1, where it is counted from 0
-abbrev pub counted_from_1 : ℕ → ℕ
-counted_from_1 call = min (call + 1) 18446744073709551615
+-- what is after a number, without the next one where it is equal
+abbrev pub after_equal : ℕ → List ℕ → List ℕ
+after_equal n [] = []
+after_equal n (m ∷ ms) = if nat_eq n m then ms else m ∷ ms
 
--- the length in whole tenths of a pixel
-abbrev pub in_tenths : ℕ → ℕ
-in_tenths length = length / 10 * 10
+-- one of each run of equal numbers
+abbrev pub one_of_each : List ℕ → List ℕ
+one_of_each [] = []
+one_of_each (n ∷ ns) = n ∷ after_equal n (one_of_each ns)
 
--- the height of a value, to a tenth of a pixel
-abbrev pub height_of : Axis → ℕ → ℕ
-height_of units value = in_tenths (up_of units value)
+-- a mark at an x, from this y down
+abbrev pub mark_text : ℕ → ℕ → List ℕ
+mark_text y x = codes "M" ++ pixels_text x ++ codes " " ++ pixels_text y ++ codes "v12"
 
--- the heights of the values of a group: a larger value lies higher
-abbrev pub column_of : Axis → Group → Column
-column_of units g = record { left = g.left; top = height_of units g.most; bottom = height_of units g.least; last = height_of units g.last }
+-- the x of each mark of these calls, which are counted from 0: one for neighbours at one x
+abbrev pub marked_xs : Axis → List Refused → List ℕ
+marked_xs calls marked = one_of_each (map (λ r. x_of calls (counted_from_1 r.call)) marked)
 
--- a pen with a value is at its height
-abbrev pub IsAt : Axis → Pen → Type 0
-IsAt units p = MatchOption p.value (Unit {0}) (λ v. p.height ≡ height_of units v)
+-- the marks of these calls, from this y down
+abbrev pub marks_text : Axis → ℕ → List Refused → List ℕ
+marks_text calls y marked = flat_map (mark_text y) (marked_xs calls marked)
 
--- the steps of a line that is at the height `pen`: to the left edge of a column, and over its heights to the last
-abbrev pub column_text : Column → ℕ → List ℕ
-column_text c pen =
-    if nat_eq c.top pen && nat_eq c.bottom pen then []
-    else codes "H" ++ pixels_text c.left ++ (if nat_eq c.top c.last then [] else codes "V" ++ pixels_text c.top) ++ (if nat_eq c.bottom c.last then [] else codes "V" ++ pixels_text c.bottom)
-    ++ codes "V" ++ pixels_text c.last
+-- the marks of refused calls as an element, from the lower end of the plot down, and why they were refused; where there are
+-- none, nothing
+abbrev pub refusals_text : Plot → List StorageReport → List Refused → List ℕ
+refusals_text p reports refused =
+    if nat_eq (length refused) 0 then []
+    else codes "<path class='refusal' d='" ++ marks_text p.calls (bottom_of p) refused ++ codes "'/>\n" ++ reasons_text p reports refused
+
+-- a mark is at this x, or less than a tenth of a pixel to the left of it
+abbrev pub IsMarked : List ℕ → ℕ → Type 0
+IsMarked marks x = (mark : ℕ) × Contains marks mark × (mark ≤ x) × (x < mark + 10)
+
+-- whichever calls are refused, each has its mark
+abbrev pub EachRefusalIsMarked : Type 0
+EachRefusalIsMarked = (calls : Axis) (refused : List Refused) → All (λ r. IsMarked (marked_xs calls refused) (right_of calls (counted_from_1 r.call))) refused

@@ -7,8 +7,9 @@ use Rattle.offset_pictures.specs.declared.rectangles.Frame.{Frame}
 use Rattle.offset_pictures.specs.declared.shapes.Shape.{Shape}
 use Rattle.offset_pictures.specs.Lives.{life_view, lives_of}
 use Rattle.offset_pictures.specs.Merging.{rounded_if_tiny}
-use Rattle.offset_pictures.specs.Picture.{IsPlot}
-use Rattle.offset_pictures.specs.Places.{frame_of, shape_of}
+use Rattle.offset_pictures.specs.Plots.{IsPlot, ranges_height, ranges_top}
+use Rattle.offset_pictures.specs.Rectangles.{frame_of}
+use Rattle.offset_pictures.specs.Shapes.{shape_of}
 
 -- two rectangles do not overlap; they may touch
 abbrev pub AreApart : Shape → Shape → Type 0
@@ -43,5 +44,5 @@ pub record AreRectanglesApart (p : Plot) (a b : Life) : Type 0 where
 -- so it is in any script, in the plot of the ranges, whatever its axes show
 abbrev pub RectanglesAreApart : Type 0
 RectanglesAreApart =
-    (size limit : ℕ) → 2 ≤ limit → (cs : List Command) (count last : ℕ) (p : Plot) (lives : List Life) → IsPlot count 15000 40000 last p → map life_view lives ≡ lives_of size limit cs
+    (size limit : ℕ) → 2 ≤ limit → (cs : List Command) (count last : ℕ) (p : Plot) (lives : List Life) → IsPlot count ranges_top ranges_height last p → map life_view lives ≡ lives_of size limit cs
     → AllPairs (AreRectanglesApart p) lives

@@ -1,20 +1,18 @@
 -- The whole text of a picture.
-use Rattle.std.specs.Prelude.{◌≡◌, ℕ, ◌+◌, ◌<◌, List, ◌++◌, IsUtf8, Option, codes, length, map}
+use Rattle.std.specs.Prelude.{◌≡◌, ℕ, ◌<◌, List, ◌++◌, IsUtf8, Option, codes}
 use Rattle.offset_script.specs.Grammar.{Plan}
 use Rattle.offset_pictures.specs.declared.course.Course.{Course}
 use Rattle.offset_pictures.specs.declared.figures.Figures.{Figures}
 use Rattle.offset_pictures.specs.declared.plots.Plot.{Plot}
-use Rattle.offset_pictures.specs.Figures.{AreFigures, counted, states}
-use Rattle.offset_pictures.specs.Growth.{AreSizes}
+use Rattle.offset_pictures.specs.Course.{IsCourse}
+use Rattle.offset_pictures.specs.Figures.{AreFigures, states}
 use Rattle.offset_pictures.specs.Legend.{legend_text, notes_text}
-use Rattle.offset_pictures.specs.Lives.{life_view, lives_of}
-use Rattle.offset_pictures.specs.Places.{IsAxis, ranges_end, reports_end}
-use Rattle.offset_pictures.specs.Rectangles.{AreGrants}
-use Rattle.offset_pictures.specs.Refusals.{refused_of}
-use Rattle.offset_pictures.specs.Reports.{report_view, reports_of}
-use Rattle.offset_pictures.specs.StepLines.{beyond_text, refusals_text, reports_text}
+use Rattle.offset_pictures.specs.Marks.{refusals_text}
+use Rattle.offset_pictures.specs.Plots.{IsPlot, ranges_end, ranges_height, ranges_top, reports_end, reports_height, reports_top}
+use Rattle.offset_pictures.specs.Rectangles.{AreRectangles}
+use Rattle.offset_pictures.specs.StepLines.{beyond_text, reports_text}
 use Rattle.offset_pictures.specs.Ticks.{axes_text}
-use Rattle.offset_pictures.specs.Titles.{escaped, heading}
+use Rattle.offset_pictures.specs.Titles.{escaped, heading_text}
 use Rattle.offset_pictures.specs.Xml.{IsWellFormed}
 
 -- what a picture begins with, up to its title
@@ -41,43 +39,28 @@ style =
     ++ codes "</style>\n"
     ++ codes "<rect class='back' width='1200' height='840'/>\n"
 
--- the course of a script: its lives, reports, sizes and refusals are those of the plain machine, and each grant has one life
-pub record IsCourse (plan : Plan) (c : Course) : Type 0 where
-  pub limit : c.max_allocs ≡ plan.header.max_allocs
-  pub grants : c.grants ≡ length c.lives.items
-  pub lives : map life_view c.lives.items ≡ lives_of plan.header.size plan.header.max_allocs plan.commands
-  pub reports : map report_view c.reports.items ≡ reports_of plan.header.size plan.header.max_allocs plan.commands
-  pub sizes : AreSizes c.sizes.items plan.header.size plan.header.max_allocs plan.commands
-  pub refused : c.refused.items ≡ refused_of plan.header.size plan.header.max_allocs plan.commands
-
--- a plot of so many calls: they run to the right, and its units upwards, to the unit `last` at the height `top`
-pub record IsPlot (count top height last : ℕ) (p : Plot) : Type 0 where
-  pub calls : IsAxis 12000 105000 (counted (count + 1)) p.calls
-  pub units : IsAxis top height last p.units
-
 -- What a picture of a course has below its heading: the legend; in the plot of the ranges the units that are not in the
--- space yet, the axes, the rectangles of the lives, and the marks of refused calls with their reasons; in the plot of the reports their
--- lines, and the axes; and the notes.
+-- space yet, the axes, the rectangles of the lives, and the marks of refused calls with their reasons; in the plot of the
+-- reports their lines, and the axes; and the notes.
 pub record IsBody (c : Course) (text : List ℕ) : Type 0 where
   pub figures : Figures
   pub are : AreFigures figures c
-  pub above : Plot
-  pub is_above : IsPlot figures.calls 15000 40000 (ranges_end figures) above
-  pub below : Plot
-  pub is_below : IsPlot figures.calls 63000 15000 (reports_end figures) below
-  pub grants : List ℕ
+  pub ranges : Plot
+  pub is_ranges : IsPlot figures.calls ranges_top ranges_height (ranges_end figures) ranges
+  pub reports : Plot
+  pub is_reports : IsPlot figures.calls reports_top reports_height (reports_end figures) reports
+  pub rectangles : List ℕ
   pub merged : Option ℕ
-  pub are_grants : AreGrants above c.lives.items figures.calls merged grants
+  pub are_rectangles : AreRectangles ranges c.lives.items figures.calls merged rectangles
   pub is : text
-      ≡ legend_text figures c.max_allocs above.units.most ++ beyond_text above c ++ axes_text above 6 12 ++ grants ++ refusals_text above c.reports.items c.refused.items ++ reports_text below c
-      ++ axes_text below 4 12
-      ++ notes_text merged
+      ≡ legend_text figures c.max_allocs ranges.units.most ++ beyond_text ranges c ++ axes_text ranges 6 12 ++ rectangles ++ refusals_text ranges c.reports.items c.refused.items
+      ++ reports_text reports c ++ axes_text reports 4 12 ++ notes_text merged
 
 -- the picture of a course, with this title: its accessible name, and the heading that it shows
 pub record IsPictureOf (title : List ℕ) (c : Course) (text : List ℕ) : Type 0 where
   pub body : List ℕ
   pub is_body : IsBody c body
-  pub is : text ≡ opening ++ escaped title ++ codes "</title>\n" ++ style ++ heading title ++ escaped title ++ codes "</text>\n" ++ body ++ codes "</svg>\n"
+  pub is : text ≡ opening ++ escaped title ++ codes "</title>\n" ++ style ++ heading_text title ++ body ++ codes "</svg>\n"
 
 -- the picture of a script, with this title
 pub record IsPicture (title : List ℕ) (plan : Plan) (text : List ℕ) : Type 0 where
@@ -89,7 +72,7 @@ pub record IsPicture (title : List ℕ) (plan : Plan) (text : List ℕ) : Type 0
 -- and a line end
 abbrev pub HasTitle : List ℕ → List ℕ → Type 0
 HasTitle title text = (inner body : List ℕ)
-    × (text ≡ opening ++ escaped title ++ codes "</title>\n" ++ inner ++ heading title ++ escaped title ++ codes "</text>\n" ++ body ++ codes "</svg>\n")
+    × (text ≡ opening ++ escaped title ++ codes "</title>\n" ++ inner ++ heading_text title ++ body ++ codes "</svg>\n")
 
 -- each picture is such a text
 abbrev pub PicturesHaveTitles : Type 0

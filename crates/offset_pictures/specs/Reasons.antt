@@ -2,7 +2,7 @@
 use Rattle.std.specs.Prelude.{ℕ, ◌+◌, ◌-◌, ◌*◌, ◌/◌, List, [], ◌∷◌, ◌++◌, codes, flat_map, nat_eq, nat_le, slice_index_or, if◌then◌else◌}
 use Rattle.std.specs.Fmt.{decimal}
 use Rattle.offset_allocator.specs.Classes.{value, up}
-use Rattle.offset_allocator.specs.Requests.{refusal_words}
+use Rattle.offset_allocator.specs.Requests.{refusal_words, units_needed}
 use Rattle.offset_allocator.specs.declared.reports.Refusal.{Refusal}
 use Rattle.offset_allocator.specs.declared.reports.Refusal.TheVariants.{Nodes}
 use Rattle.offset_allocator.specs.declared.reports.StorageReport.{StorageReport}
@@ -14,23 +14,27 @@ use Rattle.offset_pictures.specs.declared.refusing.Asked.TheVariants.{Alloc, Ali
 use Rattle.offset_pictures.specs.declared.refusing.Reason.{Reason}
 use Rattle.offset_pictures.specs.declared.refusing.Reason.TheVariants.{Request, Limit, NoRoom, Smaller, Larger}
 use Rattle.offset_pictures.specs.declared.refusing.Refused.{Refused}
-use Rattle.offset_pictures.specs.Numerals.{pixels_text}
-use Rattle.offset_pictures.specs.Marks.{counted_from_1}
-use Rattle.offset_pictures.specs.Places.{right_of}
+use Rattle.offset_pictures.specs.Axes.{right_of}
+use Rattle.offset_pictures.specs.Numerals.{counted_from_1, pixels_text}
+use Rattle.offset_pictures.specs.Plots.{bottom_of}
 
--- what units are rounded up to, where a block may have so many
+-- the largest value of a class that a block can have: no space grants a request for more units
+abbrev pub largest_class : ℕ
+largest_class = 4026531840
+
+-- what units are rounded up to, where a request for so many can be granted in any space at all
 abbrev pub rounded_text : ℕ → List ℕ
-rounded_text units = if nat_le units 4026531840 then codes ", rounded up to " ++ decimal (value (up units)) else []
+rounded_text units = if nat_le units largest_class then codes ", rounded up to " ++ decimal (value (up units)) else []
 
 -- what a call asked for
 abbrev pub asked_text : Asked → List ℕ
 asked_text (Alloc n) = codes "alloc " ++ decimal n ++ rounded_text n
-asked_text (Align n align) = codes "align " ++ decimal n ++ codes " " ++ decimal align ++ rounded_text (n + align - 1)
+asked_text (Align n align) = codes "align " ++ decimal n ++ codes " " ++ decimal align ++ rounded_text (units_needed n align)
 asked_text (Extend more) = codes "extend " ++ decimal more
 asked_text (Shrink k n) = codes "shrink " ++ decimal k ++ codes " " ++ decimal n
 asked_text (Grow k n) = codes "grow " ++ decimal k ++ codes " " ++ decimal n
 
--- what is free, but at the node limit
+-- what is free; nothing where nodes are too few
 abbrev pub report_text : Refusal → StorageReport → List ℕ
 report_text Nodes r = []
 report_text other r = codes "; largest free region " ++ decimal r.largest_free_region ++ codes ", of " ++ decimal r.total_free_space ++ codes " free"
@@ -53,15 +57,15 @@ said_text reports r = codes "call " ++ decimal (counted_from_1 r.call) ++ codes 
 
 -- ---- the calls of one pixel
 
--- where the pixel begins in which a call lies, counted from 0
+-- where the pixel begins in which the call with this number from 0 lies
 abbrev pub pixel_of : Axis → ℕ → ℕ
 pixel_of calls call = right_of calls (counted_from_1 call) / 100 * 100
 
--- one call, from which its pixel begins
+-- the spot of one call, whose pixel begins at `left`
 abbrev pub one_spot : ℕ → Refused → Spot
 one_spot left r = record { left = left; first = r; more = 0 }
 
--- the first of the calls of a pixel, before others: it joins the next ones, where they are of the same pixel
+-- a spot before others: it joins the next one, where both are of one pixel
 abbrev pub spot_before : Spot → List Spot → List Spot
 spot_before a [] = a ∷ []
 spot_before a (b ∷ bs) = if nat_eq a.left b.left then record { left = a.left; first = a.first; more = a.more + b.more + 1 } ∷ bs else a ∷ b ∷ bs
@@ -75,12 +79,12 @@ spots_of calls (r ∷ rs) = spot_before (one_spot (pixel_of calls r.call) r) (sp
 abbrev pub more_text : ℕ → List ℕ
 more_text more = if nat_eq more 0 then [] else codes "; " ++ decimal more ++ codes " more refused here"
 
--- the place of the marks of a pixel, from this height down, with a title: what is said of the first of its calls
+-- the spot of the marks of a pixel, from this y down, with a title: what is said of the first of its calls
 abbrev pub spot_text : ℕ → List StorageReport → Spot → List ℕ
-spot_text height reports s =
-    codes "<rect x='" ++ pixels_text (s.left - 100) ++ codes "' y='" ++ pixels_text height ++ codes "' width='3' height='12'><title>" ++ said_text reports s.first ++ more_text s.more
+spot_text y reports s =
+    codes "<rect x='" ++ pixels_text (s.left - 100) ++ codes "' y='" ++ pixels_text y ++ codes "' width='3' height='12'><title>" ++ said_text reports s.first ++ more_text s.more
     ++ codes "</title></rect>\n"
 
 -- why these calls were refused, below the plot, where these are the reports of all states
 abbrev pub reasons_text : Plot → List StorageReport → List Refused → List ℕ
-reasons_text p reports refused = codes "<g class='why'>\n" ++ flat_map (spot_text (p.units.start + p.units.span) reports) (spots_of p.calls refused) ++ codes "</g>\n"
+reasons_text p reports refused = codes "<g class='why'>\n" ++ flat_map (spot_text (bottom_of p) reports) (spots_of p.calls refused) ++ codes "</g>\n"

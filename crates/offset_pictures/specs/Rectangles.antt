@@ -1,5 +1,5 @@
--- The rectangles of grants, as they are written.
-use Rattle.std.specs.Prelude.{◌≡◌, ℕ, zero, suc, ◌+◌, ◌&&◌, List, [], ◌∷◌, ◌++◌, Option, Some, None, IsPermutation, codes, filter, flat_map, length, map, nat_eq, nat_le, nat_lt}
+-- The rectangles of lives, as they are written.
+use Rattle.std.specs.Prelude.{◌≡◌, ℕ, zero, suc, ◌+◌, ◌-◌, ◌&&◌, List, [], ◌∷◌, ◌++◌, Option, Some, None, IsPermutation, codes, filter, flat_map, length, map, max, nat_eq, nat_le, nat_lt}
 use Rattle.std.specs.Prelude.{if◌then◌else◌}
 use Rattle.std.specs.Bool.{MatchBool}
 use Rattle.std.specs.Fmt.{decimal}
@@ -8,11 +8,13 @@ use Rattle.offset_pictures.specs.declared.living.Life.{Life}
 use Rattle.offset_pictures.specs.declared.plots.Plot.{Plot}
 use Rattle.offset_pictures.specs.declared.rectangles.Frame.{Frame}
 use Rattle.offset_pictures.specs.declared.shapes.Shape.{Shape}
-use Rattle.offset_pictures.specs.Figures.{age_of}
-use Rattle.offset_pictures.specs.Marks.{counted_from_1}
 use Rattle.offset_pictures.specs.Merging.{AreMerged}
-use Rattle.offset_pictures.specs.Numerals.{pixels_text}
-use Rattle.offset_pictures.specs.Places.{frame_of, shape_of}
+use Rattle.offset_pictures.specs.Numerals.{counted_from_1, pixels_text}
+use Rattle.offset_pictures.specs.Shapes.{age_of, shape_of}
+
+-- a rectangle as it is drawn: as wide and as high, but at least 0.3 pixels, from its left and its lower edge on
+abbrev pub frame_of : Shape → Frame
+frame_of s = record { x = s.left; y = s.bottom - max (s.bottom - s.top) 30; width = max (s.right - s.left) 30; height = max (s.bottom - s.top) 30 }
 
 -- the beginning of a rectangle's element: with an edge where it is at least 3 pixels wide and high
 abbrev pub rectangle_text : Frame → List ℕ
@@ -55,14 +57,15 @@ falling_below (suc n) = n ∷ falling_below n
 abbrev pub ages_text : (ℕ → List ℕ) → List ℕ
 ages_text held = flat_map (age_text held) (falling_below 8)
 
--- what is written for lives, and how many merged rectangles there are: of at most 20,000 lives each has a rectangle with
--- its title, in the order of the lives
-abbrev pub AreGrants : Plot → List Life → ℕ → Option ℕ → List ℕ → Type 0
-AreGrants plot lives calls merged text = MatchBool (nat_lt 20000 (length lives))
+-- what is written for lives, by ages, the longest lives first, and within an age in the order of the list: of more than
+-- 20,000 lives the merged rectangles without titles, and `merged` is how many they are; else each life's rectangle with its
+-- title
+abbrev pub AreRectangles : Plot → List Life → ℕ → Option ℕ → List ℕ → Type 0
+AreRectangles plot lives calls merged text = MatchBool (nat_lt 20000 (length lives))
     ((shapes : List Shape) × AreMerged plot lives shapes × (merged ≡ Some (length shapes)) × (text ≡ ages_text (plain_of_age shapes)))
     ((merged ≡ None) × (text ≡ ages_text (titled_of_age calls (map (shape_of plot) lives) lives)))
 
--- ---- every grant has its rectangle
+-- ---- every life has its rectangle
 
 -- the lives of an age, in the order of the list
 abbrev pub lives_of_age : List Life → ℕ → List Life

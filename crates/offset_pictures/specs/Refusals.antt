@@ -1,5 +1,5 @@
 -- Which calls of the plain machine are refused, and why.
-use Rattle.std.specs.Prelude.{◌≡◌, ℕ, ◌+◌, List, [], ◌∷◌, ◌++◌, length, map, sum, nat_le, nat_lt, if◌then◌else◌}
+use Rattle.std.specs.Prelude.{◌≡◌, ℕ, ◌+◌, Bool, true, false, List, [], ◌∷◌, ◌++◌, length, map, sum, nat_le, nat_lt, if◌then◌else◌}
 use Rattle.offset_allocator.specs.Classes.{value, up}
 use Rattle.offset_allocator.specs.Requests.{CanGrant, blocks_needed, size_needed, units_needed}
 use Rattle.offset_allocator.specs.View.{View, max_size}
@@ -8,12 +8,27 @@ use Rattle.offset_allocator.specs.declared.reports.Refusal.{Refusal}
 use Rattle.offset_allocator.specs.declared.reports.Refusal.TheVariants.{Nodes, TooLarge, Space, Fragmented}
 use Rattle.offset_script.specs.declared.scripts.Command.{Command}
 use Rattle.offset_script.specs.declared.scripts.Command.TheVariants as command
-use Rattle.offset_script.specs.Machine.{State, free_sizes, start, step, total}
+use Rattle.offset_script.specs.Machine.{Answer, State, answers, free_sizes, start, step, total}
+use Rattle.offset_script.specs.Machine as machine
 use Rattle.offset_pictures.specs.declared.refusing.Asked.TheVariants as asked
 use Rattle.offset_pictures.specs.declared.refusing.Reason.{Reason}
 use Rattle.offset_pictures.specs.declared.refusing.Reason.TheVariants as reason
 use Rattle.offset_pictures.specs.declared.refusing.Refused.{Refused}
-use Rattle.offset_pictures.specs.Growth.{is_refusal, refusals_of}
+
+-- whether an answer is `none`
+abbrev pub is_refusal : Answer → Bool
+is_refusal machine.Refused = true
+is_refusal other = false
+
+-- the calls with the answer `none`, where the first of these answers is that of call i
+abbrev pub refused_calls_from : ℕ → List Answer → List ℕ
+refused_calls_from i [] = []
+refused_calls_from i (a ∷ more) = if is_refusal a then i ∷ refused_calls_from (i + 1) more else refused_calls_from (i + 1) more
+
+abbrev pub refused_calls : ℕ → ℕ → List Command → List ℕ
+refused_calls size limit cs = refused_calls_from 0 (answers cs (start size limit))
+
+-- ---- why
 
 -- the numbers of a space that tell why it refuses: how many blocks there are, and fewer than how many there may be, and all
 -- units, and the free ones
@@ -55,13 +70,13 @@ IsRefusedBy v (command.Align n align) = CanGrant (blocks_needed align) (units_ne
 IsRefusedBy v other = Unit {0}
 
 -- the refused ones among commands, the first of which is call i, each with its reason in the space that it found
-abbrev pub refused_from : ℕ → List Command → State → List Refused
-refused_from i [] s = []
-refused_from i (c ∷ cs) s = (if is_refusal (step c s).answer then refused_call i c (numbers_of s) else []) ++ refused_from (i + 1) cs (step c s).state
+abbrev pub refusals_with_reasons_from : ℕ → List Command → State → List Refused
+refusals_with_reasons_from i [] s = []
+refusals_with_reasons_from i (c ∷ cs) s = (if is_refusal (step c s).answer then refused_call i c (numbers_of s) else []) ++ refusals_with_reasons_from (i + 1) cs (step c s).state
 
-abbrev pub refused_of : ℕ → ℕ → List Command → List Refused
-refused_of size limit cs = refused_from 0 cs (start size limit)
+abbrev pub refusals_with_reasons : ℕ → ℕ → List Command → List Refused
+refusals_with_reasons size limit cs = refusals_with_reasons_from 0 cs (start size limit)
 
 -- in any script, these are the calls with the answer `none`
 abbrev pub RefusalsHaveReasons : Type 0
-RefusalsHaveReasons = (size limit : ℕ) (cs : List Command) → map (λ r. r.call) (refused_of size limit cs) ≡ refusals_of size limit cs
+RefusalsHaveReasons = (size limit : ℕ) (cs : List Command) → map (λ r. r.call) (refusals_with_reasons size limit cs) ≡ refused_calls size limit cs

@@ -4,7 +4,7 @@ use Rattle.offset_script.specs.declared.scripts.Command.{Command}
 use Rattle.offset_script.specs.declared.scripts.Command.TheVariants as command
 use Rattle.offset_script.specs.Machine.{State, answer_view, answers}
 use Rattle.offset_pictures.specs.declared.watching.Watched.{Watched}
-use Rattle.offset_pictures.specs.Refusals.{refused_from}
+use Rattle.offset_pictures.specs.Refusals.{refusals_with_reasons_from}
 use Rattle.offset_pictures.specs.Reports.{report_view, reports_from}
 
 -- a command, with a report in place of a full report
@@ -20,4 +20,4 @@ replace_all_full cs = map replace_full cs
 pub record HasSeen (w : Watched) (s : State) (cs : List Command) : Type 0 where
   pub answers : map answer_view w.answers.items ≡ answers cs s
   pub reports : map report_view w.reports.items ≡ reports_from cs s
-  pub refused : w.refused.items ≡ refused_from 0 cs s
+  pub refused : w.refused.items ≡ refusals_with_reasons_from 0 cs s

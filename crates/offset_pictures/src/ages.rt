@@ -1,7 +1,7 @@
 //! The eight age groups of lives, each with a colour and its words in the legend. It only computes.
 
 ghost use Rattle.std.specs.Prelude.{◌≡◌, ◌<◌};
-ghost use Rattle.offset_pictures.specs.Figures.{age_of};
+ghost use Rattle.offset_pictures.specs.Shapes.{age_of};
 
 /// The age groups, rising: what the legend says of each. The rectangles of group k, counted from 0, have the
 /// class `age` with the number k + 1.

@@ -5,11 +5,10 @@ ghost use Rattle.std.specs.Prelude.{◌≡◌, All, IfOk, length, map};
 ghost use Rattle.offset_script.specs.Machine as machine;
 ghost use Rattle.offset_script.specs.Machine.{answer_view};
 ghost use Rattle.offset_script.specs.Totals.{added_units};
-ghost use Rattle.offset_pictures.specs.Growth.{AreSizes};
-ghost use Rattle.offset_pictures.specs.Lives.{IsOrdered, life_view, lives_of};
+ghost use Rattle.offset_script.specs.Running.{as_plan};
+ghost use Rattle.offset_pictures.specs.Course.{AreSizes, IsCourse};
+ghost use Rattle.offset_pictures.specs.Lives.{IsOrdered, life_view};
 ghost use Rattle.offset_pictures.specs.Watching.{replace_all_full};
-ghost use Rattle.offset_pictures.specs.Refusals.{refused_of};
-ghost use Rattle.offset_pictures.specs.Reports.{report_view, reports_of};
 
 use crate::living::{Life, lives_of_answers};
 use crate::refusing::Refused;
@@ -32,7 +31,7 @@ pub struct Course {
     pub max_allocs: u32,
     /// How many requests were granted.
     pub grants: usize,
-    /// The life of each grant, in the order of the calls.
+    /// The lives of the grants, in the order of the calls.
     pub lives: Vec<Life>,
     /// The report of each state.
     pub reports: Vec<StorageReport>,
@@ -79,21 +78,10 @@ fn sizes_of(alloc: Global, script: &Script, answers: &[Answer]) -> Result<Vec<u3
 /// assert_eq!((course.grants, course.sizes.len()), (1, 3));
 /// ```
 pub fn course_of(alloc: Global, script: &Script) -> Result<Course, AllocError>
-    ensures limit { IfOk result (λ c. c.max_allocs ≡ script.now.max_allocs) }
-    ensures grants { IfOk result (λ c. c.grants ≡ length c.lives.items) }
-    ensures lives { IfOk result
-        (λ c. map life_view c.lives.items
-        ≡ lives_of script.now.size script.now.max_allocs script.now.commands.items) }
+    // It is that of the script: its lives, reports, sizes and refusals are those of the plain machine.
+    ensures course { IfOk result (IsCourse (as_plan script.now)) }
+    // No life ends before it begins.
     ensures ordered { IfOk result (λ c. All IsOrdered (map life_view c.lives.items)) }
-    ensures reports { IfOk result
-        (λ c. map report_view c.reports.items
-        ≡ reports_of script.now.size script.now.max_allocs script.now.commands.items) }
-    ensures sizes { IfOk result
-        (λ c. AreSizes c.sizes.items
-        script.now.size script.now.max_allocs script.now.commands.items) }
-    ensures refused { IfOk result
-        (λ c. c.refused.items
-        ≡ refused_of script.now.size script.now.max_allocs script.now.commands.items) }
 {
     let Watched {
         answers,

@@ -1,10 +1,11 @@
-//! The picture of a script, from its parts in order. It only appends text.
+//! The picture of a script, which it plays, or of a course: its parts in order. It appends text.
 
 ghost use Rattle.std.specs.Prelude.{◌≡◌, ◌≤◌, ◌++◌, All, IfOk, OnOk, length, map, string_bytes};
 ghost use Rattle.offset_pictures.specs.Lives.{IsOrdered, life_view};
+ghost use Rattle.offset_pictures.specs.Marks.{refusals_text};
 ghost use Rattle.offset_pictures.specs.Picture.{IsBody, IsPicture, IsPictureOf};
-ghost use Rattle.offset_script.specs.Running.{view};
-ghost use Rattle.offset_pictures.specs.StepLines.{ArePlaces, beyond_text, refusals_text, reports_text};
+ghost use Rattle.offset_script.specs.Running.{as_plan};
+ghost use Rattle.offset_pictures.specs.StepLines.{AreXs, beyond_text, reports_text};
 
 use crate::course::{Course, course_of};
 use crate::figures::figures_of;
@@ -12,9 +13,9 @@ use crate::legend::{put_legend, put_notes};
 use crate::levels::levels_of;
 use crate::plots::{Plot, ranges_plot, reports_plot};
 use crate::reasons::put_reasons;
-use crate::rectangles::put_grants;
+use crate::rectangles::put_rectangles;
 use crate::refusing::Refused;
-use crate::step_lines::{places_of, put_line, put_marks};
+use crate::step_lines::{put_line, put_marks, xs_of};
 use crate::style::{OPENING, STYLE};
 use crate::titles::{put_escaped, put_heading};
 use offset_allocator::StorageReport;
@@ -22,18 +23,13 @@ use offset_script::Script;
 use std::alloc::{AllocError, Global};
 
 // The units that are not in the space yet, where the plot goes beyond it.
-fn put_beyond(
-    out: &mut String,
-    plot: &Plot,
-    course: &Course,
-    places: &[u32],
-) -> Result<(), AllocError>
-    requires enough { length course.now.sizes.items ≤ length places.now }
-    requires places { ArePlaces plot.now.calls places.now }
+fn put_beyond(out: &mut String, plot: &Plot, course: &Course, xs: &[u32]) -> Result<(), AllocError>
+    requires enough { length course.now.sizes.items ≤ length xs.now }
+    requires xs { AreXs plot.now.calls xs.now }
     ensures { OnOk result (string_bytes out.new
         ≡ string_bytes out.old ++ beyond_text plot.now course.now) }
 {
-    put_line(out, "out", plot, plot.units.start, &course.sizes, places)
+    put_line(out, "out", plot, plot.units.start, &course.sizes, xs)
 }
 
 // The marks of refused calls below the plot, and their reasons; nothing where no call was refused.
@@ -62,18 +58,18 @@ fn put_reports(
     out: &mut String,
     plot: &Plot,
     course: &Course,
-    places: &[u32],
+    xs: &[u32],
 ) -> Result<(), AllocError>
-    requires enough { length course.now.reports.items ≤ length places.now }
-    requires places { ArePlaces plot.now.calls places.now }
+    requires enough { length course.now.reports.items ≤ length xs.now }
+    requires xs { AreXs plot.now.calls xs.now }
     ensures { OnOk result (string_bytes out.new
         ≡ string_bytes out.old ++ reports_text plot.now course.now) }
 {
     let levels = levels_of(alloc, &course.reports)?;
     let base = plot.bottom();
-    put_line(out, "free", plot, base, &levels.free, places)?;
-    put_line(out, "joined", plot, base, &levels.joined, places)?;
-    put_line(out, "most", plot, base, &levels.most, places)
+    put_line(out, "free", plot, base, &levels.free, xs)?;
+    put_line(out, "joined", plot, base, &levels.joined, xs)?;
+    put_line(out, "most", plot, base, &levels.most, xs)
 }
 
 // What a picture holds after its heading.
@@ -84,16 +80,17 @@ fn body(alloc: Global, course: &Course) -> Result<String, AllocError>
     let figures = figures_of(alloc, course)?;
     let ranges = ranges_plot(&figures);
     let reports = reports_plot(&figures);
-    // The axes of calls of both plots are the same.
-    let states = course.sizes.len().max(course.reports.len());
-    let places = places_of(alloc, &ranges.calls, states)?;
+    // The axes of calls of both plots are the same. A line has a value for each entry of its list: so this is
+    // the larger of the two numbers, and `states` of a course is the smaller.
+    let entries = course.sizes.len().max(course.reports.len());
+    let xs = xs_of(alloc, &ranges.calls, entries)?;
     let mut out = String::new(alloc);
     put_legend(&mut out, &figures, course.max_allocs, ranges.units.most)?;
-    put_beyond(&mut out, &ranges, course, &places)?;
+    put_beyond(&mut out, &ranges, course, &xs)?;
     ranges.put_axes(&mut out, 6, 12)?;
-    let merged = put_grants(alloc, &mut out, &ranges, &course.lives, figures.calls)?;
+    let merged = put_rectangles(alloc, &mut out, &ranges, &course.lives, figures.calls)?;
     put_refusals(&mut out, &ranges, &course.reports, &course.refused)?;
-    put_reports(alloc, &mut out, &reports, course, &places)?;
+    put_reports(alloc, &mut out, &reports, course, &xs)?;
     reports.put_axes(&mut out, 4, 12)?;
     put_notes(&mut out, merged)?;
     Ok(out)
@@ -147,7 +144,7 @@ pub fn picture_of(alloc: Global, title: &str, course: &Course) -> Result<String,
 pub fn picture(alloc: Global, title: &str, script: &Script) -> Result<String, AllocError>
     // All of the text: the tag of an SVG, the title, the style, the title as heading, and what is drawn of
     // the course of the script, whose lives, reports, sizes and refusals are those of the plain machine.
-    ensures { IfOk result (λ text. IsPicture title.now (view script.now) (string_bytes text)) }
+    ensures { IfOk result (λ text. IsPicture title.now (as_plan script.now) (string_bytes text)) }
 {
     picture_of(alloc, title, &course_of(alloc, script)?)
 }

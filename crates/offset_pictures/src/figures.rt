@@ -1,4 +1,5 @@
-//! What the legend counts, over all states of a course. It only reads the course.
+//! What the legend counts over all states of a course, and what the plots are scaled by. It only reads the
+//! course.
 
 ghost use Rattle.std.specs.Prelude.{◌≡◌, ◌≤◌, ℕ, ◌+◌, ◌-◌, ◌<◌, ◌^◌, All, IfOk, OnOk, length, map, nat_eq};
 ghost use Rattle.std.specs.Prelude.{slice_index_or, if◌then◌else◌};
@@ -74,34 +75,31 @@ fn highest_of(lives: &[Life]) -> u32
     highest
 }
 
-// A number of grants, and how many units they have.
+// A number of lives, and how many units they have.
 #[derive(Clone, Copy)]
 pub struct Count {
-    grants: usize,
+    lives: usize,
     units: u128,
 }
 
-const NONE: Count = Count {
-    grants: 0,
-    units: 0,
-};
+const NONE: Count = Count { lives: 0, units: 0 };
 
 impl Count {
     fn add(&mut self, other: Count)
-        requires grants { self.old.grants + other.grants < 2 ^ 64 }
+        requires lives { self.old.lives + other.lives < 2 ^ 64 }
         requires units { self.old.units + other.units < 2 ^ 128 }
-        ensures grants { self.new.grants ≡ self.old.grants + other.grants }
+        ensures lives { self.new.lives ≡ self.old.lives + other.lives }
         ensures units { self.new.units ≡ self.old.units + other.units }
     {
-        self.grants += other.grants;
+        self.lives += other.lives;
         self.units += other.units;
     }
 }
 
-// Adds a grant of so many units to those of a call, if there is one.
+// Adds a life of so many units to those of a call, if there is one.
 fn add(counts: &mut Vec<Count>, call: usize, units: u32)
-    requires grants { (c : ℕ) (d : Count) → c < length counts.old.items
-        → (slice_index_or counts.old.items c d).grants < 2 ^ 64 - 1 }
+    requires lives { (c : ℕ) (d : Count) → c < length counts.old.items
+        → (slice_index_or counts.old.items c d).lives < 2 ^ 64 - 1 }
     requires units { (c : ℕ) (d : Count) → c < length counts.old.items
         → (slice_index_or counts.old.items c d).units < 2 ^ 127 }
     ensures len { length counts.new.items ≡ length counts.old.items }
@@ -111,37 +109,37 @@ fn add(counts: &mut Vec<Count>, call: usize, units: u32)
 {
     if call < counts.len() {
         let count = &mut counts[call];
-        count.grants += 1;
+        count.lives += 1;
         count.units += u128::from(units);
     }
 }
 
-// What each call grants.
-fn begun(alloc: Global, calls: usize, lives: &[Life]) -> Result<Vec<Count>, AllocError>
-    ensures len { IfOk result (λ v. length v.items ≡ calls) }
-    ensures counts { IfOk result (λ v. (c : ℕ) (d : Count) → c < calls
+// The lives that each call begins: those of `begun[n]` are on from state n + 1.
+fn begun(alloc: Global, states: usize, lives: &[Life]) -> Result<Vec<Count>, AllocError>
+    ensures len { IfOk result (λ v. length v.items ≡ states) }
+    ensures counts { IfOk result (λ v. (c : ℕ) (d : Count) → c < states
         → IsCount (λ l. nat_eq l.first c) lives.now (slice_index_or v.items c d)) }
     ensures sizes { OnOk result (All (λ l. l.size < 4294967296) lives.now) }
     ensures few { OnOk result (length lives.now < 2 ^ 64) }
 {
     let mut counts = Vec::new(alloc);
-    counts.resize(calls, NONE)?;
+    counts.resize(states, NONE)?;
     for life in lives {
         add(&mut counts, life.first, life.size);
     }
     Ok(counts)
 }
 
-// What each call ends.
-fn ended(alloc: Global, calls: usize, lives: &[Life]) -> Result<Vec<Count>, AllocError>
-    ensures len { IfOk result (λ v. length v.items ≡ calls) }
-    ensures counts { IfOk result (λ v. (c : ℕ) (d : Count) → c < calls
+// The lives that each call ends: those of `ended[n]` are on to state n.
+fn ended(alloc: Global, states: usize, lives: &[Life]) -> Result<Vec<Count>, AllocError>
+    ensures len { IfOk result (λ v. length v.items ≡ states) }
+    ensures counts { IfOk result (λ v. (c : ℕ) (d : Count) → c < states
         → IsCount (λ l. nat_eq l.last c) lives.now (slice_index_or v.items c d)) }
     ensures sizes { OnOk result (All (λ l. l.size < 4294967296) lives.now) }
     ensures few { OnOk result (length lives.now < 2 ^ 64) }
 {
     let mut counts = Vec::new(alloc);
-    counts.resize(calls, NONE)?;
+    counts.resize(states, NONE)?;
     for life in lives {
         add(&mut counts, life.last, life.size);
     }
@@ -205,7 +203,7 @@ pub fn figures_of(alloc: Global, course: &Course) -> Result<Figures, AllocError>
     let mut granted = NONE;
     let mut gone = NONE;
     for state in 0..states {
-        let live = counted(granted.grants - gone.grants);
+        let live = counted(granted.lives - gone.lives);
         let used = counted_units(granted.units - gone.units);
         found.see(
             counted(state),

@@ -1,15 +1,14 @@
-//! Laws on the lives of grants and on reports, which are the rectangles and the lines of a picture. The
-//! functions do nothing.
+//! Laws on lives, on reports, on refusals, and on the picture of them. The functions touch nothing.
 
 ghost use Rattle.offset_pictures.specs.Levels.{ReportsAreLevelled};
 ghost use Rattle.offset_pictures.specs.Lines.{EachLineShowsItsValues};
 ghost use Rattle.offset_pictures.specs.Lives.{LivesAreSeen, LivesAreWithin, LivesAreApart};
+ghost use Rattle.offset_pictures.specs.Marks.{EachRefusalIsMarked};
 ghost use Rattle.offset_pictures.specs.Overlaps.{RectanglesAreApart};
 ghost use Rattle.offset_pictures.specs.Picture.{FiguresAreFixed, PicturesAreFixed, PicturesAreWellFormed};
 ghost use Rattle.offset_pictures.specs.Picture.{PicturesHaveTitles};
 ghost use Rattle.offset_pictures.specs.Rectangles.{EachLifeHasARectangle};
 ghost use Rattle.offset_pictures.specs.Refusals.{RefusalsHaveReasons};
-ghost use Rattle.offset_pictures.specs.StepLines.{EachRefusalIsMarked};
 
 /// After any number of calls, a live block of a life's number exists, with its range, exactly while the life
 /// is on.
@@ -32,7 +31,7 @@ pub fn lines_never_cross()
     ensures { ReportsAreLevelled }
 {}
 
-/// Where grants have titles, each has exactly one rectangle, with its title, in the group of its age.
+/// Where lives have titles, each has exactly one rectangle, with its title, in the group of its age.
 pub fn each_life_has_a_rectangle()
     ensures { EachLifeHasARectangle }
 {}
@@ -42,9 +41,8 @@ pub fn rectangles_never_overlap()
     ensures { RectanglesAreApart }
 {}
 
-/// Each line has a point where each of its states lies, at the height of its value, both to a tenth of a
-/// pixel; and each of its points is at the height of a state that is on there, or upright between two of
-/// them.
+/// Each line has a point where each of its states lies, at the y of its value, both to a tenth of a pixel;
+/// and each of its points is at the y of a state that is on there, or upright between two of them.
 pub fn each_line_shows_its_values()
     ensures { EachLineShowsItsValues }
 {}
@@ -70,7 +68,7 @@ pub fn a_picture_is_well_formed()
     ensures { PicturesAreWellFormed }
 {}
 
-/// The figures of a course, which the legend shows, are fixed by the course.
+/// The figures of a course that has a state, which the legend shows, are fixed by the course.
 pub fn a_course_fixes_its_figures()
     ensures { FiguresAreFixed }
 {}

@@ -1,4 +1,4 @@
-//! The words in a picture. It only appends text.
+//! The legend above the plots, and the notes below them. It only appends text.
 
 ghost use Rattle.std.specs.Prelude.{◌≡◌, ◌+◌, ◌*◌, ◌<◌, ◌++◌, OnOk, string_bytes};
 ghost use Rattle.offset_pictures.specs.Legend.{age_key, ages_key, colours_text, end_text, full_text};
@@ -119,7 +119,7 @@ fn put_full(out: &mut String, figures: &Figures) -> Result<(), AllocError>
     let s = plural(figures.full_states);
     write!(
         out,
-        "<text class='end' x='{right}' y='{base}'>At the node limit, after {states} call{s}, "
+        "<text class='end' x='{right}' y='{base}'>At the node limit, {states} time{s}, "
     )?;
     writeln!(out, "0 units are reported as free.</text>")
 }
@@ -168,7 +168,8 @@ fn put_end(out: &mut String, figures: &Figures, end: u32) -> Result<(), AllocErr
     )
 }
 
-/// The text below the heading, and what their colours mean. The plot of the ranges ends at the unit `end`.
+/// The legend: the text below the heading, and what the colours of the plots mean. The plot of the ranges
+/// ends at the unit `end`.
 pub fn put_legend(
     out: &mut String,
     figures: &Figures,
@@ -186,8 +187,8 @@ pub fn put_legend(
     put_colours(out, figures)
 }
 
-/// The line below the plots: what was drawn larger to be seen, and the number of rectangles where grants are
-/// merged.
+/// The line below the plots: what was drawn larger to be seen, and where rectangles are merged, how many
+/// they are.
 pub fn put_notes(out: &mut String, merged: Option<usize>) -> Result<(), AllocError>
     ensures { OnOk result (string_bytes out.new ≡ string_bytes out.old ++ notes_text merged) }
 {

@@ -1,4 +1,4 @@
-//! The heights of the lower plot: the free units, the largest free region, and what it would be without
+//! The values of the lower plot: the free units, the largest free region, and what it would be without
 //! fragmentation. It only computes.
 
 ghost use Rattle.std.specs.Prelude.{◌≡◌, ◌≤◌, IfOk, map};
@@ -13,8 +13,8 @@ use std::alloc::{AllocError, Global};
 pub struct Levels {
     /// The free units.
     pub free: Vec<u32>,
-    /// What the largest free region would be, were all of these one block. From that region to here is
-    /// fragmentation.
+    /// The class value of all free units, as if they were one block: the gap from the largest free region to
+    /// this is fragmentation.
     pub joined: Vec<u32>,
     /// The largest free region.
     pub most: Vec<u32>,
@@ -28,7 +28,7 @@ fn joined(units: u32) -> u32
     float_to_uint(uint_to_float_round_down(units))
 }
 
-/// The heights of the lower plot, of each state.
+/// The values of the lower plot, of each state.
 pub fn levels_of(alloc: Global, reports: &[StorageReport]) -> Result<Levels, AllocError>
     ensures free { IfOk result (λ l. l.free.items ≡ map free_of reports.now) }
     ensures joined { IfOk result (λ l. l.joined.items ≡ map joined_of reports.now) }

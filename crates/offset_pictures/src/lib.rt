@@ -1,5 +1,5 @@
 //! What a script does to its space: the life of each grant, the reports between the commands, and a picture
-//! of both.
+//! of both. It touches the allocator that it plays the script on.
 #![tactic(auto)]
 
 mod ages;

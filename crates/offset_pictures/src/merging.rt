@@ -1,11 +1,10 @@
-//! Merges the rectangles of many grants. It only computes.
+//! Merges the rectangles of many lives. It only computes.
 
 ghost use Rattle.std.specs.Prelude.{◌≡◌, ◌<◌, ◌≤◌, IfOk, IsTrue, map};
 ghost use Rattle.std.specs.List.{list_any};
-ghost use Rattle.offset_pictures.specs.Merging.{AreMerged, Place, IsAtTenth, covers, is_tiny, join};
-ghost use Rattle.offset_pictures.specs.Merging.{rounded_if_tiny};
-ghost use Rattle.offset_pictures.specs.Merging.{key_of, round_out, shape_of_key, touch};
-ghost use Rattle.offset_pictures.specs.Places.{shape_of};
+ghost use Rattle.offset_pictures.specs.Merging.{AreMerged, Point, IsAtTenth, covers, is_tiny, join};
+ghost use Rattle.offset_pictures.specs.Merging.{key_of, round_out, rounded_if_tiny, shape_of_key, touch};
+ghost use Rattle.offset_pictures.specs.Shapes.{shape_of};
 
 use crate::axes::TENTH;
 use crate::living::Life;
@@ -68,7 +67,8 @@ fn shape_of_key(key: u64) -> Shape
     }
 }
 
-// Whether two rectangles have the same height and age, and touch or overlap.
+// Whether two rectangles of one row touch or overlap. A row is what lies between an upper and a lower edge in
+// the colour of an age.
 fn touch(before: &Shape, shape: &Shape) -> bool
     ensures { result ≡ touch before.now shape.now }
 {
@@ -91,11 +91,11 @@ fn join(before: Shape, shape: &Shape) -> Shape
 }
 
 /// The rectangles of lives. Those thinner than a tenth of a pixel are rounded to whole tenths, and then those
-/// of the same height and age that touch are merged.
-pub fn shapes_of(alloc: Global, plot: &Plot, lives: &[Life]) -> Result<Vec<Shape>, AllocError>
-    // Merging covers and uncovers no place: at each height and age they cover those that the rectangles of
-    // the lives do.
-    ensures covers { IfOk result (λ v. (p : Place) → list_any (covers p) v.items
+/// of one row that touch are merged.
+pub fn merged_shapes(alloc: Global, plot: &Plot, lives: &[Life]) -> Result<Vec<Shape>, AllocError>
+    // Merging adds and removes no point: in each row the result covers what the rectangles of the lives do,
+    // the tiny ones rounded.
+    ensures covers { IfOk result (λ v. (p : Point) → list_any (covers p) v.items
         ≡ list_any (covers p) (map (λ l. rounded_if_tiny (shape_of plot.now l)) lives.now)) }
     // The list, in its order.
     ensures is { IfOk result (λ v. AreMerged plot.now lives.now v.items) }

@@ -1,18 +1,18 @@
-//! Numbers as the picture writes them. It only appends text.
+//! Numbers as the picture writes them. It only adds text: after what is there, or before it in a `Piece`.
 
 ghost use Rattle.std.specs.Prelude.{◌≡◌, ◌+◌, ◌≤◌, ◌++◌, OnOk, length, string_bytes};
-ghost use Rattle.offset_pictures.specs.Numerals.{pixels_text};
-ghost use Rattle.offset_pictures.specs.Figures.{share_of};
+ghost use Rattle.offset_pictures.specs.Numerals.{pixels_text, share_of};
 
 use offset_script::TextBuffer;
 use std::alloc::AllocError;
 use std::fmt;
 
-/// A piece of a picture's text: a title of five numbers fits, and so does a rectangle.
+/// A piece of a picture's text, put together from its end: a title of five numbers fits, and so does a
+/// rectangle.
 pub type Piece = TextBuffer<160>;
 
 /// Appends a piece to a text.
-pub fn put_in(piece: &Piece, out: &mut String) -> Result<(), AllocError>
+pub fn put_piece(piece: &Piece, out: &mut String) -> Result<(), AllocError>
     ensures { OnOk result (string_bytes out.new ≡ string_bytes out.old ++ piece.now) }
 {
     out.push_str(piece.text())
@@ -23,7 +23,7 @@ pub fn put_in(piece: &Piece, out: &mut String) -> Result<(), AllocError>
 pub struct Pixels(pub u32);
 
 /// Puts a length in pixels before a text: at most 23 bytes.
-pub fn put_pixels<const ROOM: usize>(text: &mut TextBuffer<ROOM>, pixels: Pixels)
+pub fn prepend_pixels<const ROOM: usize>(text: &mut TextBuffer<ROOM>, pixels: Pixels)
     requires { 23 + length text.old ≤ ROOM }
     ensures text { text.new ≡ pixels_text pixels.0 ++ text.old }
     ensures length { length text.new ≤ 23 + length text.old }
@@ -32,12 +32,12 @@ pub fn put_pixels<const ROOM: usize>(text: &mut TextBuffer<ROOM>, pixels: Pixels
     let tenths = pixels.0 / 10 % 10;
     if pixels.0 % 100 != 0 {
         if hundredths != 0 {
-            text.put_digit(hundredths);
+            text.prepend_digit(hundredths);
         }
-        text.put_digit(tenths);
-        text.put(".");
+        text.prepend_digit(tenths);
+        text.prepend(".");
     }
-    text.put_number(u64::from(pixels.0 / 100));
+    text.prepend_number(u64::from(pixels.0 / 100));
 }
 
 impl fmt::Display for Pixels {
@@ -48,7 +48,7 @@ impl fmt::Display for Pixels {
 
     fn fmt<W: fmt::Write>(&self, f: &mut fmt::Formatter<W>) -> fmt::Result {
         let mut text: TextBuffer<23> = TextBuffer::new();
-        put_pixels(&mut text, *self);
+        prepend_pixels(&mut text, *self);
         f.write_str(text.text())
     }
 }

@@ -2,7 +2,10 @@
 
 ghost use Rattle.std.specs.Prelude.{◌≡◌, ◌≤◌, ◌+◌, ◌++◌, OnOk, string_bytes};
 ghost use Rattle.offset_pictures.specs.Figures.{counted};
-ghost use Rattle.offset_pictures.specs.Places.{IsAxis, ranges_end, reports_end};
+ghost use Rattle.offset_pictures.specs.Axes.{IsAxis};
+ghost use Rattle.offset_pictures.specs.Plots.{IsPlot, bottom_of, plot_left, plot_width};
+ghost use Rattle.offset_pictures.specs.Plots.{ranges_end, ranges_height, ranges_top};
+ghost use Rattle.offset_pictures.specs.Plots.{reports_end, reports_height, reports_top};
 ghost use Rattle.offset_pictures.specs.Ticks.{axes_text, calls_text, units_text};
 
 use crate::axes::{Axis, round_step};
@@ -32,7 +35,7 @@ pub const REPORTS_HEIGHT: u32 = 15_000;
 
 // Call k, counted from 1, lies at k, and the state after it from there to the next call.
 fn calls_axis(calls: u32) -> Axis
-    ensures { IsAxis 12000 105000 (counted (calls + 1)) result }
+    ensures { IsAxis plot_left plot_width (counted (calls + 1)) result }
 {
     Axis {
         start: LEFT,
@@ -43,8 +46,7 @@ fn calls_axis(calls: u32) -> Axis
 
 /// The plot of the ranges. It ends a twentieth above the highest unit that was used, or where the space does.
 pub fn ranges_plot(figures: &Figures) -> Plot
-    ensures calls { IsAxis 12000 105000 (counted (figures.now.calls + 1)) result.calls }
-    ensures units { IsAxis 15000 40000 (ranges_end figures.now) result.units }
+    ensures { IsPlot figures.now.calls ranges_top ranges_height (ranges_end figures.now) result }
 {
     let above = figures.highest.saturating_add(figures.highest / 20 + 1);
     let end = if figures.highest == 0 {
@@ -64,8 +66,7 @@ pub fn ranges_plot(figures: &Figures) -> Plot
 
 /// The plot of the reports. It ends where the space does.
 pub fn reports_plot(figures: &Figures) -> Plot
-    ensures calls { IsAxis 12000 105000 (counted (figures.now.calls + 1)) result.calls }
-    ensures units { IsAxis 63000 15000 (reports_end figures.now) result.units }
+    ensures { IsPlot figures.now.calls reports_top reports_height (reports_end figures.now) result }
 {
     Plot {
         calls: calls_axis(figures.calls),
@@ -80,7 +81,7 @@ pub fn reports_plot(figures: &Figures) -> Plot
 impl Plot {
     /// The lower end.
     pub fn bottom(&self) -> u32
-        ensures is { result ≡ self.now.units.start + self.now.units.span }
+        ensures is { result ≡ bottom_of self.now }
         ensures within { result ≤ 120000 }
     {
         self.units.start + self.units.span
@@ -98,9 +99,9 @@ impl Plot {
         for k in 0..u64::from(count) + 1 {
             let value = k * step;
             if value <= u64::from(self.units.most) {
-                let height = self.units.up(value);
-                let line = Pixels(height);
-                let base = Pixels(height + 500);
+                let y = self.units.up(value);
+                let line = Pixels(y);
+                let base = Pixels(y + 500);
                 let number = Grouped(value as u32);
                 write!(out, "<path class='grid' d='M{left} {line}H{right}'/>")?;
                 writeln!(
@@ -123,12 +124,12 @@ impl Plot {
         for k in 0..u64::from(count) + 1 {
             let value = k * step;
             if value < u64::from(self.calls.most) {
-                let place = Pixels(self.calls.right(value));
+                let x = Pixels(self.calls.right(value));
                 let number = Grouped(value as u32);
-                write!(out, "<path class='tick' d='M{place} {bottom}v10'/>")?;
+                write!(out, "<path class='tick' d='M{x} {bottom}v10'/>")?;
                 writeln!(
                     out,
-                    "<text class='middle' x='{place}' y='{base}'>{number}</text>"
+                    "<text class='middle' x='{x}' y='{base}'>{number}</text>"
                 )?;
             }
         }

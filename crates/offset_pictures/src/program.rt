@@ -1,10 +1,12 @@
 //! What a program that draws does: a picture, its status, and the line of its fault.
+//! `offset_script::run_program_of` reads the script, and calls `send` of `PictureText`, which plays and draws
+//! it. It touches the three streams alone.
 
 ghost use Rattle.offset_pictures.specs.Picture.{IsPicture};
 ghost use Rattle.offset_script.specs.Running.{Exits};
 
 use crate::drawing::picture;
-use offset_script::{Script, ScriptText, Sink, Source, run_program_of, send};
+use offset_script::{Rendering, Script, Sink, Source, run_program_of, send};
 use std::alloc::{AllocError, Global};
 
 // The picture of a script, with this title.
@@ -13,8 +15,8 @@ struct PictureText<'a> {
     title: &'a str,
 }
 
-impl<'a> ScriptText for PictureText<'a> {
-    ghost IsText = { λ it. IsPicture it.title.now };
+impl<'a> Rendering for PictureText<'a> {
+    ghost IsRendering = { λ it. IsPicture it.title.now };
 
     fn send<K: Sink>(
         &self,

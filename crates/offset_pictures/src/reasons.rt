@@ -1,7 +1,7 @@
 //! Why calls were refused, as the titles of their marks. It only appends text.
 
 ghost use Rattle.std.specs.Prelude.{◌≡◌, ◌++◌, OnOk, string_bytes};
-ghost use Rattle.offset_pictures.specs.Marks.{counted_from_1};
+ghost use Rattle.offset_pictures.specs.Numerals.{counted_from_1};
 ghost use Rattle.offset_pictures.specs.Reasons.{asked_text, more_text, one_spot, pixel_of, reason_text};
 ghost use Rattle.offset_pictures.specs.Reasons.{reasons_text};
 ghost use Rattle.offset_pictures.specs.Reasons.{report_after, report_text, rounded_text, said_text};
@@ -14,11 +14,15 @@ use offset_allocator::ext::min_allocator_size;
 use offset_allocator::{Refusal, StorageReport};
 use std::alloc::AllocError;
 
-// What the units of a request are rounded up to, where a space may have so many.
+// The largest value of a class that a block can have: no space grants a request for more units.
+const LARGEST_CLASS: u64 = 4_026_531_840;
+
+// What the units of a request are rounded up to, where a request for so many can be granted in any space at
+// all.
 fn put_rounded(out: &mut String, units: u64) -> Result<(), AllocError>
     ensures { OnOk result (string_bytes out.new ≡ string_bytes out.old ++ rounded_text units) }
 {
-    if units > 4_026_531_840 {
+    if units > LARGEST_CLASS {
         return Ok(());
     }
     let rounded = min_allocator_size(units as u32);
@@ -44,7 +48,7 @@ fn put_asked(out: &mut String, asked: Asked) -> Result<(), AllocError>
     }
 }
 
-// What is free, but at the node limit, where a report has 0 units.
+// What is free; nothing where nodes are too few.
 fn put_report(out: &mut String, why: Refusal, report: StorageReport) -> Result<(), AllocError>
     ensures { OnOk result (string_bytes out.new ≡ string_bytes out.old ++ report_text why report) }
 {
@@ -72,8 +76,8 @@ fn put_reason(out: &mut String, why: Reason, report: StorageReport) -> Result<()
     }
 }
 
-// The report that a call found.
-fn report_of(reports: &[StorageReport], call: usize) -> StorageReport
+// The report after so many calls: that which the call with this number from 0 found.
+fn report_after(reports: &[StorageReport], call: usize) -> StorageReport
     ensures { result ≡ report_after reports.now call }
 {
     if call < reports.len() {
@@ -98,7 +102,7 @@ fn put_said(
     write!(out, "call {call}: ")?;
     put_asked(out, refused.asked)?;
     write!(out, ": ")?;
-    put_reason(out, refused.why, report_of(reports, refused.call))
+    put_reason(out, refused.why, report_after(reports, refused.call))
 }
 
 // The refused calls that lie within one pixel: where it begins, the first of them, and how many more there
@@ -111,7 +115,7 @@ pub struct Spot {
 }
 
 impl Spot {
-    // The place of one call.
+    // The spot of one call.
     fn new(left: u32, first: Refused) -> Self
         ensures { result ≡ one_spot left first }
     {
@@ -142,18 +146,13 @@ impl Spot {
         write!(out, "; {more} more refused here")
     }
 
-    // The place of its marks, with its title: one pixel, and the halves of marks beyond.
-    fn put(
-        &self,
-        out: &mut String,
-        height: u32,
-        reports: &[StorageReport],
-    ) -> Result<(), AllocError>
+    // The spot of its marks, with its title: one pixel, and the halves of marks beyond.
+    fn put(&self, out: &mut String, y: u32, reports: &[StorageReport]) -> Result<(), AllocError>
         ensures { OnOk result (string_bytes out.new
-            ≡ string_bytes out.old ++ spot_text height reports.now self.now) }
+            ≡ string_bytes out.old ++ spot_text y reports.now self.now) }
     {
         let left = Pixels(self.left.saturating_sub(100));
-        let top = Pixels(height);
+        let top = Pixels(y);
         write!(
             out,
             "<rect x='{left}' y='{top}' width='3' height='12'><title>"
@@ -164,7 +163,7 @@ impl Spot {
     }
 }
 
-// Where the pixel begins in which a call lies, counted from 0.
+// Where the pixel begins in which a call lies. The call is counted from 0.
 fn pixel_of(plot: &Plot, call: usize) -> u32
     ensures { result ≡ pixel_of plot.now.calls call }
 {
@@ -182,7 +181,7 @@ pub fn put_reasons(
     ensures { OnOk result (string_bytes out.new
         ≡ string_bytes out.old ++ reasons_text plot.now reports.now refused.now) }
 {
-    let height = plot.bottom();
+    let y = plot.bottom();
     writeln!(out, "<g class='why'>")?;
     let mut spot: Option<Spot> = None;
     for call in refused {
@@ -191,14 +190,14 @@ pub fn put_reasons(
             Some(spot) if spot.left == left => spot.add(),
             _ => {
                 if let Some(spot) = &spot {
-                    spot.put(out, height, reports)?;
+                    spot.put(out, y, reports)?;
                 }
                 spot = Some(Spot::new(left, *call));
             }
         }
     }
     if let Some(spot) = &spot {
-        spot.put(out, height, reports)?;
+        spot.put(out, y, reports)?;
     }
     writeln!(out, "</g>")
 }

@@ -2,12 +2,11 @@
 //! only asks the space.
 
 ghost use Rattle.std.specs.Prelude.{◌≡◌, ◌++◌, [], true, IsTrue, OnOk, option_to_list, if◌then◌else◌};
-ghost use Rattle.offset_allocator.specs.Relations.{IsAlignment};
+ghost use Rattle.offset_allocator.specs.Requests.{IsAlignment};
 ghost use Rattle.offset_allocator.specs.Requests.{CanGrant, blocks_needed, units_needed};
 ghost use Rattle.offset_script.specs.Grammar.{has_valid_alignment};
 ghost use Rattle.offset_script.specs.Machine.{answer_view};
-ghost use Rattle.offset_pictures.specs.Growth.{is_refusal};
-ghost use Rattle.offset_pictures.specs.Refusals.{IsRefusedBy, numbers_of_view, refused_call};
+ghost use Rattle.offset_pictures.specs.Refusals.{IsRefusedBy, is_refusal, numbers_of_view, refused_call};
 ghost use Rattle.offset_pictures.specs.Refusals.{shortage, why_extend};
 
 use offset_allocator::laws::is_well_formed;
@@ -64,7 +63,7 @@ pub fn is_refusal(answer: &Answer) -> bool
 }
 
 // Why a space refuses a request.
-fn why<T: Tables>(space: &AllocatorOf<T>, size: u32, align: u32) -> Refusal
+fn shortage<T: Tables>(space: &AllocatorOf<T>, size: u32, align: u32) -> Refusal
     requires power { IsAlignment align }
     requires refuses { CanGrant (blocks_needed align) (units_needed size align) space.now → ⊥ }
     ensures { result ≡ shortage (blocks_needed align) (units_needed size align) (numbers_of_view space.now) }
@@ -96,10 +95,13 @@ fn refused_call<T: Tables>(space: &AllocatorOf<T>, call: usize, command: Command
     ensures { option_to_list result ≡ refused_call call command (numbers_of_view space.now) }
 {
     let (asked, why) = match command {
-        Command::Alloc(size) => (Asked::Alloc(size), Reason::Request(why(space, size, 1))),
+        Command::Alloc(size) => (
+            Asked::Alloc(size),
+            Reason::Request(shortage(space, size, 1)),
+        ),
         Command::Align(size, align) => (
             Asked::Align(size, align),
-            Reason::Request(why(space, size, align)),
+            Reason::Request(shortage(space, size, align)),
         ),
         Command::Extend(more) => (Asked::Extend(more), why_extend(space, more)),
         _ => return None,

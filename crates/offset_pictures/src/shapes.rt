@@ -1,14 +1,14 @@
 //! The rectangle of a life, in hundredths of a pixel. It only computes.
 
 ghost use Rattle.std.specs.Prelude.{◌≡◌, ◌-◌, ◌<◌, ◌≤◌};
-ghost use Rattle.offset_pictures.specs.Places.{shape_of};
+ghost use Rattle.offset_pictures.specs.Shapes.{shape_of};
 
 use crate::ages::age_of;
 use crate::living::Life;
 use crate::plots::Plot;
 
-/// A rectangle before it is made thicker, in hundredths of a pixel. Merging orders rectangles by these fields,
-/// the first one first.
+/// A rectangle before it is made thicker, in hundredths of a pixel. Merging orders rectangles by these
+/// fields, the first one first.
 #[derive(Clone, Copy, PartialEq, Debug)]
 pub struct Shape {
     pub top: u32,

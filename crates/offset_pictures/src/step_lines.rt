@@ -2,11 +2,13 @@
 //! appends text.
 
 ghost use Rattle.std.specs.Prelude.{◌≡◌, ℕ, ◌≤◌, ◌++◌, IfOk, OnOk, length, max, min, string_bytes, vec_len};
-ghost use Rattle.offset_pictures.specs.Marks.{column_of, column_text, height_of, in_tenths, IsAt};
-ghost use Rattle.offset_pictures.specs.StepLines.{ArePlaces, line_text, marks_text, one_state, steps_text};
+ghost use Rattle.offset_pictures.specs.Axes.{in_tenths, y_of};
+ghost use Rattle.offset_pictures.specs.Marks.{marks_text};
+ghost use Rattle.offset_pictures.specs.StepLines.{AreXs, IsAt, column_of, column_text, line_text, one_state};
+ghost use Rattle.offset_pictures.specs.StepLines.{steps_text};
 
 use crate::axes::{Axis, TENTH};
-use crate::numerals::{Piece, Pixels, put_in, put_pixels};
+use crate::numerals::{Piece, Pixels, prepend_pixels, put_piece};
 use crate::plots::Plot;
 use crate::refusing::Refused;
 use std::alloc::{AllocError, Global};
@@ -19,19 +21,19 @@ fn in_tenths(length: u32) -> u32
     length / TENTH * TENTH
 }
 
-/// Where each of the first `states` states lies, to a tenth of a pixel.
-pub fn places_of(alloc: Global, calls: &Axis, states: usize) -> Result<Vec<u32>, AllocError>
+/// The x of each of the first `states` states, to a tenth of a pixel.
+pub fn xs_of(alloc: Global, calls: &Axis, states: usize) -> Result<Vec<u32>, AllocError>
     ensures len { IfOk result (λ v. vec_len v ≡ states) }
-    ensures places { IfOk result (λ v. ArePlaces calls.now v.items) }
+    ensures xs { IfOk result (λ v. AreXs calls.now v.items) }
 {
-    let mut places = Vec::with_capacity(alloc, states)?;
+    let mut xs = Vec::with_capacity(alloc, states)?;
     for state in 0..states {
-        places.push(in_tenths(calls.right(state as u64)))?;
+        xs.push(in_tenths(calls.right(state as u64)))?;
     }
-    Ok(places)
+    Ok(xs)
 }
 
-// The states that lie within one tenth of a pixel: their heights.
+// The states that lie within one tenth of a pixel: the y of their smallest, largest and last values.
 #[derive(Clone, Copy)]
 pub struct Column {
     left: u32,
@@ -41,7 +43,7 @@ pub struct Column {
 }
 
 impl Column {
-    // Continues the line, which is at the height `pen`, over all of the heights, to the last.
+    // Continues the line, which is at the y `pen`, over all of its own, to the last.
     fn put(&self, out: &mut String, pen: u32) -> Result<(), AllocError>
         ensures { OnOk result (string_bytes out.new ≡ string_bytes out.old ++ column_text self.now pen) }
     {
@@ -49,19 +51,19 @@ impl Column {
             return Ok(());
         }
         let mut line = Piece::new();
-        put_pixels(&mut line, Pixels(self.last));
+        prepend_pixels(&mut line, Pixels(self.last));
         if self.bottom != self.last {
-            line.put("V");
-            put_pixels(&mut line, Pixels(self.bottom));
+            line.prepend("V");
+            prepend_pixels(&mut line, Pixels(self.bottom));
         }
         if self.top != self.last {
-            line.put("V");
-            put_pixels(&mut line, Pixels(self.top));
+            line.prepend("V");
+            prepend_pixels(&mut line, Pixels(self.top));
         }
-        line.put("V");
-        put_pixels(&mut line, Pixels(self.left));
-        line.put("H");
-        put_in(&line, out)
+        line.prepend("V");
+        prepend_pixels(&mut line, Pixels(self.left));
+        line.prepend("H");
+        put_piece(&line, out)
     }
 }
 
@@ -99,12 +101,12 @@ impl Group {
         self.last = value;
     }
 
-    // The heights of its values: only those of the smallest and the largest, and of the last, are computed.
+    // The y of its values: only those of the smallest and the largest, and of the last, are computed.
     fn column(&self, units: &Axis) -> Column
         ensures is { result ≡ column_of units.now self.now }
         // The others are between them.
         ensures within { (value : ℕ) → self.now.least ≤ value → value ≤ self.now.most
-            → (result.top ≤ height_of units.now value) × (height_of units.now value ≤ result.bottom) }
+            → (result.top ≤ y_of units.now value) × (y_of units.now value ≤ result.bottom) }
     {
         let top = in_tenths(units.up(u64::from(self.most)));
         let bottom = if self.least == self.most {
@@ -127,45 +129,45 @@ impl Group {
         }
     }
 
-    // Continues the line, which is at this pen, over the heights of its values, to the last.
+    // Continues the line, which is at this pen, over the y of its values, to the last.
     fn put(&self, out: &mut String, units: &Axis, pen: Pen) -> Result<Pen, AllocError>
         requires { IsAt units.now pen }
         ensures text { OnOk result
             (string_bytes out.new
-            ≡ string_bytes out.old ++ column_text (column_of units.now self.now) pen.height) }
-        ensures pen { IfOk result (λ p. p.height ≡ height_of units.now self.now.last) }
+            ≡ string_bytes out.old ++ column_text (column_of units.now self.now) pen.y) }
+        ensures pen { IfOk result (λ p. p.y ≡ y_of units.now self.now.last) }
         ensures at { IfOk result (λ p. IsAt units.now p) }
     {
         if self.least == self.most && pen.value == Some(self.most) && self.last == self.most {
             return Ok(pen);
         }
         let column = self.column(units);
-        column.put(out, pen.height)?;
+        column.put(out, pen.y)?;
         Ok(Pen {
-            height: column.last,
+            y: column.last,
             value: Some(self.last),
         })
     }
 }
 
-// Where a line of steps has come: its height, and the value of that height, if it is that of a value.
+// Where a line of steps has come: its y, and the value of that y, if it is that of a value.
 #[derive(Clone, Copy)]
 pub struct Pen {
-    height: u32,
+    y: u32,
     value: Option<u32>,
 }
 
-// The line of steps of these values, one for each state, from the height `base` and back to it.
-// These are the places of the states, as `places_of` has them, and perhaps of more.
+// The line of steps of these values, one for each state, from the y `base` and back to it. These are the x of
+// the states, as `xs_of` has them, and perhaps of more.
 fn put_steps(
     out: &mut String,
     plot: &Plot,
     base: u32,
     values: &[u32],
-    places: &[u32],
+    xs: &[u32],
 ) -> Result<(), AllocError>
-    requires enough { length values.now ≤ length places.now }
-    requires places { ArePlaces plot.now.calls places.now }
+    requires enough { length values.now ≤ length xs.now }
+    requires xs { AreXs plot.now.calls xs.now }
     ensures { OnOk result (string_bytes out.new
         ≡ string_bytes out.old ++ steps_text plot.now base values.now) }
 {
@@ -174,18 +176,18 @@ fn put_steps(
     let base_line = Pixels(base);
     write!(out, "M{start} {base_line}")?;
     let mut pen = Pen {
-        height: base,
+        y: base,
         value: None,
     };
     let mut group: Option<Group> = None;
-    for (value, place) in values.iter().zip(places) {
+    for (value, x) in values.iter().zip(xs) {
         match &mut group {
-            Some(group) if group.left == *place => group.add(*value),
+            Some(group) if group.left == *x => group.add(*value),
             _ => {
                 if let Some(group) = &group {
                     pen = group.put(out, &plot.units, pen)?;
                 }
-                group = Some(Group::new(*place, *value));
+                group = Some(Group::new(*x, *value));
             }
         }
     }
@@ -196,51 +198,50 @@ fn put_steps(
     Ok(())
 }
 
-/// Appends the line of steps of these values, one for each state, as an element of this class: from the
-/// height `base` and back to it. These are the places of the states, as `places_of` has them, and perhaps of
-/// more.
+/// Appends the line of steps of these values, one for each state, as an element of this class: from the y
+/// `base` and back to it. These are the x of the states, as `xs_of` has them, and perhaps of more.
 pub fn put_line(
     out: &mut String,
     class: &str,
     plot: &Plot,
     base: u32,
     values: &[u32],
-    places: &[u32],
+    xs: &[u32],
 ) -> Result<(), AllocError>
-    requires enough { length values.now ≤ length places.now }
-    requires places { ArePlaces plot.now.calls places.now }
+    requires enough { length values.now ≤ length xs.now }
+    requires xs { AreXs plot.now.calls xs.now }
     ensures { OnOk result (string_bytes out.new
         ≡ string_bytes out.old ++ line_text class.now plot.now base values.now) }
 {
     write!(out, "<path class='{class}' d='")?;
-    put_steps(out, plot, base, values, places)?;
+    put_steps(out, plot, base, values, xs)?;
     writeln!(out, "'/>")
 }
 
-/// A mark below an axis for each of these calls. Those at one tenth of a pixel have one mark.
+/// A mark from this y down for each of these calls. Those at one tenth of a pixel have one mark.
 pub fn put_marks(
     out: &mut String,
     calls: &Axis,
-    height: u32,
+    y: u32,
     marked: &[Refused],
 ) -> Result<(), AllocError>
     ensures { OnOk result (string_bytes out.new
-        ≡ string_bytes out.old ++ marks_text calls.now height marked.now) }
+        ≡ string_bytes out.old ++ marks_text calls.now y marked.now) }
 {
-    let top = Pixels(height);
+    let top = Pixels(y);
     let mut before = None;
     for refused in marked {
-        let place = in_tenths(calls.right(refused.call.saturating_add(1) as u64));
-        if before != Some(place) {
+        let x = in_tenths(calls.right(refused.call.saturating_add(1) as u64));
+        if before != Some(x) {
             let mut line = Piece::new();
-            line.put("v12");
-            put_pixels(&mut line, top);
-            line.put(" ");
-            put_pixels(&mut line, Pixels(place));
-            line.put("M");
-            put_in(&line, out)?;
+            line.prepend("v12");
+            prepend_pixels(&mut line, top);
+            line.prepend(" ");
+            prepend_pixels(&mut line, Pixels(x));
+            line.prepend("M");
+            put_piece(&line, out)?;
         }
-        before = Some(place);
+        before = Some(x);
     }
     Ok(())
 }

@@ -1,15 +1,17 @@
-//! Text in a picture, where XML gives some characters a meaning of their own. It only appends text.
+//! The title of a picture: its heading, how large that is, and its accessible name. XML gives some characters
+//! a meaning of their own. It only appends text.
 
-ghost use Rattle.std.specs.Prelude.{◌≡◌, ◌++◌, OnOk, chars, codes, string_bytes};
-ghost use Rattle.offset_pictures.specs.Titles.{escape, escaped, heading, is_in_xml, quarters, size_of};
+ghost use Rattle.std.specs.Prelude.{◌≡◌, ◌++◌, OnOk, chars, string_bytes};
+ghost use Rattle.offset_pictures.specs.Titles.{escape, escaped, heading_text, is_shown, quarters, size_of};
 ghost use Rattle.offset_pictures.specs.Titles.{width_of};
 
 use crate::numerals::Pixels;
 use std::alloc::AllocError;
 
-// Whether XML 1.0 allows a character, and it is shown: no control character, and not U+FFFE or U+FFFF.
-fn is_in_xml(c: char) -> bool
-    ensures { result ≡ is_in_xml c }
+// Whether a character is shown: it is no character below the space, and neither U+FFFE nor U+FFFF, which XML
+// 1.0 forbids.
+fn is_shown(c: char) -> bool
+    ensures { result ≡ is_shown c }
 {
     c >= ' ' && c != '\u{FFFE}' && c != '\u{FFFF}'
 }
@@ -22,7 +24,7 @@ fn put_char(out: &mut String, c: char) -> Result<(), AllocError>
         '&' => out.push_str("&amp;"),
         '<' => out.push_str("&lt;"),
         '>' => out.push_str("&gt;"),
-        _ if is_in_xml(c) => out.push(c),
+        _ if is_shown(c) => out.push(c),
         _ => out.push(' '),
     }
 }
@@ -38,8 +40,8 @@ pub fn put_escaped(out: &mut String, text: &str) -> Result<(), AllocError>
     Ok(())
 }
 
-// The most quarters of its height that a heading in 18 pixels is wide, and those of a heading in a hundredth
-// of a pixel.
+// How many quarters of its height fit the width: of a heading in 18 pixels, and of one in a hundredth of a
+// pixel.
 const MOST_LARGE: usize = 256;
 
 const WIDTH: usize = 460_800;
@@ -77,7 +79,7 @@ fn put_size(out: &mut String, width: usize) -> Result<(), AllocError>
 /// letters are up to three quarters as wide as they are high, and other characters up to five.
 pub fn put_heading(out: &mut String, title: &str) -> Result<(), AllocError>
     ensures { OnOk result (string_bytes out.new
-        ≡ string_bytes out.old ++ (heading title.now ++ escaped title.now ++ codes "</text>\n")) }
+        ≡ string_bytes out.old ++ heading_text title.now) }
 {
     write!(out, "<text class='big' x='24' y='28'")?;
     put_size(out, quarters(title))?;

@@ -1,10 +1,9 @@
 //! What a script's space says while the script is played, without its full reports: what it reports after
-//! each command, and why it refuses commands. It only asks.
+//! each command, and why it refuses commands. It plays the script, and asks its space after each command.
 
 ghost use Rattle.std.specs.Prelude.{◌≡◌, IfOk, map};
-ghost use Rattle.offset_script.specs.Machine.{answer_view, answers, start};
+ghost use Rattle.offset_script.specs.Machine.{start};
 ghost use Rattle.offset_pictures.specs.Watching.{HasSeen, replace_all_full, replace_full};
-ghost use Rattle.offset_pictures.specs.Refusals.{refused_of};
 ghost use Rattle.offset_pictures.specs.Reports.{report_view, reports_of};
 
 use crate::refusing::{Refused, note};
@@ -73,16 +72,9 @@ impl Listener for Watched {
 ///
 /// It fails only where an allocation fails.
 pub fn watch(alloc: Global, script: &Script) -> Result<Watched, AllocError>
-    ensures answers { IfOk result
-        (λ w. map answer_view w.answers.items
-        ≡ answers (replace_all_full script.now.commands.items)
-        (start script.now.size script.now.max_allocs)) }
-    ensures reports { IfOk result
-        (λ w. map report_view w.reports.items
-        ≡ reports_of script.now.size script.now.max_allocs script.now.commands.items) }
-    ensures refused { IfOk result
-        (λ w. w.refused.items
-        ≡ refused_of script.now.size script.now.max_allocs script.now.commands.items) }
+    // It is what the plain machine answers to these commands, reports and refuses.
+    ensures { IfOk result (λ w. HasSeen w (start script.now.size script.now.max_allocs)
+        (replace_all_full script.now.commands.items)) }
 {
     play_script_to::<ByNode<u16>, ByNode<u32>, _>(alloc, script)
 }

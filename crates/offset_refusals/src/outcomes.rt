@@ -26,7 +26,7 @@ impl From<AllocError> for Failure {
     }
 }
 
-/// The number that C gets: 0 for a result, else the place of the failure in its enum, from 1.
+/// The number that is printed: 0 for a result, else the place of the failure in its enum, from 1.
 pub fn code(outcome: Result<(), Failure>) -> u32 {
     match outcome {
         Ok(()) => 0,

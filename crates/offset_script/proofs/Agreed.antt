@@ -2,7 +2,7 @@
 use Rattle.offset_script.proofs.Common.{◌≡◌, ℕ, zero, suc, ◌+◌, ◌-◌, ◌<◌, ◌≤◌, Bool, true, false, not, ◌&&◌, ◌||◌, ◌⊎◌, List, [], ◌∷◌, ◌++◌, replicate, length, sum, Option, Some, None, nat_eq, nat_lt}
 use Rattle.offset_script.proofs.Common.{nat_le, if◌then◌else◌, refl, sym, ap, ap₂, subst, ◌∙◌, inl, inr, arith, eq-eqb, ne_eqb, le-leb, le-ltb, leb-false, append_assoc, append-nil, option_or}
 use Rattle.offset_script.proofs.Common.{cases_eq, cases_lt, true≢false, false≢true, lt-leb, ltb-true, ltb-false, and_parts, and_right, or_parts, not-false, up, down, rows_below, Live, Free, is_free}
-use Rattle.offset_script.proofs.Common.{has_number, stamp, total, chosen_place, State, Answer, step, returns_only, leaves, stamp_of_padding, stamp_of_call, View, Grant, units, used_block, free_part}
+use Rattle.offset_script.proofs.Common.{has_number, stamp, total, chosen_place, State, Answer, step, returns_only, leaves, stamp_of_padding, stamp_of_call, View, Handle, units, used_block}
 use Rattle.offset_script.proofs.Common.{bin_at, push_all, IsWellFormed, replace, max_size, padding_to, SameSpace, Frees, Adds, CanExtend, Extends, AllByRecursion, map-append, length-map}
 use Rattle.offset_script.proofs.Common.{length-replicate, nil_from_length, cond_both}
 use Rattle.offset_script.proofs.Agreement.{Label, by_name, by_tag, stamp_of, IsFalling, name_of, HasBlocksOf}
@@ -11,16 +11,16 @@ use Rattle.offset_script.proofs.Labels.{names, tags, map_three, stamps_below, Ar
 use Rattle.offset_script.proofs.Chosen.{Spot, whole, place_at, named_spot, plain_spot, named_place, plain_place, IsLabelled, none_chosen, chosen, place_of_spot}
 use Rattle.offset_script.proofs.Ends.{AreFree, free_named, free_tagged, apart_tagged, ends_live_last, last_free, total_units, free_sizes_labels, or_none, name_append, name_skip, name_free, name_none}
 use Rattle.offset_script.proofs.{Tests.if_same, Tests.same_some, Found.found_at, Found.not_found, Found.chosen_at, Well.IsWell, Well.not_there, Members.map_parts, Members.map_first}
-use Rattle.offset_allocator.proofs.{Emptied.none_at, ViewApart.and_true, Reading.size_at, Served.Serves, Split.split_view, Tallies.units-append, ViewOrders.names_same, ViewOrders.names_other}
+use Rattle.offset_allocator.proofs.{Emptied.none_at, ViewApart.and_true, Reading.size_at, Served.Serves, Split.split_view, Tallies.units-append, ViewBins.names_same, ViewBins.names_other}
 use Rattle.offset_allocator.proofs.{Classes.down_small, Classes.fits_size}
-use Rattle.offset_allocator.specs.{View.Block, View.Place, View.place_of, View.free_block, Requests.HasRoomFor, Requests.CanGrant, Requests.blocks_needed, Requests.units_needed}
+use Rattle.offset_allocator.specs.{View.Block, View.Place, View.place_of, View.free_block, View.free_part, Requests.HasRoomFor, Requests.CanGrant, Requests.blocks_needed, Requests.units_needed}
 use Rattle.offset_script.specs.declared.scripts.Command.TheVariants as command
 use Rattle.offset_script.specs.Machine as machine
 use Rattle.offset_allocator.specs.View as named
 use Rattle.offset_script.proofs.Lists as lists
 
 -- the answer to a request, when g grants were made before it
-abbrev pub answer_of : ℕ → Option Grant → Answer
+abbrev pub answer_of : ℕ → Option Handle → Answer
 answer_of g None = machine.Refused
 answer_of g (Some a) = machine.Grant (g + 1) a.offset
 
@@ -33,12 +33,12 @@ abbrev pub without_name : ℕ → (ℕ → Option ℕ) → ℕ → Option ℕ
 without_name k kept_name j = if nat_eq j k then None else kept_name j
 
 -- the names kept after a request, when g grants were made before it
-abbrev pub kept_after : ℕ → Option Grant → (ℕ → Option ℕ) → ℕ → Option ℕ
+abbrev pub kept_after : ℕ → Option Handle → (ℕ → Option ℕ) → ℕ → Option ℕ
 kept_after g None kept_name = kept_name
 kept_after g (Some a) kept_name = with_name (g + 1) a.name kept_name
 
 -- the grants made after a request, when g were made before it
-abbrev pub grant_count_after : ℕ → Option Grant → ℕ
+abbrev pub grant_count_after : ℕ → Option Handle → ℕ
 grant_count_after g None = g
 grant_count_after g (Some a) = g + 1
 
@@ -55,7 +55,7 @@ names_free_labels : (x n s : ℕ) → names (free_labels x n s) ≡ free_part x 
 names_free_labels x zero s = refl
 names_free_labels x (suc n) s = refl
 
-tags_free_labels : (x n s : ℕ) → tags (free_labels x n s) ≡ machine.free_block n s
+tags_free_labels : (x n s : ℕ) → tags (free_labels x n s) ≡ machine.free_part n s
 tags_free_labels x zero s = refl
 tags_free_labels x (suc n) s = refl
 
@@ -75,7 +75,7 @@ pub names_new : (front padding x n k rest left t : ℕ) → names (new_labels fr
 names_new front padding x n k rest left t = search (arith, map-append, by_name, names_free_labels)
 
 pub tags_new : (front padding x n k rest left t : ℕ)
-    → tags (new_labels front padding x n k rest left t) ≡ machine.free_block padding t ++ machine.block n (Live k) ∷ machine.free_block left (t + 1)
+    → tags (new_labels front padding x n k rest left t) ≡ machine.free_part padding t ++ machine.block n (Live k) ∷ machine.free_part left (t + 1)
 tags_new front padding x n k rest left t = search (arith, map-append, by_tag, tags_free_labels)
 
 pub name_new : (j front padding x n k rest left t : ℕ) → name_of j (new_labels front padding x n k rest left t) ≡ (if nat_eq j k then Some x else None)
@@ -94,7 +94,7 @@ pub name_replaced : (j : ℕ) (before old new after : List Label) → name_of j 
 name_replaced j before old new after e = search (arith, name_append, name_of)
 
 -- a request has the same answer, and what it leaves agrees
-pub record IsMatch (u : View) (kept_name : ℕ → Option ℕ) (grants : ℕ) (r : Option Grant) (p : machine.Outcome) : Type 0 where
+pub record IsMatch (u : View) (kept_name : ℕ → Option ℕ) (grants : ℕ) (r : Option Handle) (p : machine.Outcome) : Type 0 where
   pub answer : p.answer ≡ answer_of grants r
   pub agrees : HasBlocksOf u (kept_after grants r kept_name) p.state
   pub grants_after : p.state.grants ≡ grant_count_after grants r
@@ -110,8 +110,8 @@ module _ (v : View) (kept_name : ℕ → Option ℕ) (s : State) (w : IsWellForm
   low : (ls : List Label) → g.labels ≡ ls → (x : ℕ) → stamp_of x ls < stamp_of_padding s
   low ls e = search (arith, stamp_of, stamps_below, count, not_there)
 
-  newest_at : (ls : List Label) → g.labels ≡ ls → (c : ℕ) → IsFalling (λ x. stamp_of x ls) (bin_at v.order c)
-  newest_at ls e = subst (λ ls. (c : ℕ) → IsFalling (λ x. stamp_of x ls) (bin_at v.order c)) e g.newest
+  newest_at : (ls : List Label) → g.labels ≡ ls → (c : ℕ) → IsFalling (λ x. stamp_of x ls) (bin_at v.bins c)
+  newest_at ls e = subst (λ ls. (c : ℕ) → IsFalling (λ x. stamp_of x ls) (bin_at v.bins c)) e g.newest
 
   -- new blocks in place of old ones
   module _ (u : View) (w' : IsWellFormed u) where
@@ -123,7 +123,7 @@ module _ (v : View) (kept_name : ℕ → Option ℕ) (s : State) (w : IsWellForm
         let view : u.blocks ≡ names (before ++ (new ++ after)) = ap (λ (x : View). x.blocks) same ∙ sym (map_three by_name before new after) in
         let fall = newest_replaced v before old new after w (g.view ∙ ap names e) (λ x. subst (λ bs. named.count_named x bs ≤ 1) view (w'.distinct x)) (stamp_of_padding s) (low _ e) rises
         (newest_at _ e) in
-        let newest = λ (c : ℕ). subst (λ o. IsFalling (λ x. stamp_of x (before ++ (new ++ after))) (bin_at o c)) (sym (ap (λ (x : View). x.order) same)) (fall c) in
+        let newest = λ (c : ℕ). subst (λ o. IsFalling (λ x. stamp_of x (before ++ (new ++ after))) (bin_at o c)) (sym (ap (λ (x : View). x.bins) same)) (fall c) in
         let limit = limit ∙ g.limit ∙ sym (ap (λ (x : View). x.max_allocs) same) in
         record { labels = before ++ (new ++ after); view = view; state = state; limit = limit; newest = newest; handles = handles }
 
@@ -144,7 +144,7 @@ module _ (v : View) (kept_name : ℕ → Option ℕ) (s : State) (w : IsWellForm
         λ j. search (arith, cases_eq, name_of, eq-eqb, name_append, first, name_new, ne_eqb, name_replaced, name_skip) in
         agrees_replaced v.size sp.before (sp.label ∷ []) new sp.after e
         (subst (λ put. SameSpace (replace v (names sp.before) (by_name sp.label ∷ []) put (names sp.after)) u) (sym names_are) same) _ refl
-        (ap (λ z. tags sp.before ++ z) (sym (append_assoc (machine.free_block padding (stamp_of_padding s)) (machine.block n (Live k) ∷ machine.free_block left (stamp_of_call s)) (tags sp.after)))
+        (ap (λ z. tags sp.before ++ z) (sym (append_assoc (machine.free_part padding (stamp_of_padding s)) (machine.block n (Live k) ∷ machine.free_part left (stamp_of_call s)) (tags sp.after)))
         ∙ sym (map_three by_tag sp.before new sp.after ∙ ap (λ z. tags sp.before ++ (z ++ tags sp.after)) (tags_new front padding sp.label.name n k rest left (stamp_of_padding s))))
         (rises_new front padding sp.label.name n k rest left (stamp_of_padding s)) _ handles
 
@@ -159,7 +159,7 @@ module _ (v : View) (kept_name : ℕ → Option ℕ) (s : State) (w : IsWellForm
         let parted : g.labels ≡ before ++ ((left ++ (old ++ right)) ++ after) = e ∙ ap₂ (λ y z. y ++ (old ++ z)) at_front at_back ∙ simp append_assoc in
         let parts = λ (xs ys : List Label) (h : lists.AreApart (tags (xs ++ ys))). apart_parts (tags xs) (tags ys) (subst lists.AreApart (map-append by_tag xs ys) h) in
         let apart = (parts (left ++ (old ++ right)) after (parts before ((left ++ (old ++ right)) ++ after) (subst lists.AreApart (g.state ∙ ap tags parted) ws.apart)).1).0 in
-        let named_apart = subst named.IsApart (ap (λ (x : View). x.blocks) same ∙ sym (map-append by_name before (l ∷ after))) w'.apart in
+        let named_apart = subst named.AreCoalesced (ap (λ (x : View). x.blocks) same ∙ sym (map-append by_name before (l ∷ after))) w'.apart in
         let apart' = parts before (l ∷ after) (apart_tagged (before ++ (l ∷ after)) named_apart) in
         let state : machine.coalesce (tags front) n (stamp_of_call s) (tags back) ≡ tags (before ++ (l ∷ after)) =
         search (arith, tags, map-append, by_tag, left, coalesce_parts, end_of, free_tagged, parts, apart, and_true, apart', start_of) in
@@ -190,20 +190,20 @@ module _ (v : View) (kept_name : ℕ → Option ℕ) (s : State) (w : IsWellForm
     granted_is room padding sp at e = search (arith, has_room, plain_place, total_units)
 
     -- what a grant says of the place of the block that is split
-    abbrev IsGrantAt : Grant → (padding remainder front rest : ℕ) → Place → Type 0
+    abbrev IsGrantAt : Handle → (padding remainder front rest : ℕ) → Place → Type 0
     IsGrantAt a padding remainder front rest q = (a ≡ record { name = q.block.name; offset = units q.before + padding }) × (padding ≡ padding_at (units q.before))
         × (padding + n + remainder ≡ q.block.size)
         × SameSpace (replace v q.before (q.block ∷ []) (free_part front padding ++ used_block q.block.name n ∷ free_part rest remainder) q.after) u
 
-    pub serve_agrees : (r : Option Grant) → Serves blocks needed n padding_at v u r → IsMatch u kept_name s.grants r (machine.request s blocks needed n padding_at)
+    pub serve_agrees : (r : Option Handle) → Serves blocks needed n padding_at v u r → IsMatch u kept_name s.grants r (machine.request s blocks needed n padding_at)
     serve_agrees None e = subst (IsMatch u kept_name s.grants None) (sym (refused_is e.0))
         (record { answer = refl; agrees = agrees_but v u kept_name _ e.1 (agrees_quiet v kept_name s g machine.Refused); grants_after = refl })
     serve_agrees (Some a) e =
         let t = e.1 in
         let c = chosen v w g.labels labelled needed n padding_at u a t in
         let at = subst (IsGrantAt a t.padding t.remainder t.padding_name t.remainder_name) (sym c.place) (t.grant, t.padded, t.whole, split_view t) in
-        let answer = ap (machine.Grant (s.grants + 1)) (ap (λ m. m + t.padding) (total_units c.spot.before) ∙ sym (ap (λ (a : Grant). a.offset) at.0)) in
-        let agrees = subst (λ x. HasBlocksOf u (with_name (s.grants + 1) x kept_name) (machine.grant s n t.padding (plain_place c.spot)).state) (sym (ap (λ (a : Grant). a.name) at.0))
+        let answer = ap (machine.Grant (s.grants + 1)) (ap (λ m. m + t.padding) (total_units c.spot.before) ∙ sym (ap (λ (a : Handle). a.offset) at.0)) in
+        let agrees = subst (λ x. HasBlocksOf u (with_name (s.grants + 1) x kept_name) (machine.grant s n t.padding (plain_place c.spot)).state) (sym (ap (λ (a : Handle). a.name) at.0))
         (grant_agrees u w' n t.padding t.remainder t.padding_name t.remainder_name c.spot c.split c.free at.2 at.3) in
         subst (IsMatch u kept_name s.grants (Some a)) (sym (granted_is e.0 t.padding c.spot c.is at.1)) (record { answer = answer; agrees = agrees; grants_after = refl })
 
@@ -226,7 +226,7 @@ module _ (v : View) (kept_name : ℕ → Option ℕ) (s : State) (w : IsWellForm
   aligned_is : (n align : ℕ) → 1 ≤ align → step (command.Align n align) s ≡ machine.request s (blocks_needed align) (units_needed n align) n (padding_to align)
   aligned_is n align some = search (arith, cases_lt, lt-leb, le-leb, cond_both, too_large, request_alike, chosen_place, ltb-true)
 
-  pub aligned_agrees : (n align : ℕ) → 1 ≤ align → (u : View) → IsWellFormed u → (r : Option Grant) → Serves (blocks_needed align) (units_needed n align) n (padding_to align) v u r
+  pub aligned_agrees : (n align : ℕ) → 1 ≤ align → (u : View) → IsWellFormed u → (r : Option Handle) → Serves (blocks_needed align) (units_needed n align) n (padding_to align) v u r
       → IsMatch u kept_name s.grants r (step (command.Align n align) s)
   aligned_agrees n align some u w' r e = search (arith, aligned_is, serve_agrees)
 
@@ -342,7 +342,7 @@ module _ (v : View) (kept_name : ℕ → Option ℕ) (s : State) (w : IsWellForm
   same_sizes : machine.free_sizes s.blocks ≡ named.free_sizes v.blocks
   same_sizes = ap machine.free_sizes g.state ∙ free_sizes_labels g.labels ∙ sym (ap named.free_sizes g.view)
 
-  pub report_agrees : (step command.Report s).answer ≡ machine.Report (named.total_free v) (named.largest_free v)
+  pub report_agrees : (step command.Report s).answer ≡ machine.Report (named.reported_free v) (named.reported_largest v)
   report_agrees = search (arith, if_same, same_length, same_sizes, g.limit, sum)
 
   pub full_agrees : (step command.Full s).answer ≡ machine.Full (rows_below 256 (named.free_sizes v.blocks))
@@ -353,10 +353,10 @@ pub agrees_kept : (v : View) (kept_name kept_name' : ℕ → Option ℕ) (s : St
 agrees_kept v kept_name kept_name' s e g = record { labels = g.labels; view = g.view; state = g.state; limit = g.limit; newest = g.newest; handles = λ k. e k ∙ g.handles k }
 
 -- one free block and no grants
-pub alone_agrees : (v : View) (x size stamp : ℕ) (kept_name : ℕ → Option ℕ) (s : State) → v.blocks ≡ free_block x size ∷ [] → v.order ≡ push_all (free_block x size ∷ []) (replicate 256 [])
+pub alone_agrees : (v : View) (x size stamp : ℕ) (kept_name : ℕ → Option ℕ) (s : State) → v.blocks ≡ free_block x size ∷ [] → v.bins ≡ push_all (free_block x size ∷ []) (replicate 256 [])
     → s.limit ≡ v.max_allocs → s.blocks ≡ machine.block size (Free stamp) ∷ []
     → ((k : ℕ) → kept_name k ≡ None) → HasBlocksOf v kept_name s
-alone_agrees v x size stamp kept_name s blocks order limit state none =
+alone_agrees v x size stamp kept_name s blocks bins limit state none =
     let l : Label = record { name = x; size = size; tag = Free stamp } in
     let f = λ (y : ℕ). stamp_of y (l ∷ []) in
     let pushed : (c : ℕ) → IsFalling f (bin_at (push_all (free_block x size ∷ []) (replicate 256 [])) c) = λ c. elim (cases_eq c (down size)) [
@@ -365,5 +365,5 @@ alone_agrees v x size stamp kept_name s blocks order limit state none =
           (subst (λ l. IsFalling f (x ∷ l)) (sym (none_at (down size))) ((λ y m. absurd (omega arith)), tt)))
       | inr n ↦ subst (IsFalling f) (sym (names_other (replicate 256 []) (down size) c _ n ∙ none_at c)) tt
     ] in
-    let newest = λ (c : ℕ). subst (λ o. IsFalling f (bin_at o c)) (sym order) (pushed c) in
+    let newest = λ (c : ℕ). subst (λ o. IsFalling f (bin_at o c)) (sym bins) (pushed c) in
     record { labels = l ∷ []; view = blocks; state = state; limit = limit; newest = newest; handles = none }

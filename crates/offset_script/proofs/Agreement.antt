@@ -1,5 +1,5 @@
 -- When the named view of an allocator, with the handles kept for its grants, shows the blocks of a plain state.
-use Rattle.offset_script.proofs.Common.{◌≡◌, ℕ, ◌<◌, ◌≤◌, not, List, [], ◌∷◌, length, map, Option, Some, None, nat_eq, if◌then◌else◌, View, Grant, IsWellFormed, tally, times, bin_at, Tag, is_free}
+use Rattle.offset_script.proofs.Common.{◌≡◌, ℕ, ◌<◌, ◌≤◌, not, List, [], ◌∷◌, length, map, Option, Some, None, nat_eq, if◌then◌else◌, View, Handle, IsWellFormed, tally, times, bin_at, Tag, is_free}
 use Rattle.offset_script.proofs.Common.{has_number, stamp, State, kept_name}
 use Rattle.offset_allocator.specs.View.{Block}
 use Rattle.offset_script.specs.Machine as machine
@@ -39,11 +39,11 @@ pub record HasBlocksOf (v : View) (kept_name : ℕ → Option ℕ) (s : State) :
   pub view : v.blocks ≡ map by_name labels
   pub state : s.blocks ≡ map by_tag labels
   pub limit : s.limit ≡ v.max_allocs
-  pub newest : (c : ℕ) → IsFalling (λ x. stamp_of x labels) (bin_at v.order c)
+  pub newest : (c : ℕ) → IsFalling (λ x. stamp_of x labels) (bin_at v.bins c)
   pub handles : (k : ℕ) → kept_name k ≡ name_of k labels
 
 -- an allocator with the view v, and the handles of its grants so far, represent a state of the plain machine
-pub record IsAtState (v : View) (handles : List (Option Grant)) (s : State) : Type 0 where
+pub record IsAtState (v : View) (handles : List (Option Handle)) (s : State) : Type 0 where
   pub formed : IsWellFormed v
   pub agrees : HasBlocksOf v (kept_name handles) s
   pub grants : length handles ≡ s.grants

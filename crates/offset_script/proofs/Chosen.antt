@@ -1,7 +1,7 @@
 -- The plain machine chooses the block that a grant splits: the newest of the smallest class that fits.
 use Rattle.offset_script.proofs.Common.{◌≡◌, ◌≢◌, ℕ, ◌<◌, ◌≤◌, true, false, not, List, [], ◌∷◌, ◌++◌, Option, Some, None, nat_eq, nat_lt, nat_le, refl, sym, ap, ap₂, subst, ◌∙◌, inl, arith, eq-eqb}
 use Rattle.offset_script.proofs.Common.{le-leb, lt-ltb, leb-true, map-append, cases_eq, cases_lt, true≢false, and_parts, not-false, or_right, up, down, is_free, stamp, fits, is_taken_before}
-use Rattle.offset_script.proofs.Common.{chosen_place, View, Grant, one, times, count_named, bin_at, IsWellFormed, Splits}
+use Rattle.offset_script.proofs.Common.{chosen_place, View, Handle, one, times, count_named, bin_at, IsWellFormed, Splits}
 use Rattle.offset_script.proofs.Agreement.{Label, by_name, by_tag, stamp_of, IsFalling}
 use Rattle.offset_script.proofs.{Tests.same_some, Found.chosen_at, Found.not_chosen, Members.IsIn, Members.in_right, Members.map_split, Labels.names, Labels.tags, Labels.gives_parts, Labels.gives_all}
 use Rattle.offset_allocator.specs.View.{Block, Place, place_of}
@@ -56,7 +56,7 @@ names_whole s = map-append by_name s.before (s.label ∷ s.after)
 -- what holds of a view and a list of labels that agree
 pub record IsLabelled (v : View) (ls : List Label) : Type 0 where
   pub view : v.blocks ≡ names ls
-  pub newest : (c : ℕ) → IsFalling (λ x. stamp_of x ls) (bin_at v.order c)
+  pub newest : (c : ℕ) → IsFalling (λ x. stamp_of x ls) (bin_at v.bins c)
 
 -- no block before a spot has its name
 pub alone_before : (v : View) → IsWellFormed v → (s : Spot) → v.blocks ≡ names (whole s) → count_named s.label.name (names s.before) ≡ 0
@@ -70,7 +70,7 @@ pub place_of_spot : (v : View) → IsWellFormed v → (s : Spot) → v.blocks �
 place_of_spot v w s e = ap (place_of s.label.name) (e ∙ names_whole s) ∙ place_here s.label.name (names s.before) (by_name s.label) (names s.after) (alone_before v w s e) refl
 
 -- a free block is listed in its class
-pub listed_spot : (v : View) → IsWellFormed v → (s : Spot) → v.blocks ≡ names (whole s) → is_free s.label.tag ≡ true → 1 ≤ times s.label.name (bin_at v.order (down s.label.size))
+pub listed_spot : (v : View) → IsWellFormed v → (s : Spot) → v.blocks ≡ names (whole s) → is_free s.label.tag ≡ true → 1 ≤ times s.label.name (bin_at v.bins (down s.label.size))
 listed_spot v w s e f = search (arith, names_whole, tally_append, not, nat_eq, names, by_name, eq-eqb)
 
 -- the stamp of the name at a spot
@@ -90,17 +90,17 @@ module _ (v : View) (w : IsWellFormed v) (ls : List Label) (a : IsLabelled v ls)
       let parts = and_parts (is_free r.0.label.tag) (nat_le (up n) (down r.0.label.size)) (ap (λ (q : plain.Place). fits n q.block) r.2 ∙ c.1) in
       (r.0, r.1, r.2, parts.0, leb-true (up n) (down r.0.label.size) parts.1)
 
-  none_if : ((c : ℕ) × (up n ≤ c) × (bin_at v.order c ≢ []) → ⊥) → (o : Option plain.Place) → chosen_place n (tags ls) ≡ o → o ≡ None
+  none_if : ((c : ℕ) × (up n ≤ c) × (bin_at v.bins c ≢ []) → ⊥) → (o : Option plain.Place) → chosen_place n (tags ls) ≡ o → o ≡ None
   none_if none None e = refl
   none_if none (Some p) e =
       let r = chosen_spot p e in
       absurd (none (down r.0.label.size, r.4, λ z. let h = listed_spot v w r.0 (a.view ∙ ap names r.1) r.3 in let k = ap (times r.0.label.name) z in absurd (omega arith)))
 
   -- where no bin of a large enough class has a block, the machine chooses none
-  pub none_chosen : ((c : ℕ) × (up n ≤ c) × (bin_at v.order c ≢ []) → ⊥) → chosen_place n (tags ls) ≡ None
+  pub none_chosen : ((c : ℕ) × (up n ≤ c) × (bin_at v.bins c ≢ []) → ⊥) → chosen_place n (tags ls) ≡ None
   none_chosen none = none_if none (chosen_place n (tags ls)) refl
 
-  module _ (m : ℕ) (padding_at : ℕ → ℕ) (u : View) (g : Grant) (t : Splits n m padding_at v u g) where
+  module _ (m : ℕ) (padding_at : ℕ → ℕ) (u : View) (g : Handle) (t : Splits n m padding_at v u g) where
     -- where the block that is split is
     taken_spot : (s : Spot) × (ls ≡ whole s) × (named_place s ≡ place_at t.before t.block t.after) × (is_free s.label.tag ≡ true)
     taken_spot =

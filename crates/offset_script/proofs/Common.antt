@@ -18,17 +18,17 @@ pub use Rattle.std.specs.Option.{option_or, option_map_or}
 pub use Rattle.std.specs.Str.{all_ascii_digits}
 unfoldable pub use Rattle.offset_allocator.specs.Classes.{up, down, value}
 pub use Rattle.offset_allocator.specs.Relations.{SameSpace, Frees, Adds, CanExtend, Extends, Splits, IsFresh, Resets}
-pub use Rattle.offset_allocator.specs.Reports.{largest, rows_below, row, count_of}
-pub use Rattle.offset_allocator.specs.View.{View, Grant, units, used_block, free_part, bin_at, push_all, IsWellFormed, replace, max_size, padding_to, tally, times, one, count_named, push}
+pub use Rattle.offset_allocator.specs.FreeSizes.{largest, rows_below, row, count_of}
+pub use Rattle.offset_allocator.specs.View.{View, Handle, units, used_block, bin_at, push_all, IsWellFormed, replace, max_size, padding_to, tally, times, one, count_named, push}
 pub use Rattle.offset_allocator.specs.View.{remove, remove_all}
 pub use Rattle.offset_script.specs.Grammar.{parts, lines_of, is_skipped, Line, numbered_from, line_ends, largest_limit, Plan, ◌>>=!◌, command_of, header_of, is_admitted, has_valid_alignment, words}
-pub use Rattle.offset_script.specs.Grammar.{plain_command, number_command, pair_command, ◌>>=◌, text_of, row_line, width_of}
+pub use Rattle.offset_script.specs.Grammar.{one_word_command, number_command, pair_command, ◌>>=◌, text_of, row_line, width_of}
 unfoldable pub use Rattle.offset_script.specs.Grammar.{meaning_of, significant_from, command_of_words, header_of_words, commands_of, plan_of, number_of}
 pub use Rattle.offset_script.specs.Histories.{renumber, raise_number, number_without, KeepsSpace, IsQuestion, holder, outline, widen, collapse, without_offset, releases, IsCollapse}
-pub use Rattle.offset_script.specs.Histories.{answers_renumbered, HasNoLive, IsGrant, IsNest, HasFreshRestarts, HasTracelessNests, HasCommutingRows}
+pub use Rattle.offset_script.specs.Histories.{answers_renumbered, HasNoLive, IsGrant, IsNest, HasFreshRestarts, HasTracelessNests, HasCommutingReleases}
 pub use Rattle.offset_script.specs.Machine.{Live, Free, is_free, has_number, stamp, total, chosen_place, State, Answer, step, returns_only, leaves, stamp_of_padding, stamp_of_call, Tag, Block, block}
 pub use Rattle.offset_script.specs.Machine.{Place, fits, place_of, coalesce, Outcome, answers, after, request, grant, grant_or_refuse, release, size_at, report, reset, extend, start, is_short_of}
-pub use Rattle.offset_script.specs.Machine.{is_taken_before, here, choose, prepend, free_block, units_at_start, without_start, units_at_end, without_end, free_sizes, ends_live, row_view, answer_view}
-pub use Rattle.offset_script.specs.Steps.{kept_name, Takes, IsRun, AreOfARun, IsKept, IfNamed, Stays, AreLive}
+pub use Rattle.offset_script.specs.Machine.{is_taken_before, here, choose, prepend, free_part, units_at_start, without_start, units_at_end, without_end, free_sizes, ends_live, row_view, answer_view}
+pub use Rattle.offset_script.specs.Steps.{kept_name, Takes, AreSteps, AreStepsFromFresh, IsKept, IfNamed, Stays, AreLive}
 pub use Rattle.offset_script.specs.declared.scripts.Command.{Command}
 pub use Rattle.offset_script.specs.declared.scripts.Command.TheVariants.{Alloc, Size, Report, Full, Reset, Align, Extend}

@@ -2,7 +2,8 @@
 use Rattle.offset_script.proofs.Common.{◌≡◌, ℕ, suc, ◌-◌, ◌<◌, ◌⊎◌, inl, inr, false, List, [], ◌∷◌, ◌++◌, length, take, drop, get_or, Option, Some, None, Ok, Err, sym, ap, ◌∙◌, append_assoc, arith}
 use Rattle.offset_script.proofs.Common.{take-append-drop, IfSome, flat_map, Appends, cases_lt, append-nil, take_rest, length-append, drop_at, drop_all, meaning_of}
 use Rattle.std.proofs.{Math.Seq.split_at, lemmas.Grind.flat_map-append, KnownBytes.Appends-trans}
-use Rattle.offset_script.specs.Running.{view, IsParsed, IsScriptOf, HasText, Sends}
+use Rattle.offset_script.specs.Running.{as_plan, IsParsed, IsScriptOf, HasText}
+use Rattle.offset_script.specs.Sending.{Pushes}
 use Rattle.offset_script.specs.{declared.faults.ScriptFault.ScriptFault, declared.scripts.Script.Script, Faults.as_run_fault}
 use Rattle.offset_script.proofs.Meaning.{is_too_long}
 use Rattle.offset_script.specs.declared.faults.ScriptFault.TheVariants as scripts
@@ -18,7 +19,7 @@ coalesce_at text xs i d h = ap (flat_map text) (split_at xs i d h) ∙ flat_map-
 
 -- a beginning of the i-th text was sent after those before it
 pub piece_failed : {X : Type 0} (text : X → List ℕ) (xs : List X) (i : ℕ) (d : X) (old mid new : Option (List ℕ)) → i < length xs → Appends old mid (flat_map text (take i xs))
-    → Sends false (text (get_or xs i d)) mid new → Sends false (flat_map text xs) old new
+    → Pushes false (text (get_or xs i d)) mid new → Pushes false (flat_map text xs) old new
 piece_failed text xs i d old mid new h before sends =
     let parted : flat_map text xs ≡ (flat_map text (take i xs) ++ sends.0) ++ (sends.1 ++ flat_map text (drop (suc i) xs)) =
     coalesce_at text xs i d h ∙ rw (sends.2, append_assoc sends.0) (sym (append_assoc (flat_map text (take i xs)) sends.0 _)) in
@@ -43,7 +44,7 @@ script_failed bytes scripts.TooLong (Some text) left h fails =
     elim (whole_or_long bytes text left h) [ inl w ↦ (rw (drop_all 1048577 text (omega (arith, w.2, ap length w.1))) w.0, ap meaning_of w.1 ∙ fails) | inr l ↦ (l.0, l.2) ]
 script_failed bytes f (Some text) left h fails = search (arith, whole_or_long)
 
-pub script_read : (bytes : List ℕ) (script : Script) (from left : Option (List ℕ)) → HasText bytes from left → meaning_of bytes ≡ Ok (view script)
+pub script_read : (bytes : List ℕ) (script : Script) (from left : Option (List ℕ)) → HasText bytes from left → meaning_of bytes ≡ Ok (as_plan script)
     → IfSome from (λ text. IsScriptOf (Ok script) text left)
 script_read bytes script None left h means = tt
 script_read bytes script (Some text) left h means = search (arith, whole_or_long)

@@ -22,7 +22,7 @@ free_tagged [] f = tt
 free_tagged (l ∷ ls) f = (f.0, free_tagged ls f.1)
 
 -- free neighbours, by names and by tags
-pub apart_tagged : (ls : List Label) → named.IsApart (names ls) → lists.AreApart (tags ls)
+pub apart_tagged : (ls : List Label) → named.AreCoalesced (names ls) → lists.AreApart (tags ls)
 apart_tagged [] a = tt
 apart_tagged (l ∷ []) a = search (arith, not_not)
 apart_tagged (l ∷ m ∷ ls) a = (subst₂ (λ x y. (x && y) ≡ false) (not_not (is_free l.tag)) (not_not (is_free m.tag)) a.0, apart_tagged (m ∷ ls) a.1)

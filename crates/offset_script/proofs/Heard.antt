@@ -1,5 +1,5 @@
 -- One more command of a player, and what a listener is told of it.
-use Rattle.offset_script.proofs.Common.{◌≡◌, List, [], ◌∷◌, ◌++◌, Option, Result, Ok, Err, IfOk, IsTrue, ℕ, sum, sym, ap, ap₂, append-nil, ◌∙◌, View, Grant, IsWellFormed}
+use Rattle.offset_script.proofs.Common.{◌≡◌, List, [], ◌∷◌, ◌++◌, Option, Result, Ok, Err, IfOk, IsTrue, ℕ, sum, sym, ap, ap₂, append-nil, ◌∙◌, View, Handle, IsWellFormed}
 use Rattle.offset_script.proofs.Common.{Command, State, Answer, step, answers, after, has_valid_alignment, kept_name, Takes, free_sizes, text_of}
 use Rattle.offset_script.proofs.{Agreed.report_agrees, Agreed.same_length, Agreed.same_units, Agreement.IsAtState, Asking.answers-append, Ends.free_sizes_labels}
 use Rattle.offset_script.proofs.{Simulation.follows, Well.IsWell, Well.well_step}
@@ -9,7 +9,7 @@ use Rattle.offset_script.specs.Grammar.{lines_of_answer}
 use Rattle.offset_script.specs.Listening.{IsTold, Shows}
 
 -- a space shows the state that it represents
-pub shows : (v : View) (hs : List (Option Grant)) (s : State) → IsWell s → IsAtState v hs s → Shows v s
+pub shows : (v : View) (hs : List (Option Handle)) (s : State) → IsWell s → IsAtState v hs s → Shows v s
 shows v hs s ws p = record {
   report = sym (report_agrees v (kept_name hs) s p.formed ws p.agrees);
   blocks = same_length v (kept_name hs) s p.formed ws p.agrees;
@@ -19,7 +19,7 @@ shows v hs s ws p = record {
 }
 
 -- what is told of a command, and the state that the space represents after it
-pub told : (c : Command) (s : State) (v w : View) (hs left : List (Option Grant)) (a : Answer) → IsWell s → IsAtState v hs s → IsTrue (has_valid_alignment c) → IsWellFormed w → Takes c v hs w left a
+pub told : (c : Command) (s : State) (v w : View) (hs left : List (Option Handle)) (a : Answer) → IsWell s → IsAtState v hs s → IsTrue (has_valid_alignment c) → IsWellFormed w → Takes c v hs w left a
     → IsTold c s w a × IsAtState w left (step c s).state
 told c s v w hs left a ws p power formed t =
     let next = follows v w hs left a s formed ws p c power t in

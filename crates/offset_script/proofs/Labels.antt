@@ -4,7 +4,7 @@ use Rattle.offset_script.proofs.Common.{cases_lt, not-true, not-false, Tag, Live
 use Rattle.offset_allocator.specs.View.{Block}
 use Rattle.offset_script.proofs.Falling.{falling_remove_all, falling_same, falling_put_all, IsRising}
 use Rattle.offset_script.proofs.{Agreement.Label, Agreement.by_name, Agreement.by_tag, Agreement.stamp_of, Agreement.IsFalling, Lists.count, Lists.hit, Lists.hit_self}
-use Rattle.offset_allocator.proofs.{Tallies.tally_three, Tallies.listed_named, Tallies.tally_append, Tallies.hit_cases, Tallies.one-same, ViewOrders.length_remove_all, ViewReplaced.orders_replaced}
+use Rattle.offset_allocator.proofs.{Tallies.tally_three, Tallies.listed_named, Tallies.tally_append, Tallies.hit_cases, Tallies.one-same, ViewBins.length_remove_all, ViewReplaced.bins_replaced}
 use Rattle.offset_script.specs.Machine as plain
 
 -- the blocks by name
@@ -80,14 +80,14 @@ rises_named f t (l ∷ ls) g r = (
 
 -- new blocks in place of old ones, where the new stamps are above the old
 pub newest_replaced : (v : View) (before old new after : List Label) → IsWellFormed v → v.blocks ≡ names (before ++ (old ++ after)) → ((x : ℕ) → count_named x (names (before ++ (new ++ after))) ≤ 1)
-    → (t : ℕ) → ((x : ℕ) → stamp_of x (before ++ (old ++ after)) < t) → AreRising t new → ((c : ℕ) → IsFalling (λ x. stamp_of x (before ++ (old ++ after))) (bin_at v.order c))
-    → (c : ℕ) → IsFalling (λ x. stamp_of x (before ++ (new ++ after))) (bin_at (push_all (names new) (remove_all (names old) v.order)) c)
+    → (t : ℕ) → ((x : ℕ) → stamp_of x (before ++ (old ++ after)) < t) → AreRising t new → ((c : ℕ) → IsFalling (λ x. stamp_of x (before ++ (old ++ after))) (bin_at v.bins c))
+    → (c : ℕ) → IsFalling (λ x. stamp_of x (before ++ (new ++ after))) (bin_at (push_all (names new) (remove_all (names old) v.bins)) c)
 newest_replaced v before old new after w e distinct t low rises newest =
     let f = λ (x : ℕ). stamp_of x (before ++ (old ++ after)) in
     let f' = λ (x : ℕ). stamp_of x (before ++ (new ++ after)) in
     let parted = e ∙ map_three by_name before old after in
-    let same : (d y : ℕ) → 1 ≤ times y (bin_at (remove_all (names old) v.order) d) → f y ≡ f' y =
-    λ d y m. search (arith, orders_replaced, parted, tally_three, not, nat_eq, listed_named, map_three, by_name, stamp_none) in
+    let same : (d y : ℕ) → 1 ≤ times y (bin_at (remove_all (names old) v.bins) d) → f y ≡ f' y =
+    λ d y m. search (arith, bins_replaced, parted, tally_three, not, nat_eq, listed_named, map_three, by_name, stamp_none) in
     let rising = rises_named f' t new (gives_parts f' new after (gives_parts f' before (new ++ after) (gives_all _ distinct)).1).0 rises in
-    falling_put_all f' t (names new) (remove_all (names old) v.order) (length_remove_all (names old) v.order ∙ w.classes)
-    (λ d. falling_same f f' _ (same d) (falling_remove_all f (names old) v.order w.classes newest d)) (λ d y m. let s = same d y m in let l = low y in omega arith) rising
+    falling_put_all f' t (names new) (remove_all (names old) v.bins) (length_remove_all (names old) v.bins ∙ w.classes)
+    (λ d. falling_same f f' _ (same d) (falling_remove_all f (names old) v.bins w.classes newest d)) (λ d y m. let s = same d y m in let l = low y in omega arith) rising

@@ -1,7 +1,7 @@
 -- What holds of lists of blocks: counts of tags, neighbours, free ends, and what coalesces.
 use Rattle.offset_script.proofs.Common.{◌≡◌, ℕ, zero, suc, ◌+◌, ◌≤◌, Bool, true, false, ◌&&◌, List, [], ◌∷◌, ◌++◌, length, nat_eq, if◌then◌else◌, refl, sym, ap, ap₂, subst, ◌∙◌, inl, inr, arith}
 use Rattle.offset_script.proofs.Common.{ne_eqb, append-nil, cases_eq, true≢false, false≢true, and_left, and_right, AllByRecursion, one, Tag, Live, Free, Block, block, is_free, has_number, total}
-use Rattle.offset_script.proofs.Common.{Place, free_block, units_at_start, without_start, units_at_end, without_end, coalesce, nil_from_length, cases_Bool}
+use Rattle.offset_script.proofs.Common.{Place, free_part, units_at_start, without_start, units_at_end, without_end, coalesce, nil_from_length, cases_Bool}
 use Rattle.offset_allocator.proofs.{ViewApart.left_false, ViewApart.right_false, Tallies.hit_cases, Tallies.one-same}
 use Rattle.offset_script.proofs.Members.{IsIn}
 
@@ -65,9 +65,9 @@ pub number_of : (k : ℕ) (t : Tag) → has_number k t ≡ true → t ≡ Live k
 number_of k (Live j) e = elim (cases_eq k j) [ inl h ↦ ap Live (sym h) | inr h ↦ absurd (true≢false (sym e ∙ ne_eqb k j h)) ]
 number_of k (Free s) e = absurd (false≢true e)
 
-pub count_free_block : (t : Tag) (n s : ℕ) → count t (free_block n s) ≤ hit t (Free s)
-count_free_block t zero s = omega arith
-count_free_block t (suc n) s = omega arith
+pub count_free_part : (t : Tag) (n s : ℕ) → count t (free_part n s) ≤ hit t (Free s)
+count_free_part t zero s = omega arith
+count_free_part t (suc n) s = omega arith
 
 -- the units of two lists are added
 pub total-append : (xs ys : List Block) → total (xs ++ ys) ≡ total xs + total ys

@@ -1,7 +1,7 @@
 -- Two lists of blocks of the same sizes, both live or both free at each place, seen as one list of pairs.
 use Rattle.offset_script.proofs.Common.{◌≡◌, ℕ, zero, suc, ◌+◌, ◌-◌, true, not, ◌&&◌, ◌||◌, ◌⊎◌, List, [], ◌∷◌, ◌++◌, map, length, Option, Some, None, option_map, nat_eq, nat_lt, nat_le}
 use Rattle.offset_script.proofs.Common.{if◌then◌else◌, refl, sym, ap, ap₂, subst, subst₂, ◌∙◌, inl, inr, arith, eq-eqb, eqb-true, map-append, length-map, and_parts, up, down, max_size, Tag, Live}
-use Rattle.offset_script.proofs.Common.{Free, Block, block, is_free, has_number, stamp, total, free_sizes, Place, fits, is_taken_before, choose, chosen_place, prepend, place_of, free_block, ends_live}
+use Rattle.offset_script.proofs.Common.{Free, Block, block, is_free, has_number, stamp, total, free_sizes, Place, fits, is_taken_before, choose, chosen_place, prepend, place_of, free_part, ends_live}
 use Rattle.offset_script.proofs.Common.{coalesce, State, is_short_of}
 use Rattle.offset_script.proofs.Lists.{starts_free, ends_free, AreFree, IsEnd, IsStart, coalesced, coalesce_parts}
 use Rattle.offset_script.proofs.{Members.IsIn, Members.in_append, Members.in_left, Members.in_right, Members.map_parts, Tests.same_and, Tests.if_same}
@@ -190,45 +190,45 @@ same_chosen n [] agree = neither
 same_chosen n (q ∷ p) agree = choose_same n q p _ _ agree (same_chosen n p (λ a b x y. agree a b (inr x) (inr y)))
 
 -- a free block of n units on both sides, or nothing where n is 0
-abbrev pub pair_free_block : ℕ → Kind → List Pair
-pair_free_block zero k = []
-pair_free_block (suc n) k = pair (suc n) k ∷ []
+abbrev pub pair_free_part : ℕ → Kind → List Pair
+pair_free_part zero k = []
+pair_free_part (suc n) k = pair (suc n) k ∷ []
 
-pub lefts_free_block : (n s u : ℕ) → lefts (pair_free_block n (Frees s u)) ≡ free_block n s
-lefts_free_block zero s u = refl
-lefts_free_block (suc n) s u = refl
+pub lefts_free_part : (n s u : ℕ) → lefts (pair_free_part n (Frees s u)) ≡ free_part n s
+lefts_free_part zero s u = refl
+lefts_free_part (suc n) s u = refl
 
-pub rights_free_block : (n s u : ℕ) → rights (pair_free_block n (Frees s u)) ≡ free_block n u
-rights_free_block zero s u = refl
-rights_free_block (suc n) s u = refl
+pub rights_free_part : (n s u : ℕ) → rights (pair_free_part n (Frees s u)) ≡ free_part n u
+rights_free_part zero s u = refl
+rights_free_part (suc n) s u = refl
 
-pub in_free_block : (q : Pair) (n : ℕ) (k : Kind) → IsIn q (pair_free_block n k) → q.kind ≡ k
-in_free_block q zero k h = absurd h
-in_free_block q (suc n) k (inl e) = ap (λ (z : Pair). z.kind) e
-in_free_block q (suc n) k (inr h) = absurd h
+pub in_free_part : (q : Pair) (n : ℕ) (k : Kind) → IsIn q (pair_free_part n k) → q.kind ≡ k
+in_free_part q zero k h = absurd h
+in_free_part q (suc n) k (inl e) = ap (λ (z : Pair). z.kind) e
+in_free_part q (suc n) k (inr h) = absurd h
 
 -- the pairs after a grant in the pair q
 abbrev pub pairs_granted : List Pair → Pair → List Pair → ℕ → ℕ → Kind → Kind → Kind → List Pair
-pairs_granted xs q ys n padding front live rest = xs ++ (pair_free_block padding front ++ (pair n live ∷ (pair_free_block (q.size - (padding + n)) rest ++ ys)))
+pairs_granted xs q ys n padding front live rest = xs ++ (pair_free_part padding front ++ (pair n live ∷ (pair_free_part (q.size - (padding + n)) rest ++ ys)))
 
 pub in_granted : (x : Pair) (xs : List Pair) (q : Pair) (ys : List Pair) (n padding : ℕ) (front live rest : Kind) → IsIn x (pairs_granted xs q ys n padding front live rest)
     → IsIn x (xs ++ q ∷ ys) ⊎ ((x.kind ≡ front) ⊎ (x.kind ≡ live) ⊎ (x.kind ≡ rest))
-in_granted x xs q ys n padding front live rest h = elim (in_append x xs (pair_free_block padding front ++ (pair n live ∷ (pair_free_block (q.size - (padding + n)) rest ++ ys))) h) [
+in_granted x xs q ys n padding front live rest h = elim (in_append x xs (pair_free_part padding front ++ (pair n live ∷ (pair_free_part (q.size - (padding + n)) rest ++ ys))) h) [
   | inl a ↦ inl (in_left x xs _ a)
-  | inr b ↦ elim (in_append x (pair_free_block padding front) (pair n live ∷ (pair_free_block (q.size - (padding + n)) rest ++ ys)) b) [
-    | inl f ↦ inr (inl (in_free_block x padding front f))
+  | inr b ↦ elim (in_append x (pair_free_part padding front) (pair n live ∷ (pair_free_part (q.size - (padding + n)) rest ++ ys)) b) [
+    | inl f ↦ inr (inl (in_free_part x padding front f))
     | inr (inl e) ↦ inr (inr (inl (ap (λ (z : Pair). z.kind) e)))
-    | inr (inr g) ↦ elim (in_append x (pair_free_block (q.size - (padding + n)) rest) ys g) [
-      | inl f ↦ inr (inr (inr (in_free_block x _ rest f)))
+    | inr (inr g) ↦ elim (in_append x (pair_free_part (q.size - (padding + n)) rest) ys g) [
+      | inl f ↦ inr (inr (inr (in_free_part x _ rest f)))
       | inr a ↦ inl (in_right x xs _ (inr a))
     ]
   ]
 ]
 
 pub lefts_granted : (xs : List Pair) (q : Pair) (ys : List Pair) (n padding s u j j' t v : ℕ) → lefts (pairs_granted xs q ys n padding (Frees s u) (Lives j j') (Frees t v))
-    ≡ lefts xs ++ (free_block padding s ++ (block n (Live j) ∷ (free_block (q.size - (padding + n)) t ++ lefts ys)))
-lefts_granted xs q ys n padding s u j j' t v = simp (map-append, lefts_free_block)
+    ≡ lefts xs ++ (free_part padding s ++ (block n (Live j) ∷ (free_part (q.size - (padding + n)) t ++ lefts ys)))
+lefts_granted xs q ys n padding s u j j' t v = simp (map-append, lefts_free_part)
 
 pub rights_granted : (xs : List Pair) (q : Pair) (ys : List Pair) (n padding s u j j' t v : ℕ) → rights (pairs_granted xs q ys n padding (Frees s u) (Lives j j') (Frees t v))
-    ≡ rights xs ++ (free_block padding u ++ (block n (Live j') ∷ (free_block (q.size - (padding + n)) v ++ rights ys)))
-rights_granted xs q ys n padding s u j j' t v = simp (map-append, rights_free_block)
+    ≡ rights xs ++ (free_part padding u ++ (block n (Live j') ∷ (free_part (q.size - (padding + n)) v ++ rights ys)))
+rights_granted xs q ys n padding s u j j' t v = simp (map-append, rights_free_part)

@@ -1,13 +1,13 @@
 -- A release after a grant, with a nest between them, restores the block that was split, as the newest of its class.
 use Rattle.offset_script.proofs.Common.{◌≡◌, ℕ, ◌+◌, ◌-◌, ◌<◌, ◌≤◌, true, false, ◌&&◌, ◌||◌, ◌⊎◌, List, [], ◌∷◌, ◌++◌, Some, nat_eq, nat_lt, nat_le, refl, sym, ap, ap₂, subst, subst₂, ◌∙◌, inl, inr}
 use Rattle.offset_script.proofs.Common.{arith, append_assoc, eqb-true, eq-eqb, lt-ltb, le-ltb, map-append, cases_eq, false≢true, and_parts, nat_tests, up, down, Tag, Live, Free, Block, block, is_free}
-use Rattle.offset_script.proofs.Common.{has_number, stamp, Place, fits, place_of, free_block, coalesce, State, stamp_of_call, stamp_of_padding}
+use Rattle.offset_script.proofs.Common.{has_number, stamp, Place, fits, place_of, free_part, coalesce, State, stamp_of_call, stamp_of_padding}
 use Rattle.offset_allocator.proofs.ViewApart.{left_false, right_false}
 use Rattle.offset_script.proofs.Members.{IsIn, in_append, in_left, in_right, in_map, map_parts, map_first, in_parts}
 use Rattle.offset_script.proofs.Pairs.{Kind, Lives, Frees, Pair, pair, left_tag, right_tag, left, right, lefts, rights, same_total, same_end, same_start, AreAgreed, AreAllAgreed, IsSameOrder}
-use Rattle.offset_script.proofs.Lists.{whole, count, hit, hit_self, in_count, count-append, count_free_block, starts_free, ends_free, AreApart, apart_parts, IsEnd, IsStart, end_of, start_of}
+use Rattle.offset_script.proofs.Lists.{whole, count, hit, hit_self, in_count, count-append, count_free_part, starts_free, ends_free, AreApart, apart_parts, IsEnd, IsStart, end_of, start_of}
 use Rattle.offset_script.proofs.Lists.{coalesce_parts}
-use Rattle.offset_script.proofs.{Well.IsWell, Well.not_there, Well.free_part, Well.granted_blocks, Found.place_at, Found.IsBest, Similar.HasSameNumber, Similar.AreSimilar}
+use Rattle.offset_script.proofs.{Well.IsWell, Well.not_there, Well.free_part_is, Well.granted_blocks, Found.place_at, Found.IsBest, Similar.HasSameNumber, Similar.AreSimilar}
 
 same_hit : (k : ℕ) (q : Kind) → HasSameNumber q → hit (Live k) (left_tag q) ≡ hit (Live k) (right_tag q)
 same_hit k (Lives i j) e = ap (λ x. hit (Live k) (Live x)) e
@@ -88,18 +88,18 @@ free_stamp (Free s) e = refl
 free_stamp (Live k) e = absurd (false≢true e)
 
 none_in_all : (s : State) → IsWell s → (k : ℕ) (xs : List Block) (b : Block) (ys : List Block) → s.blocks ≡ xs ++ b ∷ ys → s.grants < k → (before padding_bit : List Pair) (padding front : ℕ)
-    → lefts before ≡ xs → lefts padding_bit ≡ free_block padding front
+    → lefts before ≡ xs → lefts padding_bit ≡ free_part padding front
     → ((q : Pair) → IsIn q before → HasSameNumber q.kind) → ((q : Pair) → IsIn q padding_bit → HasSameNumber q.kind) → count (Live k) (rights before ++ rights padding_bit) ≡ 0
-none_in_all s w k xs b ys e l before padding_bit padding front on_before on_padding n m = search (arith, not_there, count, count_free_block, count-append, rights, same_count)
+none_in_all s w k xs b ys e l before padding_bit padding front on_before on_padding n m = search (arith, not_there, count, count_free_part, count-append, rights, same_count)
 
 pub restored : (s : State) → IsWell s → (p : Place) (needed n padding : ℕ) → s.blocks ≡ whole p → fits needed p.block ≡ true → IsBest needed s.blocks p.block → padding + n ≤ p.block.size
     → (t : State) → IsWell t → AreSimilar (granted_blocks p n padding (stamp_of_padding s) (s.grants + 1) (stamp_of_call s)) t.blocks → IsRestored s t
 restored s w p needed n padding e f best enough t v m =
     let z = p.block.size in
-    let rest = free_block (z - (padding + n)) (stamp_of_call s) in
+    let rest = free_part (z - (padding + n)) (stamp_of_call s) in
     -- the pairs after the grant, one part after the other
-    let a = map_parts left m.pairs p.before (free_block padding (stamp_of_padding s) ++ (block n (Live (s.grants + 1)) ∷ (rest ++ p.after))) (sym m.left_blocks) in
-    let b = map_parts left a.1 (free_block padding (stamp_of_padding s)) (block n (Live (s.grants + 1)) ∷ (rest ++ p.after)) a.4 in
+    let a = map_parts left m.pairs p.before (free_part padding (stamp_of_padding s) ++ (block n (Live (s.grants + 1)) ∷ (rest ++ p.after))) (sym m.left_blocks) in
+    let b = map_parts left a.1 (free_part padding (stamp_of_padding s)) (block n (Live (s.grants + 1)) ∷ (rest ++ p.after)) a.4 in
     let c = map_first left b.1 (block n (Live (s.grants + 1))) (rest ++ p.after) b.4 in
     let d = map_parts left c.1 rest p.after c.4 in
     let parts_whole = a.2 ∙ ap (λ y. a.0 ++ y) (b.2 ∙ ap (λ y. b.0 ++ y) (c.2 ∙ ap (λ y. c.0 ∷ y) d.2)) in
@@ -113,11 +113,11 @@ restored s w p needed n padding e f best enough t v m =
     let tag = free_stamp p.block.tag free in
     let apart = apart_parts p.before (p.block ∷ p.after) (subst AreApart e w.apart) in
     let ends = same_end a.0 b.0 (subst₂ IsEnd (sym a.3) (sym b.3)
-    (end_of p.before (free_block padding (stamp_of_padding s)) (free_part padding _).0 (free_part padding _).1 (left_false (ends_free p.before) (is_free p.block.tag) apart.2 free))) in
+    (end_of p.before (free_part padding (stamp_of_padding s)) (free_part_is padding _).0 (free_part_is padding _).1 (left_false (ends_free p.before) (is_free p.block.tag) apart.2 free))) in
     let starts = same_start d.0 d.1 (subst₂ IsStart (sym d.3) (sym d.4)
-    (start_of rest p.after (free_part _ _).0 (free_part _ _).1 (right_false (is_free p.block.tag) (starts_free p.after) apart.1.0 free))) in
+    (start_of rest p.after (free_part_is _ _).0 (free_part_is _ _).1 (right_false (is_free p.block.tag) (starts_free p.after) apart.1.0 free))) in
     let right_side : coalesce (rights a.0 ++ rights b.0) c.0.size (stamp_of_call t) (rights d.0 ++ rights d.1) ≡ rights a.0 ++ block z (Free (stamp_of_call t)) ∷ rights d.1 =
-    search (arith, coalesce_parts, rights, a, b, c, d, ends, starts, same_total, free_part) in
+    search (arith, coalesce_parts, rights, a, b, c, d, ends, starts, same_total, free_part_is) in
     let left_side = ap₂ (λ x y. x ++ block z (Free (stamp p.block.tag)) ∷ y) a.3 d.4 ∙ ap (λ x. p.before ++ block z x ∷ p.after) (sym tag) ∙ sym e in
     let none_before = none_in_all s w (s.grants + 1) p.before p.block p.after e (omega arith) a.0 b.0 padding (stamp_of_padding s) a.3 b.3
     (λ q i. m.numbers q (old q (inl i))) (λ q i. m.numbers q (subst (IsIn q) (sym parts_whole) (in_right q a.0 (b.0 ++ (c.0 ∷ (d.0 ++ d.1))) (in_left q b.0 (c.0 ∷ (d.0 ++ d.1)) i)))) in

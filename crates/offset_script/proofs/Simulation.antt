@@ -2,11 +2,11 @@
 use Rattle.offset_script.proofs.Common.{◌≡◌, ℕ, zero, suc, ◌+◌, ◌-◌, ◌%◌, ◌^◌, ◌<◌, ◌≤◌, Bool, List, [], ◌∷◌, ◌++◌, map, length, Option, Some, None, option_map, Result, Ok, Err, IfOk, slice_index_or}
 use Rattle.offset_script.proofs.Common.{slice_set, get_or, if◌then◌else◌, IsTrue, refl, sym, ap, ap₂, subst, subst₂, ◌∙◌, inl, inr, arith, eq-eqb, ne_eqb, add-one, length-append, append_assoc}
 use Rattle.offset_script.proofs.Common.{append-nil, map-append, get_or-set_same, get_or-set_other, get_or_past, length-set, cases_eq, cases_lt, value, row, rows_below, count_of, Command}
-use Rattle.offset_script.proofs.Common.{has_valid_alignment, State, Answer, step, start, row_view, View, Grant, IsWellFormed, kept_name, Takes, IsRun, AreOfARun, IsKept, IfNamed, Stays, AreLive}
+use Rattle.offset_script.proofs.Common.{has_valid_alignment, State, Answer, step, start, row_view, View, Handle, IsWellFormed, kept_name, Takes, AreSteps, AreStepsFromFresh, IsKept, IfNamed, Stays, AreLive}
 use Rattle.offset_script.proofs.Common.{IsFresh, Frees, Extends, Resets}
 use Rattle.std.proofs.{Math.ListN.get_or-append, Math.Seq.get_or-append_seam}
 use Rattle.offset_allocator.specs.declared.reports.StorageReportFullRegion.{StorageReportFullRegion}
-use Rattle.offset_allocator.specs.{declared.reports.StorageReportFull.StorageReportFull, View.free_sizes, Requests.IsFullReport, Ranges.size_of}
+use Rattle.offset_allocator.specs.{declared.reports.StorageReportFull.StorageReportFull, View.free_sizes, Reports.IsFullReport, Ranges.size_of}
 use Rattle.offset_script.proofs.Agreed.{with_name, without_name, IsMatch, serve_agrees, aligned_agrees, extend_agrees, free_agrees, live_agrees, gone_agrees, size_gone_agrees, size_agrees}
 use Rattle.offset_script.proofs.Agreed.{report_agrees, full_agrees, agrees_quiet, agrees_kept, alone_agrees, same_units}
 use Rattle.offset_script.proofs.{Agreement.IsAtState, Well.IsWell}
@@ -16,11 +16,11 @@ use Rattle.offset_script.specs.declared.scripts.Command.TheVariants as command
 use Rattle.offset_script.specs.Machine as machine
 
 -- the name in a handle
-abbrev handle_name : Grant → ℕ
+abbrev handle_name : Handle → ℕ
 handle_name h = h.name
 
 -- the handles kept
-pub kept_push : (hs : List (Option Grant)) (h : Grant) (k : ℕ) → kept_name (hs ++ Some h ∷ []) k ≡ with_name (length hs + 1) h.name (kept_name hs) k
+pub kept_push : (hs : List (Option Handle)) (h : Handle) (k : ℕ) → kept_name (hs ++ Some h ∷ []) k ≡ with_name (length hs + 1) h.name (kept_name hs) k
 kept_push hs h zero = rw (ne_eqb 0 (length hs + 1) (omega arith)) refl
 kept_push hs h (suc k) = elim (cases_eq k (length hs)) [
   | inl e ↦ search (arith, option_map, get_or-append_seam, eq-eqb)
@@ -31,7 +31,7 @@ kept_push hs h (suc k) = elim (cases_eq k (length hs)) [
 ]
 
 -- a handle is removed
-pub kept_set : (hs : List (Option Grant)) (k : ℕ) → k < length hs → (j : ℕ) → kept_name (slice_set hs k None) j ≡ without_name (suc k) (kept_name hs) j
+pub kept_set : (hs : List (Option Handle)) (k : ℕ) → k < length hs → (j : ℕ) → kept_name (slice_set hs k None) j ≡ without_name (suc k) (kept_name hs) j
 kept_set hs k l zero = rw (ne_eqb 0 (suc k) (omega arith)) refl
 kept_set hs k l (suc j) = search (arith, cases_eq, option_map, get_or, slice_set, get_or-set_same, eq-eqb, get_or-set_other, ne_eqb)
 
@@ -41,12 +41,12 @@ if_ok (Ok a) f p = f a p
 if_ok (Err e) f p = tt
 
 -- only numbers from 1 to that of the last handle have one
-kept_within : (hs : List (Option Grant)) (k x : ℕ) → kept_name hs k ≡ Some x → (1 ≤ k) × (k - 1 < length hs)
+kept_within : (hs : List (Option Handle)) (k x : ℕ) → kept_name hs k ≡ Some x → (1 ≤ k) × (k - 1 < length hs)
 kept_within hs zero x e = absurd (cc)
 kept_within hs (suc k) x e = search (arith, cases_lt, length, option_map, get_or_past)
 
 -- where no handle is left, no name is kept
-none_kept : (hs : List (Option Grant)) → ((i : ℕ) → i < length hs → slice_index_or hs i None ≡ None) → (k : ℕ) → kept_name hs k ≡ None
+none_kept : (hs : List (Option Handle)) → ((i : ℕ) → i < length hs → slice_index_or hs i None ≡ None) → (k : ℕ) → kept_name hs k ≡ None
 none_kept hs none zero = refl
 none_kept hs none (suc k) = search (arith, cases_lt, option_map, get_or_past)
 
@@ -60,21 +60,21 @@ if_some None x P Q e q = absurd (cc)
 if_some (Some y) x P Q e q = subst P (let f : x ≡ y = cc in f) q
 
 -- a reset that leaves no handle
-pub reset_takes : (v w : View) (hs left : List (Option Grant)) → Resets v w → length left ≡ length hs → ((i : ℕ) → i < length left → slice_index_or left i None ≡ None)
+pub reset_takes : (v w : View) (hs left : List (Option Handle)) → Resets v w → length left ≡ length hs → ((i : ℕ) → i < length left → slice_index_or left i None ≡ None)
     → Takes command.Reset v hs w left machine.Reset
 reset_takes v w hs left r len none = (r, len, none_kept left none, refl)
 
 -- the handles that represent a state are live
-pub all_live : (v : View) (hs : List (Option Grant)) (s : State) → IsWell s → IsAtState v hs s → AreLive v hs
+pub all_live : (v : View) (hs : List (Option Handle)) (s : State) → IsWell s → IsAtState v hs s → AreLive v hs
 all_live v hs s ws p k x e = used_live x v (live_agrees v (kept_name hs) s p.formed ws p.agrees k x e)
 
 -- the plain machine has this answer, and a view and handles represent the state that it leaves
-abbrev pub Follows : Command → State → View → List (Option Grant) → Answer → Type 0
+abbrev pub Follows : Command → State → View → List (Option Handle) → Answer → Type 0
 Follows c s w left a = (a ≡ (step c s).answer) × IsAtState w left (step c s).state
 
-module _ (v w : View) (hs left : List (Option Grant)) (a : Answer) (s : State) (formed : IsWellFormed w) (ws : IsWell s) (p : IsAtState v hs s) where
+module _ (v w : View) (hs left : List (Option Handle)) (a : Answer) (s : State) (formed : IsWellFormed w) (ws : IsWell s) (p : IsAtState v hs s) where
   -- a request, whose grant is kept
-  pub requested : (o : machine.Outcome) (r : Option Grant) → IsMatch w (kept_name hs) s.grants r o → IsKept r hs left a → (a ≡ o.answer) × IsAtState w left o.state
+  pub requested : (o : machine.Outcome) (r : Option Handle) → IsMatch w (kept_name hs) s.grants r o → IsKept r hs left a → (a ≡ o.answer) × IsAtState w left o.state
   requested o None m k = search (arith, agrees_kept, length)
   requested o (Some h) m k = search (arith, length, length-append, agrees_kept, with_name, kept_push)
 
@@ -124,7 +124,7 @@ module _ (v w : View) (hs left : List (Option Grant)) (a : Answer) (s : State) (
   follows command.Full power t = asked command.Full refl t.0 (t.1 ∙ sym (full_agrees v (kept_name hs) s p.formed ws p.agrees))
   follows command.Reset power t =
       let blocks = ap (λ n. machine.block n (machine.Free (machine.stamp_of_call s)) ∷ []) (sym (same_units v (kept_name hs) s p.formed ws p.agrees) ∙ p.formed.whole) in
-      let agrees = alone_agrees w t.0.name v.size (machine.stamp_of_call s) (kept_name left) (step command.Reset s).state (ap (λ (u : View). u.blocks) t.0.view) (ap (λ (u : View). u.order) t.0.view)
+      let agrees = alone_agrees w t.0.name v.size (machine.stamp_of_call s) (kept_name left) (step command.Reset s).state (ap (λ (u : View). u.blocks) t.0.view) (ap (λ (u : View). u.bins) t.0.view)
       (p.agrees.limit ∙ sym (ap (λ (u : View). u.max_allocs) t.0.view)) blocks t.2 in
       (t.3, record { formed = formed; agrees = agrees; grants = t.1 ∙ p.grants })
   follows (command.Align n align) power t =
@@ -134,32 +134,32 @@ module _ (v w : View) (hs left : List (Option Grant)) (a : Answer) (s : State) (
   follows (command.Extend more) power t = extended more t.0 t.1 t.2 t.3
 
 -- a fresh space represents the first state
-pub fresh_represents : (w : View) → IsWellFormed w → (size limit : ℕ) (hs : List (Option Grant)) → IsFresh size limit w → hs ≡ [] → IsAtState w hs (start size limit)
+pub fresh_represents : (w : View) → IsWellFormed w → (size limit : ℕ) (hs : List (Option Handle)) → IsFresh size limit w → hs ≡ [] → IsAtState w hs (start size limit)
 fresh_represents w formed size limit hs f e =
-    let agrees = alone_agrees w f.name size 0 (kept_name []) (start size limit) (ap (λ (v : View). v.blocks) f.view) (ap (λ (v : View). v.order) f.view)
+    let agrees = alone_agrees w f.name size 0 (kept_name []) (start size limit) (ap (λ (v : View). v.blocks) f.view) (ap (λ (v : View). v.bins) f.view)
     (sym (ap (λ (v : View). v.max_allocs) f.view)) refl (none_kept [] (λ i l. refl)) in
     subst (λ l. IsAtState w l (start size limit)) (sym e) (record { formed = formed; agrees = agrees; grants = refl })
 
 -- Runs, with one more step at their end.
 
 -- the steps of a run on a fresh space that lead to this view and these handles
-abbrev pub IsBegun : {C A : Type 0} → (C → View → List (Option Grant) → View → List (Option Grant) → A → Type 0) → (size limit : ℕ) → View → List (Option Grant)
+abbrev pub IsBegun : {C A : Type 0} → (C → View → List (Option Handle) → View → List (Option Handle) → A → Type 0) → (size limit : ℕ) → View → List (Option Handle)
     → List C → List A → Type 0
 IsBegun {C} {A} take size limit v handles before found = (u : View) × IsFresh size limit u
-    × ((cs : List C) (others : List A) → IsRun take v handles cs others → IsRun take u [] (before ++ cs) (found ++ others))
+    × ((cs : List C) (others : List A) → AreSteps take v handles cs others → AreSteps take u [] (before ++ cs) (found ++ others))
 
-module _ {C A : Type 0} (take : C → View → List (Option Grant) → View → List (Option Grant) → A → Type 0) (size limit : ℕ) where
-  pub run_begins : (v : View) (handles : List (Option Grant)) (found : List A) → IsFresh size limit v → handles ≡ [] → found ≡ [] → IsBegun take size limit v handles [] found
-  run_begins v handles found f e none = (v, f, λ cs others r. subst₂ (λ hs l. IsRun take v hs cs (l ++ others)) e (sym none) r)
+module _ {C A : Type 0} (take : C → View → List (Option Handle) → View → List (Option Handle) → A → Type 0) (size limit : ℕ) where
+  pub steps_begin : (v : View) (handles : List (Option Handle)) (found : List A) → IsFresh size limit v → handles ≡ [] → found ≡ [] → IsBegun take size limit v handles [] found
+  steps_begin v handles found f e none = (v, f, λ cs others r. subst₂ (λ hs l. AreSteps take v hs cs (l ++ others)) e (sym none) r)
 
-  pub run_goes_on : (v w : View) (handles left : List (Option Grant)) (before before' : List C) (found found' : List A) (c : C) (a : A)
+  pub steps_go_on : (v w : View) (handles left : List (Option Handle)) (before before' : List C) (found found' : List A) (c : C) (a : A)
       → IsBegun take size limit v handles before found → take c v handles w left a → IsWellFormed w → before' ≡ before ++ c ∷ [] → found' ≡ found ++ a ∷ []
       → IsBegun take size limit w left before' found'
-  run_goes_on v w handles left before before' found found' c a r t formed e f = search (arith, append_assoc)
+  steps_go_on v w handles left before before' found found' c a r t formed e f = search (arith, append_assoc)
 
-  pub run_ends : (v : View) (handles : List (Option Grant)) (before cs : List C) (found : List A) → IsBegun take size limit v handles before found → before ≡ cs
-      → AreOfARun take size limit cs found
-  run_ends v handles before cs found r e = (r.0, r.1, subst₂ (IsRun take r.0 []) (append-nil before ∙ e) (append-nil found) (r.2 [] [] tt))
+  pub steps_end : (v : View) (handles : List (Option Handle)) (before cs : List C) (found : List A) → IsBegun take size limit v handles before found → before ≡ cs
+      → AreStepsFromFresh take size limit cs found
+  steps_end v handles before cs found r e = (r.0, r.1, subst₂ (AreSteps take r.0 []) (append-nil before ∙ e) (append-nil found) (r.2 [] [] tt))
 
 -- The rows of a full report.
 

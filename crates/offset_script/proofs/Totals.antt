@@ -1,9 +1,9 @@
 -- The sums of sizes, and the numbers of live blocks, that every call keeps.
 use Rattle.offset_script.proofs.Common.{◌≡◌, ℕ, zero, suc, ◌+◌, ◌≤◌, true, false, not, cond, ◌&&◌, ◌||◌, List, [], ◌∷◌, ◌++◌, length, nat_le, nat_lt, if◌then◌else◌, refl, sym, ap, subst, ◌∙◌, inl}
-use Rattle.offset_script.proofs.Common.{inr, arith, le-leb, length-append, sum, filter-append, max_size, Block, is_free, total, free_sizes, Place, chosen_place, free_block, ends_live, coalesce, State}
+use Rattle.offset_script.proofs.Common.{inr, arith, le-leb, length-append, sum, filter-append, max_size, Block, is_free, total, free_sizes, Place, chosen_place, free_part, ends_live, coalesce, State}
 use Rattle.offset_script.proofs.Common.{Outcome, start, step, after, is_short_of, returns_only, request, grant_or_refuse, stamp_of_call, stamp_of_padding, largest, Command, KeepsSpace, cond_both}
 use Rattle.offset_script.proofs.Lists.{sums_coalesced, whole, total-append, AreFree, coalesced}
-use Rattle.offset_script.proofs.{Found.chosen_at, Found.found_at, Well.granted_blocks, Well.free_part, Nests.does}
+use Rattle.offset_script.proofs.{Found.chosen_at, Found.found_at, Well.granted_blocks, Well.free_part_is, Nests.does}
 use Rattle.std.proofs.lemmas.List.Sums.{sum_by-cons}
 use Rattle.offset_script.specs.Totals.{requested_units, live, added_units, added_by}
 use Rattle.offset_script.specs.declared.scripts.Command.TheVariants as command
@@ -13,7 +13,7 @@ total_coalesce : (xs : List Block) (n s : ℕ) (ys : List Block) → total (coal
 total_coalesce xs n s ys = let e = sums_coalesced total total-append xs n s ys (coalesced xs n s ys) in omega arith
 
 total_granted : (p : Place) (n padding front k rest : ℕ) → padding + n ≤ p.block.size → total (granted_blocks p n padding front k rest) ≡ total (whole p)
-total_granted p n padding front k rest h = search (arith, total-append, free_part)
+total_granted p n padding front k rest h = search (arith, total-append, free_part_is)
 
 -- how many blocks are live
 abbrev live_blocks : List Block → ℕ
@@ -22,9 +22,9 @@ live_blocks bs = length (live bs)
 live-append : (xs ys : List Block) → live_blocks (xs ++ ys) ≡ live_blocks xs + live_blocks ys
 live-append xs ys = ap length (filter-append (λ (b : Block). not (is_free b.tag)) xs ys) ∙ length-append (live xs) (live ys)
 
-live_free_block : (n s : ℕ) → live_blocks (free_block n s) ≡ 0
-live_free_block zero s = refl
-live_free_block (suc n) s = refl
+live_free_part : (n s : ℕ) → live_blocks (free_part n s) ≡ 0
+live_free_part zero s = refl
+live_free_part (suc n) s = refl
 
 live_length : (bs : List Block) → live_blocks bs ≤ length bs
 live_length [] = omega arith
@@ -44,7 +44,7 @@ live_coalesce xs n s ys =
     omega (arith, live_none c.last c.end.free, live_none c.first c.start.free)
 
 live_granted : (p : Place) (n padding front k rest : ℕ) → live_blocks (granted_blocks p n padding front k rest) ≡ live_blocks p.before + (1 + live_blocks p.after)
-live_granted p n padding front k rest = search (arith, live-append, live_free_block)
+live_granted p n padding front k rest = search (arith, live-append, live_free_part)
 
 -- a command that keeps the space keeps the sum
 total_kept : (c : Command) (s : State) → KeepsSpace c → total (step c s).state.blocks ≡ total s.blocks

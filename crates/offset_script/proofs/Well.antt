@@ -1,9 +1,9 @@
 -- What holds of every state that the machine reaches.
 use Rattle.offset_script.proofs.Common.{◌≡◌, ℕ, zero, suc, ◌+◌, ◌-◌, ◌<◌, ◌≤◌, true, false, ◌&&◌, ◌||◌, ◌⊎◌, List, [], ◌∷◌, ◌++◌, length, Option, Some, None, nat_lt, nat_le, refl, sym, ap, subst, ◌∙◌}
 use Rattle.offset_script.proofs.Common.{inl, inr, arith, leb-false, length-append, cases_lt, true≢false, and_parts, and_left, and_right, or_parts, and_cases, not-false, Command, max_size, padding_to}
-use Rattle.offset_script.proofs.Common.{Tag, Live, Free, Block, block, is_free, total, Place, chosen_place, place_of, free_block, ends_live, coalesce, State, Answer, Outcome, start, step, after}
+use Rattle.offset_script.proofs.Common.{Tag, Live, Free, Block, block, is_free, total, Place, chosen_place, place_of, free_part, ends_live, coalesce, State, Answer, Outcome, start, step, after}
 use Rattle.offset_script.proofs.Common.{request, grant, grant_or_refuse, is_short_of, returns_only, leaves, release, reset, extend, stamp_of_call, stamp_of_padding, cond_both}
-use Rattle.offset_script.proofs.{Lists.sums_coalesced, Lists.starts_free, Lists.ends_free, Lists.AreApart, Lists.hit, Lists.count, Lists.whole, Lists.count-append, Lists.count_free_block}
+use Rattle.offset_script.proofs.{Lists.sums_coalesced, Lists.starts_free, Lists.ends_free, Lists.AreApart, Lists.hit, Lists.count, Lists.whole, Lists.count-append, Lists.count_free_part}
 use Rattle.offset_script.proofs.{Lists.apart_append, Lists.apart_parts, Lists.AreFree, Lists.coalesced, Lists.count_coalesce, Lists.apart_coalesce, Found.found_at, Found.chosen_at}
 use Rattle.offset_allocator.proofs.{ViewApart.left_false, ViewApart.right_false, Tallies.hit_cases}
 use Rattle.offset_script.specs.declared.scripts.Command.TheVariants as command
@@ -53,33 +53,33 @@ pub well_leaves : (s : State) → IsWell s → (bs : List Block) (a : Answer) �
 well_leaves s w bs a some room apart counts = search (arith, hit_cases)
 
 -- a grant
-pub free_part : (n s : ℕ) → AreFree (free_block n s) × AreApart (free_block n s) × (total (free_block n s) ≡ n) × (length (free_block n s) ≤ 1)
-free_part zero s = (tt, tt, refl, omega arith)
-free_part (suc n) s = ((refl, tt), (refl, tt), omega arith, omega arith)
+pub free_part_is : (n s : ℕ) → AreFree (free_part n s) × AreApart (free_part n s) × (total (free_part n s) ≡ n) × (length (free_part n s) ≤ 1)
+free_part_is zero s = (tt, tt, refl, omega arith)
+free_part_is (suc n) s = ((refl, tt), (refl, tt), omega arith, omega arith)
 
-pub apart_free_block : (n s : ℕ) (ys : List Block) → AreApart ys → starts_free ys ≡ false → AreApart (free_block n s ++ ys)
-apart_free_block zero s ys a e = a
-apart_free_block (suc n) s ys a e = (e, a)
+pub apart_free_part : (n s : ℕ) (ys : List Block) → AreApart ys → starts_free ys ≡ false → AreApart (free_part n s ++ ys)
+apart_free_part zero s ys a e = a
+apart_free_part (suc n) s ys a e = (e, a)
 
 -- the blocks that a grant leaves
 abbrev pub granted_blocks : Place → ℕ → ℕ → ℕ → ℕ → ℕ → List Block
-granted_blocks p n padding front k rest = p.before ++ (free_block padding front ++ (block n (Live k) ∷ (free_block (p.block.size - (padding + n)) rest ++ p.after)))
+granted_blocks p n padding front k rest = p.before ++ (free_part padding front ++ (block n (Live k) ∷ (free_part (p.block.size - (padding + n)) rest ++ p.after)))
 
 count_granted : (t : Tag) (p : Place) (n padding front k rest : ℕ)
     → count t (granted_blocks p n padding front k rest) + hit t p.block.tag ≤ count t (whole p) + (hit t (Free front) + (hit t (Live k) + hit t (Free rest)))
-count_granted t p n padding front k rest = search (arith, count-append, count_free_block)
+count_granted t p n padding front k rest = search (arith, count-append, count_free_part)
 
 apart_granted : (p : Place) (n padding front k rest : ℕ) → is_free p.block.tag ≡ true → AreApart (whole p) → AreApart (granted_blocks p n padding front k rest)
 apart_granted p n padding front k rest f a =
     let parts = apart_parts p.before (p.block ∷ p.after) a in
     let end : ends_free p.before ≡ false = left_false (ends_free p.before) (is_free p.block.tag) parts.2 f in
     let beginning : starts_free p.after ≡ false = right_false (is_free p.block.tag) (starts_free p.after) parts.1.0 f in
-    apart_append p.before _ parts.0 (apart_free_block padding front _ (refl, apart_free_block _ rest p.after parts.1.1 beginning) refl) (and_left _ _ end)
+    apart_append p.before _ parts.0 (apart_free_part padding front _ (refl, apart_free_part _ rest p.after parts.1.1 beginning) refl) (and_left _ _ end)
 
 -- a grant
 pub well_grant : (s : State) → IsWell s → (n padding : ℕ) (p : Place) → s.blocks ≡ whole p → is_free p.block.tag ≡ true → (spare : ℕ) → length s.blocks + spare < s.limit
-    → length (free_block padding (stamp_of_padding s)) + 1 ≤ spare → IsWell (grant s n padding p).state
-well_grant s w n padding p e f spare room enough = search (arith, well_next, count_granted, length, length-append, free_part, apart_granted, hit_cases)
+    → length (free_part padding (stamp_of_padding s)) + 1 ≤ spare → IsWell (grant s n padding p).state
+well_grant s w n padding p e f spare room enough = search (arith, well_next, count_granted, length, length-append, free_part_is, apart_granted, hit_cases)
 
 -- coalescing leaves some block, and at most one more
 pub length_coalesce : (xs : List Block) (n s : ℕ) (ys : List Block) → (1 ≤ length (coalesce xs n s ys)) × (length (coalesce xs n s ys) ≤ length xs + suc (length ys))
@@ -88,14 +88,14 @@ length_coalesce xs n s ys =
     let e = sums_coalesced length length-append xs n s ys c in
     (omega arith, omega (arith, c.end.few))
 
-well_granted : (s : State) → IsWell s → (needed n : ℕ) (padding_at : ℕ → ℕ) (spare : ℕ) → ((o x : ℕ) → length (free_block (padding_at o) x) + 1 ≤ spare) → length s.blocks + spare < s.limit
+well_granted : (s : State) → IsWell s → (needed n : ℕ) (padding_at : ℕ → ℕ) (spare : ℕ) → ((o x : ℕ) → length (free_part (padding_at o) x) + 1 ≤ spare) → length s.blocks + spare < s.limit
     → (o : Option Place) → chosen_place needed s.blocks ≡ o → IsWell (grant_or_refuse s n padding_at o).state
 well_granted s w needed n padding_at spare enough room None e = well_quiet s w machine.Refused
 well_granted s w needed n padding_at spare enough room (Some p) e =
     let c = chosen_at needed s.blocks p e in
     well_grant s w n (padding_at (total p.before)) p c.0 (and_parts _ _ c.1).0 spare room (enough _ _)
 
-well_request : (s : State) → IsWell s → (spare needed n : ℕ) (padding_at : ℕ → ℕ) → ((o x : ℕ) → length (free_block (padding_at o) x) + 1 ≤ spare)
+well_request : (s : State) → IsWell s → (spare needed n : ℕ) (padding_at : ℕ → ℕ) → ((o x : ℕ) → length (free_part (padding_at o) x) + 1 ≤ spare)
     → IsWell (request s spare needed n padding_at).state
 well_request s w spare needed n padding_at enough = cond_both (is_short_of spare s) _ _ (λ (o : Outcome). IsWell o.state) (λ e. well_quiet s w machine.Refused)
     (λ e. well_granted s w needed n padding_at spare enough (leb-false s.limit (length s.blocks + spare) e) (chosen_place needed s.blocks) refl)
@@ -141,7 +141,7 @@ well_extend s w (suc more) = cond_both (nat_lt max_size (total s.blocks + suc mo
 well_reset : (s : State) → IsWell s → IsWell (reset s).state
 well_reset s w = let r = w.room in let o = w.some in well_leaves s w _ machine.Reset (omega arith) (omega arith) (and_right true false refl, tt) (λ t. omega arith)
 
-no_padding : (o x : ℕ) → length (free_block 0 x) + 1 ≤ 1
+no_padding : (o x : ℕ) → length (free_part 0 x) + 1 ≤ 1
 no_padding o x = omega arith
 
 -- each command keeps it
@@ -151,7 +151,7 @@ well_step (command.Free k) s w = well_release s w k (place_of k s.blocks) refl
 well_step command.Reset s w = well_reset s w
 well_step (command.Align n align) s w = cond_both (nat_le align 1) _ _ (λ (o : Outcome). IsWell o.state) (λ e. well_request s w 1 n n (λ offset. 0) no_padding)
     (λ e. cond_both (nat_lt max_size (n + align - 1)) _ _ (λ (o : Outcome). IsWell o.state) (λ e. well_quiet s w machine.Refused)
-    (λ e. well_request s w 2 (n + align - 1) n (padding_to align) (λ o x. let h = (free_part (padding_to align o) x).3 in omega arith)))
+    (λ e. well_request s w 2 (n + align - 1) n (padding_to align) (λ o x. let h = (free_part_is (padding_to align o) x).3 in omega arith)))
 well_step (command.Extend more) s w = well_extend s w more
 well_step other s w = well_quiet s w (step other s).answer
 

@@ -1,4 +1,4 @@
--- What a text begins with, and what the first commands of its lines are.
+-- What a text begins with, and which commands its first lines are.
 use Rattle.std.specs.Prelude.{◌≡◌, ℕ, List, ◌∷◌, ◌++◌, Ok, codes}
 use Rattle.offset_script.specs.declared.scripts.Command.{Command}
 use Rattle.offset_script.specs.declared.scripts.Command.TheVariants as commands

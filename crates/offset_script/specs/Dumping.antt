@@ -3,7 +3,7 @@ use Rattle.std.specs.Prelude.{ℕ, Bool, true, false, List, [], ◌∷◌, ◌++
 use Rattle.std.specs.Fmt.{decimal}
 use Rattle.offset_allocator.specs.Listing.{Placed, placed}
 use Rattle.offset_allocator.specs.declared.statistics.Statistics.{Statistics}
-use Rattle.offset_allocator.specs.View.{View, Grant}
+use Rattle.offset_allocator.specs.View.{View, Handle}
 
 -- a comma, but not before the first
 abbrev pub comma : Bool → List ℕ
@@ -15,22 +15,22 @@ joined text first [] = []
 joined text first (p ∷ ps) = comma first ++ (text p ++ joined text false ps)
 
 -- the name of a used block
-abbrev pub name_json : Option Grant → List ℕ
+abbrev pub name_json : Option Handle → List ℕ
 name_json None = []
 name_json (Some g) = codes ",\"name\":" ++ decimal g.name
 
 -- a block, with its name where it is used
 abbrev pub block_json : Placed → List ℕ
-block_json p = codes "{\"offset\":" ++ (decimal p.offset ++ (codes ",\"size\":" ++ (decimal p.size ++ (name_json p.grant ++ codes "}"))))
+block_json p = codes "{\"offset\":" ++ (decimal p.offset ++ (codes ",\"size\":" ++ (decimal p.size ++ (name_json p.handle ++ codes "}"))))
 
 -- what a block is, in the words of VMA
-abbrev pub vma_type : Option Grant → List ℕ
+abbrev pub vma_type : Option Handle → List ℕ
 vma_type None = codes "FREE"
 vma_type (Some g) = codes "UNKNOWN"
 
 -- a block as VMA has it
 abbrev pub vma_json : Placed → List ℕ
-vma_json p = codes "{\"Offset\":" ++ (decimal p.offset ++ (codes ",\"Type\":\"" ++ (vma_type p.grant ++ (codes "\",\"Size\":" ++ (decimal p.size ++ codes "}")))))
+vma_json p = codes "{\"Offset\":" ++ (decimal p.offset ++ (codes ",\"Type\":\"" ++ (vma_type p.handle ++ (codes "\",\"Size\":" ++ (decimal p.size ++ codes "}")))))
 
 -- the size, the node limit, and what is live
 abbrev pub live_json : ℕ → ℕ → Statistics → List ℕ

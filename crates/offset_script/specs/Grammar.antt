@@ -13,7 +13,7 @@ use Rattle.offset_script.specs.declared.scripts.IndexWidth.TheVariants.{Bits16, 
 use Rattle.offset_script.specs.declared.scripts.Header.{Header}
 use Rattle.offset_script.specs.declared.faults.ScriptFault.{ScriptFault}
 use Rattle.offset_script.specs.declared.faults.ScriptFault.TheVariants.{TooLong, BadHeader, BadLimit, BadCommand}
-use Rattle.offset_allocator.specs.Reports.{Row}
+use Rattle.offset_allocator.specs.FreeSizes.{Row}
 use Rattle.offset_script.specs.Machine.{Answer}
 use Rattle.offset_script.specs.Machine as machine
 
@@ -36,8 +36,8 @@ words line = parts 32 line
 -- ---- commands
 
 -- the command that one word spells
-abbrev pub plain_command : List ℕ → Option Command
-plain_command name =
+abbrev pub one_word_command : List ℕ → Option Command
+one_word_command name =
     if bytes_eq name (codes "report") then Some Report
     else (if bytes_eq name (codes "full") then Some Full
     else (if bytes_eq name (codes "reset") then Some Reset
@@ -64,7 +64,7 @@ o >>= f = option_and_then f o
 -- the command that the words of a line spell, if they do
 unfoldable pub command_of_words : List (List ℕ) → Option Command
 command_of_words [] = None
-command_of_words (name ∷ []) = plain_command name
+command_of_words (name ∷ []) = one_word_command name
 command_of_words (name ∷ first ∷ []) = do
   n ← number_of first
   number_command name n

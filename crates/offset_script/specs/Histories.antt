@@ -84,8 +84,8 @@ abbrev pub releases : List ℕ → List Command
 releases ks = map command.Free ks
 
 -- wherever releases in a row occur in the commands, the answer found after them is that of the collapse
-abbrev pub HasCommutingRows : ℕ → ℕ → List Command → List Answer → Type 0
-HasCommutingRows size limit cs found = (before : List Command) (ks : List ℕ) (c : Command) (rest : List Command)
+abbrev pub HasCommutingReleases : ℕ → ℕ → List Command → List Answer → Type 0
+HasCommutingReleases size limit cs found = (before : List Command) (ks : List ℕ) (c : Command) (rest : List Command)
     → cs ≡ before ++ releases ks ++ (c ∷ rest) → (t : State) → IsCollapse ks (after before (start size limit)) t
     → map without_offset (take 1 (drop (length (before ++ releases ks)) found)) ≡ without_offset (step c t).answer ∷ []
 

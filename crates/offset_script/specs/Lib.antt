@@ -1,13 +1,14 @@
+pub mod CommonLines
 pub mod Devices
 pub mod Dumping
 pub mod Faults
 pub mod Grammar
-pub mod CommonLines
 pub mod Histories
 pub mod Listening
 pub mod Machine
 pub mod Playing
 pub mod Running
+pub mod Sending
 pub mod Spelling
 pub mod Steps
 pub mod Totals

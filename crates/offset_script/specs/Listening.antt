@@ -1,6 +1,6 @@
 -- What a listener is told of each command.
 use Rattle.std.specs.Prelude.{◌≡◌, List, Option, length, sum}
-use Rattle.offset_allocator.specs.View.{View, Grant, free_sizes, total_free, largest_free}
+use Rattle.offset_allocator.specs.View.{View, Handle, free_sizes, reported_free, reported_largest}
 use Rattle.offset_script.specs.declared.scripts.Command.{Command}
 use Rattle.offset_script.specs.Machine.{State, Answer, step, report, total}
 use Rattle.offset_script.specs.Machine as machine
@@ -9,7 +9,7 @@ use Rattle.offset_script.specs.Steps.{Takes}
 -- a space says of itself what a state of the plain machine does: what it reports, how many blocks it has and may have,
 -- and how many units, and free ones
 pub record Shows (v : View) (s : State) : Type 0 where
-  pub report : machine.Report (total_free v) (largest_free v) ≡ report s
+  pub report : machine.Report (reported_free v) (reported_largest v) ≡ report s
   pub blocks : length v.blocks ≡ length s.blocks
   pub limit : v.max_allocs ≡ s.limit
   pub units : v.size ≡ total s.blocks
@@ -19,4 +19,4 @@ pub record Shows (v : View) (s : State) : Type 0 where
 pub record IsTold (c : Command) (s : State) (v : View) (a : Answer) : Type 0 where
   pub answer : a ≡ (step c s).answer
   pub shows : Shows v (step c s).state
-  pub taken : (w : View) × (handles : List (Option Grant)) × (left : List (Option Grant)) × Takes c w handles v left a
+  pub taken : (before : View) × (handles : List (Option Handle)) × (kept : List (Option Handle)) × Takes c before handles v kept a

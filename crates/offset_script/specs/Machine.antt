@@ -5,7 +5,7 @@ use Rattle.std.specs.Prelude.{ℕ, zero, suc, ◌+◌, ◌-◌, ◌*◌, Bool, t
 use Rattle.std.specs.Prelude.{if◌then◌else◌}
 use Rattle.offset_allocator.specs.Classes.{up, down}
 use Rattle.offset_allocator.specs.View.{max_size, padding_to}
-use Rattle.offset_allocator.specs.Reports.{largest, Row, rows_below}
+use Rattle.offset_allocator.specs.FreeSizes.{largest, Row, rows_below}
 use Rattle.offset_script.specs.declared.scripts.Command.{Command}
 use Rattle.offset_script.specs.declared.scripts.Command.TheVariants as command
 use Rattle.offset_script.specs.declared.answers.FullRow.{FullRow}
@@ -92,9 +92,9 @@ place_of k [] = None
 place_of k (b ∷ bs) = if has_number k b.tag then Some (here b bs) else option_map (prepend b) (place_of k bs)
 
 -- a free block of n units, or nothing where n is 0
-abbrev pub free_block : ℕ → ℕ → List Block
-free_block zero s = []
-free_block (suc n) s = block (suc n) (Free s) ∷ []
+abbrev pub free_part : ℕ → ℕ → List Block
+free_part zero s = []
+free_part (suc n) s = block (suc n) (Free s) ∷ []
 
 -- the units of a free block at the start of a list, or 0
 abbrev pub units_at_start : List Block → ℕ
@@ -167,7 +167,7 @@ pub record Outcome : Type 0 where
 abbrev pub start : ℕ → ℕ → State
 start size limit = record { limit = limit; blocks = block size (Free 0) ∷ []; calls = 0; grants = 0 }
 
--- the stamp that the next call gives to the padding before an aligned grant: of the blocks that it frees, the oldest
+-- the stamp that the next call gives to the padding before an aligned grant: of the blocks that it leaves free, the oldest
 abbrev pub stamp_of_padding : State → ℕ
 stamp_of_padding s = 2 * (s.calls + 1)
 
@@ -193,8 +193,8 @@ grant s n padding p = record {
   state = record s {
     calls = s.calls + 1;
     grants = s.grants + 1;
-    blocks = p.before ++ (free_block padding (stamp_of_padding s)
-        ++ (block n (Live (s.grants + 1)) ∷ (free_block (p.block.size - (padding + n)) (stamp_of_call s) ++ p.after)));
+    blocks = p.before ++ (free_part padding (stamp_of_padding s)
+        ++ (block n (Live (s.grants + 1)) ∷ (free_part (p.block.size - (padding + n)) (stamp_of_call s) ++ p.after)));
   };
   answer = Grant (s.grants + 1) (total p.before + padding);
 }

@@ -1,38 +1,39 @@
--- What `parse` and reading return, which faults a run returns, and what reading, writing and a program leave.
+-- What `parse` and `read_script` return, which faults a run returns, and what a run and a program leave.
 use Rattle.std.specs.Prelude.{◌≡◌, ◌≢◌, ℕ, ◌<◌, ◌≤◌, Bool, true, false, not, ◌||◌, List, [], ◌++◌, length, drop, Option, Some, Result, Ok, Err, IsTrue}
 use Rattle.std.specs.Prelude.{IfErr, IfSome, MatchResult, OnOk}
 use Rattle.std.specs.Io.KnownBytes.{Consumes, Appends, IsAtEnd}
 use Rattle.offset_script.specs.declared.faults.ScriptFault.{ScriptFault}
-use Rattle.offset_script.specs.declared.faults.ScriptFault.TheVariants as scripts
+use Rattle.offset_script.specs.declared.faults.ScriptFault.TheVariants as script_fault
 use Rattle.offset_script.specs.declared.faults.RunFault.{RunFault}
 use Rattle.offset_script.specs.declared.faults.RunFault.TheVariants.{Script, Memory, Read, Write}
-use Rattle.offset_script.specs.declared.scripts.Script as read
+use Rattle.offset_script.specs.declared.scripts.Script as program
 use Rattle.offset_script.specs.Grammar.{Plan, meaning_of, line_end, text_of}
 use Rattle.offset_script.specs.Machine as machine
 use Rattle.offset_script.specs.Faults.{fault_line, fault_status}
+use Rattle.offset_script.specs.Sending.{Pushes, Sends}
 use Rattle.offset_script.specs.declared.devices.Sink.{Ghosts as Sink}
 use Rattle.offset_script.specs.declared.devices.Source.{Ghosts as Source}
 
--- a script as plain data, without where it lies in memory
-abbrev pub view : read.Script → Plan
-view s = record {
+-- the plan of a script: plain data, without where it lies in memory
+abbrev pub as_plan : program.Script → Plan
+as_plan s = record {
   header = record { size = s.size; max_allocs = s.max_allocs; index = s.index };
   commands = s.commands.items;
 }
 
 -- what `parse` returned of a text with this meaning: the script or the fault that it means, or `Memory`
-abbrev pub IsParsed : Result read.Script ScriptFault → Result Plan ScriptFault → Type 0
-IsParsed (Ok script) meaning = meaning ≡ Ok (view script)
-IsParsed (Err scripts.Memory) meaning = Unit {0}
+abbrev pub IsParsed : Result program.Script ScriptFault → Result Plan ScriptFault → Type 0
+IsParsed (Ok script) meaning = meaning ≡ Ok (as_plan script)
+IsParsed (Err script_fault.Memory) meaning = Unit {0}
 IsParsed (Err f) meaning = meaning ≡ Err f
 
 -- What `read_script` returned and left of a source with this text: a script that the text means, or its fault, with
 -- nothing left; for a text that is too long, what follows 1,048,577 bytes is left. On `Memory` and `Read` nothing is
 -- said.
-abbrev pub IsScriptOf : Result read.Script RunFault → List ℕ → Option (List ℕ) → Type 0
-IsScriptOf (Ok script) text left = (left ≡ Some []) × (meaning_of text ≡ Ok (view script))
-IsScriptOf (Err (Script scripts.TooLong)) text left =
-    (left ≡ Some (drop 1048577 text)) × (meaning_of text ≡ Err scripts.TooLong)
+abbrev pub IsScriptOf : Result program.Script RunFault → List ℕ → Option (List ℕ) → Type 0
+IsScriptOf (Ok script) text left = (left ≡ Some []) × (meaning_of text ≡ Ok (as_plan script))
+IsScriptOf (Err (Script script_fault.TooLong)) text left =
+    (left ≡ Some (drop 1048577 text)) × (meaning_of text ≡ Err script_fault.TooLong)
 IsScriptOf (Err (Script f)) text left = (left ≡ Some []) × (meaning_of text ≡ Err f)
 IsScriptOf (Err Memory) text left = Unit {0}
 IsScriptOf (Err Read) text left = Unit {0}
@@ -60,75 +61,51 @@ pub record HasText (bytes : List ℕ) (old new : Option (List ℕ)) : Type 0 whe
   pub takes : Consumes old new bytes
   pub ends : length bytes < 1048577 → IsAtEnd new
 
--- what sending a text did: on `true` all of it was appended, on `false` a beginning
-abbrev pub Sends : Bool → List ℕ → Option (List ℕ) → Option (List ℕ) → Type 0
-Sends true text old new = Appends old new text
-Sends false text old new = (front : List ℕ) × (back : List ℕ) × (text ≡ front ++ back) × Appends old new front
-
--- the line of a fault was appended to a sink with its line end, and flushed; or the sink failed, and a beginning of
--- them was appended: all of them, where no push has failed
-pub record WritesFault (fault : RunFault) (old new : Option (List ℕ))
-    (had_failed has_failed push_has_failed is_flushed : Bool) : Type 0 where
-  pub is_sent : Bool
-  pub sends : Sends (is_sent || not push_has_failed) (fault_line fault ++ line_end) old new
-  pub failed : has_failed ≡ (not is_sent || had_failed)
-  pub flushed : IsTrue is_sent → is_flushed ≡ true
-
--- the text of all answers of the plain machine to what a script means, from one free block of the header's size
+-- the text of all answers of the plain machine to the commands of a plan, from one free block of the header's size
 abbrev pub IsTextOfAnswers : Plan → List ℕ → Type 0
 IsTextOfAnswers plan text =
     text ≡ text_of (machine.answers plan.commands (machine.start plan.header.size plan.header.max_allocs))
 
--- the text means a script, and a text of this script was sent: all of it was appended, or a beginning
-pub record SendsText (IsText : Plan → List ℕ → Type 0) (text : List ℕ) (whole : Bool) (old new : Option (List ℕ)) : Type 0 where
+-- the text that was read means a plan, and a rendering of this plan was sent: all of it was appended, or a beginning
+pub record SendsText (IsRendering : Plan → List ℕ → Type 0) (read : List ℕ) (whole : Bool) (old new : Option (List ℕ)) : Type 0 where
   pub plan : Plan
-  pub sent : List ℕ
-  pub means : meaning_of text ≡ Ok plan
-  pub is : IsText plan sent
-  pub sends : Sends whole sent old new
+  pub text : List ℕ
+  pub means : meaning_of read ≡ Ok plan
+  pub is : IsRendering plan text
+  pub pushes : Pushes whole text old new
 
--- What a run returned, left of a source with this text, and wrote: on `Ok` all of the text of the script that is meant,
+-- What a run returned, left of a source with this text, and wrote: on `Ok` all of the rendering of the plan that is meant,
 -- on `Write` a beginning of it (all of it, where no push has failed), and else the fault of the text. On `Memory` and
 -- `Read` nothing is said.
 abbrev pub IsRunOf : (Plan → List ℕ → Type 0) → Result (Unit {0}) RunFault
     → List ℕ → Option (List ℕ) → Option (List ℕ) → Option (List ℕ) → Bool → Type 0
-IsRunOf IsText (Ok u) text left old new push_has_failed = (left ≡ Some []) × SendsText IsText text true old new
-IsRunOf IsText (Err Write) text left old new push_has_failed =
-    (left ≡ Some []) × SendsText IsText text (not push_has_failed) old new
-IsRunOf IsText (Err fault) text left old new push_has_failed = IsScriptOf (Err fault) text left
-
--- what sending a text of a script did to a sink, and returned: whether all of it was appended, and flushed
-pub record IsSent {K : Type 0} (IsText : Plan → List ℕ → Type 0) (plan : Plan) (sink : Sink K) (old new : K)
-    (result : Bool) : Type 0 where
-  pub text : List ℕ
-  pub is : IsText plan text
-  pub sends : Sends (result || not (sink.push_has_failed new)) text (sink.held old) (sink.held new)
-  pub failed : sink.has_failed new ≡ (not result || sink.has_failed old)
-  pub flushed : IsTrue result → sink.is_flushed new ≡ true
+IsRunOf IsRendering (Ok u) text left old new push_has_failed = (left ≡ Some []) × SendsText IsRendering text true old new
+IsRunOf IsRendering (Err Write) text left old new push_has_failed =
+    (left ≡ Some []) × SendsText IsRendering text (not push_has_failed) old new
+IsRunOf IsRendering (Err fault) text left old new push_has_failed = IsScriptOf (Err fault) text left
 
 -- what a run returned, and left of its source and its sink
-pub record Runs {S K : Type 0} (IsText : Plan → List ℕ → Type 0) (source : Source S) (sink : Sink K)
+pub record Runs {S K : Type 0} (IsRendering : Plan → List ℕ → Type 0) (source : Source S) (sink : Sink K)
     (input input_after : S) (output output_after : K) (ended : Result (Unit {0}) RunFault) : Type 0 where
   -- where the text of the source is known
-  pub of_text : IfSome (source.left input) (λ text. IsRunOf IsText ended text (source.left input_after)
+  pub of_text : IfSome (source.left input) (λ text. IsRunOf IsRendering ended text (source.left input_after)
       (sink.held output) (sink.held output_after) (sink.push_has_failed output_after))
   -- after `Ok` the sink is flushed, if it says so
   pub flushed : OnOk ended (sink.is_flushed output_after ≡ true)
   -- after `Script`, `Memory` and `Read` the sink is as it was
   pub untouched : IfErr ended (λ fault. fault ≢ Write → output_after ≡ output)
   -- out of memory is `Memory`, and never `Script(Memory)`
-  pub memory : ended ≢ Err (Script scripts.Memory)
-  -- it is `Read` exactly where the source failed in this call
+  pub memory : ended ≢ Err (Script script_fault.Memory)
+  -- it is `Read` exactly where the source failed in this call, if it had not failed before
   pub read : source.has_failed input_after ≡ (is_read_fault ended || source.has_failed input)
-  -- it is `Write` exactly where the sink failed in this call
+  -- it is `Write` exactly where the sink failed in this call, if it had not failed before
   pub write : sink.has_failed output_after ≡ (is_write_fault ended || sink.has_failed output)
 
--- a run ended somehow, and a program with it: after `Ok` its status is 0, and its log is as it was; else it is that of the
--- fault, and the line of the fault was appended to the log and flushed, or the log failed
-pub record Exits {S K E : Type 0} (IsText : Plan → List ℕ → Type 0) (source : Source S) (sink : Sink K) (errors : Sink E)
-    (input input_after : S) (output output_after : K) (log log_after : E) (status : ℕ) : Type 0 where
+-- a run ended somehow, and a program with it: after `Ok` its status is 0, and its errors are as they were; else it is
+-- that of the fault, and the line of the fault was sent to the errors
+pub record Exits {S K E : Type 0} (IsRendering : Plan → List ℕ → Type 0) (source : Source S) (sink : Sink K) (error_sink : Sink E)
+    (input input_after : S) (output output_after : K) (errors errors_after : E) (status : ℕ) : Type 0 where
   pub ended : Result (Unit {0}) RunFault
-  pub runs : Runs IsText source sink input input_after output output_after ended
-  pub tells : MatchResult ended (λ _. (status ≡ 0) × (log_after ≡ log))
-      (λ fault. (status ≡ fault_status fault) × WritesFault fault (errors.held log) (errors.held log_after)
-      (errors.has_failed log) (errors.has_failed log_after) (errors.push_has_failed log_after) (errors.is_flushed log_after))
+  pub runs : Runs IsRendering source sink input input_after output output_after ended
+  pub tells : MatchResult ended (λ _. (status ≡ 0) × (errors_after ≡ errors))
+      (λ fault. (status ≡ fault_status fault) × ((is_sent : Bool) × Sends (fault_line fault ++ line_end) error_sink errors errors_after is_sent))

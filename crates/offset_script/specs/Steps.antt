@@ -1,6 +1,6 @@
 -- The named step of each command, and runs of such steps.
 use Rattle.std.specs.Prelude.{◌≡◌, ◌-◌, ℕ, zero, suc, Bool, List, [], ◌∷◌, ◌++◌, length, Option, Some, None, option_map, slice_index_or, slice_set, if◌then◌else◌}
-use Rattle.offset_allocator.specs.View.{View, Grant, IsWellFormed, free_sizes, total_free, largest_free}
+use Rattle.offset_allocator.specs.View.{View, Handle, IsWellFormed, free_sizes, reported_free, reported_largest}
 use Rattle.offset_allocator.specs.Ranges.{IsLive, size_of}
 use Rattle.offset_allocator.specs.Relations.{IsFresh, Allocates, Aligns, Frees, Resets, Extends}
 use Rattle.offset_script.specs.declared.scripts.Command.{Command}
@@ -11,20 +11,20 @@ use Rattle.offset_script.specs.Machine as machine
 -- ---- handles
 
 -- the name of the handle kept for grant k, where handle k - 1 is that of grant k
-abbrev pub kept_name : List (Option Grant) → ℕ → Option ℕ
+abbrev pub kept_name : List (Option Handle) → ℕ → Option ℕ
 kept_name hs zero = None
-kept_name hs (suc k) = option_map (λ (h : Grant). h.name) (slice_index_or hs k None)
+kept_name hs (suc k) = option_map (λ (h : Handle). h.name) (slice_index_or hs k None)
 
 -- each handle that is kept is live
-abbrev pub AreLive : View → List (Option Grant) → Type 0
+abbrev pub AreLive : View → List (Option Handle) → Type 0
 AreLive v handles = (k x : ℕ) → kept_name handles k ≡ Some x → IsLive x v
 
 -- ---- named steps
 
 -- the answer to a request with this result; the handle of a grant is kept, under the number in the answer
-abbrev pub IsKept : Option Grant → List (Option Grant) → List (Option Grant) → Answer → Type 0
-IsKept None handles left a = (left ≡ handles) × (a ≡ machine.Refused)
-IsKept (Some h) handles left a = (left ≡ handles ++ Some h ∷ []) × (a ≡ machine.Grant (length left) h.offset)
+abbrev pub IsKept : Option Handle → List (Option Handle) → List (Option Handle) → Answer → Type 0
+IsKept None handles kept a = (kept ≡ handles) × (a ≡ machine.Refused)
+IsKept (Some h) handles kept a = (kept ≡ handles ++ Some h ∷ []) × (a ≡ machine.Grant (length kept) h.offset)
 
 -- P holds of a name, or Q where there is none
 abbrev pub IfNamed : Option ℕ → (ℕ → Type 0) → Type 0 → Type 0
@@ -32,37 +32,37 @@ IfNamed None P Q = Q
 IfNamed (Some x) P Q = P x
 
 -- the same view and the same handles
-abbrev pub Stays : View → List (Option Grant) → View → List (Option Grant) → Type 0
-Stays v handles w left = (w ≡ v) × (left ≡ handles)
+abbrev pub Stays : View → List (Option Handle) → View → List (Option Handle) → Type 0
+Stays v handles w kept = (w ≡ v) × (kept ≡ handles)
 
 -- the step of a command from the view v to the view w, with this answer: the handles of the grants so far are those in
--- `handles` before it, and in `left` after it, that of grant k at k - 1 while the grant is live
-abbrev pub Takes : Command → View → List (Option Grant) → View → List (Option Grant) → Answer → Type 0
-Takes (command.Alloc n) v handles w left a = (r : Option Grant) × Allocates n v w r × IsKept r handles left a
-Takes (command.Free k) v handles w left a = IfNamed (kept_name handles k)
-    (λ x. Frees x v w × (left ≡ slice_set handles (k - 1) None) × (a ≡ machine.Freed))
-    (Stays v handles w left × (a ≡ machine.Gone))
-Takes (command.Size k) v handles w left a = Stays v handles w left
+-- `handles` before it, and in `kept` after it, that of grant k at k - 1 while the grant is live
+abbrev pub Takes : Command → View → List (Option Handle) → View → List (Option Handle) → Answer → Type 0
+Takes (command.Alloc n) v handles w kept a = (r : Option Handle) × Allocates n v w r × IsKept r handles kept a
+Takes (command.Free k) v handles w kept a = IfNamed (kept_name handles k)
+    (λ x. Frees x v w × (kept ≡ slice_set handles (k - 1) None) × (a ≡ machine.Freed))
+    (Stays v handles w kept × (a ≡ machine.Gone))
+Takes (command.Size k) v handles w kept a = Stays v handles w kept
     × IfNamed (kept_name handles k) (λ x. a ≡ machine.Size (size_of x v)) (a ≡ machine.Gone)
-Takes command.Report v handles w left a = Stays v handles w left × (a ≡ machine.Report (total_free v) (largest_free v))
-Takes command.Full v handles w left a = Stays v handles w left × (a ≡ machine.full_report (free_sizes v.blocks))
-Takes command.Reset v handles w left a = Resets v w × (length left ≡ length handles)
-    × ((k : ℕ) → kept_name left k ≡ None) × (a ≡ machine.Reset)
-Takes (command.Align n align) v handles w left a = (r : Option Grant) × Aligns n align v w r × IsKept r handles left a
-Takes (command.Extend more) v handles w left a = (done : Bool) × Extends more v w done × (left ≡ handles)
+Takes command.Report v handles w kept a = Stays v handles w kept × (a ≡ machine.Report (reported_free v) (reported_largest v))
+Takes command.Full v handles w kept a = Stays v handles w kept × (a ≡ machine.full_report (free_sizes v.blocks))
+Takes command.Reset v handles w kept a = Resets v w × (length kept ≡ length handles)
+    × ((k : ℕ) → kept_name kept k ≡ None) × (a ≡ machine.Reset)
+Takes (command.Align n align) v handles w kept a = (r : Option Handle) × Aligns n align v w r × IsKept r handles kept a
+Takes (command.Extend more) v handles w kept a = (done : Bool) × Extends more v w done × (kept ≡ handles)
     × (a ≡ (if done then machine.Extended else machine.Refused))
 
 -- ---- runs
 
 -- calls with these answers, one step after the other, from a view and the handles of its grants on
-abbrev pub IsRun : {C A : Type 0} → (C → View → List (Option Grant) → View → List (Option Grant) → A → Type 0)
-    → View → List (Option Grant) → List C → List A → Type 0
-IsRun step v handles [] [] = Unit {0}
-IsRun step v handles (c ∷ cs) (a ∷ others) = (w : View) × (left : List (Option Grant)) × step c v handles w left a
-    × IsWellFormed w × IsRun step w left cs others
-IsRun step v handles cs found = ⊥
+abbrev pub AreSteps : {C A : Type 0} → (C → View → List (Option Handle) → View → List (Option Handle) → A → Type 0)
+    → View → List (Option Handle) → List C → List A → Type 0
+AreSteps step v handles [] [] = Unit {0}
+AreSteps step v handles (c ∷ cs) (a ∷ others) = (w : View) × (kept : List (Option Handle)) × step c v handles w kept a
+    × IsWellFormed w × AreSteps step w kept cs others
+AreSteps step v handles cs found = ⊥
 
 -- the answers are those of a run on a fresh space, where a grant's number means the name that its grant gave
-abbrev pub AreOfARun : {C A : Type 0} → (C → View → List (Option Grant) → View → List (Option Grant) → A → Type 0)
+abbrev pub AreStepsFromFresh : {C A : Type 0} → (C → View → List (Option Handle) → View → List (Option Handle) → A → Type 0)
     → ℕ → ℕ → List C → List A → Type 0
-AreOfARun step size max_allocs cs found = (v : View) × IsFresh size max_allocs v × IsRun step v [] cs found
+AreStepsFromFresh step size max_allocs cs found = (v : View) × IsFresh size max_allocs v × AreSteps step v [] cs found

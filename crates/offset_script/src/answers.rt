@@ -1,4 +1,4 @@
-//! Answers, and their text. It reads spaces, and appends to texts.
+//! Answers, and the lines of each. It reads spaces, and appends to texts.
 
 ghost use Rattle.std.specs.Prelude.{◌≡◌, ◌++◌, IfOk, OnOk, codes, map};
 ghost use Rattle.std.specs.Fmt.{decimal};
@@ -13,7 +13,7 @@ use offset_allocator::{AllocatorOf, StorageReport, Tables};
 use std::alloc::{AllocError, Global};
 
 // The most bytes of a line. Three numbers of 20 digits and the words of a row fit.
-const ROOM: usize = 80;
+const LINE_BYTES: usize = 80;
 
 /// One size class of a full report.
 #[derive(Clone, Copy, PartialEq, Debug)]
@@ -39,8 +39,8 @@ pub enum Answer {
     Gone,
     /// The size of a grant in units.
     Size(u32),
-    /// The free units in all, and the largest class value of a free block. Both are 0 where the space has as
-    /// many blocks as its limit allows.
+    /// The free units in all, and the largest free region. Both are 0 where the space has as many blocks as
+    /// its limit allows.
     Report(StorageReport),
     /// The classes that have a free block, in rising order.
     Full(Vec<FullRow>),
@@ -83,12 +83,12 @@ pub fn full_answer<T: Tables>(alloc: Global, space: &AllocatorOf<T>) -> Result<A
 fn put_grant(out: &mut Vec<u8>, number: u64, offset: u32) -> Result<(), AllocError>
     ensures { OnOk result (out.new.items ≡ out.old.items ++ lines_of_answer (machine.Grant number offset)) }
 {
-    let mut line: TextBuffer<ROOM> = TextBuffer::new();
-    line.put("\n");
-    line.put_number(u64::from(offset));
-    line.put(" at ");
-    line.put_number(number);
-    line.put("grant ");
+    let mut line: TextBuffer<LINE_BYTES> = TextBuffer::new();
+    line.prepend("\n");
+    line.prepend_number(u64::from(offset));
+    line.prepend(" at ");
+    line.prepend_number(number);
+    line.prepend("grant ");
     out.extend_from_slice(line.bytes())
 }
 
@@ -97,10 +97,10 @@ fn put_grant(out: &mut Vec<u8>, number: u64, offset: u32) -> Result<(), AllocErr
 fn put_size(out: &mut Vec<u8>, size: u32) -> Result<(), AllocError>
     ensures { OnOk result (out.new.items ≡ out.old.items ++ lines_of_answer (machine.Size size)) }
 {
-    let mut line: TextBuffer<ROOM> = TextBuffer::new();
-    line.put("\n");
-    line.put_number(u64::from(size));
-    line.put("size ");
+    let mut line: TextBuffer<LINE_BYTES> = TextBuffer::new();
+    line.prepend("\n");
+    line.prepend_number(u64::from(size));
+    line.prepend("size ");
     out.extend_from_slice(line.bytes())
 }
 
@@ -109,12 +109,12 @@ fn put_size(out: &mut Vec<u8>, size: u32) -> Result<(), AllocError>
 fn put_report(out: &mut Vec<u8>, free: u32, largest: u32) -> Result<(), AllocError>
     ensures { OnOk result (out.new.items ≡ out.old.items ++ lines_of_answer (machine.Report free largest)) }
 {
-    let mut line: TextBuffer<ROOM> = TextBuffer::new();
-    line.put("\n");
-    line.put_number(u64::from(largest));
-    line.put(" largest ");
-    line.put_number(u64::from(free));
-    line.put("free ");
+    let mut line: TextBuffer<LINE_BYTES> = TextBuffer::new();
+    line.prepend("\n");
+    line.prepend_number(u64::from(largest));
+    line.prepend(" largest ");
+    line.prepend_number(u64::from(free));
+    line.prepend("free ");
     out.extend_from_slice(line.bytes())
 }
 
@@ -122,10 +122,10 @@ fn put_report(out: &mut Vec<u8>, free: u32, largest: u32) -> Result<(), AllocErr
 fn put_count(out: &mut Vec<u8>, count: usize) -> Result<(), AllocError>
     ensures { OnOk result (out.new.items ≡ out.old.items ++ codes "full " ++ decimal count ++ line_end) }
 {
-    let mut line: TextBuffer<ROOM> = TextBuffer::new();
-    line.put("\n");
-    line.put_number(count as u64);
-    line.put("full ");
+    let mut line: TextBuffer<LINE_BYTES> = TextBuffer::new();
+    line.prepend("\n");
+    line.prepend_number(count as u64);
+    line.prepend("full ");
     out.extend_from_slice(line.bytes())
 }
 
@@ -133,14 +133,14 @@ fn put_count(out: &mut Vec<u8>, count: usize) -> Result<(), AllocError>
 fn put_row(out: &mut Vec<u8>, row: &FullRow) -> Result<(), AllocError>
     ensures { OnOk result (out.new.items ≡ out.old.items ++ row_line (row_view row.now)) }
 {
-    let mut line: TextBuffer<ROOM> = TextBuffer::new();
-    line.put("\n");
-    line.put_number(u64::from(row.count));
-    line.put(" count ");
-    line.put_number(u64::from(row.size));
-    line.put(" size ");
-    line.put_number(u64::from(row.class));
-    line.put("class ");
+    let mut line: TextBuffer<LINE_BYTES> = TextBuffer::new();
+    line.prepend("\n");
+    line.prepend_number(u64::from(row.count));
+    line.prepend(" count ");
+    line.prepend_number(u64::from(row.size));
+    line.prepend(" size ");
+    line.prepend_number(u64::from(row.class));
+    line.prepend("class ");
     out.extend_from_slice(line.bytes())
 }
 

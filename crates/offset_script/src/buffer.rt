@@ -28,7 +28,7 @@ impl<const ROOM: usize> Model for TextBuffer<ROOM> {
 }
 
 // Writes the digits of a number before the byte `end`, and returns where they begin.
-fn put_digits<const ROOM: usize>(room: &mut [u8; ROOM], end: usize, n: u64) -> usize
+fn prepend_digits<const ROOM: usize>(room: &mut [u8; ROOM], end: usize, n: u64) -> usize
     requires first { 20 ≤ end }
     requires last { end ≤ ROOM }
     ensures text { drop result room.new ≡ decimal n ++ drop end room.old }
@@ -68,12 +68,12 @@ impl<const ROOM: usize> TextBuffer<ROOM> {
     ///
     /// ```
     /// let mut line = TextBuffer::<80>::new();
-    /// line.put("units");
-    /// line.put("300 ");
+    /// line.prepend("units");
+    /// line.prepend("300 ");
     /// assert_eq!(line.text(), "300 units");
     /// ```
     #[inline(always)]
-    pub fn put(&mut self, text: &str)
+    pub fn prepend(&mut self, text: &str)
         requires { length text.now + length self.old ≤ ROOM }
         ensures { self.new ≡ text.now ++ self.old }
     {
@@ -88,11 +88,11 @@ impl<const ROOM: usize> TextBuffer<ROOM> {
     ///
     /// ```
     /// let mut line = TextBuffer::<80>::new();
-    /// line.put_digit(7);
+    /// line.prepend_digit(7);
     /// assert_eq!(line.text(), "7");
     /// ```
     #[inline(always)]
-    pub fn put_digit(&mut self, n: u32)
+    pub fn prepend_digit(&mut self, n: u32)
         requires digit { n < 10 }
         requires room { 1 + length self.old ≤ ROOM }
         ensures text { self.new ≡ decimal n ++ self.old }
@@ -107,22 +107,22 @@ impl<const ROOM: usize> TextBuffer<ROOM> {
     ///
     /// ```
     /// let mut line = TextBuffer::<80>::new();
-    /// line.put_number(300);
+    /// line.prepend_number(300);
     /// assert_eq!(line.text(), "300");
     /// ```
-    pub fn put_number(&mut self, n: u64)
+    pub fn prepend_number(&mut self, n: u64)
         requires { 20 + length self.old ≤ ROOM }
         ensures text { self.new ≡ decimal n ++ self.old }
         ensures length { length self.new ≤ 20 + length self.old }
     {
-        self.start = put_digits(&mut self.room, self.start, n);
+        self.start = prepend_digits(&mut self.room, self.start, n);
     }
 
     /// Returns its bytes, which are text.
     ///
     /// ```
     /// let mut line = TextBuffer::<80>::new();
-    /// line.put("none");
+    /// line.prepend("none");
     /// assert_eq!(line.bytes(), b"none");
     /// ```
     #[inline(always)]
@@ -138,7 +138,7 @@ impl<const ROOM: usize> TextBuffer<ROOM> {
     ///
     /// ```
     /// let mut line = TextBuffer::<80>::new();
-    /// line.put("none");
+    /// line.prepend("none");
     /// assert_eq!(line.text(), "none");
     /// ```
     pub fn text(&self) -> &str

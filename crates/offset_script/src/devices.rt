@@ -1,4 +1,5 @@
-//! Where a script comes from, and where its answers go. No call that failed is tried again.
+//! Where a script comes from, and where its answers go: these alone touch readers and writers. No call that
+//! failed is tried again.
 
 ghost use Rattle.std.specs.Prelude.{◌≡◌, ℕ, ◌<◌, ◌≤◌, Bool, true, false, not, ◌||◌, IsTrue, List, Option};
 ghost use Rattle.std.specs.Prelude.{length, take};

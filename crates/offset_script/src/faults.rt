@@ -1,4 +1,4 @@
-//! What is wrong with a script, and with a run.
+//! What is wrong with a script, and with a run. It touches nothing.
 
 ghost use Rattle.std.specs.Prelude.{◌≡◌, ◌≤◌, Some, length};
 ghost use Rattle.offset_script.specs.declared.faults.ScriptFault.TheVariants.{Memory};

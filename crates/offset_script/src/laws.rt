@@ -1,4 +1,4 @@
-//! Laws on what `parse` reads and on the answers of `play`. The functions do nothing.
+//! Laws on what `parse` reads and on the answers of `play`. The functions touch nothing.
 
 ghost use Rattle.std.specs.Prelude.{◌≡◌, ◌↔◌, ℕ, ◌+◌, ◌≤◌, List, [], ◌∷◌, ◌++◌, length, sum};
 ghost use Rattle.offset_script.specs.declared.scripts.Command.{Command};

@@ -1,215 +1,84 @@
-//! Plays commands on an allocator, of which it keeps the handles. No other module of this crate changes a
-//! space.
+//! Plays commands in a row by a player, for a listener: a list of their answers is such a listener. It
+//! changes spaces by its player alone.
 
-ghost use Rattle.std.specs.Prelude.{◌≡◌, ◌+◌, ◌<◌, ◌≤◌, ℕ, IsTrue, All, [], length, map, slice_index_or};
-ghost use Rattle.std.specs.Prelude.{vec_len};
-ghost use Rattle.std.specs.Prelude.{None, IfOk, IfSome, option_map};
-ghost use Rattle.offset_script.specs.Steps.{kept_name, IsKept, Takes, AreLive};
-ghost use Rattle.offset_script.specs.Machine as machine;
-ghost use Rattle.offset_script.specs.Machine.{answer_view};
-ghost use Rattle.offset_script.specs.Playing.{AreAnswers};
+ghost use Rattle.std.specs.Prelude.{◌≡◌, ◌+◌, ◌<◌, ◌≤◌, All, IfOk, IsTrue, map};
 ghost use Rattle.offset_script.specs.Grammar.{has_valid_alignment};
-ghost use Rattle.offset_allocator.specs.Relations.{IsFresh};
+ghost use Rattle.offset_script.specs.Machine as machine;
+ghost use Rattle.offset_script.specs.Machine.{answer_view, answers, start};
+ghost use Rattle.offset_script.specs.Playing.{AreAnswers};
+ghost use Rattle.offset_script.specs.Steps.{AreStepsFromFresh, Takes};
 
-use crate::answers::{Answer, full_answer};
-use crate::listening::{Listener, play_script_to, play_to};
-use crate::scripts::{Command, Script};
-use offset_allocator::{Allocation, AllocatorOf, ByNode, NodeIndex, Tables};
+use crate::answers::Answer;
+use crate::listening::Listener;
+use crate::player::PlayerOf;
+use crate::scripts::{Command, IndexWidth, Script};
+use offset_allocator::laws::is_well_formed;
+use offset_allocator::{AllocatorOf, ByNode, NodeIndex, Tables};
 use std::alloc::{AllocError, Global};
 
-/// A player of an allocator by node.
-pub type Player<NI = u32> = PlayerOf<ByNode<NI>>;
-
-/// An allocator, with the handles of its live grants: it takes commands one by one.
-#[derive(Drop)]
-pub struct PlayerOf<T: Tables> {
-    /// The allocator.
-    pub space: AllocatorOf<T>,
-    /// The handle of grant k is at k - 1 while the grant is live.
-    pub handles: Vec<Option<Allocation<T::Index>>>,
-    // Resets have removed the first handles, up to this number.
-    swept: usize,
-    ghost within: { swept ≤ vec_len handles },
-    ghost gone: { (k : ℕ) → k < swept → slice_index_or handles.items k None ≡ None },
+/// Plays commands on an allocator of `size` units with the node limit `max_allocs`, drops its space, and
+/// returns the listener that has heard them.
+///
+/// The limit has to be 2 to `T::Index::MAX - 2`, and each alignment a power of two.
+///
+/// # Errors
+///
+/// It fails only where an allocation fails: of the allocator's tables, of the list of handles, of the rows
+/// of a full report, or of the listener's.
+pub(crate) fn play_to<T: Tables, L: Listener>(
+    alloc: Global,
+    size: u32,
+    max_allocs: u32,
+    commands: &[Command],
+) -> Result<L, AllocError>
+    requires low { 2 ≤ max_allocs }
+    requires high { max_allocs + 1 < T.Index.MAX }
+    requires powers { All (λ c. IsTrue (has_valid_alignment c)) commands.now }
+    // It has heard the commands that are played in place of these, from one free block of `size` units.
+    ensures heard { IfOk result (λ l. L.Heard l (start size max_allocs) (map L.played commands.now)) }
+    // The answers of the plain machine to them are those of the allocator's named steps, one after the other.
+    ensures steps { IfOk result (λ _. let cs = map L.played commands.now in
+        AreStepsFromFresh Takes size max_allocs cs (answers cs (start size max_allocs))) }
+{
+    let mut player: PlayerOf<T> = PlayerOf::start(alloc, size, max_allocs)?;
+    // A step of the proof, which does nothing, here and below.
+    is_well_formed(&player.space);
+    let mut listener = L::begin(alloc, &player.space, commands.len())?;
+    for command in commands {
+        let asked = L::played(*command);
+        let answer = player.call(alloc, asked)?;
+        is_well_formed(&player.space);
+        listener.hear(alloc, &player.space, asked, answer)?;
+    }
+    Ok(listener)
 }
 
-impl<T: Tables> PlayerOf<T> {
-    /// A fresh space, and no grants. The limit has to be 2 to `T::Index::MAX - 2`.
-    ///
-    /// # Errors
-    ///
-    /// It fails only where an allocation fails.
-    ///
-    /// ```
-    /// let player = Player::<u16>::start(alloc, 1000, 16)?;
-    /// assert_eq!(player.space.size(), 1000);
-    /// ```
-    pub fn start(alloc: Global, size: u32, max_allocs: u32) -> Result<Self, AllocError>
-        requires low { 2 ≤ max_allocs }
-        requires high { max_allocs + 1 < T.Index.MAX }
-        ensures { IfOk result (λ p. IsFresh size max_allocs p.space × (p.handles.items ≡ [])) }
-    {
-        let space = AllocatorOf::with_max_allocs(alloc, size, max_allocs)?;
-        Ok(PlayerOf {
-            space,
-            handles: Vec::new(alloc),
-            swept: 0,
-        })
-    }
-
-    /// The handle of the grant of this number, if it is live.
-    ///
-    /// ```
-    /// player.call(alloc, Command::Alloc(300))?;
-    /// assert!(player.handle(1).is_some());
-    /// ```
-    pub fn handle(&self, number: u32) -> Option<Allocation<T::Index>>
-        ensures name { option_map (λ h. h.name) result ≡ kept_name self.now.handles.items number }
-        ensures within { IfSome result (λ h. (1 ≤ number)
-            × (number ≤ length self.now.handles.items)) }
-    {
-        if number == 0 {
-            return None;
-        }
-        match self.handles.get(number as usize - 1) {
-            Some(handle) => *handle,
-            None => None,
-        }
-    }
-
-    /// The answer to a request with this result. The handle of a grant is kept under the next number.
-    ///
-    /// # Errors
-    ///
-    /// It fails only where an allocation fails.
-    ///
-    /// ```
-    /// let granted = player.space.allocate(300);
-    /// player.keep(granted)?;
-    /// assert_eq!(player.handle(1), granted);
-    /// ```
-    pub fn keep(&mut self, granted: Option<Allocation<T::Index>>) -> Result<Answer, AllocError>
-        ensures handle { IfOk result (λ a. IsKept granted self.old.handles.items
-            self.new.handles.items (answer_view a)) }
-        ensures space { self.new.space ≡ self.old.space }
-    {
-        match granted {
-            None => Ok(Answer::Refused),
-            Some(handle) => {
-                self.handles.push(Some(handle))?;
-                Ok(Answer::Grant {
-                    number: self.handles.len() as u64,
-                    offset: handle.offset,
-                })
-            }
-        }
-    }
-
-    // The answer to `alloc`.
-    fn allocate(&mut self, size: u32) -> Result<Answer, AllocError>
-        ensures { IfOk result (λ a. Takes (Command.Alloc size) self.old.space self.old.handles.items
-            self.new.space self.new.handles.items (answer_view a)) }
-    {
-        let granted = self.space.allocate(size);
-        self.keep(granted)
-    }
-
-    // The answer to `free`. The grant's handle is removed.
-    fn release(&mut self, number: u32) -> Answer
-        requires { AreLive self.old.space self.old.handles.items }
-        ensures { Takes (Command.Free number) self.old.space self.old.handles.items
-            self.new.space self.new.handles.items (answer_view result) }
-    {
-        match self.handle(number) {
-            None => Answer::Gone,
-            Some(handle) => {
-                self.space.free(handle);
-                self.handles[number as usize - 1] = None;
-                Answer::Freed
-            }
-        }
-    }
-
-    // The answer to `size`.
-    fn size(&self, number: u32) -> Answer
-        ensures { Takes (Command.Size number) self.now.space self.now.handles.items
-            self.now.space self.now.handles.items (answer_view result) }
-    {
-        match self.handle(number) {
-            None => Answer::Gone,
-            Some(handle) => Answer::Size(self.space.allocation_size(handle)),
-        }
-    }
-
-    // The answer to `report`.
-    fn report(&self) -> Answer
-        ensures { Takes Command.Report self.now.space self.now.handles.items
-            self.now.space self.now.handles.items (answer_view result) }
-    {
-        Answer::Report(self.space.storage_report())
-    }
-
-    // The answer to `reset`. All handles are removed, and numbers go on.
-    fn reset(&mut self) -> Answer
-        ensures { Takes Command.Reset self.old.space self.old.handles.items
-            self.new.space self.new.handles.items (answer_view result) }
-    {
-        self.space.reset();
-        for i in self.swept..self.handles.len() {
-            self.handles[i] = None;
-        }
-        self.swept = self.handles.len();
-        Answer::Reset
-    }
-
-    // The answer to `align`.
-    fn allocate_aligned(&mut self, size: u32, align: u32) -> Result<Answer, AllocError>
-        requires { IsTrue (has_valid_alignment (Command.Align size align)) }
-        ensures { IfOk result (λ a. Takes (Command.Align size align) self.old.space self.old.handles.items
-            self.new.space self.new.handles.items (answer_view a)) }
-    {
-        let granted = self.space.allocate_aligned(size, align);
-        self.keep(granted)
-    }
-
-    // The answer to `extend`.
-    fn extend(&mut self, more: u32) -> Answer
-        ensures { Takes (Command.Extend more) self.old.space self.old.handles.items
-            self.new.space self.new.handles.items (answer_view result) }
-    {
-        if self.space.extend(more) {
-            Answer::Extended
-        } else {
-            Answer::Refused
-        }
-    }
-
-    /// The answer to one command. The alignment of a request has to be a power of two.
-    ///
-    /// # Errors
-    ///
-    /// It fails only where an allocation fails.
-    ///
-    /// ```
-    /// let answer = player.call(alloc, Command::Alloc(300))?;
-    /// assert!(matches!(answer, Answer::Grant { number: 1, offset: 0 }));
-    /// ```
-    pub fn call(&mut self, alloc: Global, command: Command) -> Result<Answer, AllocError>
-        requires live { AreLive self.old.space self.old.handles.items }
-        requires power { IsTrue (has_valid_alignment command) }
-        ensures { IfOk result (λ a. Takes command self.old.space self.old.handles.items
-            self.new.space self.new.handles.items (answer_view a)) }
-    {
-        match command {
-            Command::Alloc(size) => self.allocate(size),
-            Command::Free(number) => Ok(self.release(number)),
-            Command::Size(number) => Ok(self.size(number)),
-            Command::Report => Ok(self.report()),
-            Command::Full => full_answer(alloc, &self.space),
-            Command::Reset => Ok(self.reset()),
-            Command::Align(size, align) => self.allocate_aligned(size, align),
-            Command::Extend(more) => Ok(self.extend(more)),
-        }
+/// Plays a script on an allocator of its index width, by the layout that is named for it, drops its space,
+/// and returns the listener that has heard its commands.
+///
+/// # Errors
+///
+/// It fails only where an allocation fails.
+///
+/// ```
+/// let answers: Vec<Answer> = play_script_to::<ByNode<u16>, ByNode<u32>, _>(alloc, &script)?;
+/// assert_eq!(answers.len(), 2);
+/// ```
+pub fn play_script_to<Narrow, Wide, L>(alloc: Global, script: &Script) -> Result<L, AllocError>
+where
+    Narrow: Tables<Index = u16>,
+    Wide: Tables<Index = u32>,
+    L: Listener,
+    ensures heard { IfOk result (λ l. L.Heard l (start script.now.size script.now.max_allocs)
+        (map L.played script.now.commands.items)) }
+    ensures steps { IfOk result (λ _. let cs = map L.played script.now.commands.items in
+        AreStepsFromFresh Takes script.now.size script.now.max_allocs cs
+        (answers cs (start script.now.size script.now.max_allocs))) }
+{
+    let commands = &script.commands;
+    match script.index {
+        IndexWidth::Bits16 => play_to::<Narrow, L>(alloc, script.size, script.max_allocs, commands),
+        IndexWidth::Bits32 => play_to::<Wide, L>(alloc, script.size, script.max_allocs, commands),
     }
 }
 
@@ -268,7 +137,8 @@ pub fn play_of<T: Tables>(
     // Each alignment is a power of two.
     requires powers { All (λ c. IsTrue (has_valid_alignment c)) commands.now }
     // The answers are those of the plain machine to these commands, from one free block of `size` units. They
-    // are also those of a run of the allocator's named steps, and three laws on histories hold of them.
+    // are also those of the allocator's named steps, one after the other, and three laws on histories hold of
+    // them.
     ensures { IfOk result (λ found. AreAnswers size max_allocs commands.now (map answer_view found.items)) }
 {
     play_to::<T, Vec<Answer>>(alloc, size, max_allocs, commands)
@@ -306,11 +176,8 @@ pub fn play<NI: NodeIndex>(
 /// assert!(matches!(answers[0], Answer::Grant { number: 1, offset: 0 }));
 /// ```
 pub fn play_script(alloc: Global, script: &Script) -> Result<Vec<Answer>, AllocError>
-    // The answers are those of the plain machine to the commands of the script, from one free block of its
-    // size.
-    ensures { IfOk result
-        (λ v. map answer_view v.items
-        ≡ machine.answers script.now.commands.items (machine.start script.now.size script.now.max_allocs)) }
+    ensures { IfOk result (λ found. AreAnswers script.now.size script.now.max_allocs
+        script.now.commands.items (map answer_view found.items)) }
 {
     play_script_to::<ByNode<u16>, ByNode<u32>, _>(alloc, script)
 }

@@ -3,22 +3,22 @@
 ghost use Rattle.offset_script.specs.Running.{Exits, IsTextOfAnswers};
 
 use crate::devices::{Sink, Source};
-use crate::running::{AnswerText, ScriptText, run_of};
+use crate::running::{AnswerText, Rendering, run_of};
 use crate::sending::send_fault;
 use std::alloc::Global;
 
-/// `run_program`, with another text of a script in place of that of its answers.
-pub fn run_program_of<X: ScriptText, S: Source, K: Sink, E: Sink>(
+/// `run_program`, with another rendering of a script in place of the text of its answers.
+pub fn run_program_of<X: Rendering, S: Source, K: Sink, E: Sink>(
     alloc: Global,
-    text: &X,
+    rendering: &X,
     input: &mut S,
     output: &mut K,
     errors: &mut E,
 ) -> u8
-    ensures { Exits (X.IsText text.now) S.Source K.Sink E.Sink
+    ensures { Exits (X.IsRendering rendering.now) S.Source K.Sink E.Sink
         input.old input.new output.old output.new errors.old errors.new result }
 {
-    match run_of(alloc, text, input, output) {
+    match run_of(alloc, rendering, input, output) {
         Ok(()) => 0,
         Err(fault) => {
             let _is_sent = send_fault(errors, fault);
@@ -27,7 +27,7 @@ pub fn run_program_of<X: ScriptText, S: Source, K: Sink, E: Sink>(
     }
 }
 
-/// Runs a script by `run`, writes the line of a fault to `errors`, and returns the status to exit with.
+/// Runs a script as `run` does, writes the line of a fault to `errors`, and returns the status to exit with.
 ///
 /// The status is 0 exactly where the run is `Ok`, 2 where the text is no script, 3 where an allocation
 /// failed, and 4 where the source or the sink failed. A run that is `Ok` leaves `errors` as it was. A failure

@@ -1,22 +1,24 @@
-//! Runs a script from a source to a sink. Nothing is sent before all is read and made.
+//! Runs a script from a source to a sink. It touches these and its own spaces; nothing is sent before all is
+//! read and made.
 
 ghost use Rattle.std.specs.Prelude.{◌≡◌, ◌≢◌, ◌⊎◌, ℕ, false, IfOk, IfErr, IfSome, List, ◌||◌};
 ghost use Rattle.offset_script.specs.Grammar.{Plan};
-ghost use Rattle.offset_script.specs.Running.{HasText, IsScriptOf, IsSent, IsTextOfAnswers, Runs, view};
+ghost use Rattle.offset_script.specs.Running.{HasText, IsScriptOf, IsTextOfAnswers, Runs, as_plan};
+ghost use Rattle.offset_script.specs.Sending.{Sends};
 ghost use Rattle.offset_script.specs.Running.{is_read_fault, is_write_fault};
 ghost use Rattle.offset_script.specs.declared.faults.RunFault.TheVariants as faults;
-ghost use Rattle.offset_script.specs.declared.faults.ScriptFault.TheVariants as scripts;
+ghost use Rattle.offset_script.specs.declared.faults.ScriptFault.TheVariants as script_fault;
 
+use crate::answer_text::text_of_answers;
 use crate::devices::{Sink, Source};
 use crate::faults::RunFault;
-use crate::reading::{MAX_TEXT, parse};
+use crate::parsing::{MAX_TEXT, parse};
 use crate::scripts::Script;
 use crate::sending::send_in_turn;
-use crate::writing::text_of_script;
 use std::alloc::{AllocError, Global};
 
 // The largest number of bytes that one pull requests.
-const PIECE: usize = 16384;
+const PULL_BYTES: usize = 16384;
 
 // All bytes of the source, or its first `MAX_TEXT + 1`. It stops at the first failure.
 fn read_text<S: Source>(alloc: Global, input: &mut S) -> Result<Vec<u8>, RunFault>
@@ -25,9 +27,9 @@ fn read_text<S: Source>(alloc: Global, input: &mut S) -> Result<Vec<u8>, RunFaul
     ensures fault { IfErr result (λ f. (f ≡ faults.Memory) ⊎ (f ≡ faults.Read)) }
 {
     let mut text = Vec::new(alloc);
-    let mut piece = [0u8; PIECE];
+    let mut piece = [0u8; PULL_BYTES];
     while text.len() <= MAX_TEXT {
-        let room = (MAX_TEXT + 1 - text.len()).min(PIECE);
+        let room = (MAX_TEXT + 1 - text.len()).min(PULL_BYTES);
         match input.pull(&mut piece[..room]) {
             None => return Err(RunFault::Read),
             Some(0) => break,
@@ -53,45 +55,46 @@ pub fn read_script<S: Source>(alloc: Global, input: &mut S) -> Result<Script, Ru
     // `Memory` and `Read` nothing is said.
     ensures of_text { IfSome (S.left input.old) (λ text. IsScriptOf result text (S.left input.new)) }
     // Out of memory is `Memory`, and never `Script(Memory)`.
-    ensures memory { result ≢ Err (faults.Script scripts.Memory) }
+    ensures memory { result ≢ Err (faults.Script script_fault.Memory) }
     // The fault is never `Write`.
     ensures write { is_write_fault result ≡ false }
-    // The fault is `Read` exactly where the source failed in this call.
+    // The fault is `Read` exactly where the source failed in this call, if it had not failed before.
     ensures read { S.has_failed input.new ≡ (is_read_fault result || S.has_failed input.old) }
 {
     let text = read_text(alloc, input)?;
     Ok(parse(alloc, &text)?)
 }
 
-/// A text that a run makes of a script, and sends.
-pub trait ScriptText {
-    // Whether this is the text of what a script means.
-    ghost IsText: { Self → Plan → List ℕ → Type 0 };
+/// What a run makes of a script, and sends: the text of its answers, or a picture.
+pub trait Rendering {
+    // Whether this is the rendering of a plan.
+    ghost IsRendering: { Self → Plan → List ℕ → Type 0 };
 
-    /// Appends the text of a script, and then flushes. Returns whether both succeeded. It stops at the first
-    /// failure, and tries nothing again. Where an allocation fails, nothing is appended.
+    /// Appends the rendering of a script, and then flushes. Returns whether both succeeded. It stops at the
+    /// first failure, and tries nothing again. Where an allocation fails, nothing is appended.
     fn send<K: Sink>(
         &self,
         alloc: Global,
         script: &Script,
         output: &mut K,
     ) -> Result<bool, AllocError>
-        ensures sent { IfOk result (λ sent. IsSent (IsText self.now) (view script.now) K.Sink
-            output.old output.new sent) }
+        ensures sent { IfOk result (λ sent. (text : List ℕ) × IsRendering self.now (as_plan script.now) text
+            × Sends text K.Sink output.old output.new sent) }
         ensures untouched { IfErr result (λ _. output.new ≡ output.old) };
 }
 
-/// `run`, with another text of a script in place of that of its answers.
-pub fn run_of<X: ScriptText, S: Source, K: Sink>(
+/// `run`, with another rendering of a script in place of the text of its answers.
+pub fn run_of<X: Rendering, S: Source, K: Sink>(
     alloc: Global,
-    text: &X,
+    rendering: &X,
     input: &mut S,
     output: &mut K,
 ) -> Result<(), RunFault>
-    ensures { Runs (X.IsText text.now) S.Source K.Sink input.old input.new output.old output.new result }
+    ensures { Runs (X.IsRendering rendering.now) S.Source K.Sink input.old input.new output.old output.new
+        result }
 {
     let script = read_script(alloc, input)?;
-    if text.send(alloc, &script, output)? {
+    if rendering.send(alloc, &script, output)? {
         Ok(())
     } else {
         Err(RunFault::Write)
@@ -101,8 +104,8 @@ pub fn run_of<X: ScriptText, S: Source, K: Sink>(
 // The text of the answers to a script.
 pub(crate) struct AnswerText;
 
-impl ScriptText for AnswerText {
-    ghost IsText = { λ _. IsTextOfAnswers };
+impl Rendering for AnswerText {
+    ghost IsRendering = { λ _. IsTextOfAnswers };
 
     fn send<K: Sink>(
         &self,
@@ -110,18 +113,18 @@ impl ScriptText for AnswerText {
         script: &Script,
         output: &mut K,
     ) -> Result<bool, AllocError> {
-        let pieces = text_of_script(alloc, script)?;
+        let pieces = text_of_answers(alloc, script)?;
         Ok(send_in_turn(output, &pieces))
     }
 }
 
 /// Reads a script to its end, plays it, writes the text of its answers, and then flushes.
 ///
-/// The script and the text of all answers are in memory at once: the text in pieces of 64 KiB, of which no
-/// copy is made, and the space beside it until the last command is played. Once 4,096 rows are written,
-/// beyond the first eight of each report, the other answers are kept as values in place of their text: 32
-/// bytes each, and 12 to 24 for each row, which takes 23 to 43 as text. Their text is made when the space is
-/// given back.
+/// The script and the text of all answers are in memory at once: the text in pieces of 64 KiB, with no copy
+/// of the whole, and the space beside it until the last command is played. Once more than 4,096 rows are
+/// written, beyond the first eight of each report, and a piece is full, the other answers are kept as
+/// values in place of their text: 32 bytes each, and 12 to 24 for each row, which takes 23 to 43 as text.
+/// Their text is made when the space is given back.
 ///
 /// Nothing is written unless the whole text is a script; of a text that is too long, 1,048,577 bytes are
 /// read. `Read` is returned exactly where the source failed in this call, and `Write` exactly where the sink
@@ -138,7 +141,9 @@ pub fn run<S: Source, K: Sink>(alloc: Global, input: &mut S, output: &mut K) -> 
     // Where the text of the source is known: on `Ok` it means a script, and the text of all its answers is
     // appended; on `Write` a beginning of that text is, and all of it where no push has failed; on `Script`
     // the fault is that of the text. Nothing of the text is left, except what follows the first 1,048,577
-    // bytes of one that is too long.
+    // bytes of one that is too long. On `Memory` and `Read` nothing is said of it. Of any
+    // source and sink: where neither had failed before, the fault says which of them failed; the sink is
+    // flushed after `Ok`, and is as it was after a fault other than `Write`.
     ensures { Runs IsTextOfAnswers S.Source K.Sink input.old input.new output.old output.new result }
 {
     run_of(alloc, &AnswerText, input, output)

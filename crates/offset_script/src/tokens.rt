@@ -1,4 +1,4 @@
-//! Words and numbers of a line. It only reads the line.
+//! Parts of a text between separators, and the number that a word spells. It only reads the text.
 
 ghost use Rattle.std.specs.Prelude.{◌≡◌, ◌<◌, ◌∷◌, ◌==◌, [], length, position, IfSome};
 ghost use Rattle.std.specs.Option.{option_copied, option_map_or};
@@ -7,21 +7,21 @@ ghost use Rattle.offset_script.specs.Grammar.{parts, number_of};
 /// The most digits that a number has.
 pub const MOST_DIGITS: usize = 10;
 
-// The index of the first byte `at`, if there is one.
-fn place_of(text: &[u8], at: u8) -> Option<usize>
-    ensures { result ≡ position (λ b. b == at) text.now }
+// The index of the first separator, if there is one.
+fn index_of(text: &[u8], separator: u8) -> Option<usize>
+    ensures { result ≡ position (λ b. b == separator) text.now }
 {
-    text.iter().position(|b| *b == at)
+    text.iter().position(|b| *b == separator)
 }
 
-/// The part before the first byte `at`, and what comes after that byte. All of the text and `None` where
-/// there is none.
-pub fn split_once(text: &[u8], at: u8) -> (&[u8], Option<&[u8]>)
-    ensures parts { parts at text.now
-        ≡ result.0.now ∷ option_map_or (parts at) (option_copied result.1) [] }
+/// The part before the first separator, and what comes after it. All of the text and `None` where there is
+/// none.
+pub fn split_once(text: &[u8], separator: u8) -> (&[u8], Option<&[u8]>)
+    ensures parts { parts separator text.now
+        ≡ result.0.now ∷ option_map_or (parts separator) (option_copied result.1) [] }
     ensures shorter { IfSome result.1 (λ rest. length rest.now < length text.now) }
 {
-    match place_of(text, at) {
+    match index_of(text, separator) {
         None => (text, None),
         Some(i) => (&text[..i], Some(&text[i + 1..])),
     }

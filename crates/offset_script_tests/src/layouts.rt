@@ -1,5 +1,5 @@
-//! The answers and replies that each layout has to give. The layouts are named here alone, for scripts and
-//! for calls: the proof of a call takes seconds for each of them.
+//! The answers and replies that a layout has to give: two of the library's, and one of the tests. The layouts
+//! are named here alone, for scripts and for calls: the proof of a call takes seconds for each of them.
 
 use crate::calls::{List, expect_replies};
 use crate::long_lists::expect_long;
@@ -38,13 +38,13 @@ fn limit_of(trial: Trial<'_>) -> u32 {
     }
 }
 
-// Expects the same of the library's two layouts with one index type.
+// Expects the same of two of the library's layouts with one index type.
 fn expect_of_both<NI: NodeIndex>(rt: &impl Abort, alloc: Global, trial: Trial<'_>) {
     expect_of::<ByNode<NI>>(rt, alloc, trial);
     expect_of::<ByField<NI>>(rt, alloc, trial);
 }
 
-/// Expects the same of each layout: of the library's two with both index types, and with a third
+/// Expects the same of each layout: of two of the library's with both index types, and with a third
 /// where it admits the limit, and of one more layout.
 pub fn expect_of_each(rt: &impl Abort, alloc: Global, trial: Trial<'_>) {
     expect_of_both::<u32>(rt, alloc, trial);

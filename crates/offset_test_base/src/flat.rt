@@ -1,4 +1,4 @@
-//! A third lawful layout: all cells are numbers of one vector.
+//! A fourth lawful layout: all cells are numbers of one vector.
 
 ghost use Rattle.std.specs.Prelude.{◌≡◌, ◌+◌, ◌*◌, ◌<◌, ◌≤◌, length, slice_index, slice_set, IfOk};
 ghost use Rattle.offset_allocator.specs.Cells.{AreEmpty, mark_of, node, put};

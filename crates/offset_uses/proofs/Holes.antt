@@ -5,9 +5,9 @@ use Rattle.std.proofs.Common.{if◌then◌else◌, refl, ap, ◌∙◌, arith}
 use Rattle.std.proofs.lemmas.Bool.Decides.{eqb_tells}
 use Rattle.std.proofs.lemmas.List.{reverse-append}
 use Rattle.offset_allocator.specs.Classes.{down}
-use Rattle.offset_allocator.specs.View.{Block, Grant, View, free_sizes}
+use Rattle.offset_allocator.specs.View.{Block, Handle, View, free_sizes}
 use Rattle.offset_allocator.proofs.Classes.{down_small}
-use Rattle.offset_allocator.specs.Reports.{count_of}
+use Rattle.offset_allocator.specs.FreeSizes.{count_of}
 use Rattle.offset_allocator.specs.Listing.{Placed, placed, placed_at, listing}
 
 -- a test as a count
@@ -20,7 +20,7 @@ class_hole k c = one_if (nat_eq k c)
 
 -- whether a block is a free block of class c
 abbrev pub hole : ℕ → Placed → ℕ
-hole c p = if is_some {T = Grant} p.grant then 0 else class_hole (down p.size) c
+hole c p = if is_some {T = Handle} p.handle then 0 else class_hole (down p.size) c
 
 -- how many of the blocks are
 abbrev pub holes : ℕ → List Placed → ℕ
@@ -59,12 +59,12 @@ count_most c (b ∷ bs) =
     [ true ↦ omega (arith, ih) | false ↦ omega (arith, ih, one_hole (nat_eq (down b.size) c)) ]
 
 -- one free block more is counted
-pub counted_hole : (ns : List ℕ) (p : Placed) (ps : List Placed) (k : ℕ) (total : ℕ → ℕ) → length ns ≡ 256 → k ≡ down p.size → is_some {T = Grant} p.grant ≡ false
+pub counted_hole : (ns : List ℕ) (p : Placed) (ps : List Placed) (k : ℕ) (total : ℕ → ℕ) → length ns ≡ 256 → k ≡ down p.size → is_some {T = Handle} p.handle ≡ false
     → ((c : ℕ) → c < 256 → slice_index ns c + holes c (p ∷ ps) ≡ total c)
     → (c : ℕ) → c < 256 → slice_index (slice_set ns k (slice_index ns k + 1)) c + holes c ps ≡ total c
 counted_hole ns p ps k total len e none so_far c l = search (arith, eqb_tells, length, slice_index, slice_set, get_or-set_same, get_or-set_other)
 
 -- so that count is at most the total
-pub hole_fits : (ns : List ℕ) (p : Placed) (ps : List Placed) (k : ℕ) (total : ℕ → ℕ) → length ns ≡ 256 → k ≡ down p.size → is_some {T = Grant} p.grant ≡ false
+pub hole_fits : (ns : List ℕ) (p : Placed) (ps : List Placed) (k : ℕ) (total : ℕ → ℕ) → length ns ≡ 256 → k ≡ down p.size → is_some {T = Handle} p.handle ≡ false
     → ((c : ℕ) → c < 256 → slice_index ns c + holes c (p ∷ ps) ≡ total c) → slice_index ns k + 1 ≤ total k
 hole_fits ns p ps k total len e none so_far = search (arith, down_small, length, counted_hole, get_or-set_same, slice_index)

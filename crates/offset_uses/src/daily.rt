@@ -5,7 +5,7 @@ ghost use Rattle.std.specs.Prelude.{ℕ, ◌≡◌, ◌≢◌, ◌↔◌, ◌⊎
 ghost use Rattle.std.specs.Prelude.{not, min};
 ghost use Rattle.std.specs.Prelude.{IfSome, IfOk, IfErr, IsOk, IsSome, IsTrue, length};
 ghost use Rattle.std.specs.Int.{is_power_of_two};
-ghost use Rattle.offset_allocator.specs.View.{used_units, largest_free};
+ghost use Rattle.offset_allocator.specs.View.{used_units, reported_largest};
 ghost use Rattle.offset_allocator.specs.Ranges.{Range, range_of, size_of, KeepsAll, KeepsOthers, IsLive};
 ghost use Rattle.offset_allocator.specs.Relations.{Aligns, Allocates, Frees, SameSpace, Resets};
 ghost use Rattle.offset_allocator.specs.Requests.{CanGrant, IsWhy};
@@ -32,8 +32,8 @@ pub fn insert<T: Tables>(
     ensures refused { result ≡ None
         → KeepsAll vertices.old vertices.new × KeepsAll indices.old indices.new }
     ensures granted { 1 ≤ vertex_count → 1 ≤ index_count
-        → (IsSome result ↔ ((vertex_count ≤ largest_free vertices.old)
-        × (index_count ≤ largest_free indices.old))) }
+        → (IsSome result ↔ ((vertex_count ≤ reported_largest vertices.old)
+        × (index_count ≤ reported_largest indices.old))) }
     ensures can_grant { IsSome result
         ↔ (CanGrant 1 vertex_count vertices.old × CanGrant 1 index_count indices.old) }
     ensures sizes { (vertices.new.size ≡ vertices.old.size) × (indices.new.size ≡ indices.old.size) }

@@ -4,7 +4,7 @@ ghost use Rattle.std.specs.Prelude.{ℕ, ◌≡◌, ◌≢◌, ◌↔◌, ◌⊎
 ghost use Rattle.std.specs.Prelude.{IfSome};
 ghost use Rattle.std.specs.Prelude.{IsSome, IsTrue, length, slice_index_or};
 ghost use Rattle.std.specs.Int.{is_power_of_two};
-ghost use Rattle.offset_allocator.specs.View.{View, Grant, largest_free};
+ghost use Rattle.offset_allocator.specs.View.{View, Handle, reported_largest};
 ghost use Rattle.offset_allocator.specs.Ranges.{IsLive, KeepsAll, KeepsOthers};
 ghost use Rattle.offset_allocator.specs.Relations.{Aligns, Allocates, Frees};
 ghost use Rattle.offset_uses.specs.Grants.{IsGrantOf};
@@ -25,7 +25,7 @@ pub fn upload_units<T: Tables>(
     ensures first { IfSome result (λ r. r.1 ≡ 256 * r.0.offset) }
     ensures range { IfSome result (λ r. IsGrantOf ((bytes + 255) / 256) r.0 heap.new) }
     ensures others { IfSome result (λ r. KeepsOthers r.0.name heap.old heap.new) }
-    ensures granted { 1 ≤ bytes → (IsSome result ↔ ((bytes + 255) / 256 ≤ largest_free heap.old)) }
+    ensures granted { 1 ≤ bytes → (IsSome result ↔ ((bytes + 255) / 256 ≤ reported_largest heap.old)) }
     ensures refused { result ≡ None → KeepsAll heap.old heap.new }
 {
     let units = ((u64::from(bytes) + 255) / 256) as u32;
@@ -55,7 +55,7 @@ pub fn upload_both<T: Tables>(
     ensures refused { result ≡ None
         → IsTrue (is_power_of_two align) → IsTrue (is_power_of_two other_align)
         → ((v : View) × Aligns size align heap.old v None)
-        ⊎ ((v w : View) × (g : Grant) × Aligns size align heap.old v (Some g)
+        ⊎ ((v w : View) × (g : Handle) × Aligns size align heap.old v (Some g)
         × Aligns other_size other_align v w None) }
     ensures kept { result ≡ None → KeepsAll heap.old heap.new }
 {

@@ -4,7 +4,7 @@
 ghost use Rattle.std.specs.Prelude.{◌≡◌, ◌≢◌, ◌↔◌, ◌⊎◌, true, false, ◌+◌, ◌<◌, ◌≤◌, ◌%◌, Some, None, IfSome};
 ghost use Rattle.std.specs.Prelude.{IsSome};
 ghost use Rattle.std.specs.Prelude.{IsTrue, IfOk, MatchOption, All, map, min, length};
-ghost use Rattle.offset_allocator.specs.View.{View, Grant, largest_free, total_free};
+ghost use Rattle.offset_allocator.specs.View.{View, Handle, reported_largest, reported_free};
 ghost use Rattle.offset_allocator.specs.Ranges.{Range, AreDisjoint, IsLive, KeepsOthers, KeepsRanges};
 ghost use Rattle.offset_allocator.specs.Ranges.{range_of};
 ghost use Rattle.offset_allocator.specs.Ranges.{size_of};
@@ -46,7 +46,7 @@ pub fn place_mesh<T: Tables>(
     ensures placed { IfSome result (λ hulls. (w : View)
         × Allocates outer vertices.old w (Some hulls.0) × Allocates inner w vertices.new (Some hulls.1)) }
     ensures refused { result ≡ None → ((w : View) × Allocates outer vertices.old w None)
-        ⊎ ((v w : View) × (g : Grant) × Allocates outer vertices.old v (Some g) × Allocates inner v w None) }
+        ⊎ ((v w : View) × (g : Handle) × Allocates outer vertices.old v (Some g) × Allocates inner v w None) }
 {
     laws::is_well_formed(vertices);
     let one = vertices.allocate(outer)?;
@@ -81,7 +81,7 @@ pub fn are_apart<T: Tables>(
 /// It returns the handle; it cannot fail.
 pub fn place_promised<T: Tables>(vertices: &mut AllocatorOf<T>, n: u32) -> Allocation<T::Index>
     requires some { 1 ≤ n }
-    requires promised { n ≤ largest_free vertices.old }
+    requires promised { n ≤ reported_largest vertices.old }
     ensures step { Allocates n vertices.old vertices.new (Some result) }
     ensures live { IsLive result.name vertices.new }
     ensures range { IsGrantOf n result vertices.new }
@@ -100,8 +100,8 @@ pub fn place_what_fits<T: Tables>(
 ) -> Option<(Allocation<T::Index>, u32)>
     requires some { 1 ≤ n }
     ensures range { IfSome result (λ got. IsGrantOf got.1 got.0 vertices.new) }
-    ensures most { IfSome result (λ got. got.1 ≡ min n (largest_free vertices.old)) }
-    ensures some { IsSome result ↔ (1 ≤ largest_free vertices.old) }
+    ensures most { IfSome result (λ got. got.1 ≡ min n (reported_largest vertices.old)) }
+    ensures some { IsSome result ↔ (1 ≤ reported_largest vertices.old) }
     ensures step { MatchOption result (SameSpace vertices.old vertices.new)
         (λ got. Allocates got.1 vertices.old vertices.new (Some got.0)) }
     ensures kept { KeepsRanges vertices.old vertices.new }
@@ -124,9 +124,9 @@ pub fn allocate_or_grow<T: Tables>(
     more: u32,
 ) -> Option<Allocation<T::Index>>
     ensures range { IfSome result (λ h. IsGrantOf n h space.new) }
-    ensures at_once { 1 ≤ n → n ≤ largest_free space.old
+    ensures at_once { 1 ≤ n → n ≤ reported_largest space.old
         → IsSome result × Allocates n space.old space.new result }
-    ensures refused { 1 ≤ n → result ≡ None → largest_free space.new < n }
+    ensures refused { 1 ≤ n → result ≡ None → reported_largest space.new < n }
     ensures step { (IsSome result × Allocates n space.old space.new result)
         ⊎ ((v w : View) × Allocates n space.old v None × Extends more v w true
         × Allocates n w space.new result)
@@ -151,7 +151,7 @@ pub fn place_uniforms<T: Tables>(heap: &mut AllocatorOf<T>, n: u32) -> Option<Al
     ensures step { Aligns n 256 heap.old heap.new result }
     ensures aligned { IfSome result (λ h. h.offset % 256 ≡ 0) }
     ensures granted { IsSome result
-        ↔ ((length heap.old.blocks + 2 < heap.old.max_allocs) × (n + 255 ≤ largest_free heap.old)) }
+        ↔ ((length heap.old.blocks + 2 < heap.old.max_allocs) × (n + 255 ≤ reported_largest heap.old)) }
     ensures range { IfSome result (λ h. IsGrantOf n h heap.new) }
     ensures kept { KeepsRanges heap.old heap.new }
 {
@@ -184,7 +184,7 @@ pub fn charge<T: Tables>(
     ensures charged { IfSome result (λ _. tenant.new.held ≡ tenant.old.held + n) }
     ensures refused { result ≡ None → tenant.new ≡ tenant.old }
     ensures granted { 1 ≤ n → tenant.old.held + n ≤ tenant.old.quota
-        → (IsSome result ↔ (n ≤ largest_free space.old)) }
+        → (IsSome result ↔ (n ≤ reported_largest space.old)) }
     ensures can_grant { IsSome result
         ↔ ((tenant.old.held + n ≤ tenant.old.quota) × CanGrant 1 n space.old) }
     ensures range { IfSome result (λ h. IsGrantOf n h space.new) }
@@ -224,10 +224,10 @@ pub fn refund<T: Tables>(
 /// at most 8 for the report, which `count` counts; where it is granted at least 16, and at least 1 where
 /// units are left.
 pub fn frame<T: Tables>(space: &mut AllocatorOf<T>, n: u32, count: &mut Accesses) -> Option<u32>
-    ensures granted { 1 ≤ n → (IsSome result ↔ (n ≤ largest_free space.old)) }
+    ensures granted { 1 ≤ n → (IsSome result ↔ (n ≤ reported_largest space.old)) }
     ensures can_grant { IsSome result ↔ CanGrant 1 n space.old }
-    ensures beside { IfSome result (λ left. (w : View) × (g : Grant) × Allocates n space.old w (Some g)
-        × (left ≡ total_free w) × (1 ≤ largest_free w → count.old + 1 ≤ count.new)) }
+    ensures beside { IfSome result (λ left. (w : View) × (g : Handle) × Allocates n space.old w (Some g)
+        × (left ≡ reported_free w) × (1 ≤ reported_largest w → count.old + 1 ≤ count.new)) }
     ensures same { SameSpace space.old space.new }
     ensures accesses_kept { space.old.accesses ≤ space.new.accesses }
     ensures accesses_min { IsSome result → space.old.accesses + 16 ≤ space.new.accesses }

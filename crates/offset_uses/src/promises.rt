@@ -6,10 +6,11 @@ ghost use Rattle.offset_allocator.specs.Classes.{down, up, value};
 ghost use Rattle.offset_allocator.specs.Compacting.{Compacts, IsCalledWith, KeepsSizes, live, moves};
 ghost use Rattle.offset_allocator.specs.Ranges.{Grants, IsLive, KeepsAll, KeepsOthers, range_of, size_of};
 ghost use Rattle.offset_allocator.specs.Relations.{Aligns, Allocates, CanExtend, Extends, Frees};
-ghost use Rattle.offset_allocator.specs.Relations.{IsAlignment, IsFresh, IsSplitNearBest, Resets};
+ghost use Rattle.offset_allocator.specs.Relations.{IsFresh, Resets};
+ghost use Rattle.offset_allocator.specs.Requests.{IsAlignment, IsSplitNearBest};
 ghost use Rattle.offset_allocator.specs.Relations.{SameSpace};
 ghost use Rattle.offset_allocator.specs.Relocating.{Relocates, offset_of};
-ghost use Rattle.offset_allocator.specs.Reports.{IsGoodRefusal};
+ghost use Rattle.offset_allocator.specs.Requests.{IsGoodRefusal};
 ghost use Rattle.offset_allocator.specs.Requests.{CanGrant, HasRoomFor, blocks_needed, units_needed};
 ghost use Rattle.offset_allocator.specs.Resizing.{CanGrow, CanShrink, Grows, HasUnits, Shrinks};
 ghost use Rattle.offset_allocator.specs.Retracting.{CanRetract, Retracts};
@@ -17,7 +18,7 @@ ghost use Rattle.offset_allocator.specs.Room.{IsLeastCost, MakesRoom, ranges_of}
 ghost use Rattle.offset_allocator.specs.State.{IsNoState, IsRestored};
 ghost use Rattle.offset_allocator.specs.Statistics.{greatest};
 ghost use Rattle.offset_allocator.specs.Tight.{AlignsTight, CanHold, listed_from};
-ghost use Rattle.offset_allocator.specs.View.{bin_at, free_sizes, largest_free, used_of};
+ghost use Rattle.offset_allocator.specs.View.{bin_at, free_sizes, reported_largest, used_of};
 ghost use Rattle.std.specs.List.{FoldsTo};
 ghost use Rattle.std.specs.Prelude.{◌%◌, ◌*◌, ◌+◌, ◌-◌, ◌/◌, ◌<◌, ◌↔◌, ◌≡◌, ◌≢◌, ◌≤◌, IfOk, IfSome, IsSome};
 ghost use Rattle.std.specs.Prelude.{IsTrue, None, [], false, length, min, true, ℕ, IsErr};
@@ -70,7 +71,7 @@ pub fn reset<T: Tables>(space: &mut AllocatorOf<T>)
 
 /// `allocate`, with each clause of its contract.
 pub fn allocate<T: Tables>(space: &mut AllocatorOf<T>, size: u32) -> Option<Allocation<T::Index>>
-    ensures granted { 1 ≤ size → (IsSome result ↔ (size ≤ largest_free space.old)) }
+    ensures granted { 1 ≤ size → (IsSome result ↔ (size ≤ reported_largest space.old)) }
     ensures can_grant { IsSome result ↔ CanGrant 1 size space.old }
     ensures grants { IfSome result (Grants size space.old space.new) }
     ensures same { result ≡ None → SameSpace space.old space.new }
@@ -95,7 +96,7 @@ pub fn allocate_tight<T: Tables>(
     ensures plain { CanGrant 1 size space.old → Allocates size space.old space.new result }
     ensures grants { IfSome result (Grants size space.old space.new) }
     ensures same { result ≡ None → SameSpace space.old space.new }
-    ensures accesses { Costs 0 (140 + 6 * length (bin_at space.old.order (down size)))
+    ensures accesses { Costs 0 (140 + 6 * length (bin_at space.old.bins (down size)))
         space.old.accesses space.new.accesses }
     ensures accesses_min { IsSome result → space.old.accesses + 7 ≤ space.new.accesses }
     ensures step { AlignsTight size 1 space.old space.new result }
@@ -116,7 +117,7 @@ pub fn allocate_tight_aligned<T: Tables>(
     ensures grants { IfSome result (Grants size space.old space.new) }
     ensures aligned { IfSome result (λ h. h.offset % align ≡ 0) }
     ensures same { result ≡ None → SameSpace space.old space.new }
-    ensures accesses { Costs 0 (140 + 6 * length (listed_from (down size) space.old.order))
+    ensures accesses { Costs 0 (140 + 6 * length (listed_from (down size) space.old.bins))
         space.old.accesses space.new.accesses }
     ensures accesses_min { IsSome result → space.old.accesses + 7 ≤ space.new.accesses }
     ensures step { AlignsTight size align space.old space.new result }
@@ -143,7 +144,8 @@ pub fn allocate_aligned<T: Tables>(
 ) -> Option<Allocation<T::Index>>
     requires power { IsAlignment align }
     ensures granted { 1 ≤ units_needed size align → (IsSome result
-        ↔ (HasRoomFor (blocks_needed align) space.old × (units_needed size align ≤ largest_free space.old))) }
+        ↔ (HasRoomFor (blocks_needed align) space.old
+        × (units_needed size align ≤ reported_largest space.old))) }
     ensures can_grant { IsSome result ↔ CanGrant (blocks_needed align) (units_needed size align) space.old }
     ensures grants { IfSome result (Grants size space.old space.new) }
     ensures aligned { IfSome result (λ h. h.offset % align ≡ 0) }

@@ -5,8 +5,10 @@ ghost use Rattle.offset_allocator.specs.Beside.{first_live, last_live, live_afte
 ghost use Rattle.offset_allocator.specs.Classes.{up, value};
 ghost use Rattle.offset_allocator.specs.Listing.{listing};
 ghost use Rattle.offset_allocator.specs.Ranges.{IsLive, Range, range_of, size_of};
-ghost use Rattle.offset_allocator.specs.Relations.{IsAlignment, IsCopy};
-ghost use Rattle.offset_allocator.specs.Requests.{CanGrant, IsFullReport, IsReport, IsWhy, blocks_needed};
+ghost use Rattle.offset_allocator.specs.Relations.{IsCopy};
+ghost use Rattle.offset_allocator.specs.Requests.{IsAlignment};
+ghost use Rattle.offset_allocator.specs.Reports.{IsFullReport, IsReport};
+ghost use Rattle.offset_allocator.specs.Requests.{CanGrant, IsWhy, blocks_needed};
 ghost use Rattle.offset_allocator.specs.Requests.{units_needed};
 ghost use Rattle.offset_allocator.specs.Room.{IsLeastCost};
 ghost use Rattle.offset_allocator.specs.State.{IsStateOf};

@@ -9,7 +9,8 @@ ghost use Rattle.std.specs.Prelude.{true};
 ghost use Rattle.offset_allocator.specs.Beside.{first_live, last_live, live_after, live_before};
 ghost use Rattle.offset_allocator.specs.Compacting.{Compacts, IsCalledWith, moves};
 ghost use Rattle.offset_allocator.specs.Ranges.{Range, size_of};
-ghost use Rattle.offset_allocator.specs.Relations.{Aligns, Allocates, CanExtend, Extends, Frees, IsAlignment};
+ghost use Rattle.offset_allocator.specs.Relations.{Aligns, Allocates, CanExtend, Extends, Frees};
+ghost use Rattle.offset_allocator.specs.Requests.{IsAlignment};
 ghost use Rattle.offset_allocator.specs.Relations.{IsFresh, Resets};
 ghost use Rattle.offset_allocator.specs.Relocating.{Relocates, offset_of};
 ghost use Rattle.offset_allocator.specs.Requests.{CanGrant, blocks_needed, units_needed};
@@ -18,10 +19,10 @@ ghost use Rattle.offset_allocator.specs.Retracting.{CanRetract, Retracts};
 ghost use Rattle.offset_allocator.specs.Classes.{down, up, value};
 ghost use Rattle.offset_allocator.specs.Room.{IsLeastCost, MakesRoom, ranges_of};
 ghost use Rattle.offset_allocator.specs.Tight.{AlignsTight, CanHold, listed_from};
-ghost use Rattle.offset_allocator.specs.View.{Grant, bin_at, largest_free, used_of};
+ghost use Rattle.offset_allocator.specs.View.{Handle, bin_at, reported_largest, used_of};
 ghost use Rattle.offset_guarded.specs.Guard.{Grants, HasSerialLeft, HasUnits, IsCopy, IsLive, IsSame, IsWhy};
 ghost use Rattle.offset_guarded.specs.Guard.{IsWhyTight, KeepsAll, KeepsLive, KeepsOthers, KeepsSerials};
-ghost use Rattle.offset_guarded.specs.Guard.{KeepsSizes, grant_of, last_serial, range_of, serial_of};
+ghost use Rattle.offset_guarded.specs.Guard.{KeepsSizes, handle_in, last_serial, range_of, serial_of};
 ghost use Rattle.offset_guarded.specs.Guard.{ticket_at};
 ghost use Rattle.offset_guarded.specs.State.{IsNoState, IsRestored, IsStateOf, IsWellFormed};
 ghost use Rattle.offset_allocator.specs.Ranges as named;
@@ -182,12 +183,12 @@ pub fn reset<T: Tables>(space: &mut GuardedOf<T>)
 /// `allocate`, with each clause of its contract.
 pub fn allocate<T: Tables>(space: &mut GuardedOf<T>, size: u32) -> Option<Ticket>
     ensures granted { 1 ≤ size
-        → (IsSome result ↔ (HasSerialLeft space.old × (size ≤ largest_free space.old.space))) }
+        → (IsSome result ↔ (HasSerialLeft space.old × (size ≤ reported_largest space.old.space))) }
     ensures can_grant { IsSome result ↔ (HasSerialLeft space.old × CanGrant 1 size space.old.space) }
     ensures grants { IfSome result (Grants size space.old space.new) }
     ensures same { result ≡ None → IsSame space.old space.new }
     ensures step { HasSerialLeft space.old
-        → Allocates size space.old.space space.new.space (option_map grant_of result) }
+        → Allocates size space.old.space space.new.space (option_map handle_in result) }
     ensures accesses_max { space.new.space.accesses ≤ space.old.space.accesses + 64 }
 {
     space.allocate(size)
@@ -206,7 +207,7 @@ pub fn allocate_aligned<T: Tables>(
     ensures aligned { IfSome result (λ t. t.offset % align ≡ 0) }
     ensures same { result ≡ None → IsSame space.old space.new }
     ensures step { HasSerialLeft space.old
-        → Aligns size align space.old.space space.new.space (option_map grant_of result) }
+        → Aligns size align space.old.space space.new.space (option_map handle_in result) }
     ensures accesses_max { space.new.space.accesses ≤ space.old.space.accesses + 128 }
 {
     space.allocate_aligned(size, align)
@@ -236,9 +237,9 @@ pub fn allocate_tight<T: Tables>(space: &mut GuardedOf<T>, size: u32) -> Option<
     ensures grants { IfSome result (Grants size space.old space.new) }
     ensures same { result ≡ None → IsSame space.old space.new }
     ensures step { HasSerialLeft space.old
-        → AlignsTight size 1 space.old.space space.new.space (option_map grant_of result) }
+        → AlignsTight size 1 space.old.space space.new.space (option_map handle_in result) }
     ensures accesses_max { space.new.space.accesses
-        ≤ space.old.space.accesses + 140 + 6 * length (bin_at space.old.space.order (down size)) }
+        ≤ space.old.space.accesses + 140 + 6 * length (bin_at space.old.space.bins (down size)) }
 {
     space.allocate_tight(size)
 }
@@ -255,9 +256,9 @@ pub fn allocate_tight_aligned<T: Tables>(
     ensures aligned { IfSome result (λ t. t.offset % align ≡ 0) }
     ensures same { result ≡ None → IsSame space.old space.new }
     ensures step { HasSerialLeft space.old
-        → AlignsTight size align space.old.space space.new.space (option_map grant_of result) }
+        → AlignsTight size align space.old.space space.new.space (option_map handle_in result) }
     ensures accesses_max { space.new.space.accesses
-        ≤ space.old.space.accesses + 140 + 6 * length (listed_from (down size) space.old.space.order) }
+        ≤ space.old.space.accesses + 140 + 6 * length (listed_from (down size) space.old.space.bins) }
 {
     space.allocate_tight_aligned(size, align)
 }
@@ -336,7 +337,7 @@ pub fn relocate<T: Tables>(space: &mut GuardedOf<T>, ticket: Ticket) -> Option<T
         ≤ offset_of ticket.name space.old.space) }
     ensures same { result ≡ None → IsSame space.old space.new }
     ensures step { IsLive ticket space.old → HasSerialLeft space.old
-        → Relocates ticket.name space.old.space space.new.space (option_map grant_of result) }
+        → Relocates ticket.name space.old.space space.new.space (option_map handle_in result) }
     ensures accesses_max { space.new.space.accesses ≤ space.old.space.accesses + 80 }
 {
     space.relocate(ticket)
@@ -344,14 +345,14 @@ pub fn relocate<T: Tables>(space: &mut GuardedOf<T>, ticket: Ticket) -> Option<T
 
 /// `first_live`, with each clause of its contract.
 pub fn first_live<T: Tables>(space: &GuardedOf<T>) -> Option<Ticket>
-    ensures { result ≡ option_map (λ (h : Grant). ticket_at h space.now) (first_live space.now.space) }
+    ensures { result ≡ option_map (λ (h : Handle). ticket_at h space.now) (first_live space.now.space) }
 {
     space.first_live()
 }
 
 /// `last_live`, with each clause of its contract.
 pub fn last_live<T: Tables>(space: &GuardedOf<T>) -> Option<Ticket>
-    ensures { result ≡ option_map (λ (h : Grant). ticket_at h space.now) (last_live space.now.space) }
+    ensures { result ≡ option_map (λ (h : Handle). ticket_at h space.now) (last_live space.now.space) }
 {
     space.last_live()
 }
@@ -359,7 +360,7 @@ pub fn last_live<T: Tables>(space: &GuardedOf<T>) -> Option<Ticket>
 /// `live_before`, with each clause of its contract.
 pub fn live_before<T: Tables>(space: &GuardedOf<T>, ticket: Ticket) -> Option<Ticket>
     ensures before { IsLive ticket space.now → result
-        ≡ option_map (λ (h : Grant). ticket_at h space.now) (live_before ticket.name space.now.space) }
+        ≡ option_map (λ (h : Handle). ticket_at h space.now) (live_before ticket.name space.now.space) }
     ensures gone { (IsLive ticket space.now → ⊥) → result ≡ None }
 {
     space.live_before(ticket)
@@ -368,7 +369,7 @@ pub fn live_before<T: Tables>(space: &GuardedOf<T>, ticket: Ticket) -> Option<Ti
 /// `live_after`, with each clause of its contract.
 pub fn live_after<T: Tables>(space: &GuardedOf<T>, ticket: Ticket) -> Option<Ticket>
     ensures after { IsLive ticket space.now → result
-        ≡ option_map (λ (h : Grant). ticket_at h space.now) (live_after ticket.name space.now.space) }
+        ≡ option_map (λ (h : Handle). ticket_at h space.now) (live_after ticket.name space.now.space) }
     ensures gone { (IsLive ticket space.now → ⊥) → result ≡ None }
 {
     space.live_after(ticket)

@@ -3,7 +3,7 @@
 ghost use Rattle.std.specs.Prelude.{◌≡◌, ◌<◌, ◌++◌, ℕ, IfOk, OnOk, slice_index, string_bytes};
 ghost use Rattle.std.specs.List.{flat_map};
 ghost use Rattle.offset_allocator.specs.View.{free_sizes};
-ghost use Rattle.offset_allocator.specs.Reports.{count_of};
+ghost use Rattle.offset_allocator.specs.FreeSizes.{count_of};
 ghost use Rattle.offset_allocator.specs.Listing.{as_placed, listing};
 ghost use Rattle.offset_uses.specs.Walking.{block_line};
 

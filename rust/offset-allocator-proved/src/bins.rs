@@ -1,7 +1,8 @@
 // Printed by rust/erase from crates/offset_allocator/src/bins.rt: change it there.
 
 //! A bin for each size class: the names of its free blocks, in a list of links between the nodes, with a
-//! two-level mask. It touches the links of the bins, and leaves the chain as it is.
+//! two-level mask. It touches these links, the heads of the bins and the masks, and leaves the chain as it
+//! is.
 
 use crate::accesses::Accesses;
 use crate::index::{NodeIndex, link_to, no_link, number};
@@ -42,17 +43,17 @@ pub(crate) fn masks<T: Tables>(tables: &T, count: &mut Accesses) -> [u64; 4] {
 
 /// As `find_at_or_above`, where the caller has read the masks.
 #[inline(always)]
-pub(crate) fn next_filled(masks: &[u64; 4], top_mask: u32, class: u32) -> Option<u32> {
-    let place = class / 64;
-    let above = masks[place as usize] & (u64::MAX << (class % 64));
-    if above != 0 {
-        return Some(place * 64 + above.trailing_zeros());
+pub(crate) fn find_in_masks(masks: &[u64; 4], top_mask: u32, class: u32) -> Option<u32> {
+    let word = class / 64;
+    let rest = masks[word as usize] & (u64::MAX << (class % 64));
+    if rest != 0 {
+        return Some(word * 64 + rest.trailing_zeros());
     }
-    let others = top_mask & (u32::MAX << (place + 1));
-    if others == 0 {
+    let words = top_mask & (u32::MAX << (word + 1));
+    if words == 0 {
         return None;
     }
-    let found = others.trailing_zeros();
+    let found = words.trailing_zeros();
     Some(found * 64 + masks[found as usize].trailing_zeros())
 }
 

@@ -1,7 +1,7 @@
 // Printed by rust/erase from crates/offset_allocator/src/by_node.rt: change it there.
 
-//! The layout with one table of nodes: the fields of a node are in one cache line. It alone touches the cells
-//! of these tables.
+//! The layout with one table of nodes: the fields of a node are in one cache line or two. It alone touches
+//! the cells of these tables.
 
 use crate::memory::Vec;
 use crate::accesses::Accesses;
@@ -11,8 +11,8 @@ use crate::tables::Tables;
 use crate::memory::{AllocError, Global};
 
 /// A block's offset and size, the links to its neighbours in space, and the links to the next nodes of its
-/// bin. A link is the number of a node, or the largest number of its type, which names none. A used block is
-/// in no bin: its link to a newer node is the number below the largest, which names none either.
+/// bin. A link is the name of a node, or the largest number of its type, which is no link. A used block is
+/// in no bin: its link to a newer node is the number below the largest, which is no name either.
 #[derive(Clone, Copy)]
 pub(crate) struct Node<NI> {
     pub(crate) offset: u32,

@@ -1,7 +1,7 @@
 // Printed by rust/erase from crates/offset_allocator/src/chain.rt: change it there.
 
 //! The blocks of the space, linked in space order, and the stack of unused names. It touches these alone, and
-//! leaves the bins as they are.
+//! leaves the lists in the bins as they are: one cell says of a node in no bin whether its block is used.
 
 use crate::accesses::Accesses;
 use crate::index::{link_to, linked, no_link, number};

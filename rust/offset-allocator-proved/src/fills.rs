@@ -1,6 +1,6 @@
 // Printed by rust/erase from crates/offset_allocator/src/fills.rt: change it there.
 
-//! Requests the memory of tables, and fills it within its bounds.
+//! Requests the memory of tables, and fills it within its bounds. It touches the vectors that it is given.
 
 use crate::memory::Vec;
 use crate::index::NodeIndex;

@@ -6,9 +6,9 @@
 //! A *block* is a run of units, used or free; no two free blocks are neighbours. Each block has a *node* of
 //! the tables, whose index is the block's *name*; the range of a used block, and its name, are *live*. A
 //! *size class* is a range of sizes, and its *bin* the list of the free blocks of that class, the newest
-//! first, which is the one that last became free or changed its size. A range has the name of the free block
-//! that it was granted from, and leaves it to the block that `free` makes; which unused name a new free block
-//! has otherwise is left open.
+//! first, which is the one that last became free or changed its size. A range takes over the name of the
+//! free block that it is cut from, and what remains of that block gets an unused name, which one is left
+//! open. Where the range is freed, the coalesced block keeps the range's name.
 //!
 //! ```
 //! use offset_allocator_proved::*;
@@ -265,8 +265,8 @@ impl<T: Tables> AllocatorOf<T> {
     }
 
     /// Whether `max_allocs - 1` blocks exist. Then every request is refused, and the short report is 0, 0,
-    /// until blocks coalesce (by `free`, `compact` or `reset`) or `grow_in_place` takes the whole of a free
-    /// block.
+    /// until blocks coalesce (by `free`, `compact`, `make_room` or `reset`), or `grow_in_place` or `retract`
+    /// takes the whole of a free block.
     ///
     /// ```
     /// # use offset_allocator_proved::*;
@@ -348,8 +348,8 @@ impl<T: Tables> AllocatorOf<T> {
         reports::is_live_counted(self, allocation, &mut Accesses::new())
     }
 
-    /// The units of the range that a live handle has: exactly those that `allocate`, `allocate_aligned`,
-    /// `shrink` or `grow_in_place` last gave it. It is 0 where the handle is not live, and for a live range
+    /// The units of the range that a live handle has: exactly those that its grant, `shrink` or
+    /// `grow_in_place` last gave it. It is 0 where the handle is not live, and for a live range
     /// of no units too. It makes at most 8 accesses to the tables.
     ///
     /// ```

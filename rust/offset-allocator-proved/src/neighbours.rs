@@ -1,7 +1,7 @@
 // Printed by rust/erase from crates/offset_allocator/src/neighbours.rt: change it there.
 
 //! A block and its neighbours: it is coalesced with the free ones, divided or resized, by `chain` and `bins`
-//! together.
+//! together; of the tables it reads sizes and offsets itself.
 
 use crate::accesses::Accesses;
 use crate::small_float::uint_to_float_round_down;
@@ -117,12 +117,12 @@ fn split_remainder<T: Tables>(
     rest
 }
 
-/// The units of a block that is split: of the padding, of the grant, and those that are left.
+/// The units of a block that is split: of the padding, of the grant, and of the remainder.
 #[derive(Clone, Copy)]
 pub(crate) struct Parts {
     pub(crate) padding: u32,
     pub(crate) size: u32,
-    pub(crate) left: u32,
+    pub(crate) remainder: u32,
 }
 
 /// Splits a block into a free padding, the granted units from `start` on, which are used and keep its name,
@@ -134,10 +134,10 @@ pub(crate) fn divide<T: Tables>(
     start: u32,
     parts: Parts,
 ) -> (u32, u32) {
-    let front = split_padding(store, name, parts.padding);
+    let padding_name = split_padding(store, name, parts.padding);
     chain::set_used(&mut store.tables, name, true, &mut store.accesses);
-    let rest = split_remainder(store, name, start, parts.size, parts.left);
-    (front, rest)
+    let remainder_name = split_remainder(store, name, start, parts.size, parts.remainder);
+    (padding_name, remainder_name)
 }
 
 /// Makes a block of `old_size` units one of `size` units, from the same offset on. What remains of it and of

@@ -1,7 +1,8 @@
 // Printed by rust/erase from crates/offset_allocator/src/steps.rt: change it there.
 
-//! The steps of the public calls, by `neighbours`, `chain` and `bins`. Each leaves an allocator whose blocks
-//! and bins agree.
+//! The steps of the public calls, by `store`, `neighbours`, `chain` and `bins`; offsets and sizes are read
+//! here too. Each leaves an allocator whose blocks and bins agree, and whose `free_total` is the sum of its
+//! free units.
 
 use crate::accesses::Accesses;
 use crate::handle::Allocation;
@@ -59,8 +60,8 @@ impl<T: Tables> AllocatorOf<T> {
         self.max_allocs - self.block_count()
     }
 
-    /// Whether the node limit admits this number of further blocks. The first test is mostly enough, and
-    /// costs less.
+    /// Whether the node limit admits this number of further blocks. The first test costs less, and is mostly
+    /// enough: at most `max_allocs` nodes are made, so it implies the second.
     #[inline(always)]
     pub(crate) fn has_room_for(&self, blocks: u32) -> bool {
         self.store.spare_count > blocks || self.names_left() > blocks
@@ -84,7 +85,7 @@ impl<T: Tables> AllocatorOf<T> {
         let parts = Parts {
             padding,
             size,
-            left: whole - (padding + size),
+            remainder: whole - (padding + size),
         };
         neighbours::divide(&mut self.store, name, start, parts);
         self.free_total -= size;

@@ -27,14 +27,15 @@ pub trait Tables: Sized {
     /// The number of nodes that were made.
     fn len(&self) -> u32;
 
-    /// Makes one more node, which is blank, and puts its name at a place of the stack of unused names.
+    /// Makes one more node, which is blank. Its name is a new last entry of the stack of unused names, and
+    /// becomes the one at a place of it.
     fn add(&mut self, place: u32, count: &mut Accesses);
 
     /// The tables have their lengths, and links say which nodes are used. A step of proofs, which does
     /// nothing.
     fn shape(&self);
 
-    /// The link to a node.
+    /// The link to a node: its name is below the largest number.
     fn link_to(&self, name: u32) -> Self::Index;
 
     /// The offset of a node.

@@ -1,4 +1,4 @@
-//! What `room_cost` returns and what `make_room` leaves, against a search over all runs of blocks in random spaces, on both
+//! What `room_cost` returns and what `make_room` leaves, against a search over all runs of blocks in random spaces, on all
 //! layouts.
 //!
 //! `SPACES=1000000 cargo test --release --test room` tries as many spaces.

@@ -5,15 +5,16 @@
 /// A tenth of a pixel. Lengths are in hundredths of a pixel.
 pub const TENTH: u32 = 10;
 
-/// An axis: the values from 0 to `most`, along `span` hundredths of a pixel from `start` on. A value beyond
-/// `most` lies at its end.
+/// An axis: the values from 0 to `most`, over `span` hundredths of a pixel. One that runs to the right has 0
+/// at its start; one that runs upwards has `most` there, since y counts down from the top of the picture. A
+/// value beyond `most` lies where `most` does.
 #[derive(Clone, Copy, PartialEq, Debug)]
 pub struct Axis {
-    /// The left end, or the upper one.
+    /// Where it starts: at its left end, or its upper one.
     pub start: u32,
     /// How long it is.
     pub span: u32,
-    /// The value at its end.
+    /// The largest value that it shows.
     pub most: u32,
 }
 

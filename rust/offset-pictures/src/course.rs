@@ -24,7 +24,7 @@ pub struct Course {
     pub max_allocs: u32,
     /// How many requests were granted.
     pub grants: usize,
-    /// The life of each grant, in the order of the calls.
+    /// The lives of the grants, in the order of the calls.
     pub lives: Vec<Life>,
     /// The report of each state.
     pub reports: Vec<StorageReport>,

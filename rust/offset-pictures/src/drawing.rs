@@ -1,6 +1,6 @@
 // Printed by rust/erase from crates/offset_pictures/src/drawing.rt: change it there.
 
-//! The picture of a script, from its parts in order. It only appends text.
+//! The picture of a script, which it plays, or of a course: its parts in order. It appends text.
 
 use crate::memory::String;
 use crate::course::{Course, course_of};
@@ -9,9 +9,9 @@ use crate::legend::{put_legend, put_notes};
 use crate::levels::levels_of;
 use crate::plots::{Plot, ranges_plot, reports_plot};
 use crate::reasons::put_reasons;
-use crate::rectangles::put_grants;
+use crate::rectangles::put_rectangles;
 use crate::refusing::Refused;
-use crate::step_lines::{places_of, put_line, put_marks};
+use crate::step_lines::{put_line, put_marks, xs_of};
 use crate::style::{OPENING, STYLE};
 use crate::titles::{put_escaped, put_heading};
 use offset_allocator::StorageReport;
@@ -19,13 +19,8 @@ use offset_script::Script;
 use crate::memory::{AllocError, Global};
 
 // The units that are not in the space yet, where the plot goes beyond it.
-fn put_beyond(
-    out: &mut String,
-    plot: &Plot,
-    course: &Course,
-    places: &[u32],
-) -> Result<(), AllocError> {
-    put_line(out, "out", plot, plot.units.start, &course.sizes, places)
+fn put_beyond(out: &mut String, plot: &Plot, course: &Course, xs: &[u32]) -> Result<(), AllocError> {
+    put_line(out, "out", plot, plot.units.start, &course.sizes, xs)
 }
 
 // The marks of refused calls below the plot, and their reasons; nothing where no call was refused.
@@ -51,13 +46,13 @@ fn put_reports(
     out: &mut String,
     plot: &Plot,
     course: &Course,
-    places: &[u32],
+    xs: &[u32],
 ) -> Result<(), AllocError> {
     let levels = levels_of(alloc, &course.reports)?;
     let base = plot.bottom();
-    put_line(out, "free", plot, base, &levels.free, places)?;
-    put_line(out, "joined", plot, base, &levels.joined, places)?;
-    put_line(out, "most", plot, base, &levels.most, places)
+    put_line(out, "free", plot, base, &levels.free, xs)?;
+    put_line(out, "joined", plot, base, &levels.joined, xs)?;
+    put_line(out, "most", plot, base, &levels.most, xs)
 }
 
 // What a picture holds after its heading.
@@ -65,16 +60,17 @@ fn body(alloc: Global, course: &Course) -> Result<String, AllocError> {
     let figures = figures_of(alloc, course)?;
     let ranges = ranges_plot(&figures);
     let reports = reports_plot(&figures);
-    // The axes of calls of both plots are the same.
-    let states = course.sizes.len().max(course.reports.len());
-    let places = places_of(alloc, &ranges.calls, states)?;
+    // The axes of calls of both plots are the same. A line has a value for each entry of its list: so this is
+    // the larger of the two numbers, and `states` of a course is the smaller.
+    let entries = course.sizes.len().max(course.reports.len());
+    let xs = xs_of(alloc, &ranges.calls, entries)?;
     let mut out = String::new(alloc);
     put_legend(&mut out, &figures, course.max_allocs, ranges.units.most)?;
-    put_beyond(&mut out, &ranges, course, &places)?;
+    put_beyond(&mut out, &ranges, course, &xs)?;
     ranges.put_axes(&mut out, 6, 12)?;
-    let merged = put_grants(alloc, &mut out, &ranges, &course.lives, figures.calls)?;
+    let merged = put_rectangles(alloc, &mut out, &ranges, &course.lives, figures.calls)?;
     put_refusals(&mut out, &ranges, &course.reports, &course.refused)?;
-    put_reports(alloc, &mut out, &reports, course, &places)?;
+    put_reports(alloc, &mut out, &reports, course, &xs)?;
     reports.put_axes(&mut out, 4, 12)?;
     put_notes(&mut out, merged)?;
     Ok(out)

@@ -1,6 +1,7 @@
 // Printed by rust/erase from crates/offset_pictures/src/figures.rt: change it there.
 
-//! What the legend counts, over all states of a course. It only reads the course.
+//! What the legend counts over all states of a course, and what the plots are scaled by. It only reads the
+//! course.
 
 use crate::memory::Vec;
 use crate::course::Course;
@@ -63,48 +64,45 @@ fn highest_of(lives: &[Life]) -> u32 {
     highest
 }
 
-// A number of grants, and how many units they have.
+// A number of lives, and how many units they have.
 #[derive(Clone, Copy)]
 pub struct Count {
-    grants: usize,
+    lives: usize,
     units: u128,
 }
 
-const NONE: Count = Count {
-    grants: 0,
-    units: 0,
-};
+const NONE: Count = Count { lives: 0, units: 0 };
 
 impl Count {
     fn add(&mut self, other: Count) {
-        self.grants += other.grants;
+        self.lives += other.lives;
         self.units += other.units;
     }
 }
 
-// Adds a grant of so many units to those of a call, if there is one.
+// Adds a life of so many units to those of a call, if there is one.
 fn add(counts: &mut Vec<Count>, call: usize, units: u32) {
     if call < counts.len() {
         let count = &mut counts[call];
-        count.grants += 1;
+        count.lives += 1;
         count.units += u128::from(units);
     }
 }
 
-// What each call grants.
-fn begun(alloc: Global, calls: usize, lives: &[Life]) -> Result<Vec<Count>, AllocError> {
+// The lives that each call begins: those of `begun[n]` are on from state n + 1.
+fn begun(alloc: Global, states: usize, lives: &[Life]) -> Result<Vec<Count>, AllocError> {
     let mut counts = Vec::new(alloc);
-    counts.resize(calls, NONE)?;
+    counts.resize(states, NONE)?;
     for life in lives {
         add(&mut counts, life.first, life.size);
     }
     Ok(counts)
 }
 
-// What each call ends.
-fn ended(alloc: Global, calls: usize, lives: &[Life]) -> Result<Vec<Count>, AllocError> {
+// The lives that each call ends: those of `ended[n]` are on to state n.
+fn ended(alloc: Global, states: usize, lives: &[Life]) -> Result<Vec<Count>, AllocError> {
     let mut counts = Vec::new(alloc);
-    counts.resize(calls, NONE)?;
+    counts.resize(states, NONE)?;
     for life in lives {
         add(&mut counts, life.last, life.size);
     }
@@ -167,7 +165,7 @@ pub fn figures_of(alloc: Global, course: &Course) -> Result<Figures, AllocError>
     let mut granted = NONE;
     let mut gone = NONE;
     for state in 0..states {
-        let live = counted(granted.grants - gone.grants);
+        let live = counted(granted.lives - gone.lives);
         let used = counted_units(granted.units - gone.units);
         found.see(
             counted(state),

@@ -6,14 +6,14 @@ use crate::memory::Vec;
 use offset_script::{Answer, Command, Script, play_script};
 use crate::memory::{AllocError, Global};
 
-/// A grant: its number, its range, and the calls between which it is live.
+/// A life: a range that a grant has, and the calls between which it has it.
 ///
-/// Calls are counted from 0. The grant is live from after the call `first`, which returned it, to the call
-/// `last`, which released it or was a reset; `last` is the number of all calls where the grant is live at the
-/// end.
+/// Calls are counted from 0. The grant has the range from after the call `first`, which returned it, to the
+/// call `last`, which released it or was a reset; `last` is the number of all calls where the grant has the
+/// range at the end.
 ///
-/// In a course that is no script's, a grant may be moved or resized. Then it has a life for each range that
-/// it has had, and `lived` is the same in all of them.
+/// In a script each grant has one life. In a course that is no script's, a grant may be moved or resized.
+/// Then it has a life for each range that it has had, and `lived` is the same in all of them.
 #[derive(Clone, Copy, PartialEq, Debug)]
 pub struct Life {
     /// The number of the grant, from 1.
@@ -22,11 +22,11 @@ pub struct Life {
     pub offset: u32,
     /// The size of the range in units.
     pub size: u32,
-    /// The call that granted it.
+    /// The call that granted the range.
     pub first: usize,
-    /// The call that ended it, or the number of all calls.
+    /// The call that ended the life, or the number of all calls.
     pub last: usize,
-    /// For how many calls the grant is live; the colour of its rectangle says it.
+    /// For how many calls the grant is live, with all its ranges; the colour of the rectangle says it.
     pub lived: usize,
 }
 

@@ -1,6 +1,6 @@
 // Printed by rust/erase from crates/offset_pictures/src/merging.rt: change it there.
 
-//! Merges the rectangles of many grants. It only computes.
+//! Merges the rectangles of many lives. It only computes.
 
 use crate::memory::Vec;
 use crate::axes::TENTH;
@@ -46,7 +46,8 @@ fn shape_of_key(key: u64) -> Shape {
     }
 }
 
-// Whether two rectangles have the same height and age, and touch or overlap.
+// Whether two rectangles of one row touch or overlap. A row is what lies between an upper and a lower edge in
+// the colour of an age.
 fn touch(before: &Shape, shape: &Shape) -> bool {
     before.top == shape.top
         && before.bottom == shape.bottom
@@ -65,8 +66,8 @@ fn join(before: Shape, shape: &Shape) -> Shape {
 }
 
 /// The rectangles of lives. Those thinner than a tenth of a pixel are rounded to whole tenths, and then those
-/// of the same height and age that touch are merged.
-pub fn shapes_of(alloc: Global, plot: &Plot, lives: &[Life]) -> Result<Vec<Shape>, AllocError> {
+/// of one row that touch are merged.
+pub fn merged_shapes(alloc: Global, plot: &Plot, lives: &[Life]) -> Result<Vec<Shape>, AllocError> {
     let mut found = Vec::new(alloc);
     let mut tiny: Vec<u64> = Vec::new(alloc);
     for life in lives {

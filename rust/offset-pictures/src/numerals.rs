@@ -1,17 +1,18 @@
 // Printed by rust/erase from crates/offset_pictures/src/numerals.rt: change it there.
 
-//! Numbers as the picture writes them. It only appends text.
+//! Numbers as the picture writes them. It only adds text: after what is there, or before it in a `Piece`.
 
 use crate::memory::String;
 use offset_script::TextBuffer;
 use crate::memory::AllocError;
 use core::fmt;
 
-/// A piece of a picture's text: a title of five numbers fits, and so does a rectangle.
+/// A piece of a picture's text, put together from its end: a title of five numbers fits, and so does a
+/// rectangle.
 pub type Piece = TextBuffer<160>;
 
 /// Appends a piece to a text.
-pub fn put_in(piece: &Piece, out: &mut String) -> Result<(), AllocError> {
+pub fn put_piece(piece: &Piece, out: &mut String) -> Result<(), AllocError> {
     out.push_str(piece.text())
 }
 
@@ -20,23 +21,23 @@ pub fn put_in(piece: &Piece, out: &mut String) -> Result<(), AllocError> {
 pub struct Pixels(pub u32);
 
 /// Puts a length in pixels before a text: at most 23 bytes.
-pub fn put_pixels<const ROOM: usize>(text: &mut TextBuffer<ROOM>, pixels: Pixels) {
+pub fn prepend_pixels<const ROOM: usize>(text: &mut TextBuffer<ROOM>, pixels: Pixels) {
     let hundredths = pixels.0 % 10;
     let tenths = pixels.0 / 10 % 10;
     if pixels.0 % 100 != 0 {
         if hundredths != 0 {
-            text.put_digit(hundredths);
+            text.prepend_digit(hundredths);
         }
-        text.put_digit(tenths);
-        text.put(".");
+        text.prepend_digit(tenths);
+        text.prepend(".");
     }
-    text.put_number(u64::from(pixels.0 / 100));
+    text.prepend_number(u64::from(pixels.0 / 100));
 }
 
 impl fmt::Display for Pixels {
     fn fmt(&self, f: &mut fmt::Formatter<'_>) -> fmt::Result {
         let mut text: TextBuffer<23> = TextBuffer::new();
-        put_pixels(&mut text, *self);
+        prepend_pixels(&mut text, *self);
         f.write_str(text.text())
     }
 }

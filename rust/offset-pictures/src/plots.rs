@@ -82,9 +82,9 @@ impl Plot {
         for k in 0..u64::from(count) + 1 {
             let value = k * step;
             if value <= u64::from(self.units.most) {
-                let height = self.units.up(value);
-                let line = Pixels(height);
-                let base = Pixels(height + 500);
+                let y = self.units.up(value);
+                let line = Pixels(y);
+                let base = Pixels(y + 500);
                 let number = Grouped(value as u32);
                 write!(out, "<path class='grid' d='M{left} {line}H{right}'/>")?;
                 writeln!(
@@ -104,12 +104,12 @@ impl Plot {
         for k in 0..u64::from(count) + 1 {
             let value = k * step;
             if value < u64::from(self.calls.most) {
-                let place = Pixels(self.calls.right(value));
+                let x = Pixels(self.calls.right(value));
                 let number = Grouped(value as u32);
-                write!(out, "<path class='tick' d='M{place} {bottom}v10'/>")?;
+                write!(out, "<path class='tick' d='M{x} {bottom}v10'/>")?;
                 writeln!(
                     out,
-                    "<text class='middle' x='{place}' y='{base}'>{number}</text>"
+                    "<text class='middle' x='{x}' y='{base}'>{number}</text>"
                 )?;
             }
         }

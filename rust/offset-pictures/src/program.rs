@@ -1,9 +1,11 @@
 // Printed by rust/erase from crates/offset_pictures/src/program.rt: change it there.
 
 //! What a program that draws does: a picture, its status, and the line of its fault.
+//! `offset_script::run_program_of` reads the script, and calls `send` of `PictureText`, which plays and draws
+//! it. It touches the three streams alone.
 
 use crate::drawing::picture;
-use offset_script::{Script, ScriptText, Sink, Source, run_program_of, send};
+use offset_script::{Rendering, Script, Sink, Source, run_program_of, send};
 use crate::memory::{AllocError, Global};
 
 // The picture of a script, with this title.
@@ -11,7 +13,7 @@ struct PictureText<'a> {
     title: &'a str,
 }
 
-impl<'a> ScriptText for PictureText<'a> {
+impl<'a> Rendering for PictureText<'a> {
     fn send<K: Sink>(
         &self,
         alloc: Global,

@@ -10,9 +10,13 @@ use offset_allocator::ext::min_allocator_size;
 use offset_allocator::{Refusal, StorageReport};
 use crate::memory::AllocError;
 
-// What the units of a request are rounded up to, where a space may have so many.
+// The largest value of a class that a block can have: no space grants a request for more units.
+const LARGEST_CLASS: u64 = 4_026_531_840;
+
+// What the units of a request are rounded up to, where a request for so many can be granted in any space at
+// all.
 fn put_rounded(out: &mut String, units: u64) -> Result<(), AllocError> {
-    if units > 4_026_531_840 {
+    if units > LARGEST_CLASS {
         return Ok(());
     }
     let rounded = min_allocator_size(units as u32);
@@ -36,7 +40,7 @@ fn put_asked(out: &mut String, asked: Asked) -> Result<(), AllocError> {
     }
 }
 
-// What is free, but at the node limit, where a report has 0 units.
+// What is free; nothing where nodes are too few.
 fn put_report(out: &mut String, why: Refusal, report: StorageReport) -> Result<(), AllocError> {
     let largest = report.largest_free_region;
     let free = report.total_free_space;
@@ -60,8 +64,8 @@ fn put_reason(out: &mut String, why: Reason, report: StorageReport) -> Result<()
     }
 }
 
-// The report that a call found.
-fn report_of(reports: &[StorageReport], call: usize) -> StorageReport {
+// The report after so many calls: that which the call with this number from 0 found.
+fn report_after(reports: &[StorageReport], call: usize) -> StorageReport {
     if call < reports.len() {
         reports[call]
     } else {
@@ -82,7 +86,7 @@ fn put_said(
     write!(out, "call {call}: ")?;
     put_asked(out, refused.asked)?;
     write!(out, ": ")?;
-    put_reason(out, refused.why, report_of(reports, refused.call))
+    put_reason(out, refused.why, report_after(reports, refused.call))
 }
 
 // The refused calls that lie within one pixel: where it begins, the first of them, and how many more there
@@ -95,7 +99,7 @@ pub struct Spot {
 }
 
 impl Spot {
-    // The place of one call.
+    // The spot of one call.
     fn new(left: u32, first: Refused) -> Self {
         Spot {
             left,
@@ -118,15 +122,10 @@ impl Spot {
         write!(out, "; {more} more refused here")
     }
 
-    // The place of its marks, with its title: one pixel, and the halves of marks beyond.
-    fn put(
-        &self,
-        out: &mut String,
-        height: u32,
-        reports: &[StorageReport],
-    ) -> Result<(), AllocError> {
+    // The spot of its marks, with its title: one pixel, and the halves of marks beyond.
+    fn put(&self, out: &mut String, y: u32, reports: &[StorageReport]) -> Result<(), AllocError> {
         let left = Pixels(self.left.saturating_sub(100));
-        let top = Pixels(height);
+        let top = Pixels(y);
         write!(
             out,
             "<rect x='{left}' y='{top}' width='3' height='12'><title>"
@@ -137,7 +136,7 @@ impl Spot {
     }
 }
 
-// Where the pixel begins in which a call lies, counted from 0.
+// Where the pixel begins in which a call lies. The call is counted from 0.
 fn pixel_of(plot: &Plot, call: usize) -> u32 {
     plot.calls.right(call.saturating_add(1) as u64) / 100 * 100
 }
@@ -150,7 +149,7 @@ pub fn put_reasons(
     reports: &[StorageReport],
     refused: &[Refused],
 ) -> Result<(), AllocError> {
-    let height = plot.bottom();
+    let y = plot.bottom();
     writeln!(out, "<g class='why'>")?;
     let mut spot: Option<Spot> = None;
     for call in refused {
@@ -159,14 +158,14 @@ pub fn put_reasons(
             Some(spot) if spot.left == left => spot.add(),
             _ => {
                 if let Some(spot) = &spot {
-                    spot.put(out, height, reports)?;
+                    spot.put(out, y, reports)?;
                 }
                 spot = Some(Spot::new(left, *call));
             }
         }
     }
     if let Some(spot) = &spot {
-        spot.put(out, height, reports)?;
+        spot.put(out, y, reports)?;
     }
     writeln!(out, "</g>")
 }

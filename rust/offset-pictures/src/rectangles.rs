@@ -6,13 +6,13 @@ use crate::memory::String;
 use crate::memory::Vec;
 use crate::ages::AGES;
 use crate::living::Life;
-use crate::merging::shapes_of;
-use crate::numerals::{Piece, Pixels, put_in, put_pixels};
+use crate::merging::merged_shapes;
+use crate::numerals::{Piece, Pixels, prepend_pixels, put_piece};
 use crate::plots::Plot;
 use crate::shapes::{Shape, shape_of};
 use crate::memory::{AllocError, Global};
 
-// The most grants that are drawn with a title each.
+// The most lives that are drawn with a title each.
 const MOST_TITLES: usize = 20_000;
 
 // About how many bytes a rectangle takes, and one with a title: the text gets room for all of them at once.
@@ -57,43 +57,43 @@ impl Frame {
 fn put_shape(line: &mut Piece, shape: &Shape) {
     let frame = frame_of(shape);
     if frame.has_edge() {
-        line.put(" class='edge'");
+        line.prepend(" class='edge'");
     }
-    line.put("'");
-    put_pixels(line, Pixels(frame.height));
-    line.put("' height='");
-    put_pixels(line, Pixels(frame.width));
-    line.put("' width='");
-    put_pixels(line, Pixels(frame.y));
-    line.put("' y='");
-    put_pixels(line, Pixels(frame.x));
-    line.put("<rect x='");
+    line.prepend("'");
+    prepend_pixels(line, Pixels(frame.height));
+    line.prepend("' height='");
+    prepend_pixels(line, Pixels(frame.width));
+    line.prepend("' width='");
+    prepend_pixels(line, Pixels(frame.y));
+    line.prepend("' y='");
+    prepend_pixels(line, Pixels(frame.x));
+    line.prepend("<rect x='");
 }
 
 // Appends the title of a life and the end of its element. `calls` is the number of all calls.
 fn put_title(out: &mut String, life: &Life, calls: u32) -> Result<(), AllocError> {
     let last = life.last.saturating_add(1);
     let mut line = Piece::new();
-    line.put("</title></rect>\n");
+    line.prepend("</title></rect>\n");
     if last > calls as usize {
-        line.put("end");
+        line.prepend("end");
     } else {
-        line.put_number(last as u64);
+        line.prepend_number(last as u64);
     }
-    line.put("-");
-    line.put_number(life.first.saturating_add(1) as u64);
-    line.put(", calls ");
-    line.put_number(u64::from(life.size));
-    line.put(", size ");
-    line.put_number(u64::from(life.offset));
-    line.put(", offset ");
-    line.put_number(life.number);
-    line.put("<title>grant ");
-    put_in(&line, out)
+    line.prepend("-");
+    line.prepend_number(life.first.saturating_add(1) as u64);
+    line.prepend(", calls ");
+    line.prepend_number(u64::from(life.size));
+    line.prepend(", size ");
+    line.prepend_number(u64::from(life.offset));
+    line.prepend(", offset ");
+    line.prepend_number(life.number);
+    line.prepend("<title>grant ");
+    put_piece(&line, out)
 }
 
 // The rectangles of lives, each as it is.
-fn single_shapes(alloc: Global, plot: &Plot, lives: &[Life]) -> Result<Vec<Shape>, AllocError> {
+fn shapes_of(alloc: Global, plot: &Plot, lives: &[Life]) -> Result<Vec<Shape>, AllocError> {
     Vec::collect(alloc, lives.iter().map(|life| shape_of(plot, life)))
 }
 
@@ -108,9 +108,9 @@ fn put_titled(
     for (shape, life) in shapes.iter().zip(lives) {
         if shape.age == age {
             let mut line = Piece::new();
-            line.put(">");
+            line.prepend(">");
             put_shape(&mut line, shape);
-            put_in(&line, out)?;
+            put_piece(&line, out)?;
             put_title(out, life, calls)?;
         }
     }
@@ -122,9 +122,9 @@ fn put_plain(out: &mut String, shapes: &[Shape], age: usize) -> Result<(), Alloc
     for shape in shapes {
         if shape.age == age {
             let mut line = Piece::new();
-            line.put("/>\n");
+            line.prepend("/>\n");
             put_shape(&mut line, shape);
-            put_in(&line, out)?;
+            put_piece(&line, out)?;
         }
     }
     Ok(())
@@ -132,7 +132,7 @@ fn put_plain(out: &mut String, shapes: &[Shape], age: usize) -> Result<(), Alloc
 
 /// Appends the rectangles of lives in groups by their age, the longest lives first. Of more than 20,000 lives
 /// they have no titles, and tiny ones are merged: then it returns the number of rectangles.
-pub fn put_grants(
+pub fn put_rectangles(
     alloc: Global,
     out: &mut String,
     plot: &Plot,
@@ -141,9 +141,9 @@ pub fn put_grants(
 ) -> Result<Option<usize>, AllocError> {
     let is_merged = lives.len() > MOST_TITLES;
     let shapes = if is_merged {
-        shapes_of(alloc, plot, lives)?
+        merged_shapes(alloc, plot, lives)?
     } else {
-        single_shapes(alloc, plot, lives)?
+        shapes_of(alloc, plot, lives)?
     };
     let bytes = if is_merged {
         RECTANGLE_BYTES

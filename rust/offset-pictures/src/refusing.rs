@@ -56,7 +56,7 @@ pub fn is_refusal(answer: &Answer) -> bool {
 }
 
 // Why a space refuses a request.
-fn why<T: Tables>(space: &AllocatorOf<T>, size: u32, align: u32) -> Refusal {
+fn shortage<T: Tables>(space: &AllocatorOf<T>, size: u32, align: u32) -> Refusal {
     // A step of the proof, which does nothing.
     is_well_formed(space);
     match space.refusal_aligned(size, align) {
@@ -78,10 +78,13 @@ fn why_extend<T: Tables>(space: &AllocatorOf<T>, more: u32) -> Reason {
 // What the call asked for and why it was refused; `None` for a command that is never refused.
 fn refused_call<T: Tables>(space: &AllocatorOf<T>, call: usize, command: Command) -> Option<Refused> {
     let (asked, why) = match command {
-        Command::Alloc(size) => (Asked::Alloc(size), Reason::Request(why(space, size, 1))),
+        Command::Alloc(size) => (
+            Asked::Alloc(size),
+            Reason::Request(shortage(space, size, 1)),
+        ),
         Command::Align(size, align) => (
             Asked::Align(size, align),
-            Reason::Request(why(space, size, align)),
+            Reason::Request(shortage(space, size, align)),
         ),
         Command::Extend(more) => (Asked::Extend(more), why_extend(space, more)),
         _ => return None,

@@ -6,8 +6,8 @@ use crate::ages::age_of;
 use crate::living::Life;
 use crate::plots::Plot;
 
-/// A rectangle before it is made thicker, in hundredths of a pixel. Merging orders rectangles by these fields,
-/// the first one first.
+/// A rectangle before it is made thicker, in hundredths of a pixel. Merging orders rectangles by these
+/// fields, the first one first.
 #[derive(Clone, Copy, PartialEq, Debug)]
 pub struct Shape {
     pub top: u32,

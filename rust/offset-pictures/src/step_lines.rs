@@ -6,7 +6,7 @@
 use crate::memory::String;
 use crate::memory::Vec;
 use crate::axes::{Axis, TENTH};
-use crate::numerals::{Piece, Pixels, put_in, put_pixels};
+use crate::numerals::{Piece, Pixels, prepend_pixels, put_piece};
 use crate::plots::Plot;
 use crate::refusing::Refused;
 use crate::memory::{AllocError, Global};
@@ -16,16 +16,16 @@ fn in_tenths(length: u32) -> u32 {
     length / TENTH * TENTH
 }
 
-/// Where each of the first `states` states lies, to a tenth of a pixel.
-pub fn places_of(alloc: Global, calls: &Axis, states: usize) -> Result<Vec<u32>, AllocError> {
-    let mut places = Vec::with_capacity(alloc, states)?;
+/// The x of each of the first `states` states, to a tenth of a pixel.
+pub fn xs_of(alloc: Global, calls: &Axis, states: usize) -> Result<Vec<u32>, AllocError> {
+    let mut xs = Vec::with_capacity(alloc, states)?;
     for state in 0..states {
-        places.push(in_tenths(calls.right(state as u64)))?;
+        xs.push(in_tenths(calls.right(state as u64)))?;
     }
-    Ok(places)
+    Ok(xs)
 }
 
-// The states that lie within one tenth of a pixel: their heights.
+// The states that lie within one tenth of a pixel: the y of their smallest, largest and last values.
 #[derive(Clone, Copy)]
 pub struct Column {
     left: u32,
@@ -35,25 +35,25 @@ pub struct Column {
 }
 
 impl Column {
-    // Continues the line, which is at the height `pen`, over all of the heights, to the last.
+    // Continues the line, which is at the y `pen`, over all of its own, to the last.
     fn put(&self, out: &mut String, pen: u32) -> Result<(), AllocError> {
         if self.top == pen && self.bottom == pen {
             return Ok(());
         }
         let mut line = Piece::new();
-        put_pixels(&mut line, Pixels(self.last));
+        prepend_pixels(&mut line, Pixels(self.last));
         if self.bottom != self.last {
-            line.put("V");
-            put_pixels(&mut line, Pixels(self.bottom));
+            line.prepend("V");
+            prepend_pixels(&mut line, Pixels(self.bottom));
         }
         if self.top != self.last {
-            line.put("V");
-            put_pixels(&mut line, Pixels(self.top));
+            line.prepend("V");
+            prepend_pixels(&mut line, Pixels(self.top));
         }
-        line.put("V");
-        put_pixels(&mut line, Pixels(self.left));
-        line.put("H");
-        put_in(&line, out)
+        line.prepend("V");
+        prepend_pixels(&mut line, Pixels(self.left));
+        line.prepend("H");
+        put_piece(&line, out)
     }
 }
 
@@ -84,7 +84,7 @@ impl Group {
         self.last = value;
     }
 
-    // The heights of its values: only those of the smallest and the largest, and of the last, are computed.
+    // The y of its values: only those of the smallest and the largest, and of the last, are computed.
     fn column(&self, units: &Axis) -> Column {
         let top = in_tenths(units.up(u64::from(self.most)));
         let bottom = if self.least == self.most {
@@ -107,53 +107,53 @@ impl Group {
         }
     }
 
-    // Continues the line, which is at this pen, over the heights of its values, to the last.
+    // Continues the line, which is at this pen, over the y of its values, to the last.
     fn put(&self, out: &mut String, units: &Axis, pen: Pen) -> Result<Pen, AllocError> {
         if self.least == self.most && pen.value == Some(self.most) && self.last == self.most {
             return Ok(pen);
         }
         let column = self.column(units);
-        column.put(out, pen.height)?;
+        column.put(out, pen.y)?;
         Ok(Pen {
-            height: column.last,
+            y: column.last,
             value: Some(self.last),
         })
     }
 }
 
-// Where a line of steps has come: its height, and the value of that height, if it is that of a value.
+// Where a line of steps has come: its y, and the value of that y, if it is that of a value.
 #[derive(Clone, Copy)]
 pub struct Pen {
-    height: u32,
+    y: u32,
     value: Option<u32>,
 }
 
-// The line of steps of these values, one for each state, from the height `base` and back to it.
-// These are the places of the states, as `places_of` has them, and perhaps of more.
+// The line of steps of these values, one for each state, from the y `base` and back to it. These are the x of
+// the states, as `xs_of` has them, and perhaps of more.
 fn put_steps(
     out: &mut String,
     plot: &Plot,
     base: u32,
     values: &[u32],
-    places: &[u32],
+    xs: &[u32],
 ) -> Result<(), AllocError> {
     let start = Pixels(plot.calls.start);
     let end = Pixels(plot.calls.start + plot.calls.span);
     let base_line = Pixels(base);
     write!(out, "M{start} {base_line}")?;
     let mut pen = Pen {
-        height: base,
+        y: base,
         value: None,
     };
     let mut group: Option<Group> = None;
-    for (value, place) in values.iter().zip(places) {
+    for (value, x) in values.iter().zip(xs) {
         match &mut group {
-            Some(group) if group.left == *place => group.add(*value),
+            Some(group) if group.left == *x => group.add(*value),
             _ => {
                 if let Some(group) = &group {
                     pen = group.put(out, &plot.units, pen)?;
                 }
-                group = Some(Group::new(*place, *value));
+                group = Some(Group::new(*x, *value));
             }
         }
     }
@@ -164,43 +164,42 @@ fn put_steps(
     Ok(())
 }
 
-/// Appends the line of steps of these values, one for each state, as an element of this class: from the
-/// height `base` and back to it. These are the places of the states, as `places_of` has them, and perhaps of
-/// more.
+/// Appends the line of steps of these values, one for each state, as an element of this class: from the y
+/// `base` and back to it. These are the x of the states, as `xs_of` has them, and perhaps of more.
 pub fn put_line(
     out: &mut String,
     class: &str,
     plot: &Plot,
     base: u32,
     values: &[u32],
-    places: &[u32],
+    xs: &[u32],
 ) -> Result<(), AllocError> {
     write!(out, "<path class='{class}' d='")?;
-    put_steps(out, plot, base, values, places)?;
+    put_steps(out, plot, base, values, xs)?;
     writeln!(out, "'/>")
 }
 
-/// A mark below an axis for each of these calls. Those at one tenth of a pixel have one mark.
+/// A mark from this y down for each of these calls. Those at one tenth of a pixel have one mark.
 pub fn put_marks(
     out: &mut String,
     calls: &Axis,
-    height: u32,
+    y: u32,
     marked: &[Refused],
 ) -> Result<(), AllocError> {
-    let top = Pixels(height);
+    let top = Pixels(y);
     let mut before = None;
     for refused in marked {
-        let place = in_tenths(calls.right(refused.call.saturating_add(1) as u64));
-        if before != Some(place) {
+        let x = in_tenths(calls.right(refused.call.saturating_add(1) as u64));
+        if before != Some(x) {
             let mut line = Piece::new();
-            line.put("v12");
-            put_pixels(&mut line, top);
-            line.put(" ");
-            put_pixels(&mut line, Pixels(place));
-            line.put("M");
-            put_in(&line, out)?;
+            line.prepend("v12");
+            prepend_pixels(&mut line, top);
+            line.prepend(" ");
+            prepend_pixels(&mut line, Pixels(x));
+            line.prepend("M");
+            put_piece(&line, out)?;
         }
-        before = Some(place);
+        before = Some(x);
     }
     Ok(())
 }

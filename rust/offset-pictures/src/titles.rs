@@ -1,13 +1,15 @@
 // Printed by rust/erase from crates/offset_pictures/src/titles.rt: change it there.
 
-//! Text in a picture, where XML gives some characters a meaning of their own. It only appends text.
+//! The title of a picture: its heading, how large that is, and its accessible name. XML gives some characters
+//! a meaning of their own. It only appends text.
 
 use crate::memory::String;
 use crate::numerals::Pixels;
 use crate::memory::AllocError;
 
-// Whether XML 1.0 allows a character, and it is shown: no control character, and not U+FFFE or U+FFFF.
-fn is_in_xml(c: char) -> bool {
+// Whether a character is shown: it is no character below the space, and neither U+FFFE nor U+FFFF, which XML
+// 1.0 forbids.
+fn is_shown(c: char) -> bool {
     c >= ' ' && c != '\u{FFFE}' && c != '\u{FFFF}'
 }
 
@@ -17,7 +19,7 @@ fn put_char(out: &mut String, c: char) -> Result<(), AllocError> {
         '&' => out.push_str("&amp;"),
         '<' => out.push_str("&lt;"),
         '>' => out.push_str("&gt;"),
-        _ if is_in_xml(c) => out.push(c),
+        _ if is_shown(c) => out.push(c),
         _ => out.push(' '),
     }
 }
@@ -31,8 +33,8 @@ pub fn put_escaped(out: &mut String, text: &str) -> Result<(), AllocError> {
     Ok(())
 }
 
-// The most quarters of its height that a heading in 18 pixels is wide, and those of a heading in a hundredth
-// of a pixel.
+// How many quarters of its height fit the width: of a heading in 18 pixels, and of one in a hundredth of a
+// pixel.
 const MOST_LARGE: usize = 256;
 
 const WIDTH: usize = 460_800;

@@ -1,7 +1,7 @@
 // Printed by rust/erase from crates/offset_pictures/src/watching.rt: change it there.
 
 //! What a script's space says while the script is played, without its full reports: what it reports after
-//! each command, and why it refuses commands. It only asks.
+//! each command, and why it refuses commands. It plays the script, and asks its space after each command.
 
 use crate::memory::Vec;
 use crate::refusing::{Refused, note};

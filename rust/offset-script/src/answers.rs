@@ -1,6 +1,6 @@
 // Printed by rust/erase from crates/offset_script/src/answers.rt: change it there.
 
-//! Answers, and their text. It reads spaces, and appends to texts.
+//! Answers, and the lines of each. It reads spaces, and appends to texts.
 
 use crate::memory::Vec;
 use crate::buffer::TextBuffer;
@@ -8,7 +8,7 @@ use offset_allocator::{AllocatorOf, StorageReport, Tables};
 use crate::memory::{AllocError, Global};
 
 // The most bytes of a line. Three numbers of 20 digits and the words of a row fit.
-const ROOM: usize = 80;
+const LINE_BYTES: usize = 80;
 
 /// One size class of a full report.
 #[derive(Clone, Copy, PartialEq, Debug)]
@@ -34,8 +34,8 @@ pub enum Answer {
     Gone,
     /// The size of a grant in units.
     Size(u32),
-    /// The free units in all, and the largest class value of a free block. Both are 0 where the space has as
-    /// many blocks as its limit allows.
+    /// The free units in all, and the largest free region. Both are 0 where the space has as many blocks as
+    /// its limit allows.
     Report(StorageReport),
     /// The classes that have a free block, in rising order.
     Full(Vec<FullRow>),
@@ -78,54 +78,54 @@ pub fn full_answer<T: Tables>(alloc: Global, space: &AllocatorOf<T>) -> Result<A
 
 // Appends the line of a grant. Each line is put together from its end.
 fn put_grant(out: &mut Vec<u8>, number: u64, offset: u32) -> Result<(), AllocError> {
-    let mut line: TextBuffer<ROOM> = TextBuffer::new();
-    line.put("\n");
-    line.put_number(u64::from(offset));
-    line.put(" at ");
-    line.put_number(number);
-    line.put("grant ");
+    let mut line: TextBuffer<LINE_BYTES> = TextBuffer::new();
+    line.prepend("\n");
+    line.prepend_number(u64::from(offset));
+    line.prepend(" at ");
+    line.prepend_number(number);
+    line.prepend("grant ");
     out.extend_from_slice(line.bytes())
 }
 
 // Appends the line of a size.
 fn put_size(out: &mut Vec<u8>, size: u32) -> Result<(), AllocError> {
-    let mut line: TextBuffer<ROOM> = TextBuffer::new();
-    line.put("\n");
-    line.put_number(u64::from(size));
-    line.put("size ");
+    let mut line: TextBuffer<LINE_BYTES> = TextBuffer::new();
+    line.prepend("\n");
+    line.prepend_number(u64::from(size));
+    line.prepend("size ");
     out.extend_from_slice(line.bytes())
 }
 
 // Appends the line of a report.
 fn put_report(out: &mut Vec<u8>, free: u32, largest: u32) -> Result<(), AllocError> {
-    let mut line: TextBuffer<ROOM> = TextBuffer::new();
-    line.put("\n");
-    line.put_number(u64::from(largest));
-    line.put(" largest ");
-    line.put_number(u64::from(free));
-    line.put("free ");
+    let mut line: TextBuffer<LINE_BYTES> = TextBuffer::new();
+    line.prepend("\n");
+    line.prepend_number(u64::from(largest));
+    line.prepend(" largest ");
+    line.prepend_number(u64::from(free));
+    line.prepend("free ");
     out.extend_from_slice(line.bytes())
 }
 
 // Appends the first line of a full report.
 fn put_count(out: &mut Vec<u8>, count: usize) -> Result<(), AllocError> {
-    let mut line: TextBuffer<ROOM> = TextBuffer::new();
-    line.put("\n");
-    line.put_number(count as u64);
-    line.put("full ");
+    let mut line: TextBuffer<LINE_BYTES> = TextBuffer::new();
+    line.prepend("\n");
+    line.prepend_number(count as u64);
+    line.prepend("full ");
     out.extend_from_slice(line.bytes())
 }
 
 // Appends the line of a row, with its line end.
 fn put_row(out: &mut Vec<u8>, row: &FullRow) -> Result<(), AllocError> {
-    let mut line: TextBuffer<ROOM> = TextBuffer::new();
-    line.put("\n");
-    line.put_number(u64::from(row.count));
-    line.put(" count ");
-    line.put_number(u64::from(row.size));
-    line.put(" size ");
-    line.put_number(u64::from(row.class));
-    line.put("class ");
+    let mut line: TextBuffer<LINE_BYTES> = TextBuffer::new();
+    line.prepend("\n");
+    line.prepend_number(u64::from(row.count));
+    line.prepend(" count ");
+    line.prepend_number(u64::from(row.size));
+    line.prepend(" size ");
+    line.prepend_number(u64::from(row.class));
+    line.prepend("class ");
     out.extend_from_slice(line.bytes())
 }
 

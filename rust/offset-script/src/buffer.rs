@@ -12,7 +12,7 @@ pub struct TextBuffer<const ROOM: usize> {
 }
 
 // Writes the digits of a number before the byte `end`, and returns where they begin.
-fn put_digits<const ROOM: usize>(room: &mut [u8; ROOM], end: usize, n: u64) -> usize {
+fn prepend_digits<const ROOM: usize>(room: &mut [u8; ROOM], end: usize, n: u64) -> usize {
     let mut rest = n;
     let mut at = end - 1;
     while rest >= 10 {
@@ -50,13 +50,13 @@ impl<const ROOM: usize> TextBuffer<ROOM> {
     /// # use offset_script::*;
     /// # let alloc = Global;
     /// let mut line = TextBuffer::<80>::new();
-    /// line.put("units");
-    /// line.put("300 ");
+    /// line.prepend("units");
+    /// line.prepend("300 ");
     /// assert_eq!(line.text(), "300 units");
     /// # Ok::<(), RunFault>(())
     /// ```
     #[inline(always)]
-    pub fn put(&mut self, text: &str) {
+    pub fn prepend(&mut self, text: &str) {
         let end = self.start;
         let start = end - text.len();
         let room = &mut self.room[..];
@@ -75,13 +75,13 @@ impl<const ROOM: usize> TextBuffer<ROOM> {
     /// # use offset_script::*;
     /// # let alloc = Global;
     /// let mut line = TextBuffer::<80>::new();
-    /// line.put_digit(7);
+    /// line.prepend_digit(7);
     /// assert_eq!(line.text(), "7");
     /// # Ok::<(), RunFault>(())
     /// ```
     #[inline(always)]
     #[track_caller]
-    pub fn put_digit(&mut self, n: u32) {
+    pub fn prepend_digit(&mut self, n: u32) {
         assert!(n < 10, "a digit must be below 10");
         let start = self.start - 1;
         self.room[start] = b'0' + n as u8;
@@ -95,12 +95,12 @@ impl<const ROOM: usize> TextBuffer<ROOM> {
     /// # use offset_script::*;
     /// # let alloc = Global;
     /// let mut line = TextBuffer::<80>::new();
-    /// line.put_number(300);
+    /// line.prepend_number(300);
     /// assert_eq!(line.text(), "300");
     /// # Ok::<(), RunFault>(())
     /// ```
-    pub fn put_number(&mut self, n: u64) {
-        self.start = put_digits(&mut self.room, self.start, n);
+    pub fn prepend_number(&mut self, n: u64) {
+        self.start = prepend_digits(&mut self.room, self.start, n);
     }
 
     /// Returns its bytes, which are text.
@@ -110,7 +110,7 @@ impl<const ROOM: usize> TextBuffer<ROOM> {
     /// # use offset_script::*;
     /// # let alloc = Global;
     /// let mut line = TextBuffer::<80>::new();
-    /// line.put("none");
+    /// line.prepend("none");
     /// assert_eq!(line.bytes(), b"none");
     /// # Ok::<(), RunFault>(())
     /// ```
@@ -127,7 +127,7 @@ impl<const ROOM: usize> TextBuffer<ROOM> {
     /// # use offset_script::*;
     /// # let alloc = Global;
     /// let mut line = TextBuffer::<80>::new();
-    /// line.put("none");
+    /// line.prepend("none");
     /// assert_eq!(line.text(), "none");
     /// # Ok::<(), RunFault>(())
     /// ```

@@ -1,6 +1,7 @@
 // Printed by rust/erase from crates/offset_script/src/common_lines.rt: change it there.
 
-//! Reads lines of the commonest commands, in one pass over each; all others are left to `reading`.
+//! Reads lines of the commonest commands, in one pass over each; all others, and the last ones of a text,
+//! are left to `parsing`. It only reads the text, and appends commands.
 
 use crate::memory::Vec;
 use crate::lines::Lines;
@@ -9,10 +10,10 @@ use crate::tokens::MOST_DIGITS;
 use crate::memory::AllocError;
 
 // The most bytes that are read here: a word, a space, and a number with its line end. Where fewer are left,
-// `reading` reads the line.
+// `parsing` reads the line.
 const LONGEST: usize = 17;
 
-// The commands of a word and a number.
+// The commonest commands of a word and a number.
 #[derive(Clone, Copy)]
 enum Word {
     Alloc,
@@ -44,7 +45,7 @@ const FREE: u32 = 0x6565_7266;
 const SIZE: u32 = 0x657a_6973;
 
 // The word at the head of a text, and what comes after its space.
-fn word_before(text: &[u8]) -> Option<(Word, &[u8])> {
+fn word_at_head(text: &[u8]) -> Option<(Word, &[u8])> {
     let [a, b, c, d, more @ ..] = text else {
         return None;
     };
@@ -72,7 +73,7 @@ fn digit(b: u8) -> u64 {
 
 // The number that a text begins with, and what comes after its line end. `None` where it does not begin so.
 #[inline(always)]
-fn number_before(text: &[u8]) -> Option<(u32, &[u8])> {
+fn number_at_head(text: &[u8]) -> Option<(u32, &[u8])> {
     let mut n = 0u64;
     // So few bytes that the loop is unrolled.
     for i in 0..=MOST_DIGITS {
@@ -97,8 +98,8 @@ fn command_at_head(text: &[u8]) -> Option<(Command, &[u8])> {
     if text.len() < LONGEST {
         return None;
     }
-    if let Some((word, rest)) = word_before(text) {
-        let (n, rest) = number_before(rest)?;
+    if let Some((word, rest)) = word_at_head(text) {
+        let (n, rest) = number_at_head(rest)?;
         return Some((word.with(n), rest));
     }
     match text {
@@ -108,7 +109,7 @@ fn command_at_head(text: &[u8]) -> Option<(Command, &[u8])> {
 }
 
 /// Reads the lines at the head that are of the commonest commands, up to the first that is not, and appends
-/// these.
+/// their commands.
 ///
 /// It is never inlined: with the code for all other lines around it the loop has too few registers.
 #[inline(never)]

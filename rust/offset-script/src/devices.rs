@@ -1,6 +1,7 @@
 // Printed by rust/erase from crates/offset_script/src/devices.rt: change it there.
 
-//! Where a script comes from, and where its answers go. No call that failed is tried again.
+//! Where a script comes from, and where its answers go: these alone touch readers and writers. No call that
+//! failed is tried again.
 
 use std::io::{Read, Write};
 

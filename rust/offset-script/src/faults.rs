@@ -1,6 +1,6 @@
 // Printed by rust/erase from crates/offset_script/src/faults.rt: change it there.
 
-//! What is wrong with a script, and with a run.
+//! What is wrong with a script, and with a run. It touches nothing.
 
 use crate::memory::AllocError;
 use core::fmt;

@@ -1,6 +1,6 @@
 // Printed by rust/erase from crates/offset_script/src/laws.rt: change it there.
 
-//! Laws on what `parse` reads and on the answers of `play`. The functions do nothing.
+//! Laws on what `parse` reads and on the answers of `play`. The functions touch nothing.
 
 /// A line means a command exactly if it is a spelling of that command.
 pub fn one_spelling() {}

@@ -1,6 +1,7 @@
 // Printed by rust/erase from crates/offset_script/src/lib.rt: change it there.
 
-//! Reads scripts of calls to an allocator, plays them, and writes their answers.
+//! Reads scripts of calls to an allocator, plays them, and writes their answers. It touches its sources, its
+//! sinks and the allocator that it makes.
 #![doc = include_str!("../README.md")]
 #![forbid(unsafe_code)]
 #![expect(clippy::manual_unwrap_or_default)] // a `match` needs no call, whose contract a proof would need
@@ -10,6 +11,7 @@ mod memory;
 
 pub use memory::{AllocError, Global, String, Vec};
 
+mod answer_text;
 mod answers;
 mod buffer;
 mod common_lines;
@@ -19,24 +21,25 @@ mod faults;
 pub mod laws;
 mod lines;
 mod listening;
+mod parsing;
+mod player;
 mod playing;
 mod program;
-mod reading;
 mod running;
 mod scripts;
 mod sending;
 mod tokens;
-mod writing;
 
 pub use answers::{Answer, FullRow, full_answer};
 pub use buffer::TextBuffer;
 pub use devices::{FromRead, IntoWrite, Sink, Source};
 pub use dumping::{json_of, vma_json_of};
 pub use faults::{RunFault, ScriptFault};
-pub use listening::{Listener, play_script_to};
-pub use playing::{Player, PlayerOf, play, play_of, play_script};
+pub use listening::Listener;
+pub use parsing::parse;
+pub use player::{Player, PlayerOf};
+pub use playing::{play, play_of, play_script, play_script_to};
 pub use program::{run_program, run_program_of};
-pub use reading::parse;
-pub use running::{ScriptText, read_script, run, run_of};
+pub use running::{Rendering, read_script, run, run_of};
 pub use scripts::{Command, IndexWidth, Script};
 pub use sending::{send, send_fault};

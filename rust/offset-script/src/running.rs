@@ -1,25 +1,26 @@
 // Printed by rust/erase from crates/offset_script/src/running.rt: change it there.
 
-//! Runs a script from a source to a sink. Nothing is sent before all is read and made.
+//! Runs a script from a source to a sink. It touches these and its own spaces; nothing is sent before all is
+//! read and made.
 
 use crate::memory::Vec;
+use crate::answer_text::text_of_answers;
 use crate::devices::{Sink, Source};
 use crate::faults::RunFault;
-use crate::reading::{MAX_TEXT, parse};
+use crate::parsing::{MAX_TEXT, parse};
 use crate::scripts::Script;
 use crate::sending::send_in_turn;
-use crate::writing::text_of_script;
 use crate::memory::{AllocError, Global};
 
 // The largest number of bytes that one pull requests.
-const PIECE: usize = 16384;
+const PULL_BYTES: usize = 16384;
 
 // All bytes of the source, or its first `MAX_TEXT + 1`. It stops at the first failure.
 fn read_text<S: Source>(alloc: Global, input: &mut S) -> Result<Vec<u8>, RunFault> {
     let mut text = Vec::new(alloc);
-    let mut piece = [0u8; PIECE];
+    let mut piece = [0u8; PULL_BYTES];
     while text.len() <= MAX_TEXT {
-        let room = (MAX_TEXT + 1 - text.len()).min(PIECE);
+        let room = (MAX_TEXT + 1 - text.len()).min(PULL_BYTES);
         match input.pull(&mut piece[..room]) {
             None => return Err(RunFault::Read),
             Some(0) => break,
@@ -48,10 +49,10 @@ pub fn read_script<S: Source>(alloc: Global, input: &mut S) -> Result<Script, Ru
     Ok(parse(alloc, &text)?)
 }
 
-/// A text that a run makes of a script, and sends.
-pub trait ScriptText {
-    /// Appends the text of a script, and then flushes. Returns whether both succeeded. It stops at the first
-    /// failure, and tries nothing again. Where an allocation fails, nothing is appended.
+/// What a run makes of a script, and sends: the text of its answers, or a picture.
+pub trait Rendering {
+    /// Appends the rendering of a script, and then flushes. Returns whether both succeeded. It stops at the
+    /// first failure, and tries nothing again. Where an allocation fails, nothing is appended.
     fn send<K: Sink>(
         &self,
         alloc: Global,
@@ -60,15 +61,15 @@ pub trait ScriptText {
     ) -> Result<bool, AllocError>;
 }
 
-/// `run`, with another text of a script in place of that of its answers.
-pub fn run_of<X: ScriptText, S: Source, K: Sink>(
+/// `run`, with another rendering of a script in place of the text of its answers.
+pub fn run_of<X: Rendering, S: Source, K: Sink>(
     alloc: Global,
-    text: &X,
+    rendering: &X,
     input: &mut S,
     output: &mut K,
 ) -> Result<(), RunFault> {
     let script = read_script(alloc, input)?;
-    if text.send(alloc, &script, output)? {
+    if rendering.send(alloc, &script, output)? {
         Ok(())
     } else {
         Err(RunFault::Write)
@@ -78,25 +79,25 @@ pub fn run_of<X: ScriptText, S: Source, K: Sink>(
 // The text of the answers to a script.
 pub(crate) struct AnswerText;
 
-impl ScriptText for AnswerText {
+impl Rendering for AnswerText {
     fn send<K: Sink>(
         &self,
         alloc: Global,
         script: &Script,
         output: &mut K,
     ) -> Result<bool, AllocError> {
-        let pieces = text_of_script(alloc, script)?;
+        let pieces = text_of_answers(alloc, script)?;
         Ok(send_in_turn(output, &pieces))
     }
 }
 
 /// Reads a script to its end, plays it, writes the text of its answers, and then flushes.
 ///
-/// The script and the text of all answers are in memory at once: the text in pieces of 64 KiB, of which no
-/// copy is made, and the space beside it until the last command is played. Once 4,096 rows are written,
-/// beyond the first eight of each report, the other answers are kept as values in place of their text: 32
-/// bytes each, and 12 to 24 for each row, which takes 23 to 43 as text. Their text is made when the space is
-/// given back.
+/// The script and the text of all answers are in memory at once: the text in pieces of 64 KiB, with no copy
+/// of the whole, and the space beside it until the last command is played. Once more than 4,096 rows are
+/// written, beyond the first eight of each report, and a piece is full, the other answers are kept as
+/// values in place of their text: 32 bytes each, and 12 to 24 for each row, which takes 23 to 43 as text.
+/// Their text is made when the space is given back.
 ///
 /// Nothing is written unless the whole text is a script; of a text that is too long, 1,048,577 bytes are
 /// read. `Read` is returned exactly where the source failed in this call, and `Write` exactly where the sink

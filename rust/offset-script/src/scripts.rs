@@ -1,6 +1,6 @@
 // Printed by rust/erase from crates/offset_script/src/scripts.rt: change it there.
 
-//! Scripts, and their commands.
+//! Scripts, and their commands, as plain data. It touches nothing.
 
 use crate::memory::Vec;
 
@@ -13,8 +13,8 @@ pub enum Command {
     Free(u32),
     /// Asks for the size of the grant of this number.
     Size(u32),
-    /// Asks for the free units in all, and the largest class value of a free block. Both are 0 where the
-    /// space has as many blocks as its limit allows.
+    /// Asks for the free units in all, and the largest free region, which is the largest request that is
+    /// granted. Both are 0 where the space has as many blocks as its limit allows.
     Report,
     /// Asks for the classes that have a free block.
     Full,
@@ -46,7 +46,8 @@ pub struct Header {
     pub index: IndexWidth,
 }
 
-/// A whole script: a space of `size` units, its node limit, the width of its node indices, and its commands.
+/// A whole script: the space of its header, of `size` units, its node limit, the width of its node indices,
+/// and its commands.
 ///
 /// The limit is at least 2 and admitted for the width, and each alignment is a power of two.
 pub struct Script {

@@ -1,6 +1,6 @@
 // Printed by rust/erase from crates/offset_script/src/sending.rt: change it there.
 
-//! Sends texts to sinks. It takes no memory.
+//! Sends texts to sinks. It touches the sinks alone, and takes no memory.
 
 use crate::memory::Vec;
 use crate::buffer::TextBuffer;
@@ -8,7 +8,7 @@ use crate::devices::Sink;
 use crate::faults::RunFault;
 
 // The most bytes of the line of a fault with its line end: a number of 20 digits and the words fit.
-const ROOM: usize = 41;
+const LINE_BYTES: usize = 41;
 
 // Appends all bytes, and returns whether it did. It stops at the first failure, and tries nothing again.
 fn push_all<K: Sink>(output: &mut K, text: &[u8]) -> bool {
@@ -67,13 +67,13 @@ pub(crate) fn send_in_turn<K: Sink>(output: &mut K, pieces: &[Vec<u8>]) -> bool 
 /// ```
 pub fn send_fault<K: Sink>(output: &mut K, fault: RunFault) -> bool {
     let (number, words) = fault.parts();
-    let mut line: TextBuffer<ROOM> = TextBuffer::new();
-    line.put("\n");
-    line.put(words);
+    let mut line: TextBuffer<LINE_BYTES> = TextBuffer::new();
+    line.prepend("\n");
+    line.prepend(words);
     if let Some(number) = number {
-        line.put(": ");
-        line.put_number(u64::from(number));
-        line.put("line ");
+        line.prepend(": ");
+        line.prepend_number(u64::from(number));
+        line.prepend("line ");
     }
     send(output, line.bytes())
 }

@@ -1,19 +1,19 @@
 // Printed by rust/erase from crates/offset_script/src/tokens.rt: change it there.
 
-//! Words and numbers of a line. It only reads the line.
+//! Parts of a text between separators, and the number that a word spells. It only reads the text.
 
 /// The most digits that a number has.
 pub const MOST_DIGITS: usize = 10;
 
-// The index of the first byte `at`, if there is one.
-fn place_of(text: &[u8], at: u8) -> Option<usize> {
-    text.iter().position(|b| *b == at)
+// The index of the first separator, if there is one.
+fn index_of(text: &[u8], separator: u8) -> Option<usize> {
+    text.iter().position(|b| *b == separator)
 }
 
-/// The part before the first byte `at`, and what comes after that byte. All of the text and `None` where
-/// there is none.
-pub fn split_once(text: &[u8], at: u8) -> (&[u8], Option<&[u8]>) {
-    match place_of(text, at) {
+/// The part before the first separator, and what comes after it. All of the text and `None` where there is
+/// none.
+pub fn split_once(text: &[u8], separator: u8) -> (&[u8], Option<&[u8]>) {
+    match index_of(text, separator) {
         None => (text, None),
         Some(i) => (&text[..i], Some(&text[i + 1..])),
     }

@@ -300,7 +300,7 @@ const EXTREMES: [Picture; 9] = [
             "<path class='refusal' d='M820 550v12'/>",
             "<title>call 2: alloc 10, rounded up to 10: too few nodes are left</title>",
             "Largest free region at the worst moment: 0 units, of 0 free, after 1 call.<",
-            "At the node limit, after 2 calls, 0 units are reported as free.",
+            "At the node limit, 2 times, 0 units are reported as free.",
         ],
         counts: &[],
     },
@@ -432,7 +432,7 @@ fn each_age_ends_at_its_bound(rt: HostRuntime) {
     }
 }
 
-// Each life has the colour of its bin, and the longest lives come first. Two grants of 1 call, and one of 11
+// Each life has the colour of its age, and the longest lives come first. Two grants of 1 call, and one of 11
 // calls.
 #[test]
 fn groups_grants_by_age(rt: HostRuntime) {

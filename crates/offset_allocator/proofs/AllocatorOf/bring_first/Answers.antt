@@ -17,7 +17,7 @@ listed : (g : Over) (c : After-self g) → 1 ≤ times c.args.name (bin_at (bins
 listed g c =
     let f : Fields = fields_of g.T.Tables.cells g.T.Index.NodeIndex.MAX c.self.inside in
     let p = c.requires.free.0 in
-    subst (λ x. 1 ≤ times x (bin_at (shown f).order (down p.block.size))) c.requires.free.2
+    subst (λ x. 1 ≤ times x (bin_at (shown f).bins (down p.block.size))) c.requires.free.2
     (block_listed (shown f) (known_sound f c.self.invariant (shown f) refl).0 p (ap (λ (u : View). u.blocks) c.self.view_is ∙ c.requires.free.1) c.requires.free.3)
 
 pub size-size-requires : goal.size-size-requires

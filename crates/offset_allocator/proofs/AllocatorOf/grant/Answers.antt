@@ -1,6 +1,6 @@
 use Rattle.offset_allocator.proofs.Common.{◌≡◌, ◌+◌, ◌-◌, ◌≤◌, ◌<◌, ◌^◌, ◌∙◌, ℕ, ap, arith, refl, subst, sym, up, Node, View, padding_to, IsFoundFrom, Some, HasRoomFor, blocks_needed, units, bin_at}
 use Rattle.offset_allocator.proofs.Common.{◌≢◌, [], ◌∷◌}
-use Rattle.offset_allocator.specs.Tight.{HoldsFirst}
+use Rattle.offset_allocator.specs.Requests.{NewestHolds}
 use Rattle.offset_allocator.proofs.Common.{Splits}
 use Rattle.offset_allocator.proofs.Sound.{shown, AreSound, Fields, fields_of}
 use Rattle.offset_allocator.proofs.Granting.{Call, got, held, unlisted, padding_fits, units_free, granted}
@@ -26,7 +26,7 @@ holding : (g : Over) (c : After-pop-name g)
     → padding_to c.args.align (units (got (call g c)).place.before) + c.args.size ≤ (got (call g c)).place.block.size
 holding g c =
     let p = call g c in
-    subst (HoldsFirst c.args.class c.args.size c.args.align)
+    subst (NewestHolds c.args.class c.args.size c.args.align)
     (sym (made_shown (fields_of g.T.Tables.cells g.T.Index.NodeIndex.MAX c.self.inside) c.self.invariant c.ensure_spares.ensures.readies ∙ c.self.view_is)) c.requires.holds
     (got p).place p.older (got p).list_is (p.newest ∙ ap (λ y. y ∷ p.older) (sym (got p).name))
 
@@ -38,7 +38,7 @@ pop-name-requires-clause-binned g c = (c.ensure_spares.ensures.readies.bins _ c.
 
 pub pop-name-requires-clause-some : goal.pop-name-requires-clause-some
 pop-name-requires-clause-some g c =
-    subst (λ (u : View). bin_at u.order c.args.class ≢ [])
+    subst (λ (u : View). bin_at u.bins c.args.class ≢ [])
     (sym (made_shown (fields_of g.T.Tables.cells g.T.Index.NodeIndex.MAX c.self.inside) c.self.invariant c.ensure_spares.ensures.readies ∙ c.self.view_is)) c.requires.filled
 
 pub offset-offset-requires : goal.offset-offset-requires
@@ -104,7 +104,7 @@ done : (g : Over) (c : After-divide g)
     }
     → AreSound f
     × ((needed : ℕ) → IsFoundFrom (up needed)
-    (shown (with_made (fields_of g.T.Tables.cells g.T.Index.NodeIndex.MAX c.self.inside) (g.T.Tables.cells c.ensure_spares.new.tables) c.ensure_spares.new.spare_count)).order (Some c.args.class)
+    (shown (with_made (fields_of g.T.Tables.cells g.T.Index.NodeIndex.MAX c.self.inside) (g.T.Tables.cells c.ensure_spares.new.tables) c.ensure_spares.new.spare_count)).bins (Some c.args.class)
     → Splits needed c.args.size (padding_to c.args.align)
     (shown (with_made (fields_of g.T.Tables.cells g.T.Index.NodeIndex.MAX c.self.inside) (g.T.Tables.cells c.ensure_spares.new.tables) c.ensure_spares.new.spare_count)) (shown f)
     (record { name = c.pop-name.result; offset = c.offset-offset.result + padding_to c.args.align c.offset-offset.result }))
@@ -128,7 +128,7 @@ returns-clause-step g c needed found =
     let seen = (made_shown (fields_of g.T.Tables.cells g.T.Index.NodeIndex.MAX c.self.inside) c.self.invariant c.ensure_spares.ensures.readies ∙ c.self.view_is) in
     rw (c.handle_of.ensures, ← seen)
     ((done g at.After-divide (call g at.After-pop-name) (holding g at.After-pop-name) c.divide.new.store.accesses _ refl).1 needed
-    (subst (λ (u : View). IsFoundFrom (up needed) u.order (Some c.args.class)) (sym seen) found))
+    (subst (λ (u : View). IsFoundFrom (up needed) u.bins (Some c.args.class)) (sym seen) found))
 
 pub overflow_add-parts : goal.overflow_add-parts
 overflow_add-parts g c = let at = goal.at.overflow_add-parts g c in omega (arith, fits g at.After-size-whole (call g at.After-pop-name) (holding g at.After-pop-name))

@@ -36,8 +36,8 @@ done g c k =
     let r = release g here.After-self in
     let h = marked g here.After-set_used r in
     let m = c.coalesce.ensures.place _ _ h in
-    let order = rw (ap (λ (v : Node). v.size) (at_place m), (bins g here.After-set_used r).1) at (c.coalesce.ensures.lists _ _ h) in
-    let left = freed r new.cells new.last new.count new.top k m.chain c.coalesce.ensures.binned order in
+    let bins_are = rw (ap (λ (v : Node). v.size) (at_place m), (bins g here.After-set_used r).1) at (c.coalesce.ensures.lists _ _ h) in
+    let left = freed r new.cells new.last new.count new.top k m.chain c.coalesce.ensures.binned bins_are in
     (rw (c.size-size.ensures.cell ∙ ap (λ (v : Node). v.size) (at_place (at r).held)) left.0, rw (← c.self.view_is) left.1)
 
 pub size-size-requires : goal.size-size-requires

@@ -1,4 +1,4 @@
-use Rattle.offset_allocator.proofs.Common.{◌≡◌, ℕ, Some, sym, ap, subst, ◌∙◌, arith, View, Grant, Allocates, Aligns, SameSpace, IsLive, IsWellFormed, Option, unwrap_or, size_of}
+use Rattle.offset_allocator.proofs.Common.{◌≡◌, ℕ, Some, sym, ap, subst, ◌∙◌, arith, View, Handle, Allocates, Aligns, SameSpace, IsLive, IsWellFormed, Option, unwrap_or, size_of}
 use Rattle.offset_allocator.specs.Relocating.{offset_of, Relocates}
 use Rattle.offset_allocator.proofs.{Sound.fields_of, Sound.known_sound, Reading.live_below, Reading.live_size, Reading.live_offset}
 use Rattle.offset_allocator.proofs.{Begins.Begins, Begins.none_relocates, Begins.later_relocates, Begins.earlier_relocates, Begins.relocated_grants, Begins.relocated_before}
@@ -32,7 +32,7 @@ its_offset g c = c.offset-old.ensures.cell
 -- what was found of the block
 found : (g : Over) (c : After-would_begin g) → Begins c.args.self.now c.args.allocation.name c.size-size.result c.offset-old.result (its_size g c) (its_offset g c) c.would_begin.result
 found g c =
-    subst (λ (v : View). (k : ℕ) × ((w : View) (h : Grant) → Allocates c.size-size.result (record v { accesses = k }) w (Some h) → c.would_begin.result ≡ Some h.offset)) c.self.view_is
+    subst (λ (v : View). (k : ℕ) × ((w : View) (h : Handle) → Allocates c.size-size.result (record v { accesses = k }) w (Some h) → c.would_begin.result ≡ Some h.offset)) c.self.view_is
     (_, c.would_begin.ensures.begins)
 
 the_same : (g : Over) (c : After-would_begin g) → SameSpace c.args.self.now c.would_begin.new.self
@@ -41,7 +41,7 @@ the_same g c = subst (λ (v : View). SameSpace v c.would_begin.new.self) c.self.
 pub returns-in_err-begins-clause-step : goal.returns-in_err-begins-clause-step
 returns-in_err-begins-clause-step g c =
     let at = (goal.at.returns-in_err-begins-clause-step g c).After-would_begin in
-    subst (λ (h : Option Grant). Relocates c.args.allocation.name c.args.self.now c.would_begin.new.self h) (sym c.from_residual.ensures)
+    subst (λ (h : Option Handle). Relocates c.args.allocation.name c.args.self.now c.would_begin.new.self h) (sym c.from_residual.ensures)
     (none_relocates c.args.self.now c.args.allocation.name c.size-size.result c.offset-old.result (its_size g at) (its_offset g at) c.would_begin.result
     (found g at) c.in_err-begins.was c.would_begin.new.self (the_same g at))
 

@@ -1,4 +1,4 @@
-use Rattle.offset_allocator.proofs.Common.{◌≡◌, ◌<◌, ℕ, None, Some, Option, length, sym, ap, subst, ◌∙◌, arith, node, View, Grant, Allocates, IsFoundFrom, bins_in}
+use Rattle.offset_allocator.proofs.Common.{◌≡◌, ◌<◌, ℕ, None, Some, Option, length, sym, ap, subst, ◌∙◌, arith, node, View, Handle, Allocates, IsFoundFrom, bins_in}
 use Rattle.offset_allocator.proofs.{Sound.fields_of, Classes.below_value_up, Begins.head_below, Begins.some_begins, Begins.none_begins}
 use Rattle.offset_allocator.proofs.AllocatorOf.would_begin.Goals as goal
 
@@ -13,7 +13,7 @@ offset-requires g c =
 
 pub returns-in_err-class-clause-begins : goal.returns-in_err-class-clause-begins
 returns-in_err-class-clause-begins g c =
-    subst (λ (v : View). (w : View) (h : Grant) → Allocates c.args.size v w (Some h) → c.from_residual.result ≡ Some h.offset) c.self.view_is
+    subst (λ (v : View). (w : View) (h : Handle) → Allocates c.args.size v w (Some h) → c.from_residual.result ≡ Some h.offset) c.self.view_is
     (λ w h a. absurd (none_begins (fields_of g.T.Tables.cells g.T.Index.NodeIndex.MAX c.self.inside) c.self.invariant c.args.size w h a
     (subst (λ (k : ℕ). IsFoundFrom k (bins_in g.T.Index.NodeIndex.MAX (g.T.Tables.cells c.self.inside.store.tables).bins) None) c.uint_to_float_round_up-smallest.ensures.is
     (subst (λ (o : Option ℕ). IsFoundFrom c.uint_to_float_round_up-smallest.result (bins_in g.T.Index.NodeIndex.MAX (g.T.Tables.cells c.self.inside.store.tables).bins) o) c.in_err-class.was
@@ -21,7 +21,7 @@ returns-in_err-class-clause-begins g c =
 
 pub returns-clause-begins : goal.returns-clause-begins
 returns-clause-begins g c =
-    subst (λ (v : View). (w : View) (h : Grant) → Allocates c.args.size v w (Some h) → Some c.offset.result ≡ Some h.offset) c.self.view_is
+    subst (λ (v : View). (w : View) (h : Handle) → Allocates c.args.size v w (Some h) → Some c.offset.result ≡ Some h.offset) c.self.view_is
     (λ w h a. ap Some (c.offset.ensures.cell ∙ ap (λ (x : ℕ). (node (g.T.Tables.cells c.self.inside.store.tables).chain x).offset) c.head-name.ensures.cell
     ∙ some_begins (fields_of g.T.Tables.cells g.T.Index.NodeIndex.MAX c.self.inside) c.self.invariant c.args.size w h a c.in_ok-class.class
     (subst (λ (k : ℕ). IsFoundFrom k (bins_in g.T.Index.NodeIndex.MAX (g.T.Tables.cells c.self.inside.store.tables).bins) (Some c.in_ok-class.class)) c.uint_to_float_round_up-smallest.ensures.is

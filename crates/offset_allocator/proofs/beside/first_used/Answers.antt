@@ -1,6 +1,6 @@
 use Rattle.offset_allocator.proofs.Common.{◌≡◌, List, [], ◌∷◌, ◌++◌, Some, None, length, refl, sym, ap, ◌∙◌, arith}
 use Rattle.offset_allocator.proofs.Common.{append-nil, append_assoc, Node, Block, blocks, last_or, units, placed}
-use Rattle.offset_allocator.specs.Beside.{first_grant}
+use Rattle.offset_allocator.specs.Beside.{first_handle}
 use Rattle.offset_allocator.proofs.{Ends.Ended, Ends.ended, Ends.last_none, Places.at_place, Sliding.walked, Foremost.name_of, Foremost.met_used, Foremost.met_free}
 use Rattle.offset_allocator.proofs.beside.first_used.Goals as goal
 use Rattle.offset_allocator.proofs.beside.first_used.Goals.{then-is_used, else-is_used}
@@ -28,7 +28,7 @@ loop-at-preserved g c =
     let f : Ended c.in-Some.name i.front = ended i.front c.in-Some.name e in
     let h = walked c.requires.space.1 i.front i.met i.is e in
     let used : c.is_used.result ≡ f.last.used = c.is_used.ensures.cell ∙ ap (λ (n : Node). n.used) (at_place h) in
-    let before : c.loop-at.first ≡ name_of (first_grant (placed (units (f.front ++ f.last ∷ [])) i.met)) = i.first ∙ ap (λ (l : List Block). name_of (first_grant (placed (units l) i.met))) f.is in
+    let before : c.loop-at.first ≡ name_of (first_handle (placed (units (f.front ++ f.last ∷ [])) i.met)) = i.first ∙ ap (λ (l : List Block). name_of (first_handle (placed (units l) i.met))) f.is in
     record {
       front = f.front;
       met = f.last ∷ i.met;
@@ -45,8 +45,8 @@ pub returns-clause-first : goal.returns-clause-first
 returns-clause-first g c =
     let i = c.loop-at.invariant in
     let none = last_none i.front (i.ends ∙ c.in_default.is) in
-    i.first ∙ ap (λ (l : List Block). name_of (first_grant (placed (units l) i.met))) none
-    ∙ sym (ap (λ (l : List Block). name_of (first_grant (placed 0 l))) (i.is ∙ ap (λ (l : List Block). l ++ i.met) none))
+    i.first ∙ ap (λ (l : List Block). name_of (first_handle (placed (units l) i.met))) none
+    ∙ sym (ap (λ (l : List Block). name_of (first_handle (placed 0 l))) (i.is ∙ ap (λ (l : List Block). l ++ i.met) none))
 
 pub returns-clause-accesses : goal.returns-clause-accesses
 returns-clause-accesses g c =

@@ -1,5 +1,5 @@
 use Rattle.offset_allocator.proofs.Common.{◌≡◌, ◌+◌, ◌-◌, ◌*◌, List, ◌++◌, None, length, Block, blocks, last_or, units, placed}
-use Rattle.offset_allocator.specs.Beside.{first_grant}
+use Rattle.offset_allocator.specs.Beside.{first_handle}
 use Rattle.offset_allocator.proofs.Foremost.{name_of}
 use Rattle.offset_allocator.proofs.beside.first_used.Given as goal
 
@@ -10,7 +10,7 @@ invariant-loop-at g l = record {
   met : List Block;
   is : blocks (g.T.Tables.cells l.tables).chain l.last ≡ front ++ met;
   ends : last_or None front ≡ l.at;
-  first : l.first ≡ name_of (first_grant (placed (units front) met));
+  first : l.first ≡ name_of (first_handle (placed (units front) met));
   accesses : l.count ≡ l.initial.count + 2 * length met;
 }
 

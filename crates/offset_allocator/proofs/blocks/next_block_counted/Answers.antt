@@ -1,4 +1,4 @@
-use Rattle.offset_allocator.proofs.Common.{◌≡◌, Bool, Option, None, Some, ◌∷◌, ◌-◌, if◌then◌else◌, sym, ap, ◌∙◌, arith, node, Grant, Placed, common_steps}
+use Rattle.offset_allocator.proofs.Common.{◌≡◌, Bool, Option, None, Some, ◌∷◌, ◌-◌, if◌then◌else◌, sym, ap, ◌∙◌, arith, node, Handle, Placed, common_steps}
 use Rattle.offset_allocator.proofs.{Sound.fields_of, Listing.left, Listing.none_left, Listing.node_placed, Listing.read_is}
 use Rattle.offset_allocator.proofs.blocks.next_block_counted.Goals.{then-is_used, else-is_used}
 use Rattle.offset_allocator.proofs.blocks.next_block_counted.Goals as goal
@@ -32,8 +32,8 @@ pub returns-clause-yields : goal.returns-clause-yields
 returns-clause-yields g c =
     let r = read_is (fields_of g.T.Tables.cells g.T.Index.NodeIndex.MAX c.allocator.inside) c.allocator.invariant _ _ _ c.allocator.view_is c.blocks-2.invariant.0
     (c.blocks-2.invariant.1 ∙ c.in_ok-name.was) in
-    let P : Option Grant → Placed = λ h. record { offset = c.offset-offset.result; size = c.size-size.result; grant = h } in
-    let grant_if : Bool → Option Grant = λ b. if b then Some (record { name = c.in_ok-name.name; offset = c.offset-offset.result }) else None in
+    let P : Option Handle → Placed = λ h. record { offset = c.offset-offset.result; size = c.size-size.result; handle = h } in
+    let grant_if : Bool → Option Handle = λ b. if b then Some (record { name = c.in_ok-name.name; offset = c.offset-offset.result }) else None in
     let grant : grant_if c.is_used.result ≡ c.if-is_used.allocation = grind (arith, common_steps, then-is_used, else-is_used) in
     let block = node_placed c.in_ok-name.name (node (g.T.Tables.cells c.allocator.inside.store.tables).chain c.in_ok-name.name) _ _ _ c.offset-offset.ensures.cell c.size-size.ensures.cell
     c.is_used.ensures.cell ∙ ap P grant in

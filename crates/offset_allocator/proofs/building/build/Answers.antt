@@ -1,4 +1,4 @@
-use Rattle.offset_allocator.proofs.Common.{◌∙◌, ap, refl, sym, subst, length, arith, IsApart, take}
+use Rattle.offset_allocator.proofs.Common.{◌∙◌, ap, refl, sym, subst, length, arith, AreCoalesced, take}
 use Rattle.offset_allocator.proofs.{StateWords.length-words, StateWords.same_counts, StateWords.freed_same, StateWords.length-freed, Views.blocks-chain, Views.space-chain}
 use Rattle.offset_allocator.proofs.building.build.Goals as goal
 
@@ -24,7 +24,7 @@ returns-in-Err-look_over-clause-wrong g c _ bs words whole each once apart =
     let l = rw c.in-Ok.is at c.in_ok-wrong.ensures.out in
     let f = c.in_default.ensures.chain refl c.args.limit l.all l.used l.chain in
     c.in-Err-look_over.ensures.wrong refl
-    (subst IsApart (freed_same c.args.free.now bs l.all (words ∙ sym l.words) ∙ sym (blocks-chain (g.T.Tables.cells c.free_names.new.store.tables).chain c.args.limit _ _ _ f.0)) apart)
+    (subst AreCoalesced (freed_same c.args.free.now bs l.all (words ∙ sym l.words) ∙ sym (blocks-chain (g.T.Tables.cells c.free_names.new.store.tables).chain c.args.limit _ _ _ f.0)) apart)
 
 pub returns-in-Ok-look_over-clause-built : goal.returns-in-Ok-look_over-clause-built
 returns-in-Ok-look_over-clause-built g c =
@@ -41,9 +41,9 @@ returns-in-Ok-look_over-clause-built g c =
         count = same.1 ∙ l.count;
         spare = ap (λ k. take (length c.args.unused.now) k) same.2 ∙ l.spare;
         binned = c.in_default.ensures.binned;
-        order = f.1;
+        bins = f.1;
         once = f.2;
-        apart = subst IsApart (blocks-chain (g.T.Tables.cells c.free_names.new.store.tables).chain c.args.limit _ _ _ f.0) o.0;
+        apart = subst AreCoalesced (blocks-chain (g.T.Tables.cells c.free_names.new.store.tables).chain c.args.limit _ _ _ f.0) o.0;
       },
       o.1,
       o.2,

@@ -1,5 +1,5 @@
 use Rattle.offset_allocator.proofs.Common.{◌≡◌, ◌∙◌, ◌+◌, ◌-◌, ◌∷◌, ap, sym, subst, not, None, Some, inl, inr, take, drop, sum, arith, ℕ, List, Block, last_or, free_sizes, used_of}
-use Rattle.offset_allocator.proofs.Common.{starts_free, IsApart}
+use Rattle.offset_allocator.proofs.Common.{starts_free, AreCoalesced}
 use Rattle.offset_allocator.proofs.{Surveys.next_back, Surveys.drop_sums, Surveys.sums_free, Surveys.sums_used, Surveys.joined_apart, Surveys.not_apart, Surveys.drop_apart, Surveys.name_next}
 use Rattle.offset_allocator.specs.Chain.{blocks as blocks_in}
 use Rattle.offset_allocator.specs.declared.building.Overview.{Overview}
@@ -33,7 +33,7 @@ returns-then-is_free_after-clause-wrong g c _ apart =
     let k : ℕ = c.args.blocks - c.loop-i.i in
     let r = next_back bs k c.loop-i.name c.requires.space.1 (omega (arith, c.requires.all)) (c.loop-i.invariant.at (omega (arith, c.loop-i-test.true))) in
     not_apart r.block (drop k bs) (ap not (sym (c.used-is_free.ensures.cell ∙ r.used) ∙ c.if-is_free.true)) (sym c.loop-i.invariant.first ∙ c.if-is_free_after.true)
-    (subst IsApart r.passed (drop_apart bs (k - 1) apart))
+    (subst AreCoalesced r.passed (drop_apart bs (k - 1) apart))
 
 pub overflow_add-found : goal.overflow_add-found
 overflow_add-found g c =
@@ -72,7 +72,7 @@ loop-i-preserved g c =
         | in_default w ↦ absurd (name_next bs (k - 1) (sym r.before ∙ sym c.before-in-loop-i.ensures.cell ∙ sym c.linked.ensures
             ∙ w.in_default.is) (omega (arith, more)) (omega (arith, c.requires.all)))
       ];
-      apart = subst IsApart (sym passed) (joined_apart r.block (drop k bs) (elim c.else-is_free.branch [
+      apart = subst AreCoalesced (sym passed) (joined_apart r.block (drop k bs) (elim c.else-is_free.branch [
         | else-is_free-via-then-is_free+else-is_free_after w ↦ inr (sym i.first ∙ w.if-is_free_after.false)
         | else-is_free-via-else-is_free w ↦ inl (ap not (sym used ∙ w.if-is_free.false))
       ]) i.apart);

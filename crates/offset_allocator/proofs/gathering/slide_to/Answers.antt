@@ -171,11 +171,11 @@ returns-then-next-end-clause-place g c m p run back h st fl =
     let none = is_last s f.0 f.1 f.2 c.args.end st.ends (n ∙ c.if-next-end.true) in
     let d = way_done k none in
     let left = remove (down f.0.size) f.0.name (bins_in g.T.Index.NodeIndex.MAX (g.T.Tables.cells c.loop-next.store.tables).bins) in
-    let order = bins_in g.T.Index.NodeIndex.MAX (g.T.Tables.cells c.args.store.now.tables).bins in (
+    let bins = bins_in g.T.Index.NodeIndex.MAX (g.T.Tables.cells c.args.store.now.tables).bins in (
       c.close.ensures.place m _ d.0 d.1,
       d.2,
       d.3,
-      ap (bins_in g.T.Index.NodeIndex.MAX) c.close.ensures.bins.0 ∙ out_into s f.0 f.1 f.2 order _ _ free gone i.1 ∙ ap (λ l. remove_all l order) d.6,
+      ap (bins_in g.T.Index.NodeIndex.MAX) c.close.ensures.bins.0 ∙ out_into s f.0 f.1 f.2 bins _ _ free gone i.1 ∙ ap (λ l. remove_all l bins) d.6,
       rw (c.close.ensures.bins.0, gone) (subst (λ l. AreInBins ((p.before ++ live l) ++ back) left) d.6 (subst (λ l. AreInBins ((p.before ++ live k.done) ++ (l ++ back)) left) none
           (filed_into s f.0 f.1 f.2 _ free c.loop-next.invariant.binned.linked.lists_len i.2))),
       omega (arith, d.4, c.open-gap.ensures.accesses, c.after-at.ensures.accesses, c.close.ensures.accesses.1),

@@ -3,64 +3,64 @@ use Rattle.offset_allocator.proofs.{Pieces.padded_unlisted, Pieces.pushed_parts,
 use Rattle.offset_allocator.proofs.neighbours.divide.Goals as goal
 use Rattle.offset_allocator.proofs.neighbours.divide.{Goals.After-set_used, Given.Over}
 
-pub split_padding-front-requires-clause-place : goal.split_padding-front-requires-clause-place
-split_padding-front-requires-clause-place g c = (_, _, c.requires.place.2, c.requires.place.3)
+pub split_padding-padding_name-requires-clause-place : goal.split_padding-padding_name-requires-clause-place
+split_padding-padding_name-requires-clause-place g c = (_, _, c.requires.place.2, c.requires.place.3)
 
 pub set_used-requires : goal.set_used-requires
-set_used-requires g c = (c.split_padding-front.ensures.place _ _ c.requires.place.2).below
+set_used-requires g c = (c.split_padding-padding_name.ensures.place _ _ c.requires.place.2).below
 
 -- the bins once the block is used
-marked : (g : Over) (c : After-set_used g) → IsBinned g.T.Index.NodeIndex.MAX (g.T.Tables.cells c.set_used.new.tables).bins c.split_padding-front.new.store.top_mask
-    × (bins_in g.T.Index.NodeIndex.MAX (g.T.Tables.cells c.set_used.new.tables).bins ≡ push_all (free_part c.split_padding-front.result c.args.parts.padding)
+marked : (g : Over) (c : After-set_used g) → IsBinned g.T.Index.NodeIndex.MAX (g.T.Tables.cells c.set_used.new.tables).bins c.split_padding-padding_name.new.store.top_mask
+    × (bins_in g.T.Index.NodeIndex.MAX (g.T.Tables.cells c.set_used.new.tables).bins ≡ push_all (free_part c.split_padding-padding_name.result c.args.parts.padding)
     (bins_in g.T.Index.NodeIndex.MAX (g.T.Tables.cells c.args.store.now.tables).bins))
 marked g c =
-    let front = c.split_padding-front.ensures in
-    let fresh : IsUnlisted c.args.name (bins_in g.T.Index.NodeIndex.MAX (g.T.Tables.cells c.split_padding-front.new.store.tables).bins) =
-    rw front.lists (padded_unlisted c.requires.place.1.before c.split_padding-front.result c.args.parts.padding _ c.requires.binned.linked.lists_len
+    let front = c.split_padding-padding_name.ensures in
+    let fresh : IsUnlisted c.args.name (bins_in g.T.Index.NodeIndex.MAX (g.T.Tables.cells c.split_padding-padding_name.new.store.tables).bins) =
+    rw front.lists (padded_unlisted c.requires.place.1.before c.split_padding-padding_name.result c.args.parts.padding _ c.requires.binned.linked.lists_len
     (front.place _ _ c.requires.place.2) c.requires.unlisted) in
     let b = c.set_used.ensures.bins _ fresh front.binned in
     (b.0, b.1 ∙ front.lists)
 
-pub split_remainder-rest-requires-clause-binned : goal.split_remainder-rest-requires-clause-binned
-split_remainder-rest-requires-clause-binned g c = (marked g (goal.at.split_remainder-rest-requires-clause-binned g c).After-set_used).0
+pub split_remainder-remainder_name-requires-clause-binned : goal.split_remainder-remainder_name-requires-clause-binned
+split_remainder-remainder_name-requires-clause-binned g c = (marked g (goal.at.split_remainder-remainder_name-requires-clause-binned g c).After-set_used).0
 
-pub split_remainder-rest-requires-clause-spare : goal.split_remainder-rest-requires-clause-spare
-split_remainder-rest-requires-clause-spare g c = grind (arith, eq-zero-or-pos)
+pub split_remainder-remainder_name-requires-clause-spare : goal.split_remainder-remainder_name-requires-clause-spare
+split_remainder-remainder_name-requires-clause-spare g c = grind (arith, eq-zero-or-pos)
 
-pub split_remainder-rest-requires-clause-place : goal.split_remainder-rest-requires-clause-place
-split_remainder-rest-requires-clause-place g c =
+pub split_remainder-remainder_name-requires-clause-place : goal.split_remainder-remainder_name-requires-clause-place
+split_remainder-remainder_name-requires-clause-place g c =
     let r = c.requires.place in (
       _,
       _,
-      c.set_used.ensures.place _ _ _ _ (c.split_padding-front.ensures.place _ _ r.2),
-      rw (marked g (goal.at.split_remainder-rest-requires-clause-place g c).After-set_used).1
-          (unlisted_part r.1.before r.1.after r.1.block _ c.split_padding-front.result c.args.parts.padding _ refl c.requires.binned.linked.lists_len r.3),
+      c.set_used.ensures.place _ _ _ _ (c.split_padding-padding_name.ensures.place _ _ r.2),
+      rw (marked g (goal.at.split_remainder-remainder_name-requires-clause-place g c).After-set_used).1
+          (unlisted_part r.1.before r.1.after r.1.block _ c.split_padding-padding_name.result c.args.parts.padding _ refl c.requires.binned.linked.lists_len r.3),
     )
 
-pub split_remainder-rest-requires-clause-whole : goal.split_remainder-rest-requires-clause-whole
-split_remainder-rest-requires-clause-whole g c =
+pub split_remainder-remainder_name-requires-clause-whole : goal.split_remainder-remainder_name-requires-clause-whole
+split_remainder-remainder_name-requires-clause-whole g c =
     let h = c.requires.place.2 in
-    let now = at_place (c.set_used.ensures.place _ _ _ _ (c.split_padding-front.ensures.place _ _ h)) in
+    let now = at_place (c.set_used.ensures.place _ _ _ _ (c.split_padding-padding_name.ensures.place _ _ h)) in
     omega (arith, c.requires.whole, ap (λ (v : Node). v.size) (at_place h), ap (λ (v : Node). v.size) now)
 
 pub returns-clause-place : goal.returns-clause-place
-returns-clause-place g c m p h = c.split_remainder-rest.ensures.place _ _ (c.set_used.ensures.place _ _ _ _ (c.split_padding-front.ensures.place _ _ h))
+returns-clause-place g c m p h = c.split_remainder-remainder_name.ensures.place _ _ (c.set_used.ensures.place _ _ _ _ (c.split_padding-padding_name.ensures.place _ _ h))
 
-pub split_remainder-rest-requires-clause-offset : goal.split_remainder-rest-requires-clause-offset
-split_remainder-rest-requires-clause-offset g c =
+pub split_remainder-remainder_name-requires-clause-offset : goal.split_remainder-remainder_name-requires-clause-offset
+split_remainder-remainder_name-requires-clause-offset g c =
     let h = c.requires.place.2 in
-    let now = at_place (c.set_used.ensures.place _ _ _ _ (c.split_padding-front.ensures.place _ _ h)) in
+    let now = at_place (c.set_used.ensures.place _ _ _ _ (c.split_padding-padding_name.ensures.place _ _ h)) in
     omega (
       arith,
       c.requires.start,
       ap (λ (v : Node). v.offset) (at_place h),
       ap (λ (v : Node). v.offset) now,
-      units-append c.requires.place.1.before (free_part c.split_padding-front.result c.args.parts.padding),
-      (part_sums c.split_padding-front.result c.args.parts.padding).1,
+      units-append c.requires.place.1.before (free_part c.split_padding-padding_name.result c.args.parts.padding),
+      (part_sums c.split_padding-padding_name.result c.args.parts.padding).1,
     )
 
 pub returns-clause-lists : goal.returns-clause-lists
 returns-clause-lists g c =
-    let rest : List Block = free_part c.split_remainder-rest.result c.args.parts.left in
-    c.split_remainder-rest.ensures.lists ∙ ap (push_all rest) (marked g (goal.at.returns-clause-lists g c).After-set_used).1
-    ∙ sym (pushed_parts c.split_padding-front.result c.args.parts.padding c.args.name c.args.parts.size rest (bins_in g.T.Index.NodeIndex.MAX (g.T.Tables.cells c.args.store.now.tables).bins))
+    let rest : List Block = free_part c.split_remainder-remainder_name.result c.args.parts.remainder in
+    c.split_remainder-remainder_name.ensures.lists ∙ ap (push_all rest) (marked g (goal.at.returns-clause-lists g c).After-set_used).1
+    ∙ sym (pushed_parts c.split_padding-padding_name.result c.args.parts.padding c.args.name c.args.parts.size rest (bins_in g.T.Index.NodeIndex.MAX (g.T.Tables.cells c.args.store.now.tables).bins))

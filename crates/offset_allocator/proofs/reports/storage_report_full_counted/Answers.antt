@@ -27,12 +27,12 @@ put_one rs c row l before k d h = elim (cases_eq k c) [
   | inr n ↦ get_or-set_other rs c k (row c) d n ∙ before k d (omega (arith, n, h))
 ]
 
-names_four : (c : ℕ) (order : List (List ℕ))
-    → names_below (c + 4) order ≡ names_below c order + length (bin_at order c) + length (bin_at order (c + 1)) + length (bin_at order (c + 2)) + length (bin_at order (c + 3))
-names_four c order = ap (λ n. names_below n order) four ∙ omega (arith, ap at one, ap at two, ap at three)
+names_four : (c : ℕ) (bins : List (List ℕ))
+    → names_below (c + 4) bins ≡ names_below c bins + length (bin_at bins c) + length (bin_at bins (c + 1)) + length (bin_at bins (c + 2)) + length (bin_at bins (c + 3))
+names_four c bins = ap (λ n. names_below n bins) four ∙ omega (arith, ap at one, ap at two, ap at three)
   where
     at : ℕ → ℕ
-    at n = length (bin_at order n)
+    at n = length (bin_at bins n)
 
     four : c + 4 ≡ suc (suc (suc (suc c)))
     four = omega arith

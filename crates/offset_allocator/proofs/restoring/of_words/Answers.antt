@@ -1,4 +1,4 @@
-use Rattle.offset_allocator.proofs.Common.{◌+◌, ◌*◌, ◌-◌, ◌≤◌, ◌++◌, ◌∷◌, [], ◌≡◌, ◌∙◌, ap, ap₂, refl, sym, subst, take, drop, get_or, length, arith, ℕ, List, Block, View, IsApart}
+use Rattle.offset_allocator.proofs.Common.{◌+◌, ◌*◌, ◌-◌, ◌≤◌, ◌++◌, ◌∷◌, [], ◌≡◌, ◌∙◌, ap, ap₂, refl, sym, subst, take, drop, get_or, length, arith, ℕ, List, Block, View, AreCoalesced}
 use Rattle.offset_allocator.proofs.Common.{used_of, count_named, times}
 use Rattle.offset_allocator.proofs.Restored.{AreParts, parted, well_built, text_built}
 use Rattle.offset_allocator.proofs.{StateWords.freed_same, StateWords.length-words, StateWords.length-freed, Views.blocks-chain, Views.space-chain}
@@ -41,7 +41,7 @@ returns-in-Err-2-clause-refused g c _ v w admitted asked t =
     let b = rw c.in-Err-2.is at c.in_ok-wrong.ensures.wrong in
     b refl v.blocks (sym p.first) (w.whole ∙ sym (same_size hd t)) (subst (AreEach v.blocks) (sym p.third) t.are.each)
     (λ x. subst (λ l. times x l ≤ count_named x v.blocks) (sym p.second) (t.are.once x))
-    (subst IsApart (sym t.are.free ∙ ap (λ l. freed l v.blocks) (sym p.second)) w.apart)
+    (subst AreCoalesced (sym t.are.free ∙ ap (λ l. freed l v.blocks) (sym p.second)) w.apart)
 
 pub returns-then-found-header-clause-refused : goal.returns-then-found-header-clause-refused
 returns-then-found-header-clause-refused g c _ v w admitted asked t =
@@ -49,7 +49,7 @@ returns-then-found-header-clause-refused g c _ v w admitted asked t =
     let p = parts hd t in
     let b = rw c.in-Ok-2.is at c.in_ok-wrong.ensures.built in
     let same = blocks-chain _ _ _ _ _ b.0.chain ∙ freed_same _ b.0.all v.blocks (b.0.words ∙ p.first) ∙ ap (λ l. freed l v.blocks) p.second ∙ t.are.free in
-    omega (arith, c.if-found-header.true, b.2, ap used_of same, w.spare, same_limit hd t)
+    omega (arith, c.if-found-header.true, b.2, ap used_of same, w.few_used, same_limit hd t)
 
 pub invariant_of-result : goal.invariant_of-result
 invariant_of-result g c =
@@ -68,9 +68,9 @@ invariant_of-result g c =
             size = c.in-Ok.header.size;
             max_allocs = c.in-Ok.header.max_allocs;
             blocks = bs;
-            order = o;
+            bins = o;
             accesses = 0;
-          } in u) same b.0.order))
+          } in u) same b.0.bins))
           (well_built c.in-Ok.header.size c.in-Ok.header.max_allocs 0 b.0.all _ _ (omega (arith, hd.some, count))
           b.0.whole (omega (
             arith,
@@ -100,9 +100,9 @@ returns-clause-read g c =
             size = c.in-Ok.header.size;
             max_allocs = c.in-Ok.header.max_allocs;
             blocks = bs;
-            order = o;
+            bins = o;
             accesses = c.new.result;
-          } in u) same b.0.order))
+          } in u) same b.0.bins))
           (text_built c.args.words.now c.in-Ok.header c.new.result b.0.all _ _ _ hd refl refl refl b.0.words b.0.each b.0.once (sym c.checksum.ensures ∙ c.if-checksum-words.false)),
       c.new.ensures,
       hd.asked,

@@ -24,7 +24,7 @@ returns-clause-cost g c =
 pub returns-then-is_some-clause-cost : goal.returns-then-is_some-clause-cost
 returns-then-is_some-clause-cost g c =
     one_serves c.args.allocator.now c.formed.ensures c.args.size c.uint_to_float_round_up-class.result _ c.find_at_or_above.result c.uint_to_float_round_up-class.ensures.is
-    (ap (λ (u : View). u.order) c.allocator.view_is) c.find_at_or_above.ensures.smallest (sym c.is_some.ensures ∙ c.if-is_some.true)
+    (ap (λ (u : View). u.bins) c.allocator.view_is) c.find_at_or_above.ensures.smallest (sym c.is_some.ensures ∙ c.if-is_some.true)
 
 pub returns-then-size-eq0-clause-cost : goal.returns-then-size-eq0-clause-cost
 returns-then-size-eq0-clause-cost g c =
@@ -32,7 +32,7 @@ returns-then-size-eq0-clause-cost g c =
     let f : Fields = fields_of g.T.Tables.cells g.T.Index.NodeIndex.MAX c.allocator.inside in
     let free = total_is f c.allocator.invariant 0 0 ∙ ap (λ (v : View). sum (free_sizes v.blocks)) c.allocator.view_is in
     let none = none_fits v c.formed.ensures c.args.size c.uint_to_float_round_up-class.result _ c.find_at_or_above.result c.uint_to_float_round_up-class.ensures.is
-    (ap (λ (u : View). u.order) c.allocator.view_is) c.find_at_or_above.ensures.smallest (λ e. true≢false (sym e ∙ sym c.is_some.ensures ∙ c.if-is_some.false)) in
+    (ap (λ (u : View). u.bins) c.allocator.view_is) c.find_at_or_above.ensures.smallest (λ e. true≢false (sym e ∙ sym c.is_some.ensures ∙ c.if-is_some.false)) in
     λ run r. elim c.then-size-eq0.branch [
       | then-size-eq0-via-then-size-eq0 w ↦ absurd (run_some run v.blocks r (none_free v c.formed.ensures (subst (λ n. HasFit n v → ⊥) w.if-size-eq0.true none)))
       | then-size-eq0-via-else-size-eq0+then-uint_to_float_round_down-class w ↦

@@ -1,7 +1,7 @@
 use Rattle.offset_calls.proofs.Common.{◌≡◌, ◌+◌, ◌<◌, ◌≤◌, ℕ, List, [], ◌∷◌, ◌++◌, map, take, drop, length, get_or, refl, sym, ap, subst, ◌∙◌, arith, IsTrue, add-one, append-nil, append_assoc}
 use Rattle.offset_calls.proofs.Common.{drop-cons, map-append, take_more, take_all, drop_all, State, start, Call, Reply, after, is_valid, replies, reply_view, step, Takes}
 use Rattle.std.proofs.lemmas.List.Elements.{All-get_or}
-use Rattle.offset_script.proofs.{Agreement.IsAtState, Simulation.all_live, Simulation.fresh_represents, Simulation.run_begins, Simulation.run_goes_on, Simulation.run_ends, Well.well_start}
+use Rattle.offset_script.proofs.{Agreement.IsAtState, Simulation.all_live, Simulation.fresh_represents, Simulation.steps_begin, Simulation.steps_go_on, Simulation.steps_end, Well.well_start}
 use Rattle.offset_calls.proofs.{Kept.next_call, Kept.numbers_begin, Kept.numbers_next, Followed.follows, Followed.well_calls, Compacted.all_kept}
 use Rattle.offset_calls.specs.declared.calls.Reply as program
 use Rattle.offset_calls.proofs.playing.play_calls_of.Goals as goal
@@ -36,7 +36,7 @@ reply-requires-clause-kept g c =
     all_kept _ _ _ r.formed (well_calls (take c.loop-call.call-index c.args.calls.now) _ (well_start c.args.size c.args.max_allocs c.requires.low)) r.agrees
 
 pub loop-call-init : goal.loop-call-init
-loop-call-init g c = search (arith, fresh_represents, run_begins, map, numbers_begin)
+loop-call-init g c = search (arith, fresh_represents, steps_begin, map, numbers_begin)
 
 pub loop-call-preserved : goal.loop-call-preserved
 loop-call-preserved g c =
@@ -53,10 +53,10 @@ loop-call-preserved g c =
       numbers = numbers_next c.loop-call.player.handles.items _ _ _
           (next_call _ _ _ _ c.loop-call.invariant.represents.formed c.is_well_formed-in-loop-call.ensures live _ _ valid c.in_ok-reply.ensures.takes) c.in_ok-reply.ensures.numbers;
       represents = subst (IsAtState c.reply.new.player.space c.reply.new.player.handles.items) (sym (after_more cs s i _ within)) next.1;
-      run = run_goes_on Takes _ _ _ _ _ _ _ _ _ _ _ _ c.loop-call.invariant.run c.in_ok-reply.ensures.takes c.is_well_formed-in-loop-call.ensures (take_more cs i _ within)
+      steps = steps_go_on Takes _ _ _ _ _ _ _ _ _ _ _ _ c.loop-call.invariant.steps c.in_ok-reply.ensures.takes c.is_well_formed-in-loop-call.ensures (take_more cs i _ within)
           (ap (map reply_view) c.in_ok-push.ensures.items ∙ map-append reply_view c.loop-call.found.items _);
       so_far = replies_more cs s i _ c.loop-call.found.items _ c.in_ok-reply.reply (replies cs s) within c.in_ok-push.ensures.items next.0 c.loop-call.invariant.so_far;
     }
 
 pub returns : goal.returns
-returns g c = search (arith, replies_all, run_ends, take_all)
+returns g c = search (arith, replies_all, steps_end, take_all)

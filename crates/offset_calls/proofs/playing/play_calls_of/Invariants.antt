@@ -11,6 +11,6 @@ invariant-loop-call g l =
     record {
       numbers : AreNumbers l.player.handles.items l.numbers.grants l.numbers.by_name.items;
       represents : IsAtState l.player.space l.player.handles.items state;
-      run : IsBegun Takes l.size l.max_allocs l.player.space l.player.handles.items (take l.call-index l.calls) (map reply_view l.found.items);
+      steps : IsBegun Takes l.size l.max_allocs l.player.space l.player.handles.items (take l.call-index l.calls) (map reply_view l.found.items);
       so_far : map reply_view l.found.items ++ replies (drop l.call-index l.calls) state ≡ replies l.calls (start l.size l.max_allocs);
     }

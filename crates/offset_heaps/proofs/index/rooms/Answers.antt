@@ -1,6 +1,6 @@
 use Rattle.std.proofs.Common.{◌≡◌, ◌+◌, length, arith, subst}
 use Rattle.offset_allocator.specs.View.{View}
-use Rattle.offset_allocator.specs.Requests.{IsReport}
+use Rattle.offset_allocator.specs.Reports.{IsReport}
 use Rattle.offset_heaps.proofs.Rooms.{full_room, reported}
 use Rattle.offset_heaps.proofs.index.rooms.Goals as goal
 

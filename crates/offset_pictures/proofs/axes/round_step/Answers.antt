@@ -1,5 +1,5 @@
 use Rattle.std.proofs.Common.{◌*◌, ◌∙◌, ap₂, arith, sym}
-use Rattle.offset_pictures.specs.Axes.{round_numbers}
+use Rattle.offset_pictures.specs.Scales.{round_numbers}
 use Rattle.offset_pictures.proofs.Stepped.{passed, taken}
 use Rattle.offset_pictures.proofs.axes.round_step.Goals as goal
 

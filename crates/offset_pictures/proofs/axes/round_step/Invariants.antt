@@ -1,5 +1,5 @@
 use Rattle.std.proofs.Common.{◌≡◌, drop}
-use Rattle.offset_pictures.specs.Axes.{first_step, round_step}
+use Rattle.offset_pictures.specs.Scales.{first_step, round_step}
 use Rattle.offset_pictures.proofs.axes.round_step.Given as goal
 
 -- the numbers so far are too small

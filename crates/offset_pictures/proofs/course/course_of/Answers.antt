@@ -1,11 +1,12 @@
-use Rattle.std.proofs.Common.{◌≡◌, map, length, All, ap, ap₂, subst, sym, ◌∙◌, arith}
+use Rattle.std.proofs.Common.{◌≡◌, map, length, All, ap, ap₂, subst, sym, ◌∙◌, arith, refl, rules}
 use Rattle.std.proofs.lemmas.List.{length-map}
 use Rattle.offset_script.specs.Machine.{answer_view, start}
 use Rattle.offset_pictures.specs.Lives.{IsOrdered, life_view, lives_from, lives_of}
 use Rattle.offset_pictures.specs.Watching.{replace_full, replace_all_full}
 use Rattle.offset_pictures.proofs.Backward.{answers_count, numbers_few}
 use Rattle.offset_pictures.proofs.Ordered.{lives_are_ordered}
-use Rattle.offset_pictures.proofs.Quieter.{quiet_lives}
+use Rattle.offset_pictures.proofs.Quieter.{quiet_lives, quiet_reports}
+use Rattle.offset_pictures.proofs.Reasoned.{quiet_refused}
 use Rattle.offset_pictures.proofs.course.course_of.Goals as goal
 
 pub sizes_of-requires : goal.sizes_of-requires
@@ -30,12 +31,21 @@ lives_of_answers-requires c =
       few = numbers_few script.size script.max_allocs script.low cs (length c.deref-2.result.now) (map answer_view c.deref-3.result.now) played (omega (arith, n, same));
     }
 
-pub returns-clause-lives : goal.returns-clause-lives
-returns-clause-lives c =
+pub returns-clause-course : goal.returns-clause-course
+returns-clause-course c =
     let script = c.args.script.now in
-    c.in_ok-lives.ensures
-    ∙ ap₂ (lives_from 0) c.deref-2.ensures.value (ap (map answer_view) c.deref-3.ensures.value ∙ c.in_ok-answers.ensures.answers)
-    ∙ quiet_lives script.size script.max_allocs script.commands.items
+    let cs = script.commands.items in
+    record {
+      limit = refl;
+      grants = search rules;
+      lives =
+          c.in_ok-lives.ensures
+          ∙ ap₂ (lives_from 0) c.deref-2.ensures.value (ap (map answer_view) c.deref-3.ensures.value ∙ c.in_ok-answers.ensures.answers)
+          ∙ quiet_lives script.size script.max_allocs cs;
+      reports = c.in_ok-answers.ensures.reports ∙ quiet_reports script.size script.max_allocs cs;
+      sizes = c.in_ok-sizes.ensures;
+      refused = c.in_ok-answers.ensures.refused ∙ quiet_refused script.size script.max_allocs cs;
+    }
 
 pub returns-clause-ordered : goal.returns-clause-ordered
 returns-clause-ordered c =

@@ -3,8 +3,8 @@ use Rattle.std.proofs.lemmas.List.{get_or-map, length-map}
 use Rattle.offset_script.specs.declared.scripts.Command.{Command}
 use Rattle.offset_script.specs.Machine.{answer_view, Answer, State, answers, start}
 use Rattle.offset_script.specs.Totals.{added_units}
-use Rattle.offset_pictures.specs.Growth.{size_after}
-use Rattle.offset_pictures.specs.Watching.{replace_full, replace_all_full}
+use Rattle.offset_pictures.specs.Course.{units_after}
+use Rattle.offset_pictures.specs.Watching.{replace_all_full, replace_full}
 use Rattle.offset_pictures.proofs.Backward.{seen_at}
 use Rattle.offset_pictures.proofs.Grown.{added_more, added_quiet, size_pushed, quiet_sizes}
 use Rattle.offset_pictures.proofs.course.sizes_of.Goals as goal
@@ -27,12 +27,12 @@ loop-i-preserved c =
     let more = added_more cs s i command (answer_view answer) (omega (arith, length-map script.commands.items replace_full)) in
     let added : c.added_units.result ≡ added_units (get_or cs i command) (get_or (answers cs s) i (answer_view answer)) =
     c.added_units.ensures ∙ sym (added_quiet command (answer_view answer)) ∙ ap₂ added_units (sym quiet) (sym at) in
-    let size : c.saturating_add-size.result ≡ size_after (i + 1) script.size script.max_allocs cs = omega (arith, more, added, c.saturating_add-size.ensures, c.loop-i.invariant.size) in
+    let size : c.saturating_add-size.result ≡ units_after (i + 1) script.size script.max_allocs cs = omega (arith, more, added, c.saturating_add-size.ensures, c.loop-i.invariant.size) in
     record {
       size = size;
       len = omega (arith, c.in_ok-push-2.ensures.len);
       sizes = λ k l. ap (λ xs. get_or xs k 0) c.in_ok-push-2.ensures.items
-          ∙ size_pushed c.loop-i.sizes.items c.saturating_add-size.result i (λ j. size_after j script.size script.max_allocs cs) c.loop-i.invariant.len c.loop-i.invariant.sizes size k l;
+          ∙ size_pushed c.loop-i.sizes.items c.saturating_add-size.result i (λ j. units_after j script.size script.max_allocs cs) c.loop-i.invariant.len c.loop-i.invariant.sizes size k l;
     }
 
 pub returns : goal.returns

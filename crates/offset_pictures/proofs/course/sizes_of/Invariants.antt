@@ -1,5 +1,5 @@
 use Rattle.std.proofs.Common.{◌≡◌, ℕ, ◌+◌, ◌≤◌, length, get_or}
-use Rattle.offset_pictures.specs.Growth.{size_after}
+use Rattle.offset_pictures.specs.Course.{units_after}
 use Rattle.offset_pictures.specs.Watching.{replace_all_full}
 use Rattle.offset_pictures.proofs.course.sizes_of.Given as goal
 
@@ -9,7 +9,7 @@ invariant-loop-i l =
     let s = l.script in
     let cs = replace_all_full s.commands.items in
     record {
-      size : l.size ≡ size_after l.i s.size s.max_allocs cs;
+      size : l.size ≡ units_after l.i s.size s.max_allocs cs;
       len : length l.sizes.items ≡ l.i + 1;
-      sizes : (k : ℕ) → k ≤ l.i → get_or l.sizes.items k 0 ≡ size_after k s.size s.max_allocs cs;
+      sizes : (k : ℕ) → k ≤ l.i → get_or l.sizes.items k 0 ≡ units_after k s.size s.max_allocs cs;
     }

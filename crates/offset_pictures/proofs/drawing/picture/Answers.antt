@@ -1,21 +1,15 @@
 use Rattle.std.specs.Prelude.{string_bytes}
 use Rattle.offset_pictures.specs.Picture.{IsPicture, IsPictureOf}
-use Rattle.offset_script.specs.Running.{view}
+use Rattle.offset_script.specs.Running.{as_plan}
 use Rattle.offset_pictures.proofs.Drawn.{ok_more}
 use Rattle.offset_pictures.proofs.drawing.picture.Goals as goal
 
 pub returns : goal.returns
 returns c =
-    ok_more c.picture_of.result (λ text. IsPictureOf c.args.title.now c.in_ok-course_of.field-0 (string_bytes text)) (λ text. IsPicture c.args.title.now (view c.args.script.now) (string_bytes text))
+    ok_more c.picture_of.result (λ text. IsPictureOf c.args.title.now c.in_ok-course_of.field-0 (string_bytes text))
+    (λ text. IsPicture c.args.title.now (as_plan c.args.script.now) (string_bytes text))
     (λ text h. record {
       course = c.in_ok-course_of.field-0;
-      is_course = record {
-        limit = c.in_ok-course_of.ensures.limit;
-        grants = c.in_ok-course_of.ensures.grants;
-        lives = c.in_ok-course_of.ensures.lives;
-        reports = c.in_ok-course_of.ensures.reports;
-        sizes = c.in_ok-course_of.ensures.sizes;
-        refused = c.in_ok-course_of.ensures.refused;
-      };
+      is_course = c.in_ok-course_of.ensures.course;
       is_picture = h;
     }) c.picture_of.ensures

@@ -6,7 +6,7 @@ use Rattle.offset_pictures.proofs.figures.ended.Given as goal
 -- the counts of the lives so far
 abbrev pub invariant-loop-life : goal.invariant-loop-life
 invariant-loop-life l = record {
-  len : length l.counts.items ≡ l.calls;
-  counts : (c : ℕ) (d : Count) → c < l.calls → IsCount (λ x. nat_eq x.last c) (take l.life-index l.lives) (get_or l.counts.items c d);
+  len : length l.counts.items ≡ l.states;
+  counts : (c : ℕ) (d : Count) → c < l.states → IsCount (λ x. nat_eq x.last c) (take l.life-index l.lives) (get_or l.counts.items c d);
   sizes : All (λ x. x.size < 4294967296) (take l.life-index l.lives);
 }

@@ -33,8 +33,8 @@ overflow_sub-granted-in-loop-state c = omega (
       c.loop-state.invariant.gone,
 )
 
-pub add-requires-clause-grants : goal.add-requires-clause-grants
-add-requires-clause-grants c =
+pub add-requires-clause-lives : goal.add-requires-clause-lives
+add-requires-clause-lives c =
     let ls : List Life = c.args.course.now.lives.items in
     let s = c.loop-state.state in
     let d : Count = c.index-in-loop-state-2.result.now in
@@ -57,8 +57,8 @@ add-requires-clause-units c =
     let short : length ls < 18446744073709551616 = subst (λ x. length x < 18446744073709551616) same c.in_ok-begun.ensures.few in
     omega (arith, bound.1, short)
 
-pub add-requires-in-loop-state-clause-grants : goal.add-requires-in-loop-state-clause-grants
-add-requires-in-loop-state-clause-grants c =
+pub add-requires-in-loop-state-clause-lives : goal.add-requires-in-loop-state-clause-lives
+add-requires-in-loop-state-clause-lives c =
     let ls : List Life = c.args.course.now.lives.items in
     let s = c.loop-state.state in
     let d : Count = c.index-in-loop-state-3.result.now in
@@ -101,8 +101,8 @@ loop-state-preserved c =
           (ap (λ (x : StorageReport). x.largest_free_region) c.index-in-loop-state.ensures ∙ sym (get_or-map (λ (x : StorageReport). x.largest_free_region) course.reports.items s r 0 (omega arith)))
           (ap (λ (x : StorageReport). x.total_free_space) c.index-in-loop-state.ensures ∙ sym (get_or-map (λ (x : StorageReport). x.total_free_space) course.reports.items s r 0 (omega arith)))
           c.loop-state.invariant.seen;
-      granted = record { grants = c.add.ensures.grants ∙ g.grants; units = c.add.ensures.units ∙ g.units };
-      gone = record { grants = c.add-in-loop-state.ensures.grants ∙ e.grants; units = c.add-in-loop-state.ensures.units ∙ e.units };
+      granted = record { lives = c.add.ensures.lives ∙ g.lives; units = c.add.ensures.units ∙ g.units };
+      gone = record { lives = c.add-in-loop-state.ensures.lives ∙ e.lives; units = c.add-in-loop-state.ensures.units ∙ e.units };
     }
 
 pub returns : goal.returns

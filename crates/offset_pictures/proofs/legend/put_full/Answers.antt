@@ -14,14 +14,14 @@ returns c =
     let new : List ℕ = string_bytes c.writeln.new.self in
     let a : List ℕ = codes "<text class='end' x='" in
     let with_s : mid ≡ old
-    ++ in_a_row a (pixels_text 117000 ∷ codes "' y='" ∷ pixels_text 62000 ∷ codes "'>At the node limit, after " ∷ grouped_text f.full_states ∷ codes " call" ∷ plural f.full_states ∷ codes ", " ∷ []) =
+    ++ in_a_row a (pixels_text 117000 ∷ codes "' y='" ∷ pixels_text 62000 ∷ codes "'>At the node limit, " ∷ grouped_text f.full_states ∷ codes " time" ∷ plural f.full_states ∷ codes ", " ∷ []) =
     subst (λ (s : List ℕ). mid ≡ old
-    ++ in_a_row a (pixels_text 117000 ∷ codes "' y='" ∷ pixels_text 62000 ∷ codes "'>At the node limit, after " ∷ grouped_text f.full_states ∷ codes " call" ∷ s ∷ codes ", " ∷ [])) c.plural-s.ensures
+    ++ in_a_row a (pixels_text 117000 ∷ codes "' y='" ∷ pixels_text 62000 ∷ codes "'>At the node limit, " ∷ grouped_text f.full_states ∷ codes " time" ∷ s ∷ codes ", " ∷ [])) c.plural-s.ensures
     c.in_ok-write.ensures.bytes in
-    let t : List ℕ = a ++ pixels_text 117000 ++ codes "' y='" ++ pixels_text 62000 ++ codes "'>At the node limit, after " ++ grouped_text f.full_states ++ codes " call" ++ plural f.full_states
+    let t : List ℕ = a ++ pixels_text 117000 ++ codes "' y='" ++ pixels_text 62000 ++ codes "'>At the node limit, " ++ grouped_text f.full_states ++ codes " time" ++ plural f.full_states
     ++ codes ", " in
     let begun : mid ≡ old ++ t =
-    is_begun a (pixels_text 117000 ∷ codes "' y='" ∷ pixels_text 62000 ∷ codes "'>At the node limit, after " ∷ grouped_text f.full_states ∷ codes " call" ∷ plural f.full_states ∷ codes ", "
+    is_begun a (pixels_text 117000 ∷ codes "' y='" ∷ pixels_text 62000 ∷ codes "'>At the node limit, " ∷ grouped_text f.full_states ∷ codes " time" ∷ plural f.full_states ∷ codes ", "
     ∷ []) old mid with_s in
     let b : List ℕ = codes "0 units are reported as free.</text>\n" in
     let ended : OnOk c.writeln.result (new ≡ old ++ (t ++ b)) = is_ended c.writeln.result t b [] old mid new begun c.writeln.ensures.bytes in

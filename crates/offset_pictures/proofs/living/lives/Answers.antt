@@ -12,7 +12,7 @@ lives_of_answers-requires c =
     let script = c.args.script.now in
     let cs = script.commands.items in
     let same = ap length c.deref.ensures.value in
-    let played = ap (map answer_view) c.deref-2.ensures.value ∙ c.in_ok-answers.ensures in
+    let played = ap (map answer_view) c.deref-2.ensures.value ∙ c.in_ok-answers.ensures.answers in
     record {
       len = omega (arith, same, ap length played, answers_count cs (start script.size script.max_allocs), length-map c.deref-2.result.now answer_view);
       few = numbers_few script.size script.max_allocs script.low cs (length c.deref.result.now) (map answer_view c.deref-2.result.now) played (omega (arith, same));
@@ -23,7 +23,7 @@ returns c =
     let script = c.args.script.now in
     let cs = script.commands.items in
     let all = same_lives c.lives_of_answers.result _ (lives_of script.size script.max_allocs cs) c.lives_of_answers.ensures
-    (ap₂ (lives_from 0) c.deref.ensures.value (ap (map answer_view) c.deref-2.ensures.value ∙ c.in_ok-answers.ensures)) in
+    (ap₂ (lives_from 0) c.deref.ensures.value (ap (map answer_view) c.deref-2.ensures.value ∙ c.in_ok-answers.ensures.answers)) in
     record {
       lives = all;
       apart = each_result (AllPairs AreApart) c.lives_of_answers.result _ all (apart_law script.size script.max_allocs script.low cs);

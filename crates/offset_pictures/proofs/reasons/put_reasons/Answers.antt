@@ -22,7 +22,7 @@ loop-call-preserved c =
     let calls : Axis = c.args.plot.now.calls in
     let refused : List Refused = c.args.refused.now in
     let reports : List StorageReport = c.args.reports.now in
-    let height : ℕ = c.bottom-height.result in
+    let y : ℕ = c.bottom-y.result in
     let i : ℕ = c.loop-call.call-index in
     let left : ℕ = c.pixel_of-left.result in
     let less : i < length refused = omega arith in
@@ -38,15 +38,15 @@ loop-call-preserved c =
           let more : next.more ≡ s.more + 1 = omega (arith, w.add.ensures.more) in
           record {
             few = subst (λ (o : Option Spot). MatchOption o (Unit {0}) (λ s. s.more ≤ i + 1)) (sym w.spot-is) (omega (arith, more));
-            text = ap₂ (λ (o : List ℕ) (x : Option Spot). o ++ text calls height reports refused (opened x rest)) (ap string_bytes w.out-is) w.spot-is
-                ∙ call_joins calls height reports refused i left d c.loop-call.spot s next out _ less at w.if-spot-left.true w.add.ensures.left w.add.ensures.first more w.in-Some.is
+            text = ap₂ (λ (o : List ℕ) (x : Option Spot). o ++ text calls y reports refused (opened x rest)) (ap string_bytes w.out-is) w.spot-is
+                ∙ call_joins calls y reports refused i left d c.loop-call.spot s next out _ less at w.if-spot-left.true w.add.ensures.left w.add.ensures.first more w.in-Some.is
                 c.loop-call.invariant.text;
           }
       | in_default w ↦
           record {
             few = subst (λ (o : Option Spot). MatchOption o (Unit {0}) (λ s. s.more ≤ i + 1)) (sym w.spot-is) (subst (λ (s : Spot). s.more ≤ i + 1) (sym w.new.ensures) (omega arith));
             text =
-                ap₂ (λ (o : List ℕ) (x : Option Spot). o ++ text calls height reports refused (opened x rest)) (ap string_bytes w.out-is) (w.spot-is ∙ ap Some w.new.ensures)
+                ap₂ (λ (o : List ℕ) (x : Option Spot). o ++ text calls y reports refused (opened x rest)) (ap string_bytes w.out-is) (w.spot-is ∙ ap Some w.new.ensures)
                 ∙ elim w.match-spot-2.branch [
                   | in-Some-spot+in_ok-put-in_default v ↦
                       let s : Spot = v.in-Some-spot.spot in
@@ -54,7 +54,7 @@ loop-call-preserved c =
                         | in_default-via-in-Some+else-spot-left u ↦
                             let same : s ≡ u.in-Some.spot = let e = u.spot-is in let f = v.in-Some-spot.is in cc in
                             let other = ne_eqb s.left left (λ e. u.if-spot-left.false (ap (λ (x : Spot). x.left) (sym same) ∙ e)) in
-                            call_begins calls height reports refused i left d c.loop-call.spot s out _ _ less at other (ap string_bytes v.out-is ∙ v.in_ok-put-in_default.ensures)
+                            call_begins calls y reports refused i left d c.loop-call.spot s out _ _ less at other (ap string_bytes v.out-is ∙ v.in_ok-put-in_default.ensures)
                             (u.in-Some.is ∙ sym u.spot-is ∙ v.in-Some-spot.is) c.loop-call.invariant.text
                         | in_default-via-in_default u ↦ absurd (u.in_default.not-Some s (sym u.spot-is ∙ v.in-Some-spot.is))
                       ]
@@ -62,8 +62,8 @@ loop-call-preserved c =
                       elim w.in_default.branch [
                         | in_default-via-in-Some+else-spot-left u ↦ absurd (v.in_default-spot.not-Some u.in-Some.spot u.spot-is)
                         | in_default-via-in_default u ↦
-                            ap (λ (o : List ℕ). o ++ text calls height reports refused (opened (Some (one_spot left (get_or refused i d))) rest)) (ap string_bytes v.out-is)
-                            ∙ call_is_first calls height reports refused i left d c.loop-call.spot out _ less at (no_open c.loop-call.spot u.in_default.not-Some) c.loop-call.invariant.text
+                            ap (λ (o : List ℕ). o ++ text calls y reports refused (opened (Some (one_spot left (get_or refused i d))) rest)) (ap string_bytes v.out-is)
+                            ∙ call_is_first calls y reports refused i left d c.loop-call.spot out _ less at (no_open c.loop-call.spot u.in_default.not-Some) c.loop-call.invariant.text
                       ]
                 ];
           }
@@ -74,22 +74,22 @@ returns c =
     let calls : Axis = c.args.plot.now.calls in
     let refused : List Refused = c.args.refused.now in
     let reports : List StorageReport = c.args.reports.now in
-    let height : ℕ = c.bottom-height.result in
+    let y : ℕ = c.bottom-y.result in
     let i : ℕ = c.loop-call.call-index in
     let old : List ℕ = string_bytes c.args.out.now in
     let out : List ℕ = string_bytes c.loop-call.out in
     let begin : List ℕ = codes "<g class='why'>\n" in
     let begun : string_bytes c.writeln.new.self ≡ old ++ begin = is_begun begin [] old _ c.in_ok-writeln.ensures.bytes in
-    let spots : List ℕ = flat_map (spot_text height reports) (spots_of calls refused) in
+    let spots : List ℕ = flat_map (spot_text y reports) (spots_of calls refused) in
     let every : length refused ≤ i = omega arith in
     let drawn : string_bytes c.match-spot-3.out ≡ string_bytes c.writeln.new.self ++ spots =
     elim c.match-spot-3.branch [
-      | in-Some-spot-2+in_ok-put w ↦ last_spot calls height reports refused i c.loop-call.spot w.in-Some-spot-2.spot out _ _ every (ap string_bytes w.out-is ∙ w.in_ok-put.ensures) w.in-Some-spot-2.is
+      | in-Some-spot-2+in_ok-put w ↦ last_spot calls y reports refused i c.loop-call.spot w.in-Some-spot-2.spot out _ _ every (ap string_bytes w.out-is ∙ w.in_ok-put.ensures) w.in-Some-spot-2.is
           c.loop-call.invariant.text
-      | in_default-spot-2 w ↦ ap string_bytes w.out-is ∙ no_spot calls height reports refused i c.loop-call.spot out _ every (no_open c.loop-call.spot w.in_default-spot-2.not-Some)
+      | in_default-spot-2 w ↦ ap string_bytes w.out-is ∙ no_spot calls y reports refused i c.loop-call.spot out _ every (no_open c.loop-call.spot w.in_default-spot-2.not-Some)
           c.loop-call.invariant.text
     ] in
     let all : string_bytes c.match-spot-3.out ≡ old ++ (begin ++ spots) = goes_on begin spots [] old _ _ begun drawn in
     subst (λ (h : ℕ). OnOk c.writeln-2.result (string_bytes c.writeln-2.new.self ≡ old ++ (begin ++ flat_map (spot_text h reports) (spots_of calls refused) ++ codes "</g>\n")))
-    c.bottom-height.ensures.is
+    c.bottom-y.ensures.is
     (is_ended c.writeln-2.result (begin ++ spots) (codes "</g>\n") [] old _ (string_bytes c.writeln-2.new.self) all c.writeln-2.ensures.bytes)

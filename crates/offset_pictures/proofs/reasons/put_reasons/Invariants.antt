@@ -8,6 +8,6 @@ use Rattle.offset_pictures.proofs.reasons.put_reasons.Given as goal
 abbrev pub invariant-loop-call : goal.invariant-loop-call
 invariant-loop-call l = record {
   few : MatchOption l.spot (Unit {0}) (λ s. s.more ≤ l.call-index);
-  text : string_bytes l.out ++ flat_map (spot_text l.height l.reports) (opened l.spot (spots_of l.plot.calls (drop l.call-index l.refused)))
-      ≡ string_bytes l.initial.out ++ flat_map (spot_text l.height l.reports) (spots_of l.plot.calls l.refused);
+  text : string_bytes l.out ++ flat_map (spot_text l.y l.reports) (opened l.spot (spots_of l.plot.calls (drop l.call-index l.refused)))
+      ≡ string_bytes l.initial.out ++ flat_map (spot_text l.y l.reports) (spots_of l.plot.calls l.refused);
 }

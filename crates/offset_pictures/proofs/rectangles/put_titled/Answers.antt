@@ -30,7 +30,8 @@ loop-shape-preserved-in-Continue-branch-2 c =
     let n = length_push c.loop-shape.yielded (c.in-Some.shape, c.in-Some.life) in
     let less : i < length (zip shapes lives) = omega (arith, length-zip shapes lives, t.0, t.1) in
     let is = pair_of_zip shapes lives i c.in-Some.shape.now c.in-Some.life.now t.0 t.1 t.2 t.3 in
-    let put = titled_is_put c.in-Some.shape.now c.in-Some.life.now c.args.calls (string_bytes c.loop-shape.out) _ _ _ _ _ c.new-line.ensures c.put.ensures c.put_shape.ensures c.in_ok-put_in.ensures
+    let put = titled_is_put c.in-Some.shape.now c.in-Some.life.now c.args.calls (string_bytes c.loop-shape.out) _ _ _ _ _
+    c.new-line.ensures c.prepend.ensures c.put_shape.ensures c.in_ok-put_piece.ensures
     c.in_ok-put_title.ensures in
     rw n (one_is_put (λ (r : Shape × Life). nat_eq r.0.age c.args.age) (titled_text c.args.calls) i _ (c.in-Some.shape.now, c.in-Some.life.now) (zip shapes lives) _ _ _ less is
     (eq-eqb _ _ c.if-shape-age.true) put c.loop-shape.invariant)

@@ -1,7 +1,7 @@
 use Rattle.std.proofs.Common.{◌≡◌, ◌+◌, arith, ap, ◌∙◌}
 use Rattle.offset_pictures.specs.declared.living.Life.{Life}
 use Rattle.offset_pictures.specs.declared.plots.Plot.{Plot}
-use Rattle.offset_pictures.specs.Places.{right_of, up_of}
+use Rattle.offset_pictures.specs.Axes.{right_of, up_of}
 use Rattle.offset_pictures.proofs.Merged.{along_capped}
 use Rattle.offset_pictures.proofs.shapes.shape_of.Goals as goal
 

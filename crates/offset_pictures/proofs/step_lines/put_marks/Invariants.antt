@@ -1,12 +1,13 @@
 use Rattle.std.proofs.Common.{◌≡◌, ◌++◌, drop, map}
 use Rattle.std.specs.Prelude.{flat_map, string_bytes}
-use Rattle.offset_pictures.specs.Marks.{counted_from_1}
-use Rattle.offset_pictures.specs.StepLines.{mark_text, marks_text, one_of_each, place_of}
+use Rattle.offset_pictures.specs.Numerals.{counted_from_1}
+use Rattle.offset_pictures.specs.Marks.{mark_text, marks_text, one_of_each}
+use Rattle.offset_pictures.specs.Axes.{x_of}
 use Rattle.offset_pictures.proofs.Grouped.{marked_after}
 use Rattle.offset_pictures.proofs.step_lines.put_marks.Given as goal
 
 -- the marks so far, and those of the calls to come, are all
 abbrev pub invariant-loop-refused : goal.invariant-loop-refused
 invariant-loop-refused l =
-    string_bytes l.out ++ flat_map (mark_text l.height) (marked_after l.before (one_of_each (map (λ r. place_of l.calls (counted_from_1 r.call)) (drop l.refused-index l.marked))))
-    ≡ string_bytes l.initial.out ++ marks_text l.calls l.height l.marked
+    string_bytes l.out ++ flat_map (mark_text l.y) (marked_after l.before (one_of_each (map (λ r. x_of l.calls (counted_from_1 r.call)) (drop l.refused-index l.marked))))
+    ≡ string_bytes l.initial.out ++ marks_text l.calls l.y l.marked

@@ -1,5 +1,5 @@
 use Rattle.offset_script.proofs.Common.{ap, subst, false, ◌∙◌, List, ℕ}
-use Rattle.offset_script.specs.Running.{Sends}
+use Rattle.offset_script.specs.Sending.{Pushes}
 use Rattle.offset_script.proofs.Ending.{piece_failed}
 use Rattle.offset_script.proofs.sending.push_pieces.Goals as goal
 
@@ -8,4 +8,4 @@ returns-then-not-push_all-clause-sent g c =
     let held = g.K.Sink.held in
     piece_failed (λ piece. piece.items) c.args.pieces.now c.loop-part.part-index c.part-item.result (held c.args.output.now) (held c.loop-part.output) (held c.push_all.new.output)
     c.loop-part-test.true c.loop-part.invariant.sent
-    (subst (λ (t : List ℕ). Sends false t (held c.loop-part.output) (held c.push_all.new.output)) (c.deref.ensures.value ∙ ap (λ piece. piece.items) c.part-item.is) c.if-not-push_all.ensures.sent)
+    (subst (λ (t : List ℕ). Pushes false t (held c.loop-part.output) (held c.push_all.new.output)) (c.deref.ensures.value ∙ ap (λ piece. piece.items) c.part-item.is) c.if-not-push_all.ensures.sent)

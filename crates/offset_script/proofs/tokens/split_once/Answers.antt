@@ -15,7 +15,7 @@ only_part : (p : ℕ → Bool) (xs : List ℕ) → position p xs ≡ None → sl
 only_part p xs e = search (arith, length, ltb-false, unchosen, ltb, slice_split_none, fails_before_first)
 
 pub returns-in-None-clause-parts : goal.returns-in-None-clause-parts
-returns-in-None-clause-parts c = only_part (λ b. b == c.args.at) c.args.text.now (sym c.in-None.ensures)
+returns-in-None-clause-parts c = only_part (λ b. b == c.args.separator) c.args.text.now (sym c.in-None.ensures)
 
 pub returns-in-Some-clause-parts : goal.returns-in-Some-clause-parts
 returns-in-Some-clause-parts c = search (arith, found_parts, take_rest)

@@ -21,7 +21,7 @@ loop-k-preserved c =
           let within : c.loop-k.k * step ≤ p.units.most = omega (arith, w.if-value-from.true, c.from.ensures) in
           tick_is_put (units_tick p) step c.loop-k.k p.units.most old out (string_bytes c.if-value-from.out) some within c.loop-k.invariant
           (ap string_bytes w.out-is
-          ∙ units_tick_is_put p (c.loop-k.k * step) w.up-height.result c.saturating_sub.result out _ _ w.up-height.ensures.exact c.saturating_sub.ensures w.in_ok-write.ensures.bytes
+          ∙ units_tick_is_put p (c.loop-k.k * step) w.up-y.result c.saturating_sub.result out _ _ w.up-y.ensures.exact c.saturating_sub.ensures w.in_ok-write.ensures.bytes
           w.in_ok-writeln.ensures.bytes)
       | else-value-from w ↦
           let beyond : p.units.most < c.loop-k.k * step = omega (arith, w.if-value-from.false, c.from.ensures) in

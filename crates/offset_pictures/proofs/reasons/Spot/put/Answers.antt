@@ -11,8 +11,8 @@ returns c =
     let old : List ℕ = string_bytes c.args.out.now in
     let s : Spot = c.args.self.now in
     let mid : List ℕ = string_bytes c.write.new.self in
-    let after : List (List ℕ) = codes "' y='" ∷ pixels_text c.args.height ∷ codes "' width='3' height='12'><title>" ∷ [] in
-    let t : List ℕ = codes "<rect x='" ++ pixels_text (s.left - 100) ++ codes "' y='" ++ pixels_text c.args.height ++ codes "' width='3' height='12'><title>" in
+    let after : List (List ℕ) = codes "' y='" ∷ pixels_text c.args.y ∷ codes "' width='3' height='12'><title>" ∷ [] in
+    let t : List ℕ = codes "<rect x='" ++ pixels_text (s.left - 100) ++ codes "' y='" ++ pixels_text c.args.y ++ codes "' width='3' height='12'><title>" in
     let put : mid ≡ old ++ in_a_row (codes "<rect x='") (pixels_text (s.left - 100) ∷ after) =
     subst (λ (n : ℕ). mid ≡ old ++ in_a_row (codes "<rect x='") (pixels_text n ∷ after)) c.saturating_sub.ensures c.in_ok-write.ensures.bytes in
     let said : List ℕ = said_text c.args.reports.now s.first in

@@ -1,6 +1,0 @@
-use Rattle.offset_script.proofs.Common.{arith}
-use Rattle.offset_script.proofs.Numbers.{goes_on_digits, goes_on_value, goes_on_small}
-use Rattle.offset_script.proofs.common_lines.number_before.Goals as goal
-
-pub loop-i-preserved : goal.loop-i-preserved
-loop-i-preserved c = search (arith, goes_on_digits, goes_on_value, goes_on_small)

@@ -1,0 +1,210 @@
+//! A player: it carries out commands on an allocator, of which it keeps the handles. No other module of this
+//! crate changes a space.
+
+ghost use Rattle.std.specs.Prelude.{◌≡◌, ◌+◌, ◌<◌, ◌≤◌, ℕ, IsTrue, [], length, slice_index_or, vec_len};
+ghost use Rattle.std.specs.Prelude.{None, IfOk, IfSome, option_map};
+ghost use Rattle.offset_script.specs.Steps.{kept_name, IsKept, Takes, AreLive};
+ghost use Rattle.offset_script.specs.Machine.{answer_view};
+ghost use Rattle.offset_script.specs.Grammar.{has_valid_alignment};
+ghost use Rattle.offset_allocator.specs.Relations.{IsFresh};
+
+use crate::answers::{Answer, full_answer};
+use crate::scripts::Command;
+use offset_allocator::{Allocation, AllocatorOf, ByNode, NodeIndex, Tables};
+use std::alloc::{AllocError, Global};
+
+/// A player of an allocator by node.
+pub type Player<NI = u32> = PlayerOf<ByNode<NI>>;
+
+/// An allocator, with the handles of its live grants: it takes commands one by one.
+#[derive(Drop)]
+pub struct PlayerOf<T: Tables> {
+    /// The allocator.
+    pub space: AllocatorOf<T>,
+    /// The handle of grant k is at k - 1 while the grant is live.
+    pub handles: Vec<Option<Allocation<T::Index>>>,
+    // Resets have removed the first handles, up to this number.
+    swept: usize,
+    ghost within: { swept ≤ vec_len handles },
+    ghost gone: { (k : ℕ) → k < swept → slice_index_or handles.items k None ≡ None },
+}
+
+impl<T: Tables> PlayerOf<T> {
+    /// A fresh space, and no grants. The limit has to be 2 to `T::Index::MAX - 2`.
+    ///
+    /// # Errors
+    ///
+    /// It fails only where an allocation fails.
+    ///
+    /// ```
+    /// let player = Player::<u16>::start(alloc, 1000, 16)?;
+    /// assert_eq!(player.space.size(), 1000);
+    /// ```
+    pub fn start(alloc: Global, size: u32, max_allocs: u32) -> Result<Self, AllocError>
+        requires low { 2 ≤ max_allocs }
+        requires high { max_allocs + 1 < T.Index.MAX }
+        ensures { IfOk result (λ p. IsFresh size max_allocs p.space × (p.handles.items ≡ [])) }
+    {
+        let space = AllocatorOf::with_max_allocs(alloc, size, max_allocs)?;
+        Ok(PlayerOf {
+            space,
+            handles: Vec::new(alloc),
+            swept: 0,
+        })
+    }
+
+    /// The handle of the grant of this number, if it is live.
+    ///
+    /// ```
+    /// player.call(alloc, Command::Alloc(300))?;
+    /// assert!(player.handle(1).is_some());
+    /// ```
+    pub fn handle(&self, number: u32) -> Option<Allocation<T::Index>>
+        ensures name { option_map (λ h. h.name) result ≡ kept_name self.now.handles.items number }
+        ensures within { IfSome result (λ h. (1 ≤ number)
+            × (number ≤ length self.now.handles.items)) }
+    {
+        if number == 0 {
+            return None;
+        }
+        match self.handles.get(number as usize - 1) {
+            Some(handle) => *handle,
+            None => None,
+        }
+    }
+
+    /// The answer to a request with this result. The handle of a grant is kept under the next number.
+    ///
+    /// # Errors
+    ///
+    /// It fails only where an allocation fails.
+    ///
+    /// ```
+    /// let granted = player.space.allocate(300);
+    /// player.keep(granted)?;
+    /// assert_eq!(player.handle(1), granted);
+    /// ```
+    pub fn keep(&mut self, granted: Option<Allocation<T::Index>>) -> Result<Answer, AllocError>
+        ensures handle { IfOk result (λ a. IsKept granted self.old.handles.items
+            self.new.handles.items (answer_view a)) }
+        ensures space { self.new.space ≡ self.old.space }
+    {
+        match granted {
+            None => Ok(Answer::Refused),
+            Some(handle) => {
+                self.handles.push(Some(handle))?;
+                Ok(Answer::Grant {
+                    number: self.handles.len() as u64,
+                    offset: handle.offset,
+                })
+            }
+        }
+    }
+
+    // The answer to `alloc`.
+    fn allocate(&mut self, size: u32) -> Result<Answer, AllocError>
+        ensures { IfOk result (λ a. Takes (Command.Alloc size) self.old.space self.old.handles.items
+            self.new.space self.new.handles.items (answer_view a)) }
+    {
+        let granted = self.space.allocate(size);
+        self.keep(granted)
+    }
+
+    // The answer to `free`. The grant's handle is removed.
+    fn release(&mut self, number: u32) -> Answer
+        requires { AreLive self.old.space self.old.handles.items }
+        ensures { Takes (Command.Free number) self.old.space self.old.handles.items
+            self.new.space self.new.handles.items (answer_view result) }
+    {
+        match self.handle(number) {
+            None => Answer::Gone,
+            Some(handle) => {
+                self.space.free(handle);
+                self.handles[number as usize - 1] = None;
+                Answer::Freed
+            }
+        }
+    }
+
+    // The answer to `size`.
+    fn size(&self, number: u32) -> Answer
+        ensures { Takes (Command.Size number) self.now.space self.now.handles.items
+            self.now.space self.now.handles.items (answer_view result) }
+    {
+        match self.handle(number) {
+            None => Answer::Gone,
+            Some(handle) => Answer::Size(self.space.allocation_size(handle)),
+        }
+    }
+
+    // The answer to `report`.
+    fn report(&self) -> Answer
+        ensures { Takes Command.Report self.now.space self.now.handles.items
+            self.now.space self.now.handles.items (answer_view result) }
+    {
+        Answer::Report(self.space.storage_report())
+    }
+
+    // The answer to `reset`. All handles are removed, and numbers go on.
+    fn reset(&mut self) -> Answer
+        ensures { Takes Command.Reset self.old.space self.old.handles.items
+            self.new.space self.new.handles.items (answer_view result) }
+    {
+        self.space.reset();
+        for i in self.swept..self.handles.len() {
+            self.handles[i] = None;
+        }
+        self.swept = self.handles.len();
+        Answer::Reset
+    }
+
+    // The answer to `align`.
+    fn allocate_aligned(&mut self, size: u32, align: u32) -> Result<Answer, AllocError>
+        requires { IsTrue (has_valid_alignment (Command.Align size align)) }
+        ensures { IfOk result (λ a. Takes (Command.Align size align) self.old.space self.old.handles.items
+            self.new.space self.new.handles.items (answer_view a)) }
+    {
+        let granted = self.space.allocate_aligned(size, align);
+        self.keep(granted)
+    }
+
+    // The answer to `extend`.
+    fn extend(&mut self, more: u32) -> Answer
+        ensures { Takes (Command.Extend more) self.old.space self.old.handles.items
+            self.new.space self.new.handles.items (answer_view result) }
+    {
+        if self.space.extend(more) {
+            Answer::Extended
+        } else {
+            Answer::Refused
+        }
+    }
+
+    /// Carries out one command, and returns its answer. The alignment of a request has to be a power of two.
+    ///
+    /// # Errors
+    ///
+    /// It fails only where an allocation fails.
+    ///
+    /// ```
+    /// let answer = player.call(alloc, Command::Alloc(300))?;
+    /// assert!(matches!(answer, Answer::Grant { number: 1, offset: 0 }));
+    /// ```
+    pub fn call(&mut self, alloc: Global, command: Command) -> Result<Answer, AllocError>
+        requires live { AreLive self.old.space self.old.handles.items }
+        requires power { IsTrue (has_valid_alignment command) }
+        ensures { IfOk result (λ a. Takes command self.old.space self.old.handles.items
+            self.new.space self.new.handles.items (answer_view a)) }
+    {
+        match command {
+            Command::Alloc(size) => self.allocate(size),
+            Command::Free(number) => Ok(self.release(number)),
+            Command::Size(number) => Ok(self.size(number)),
+            Command::Report => Ok(self.report()),
+            Command::Full => full_answer(alloc, &self.space),
+            Command::Reset => Ok(self.reset()),
+            Command::Align(size, align) => self.allocate_aligned(size, align),
+            Command::Extend(more) => Ok(self.extend(more)),
+        }
+    }
+}
