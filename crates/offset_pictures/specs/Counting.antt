@@ -7,7 +7,7 @@ use Rattle.offset_pictures.specs.declared.figures.Count.{Count}
 use Rattle.offset_pictures.specs.declared.figures.Figures.{Figures}
 use Rattle.offset_pictures.specs.Figures.{AreTotals, counted, size_after, region_after, free_after}
 
--- a count with one more life, of so many units
+-- a count with one more life, of `units` units
 abbrev pub raised : Count → ℕ → Count
 raised c units = record { lives = c.lives + 1; units = c.units + units }
 

@@ -13,7 +13,7 @@ use Rattle.offset_pictures.specs.Reports.{report_view, reports_of}
 abbrev pub units_after : ℕ → ℕ → ℕ → List Command → ℕ
 units_after i size limit cs = min (size + added_by (take i cs) (start size limit)) 4294967295
 
--- one number for each state: the units of the space after so many commands
+-- the units of the space in each state: number i is for the space after the first i commands
 abbrev pub AreSizes : List ℕ → ℕ → ℕ → List Command → Type 0
 AreSizes sizes size limit cs = (length sizes ≡ length cs + 1) × ((i : ℕ) → i ≤ length cs → slice_index sizes i ≡ units_after i size limit cs)
 

@@ -34,7 +34,7 @@ IsOn x y a b (Upright end ∷ steps) = ((x ≡ a) × IsBetween b end y) ⊎ IsOn
 abbrev pub IsWithinTenth : ℕ → ℕ → Type 0
 IsWithinTenth drawn exact = (drawn ≤ exact) × (exact < drawn + 10)
 
--- a state of so many is on at an x: it lies there or to the left, and the next one there or to the right, if there is one
+-- one of `count` states is drawn at x: it begins there or to the left, and the next one, if there is one, there or to the right
 abbrev pub IsOnAt : Axis → ℕ → ℕ → ℕ → Type 0
 IsOnAt calls count x state = (state < count) × (x_of calls state ≤ x) × ((x ≤ x_of calls (state + 1)) ⊎ (state + 1 ≡ count))
 
