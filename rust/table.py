@@ -8,11 +8,11 @@ import re
 
 # Crate of the sources, folder of the erased crate, and the modules that are written by hand there.
 CRATES = [
-    ("offset_allocator", "offset-allocator-proved", {"accesses", "memory", "nonmax", "traits"}),
-    ("offset_guarded", "offset-allocator-guarded", {"memory", "traits"}),
-    ("offset_heaps", "offset-allocator-heaps", {"memory", "traits"}),
-    ("offset_script", "offset-script", {"memory"}),
-    ("offset_pictures", "offset-pictures", {"memory"}),
+    ("offset_allocator", "offset-allocator-proved", {"accesses", "nonmax", "traits"}),
+    ("offset_guarded", "offset-allocator-guarded", {"traits"}),
+    ("offset_heaps", "offset-allocator-heaps", {"traits"}),
+    ("offset_script", "offset-script", set()),
+    ("offset_pictures", "offset-pictures", set()),
 ]
 
 # In the root file this replaces `#![tactic(auto)]`.
@@ -23,12 +23,10 @@ ROOTS = {
 #![warn(missing_docs)]
 #![expect(LINTS)]
 
-extern crate alloc;
-
-mod memory;
 mod traits;
 
-pub use memory::{AllocError, Global, Vec};
+pub use offset_allocator_memory as memory;
+pub use offset_allocator_memory::{AllocError, Global};
 pub use nonmax::IsMax;
 """,
     "offset_guarded": """#![doc = include_str!("../README.md")]
@@ -37,12 +35,10 @@ pub use nonmax::IsMax;
 #![warn(missing_docs)]
 #![expect(LINTS)]
 
-extern crate alloc;
-
-mod memory;
 mod traits;
 
-pub use memory::{AllocError, Global, Vec};
+pub use offset_allocator_memory as memory;
+pub use offset_allocator_memory::{AllocError, Global};
 """,
     "offset_heaps": """#![doc = include_str!("../README.md")]
 #![no_std]
@@ -50,29 +46,25 @@ pub use memory::{AllocError, Global, Vec};
 #![warn(missing_docs)]
 #![expect(LINTS)]
 
-extern crate alloc;
-
-mod memory;
 mod traits;
 
-pub use memory::{AllocError, Global, Vec};
+pub use offset_allocator_memory as memory;
+pub use offset_allocator_memory::{AllocError, Global};
 pub use offset_guarded::Ticket;
 """,
     "offset_script": """#![doc = include_str!("../README.md")]
 #![forbid(unsafe_code)]
 #![expect(LINTS)]
 
-mod memory;
-
-pub use memory::{AllocError, Global, String, Vec};
+pub use offset_allocator_memory as memory;
+pub use offset_allocator_memory::{AllocError, Global};
 """,
     "offset_pictures": """#![doc = include_str!("../README.md")]
 #![forbid(unsafe_code)]
 #![expect(LINTS)]
 
-mod memory;
-
-pub use memory::{AllocError, Global, String, Vec};
+pub use offset_allocator_memory as memory;
+pub use offset_allocator_memory::{AllocError, Global};
 """,
 }
 
@@ -87,6 +79,7 @@ LINTS = {
         "unused_variables": "a parameter may be there for a contract only",
     },
     "offset_guarded": {
+        "clippy::question_mark": "a step of a proof stands before the return, and is left out here",
         "clippy::manual_find": "a loop over places needs no closure, whose calls would need a proof",
         "clippy::manual_map": "a `match` needs no closure, whose calls would need a proof",
     },
@@ -124,7 +117,7 @@ IMPORTS = {
     "std::str": "std::str",                                 # the same
 }
 
-# Names that need no import in Rattle, and here come from the hand-written module.
+# Names that need no import in Rattle, and here come from the crate `offset-allocator-memory`.
 PRELUDE = {"Vec": "crate::memory::Vec", "String": "crate::memory::String"}
 
 # Exact replacements: the text of the source, the text here, and the reason.
@@ -234,7 +227,8 @@ ALWAYS = {
     "20 + length self.old ≤ ROOM": "",
     "23 + length text.old ≤ ROOM": "",
     "is_refusal (answer_view answer.now) ≡ true → IsRefusedBy space.now command": "",
-    "AreLive self.old.space self.old.handles.items": "each call of a player keeps it, and `free` itself panics at a handle that is not live",
+    "AreHeld self.old.space self.old.handles.items": "each call of a player keeps it, and `free` itself panics at a handle that is not live",
+    "MayBeKept granted self.old.space self.old.handles.items": "`free` itself panics at a handle that is not live, as one that was kept twice is at the second `free`",
     "F.IsAlwaysCallable moved.old": "a closure of Rust may be called at any time; if it panics, that is its own panic",
 }
 
@@ -264,7 +258,7 @@ EXAMPLES = {
         },
     ),
     "offset_script": (
-        ["use offset_allocator::ByNode;", "use offset_script::*;", "let alloc = Global;"],
+        ["use offset_allocator::ByNode;", "use offset_script::memory::Vec;", "use offset_script::*;", "let alloc = Global;"],
         ["# Ok::<(), RunFault>(())"],
         {
             "script": 'let script = parse(alloc, b"space 1000 nodes 16 index 32\\nalloc 300\\nfree 1\\n")?;',
@@ -277,6 +271,9 @@ EXAMPLES = {
         {"script": 'let script = parse(alloc, b"space 1000 nodes 16 index 32\\nalloc 300\\nfree 1\\n")?;'},
     ),
 }
+
+# Functions that only steps of proofs call, and that are left out as these are.
+IN_STEPS = {"made"}
 
 # Attributes and macros that are printed as they are. Any other stops `erase`.
 ATTRIBUTES = {"cold", "inline", "track_caller"}

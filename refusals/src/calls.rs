@@ -30,13 +30,6 @@ pub const BY_FIELD: Layout = Layout {
     },
 };
 
-/// Rows of a node and an entry of the stack. With an index of 16 bits 2 bytes of a row are not used.
-pub const BY_ROW: Layout = Layout {
-    word: "by_row",
-    title: " by row",
-    tables: |nodes, index| vec![(4 + 4 + 5 * index).next_multiple_of(4) * nodes],
-};
-
 /// A call with a text.
 #[derive(Clone, Copy)]
 pub struct Call {

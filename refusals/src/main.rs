@@ -338,11 +338,6 @@ fn parts(bits: usize, most: usize) -> Vec<Part> {
         }));
         all.push(part(move |it| it.heaps(layout, 100, bits, 300)));
     }
-    // the layout of heaps
-    all.push(part(move |it| {
-        it.allocator(BY_ROW, 100, bits, 1000, &[1000, 960])
-    }));
-    all.push(part(move |it| it.heaps(BY_ROW, 100, bits, 300)));
     let header = format!("space 100 nodes 4 index {bits}");
     let short = format!("{header}\n{COMMANDS}");
     let script = Outcome::new(ANSWERED, &[&[100, 4, bits as u64], SCRIPT].concat());
@@ -414,7 +409,6 @@ fn main() {
     for nodes in [599_186, 599_187] {
         all.push(part(move |it| it.large(BY_NODE, nodes)));
         all.push(part(move |it| it.large(BY_FIELD, nodes)));
-        all.push(part(move |it| it.large(BY_ROW, nodes)));
     }
     for call in [PARSE, RUN] {
         all.push(part(move |it| {

@@ -80,6 +80,8 @@ def two_runs(b):
             ("a unit of 64", FRAGMENTED + "extend 100\nextend 30\nalloc 260\n", (1000, 32, 64, 0)),
             ("never compacted", OFTEN, (1000, 32, 1, 2)),
             ("a unit of 8, never compacted", OFTEN, (1000, 32, 8, 2)),
+            ("as many nodes as 16 bits name", FRAGMENTED.replace("index 32", "index 16"), (1000, 65533, 1, 0)),
+            ("more nodes than 16 bits name", FRAGMENTED.replace("index 32", "index 16"), (1000, 65534, 1, 0)),
             ("less space", arena, (100000000, nodes, 1, 0)),
             ("a unit of 256", arena, (size, nodes, 256, 0))):
         mine, theirs, rows = compared(b, text, as_)
@@ -94,9 +96,15 @@ def two_runs(b):
             same(table(b)["Answer"][:2], [mine[p - 1], theirs[p - 1]], f"{what}: answers at row {p}")
     mine, theirs, rows = compared(b, FRAGMENTED, (1000, 32, 1, 1))
     same(b.run("return $('differ').textContent.split('.')[0]"), f"{len(rows)} row with another outcome, the first is row {rows[0]}", "how many rows differ")
+    ends = "return [$('xnext').disabled, $('xback').disabled]"
     to(b, 0)
+    same(b.run(ends), [False, True], "before the first difference there is a next one alone")
     b.click("#xnext")
     same(row(b), rows[0], "a button goes to the next difference")
+    same(b.run(ends), [True, True], "at the only one there is none before and none after")
+    to(b, rows[0] + 1)
+    same(b.run(ends), [True, False], "after the last there is one before alone")
+    to(b, rows[0])
     found = table(b)
     same([found["Units in use"], found["Blocks"]], [["500", "800", "+300"], ["10", "7", "−3"]], "what differs at that row")
     b.run("return link()")

@@ -42,6 +42,7 @@ def tried(head, before, call, helps, what):
             assert not is_done(head.replace(f"nodes {nodes} ", f"nodes {n - 1} "), [*before, call]), (what, n - 1)
     for n in re.findall(r"a smaller request: at most ([\d,]+)", said):
         n = int(n.replace(",", ""))
+        assert n < int(numbers[0]), (what, n)
         assert is_done(head, [*before, f"alloc {n}"]) and not is_done(head, [*before, f"alloc {n + 1}"]), (what, n)
     for n in re.findall(r"another range: alloc (\d+) is granted", said):
         assert is_done(head, [*before, f"alloc {n}"]), (what, n)
@@ -107,6 +108,29 @@ def tight_is_named(b):
          ["4 units more space (extend 4): then it is granted",
           "allocate_tight, a call that recordings lack: a free block has the 100 units, but not the rounded ones",
           "a smaller request: at most 96 units"], "a tight request is named where a free block has the units")
+
+
+def smaller_is_smaller(b):
+    b.open()
+    # 100 units at a multiple of 256 need a block of 355; a request for 192 is granted
+    play(b, "space 200 nodes 8 index 32\nalign 100 256\n")
+    b.run("document.activeElement.blur()")
+    b.keys("r")
+    helps = b.run("return [...$('helps').children].map(e => e.textContent)")
+    holds(helps and not any(help.startswith("a smaller request") for help in helps), "no larger request is called a smaller one", helps)
+
+
+def extension_lacks_a_node(b):
+    b.open()
+    # 2 live, 2 free, 6 live: three blocks, as many as a limit of 4 admits, and the last is used
+    lines = ["space 10 nodes 4 index 32", "alloc 4", "alloc 6", "free 1", "alloc 2", "extend 5"]
+    play(b, "\n".join(lines) + "\n")
+    b.run("document.activeElement.blur()")
+    b.keys("r")
+    found = b.run("return ['facts', 'helps'].map(id => [...$(id).children].map(e => e.textContent))")
+    same(found, [["its last block is used (grant 2), and no further block may exist: 3 of at most 3"],
+                 ["more nodes: a limit of 5", "compact: after it the space can be extended"]], "why an extension is refused")
+    tried(lines[0], lines[1:-1], lines[-1], found[1], "an extension that lacks a node")
 
 
 def are_marked(b):
@@ -175,4 +199,4 @@ def gone_is_told(b):
     same(b.run("return $('facts').textContent"), "no grant has the number 7 there", "a number of no grant")
 
 
-ALL = [are_found, are_marked, helps_help, tight_is_named, gone_is_told]
+ALL = [are_found, are_marked, helps_help, tight_is_named, smaller_is_smaller, extension_lacks_a_node, gone_is_told]

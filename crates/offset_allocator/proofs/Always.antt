@@ -50,7 +50,7 @@ only_block (x ∷ y ∷ xs) b ys c e = absurd (cc)
 
 module _ (size max_allocs n : ℕ) (v : View) (f : IsFresh size max_allocs v) (limit : 3 ≤ max_allocs) (sized : size ≤ max_size) where
   formed : IsWellFormed v
-  formed = subst IsWellFormed (sym f.view) (well_alone (record v { max_allocs = max_allocs }) f.name size 0 (omega arith) f.below sized)
+  formed = subst IsWellFormed (sym f.view) (well_alone (record v { max_allocs = max_allocs }) f.name size 0 [] (omega arith) f.below sized)
 
   there : v.blocks ≡ free_block f.name size ∷ []
   there = ap (λ (x : View). x.blocks) f.view

@@ -1,7 +1,7 @@
 -- Bytes as numbers of 32 bits.
-use Rattle.offset_allocator.proofs.Common.{◌≡◌, ℕ, zero, suc, ◌+◌, ◌*◌, ◌<◌, ◌≤◌, List, [], ◌∷◌, ◌++◌, length, get_or, refl, sym, ap, ap₂, ◌∙◌, arith, w32, length-append, append_assoc, ◌^◌}
+use Rattle.offset_allocator.proofs.Common.{◌≡◌, ℕ, zero, suc, ◌+◌, ◌*◌, ◌%◌, ◌<◌, ◌≤◌, List, [], ◌∷◌, ◌++◌, length, get_or, refl, sym, ap, ap₂, ◌∙◌, arith, drop, w32, AllByRecursion, length-append, append_assoc, ◌^◌}
 use Rattle.std.specs.Int.{from_le_bytes, to_le_bytes}
-use Rattle.std.proofs.lemmas.Nat.{from_le_bytes-to_le_bytes_4}
+use Rattle.std.proofs.lemmas.Nat.{from_le_bytes-to_le_bytes_4, le_bytes_4}
 use Rattle.offset_allocator.specs.State.{words_in}
 
 pub length-in : (bs : List ℕ) → (4 * length (words_in bs) ≤ length bs) × (length bs < 4 * length (words_in bs) + 4)
@@ -49,3 +49,30 @@ word_added k n bs ws cs long words small e = (
 
 pub four_pushed : (l : List ℕ) (a b c d : ℕ) → (((l ++ a ∷ []) ++ b ∷ []) ++ c ∷ []) ++ d ∷ [] ≡ l ++ a ∷ b ∷ c ∷ d ∷ []
 four_pushed l a b c d = simp append_assoc
+
+-- bytes that are below 256 are those that their words say
+small_at : (bs : List ℕ) (i : ℕ) → AllByRecursion (λ x. x < 256) bs → get_or bs i 0 < 256
+small_at [] zero a = omega arith
+small_at [] (suc i) a = omega arith
+small_at (b ∷ bs) zero a = a.0
+small_at (b ∷ bs) (suc i) a = small_at bs i a.1
+
+pub same_bytes : (ks bs : List ℕ) → length ks % 4 ≡ 0 → length bs % 4 ≡ 0 → AllByRecursion (λ x. x < 256) ks → AllByRecursion (λ x. x < 256) bs → words_in ks ≡ words_in bs → ks ≡ bs
+same_bytes [] [] n m s t e = refl
+same_bytes [] (x ∷ []) n m s t e = absurd (omega (arith, m))
+same_bytes [] (x ∷ y ∷ []) n m s t e = absurd (omega (arith, m))
+same_bytes [] (x ∷ y ∷ z ∷ []) n m s t e = absurd (omega (arith, m))
+same_bytes [] (x ∷ y ∷ z ∷ w ∷ bs) n m s t e = absurd (omega (arith, ap length e))
+same_bytes (a ∷ []) bs n m s t e = absurd (omega (arith, n))
+same_bytes (a ∷ b ∷ []) bs n m s t e = absurd (omega (arith, n))
+same_bytes (a ∷ b ∷ c ∷ []) bs n m s t e = absurd (omega (arith, n))
+same_bytes (a ∷ b ∷ c ∷ d ∷ ks) [] n m s t e = absurd (omega (arith, ap length e))
+same_bytes (a ∷ b ∷ c ∷ d ∷ ks) (x ∷ []) n m s t e = absurd (omega (arith, m))
+same_bytes (a ∷ b ∷ c ∷ d ∷ ks) (x ∷ y ∷ []) n m s t e = absurd (omega (arith, m))
+same_bytes (a ∷ b ∷ c ∷ d ∷ ks) (x ∷ y ∷ z ∷ []) n m s t e = absurd (omega (arith, m))
+same_bytes (a ∷ b ∷ c ∷ d ∷ ks) (x ∷ y ∷ z ∷ w ∷ bs) n m s t e =
+    let word : from_le_bytes w32 (a ∷ b ∷ c ∷ d ∷ []) ≡ from_le_bytes w32 (x ∷ y ∷ z ∷ w ∷ []) = ap (λ l. get_or l 0 0) e in
+    let four : a ∷ b ∷ c ∷ d ∷ [] ≡ x ∷ y ∷ z ∷ w ∷ [] =
+    sym (le_bytes_4 (a ∷ b ∷ c ∷ d ∷ []) _ refl (λ i. small_at (a ∷ b ∷ c ∷ d ∷ []) i (s.0, (s.1.0, (s.1.1.0, (s.1.1.1.0, tt))))) refl)
+    ∙ le_bytes_4 (x ∷ y ∷ z ∷ w ∷ []) _ refl (λ i. small_at (x ∷ y ∷ z ∷ w ∷ []) i (t.0, (t.1.0, (t.1.1.0, (t.1.1.1.0, tt))))) word in
+    ap₂ (λ (l m : List ℕ). l ++ m) four (same_bytes ks bs (omega (arith, n)) (omega (arith, m)) s.1.1.1.1 t.1.1.1.1 (ap (drop 1) e))

@@ -28,7 +28,7 @@ unfoldable pub use Rattle.offset_allocator.specs.Chain.{blocks}
 pub use Rattle.offset_allocator.specs.Classes.{IsExponent}
 unfoldable pub use Rattle.offset_allocator.specs.Classes.{down, value, up}
 pub use Rattle.offset_allocator.specs.Compacting.{live, Compacts, moves, first_free, gathered, move_of, Move, KeepsSizes, IsCalledWith, AreSafe}
-pub use Rattle.offset_allocator.specs.Layouts.{field_tables, FieldTables, node_in, node_of, cells_of, cells_by_node, AreEven, cells_by_row, AreRows, values, cells_by_field, AreLevel}
+pub use Rattle.offset_allocator.specs.Layouts.{field_tables, FieldTables, node_in, node_of, cells_of, cells_by_node, AreEven, values, cells_by_field, AreLevel}
 unfoldable pub use Rattle.offset_allocator.specs.Layouts.{nodes_of, nodes_in}
 pub use Rattle.offset_allocator.specs.Listing.{Placed, placed_at, placed}
 pub use Rattle.offset_allocator.specs.Ranges.{size_of, range_of, Range, IsLive, KeepsAll, Grants, KeepsOthers, AreDisjoint, KeepsRanges}

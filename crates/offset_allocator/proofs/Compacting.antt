@@ -196,7 +196,7 @@ module _ (f : Fields) (s : AreSound f) where
                 tally_append (λ (b : Block). one (nat_eq hole b.name)) packed_blocks (free_block hole size ∷ []),
                 one-same hole,
               );
-              view = same ∙ ap₂ (λ (bs g : List Block). record v { blocks = bs ++ g; bins = push_all g (replicate 256 []); accesses = u.accesses }) (sym o.live) (sym gathers);
+              view = same ∙ ap₂ (λ (bs g : List Block). record v { blocks = bs ++ g; bins = push_all g (replicate 256 []); unused = u.unused; accesses = u.accesses }) (sym o.live) (sym gathers);
             }
 
         pub packs : {top accesses : ℕ} → IsBinned f.max d.bins top → bins_in f.max d.bins ≡ push (down size) hole (replicate 256 [])

@@ -113,7 +113,7 @@ freed_fewer x v w f = grind (arith, tally_append)
 
 -- a space without a used block is as a reset leaves one
 pub as_reset : (v w : View) → IsWellFormed v → used_of v.blocks ≡ 0 → SameSpace v w → Resets v w
-as_reset v w well none same = let e = emptied v well none in record { name = e.0; below = e.1; view = same ∙ ap (λ (u : View). record u { accesses = w.accesses }) e.2 }
+as_reset v w well none same = let e = emptied v well none in record { name = e.0; below = e.1; view = same ∙ ap (λ (u : View). record u { unused = w.unused; accesses = w.accesses }) e.2 }
 
 pub reset_alike : (u v w : View) → v.size ≡ u.size → v.max_allocs ≡ u.max_allocs → Resets v w → Resets u w
 reset_alike u v w e f r = grind arith

@@ -230,6 +230,10 @@ module _ {it : Fields} {more : ℕ} (r : Growth it more false) where
 pub adds_counted : (more : ℕ) (v w : View) (accesses : ℕ) → Adds more (record v { accesses = accesses }) w → Adds more v w
 adds_counted more v w accesses g = grind arith
 
+-- nor does which names were unused
+pub adds_unused : (more : ℕ) (v w : View) (unused : List ℕ) → Adds more (record v { unused = unused }) w → Adds more v w
+adds_unused more v w unused g = grind arith
+
 -- when it is done
 pub extends_done : (more : ℕ) (v w : View) (done : Bool) → Extends more v w done → (done ≡ true) ↔ (1 ≤ more → CanExtend more v)
 extends_done more v w true e = (λ h l. elim e [ inl z ↦ absurd (let n = z.0 in omega arith) | inr g ↦ g.1 ], λ h. refl)

@@ -109,7 +109,7 @@ module _ {f : Fields} {x : ℕ} (r : Release f x) where
   pub freed : (d : Cells) (last' count' top' acc' : ℕ)
       → IsChain d.chain f.cells.chain.reserved last' count' (without_end at.place.before ++ free_block at.place.block.name whole ∷ without_start at.place.after) → IsBinned max d.bins top'
       → bins_in f.max d.bins ≡ push (down whole) x left
-      → IsSound f.max f.size f.limit d last' count' top' (f.free + at.place.block.size) × Frees x (shown f) (view_of f.max f.size f.limit d last' acc')
+      → IsSound f.max f.size f.limit d last' count' top' (f.free + at.place.block.size) × Frees x (shown f) (view_of f.max f.size f.limit d last' count' acc')
   freed d last' count' top' acc' chain bins eo =
       let gone : List Block = free_end fs ++ (b ∷ free_start cs) in
       let sum : units gone ≡ (units (free_end fs) + b.size) + units (free_start cs) = units-append (free_end fs) (b ∷ free_start cs) ∙ omega arith in

@@ -8,7 +8,7 @@ use Rattle.offset_allocator.proofs.Tallies.{free_units, free_sum}
 
 -- one free block of the whole size
 abbrev pub fresh : ℕ → ℕ → View
-fresh size limit = record { size = size; max_allocs = limit; blocks = free_block 0 size ∷ []; bins = push (down size) 0 (replicate 256 []); accesses = 0 }
+fresh size limit = record { size = size; max_allocs = limit; blocks = free_block 0 size ∷ []; bins = push (down size) 0 (replicate 256 []); unused = []; accesses = 0 }
 
 -- a node whose block is the whole space
 abbrev pub whole_node : ℕ → Node
@@ -73,16 +73,16 @@ first_idle {c} s e = ap (λ (n : Node). n.used) (rw e at s.row).0
 -- the fields of a fresh allocator
 pub started : (max m size : ℕ) (d : Cells) (top : ℕ) → 2 ≤ m → m + 1 < max → size ≤ 4294967295 → d.chain.reserved ≡ m → IsSpace d.chain 0 0
     → blocks d.chain 0 ≡ free_block 0 size ∷ [] → IsBinned max d.bins top
-    → bins_in max d.bins ≡ push (down size) 0 (replicate 256 []) → IsSound max size m d 0 0 top size × (view_of max size m d 0 0 ≡ fresh size m)
+    → bins_in max d.bins ≡ push (down size) 0 (replicate 256 []) → IsSound max size m d 0 0 top size × (view_of max size m d 0 0 0 ≡ fresh size m)
 started max m size d top two least sized memory space eb bins lists =
-    let ev : view_of max size m d 0 0 ≡ fresh size m =
-    ap₂ (λ (b : List Block) (o : List (List ℕ)). let u : View = record { size = size; max_allocs = m; blocks = b; bins = o; accesses = 0 } in u) eb lists in (
+    let ev : view_of max size m d 0 0 0 ≡ fresh size m =
+    ap₂ (λ (b : List Block) (o : List (List ℕ)). let u : View = record { size = size; max_allocs = m; blocks = b; bins = o; unused = []; accesses = 0 } in u) eb lists in (
       record {
         memory = memory;
         admitted = least;
         space = space;
         bins = bins;
-        well = subst IsWellFormed (sym ev) (well_alone (fresh size m) 0 size 0 two (omega arith) sized);
+        well = subst IsWellFormed (sym ev) (well_alone (fresh size m) 0 size 0 [] two (omega arith) sized);
         total = free_sum (blocks d.chain 0) ∙ ap free_units eb ∙ omega arith;
       },
       ev,

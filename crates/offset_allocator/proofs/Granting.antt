@@ -137,7 +137,7 @@ module _ {f : Fields} {class x : ℕ} (call : Call f class x) where
         grant = ap (λ i. record { name = i; offset = units p.before + padding }) (sym got.name);
         parts = parts;
         made = refl;
-        view = same ∙ ap (λ o. record v { blocks = p.before ++ (parts ++ p.after); bins = push_all parts o; accesses = u.accesses }) (remove_free p.block ls got.free);
+        view = same ∙ ap (λ o. record v { blocks = p.before ++ (parts ++ p.after); bins = push_all parts o; unused = u.unused; accesses = u.accesses }) (remove_free p.block ls got.free);
       }
 
       pub granted : {top accesses : ℕ} → IsBinned f.max d.bins top

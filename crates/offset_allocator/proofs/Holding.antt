@@ -10,7 +10,7 @@ use Rattle.offset_allocator.proofs.{Classes.down_law, Classes.down_small, Classe
 use Rattle.offset_allocator.proofs.{Tallies.one-eq, Tallies.times-join}
 use Rattle.offset_allocator.proofs.{ViewBins.times_put, ViewBins.times_remove, ViewBins.length_put, ViewBins.length_remove, ViewBins.names_same, Tallies.free_sum, Tallies.tally_append}
 use Rattle.offset_allocator.proofs.{Tallies.units-append, Tallies.listed_named}
-use Rattle.offset_allocator.proofs.{Granting.within, Split.well_split, Split.part_room, Ranges.split_grants, Served.split_as, Served.can_grant, Served.grants, Served.multiple, Padding.reaches}
+use Rattle.offset_allocator.proofs.{Granting.within, Split.well_split, Split.part_room, Ranges.split_grants, Served.split_as, Served.split_unused, Served.can_grant, Served.grants, Served.multiple, Padding.reaches}
 use Rattle.offset_allocator.proofs.{Largest.free_most}
 use Rattle.offset_allocator.proofs.{Classes.up_after, Classes.up_itself, Classes.up_reached, Classes.value_rises}
 use Rattle.offset_allocator.specs.Statistics.{greatest}
@@ -18,8 +18,9 @@ use Rattle.offset_allocator.specs.Requests.{Holds}
 use Rattle.offset_allocator.specs.Tight.{CanHold, holds, holds_in, listed_from, first_holding, with_first, AlignsTight, FillsFirst}
 use Rattle.offset_allocator.specs.Tight.{IsWhyTight}
 use Rattle.offset_allocator.proofs.Common.{live, gathered, Compacts, IsFresh, free_block, common_steps, max, sum, sum_by-cons}
-use Rattle.offset_allocator.proofs.Advice.{open_still}
-use Rattle.offset_allocator.specs.declared.reports.Refusal.TheVariants.{TooLarge, Fragmented}
+use Rattle.offset_allocator.proofs.Advice.{free_within, open_still}
+use Rattle.offset_allocator.specs.declared.reports.Refusal.{Refusal}
+use Rattle.offset_allocator.specs.declared.reports.Refusal.TheVariants.{Nodes, TooLarge, Space, Fragmented}
 use Rattle.std.specs.List.{concat, find}
 
 -- ---- the first of a list that passes
@@ -238,14 +239,17 @@ at_first v known c n x padding_at s =
     record { small = small; class = same; name = named }
 
 -- ---- what contracts say of a request, from the relation that says it all
--- what was counted before changes nothing
-pub fills_counted : (n align : ℕ) (v w : View) (k : ℕ) (r : Option Handle) → FillsFirst n align (record v { accesses = k }) w r → FillsFirst n align v w r
-fills_counted n align v w k None a = a
-fills_counted n align v w k (Some g) a = (a.0, (a.1.0, a.1.1, a.1.2, split_as a.1.3 v.accesses w.accesses (padding_to align) (λ o. refl)))
+-- what was counted before changes nothing, nor does which names were unused
+pub fills_counted : (n align : ℕ) (v w : View) (unused : List ℕ) (k : ℕ) (r : Option Handle) → FillsFirst n align (record v { unused = unused; accesses = k }) w r → FillsFirst n align v w r
+fills_counted n align v w unused k None a = a
+fills_counted n align v w unused k (Some g) a = (
+  a.0,
+  (a.1.0, a.1.1, a.1.2, split_unused (with_first a.1.0 a.1.1 v) unused (split_as a.1.3 v.accesses w.accesses (padding_to align) (λ o. refl))),
+)
 
 pub tight_of : (n align : ℕ) (v m w : View) (r : Option Handle) → (CanGrant (blocks_needed align) (units_needed n align) v → ⊥) → SameSpace v m → FillsFirst n align m w r → AlignsTight n align v w r
-tight_of n align v m w None refuses same a = fills_counted n align v w m.accesses None (subst (λ (u : View). FillsFirst n align u w None) same a)
-tight_of n align v m w (Some g) refuses same a = inr (refuses, fills_counted n align v w m.accesses (Some g) (subst (λ (u : View). FillsFirst n align u w (Some g)) same a))
+tight_of n align v m w None refuses same a = fills_counted n align v w m.unused m.accesses None (subst (λ (u : View). FillsFirst n align u w None) same a)
+tight_of n align v m w (Some g) refuses same a = inr (refuses, fills_counted n align v w m.unused m.accesses (Some g) (subst (λ (u : View). FillsFirst n align u w (Some g)) same a))
 
 module _ (n align : ℕ) (v w : View) (known : IsWellFormed v) (some : 1 ≤ align) where
   filled_holds : (g : Handle) → FillsFirst n align v w (Some g) → CanHold n align v
@@ -396,3 +400,35 @@ module _ (v : View) (w : IsWellFormed v) (n : ℕ) (room : HasRoomFor 1 v) where
           ],
         ),
       )
+
+-- a block that holds a request has as many units, and the space too
+holds_some : (v : View) (n align : ℕ) → IsWellFormed v → CanHold n align v → n ≤ v.size
+holds_some v n align w h =
+    let p = h.1.0 in
+    omega (arith, h.1.3, w.whole, ap units h.1.1, units-append p.before (p.block ∷ p.after))
+
+-- a request has one reason at most
+pub tight_one_reason : (v : View) → IsWellFormed v → (n align : ℕ) (r s : Refusal) → IsWhyTight n align v r → IsWhyTight n align v s → r ≡ s
+tight_one_reason v w n align Nodes Nodes a b = refl
+tight_one_reason v w n align Nodes TooLarge a b = absurd (omega (arith, a, b.0))
+tight_one_reason v w n align Nodes Space a b = absurd (omega (arith, a, b.0))
+tight_one_reason v w n align Nodes Fragmented a b = absurd (omega (arith, a, b.0))
+tight_one_reason v w n align TooLarge Nodes a b = absurd (omega (arith, a.0, b))
+tight_one_reason v w n align TooLarge TooLarge a b = refl
+tight_one_reason v w n align TooLarge Space a b = absurd (omega (arith, a.1, b.1))
+tight_one_reason v w n align TooLarge Fragmented a b = absurd (omega (arith, a.1, b.1, free_within v w))
+tight_one_reason v w n align Space Nodes a b = absurd (omega (arith, a.0, b))
+tight_one_reason v w n align Space TooLarge a b = absurd (omega (arith, a.1, b.1))
+tight_one_reason v w n align Space Space a b = refl
+tight_one_reason v w n align Space Fragmented a b = absurd (omega (arith, a.2, b.1))
+tight_one_reason v w n align Fragmented Nodes a b = absurd (omega (arith, a.0, b))
+tight_one_reason v w n align Fragmented TooLarge a b = absurd (omega (arith, a.1, b.1, free_within v w))
+tight_one_reason v w n align Fragmented Space a b = absurd (omega (arith, a.1, b.2))
+tight_one_reason v w n align Fragmented Fragmented a b = refl
+
+-- and none where it is granted
+pub tight_no_reason : (v : View) → IsWellFormed v → (n align : ℕ) (r : Refusal) → IsWhyTight n align v r → CanHold n align v → ⊥
+tight_no_reason v w n align Nodes a h = omega (arith, a, h.0)
+tight_no_reason v w n align TooLarge a h = omega (arith, a.1, holds_some v n align w h)
+tight_no_reason v w n align Space a h = a.3 h
+tight_no_reason v w n align Fragmented a h = a.2 h

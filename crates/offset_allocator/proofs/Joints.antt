@@ -1,7 +1,7 @@
 -- The chain, the bins and the view together.
-use Rattle.offset_allocator.proofs.Common.{◌≡◌, ℕ, zero, suc, ◌+◌, ◌≤◌, Bool, true, false, List, [], ◌∷◌, ◌++◌, if◌then◌else◌, refl, ap, ◌∙◌, arith, down, units, Block, View, count_named}
+use Rattle.offset_allocator.proofs.Common.{◌≡◌, ℕ, zero, suc, ◌+◌, ◌≤◌, Bool, true, false, List, [], ◌∷◌, ◌++◌, if◌then◌else◌, take, refl, ap, ◌∙◌, arith, down, units, Block, View, count_named}
 use Rattle.offset_allocator.proofs.Common.{count_in_bin, IsWellFormed, free_part, remove_all, remove, Cells, IsChain, IsBinned, bins_in, IsUnlisted, view_of, common_steps}
-use Rattle.offset_allocator.proofs.{Views.blocks-chain, Views.space-chain, Sound.Fields, Sound.AreSound, Sound.well_counted, Tallies.listed_named, Tallies.tally_append}
+use Rattle.offset_allocator.proofs.{Views.blocks-chain, Views.space-chain, Sound.Fields, Sound.AreSound, Sound.well_unused, Tallies.listed_named, Tallies.tally_append}
 use Rattle.offset_allocator.proofs.Tallies.{free_units, free_sum}
 
 -- a name that no free block has is in no list
@@ -11,18 +11,18 @@ unlisted v w x h c ch a = omega (arith, a, w.binned c x, h c)
 pub unused_unlisted : (v : View) → IsWellFormed v → (x : ℕ) → count_named x v.blocks ≡ 0 → IsUnlisted x v.bins
 unused_unlisted v w x h = unlisted v w x (λ c. omega (arith, listed_named c x v.blocks))
 
--- whatever was counted
-abbrev pub with_accesses : ℕ → View → View
-with_accesses k v = record v { accesses = k }
+-- whatever was counted, and whichever names are unused
+abbrev pub with_unused : List ℕ → ℕ → View → View
+with_unused unused k v = record v { unused = unused; accesses = k }
 
 -- the fields after a call: the tables hold the blocks and the bins of a well-formed view
 pub stepped : (f : Fields) → AreSound f → (v : View) (d : Cells) (free k : ℕ) {last count top : ℕ} {bs : List Block} → IsWellFormed v → v.max_allocs ≡ f.limit
     → IsChain d.chain f.cells.chain.reserved last count bs → bs ≡ v.blocks → IsBinned f.max d.bins top → bins_in f.max d.bins ≡ v.bins → free_units bs ≡ free
-    → AreSound (record f { size = v.size; cells = d; last = last; count = count; top = top; free = free }) × (view_of f.max v.size f.limit d last k ≡ with_accesses k v)
+    → AreSound (record f { size = v.size; cells = d; last = last; count = count; top = top; free = free }) × (view_of f.max v.size f.limit d last count k ≡ with_unused (take count d.chain.spare) k v)
 stepped f s v d free k {last} {count} {top} {bs} well limit chain eb bins eo total =
     let is = blocks-chain d.chain _ last count bs chain in
     let sized = free_sum bs ∙ total in
-    grind (arith, common_steps, space-chain, well_counted)
+    grind (arith, common_steps, space-chain, well_unused)
 
 -- small parts of steps
 pub remove_free : (b : Block) (ls : List (List ℕ)) → b.used ≡ false → remove_all (b ∷ []) ls ≡ remove (down b.size) b.name ls

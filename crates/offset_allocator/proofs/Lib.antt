@@ -11,6 +11,7 @@ pub mod Bytes
 pub mod Classes
 pub mod Compacting
 pub mod Alike
+pub mod AlongLive
 pub mod InPieces
 pub mod Counting
 pub mod Dropped
@@ -45,6 +46,7 @@ pub mod Ranges
 pub mod Readied
 pub mod Refusals
 pub mod Taken
+pub mod Headed
 pub mod Holding
 pub mod Tallies
 pub mod Uses
@@ -73,5 +75,4 @@ pub mod Views
 pub mod Walks
 pub mod Writes
 pub mod Entries
-pub mod RowEntries
 pub mod Fields

@@ -11,10 +11,10 @@ pub back : (fs : List Block) (b : Block) → reverse (placed 0 (fs ++ b ∷ []))
 back fs b = ap (reverse {A = Placed}) (placed-push 0 fs b) ∙ reverse-append (placed 0 fs) (placed_at (0 + units fs) b ∷ []) ∙ ap (λ (o : ℕ). placed_at o b ∷ reverse (placed 0 fs)) (omega arith)
 
 -- a used block has the first grant of those from it on, and a free one has none
-used_first : (o : ℕ) (b : Block) (rest : List Placed) → b.used ≡ true → first_handle (placed_at o b ∷ rest) ≡ Some (record { name = b.name; offset = o })
+pub used_first : (o : ℕ) (b : Block) (rest : List Placed) → b.used ≡ true → first_handle (placed_at o b ∷ rest) ≡ Some (record { name = b.name; offset = o })
 used_first o b rest e = grind (arith, e)
 
-free_first : (o : ℕ) (b : Block) (rest : List Placed) → b.used ≡ false → first_handle (placed_at o b ∷ rest) ≡ first_handle rest
+pub free_first : (o : ℕ) (b : Block) (rest : List Placed) → b.used ≡ false → first_handle (placed_at o b ∷ rest) ≡ first_handle rest
 free_first o b rest e = grind (arith, e)
 
 ends_free-push : (fs : List Block) (b : Block) → ends_free (fs ++ b ∷ []) ≡ not b.used

@@ -1,8 +1,8 @@
 -- Nodes that are made before names are taken.
-use Rattle.offset_allocator.proofs.Common.{◌≡◌, ◌<◌, ◌≤◌, ◌+◌, ℕ, zero, suc, List, [], ◌∷◌, ◌++◌, None, refl, ap, ◌∙◌, arith, length, length-append, length-set, get_or, take, set, cases_eq, nat_tests}
-use Rattle.offset_allocator.proofs.Common.{take_more_set, Cells, ChainCells, Node, blank, node, with_node, AreShaped, Block, times, IsChain, blocks, common_steps}
+use Rattle.offset_allocator.proofs.Common.{◌≡◌, ◌<◌, ◌≤◌, ◌+◌, ℕ, zero, suc, List, [], ◌∷◌, ◌++◌, None, refl, ap, ap₂, ◌∙◌, arith, length, length-append, length-set, get_or, take, set, cases_eq, nat_tests}
+use Rattle.offset_allocator.proofs.Common.{take_more_set, Cells, ChainCells, Node, blank, node, with_node, AreShaped, Block, View, times, IsChain, blocks, common_steps}
 use Rattle.offset_allocator.proofs.Tallies.{one-eq, one-other, times-join}
-use Rattle.offset_allocator.proofs.{Rows.IsRow-kept, Sound.Fields, Sound.AreSound, Sound.shown, Uses.binned_more, Views.blocks-chain, Views.space-chain}
+use Rattle.offset_allocator.proofs.{Rows.IsRow-kept, Sound.Fields, Sound.AreSound, Sound.shown, Sound.well_unused, Uses.binned_more, Views.blocks-chain, Views.space-chain}
 use Rattle.offset_allocator.specs.Readies.{Readies}
 
 -- a blank node at the end is what is read of a node that is not made
@@ -88,13 +88,22 @@ readied_twice a b = record {
 abbrev pub with_made : Fields → Cells → ℕ → Fields
 with_made f d count = record f { cells = d; count = count }
 
--- they are sound still, and contracts see the same
+-- they are sound still, and contracts see the same, except the unused names
 module _ (f : Fields) (s : AreSound f) {d : Cells} {count : ℕ} (r : Readies f.max f.cells d f.count count) where
   same_blocks : blocks d.chain f.last ≡ blocks f.cells.chain f.last
   same_blocks = blocks-chain d.chain _ f.last count _ (r.chain _ _ _ s.space)
 
-  pub made_shown : shown (with_made f d count) ≡ shown f
-  made_shown = rw (same_blocks, (r.bins _ s.bins).1) refl
+  pub made_shown : (v : View) → shown f ≡ v → shown (with_made f d count) ≡ record v { unused = take count d.chain.spare }
+  made_shown v e =
+      ap₂ (λ (bs : List Block) (ls : List (List ℕ)). let u : View = record {
+        size = f.size;
+        max_allocs = f.limit;
+        blocks = bs;
+        bins = ls;
+        unused = take count d.chain.spare;
+        accesses = f.accesses;
+      } in u) same_blocks (r.bins _ s.bins).1
+      ∙ ap (λ (u : View). record u { unused = take count d.chain.spare }) e
 
   pub made : AreSound (with_made f d count)
   made = record {
@@ -102,6 +111,6 @@ module _ (f : Fields) (s : AreSound f) {d : Cells} {count : ℕ} (r : Readies f.
     admitted = s.admitted;
     space = space-chain d.chain _ f.last count _ (r.chain _ _ _ s.space);
     bins = (r.bins _ s.bins).0;
-    well = rw (same_blocks, (r.bins _ s.bins).1) s.well;
+    well = rw (same_blocks, (r.bins _ s.bins).1) (well_unused (shown (record f { accesses = 0 })) (take count d.chain.spare) 0 s.well);
     total = rw same_blocks s.total;
   }

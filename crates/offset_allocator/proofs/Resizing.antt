@@ -197,6 +197,14 @@ module _ {f : Fields} {x : ℕ} (call : Release f x) where
 resizes_counted : (x n : ℕ) (v w : View) (accesses : ℕ) → Resizes x n (record v { accesses = accesses }) w → Resizes x n v w
 resizes_counted x n v w accesses r = grind (arith, used)
 
+-- whichever names were unused
+resizes_unused : (x n : ℕ) (v w : View) (unused : List ℕ) → Resizes x n (record v { unused = unused }) w → Resizes x n v w
+resizes_unused x n v w unused r = grind (arith, used)
+
+pub resized_unused : (x n : ℕ) (v w : View) (unused : List ℕ) (done : Bool) → ResizesTo x n (record v { unused = unused }) w done → ResizesTo x n v w done
+resized_unused x n v w unused true s = elim s [ inl z ↦ inl z | inr r ↦ inr (r.0, r.1, resizes_unused x n v w unused r.2) ]
+resized_unused x n v w unused false s = s
+
 pub resized_counted : (x n : ℕ) (v w : View) (accesses : ℕ) (done : Bool) → ResizesTo x n (record v { accesses = accesses }) w done → ResizesTo x n v w done
 resized_counted x n v w accesses true s = elim s [ inl z ↦ inl z | inr r ↦ inr (r.0, r.1, resizes_counted x n v w accesses r.2) ]
 resized_counted x n v w accesses false s = s

@@ -1,14 +1,15 @@
 -- The words of a state and its parts, and the view of what is built of them.
-use Rattle.offset_allocator.proofs.Common.{◌≡◌, ℕ, suc, ◌+◌, ◌-◌, ◌*◌, ◌<◌, ◌≤◌, List, [], ◌∷◌, ◌++◌, length, take, drop, get_or, refl, sym, ap, ap₂, ◌∙◌, arith, append_assoc, nat_lt, if◌then◌else◌}
+use Rattle.offset_allocator.proofs.Common.{◌≡◌, ℕ, suc, ◌+◌, ◌-◌, ◌*◌, ◌<◌, ◌≤◌, List, [], ◌∷◌, ◌++◌, length, take, drop, get_or, refl, sym, ap, ap₂, ◌∙◌, arith, append_assoc}
 use Rattle.offset_allocator.proofs.Common.{length-append, length-take-le, take-append-drop, Block, View, IsWellFormed, AreCoalesced, units, count_named, times, used_of, max_size}
 use Rattle.std.proofs.Math.Seq.{drop-append_seam, take-append_seam, get_or-append_seam, take-add, drop-cons}
 use Rattle.std.proofs.lemmas.List.{length-drop}
-use Rattle.offset_allocator.proofs.{Freed.length-filed, Freed.bins_agree, Freed.filed-freed, Laying.each_small, Laying.each_far, StateWords.length-words, StateWords.count-freed}
-use Rattle.offset_allocator.proofs.{StateWords.units-freed, StateWords.length-freed, StateWords.freed_again, StateWords.freed_same}
-use Rattle.offset_allocator.specs.Building.{AreEach, IsHeader}
-use Rattle.offset_allocator.specs.Relations.{SameSpace}
+use Rattle.offset_allocator.proofs.{Freed.length-filed, Freed.bins_agree, Laying.each_small, Laying.each_far, StateWords.length-words, StateWords.count-freed}
+use Rattle.offset_allocator.proofs.{StateWords.units-freed, StateWords.length-freed, StateWords.freed_same, Saved.ordered_filed, Saved.names_free, Saved.names_bins}
+use Rattle.offset_allocator.specs.Building.{AreEach, AreOrdered, IsHeader}
+use Rattle.offset_allocator.specs.Relations.{SameState}
 use Rattle.offset_allocator.specs.declared.restoring.Header.{Header}
-use Rattle.offset_allocator.specs.State.{AreNamesOf, IsTextOf, block_words, checksum_from, filed, freed, state_words}
+use Rattle.offset_allocator.specs.State.{block_words, checksum_from, filed, freed, state_text, state_words}
+use Rattle.std.specs.List.{concat}
 
 cut : (f m r : List ℕ) (i j : ℕ) → length f ≡ i → length m ≡ j → take j (drop i (f ++ (m ++ r))) ≡ m
 cut f m r i j e l =
@@ -70,7 +71,7 @@ joined ws a b c e =
 pub well_built : (size limit count : ℕ) (bs : List Block) (free unused : List ℕ) → 1 ≤ length bs → units bs ≡ size → size ≤ max_size → AreEach bs unused → length bs + length unused ≤ limit
     → length bs + 1 ≤ limit
     → ((x : ℕ) → times x free ≤ count_named x bs) → AreCoalesced (freed free bs) → used_of (freed free bs) + 2 ≤ limit
-    → IsWellFormed (record { size = size; max_allocs = limit; blocks = freed free bs; bins = filed bs free; accesses = count })
+    → IsWellFormed (record { size = size; max_allocs = limit; blocks = freed free bs; bins = filed bs free; unused = unused; accesses = count })
 well_built size limit count bs free unused some whole fits each made room once apart spare = record {
   some = omega (arith, some, length-freed free bs);
   distinct = λ x. omega (arith, count-freed x free bs, each_small bs unused each x);
@@ -84,16 +85,6 @@ well_built size limit count bs free unused some whole fits each made room once a
   few_used = spare;
 }
 
-pub names_built : (size limit count : ℕ) (bs : List Block) (free unused : List ℕ) → AreEach bs unused → length bs + length unused ≤ limit → ((x : ℕ) → times x free ≤ count_named x bs)
-    → AreNamesOf (record { size = size; max_allocs = limit; blocks = freed free bs; bins = filed bs free; accesses = count }) free unused
-names_built size limit count bs free unused each made once = record {
-  free = freed_again free free bs;
-  once = λ x. omega (arith, once x, count-freed x free bs);
-  bins = filed-freed free bs free;
-  each = λ x. ap (λ n. n + times x unused) (count-freed x free bs) ∙ each x ∙ ap (λ n. if nat_lt x (n + length unused) then 1 else 0) (sym (length-freed free bs));
-  made = omega (arith, made, length-freed free bs);
-}
-
 -- the words of blocks do not say which are free
 pub words-freed : (xs : List ℕ) (bs : List Block) → block_words (freed xs bs) ≡ block_words bs
 words-freed xs [] = refl
@@ -102,10 +93,10 @@ words-freed xs (b ∷ bs) = ap (λ l. l ++ b.name ∷ b.size ∷ []) (words-free
 -- they are the words of that view
 pub text_built : {max most : ℕ} (ws : List ℕ) (h : Header) (count : ℕ) (bs : List Block) (x y z : List ℕ) → IsHeader max most ws h → x ≡ take (7 + 2 * h.blocks - 7) (drop 7 ws)
     → y ≡ take (7 + 2 * h.blocks + h.free - (7 + 2 * h.blocks)) (drop (7 + 2 * h.blocks) ws) → z ≡ take (length ws - 1 - (7 + 2 * h.blocks + h.free)) (drop (7 + 2 * h.blocks + h.free) ws)
-    → block_words bs ≡ x → AreEach bs z → ((k : ℕ) → times k y ≤ count_named k bs) → checksum_from 0 (take (length ws - 1) ws) ≡ get_or ws (length ws - 1) 0
-    → IsTextOf (record { size = h.size; max_allocs = h.max_allocs; blocks = freed y bs; bins = filed bs y; accesses = count }) ws
-text_built ws h count bs x y z hd ex ey ez words each once check =
-    let v : View = record { size = h.size; max_allocs = h.max_allocs; blocks = freed y bs; bins = filed bs y; accesses = count } in
+    → block_words bs ≡ x → AreOrdered bs 0 y → checksum_from 0 (take (length ws - 1) ws) ≡ get_or ws (length ws - 1) 0
+    → ws ≡ state_text (record { size = h.size; max_allocs = h.max_allocs; blocks = freed y bs; bins = filed bs y; unused = z; accesses = count })
+text_built ws h count bs x y z hd ex ey ez words order check =
+    let v : View = record { size = h.size; max_allocs = h.max_allocs; blocks = freed y bs; bins = filed bs y; unused = z; accesses = count } in
     let n : ℕ = length ws - 1 in
     let j = joined ws (2 * h.blocks) h.free h.unused (omega (arith, hd.long)) in
     let lx : length x ≡ 2 * h.blocks = ap length ex ∙ length-take-le (7 + 2 * h.blocks - 7) (drop 7 ws) (omega (arith, hd.long, length-drop 7 ws)) ∙ omega arith in
@@ -117,36 +108,44 @@ text_built ws h count bs x y z hd ex ey ez words each once check =
     let lb : length (freed y bs) ≡ h.blocks = omega (arith, length-freed y bs, length-words bs, ap length words, lx) in
     let heads : take 7 ws ≡ 1414742351 ∷ 1 ∷ h.size ∷ h.max_allocs ∷ length (freed y bs) ∷ length y ∷ length z ∷ [] = let e = ap (take 7) hd.words in cc in
     let body : take (7 + 2 * h.blocks - 7) (drop 7 ws) ≡ block_words (freed y bs) = sym ex ∙ sym words ∙ sym (words-freed y bs) in
-    let numbers : take n ws ≡ state_words v y z =
-    j.1 ∙ ap₂ (λ (p q : List ℕ). p ++ q) heads (ap₂ (λ (p q : List ℕ). p ++ q) body (ap₂ (λ (p q : List ℕ). p ++ q) (sym ey) (sym ez))) in
-    record {
-      names = y;
-      unused = z;
-      are = names_built h.size h.max_allocs count bs y z each (omega (arith, hd.within, lb, length-freed y bs, lz)) once;
-      words = j.0 ∙ ap₂ (λ (p : List ℕ) (s : ℕ). p ++ s ∷ []) numbers (sym check ∙ ap (checksum_from 0) numbers);
-    }
+    let numbers : take n ws ≡ state_words v =
+    j.1 ∙ ap₂ (λ (p q : List ℕ). p ++ q) heads (ap₂ (λ (p q : List ℕ). p ++ q) body (ap₂ (λ (p q : List ℕ). p ++ q) (sym ey) (sym ez)))
+    ∙ ap (λ (l : List ℕ). 1414742351 ∷ 1 ∷ h.size ∷ h.max_allocs ∷ length (freed y bs) ∷ length l ∷ length z ∷ (block_words (freed y bs) ++ (l ++ z))) (sym (ordered_filed bs y order)) in
+    j.0 ∙ ap₂ (λ (p : List ℕ) (s : ℕ). p ++ s ∷ []) numbers (sym check ∙ ap (checksum_from 0) numbers)
 
--- bytes are of one view
-text_parts : {ws : List ℕ} {v : View} (t : IsTextOf v ws) (a b : ℕ) → length v.blocks ≡ a → length t.names ≡ b
-    → AreParts ws (block_words v.blocks) t.names t.unused (checksum_from 0 (state_words v t.names t.unused)) (2 * a) b
-text_parts {ws} {v} t a b ea eb =
-    parted ws (1414742351 ∷ 1 ∷ v.size ∷ v.max_allocs ∷ length v.blocks ∷ length t.names ∷ length t.unused ∷ []) (block_words v.blocks) t.names t.unused _ (2 * a) b t.words refl
+-- so they are those of a view with these blocks, bins and unused names
+pub text_shown : {max most : ℕ} (ws : List ℕ) (h : Header) (v : View) (bs : List Block) (x y z : List ℕ) → IsHeader max most ws h → x ≡ take (7 + 2 * h.blocks - 7) (drop 7 ws)
+    → y ≡ take (7 + 2 * h.blocks + h.free - (7 + 2 * h.blocks)) (drop (7 + 2 * h.blocks) ws) → z ≡ take (length ws - 1 - (7 + 2 * h.blocks + h.free)) (drop (7 + 2 * h.blocks + h.free) ws)
+    → block_words bs ≡ x → AreOrdered bs 0 y → checksum_from 0 (take (length ws - 1) ws) ≡ get_or ws (length ws - 1) 0
+    → v.size ≡ h.size → v.max_allocs ≡ h.max_allocs → v.blocks ≡ freed y bs → v.bins ≡ filed bs y → v.unused ≡ z → ws ≡ state_text v
+text_shown ws h v bs x y z hd ex ey ez words order check s m b o u =
+    let same : v ≡ record { size = h.size; max_allocs = h.max_allocs; blocks = freed y bs; bins = filed bs y; unused = z; accesses = v.accesses } =
+    λ i. record { size = s i; max_allocs = m i; blocks = b i; bins = o i; unused = u i; accesses = v.accesses } in
+    text_built ws h v.accesses bs x y z hd ex ey ez words order check ∙ ap state_text (sym same)
+
+-- the parts of the words of a view
+pub text_parts : {ws : List ℕ} (v : View) → ws ≡ state_text v → (a b : ℕ) → length v.blocks ≡ a → length (concat v.bins) ≡ b
+    → AreParts ws (block_words v.blocks) (concat v.bins) v.unused (checksum_from 0 (state_words v)) (2 * a) b
+text_parts {ws} v t a b ea eb =
+    parted ws (1414742351 ∷ 1 ∷ v.size ∷ v.max_allocs ∷ length v.blocks ∷ length (concat v.bins) ∷ length v.unused ∷ []) (block_words v.blocks) (concat v.bins) v.unused _ (2 * a) b t refl
     (omega (arith, length-words v.blocks, ea)) eb
 
-view_parts : (v w : View) → w.size ≡ v.size → w.max_allocs ≡ v.max_allocs → w.blocks ≡ v.blocks → w.bins ≡ v.bins → SameSpace v w
-view_parts v w s m b o =
+view_parts : (v w : View) → w.size ≡ v.size → w.max_allocs ≡ v.max_allocs → w.blocks ≡ v.blocks → w.bins ≡ v.bins → w.unused ≡ v.unused → SameState v w
+view_parts v w s m b o u =
     ap (λ (n : ℕ). record w { size = n }) s ∙ ap (λ (n : ℕ). record w { size = v.size; max_allocs = n }) m
     ∙ ap (λ (l : List Block). record w { size = v.size; max_allocs = v.max_allocs; blocks = l }) b
-    ∙ ap (λ (l : List (List ℕ)). record v { bins = l; accesses = w.accesses }) o
+    ∙ ap (λ (l : List (List ℕ)). record v { bins = l; unused = w.unused; accesses = w.accesses }) o
+    ∙ ap (λ (l : List ℕ). record v { unused = l; accesses = w.accesses }) u
 
-pub one_view : (v w : View) (ws : List ℕ) → IsTextOf v ws → IsTextOf w ws → SameSpace v w
-one_view v w ws t u =
-    let blocks : length w.blocks ≡ length v.blocks = ap (λ l. get_or l 4 0) (sym u.words ∙ t.words) in
-    let names : length u.names ≡ length t.names = ap (λ l. get_or l 5 0) (sym u.words ∙ t.words) in
-    let p = text_parts t (length v.blocks) (length t.names) refl refl in
-    let q = text_parts u (length v.blocks) (length t.names) blocks names in
-    let same_names : u.names ≡ t.names = sym q.second ∙ p.second in
+-- bytes are of one view
+pub one_view : (v w : View) (ws : List ℕ) → IsWellFormed v → IsWellFormed w → ws ≡ state_text v → ws ≡ state_text w → SameState v w
+one_view v w ws f h t u =
+    let blocks : length w.blocks ≡ length v.blocks = ap (λ l. get_or l 4 0) (sym u ∙ t) in
+    let names : length (concat w.bins) ≡ length (concat v.bins) = ap (λ l. get_or l 5 0) (sym u ∙ t) in
+    let p = text_parts v t (length v.blocks) (length (concat v.bins)) refl refl in
+    let q = text_parts w u (length v.blocks) (length (concat v.bins)) blocks names in
+    let same_names : concat w.bins ≡ concat v.bins = sym q.second ∙ p.second in
     let same_words : block_words w.blocks ≡ block_words v.blocks = sym q.first ∙ p.first in
-    let same_blocks : w.blocks ≡ v.blocks = sym u.are.free ∙ ap (λ l. freed l w.blocks) same_names ∙ freed_same t.names w.blocks v.blocks same_words ∙ t.are.free in
-    let same_bins : w.bins ≡ v.bins = sym u.are.bins ∙ ap₂ filed same_blocks same_names ∙ t.are.bins in
-    view_parts v w (ap (λ l. get_or l 2 0) (sym u.words ∙ t.words)) (ap (λ l. get_or l 3 0) (sym u.words ∙ t.words)) same_blocks same_bins
+    let same_blocks : w.blocks ≡ v.blocks = sym (names_free w h) ∙ ap (λ l. freed l w.blocks) same_names ∙ freed_same (concat v.bins) w.blocks v.blocks same_words ∙ names_free v f in
+    let same_bins : w.bins ≡ v.bins = sym (names_bins w h) ∙ ap₂ filed same_blocks same_names ∙ names_bins v f in
+    view_parts v w (ap (λ l. get_or l 2 0) (sym u ∙ t)) (ap (λ l. get_or l 3 0) (sym u ∙ t)) same_blocks same_bins (sym q.third ∙ p.third)

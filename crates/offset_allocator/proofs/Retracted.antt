@@ -1,5 +1,5 @@
 -- The last block of a space has fewer units, or goes.
-use Rattle.offset_allocator.proofs.Common.{◌≡◌, ℕ, zero, suc, ◌+◌, ◌-◌, ◌<◌, ◌≤◌, Bool, true, false, not, ◌&&◌, List, [], ◌∷◌, ◌++◌, length, refl, sym, ap, subst, ◌∙◌, arith, inl, inr, append-nil}
+use Rattle.offset_allocator.proofs.Common.{◌≡◌, ℕ, zero, suc, ◌+◌, ◌-◌, ◌<◌, ◌≤◌, Bool, true, false, not, ◌&&◌, List, [], ◌∷◌, ◌++◌, length, take, refl, sym, ap, subst, ◌∙◌, arith, inl, inr, append-nil}
 use Rattle.offset_allocator.proofs.Common.{append_assoc, length-append}
 use Rattle.offset_allocator.proofs.Common.{Block, View, Cells, units, one, down, free_block, used_of, AreCoalesced, IsWellFormed, IsChain, IsBinned, bins_in, blocks, push, push_all, remove_all, replace}
 use Rattle.offset_allocator.proofs.Common.{ends_used, KeepsAll, true≢false}
@@ -94,7 +94,7 @@ module _ {it : Fields} (r : EndsFree it) (less : ℕ) (enough : less ≤ (last_o
         blocks = (last_of r).is;
         free = last_free r;
         enough = enough;
-        view = made.1 ∙ ap (λ (new : List Block). record (replace (shown it) fs (b ∷ []) new []) { size = it.size - less; accesses = k }) (sym (end_some fs b.name n rest));
+        view = made.1 ∙ ap (λ (new : List Block). record (replace (shown it) fs (b ∷ []) new []) { size = it.size - less; unused = take count d.chain.spare; accesses = k }) (sym (end_some fs b.name n rest));
       } in (
         made.0,
         is,
@@ -149,10 +149,10 @@ module _ {it : Fields} (r : EndsFree it) (less : ℕ) (enough : less ≤ (last_o
           enough = enough;
           view =
               made.1
-              ∙ ap (λ (o : List (List ℕ)). record (shown it) { blocks = gs ++ a ∷ []; bins = o; size = it.size - less; accesses = k }) removed
-              ∙ ap (λ (l : List Block). record (shown it) { blocks = l; bins = remove_all (b ∷ []) (bins_in it.max it.cells.bins); size = it.size - less; accesses = k }) (sym others
+              ∙ ap (λ (o : List (List ℕ)). record (shown it) { blocks = gs ++ a ∷ []; bins = o; size = it.size - less; unused = take count d.chain.spare; accesses = k }) removed
+              ∙ ap (λ (l : List Block). record (shown it) { blocks = l; bins = remove_all (b ∷ []) (bins_in it.max it.cells.bins); size = it.size - less; unused = take count d.chain.spare; accesses = k }) (sym others
               ∙ sym (append-nil fs))
-              ∙ ap (λ (new : List Block). record (replace (shown it) fs (b ∷ []) new []) { size = it.size - less; accesses = k }) (sym (gone (b.size - less) (omega (arith, whole))));
+              ∙ ap (λ (new : List Block). record (replace (shown it) fs (b ∷ []) new []) { size = it.size - less; unused = take count d.chain.spare; accesses = k }) (sym (gone (b.size - less) (omega (arith, whole))));
         } in (
           made.0,
           is,

@@ -1,12 +1,13 @@
 -- The names in the bins say which blocks are free, and give the bins.
-use Rattle.offset_allocator.proofs.Common.{◌≡◌, ◌≢◌, ℕ, zero, suc, ◌+◌, ◌<◌, ◌≤◌, Bool, true, false, not, ◌&&◌, ◌⊎◌, List, [], ◌∷◌, ◌++◌, length, replicate, get_or, set, refl, sym}
+use Rattle.offset_allocator.proofs.Common.{◌≡◌, ◌≢◌, ℕ, zero, suc, ◌+◌, ◌-◌, ◌<◌, ◌≤◌, Bool, true, false, not, ◌&&◌, ◌⊎◌, List, [], ◌∷◌, ◌++◌, length, replicate, drop, get_or, set, refl, sym}
 use Rattle.offset_allocator.proofs.Common.{ap, ap₂, subst, ◌∙◌, arith, cases_eq, inl, inr}
 use Rattle.offset_allocator.proofs.Common.{eq-eqb, ne_eqb, length-replicate, append_assoc, append-nil, down, Block, View, IsWellFormed, count_named, count_in_bin, one, times}
 use Rattle.offset_allocator.proofs.Common.{nat_eq, bin_at, push, if◌then◌else◌}
 use Rattle.std.specs.List.{concat}
 use Rattle.std.proofs.Math.Seq.{get_or-append_seam, set-append_seam}
 use Rattle.std.proofs.lemmas.List.{replicate-append-replicate}
-use Rattle.offset_allocator.proofs.{Classes.down_small, Freed.bool_cases, Freed.among_times, Freed.times_among, Tallies.one-same, Tallies.one-eq, Tallies.times-join}
+use Rattle.offset_allocator.specs.Building.{AreOrdered}
+use Rattle.offset_allocator.proofs.{Freed.length-filed, Freed.size-freed, Classes.down_small, Freed.bool_cases, Freed.among_times, Freed.times_among, Tallies.one-same, Tallies.one-eq, Tallies.times-join}
 use Rattle.offset_allocator.proofs.{Tallies.times-append, Tallies.listed_named}
 use Rattle.offset_allocator.specs.State.{filed, freed, is_among, size_named}
 
@@ -89,10 +90,70 @@ filed_bins bs n (l ∷ ls) e h =
     filed_bin bs n l (concat ls) ls (λ x s. h 0 x s ∙ omega arith)
     (filed_bins bs (n + 1) ls (omega (arith, e)) (λ k x s. h (suc k) x s ∙ omega arith) ∙ more_empty n ls)
 
-module _ (v : View) (w : IsWellFormed v) where
-  names : List ℕ
-  names = concat v.bins
+-- names in the order of bins
+pub ordered_below : (bs : List Block) (m n : ℕ) (xs : List ℕ) → m ≤ n → AreOrdered bs n xs → AreOrdered bs m xs
+ordered_below bs m n [] l o = tt
+ordered_below bs m n (x ∷ xs) l o = (omega (arith, l, o.0), o.1)
 
+-- so are the last of them
+pub ordered_drop : (bs : List Block) (n k : ℕ) (xs : List ℕ) → AreOrdered bs n xs → (m : ℕ) × AreOrdered bs m (drop k xs)
+ordered_drop bs n zero xs o = (n, o)
+ordered_drop bs n (suc k) [] o = (n, tt)
+ordered_drop bs n (suc k) (x ∷ xs) o = ordered_drop bs (down (size_named x bs)) k xs o.1
+
+-- those of bins are
+ordered_bin : (bs : List Block) (n : ℕ) (l xs : List ℕ) → ((x : ℕ) → 1 ≤ times x l → down (size_named x bs) ≡ n) → AreOrdered bs n xs → AreOrdered bs n (l ++ xs)
+ordered_bin bs n [] xs h o = o
+ordered_bin bs n (x ∷ l) xs h o =
+    let e = h x (omega (arith, one-same x)) in
+    (omega (arith, e), subst (λ k. AreOrdered bs k (l ++ xs)) (sym e) (ordered_bin bs n l xs (λ y s. h y (omega (arith, s))) o))
+
+ordered_bins : (bs : List Block) (n : ℕ) (ls : List (List ℕ)) → ((k x : ℕ) → 1 ≤ times x (bin_at ls k) → down (size_named x bs) ≡ n + k) → AreOrdered bs n (concat ls)
+ordered_bins bs n [] h = tt
+ordered_bins bs n (l ∷ ls) h =
+    ordered_bin bs n l (concat ls) (λ x s. h 0 x s ∙ omega arith)
+    (ordered_below bs n (n + 1) (concat ls) (omega arith) (ordered_bins bs (n + 1) ls (λ k x s. h (suc k) x s ∙ omega arith)))
+
+-- and they are those of the bins that they give
+concat_none : (k : ℕ) (ls : List (List ℕ)) → concat (replicate k [] ++ ls) ≡ concat ls
+concat_none zero ls = refl
+concat_none (suc k) ls = concat_none k ls
+
+empty_parts : (n k : ℕ) (ls : List (List ℕ)) → n ≤ k → replicate k [] ++ ls ≡ replicate n [] ++ (replicate (k - n) [] ++ ls)
+empty_parts n k ls l =
+    ap (λ (j : ℕ). replicate {A = List ℕ} j [] ++ ls) {x = k} {y = n + (k - n)} (omega (arith, l)) ∙ ap (λ m. m ++ ls) (sym (replicate-append-replicate n (k - n) []))
+    ∙ append_assoc (replicate n []) (replicate (k - n) []) ls
+
+filed_from : (bs : List Block) (n : ℕ) (xs : List ℕ) → n ≤ 256 → AreOrdered bs n xs → (ls : List (List ℕ)) × (filed bs xs ≡ replicate n [] ++ ls) × (concat ls ≡ xs)
+filed_from bs n [] l o =
+    let all : replicate 256 [] ≡ replicate n [] ++ (replicate (256 - n) [] ++ []) = sym (append-nil (replicate {A = List ℕ} 256 [])) ∙ empty_parts n 256 [] l in
+    (replicate (256 - n) [] ++ [], all, concat_none (256 - n) [])
+filed_from bs n (x ∷ xs) l o =
+    let k : ℕ = down (size_named x bs) in
+    let small : k < 256 = down_small (size_named x bs) in
+    let r = filed_from bs k xs (omega (arith, small)) o.1 in
+    go k small o.0 r.0 r.1 r.2
+  where
+    go : (k : ℕ) → k < 256 → n ≤ k → (ls : List (List ℕ)) → filed bs xs ≡ replicate k [] ++ ls → concat ls ≡ xs
+        → (ms : List (List ℕ)) × (push k x (filed bs xs) ≡ replicate n [] ++ ms) × (concat ms ≡ x ∷ xs)
+    go k small m [] e c = absurd (omega (arith, small, length-filed bs xs, ap length e, ap length (append-nil (replicate {A = List ℕ} k [])), length-replicate {A = List ℕ} k []))
+    go k small m (y ∷ ls) e c = (
+      replicate (k - n) [] ++ (x ∷ y) ∷ ls,
+      ap (push k x) e ∙ pushed_at k x y ls ∙ empty_parts n k ((x ∷ y) ∷ ls) m,
+      concat_none (k - n) ((x ∷ y) ∷ ls) ∙ ap (λ l. x ∷ l) c,
+    )
+
+pub ordered_filed : (bs : List Block) (xs : List ℕ) → AreOrdered bs 0 xs → concat (filed bs xs) ≡ xs
+ordered_filed bs xs o = let r = filed_from bs 0 xs (omega arith) o in ap (λ (ls : List (List ℕ)). concat ls) r.1 ∙ r.2
+
+-- blocks of the same words have the same classes
+pub ordered_same : (bs cs : List Block) (n : ℕ) (xs : List ℕ) → freed [] bs ≡ freed [] cs → AreOrdered bs n xs → AreOrdered cs n xs
+ordered_same bs cs n [] e o = tt
+ordered_same bs cs n (x ∷ xs) e o =
+    let size : size_named x bs ≡ size_named x cs = sym (size-freed x [] bs) ∙ ap (size_named x) e ∙ size-freed x [] cs in
+    (omega (arith, o.0, ap down size), subst (λ k. AreOrdered cs k xs) (ap down size) (ordered_same bs cs (down (size_named x bs)) xs e o.1))
+
+module _ (v : View) (w : IsWellFormed v) where
   -- a name is in the bin of its class alone
   in_class : (x : ℕ) → times x (concat v.bins) ≡ count_in_bin (down (size_named x v.blocks)) x v.blocks
   in_class x =
@@ -119,8 +180,15 @@ module _ (v : View) (w : IsWellFormed v) where
           in_class b.name ∙ ap (λ n. count_in_bin (down n) b.name v.blocks) size ∙ ap (count_in_bin (down b.size) b.name) e ∙ r.1 in
           ap₂ (λ (u : Bool) (l : List Block). record b { used = u } ∷ l) (among b.name b.used count) (go (fs ++ b ∷ []) cs (e ∙ sym (append_assoc fs (b ∷ []) cs)))
 
-  pub names_bins : filed v.blocks (concat v.bins) ≡ v.bins
-  names_bins = filed_bins v.blocks 0 v.bins (omega (arith, w.classes)) (λ k x s. elim (cases_eq k (down (size_named x v.blocks))) [
+  -- the class of a name is that of its bin
+  class_of : (k x : ℕ) → 1 ≤ times x (bin_at v.bins k) → down (size_named x v.blocks) ≡ 0 + k
+  class_of k x s = elim (cases_eq k (down (size_named x v.blocks))) [
     | inl e ↦ sym e ∙ omega arith
     | inr ne ↦ absurd (omega (arith, s, w.binned k x, other_class k x v.blocks (w.distinct x) ne))
-  ])
+  ]
+
+  pub names_bins : filed v.blocks (concat v.bins) ≡ v.bins
+  names_bins = filed_bins v.blocks 0 v.bins (omega (arith, w.classes)) class_of
+
+  pub names_ordered : AreOrdered v.blocks 0 (concat v.bins)
+  names_ordered = ordered_bins v.blocks 0 v.bins class_of

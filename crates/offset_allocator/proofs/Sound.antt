@@ -1,5 +1,7 @@
 -- The fields of an allocator, and what their invariant says of the view.
-use Rattle.offset_allocator.proofs.Common.{◌≡◌, ℕ, ◌≤◌, sym, subst, arith, View, IsWellFormed, Cells, view_of, IsSound, SameSpace}
+use Rattle.offset_allocator.proofs.Common.{◌≡◌, ℕ, ◌+◌, ◌≤◌, ◌∙◌, List, length, length-take-le, nat_lt, if◌then◌else◌, take, ap, sym, subst, arith, blocks, View, IsWellFormed, Cells, view_of, IsSound, SameSpace}
+use Rattle.offset_allocator.specs.Relations.{SameState}
+use Rattle.offset_allocator.specs.View.{AreNames}
 use Rattle.offset_allocator.specs.declared.AllocatorOf.TheInside.{Inside}
 
 -- the fields, with the largest number of the index type
@@ -16,7 +18,7 @@ pub record Fields : Type 0 where
 
 -- what contracts see of them
 abbrev pub shown : Fields → View
-shown it = view_of it.max it.size it.limit it.cells it.last it.accesses
+shown it = view_of it.max it.size it.limit it.cells it.last it.count it.accesses
 
 -- what is true of them between two calls
 abbrev pub AreSound : Fields → Type 0
@@ -40,9 +42,28 @@ fields_of cells max a = record {
 pub well_counted : (v : View) (k : ℕ) → IsWellFormed v → IsWellFormed (record v { accesses = k })
 well_counted v k w = grind arith
 
+-- the same state is the same space
+pub state_space : (v w : View) → SameState v w → SameSpace v w
+state_space v w e = e ∙ ap (λ (l : List ℕ). record v { unused = l; accesses = w.accesses }) (sym (ap (λ (u : View). u.unused) e))
+
+-- whichever names are unused
+pub well_unused : (v : View) (unused : List ℕ) (k : ℕ) → IsWellFormed v → IsWellFormed (record v { unused = unused; accesses = k })
+well_unused v unused k w = grind arith
+
 pub well_same : (v w : View) → SameSpace v w → IsWellFormed v → IsWellFormed w
-well_same v w e k = subst IsWellFormed (sym e) (well_counted v w.accesses k)
+well_same v w e k = subst IsWellFormed (sym e) (well_unused v w.unused w.accesses k)
 
 -- the view of sound fields is well formed, and of a size that a word holds
 pub known_sound : (f : Fields) → AreSound f → (v : View) → shown f ≡ v → IsWellFormed v × (v.size ≤ 4294967295)
 known_sound f s v e = grind (arith, well_counted)
+
+-- its names are those of the nodes that were made
+pub names_sound : (f : Fields) → AreSound f → AreNames (shown f)
+names_sound f s =
+    let chain = s.space in
+    let long : length (take f.count f.cells.chain.spare) ≡ f.count = length-take-le f.count f.cells.chain.spare (omega (arith, chain.full, chain.stack)) in
+    record {
+      each = λ x. chain.each x ∙ ap (λ n. if nat_lt x n then 1 else 0) {x = length f.cells.chain.nodes} {y = length (blocks f.cells.chain f.last) + length (take f.count f.cells.chain.spare)}
+          (omega (arith, chain.full, long));
+      made = omega (arith, chain.full, chain.within, s.memory, long);
+    }

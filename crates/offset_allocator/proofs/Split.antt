@@ -33,7 +33,7 @@ module _ {needed n : ℕ} {padding_at : ℕ → ℕ} {v u : View} {g : Handle} (
 
   -- it is one step of `replace`
   pub split_view : SameSpace (replace v s.before (s.block ∷ []) (free_part s.padding_name s.padding ++ (used_block s.block.name n ∷ free_part s.remainder_name s.remainder)) s.after) u
-  split_view = s.view ∙ ap₂ (λ parts bins. record v { blocks = s.before ++ (parts ++ s.after); bins = push_all parts bins; accesses = u.accesses }) s.made
+  split_view = s.view ∙ ap₂ (λ parts bins. record v { blocks = s.before ++ (parts ++ s.after); bins = push_all parts bins; unused = u.unused; accesses = u.accesses }) s.made
       (sym (ap (λ (b : Bool). if b then v.bins else remove (down s.block.size) s.block.name v.bins) s.free))
 
   -- in a space with room for the blocks that it adds

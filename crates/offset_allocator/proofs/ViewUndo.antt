@@ -3,7 +3,7 @@ use Rattle.offset_allocator.proofs.Common.{◌≡◌, ℕ, zero, suc, ◌<◌, �
 use Rattle.offset_allocator.proofs.Common.{set-get_or, AllByRecursion, down, Block, View, Place, Handle, used_block, free_block, units, times, count_named, starts_free, AreCoalesced, bin_at, push, remove}
 use Rattle.offset_allocator.proofs.Common.{push_all, remove_all, replace, free_start, without_start, free_end, without_end, free_part, IsWellFormed, place_of, SameSpace, Splits, Frees, Allocates}
 use Rattle.offset_allocator.proofs.ViewApart.{ends_free, apart_parts, left_false, right_false, no_end, no_start}
-use Rattle.offset_allocator.proofs.{Served.split_as, Served.well_served, Walks.without_first, Ranges.beside, Released.idle_parts, Released.end_is, Released.start_is, Classes.down_small}
+use Rattle.offset_allocator.proofs.{Served.split_left, Served.well_served, Walks.without_first, Ranges.beside, Released.idle_parts, Released.end_is, Released.start_is, Classes.down_small}
 use Rattle.offset_allocator.proofs.{ViewBins.names_same, ViewBins.length_remove, ViewBins.times_remove, ViewSteps.place_here, Tallies.listed_named, Tallies.part_sums, Tallies.new_absent}
 use Rattle.offset_allocator.proofs.{Tallies.one-same}
 
@@ -59,7 +59,7 @@ module _ (n : ℕ) (v w u : View) (g : Handle) (known : IsWellFormed v) (left : 
   old = ap (λ (u : Bool). record { name = s.block.name; size = s.block.size; used = u }) s.free
 
   -- what the grant leaves
-  split : w ≡ record v { blocks = s.before ++ (used_block x n ∷ (remainder ++ s.after)); bins = push_all remainder bins; accesses = w.accesses }
+  split : w ≡ record v { blocks = s.before ++ (used_block x n ∷ (remainder ++ s.after)); bins = push_all remainder bins; unused = w.unused; accesses = w.accesses }
   split = grind (arith, old, s.made)
 
   -- the release takes the block as the grant left it
@@ -111,12 +111,12 @@ module _ (n : ℕ) (v w u : View) (g : Handle) (known : IsWellFormed v) (left : 
   undone =
       f.view
       ∙ ap₂ (λ (l r : List Block). record (replace w f.before (l ++ (f.block ∷ r)) (free_block g.name (units (l ++ (f.block ∷ r))) ∷ []) f.after)
-      { accesses = u.accesses }) left_end.0 right_start.0
-      ∙ ap₂ (λ (l r : List Block). record (replace w l (f.block ∷ remainder) (free_block g.name (units (f.block ∷ remainder)) ∷ []) r) { accesses = u.accesses }) left_end.1 right_start.1
-      ∙ ap₂ (λ (i : ℕ) (b : Block). record (replace w s.before (b ∷ remainder) (free_block i (units (b ∷ remainder)) ∷ []) s.after) { accesses = u.accesses }) named (sym here.1)
-      ∙ ap (λ (z : View). record (replace z s.before (used_block x n ∷ remainder) (free_block x (units (used_block x n ∷ remainder)) ∷ []) s.after) { accesses = u.accesses }) split
-      ∙ ap (λ m. record v { blocks = s.before ++ (free_block x m ∷ s.after); bins = push (down m) x (remove_all remainder (push_all remainder bins)); accesses = u.accesses }) sized
-      ∙ ap₂ (λ bs o. record v { blocks = bs; bins = o; accesses = u.accesses }) (ap (λ b. s.before ++ (b ∷ s.after)) (sym old) ∙ sym s.blocks)
+      { unused = u.unused; accesses = u.accesses }) left_end.0 right_start.0
+      ∙ ap₂ (λ (l r : List Block). record (replace w l (f.block ∷ remainder) (free_block g.name (units (f.block ∷ remainder)) ∷ []) r) { unused = u.unused; accesses = u.accesses }) left_end.1 right_start.1
+      ∙ ap₂ (λ (i : ℕ) (b : Block). record (replace w s.before (b ∷ remainder) (free_block i (units (b ∷ remainder)) ∷ []) s.after) { unused = u.unused; accesses = u.accesses }) named (sym here.1)
+      ∙ ap (λ (z : View). record (replace z s.before (used_block x n ∷ remainder) (free_block x (units (used_block x n ∷ remainder)) ∷ []) s.after) { unused = u.unused; accesses = u.accesses }) split
+      ∙ ap (λ m. record v { blocks = s.before ++ (free_block x m ∷ s.after); bins = push (down m) x (remove_all remainder (push_all remainder bins)); unused = u.unused; accesses = u.accesses }) sized
+      ∙ ap₂ (λ bs o. record v { blocks = bs; bins = o; unused = u.unused; accesses = u.accesses }) (ap (λ b. s.before ++ (b ∷ s.after)) (sym old) ∙ sym s.blocks)
       (ap (push (down size) x) (bins_back s.remainder_name s.remainder bins (length_remove (down size) x v.bins ∙ known.classes) rest_absent)
       ∙ put_remove (down size) x s.older v.bins known.classes (down_small size) s.newest older_absent)
 
@@ -127,4 +127,4 @@ is_undone n v known w u g a f = undone n v w u g known (well_served 1 n n (λ of
 -- a grant leaves no trace where it is released, though other requests were refused between
 pub taken_back : (n : ℕ) (v w u z : View) (g : Handle) → IsWellFormed v → Allocates n v w (Some g) → SameSpace w u → Frees g.name u z → SameSpace v z
 taken_back n v w u z g known a same f =
-    is_undone n v known (record w { accesses = u.accesses }) z g (a.0, split_as a.1 v.accesses u.accesses (λ offset. 0) (λ o. refl)) (subst (λ x. Frees g.name x z) same f)
+    is_undone n v known (record w { unused = u.unused; accesses = u.accesses }) z g (a.0, split_left a.1 u.unused u.accesses) (subst (λ x. Frees g.name x z) same f)

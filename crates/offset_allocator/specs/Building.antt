@@ -1,11 +1,12 @@
 -- Tables on the way to those of a state that is read.
 use Rattle.std.specs.Prelude.{◌≡◌, ℕ, ◌+◌, ◌*◌, ◌<◌, ◌≤◌, List, [], ◌∷◌, None, drop, length, take, replicate, nat_lt, if◌then◌else◌}
+use Rattle.offset_allocator.specs.Classes.{down}
 use Rattle.offset_allocator.specs.Cells.{Cells, AreEmpty, node}
 use Rattle.offset_allocator.specs.Chain.{IsChain, IsRow}
 use Rattle.offset_allocator.specs.Store.{AreBinned, bins_of}
 use Rattle.offset_allocator.specs.declared.store.Store.{Store}
 use Rattle.offset_allocator.specs.declared.restoring.Header.{Header}
-use Rattle.offset_allocator.specs.State.{block_words, filed, freed}
+use Rattle.offset_allocator.specs.State.{block_words, filed, freed, size_named}
 use Rattle.offset_allocator.specs.View.{Block, AreCoalesced, count_named, one, times, units}
 
 -- the tables have n nodes, memory for `limit` nodes, and no name in a bin
@@ -23,6 +24,11 @@ pub record HasBack (c : Cells) (offset : ℕ) (bs : List Block) (unused : List �
 -- each of the nodes that blocks and unused names need is that of one block, or unused
 abbrev pub AreEach : List Block → List ℕ → Type 0
 AreEach bs unused = (x : ℕ) → count_named x bs + times x unused ≡ (if nat_lt x (length bs + length unused) then 1 else 0)
+
+-- these names are in the order of bins, from that of class n on: no block is of a smaller class than the one before
+abbrev pub AreOrdered : List Block → ℕ → List ℕ → Type 0
+AreOrdered bs n [] = Unit {0}
+AreOrdered bs n (x ∷ xs) = (n ≤ down (size_named x bs)) × AreOrdered bs (down (size_named x bs)) xs
 
 -- the store has these blocks, all used, and these unused names, and no name in a bin
 pub record IsLaidOut {A B C : Type 0} (cells : A → Cells) (max size limit : ℕ) (blocks unused : List ℕ) (s : Store A B C) : Type 0 where
@@ -49,6 +55,7 @@ pub record IsBuilt {A B C : Type 0} (cells : A → Cells) (max size limit : ℕ)
   pub binned : AreBinned cells max s
   pub bins : bins_of cells max s ≡ filed all free
   pub once : (x : ℕ) → times x free ≤ count_named x all
+  pub ordered : AreOrdered all 0 free
   pub apart : AreCoalesced (freed free all)
 
 -- the sizes and counts that the words of a state begin with: as many words as they say, and as many nodes as the limit

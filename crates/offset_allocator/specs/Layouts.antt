@@ -1,11 +1,9 @@
--- What contracts see of the fields of the three layouts.
+-- What contracts see of the fields of the two layouts.
 use Rattle.std.specs.Prelude.{ℕ, zero, suc, List, [], ◌∷◌, ◌≡◌, ◌-◌, ◌<◌, ◌≤◌, eqb, map, length, slice_index}
 use Rattle.std.specs.Vec.{vec_capacity}
 use Rattle.offset_allocator.specs.Cells.{Cells, Node, link_of}
 use Rattle.offset_allocator.specs.declared.by_node.Node.{Node as Entry}
 use Rattle.offset_allocator.specs.declared.by_node.ByNode.TheInside.{Inside as NodesInside}
-use Rattle.offset_allocator.specs.declared.by_row.Row.{Row}
-use Rattle.offset_allocator.specs.declared.by_row.ByRow.TheInside.{Inside as RowsInside}
 use Rattle.offset_allocator.specs.declared.by_field.ByField.TheInside.{Inside as FieldsInside}
 
 -- what the chain of blocks sees of an entry
@@ -46,25 +44,6 @@ pub record AreEven {A B : Type 0} (max : ℕ) (t : NodesInside A B) : Type 0 whe
   pub within : length t.nodes.items ≤ vec_capacity t.nodes
   pub memory : vec_capacity t.spare ≡ vec_capacity t.nodes
   pub limit : vec_capacity t.nodes < max
-
--- the nodes of these rows
-abbrev pub nodes_by_row : {A : Type 0} → List (Row A) → List (Entry A)
-nodes_by_row rs = map (λ r. r.node) rs
-
--- the stack that these rows hold
-abbrev pub spare_by_row : {A : Type 0} → (A → ℕ) → List (Row A) → List ℕ
-spare_by_row number rs = map (λ r. number r.spare) rs
-
--- the cells of one table of rows
-abbrev pub cells_by_row : {A B : Type 0} → ℕ → (A → ℕ) → RowsInside A B → Cells
-cells_by_row max number t = cells_of max number (nodes_by_row t.rows.items) (spare_by_row number t.rows.items) (vec_capacity t.rows) t.heads t.masks
-
--- there is memory for as many rows; there are 256 heads and 4 masks
-pub record AreRows {A B : Type 0} (max : ℕ) (t : RowsInside A B) : Type 0 where
-  pub heads : length t.heads ≡ 256
-  pub masks : length t.masks ≡ 4
-  pub within : length t.rows.items ≤ vec_capacity t.rows
-  pub limit : vec_capacity t.rows < max
 
 -- a table for each field that the chain of blocks sees
 pub record FieldTables : Type 0 where

@@ -24,6 +24,7 @@ pub mod Retracting
 pub mod Room
 pub mod Soundness
 pub mod State
+pub mod StateFaults
 pub mod Statistics
 pub mod Store
 pub mod Tight

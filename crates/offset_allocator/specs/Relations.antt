@@ -6,19 +6,23 @@ use Rattle.offset_allocator.specs.Classes.{up, down}
 use Rattle.offset_allocator.specs.Requests.{HasRoomFor, CanGrant, blocks_needed, units_needed}
 use Rattle.offset_allocator.specs.View.{View, Block, Handle, units, bin_at, AreCoalesced, IsNew, max_size, padding_to, replace, remove, push_all, free_block, free_part}
 
--- the same space, however many accesses are counted
+-- the same blocks and bins, however many accesses are counted, and whichever names are unused
 abbrev pub SameSpace : View → View → Type 0
-SameSpace v w = w ≡ record v { accesses = w.accesses }
+SameSpace v w = w ≡ record v { unused = w.unused; accesses = w.accesses }
 
--- the same space, which has counted no access
+-- the same space, unused names too, however many accesses are counted
+abbrev pub SameState : View → View → Type 0
+SameState v w = w ≡ record v { accesses = w.accesses }
+
+-- the same space, unused names too, which has counted no access
 abbrev pub IsCopy : View → View → Type 0
 IsCopy v w = w ≡ record v { accesses = 0 }
 
--- one free block of size units, alone in its bin
+-- one free block of size units, alone in its bin, under the name of the only node that was made
 pub record IsFresh (size max_allocs : ℕ) (w : View) : Type 0 where
   pub name : ℕ
   pub below : name < max_allocs
-  pub view : w ≡ record { size = size; max_allocs = max_allocs; blocks = free_block name size ∷ []; bins = push_all (free_block name size ∷ []) (replicate 256 []); accesses = 0 }
+  pub view : w ≡ record { size = size; max_allocs = max_allocs; blocks = free_block name size ∷ []; bins = push_all (free_block name size ∷ []) (replicate 256 []); unused = []; accesses = 0 }
 
 -- a free block is split into padding, n granted units and a remainder: the newest block of the smallest class that is
 -- large enough for the units needed and has a block

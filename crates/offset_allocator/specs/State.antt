@@ -1,8 +1,9 @@
 -- The numbers of a state: what is written of a space, and what is read back.
-use Rattle.std.specs.Prelude.{◌≡◌, ℕ, ◌+◌, ◌*◌, ◌%◌, ◌<◌, ◌≤◌, Bool, false, not, ◌||◌, List, [], ◌∷◌, ◌++◌, length, map, nat_eq, nat_lt, if◌then◌else◌, replicate}
+use Rattle.std.specs.Prelude.{◌≡◌, ℕ, ◌+◌, ◌*◌, ◌%◌, ◌<◌, ◌≤◌, Bool, false, not, ◌||◌, List, [], ◌∷◌, ◌++◌, length, map, nat_eq, if◌then◌else◌, replicate}
+use Rattle.std.specs.List.{concat}
 use Rattle.std.specs.Int.{w32, from_le_bytes}
 use Rattle.offset_allocator.specs.Classes.{down}
-use Rattle.offset_allocator.specs.View.{View, Block, IsWellFormed, count_named, push, times}
+use Rattle.offset_allocator.specs.View.{View, Block, IsWellFormed, AreNames, push}
 
 -- bytes as numbers of 32 bits, the lowest byte of each first
 abbrev pub words_in : List ℕ → List ℕ
@@ -38,37 +39,28 @@ abbrev pub filed : List Block → List ℕ → List (List ℕ)
 filed bs [] = replicate 256 []
 filed bs (x ∷ xs) = push (down (size_named x bs)) x (filed bs xs)
 
--- the numbers of a state: the form and its version, sizes, counts, blocks, names of free blocks, unused names
-abbrev pub state_words : View → List ℕ → List ℕ → List ℕ
-state_words v names unused =
-    1414742351 ∷ 1 ∷ v.size ∷ v.max_allocs ∷ length v.blocks ∷ length names ∷ length unused ∷ (block_words v.blocks ++ (names ++ unused))
+-- the names of the free blocks: bin by bin, those of a bin from its newest on
+abbrev pub free_names : View → List ℕ
+free_names v = concat v.bins
 
--- the names of free blocks, and the unused ones, are those of a view
-pub record AreNamesOf (v : View) (names unused : List ℕ) : Type 0 where
-  -- a block is free exactly where its name is listed, and each is listed once
-  pub free : freed names v.blocks ≡ v.blocks
-  pub once : (x : ℕ) → times x names ≤ count_named x v.blocks
-  -- the bins are those that the names give
-  pub bins : filed v.blocks names ≡ v.bins
-  -- each node that was made is that of one block, or unused
-  pub each : (x : ℕ) → count_named x v.blocks + times x unused ≡ (if nat_lt x (length v.blocks + length unused) then 1 else 0)
-  pub made : length v.blocks + length unused ≤ v.max_allocs
+-- the numbers of the state of a view: the form and its version, sizes, counts, blocks, names of free blocks, unused names,
+-- the next one last
+abbrev pub state_words : View → List ℕ
+state_words v =
+    1414742351 ∷ 1 ∷ v.size ∷ v.max_allocs ∷ length v.blocks ∷ length (free_names v) ∷ length v.unused ∷ (block_words v.blocks ++ (free_names v ++ v.unused))
 
--- the numbers of a state of a view, and their checksum
-pub record IsTextOf (v : View) (ws : List ℕ) : Type 0 where
-  pub names : List ℕ
-  pub unused : List ℕ
-  pub are : AreNamesOf v names unused
-  pub words : ws ≡ state_words v names unused ++ checksum_from 0 (state_words v names unused) ∷ []
+-- the same, and their checksum
+abbrev pub state_text : View → List ℕ
+state_text v = state_words v ++ checksum_from 0 (state_words v) ∷ []
 
--- the bytes of a state of a view
+-- the bytes of the state of a view
 pub record IsStateOf (v : View) (bytes : List ℕ) : Type 0 where
   pub whole : length bytes % 4 ≡ 0
-  pub text : IsTextOf v (words_in bytes)
+  pub text : words_in bytes ≡ state_text v
 
 -- a space that was read: of these numbers, with a node limit that was admitted, and no access counted
 abbrev pub IsOfWords : List ℕ → ℕ → View → Type 0
-IsOfWords ws most v = IsTextOf v ws × (v.accesses ≡ 0) × (v.max_allocs ≤ most)
+IsOfWords ws most v = (ws ≡ state_text v) × (v.accesses ≡ 0) × (v.max_allocs ≤ most)
 
 -- the same, of bytes
 abbrev pub IsRestored : List ℕ → ℕ → View → Type 0
@@ -76,4 +68,4 @@ IsRestored bytes most v = IsStateOf v bytes × (v.accesses ≡ 0) × (v.max_allo
 
 -- no space whose node limit is admitted has these bytes
 abbrev pub IsNoState : ℕ → ℕ → List ℕ → Type 0
-IsNoState max most bytes = (v : View) → IsWellFormed v → v.max_allocs + 1 < max → v.max_allocs ≤ most → IsStateOf v bytes → ⊥
+IsNoState max most bytes = (v : View) → IsWellFormed v → AreNames v → v.max_allocs + 1 < max → v.max_allocs ≤ most → IsStateOf v bytes → ⊥

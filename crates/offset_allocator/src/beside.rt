@@ -136,8 +136,9 @@ pub fn live_after_counted<T: Tables>(
 impl<T: Tables> AllocatorOf<T> {
     /// The handle of the live range that is the first one in space, or `None` where none is live. It
     /// makes 2 accesses to the tables for each block, and one more: the first block of a space is not
-    /// known, so it walks back from the last one. With `live_after` a walk from here meets all live
-    /// ranges, as one with `live_before` does from `last_live`.
+    /// known, so it walks back from the last one. With `live_after` a walk from here meets each live
+    /// range once, as one with `live_before` does from `last_live`: see
+    /// `laws::each_live_range_is_met_once`.
     ///
     /// ```
     /// let mesh = space.allocate(300);

@@ -4,7 +4,7 @@ ghost use Rattle.std.specs.Prelude.{◌≡◌, ◌+◌, ◌-◌, ◌*◌, ◌/�
 ghost use Rattle.std.specs.Prelude.{List, Option, None, Some, false};
 ghost use Rattle.std.specs.Prelude.{length, replicate, sum, take, IfOk, IsErr, IsSome};
 ghost use Rattle.offset_allocator.specs.Bins.{IsUnlisted};
-ghost use Rattle.offset_allocator.specs.Building.{AreEach, HasBack, IsBuilt, IsLaidOut, IsMade};
+ghost use Rattle.offset_allocator.specs.Building.{AreEach, AreOrdered, HasBack, IsBuilt, IsLaidOut, IsMade};
 ghost use Rattle.offset_allocator.specs.Cells.{link_of, node};
 ghost use Rattle.offset_allocator.specs.Chain.{IsChain, IsSpace, first_or, last_or};
 ghost use Rattle.offset_allocator.specs.Chain.{blocks as blocks_in};
@@ -161,9 +161,10 @@ pub(crate) fn clear_marks<T: Tables>(tables: &mut T, words: &[u32], count: &mut 
     }
 }
 
-// Makes a used block free, and the newest of its bin.
+// Makes a used block free, and the newest of its bin, which is that of this class.
 #[tactic(auto, using(crate::proofs::Nodes::lengths))]
-fn free_name<T: Tables>(store: &mut Store<T>, name: u32)
+fn free_name<T: Tables>(store: &mut Store<T>, name: u32, class: u32)
+    requires class { class ≡ down (node (T.cells store.old.tables).chain name).size }
     requires binned { AreBinned T.cells T.Index.MAX store.old }
     requires named { name < length (T.cells store.old.tables).chain.nodes }
     requires unlisted { IsUnlisted name (bins_of T.cells T.Index.MAX store.old) }
@@ -174,20 +175,18 @@ fn free_name<T: Tables>(store: &mut Store<T>, name: u32)
         (freed (name ∷ xs) bs) }
     ensures binned { AreBinned T.cells T.Index.MAX store.new }
     ensures lists { bins_of T.cells T.Index.MAX store.new
-        ≡ push (down (node (T.cells store.old.tables).chain name).size)
-        name (bins_of T.cells T.Index.MAX store.old) }
+        ≡ push class name (bins_of T.cells T.Index.MAX store.old) }
     ensures nodes { length (T.cells store.new.tables).chain.nodes
         ≡ length (T.cells store.old.tables).chain.nodes }
     ensures same { (store.new.last ≡ store.old.last) × (store.new.spare_count ≡ store.old.spare_count)
         × ((T.cells store.new.tables).chain.spare ≡ (T.cells store.old.tables).chain.spare) }
 {
     store.tables.set_used(name, false, &mut store.accesses);
-    let size = store.tables.size(name, &mut store.accesses);
-    bins::push(store, name, uint_to_float_round_down(size));
+    bins::push(store, name, class);
 }
 
-/// Frees the blocks of these names, the last one first. Returns the place of the word that is wrong, if one
-/// is.
+/// Frees the blocks of these names, which are in the order of bins, the last one first. Returns the place of
+/// the word that is wrong, if one is.
 pub(crate) fn free_names<T: Tables>(store: &mut Store<T>, words: &[u32]) -> Option<usize>
     requires binned { AreBinned T.cells T.Index.MAX store.old }
     requires empty { bins_of T.cells T.Index.MAX store.old ≡ replicate 256 [] }
@@ -198,22 +197,31 @@ pub(crate) fn free_names<T: Tables>(store: &mut Store<T>, words: &[u32]) -> Opti
         → IsChain (T.cells store.new.tables).chain limit store.new.last store.new.spare_count
         (freed words.now bs)
         × (bins_of T.cells T.Index.MAX store.new ≡ filed bs words.now)
-        × ((x : ℕ) → times x words.now ≤ count_named x bs) }
+        × ((x : ℕ) → times x words.now ≤ count_named x bs)
+        × AreOrdered bs 0 words.now }
     ensures binned { AreBinned T.cells T.Index.MAX store.new }
     ensures wrong { IsSome result → (limit : ℕ) (bs : List Block) → freed [] bs ≡ bs
         → IsChain (T.cells store.old.tables).chain limit store.old.last store.old.spare_count bs
-        → ((x : ℕ) → times x words.now ≤ count_named x bs) → ⊥ }
+        → ((x : ℕ) → times x words.now ≤ count_named x bs) → AreOrdered bs 0 words.now → ⊥ }
     ensures same { (store.new.last ≡ store.old.last) × (store.new.spare_count ≡ store.old.spare_count)
         × ((T.cells store.new.tables).chain.spare ≡ (T.cells store.old.tables).chain.spare) }
 {
     let nodes = store.tables.len();
+    // the class of the name after
+    let mut most = 255;
     for i in 0..words.len() {
         let at = words.len() - 1 - i;
         let name = words[at];
         if name >= nodes || !store.tables.used(name, &mut store.accesses) {
             return Some(at);
         }
-        free_name(store, name);
+        let size = store.tables.size(name, &mut store.accesses);
+        let class = uint_to_float_round_down(size);
+        if class > most {
+            return Some(at);
+        }
+        most = class;
+        free_name(store, name, class);
     }
     None
 }
@@ -274,7 +282,7 @@ pub(crate) enum Wrong {
     Block(usize),
     /// An unused name: it is that of no node or of a block, or listed twice.
     Unused(usize),
-    /// The name of a free block: it is that of no block, or listed twice.
+    /// The name of a free block: it is that of no block, listed twice, or not in the order of bins.
     Free(usize),
     /// A block and the one after it are both free.
     Neighbours(usize),
@@ -340,7 +348,7 @@ pub(crate) fn build<T: Tables>(
     ensures wrong { IfOk result (λ r. IsErr r → (bs : List Block) → block_words bs ≡ blocks.now
         → units bs ≡ size
         → AreEach bs unused.now → ((x : ℕ) → times x free.now ≤ count_named x bs)
-        → AreCoalesced (freed free.now bs) → ⊥) }
+        → AreOrdered bs 0 free.now → AreCoalesced (freed free.now bs) → ⊥) }
 {
     let mut store = match lay_out(alloc, size, limit, blocks, unused)? {
         Err(wrong) => return Ok(Err(wrong)),

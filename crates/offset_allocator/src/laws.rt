@@ -2,15 +2,18 @@
 //! their functions do nothing. With them are the calls that leave an allocator as it is, with a count of
 //! their accesses.
 ghost use Rattle.std.specs.Prelude.{◌≡◌, ◌≢◌, ◌<◌, ◌≤◌, ◌+◌, ◌-◌, ◌*◌, ◌%◌, ◌↔◌, ℕ, List, ◌++◌, false};
-ghost use Rattle.std.specs.Prelude.{IsTrue, None, Option, Some, length, min, sum};
+ghost use Rattle.std.specs.Prelude.{IsTrue, None, Option, Some, length, min, reverse, sum};
 ghost use Rattle.std.specs.Int.{IsPowerOfTwo};
 ghost use Rattle.std.specs.List.{AllByRecursion};
 ghost use Rattle.offset_allocator.specs.Accesses.{Costs};
+ghost use Rattle.offset_allocator.specs.Beside.{AreOfLive, IsWalk, first_live, last_live, live_after};
+ghost use Rattle.offset_allocator.specs.Beside.{live_before, live_handles};
 ghost use Rattle.offset_allocator.specs.Classes.{value, up, down};
-ghost use Rattle.offset_allocator.specs.View.{View, Block, Handle, IsWellFormed, free_sizes, reported_free};
+ghost use Rattle.offset_allocator.specs.View.{View, AreNames, Block, Handle, IsWellFormed, free_sizes};
+ghost use Rattle.offset_allocator.specs.View.{reported_free};
 ghost use Rattle.offset_allocator.specs.View.{reported_largest, padding_to, used_of, used_units};
 ghost use Rattle.offset_allocator.specs.Ranges.{Range, range_of, AreDisjoint};
-ghost use Rattle.offset_allocator.specs.Relations.{SameSpace, Allocates, Frees, IsFresh};
+ghost use Rattle.offset_allocator.specs.Relations.{SameSpace, SameState, Allocates, Frees, IsFresh};
 ghost use Rattle.offset_allocator.specs.Requests.{IsAlignment};
 ghost use Rattle.offset_allocator.specs.Reports.{IsReport};
 ghost use Rattle.offset_allocator.specs.Requests.{CanGrant, HasRoomFor, IsWhy};
@@ -245,13 +248,30 @@ pub fn room_is_advised<T: Tables>(allocator: &AllocatorOf<T>)
 
 /// Of the tight requests that are refused though there is room for one more block, those without alignment
 /// are refused as `Fragmented` that would be granted after `compact`, and those as `TooLarge` that a fresh
-/// space of this size and limit would refuse.
+/// space of this size and limit would refuse. A request that is granted, aligned or not, has no reason, and
+/// none has two.
 pub fn tight_refusals_advise<T: Tables>(allocator: &AllocatorOf<T>)
     ensures compacted { (n : ℕ) (v : View) → HasRoomFor 1 allocator.now → Compacts allocator.now v
         → (CanHold n 1 allocator.now → ⊥) → IsWhyTight n 1 allocator.now Fragmented ↔ CanHold n 1 v }
     ensures fresh { (n : ℕ) (v : View) → HasRoomFor 1 allocator.now
         → IsFresh allocator.now.size allocator.now.max_allocs v
         → IsWhyTight n 1 allocator.now TooLarge ↔ (CanHold n 1 v → ⊥) }
+    ensures one { (n align : ℕ) (r s : Refusal) → IsWhyTight n align allocator.now r
+        → IsWhyTight n align allocator.now s → r ≡ s }
+    ensures none { (n align : ℕ) (r : Refusal) → IsWhyTight n align allocator.now r
+        → CanHold n align allocator.now → ⊥ }
+{
+    allocator.formed();
+}
+
+/// From `first_live` on, `live_after` meets the live ranges in space order, each once, and ends; and so does
+/// `live_before` from `last_live` on, in the opposite order.
+pub fn each_live_range_is_met_once<T: Tables>(allocator: &AllocatorOf<T>)
+    ensures forward { IsWalk (λ x. live_after x allocator.now) (first_live allocator.now)
+        (live_handles allocator.now) }
+    ensures backward { IsWalk (λ x. live_before x allocator.now) (last_live allocator.now)
+        (reverse (live_handles allocator.now)) }
+    ensures all { AreOfLive (live_handles allocator.now) allocator.now }
 {
     allocator.formed();
 }
@@ -273,12 +293,16 @@ pub fn pieces_are_the_move()
         → ArePieces most (pieces n (min most (from - to)) from to n) }
 {}
 
-/// Bytes are those of a state of one view at most, however many accesses were counted; and those of this
-/// allocator are refused by no `read_state` that admits its node limit. So `read_state` of what `write_state`
-/// returned is the same space.
+/// Bytes are those of a state of one view at most, with its unused names, however many accesses were
+/// counted; a view has one list of bytes; and those of this allocator are refused by no `read_state` that
+/// admits its node limit. So `read_state` of what `write_state` returned is the same space.
 pub fn a_state_is_read_back<T: Tables>(allocator: &AllocatorOf<T>)
-    ensures one { (v w : View) (bytes : List ℕ) → IsStateOf v bytes → IsStateOf w bytes → SameSpace v w }
+    ensures one { (v w : View) (bytes : List ℕ) → IsWellFormed v → IsWellFormed w
+        → IsStateOf v bytes → IsStateOf w bytes → SameState v w }
+    ensures bytes { (v : View) (a b : List ℕ) → AllByRecursion (λ x. x < 256) a
+        → AllByRecursion (λ x. x < 256) b → IsStateOf v a → IsStateOf v b → a ≡ b }
     ensures formed { IsWellFormed allocator.now }
+    ensures names { AreNames allocator.now }
     ensures admitted { allocator.now.max_allocs + 1 < T.Index.MAX }
 {
     allocator.formed();

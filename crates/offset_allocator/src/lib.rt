@@ -42,7 +42,6 @@ mod blocks;
 mod building;
 mod by_field;
 mod by_node;
-mod by_row;
 mod chain;
 mod compact;
 mod copies;
@@ -76,7 +75,6 @@ pub use accesses::Accesses;
 pub use blocks::{Block, BlocksOf};
 pub use by_field::ByField;
 pub use by_node::ByNode;
-pub use by_row::ByRow;
 pub use compact::Move;
 pub use copies::{MovePieces, Piece};
 pub use handle::Allocation;
@@ -121,7 +119,7 @@ impl<T: Tables> Model for AllocatorOf<T> {
     ghost Value = { View };
 
     ghost view = { λ a. view_of T.Index.MAX a.size a.max_allocs (T.cells a.store.tables)
-        a.store.last a.store.accesses };
+        a.store.last a.store.spare_count a.store.accesses };
 
     ghost invariant = { λ a. IsSound T.Index.MAX a.size a.max_allocs (T.cells a.store.tables)
         a.store.last a.store.spare_count a.store.top_mask a.free_total };
@@ -150,8 +148,8 @@ impl<T: Tables> AllocatorOf<T> {
     /// blocks exist at a time, free ones included. A request is granted only while at most `max_allocs - 2`
     /// exist, and makes one of them live: so at most `max_allocs - 2` grants are live. The limit is 2 to
     /// `T::Index::MAX - 2`: 65533 for `u16`, 4294967293 for `u32`. `ByNode` and `ByField` reserve 28 bytes a
-    /// node with `u32`, 18 with `u16`, `ByRow` 28 and 20, all of them here; those of a node are written when
-    /// it is made, which `node_count` counts.
+    /// node with `u32`, 18 with `u16`, all of them here; those of a node are written when it is made, which
+    /// `node_count` counts.
     ///
     /// # Errors
     ///
@@ -253,15 +251,17 @@ impl<T: Tables> AllocatorOf<T> {
         self.store.tables.len() - self.store.spare_count
     }
 
-    /// The number of nodes that were made: each block's name is below it. Contracts leave it open, as some
-    /// names, and no other answer depends on it: `grow_in_place` and a call that may add a block can make it
-    /// larger by 1 or 2, also where they leave the space as it was, and only `reset` makes it smaller.
+    /// The number of nodes that were made: one for each block, and those whose names are unused. Each block's
+    /// name is below it. When a node is made is left open, as some names, and no other answer depends on it:
+    /// `grow_in_place` and a call that may add a block can make 1 or 2, also where they leave the blocks as
+    /// they were, and only `reset` forgets some.
     ///
     /// ```
     /// space.allocate(300);
     /// assert!(space.node_count() >= space.block_count());
     /// ```
     pub fn node_count(&self) -> u32
+        ensures made { result ≡ length self.now.blocks + length self.now.unused }
         ensures names { (x : ℕ) → 1 ≤ count_named x self.now.blocks → x < result }
         ensures limit { result ≤ self.now.max_allocs }
     {

@@ -3,7 +3,7 @@
 ghost use Rattle.std.specs.Prelude.{◌≡◌, ◌+◌, ◌<◌, ◌≤◌, ℕ, None, Some, IfSome};
 ghost use Rattle.offset_allocator.specs.Accesses.{Costs};
 ghost use Rattle.offset_allocator.specs.Ranges.{Grants, IsLive, size_of};
-ghost use Rattle.offset_allocator.specs.Relations.{Allocates, SameSpace};
+ghost use Rattle.offset_allocator.specs.Relations.{Allocates, SameSpace, SameState};
 ghost use Rattle.offset_allocator.specs.Relocating.{Relocates, offset_of};
 ghost use Rattle.offset_allocator.specs.View.{View, Handle};
 
@@ -16,7 +16,7 @@ impl<T: Tables> AllocatorOf<T> {
     // Where the block begins that a request for `size` units would take, if there is one: where it is
     // granted, its range begins there.
     fn would_begin(&mut self, size: u32) -> Option<u32>
-        ensures same { SameSpace self.old self.new }
+        ensures same { SameState self.old self.new }
         ensures begins { (w : View) (g : Handle) → Allocates size self.old w (Some g) → result
             ≡ Some g.offset }
         ensures accesses { Costs 1 4 self.old.accesses self.new.accesses }

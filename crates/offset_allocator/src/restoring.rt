@@ -1,8 +1,9 @@
 //! A space from the bytes of its state, and what is wrong with bytes that are none. It makes tables.
-ghost use Rattle.std.specs.Prelude.{◌≡◌, ◌+◌, ◌*◌, ◌%◌, ◌<◌, ◌≤◌, ℕ, List, IfOk, IsErr, length};
+ghost use Rattle.std.specs.Prelude.{◌≡◌, ◌+◌, ◌*◌, ◌%◌, ◌<◌, ◌≤◌, ℕ, List, IfErr, IfOk, IsErr, length};
 ghost use Rattle.offset_allocator.specs.Building.{IsHeader};
-ghost use Rattle.offset_allocator.specs.State.{IsNoState, IsOfWords, IsRestored, IsTextOf};
-ghost use Rattle.offset_allocator.specs.View.{View, IsWellFormed};
+ghost use Rattle.offset_allocator.specs.State.{IsNoState, IsOfWords, IsRestored, state_text};
+ghost use Rattle.offset_allocator.specs.StateFaults.{IsFault, IsFaultOf, IsHeaded};
+ghost use Rattle.offset_allocator.specs.View.{View, AreNames, IsWellFormed};
 
 use crate::AllocatorOf;
 use crate::accesses::Accesses;
@@ -25,8 +26,9 @@ pub(crate) struct Header {
 // The header of these words, where they are as many as it says, and both limits admit it.
 fn header_of(words: &[u32], max: u32, most_allocs: u32) -> Result<Header, StateFault>
     ensures header { IfOk result (IsHeader max most_allocs words.now) }
-    ensures wrong { IsErr result → (v : View) → IsWellFormed v → v.max_allocs + 1 < max
-        → v.max_allocs ≤ most_allocs → IsTextOf v words.now → ⊥ }
+    ensures fault { IfErr result (λ f. IsFaultOf max most_allocs words.now f.at f.kind) }
+    ensures wrong { IsErr result → (v : View) → IsWellFormed v → AreNames v → v.max_allocs + 1 < max
+        → v.max_allocs ≤ most_allocs → words.now ≡ state_text v → ⊥ }
 {
     if words.len() < 8 {
         return Err(StateFault {
@@ -71,7 +73,10 @@ fn header_of(words: &[u32], max: u32, most_allocs: u32) -> Result<Header, StateF
 }
 
 // The fault of a word in one of the lists: blocks from word 7 on, then free names, then unused ones.
-fn fault_of(wrong: Wrong, first_free: usize, first_unused: usize) -> StateFault {
+fn fault_of(wrong: Wrong, first_free: usize, first_unused: usize) -> StateFault
+    ensures { (max most : ℕ) (ws : List ℕ) → IsHeaded max most ws
+        → IsFaultOf max most ws result.at result.kind }
+{
     match wrong {
         Wrong::Block(place) => StateFault {
             at: 4usize.wrapping_mul(place.wrapping_add(7)),
@@ -99,8 +104,10 @@ fn of_words<T: Tables>(
     most_allocs: u32,
 ) -> Result<Result<AllocatorOf<T>, StateFault>, AllocError>
     ensures read { IfOk result (λ r. IfOk r (IsOfWords words.now most_allocs)) }
-    ensures refused { IfOk result (λ r. IsErr r → (v : View) → IsWellFormed v → v.max_allocs + 1 < T.Index.MAX
-        → v.max_allocs ≤ most_allocs → IsTextOf v words.now → ⊥) }
+    ensures fault { IfOk result (λ r. IfErr r
+        (λ f. IsFaultOf T.Index.MAX most_allocs words.now f.at f.kind)) }
+    ensures refused { IfOk result (λ r. IsErr r → (v : View) → IsWellFormed v → AreNames v
+        → v.max_allocs + 1 < T.Index.MAX → v.max_allocs ≤ most_allocs → words.now ≡ state_text v → ⊥) }
 {
     let header = match header_of(words, T::Index::MAX, most_allocs) {
         Err(fault) => return Ok(Err(fault)),
@@ -148,8 +155,8 @@ fn of_words<T: Tables>(
 
 impl<T: Tables> AllocatorOf<T> {
     /// The space of these bytes, which `write_state` has made, or what is wrong with them, and where: any
-    /// bytes are read. The space has the same handles, the same order in bins and the same unused nodes as
-    /// the one that was written.
+    /// bytes are read. The space has the same handles, the same order in bins and the same unused names, in
+    /// the same order, as the one that was written.
     ///
     /// `most_allocs` is the largest node limit that is accepted, since memory for the limit is reserved, as
     /// by `with_max_allocs`. Nothing else that is requested is more than 4 bytes for each 4 that were given.
@@ -174,6 +181,8 @@ impl<T: Tables> AllocatorOf<T> {
         ensures read { IfOk result (λ r. IfOk r (IsRestored bytes.now most_allocs)) }
         // Where it returns a fault, they are those of no space whose node limit is admitted.
         ensures refused { IfOk result (λ r. IsErr r → IsNoState T.Index.MAX most_allocs bytes.now) }
+        // A fault is the first of those before the lists, and where it is; or else one of the lists.
+        ensures fault { IfOk result (λ r. IfErr r (IsFault T.Index.MAX most_allocs bytes.now)) }
     {
         if bytes.len() % 4 != 0 {
             return Ok(Err(StateFault {

@@ -4,7 +4,7 @@ ghost use Rattle.std.specs.List.{concat};
 ghost use Rattle.offset_allocator.specs.Bins.{HasBins, bins_in};
 ghost use Rattle.offset_allocator.specs.Chain.{IsSpace};
 ghost use Rattle.offset_allocator.specs.Chain.{blocks as blocks_in};
-ghost use Rattle.offset_allocator.specs.State.{AreNamesOf, IsStateOf, block_words, state_words, words_in};
+ghost use Rattle.offset_allocator.specs.State.{IsStateOf, block_words, state_words, words_in};
 ghost use Rattle.offset_allocator.specs.View.{bin_at};
 
 use crate::AllocatorOf;
@@ -114,8 +114,7 @@ fn bytes_of(alloc: Global, words: &[u32]) -> Result<Vec<u8>, AllocError>
 impl<T: Tables> AllocatorOf<T> {
     // The numbers of the state.
     fn state_numbers(&self, alloc: Global) -> Result<Vec<u32>, AllocError>
-        ensures { IfOk result (λ words. (names unused : List ℕ) × AreNamesOf self.now names unused
-            × (words.items ≡ state_words self.now names unused)) }
+        ensures { IfOk result (λ words. words.items ≡ state_words self.now) }
     {
         self.formed();
         let tables = &self.store.tables;
@@ -147,7 +146,7 @@ impl<T: Tables> AllocatorOf<T> {
     /// of each first: 1414742351 and the version 1, the size, the node limit, the numbers of blocks, of free
     /// ones and of unused names; name and size of each block, from the end of the space to its start; the
     /// names of free blocks, bin by bin, the newest first; the unused names, the next one last; and a
-    /// checksum.
+    /// checksum. So the bytes follow from the space, and two that differ are of two spaces.
     ///
     /// It takes time for the nodes that were made.
     ///

@@ -44,11 +44,12 @@ pub(crate) fn start<T: Tables>(store: &mut Store<T>, size: u32, max_allocs: u32)
     ensures sound { IsSound T.Index.MAX size max_allocs
         (T.cells store.new.tables) 0 0 store.new.top_mask size }
     // under the name 0; of the view, no access is counted
-    ensures view { view_of T.Index.MAX size max_allocs (T.cells store.new.tables) 0 0 ≡ record {
+    ensures view { view_of T.Index.MAX size max_allocs (T.cells store.new.tables) 0 0 0 ≡ record {
       size = size;
       max_allocs = max_allocs;
       blocks = free_block 0 size ∷ [];
       bins = push (down size) 0 (replicate 256 []);
+      unused = [];
       accesses = 0;
     } }
     ensures last { store.new.last ≡ store.old.last }

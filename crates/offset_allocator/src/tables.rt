@@ -1,6 +1,6 @@
-//! What every layout of the tables does: only the layouts, `by_node`, `by_field` and `by_row`, touch cells. A
-//! function on single cells counts each that it touches; `with_capacity` makes tables, `clear` empties them,
-//! and neither counts.
+//! What every layout of the tables does: only the layouts, `by_node` and `by_field`, touch cells. A function
+//! on single cells counts each that it touches; `with_capacity` makes tables, `clear` empties them, and
+//! neither counts.
 
 ghost use Rattle.std.specs.Prelude.{◌≡◌, ◌≢◌, ◌+◌, ◌-◌, ◌<◌, ◌≤◌, false, Some, [], ◌∷◌, ◌++◌, length};
 ghost use Rattle.std.specs.Prelude.{slice_set};

@@ -275,7 +275,7 @@ module _ (v : View) (kept_name : ℕ → Option ℕ) (s : State) (w : IsWellForm
         let bins = removed (with_first c x v).bins ∙ removed_again c x v.bins w.classes b.small ∙ sym (removed v.bins) in
         let parts = free_part t.padding_name t.padding ++ used_block t.block.name n ∷ free_part t.remainder_name t.remainder in
         let view : SameSpace (replace v t.before (t.block ∷ []) parts t.after) u =
-        split_view t ∙ ap (λ o. record v { blocks = t.before ++ (parts ++ t.after); bins = push_all parts o; accesses = u.accesses }) bins in
+        split_view t ∙ ap (λ o. record v { blocks = t.before ++ (parts ++ t.after); bins = push_all parts o; unused = u.unused; accesses = u.accesses }) bins in
         let at = subst (IsGrantAt r t.padding t.remainder t.padding_name t.remainder_name) (sym there) (t.grant, t.padded, t.whole, view) in
         let is : asked ≡ machine.grant s n t.padding (plain_place h.spot) =
         ap₂ (λ b o. if b then machine.returns_only s machine.Refused else machine.grant_or_refuse s n (padding_to align) o) (has_room v kept_name s w ws g (blocks_needed align) a.0)

@@ -149,7 +149,7 @@ module _ (v w : View) (hs left : List (Option Handle)) (r : Reply) (s : State) (
   stays o x e same f is = search (arith, agrees_but, agrees_quiet)
 
   quiet : (o : Outcome) (x : Reply) → o ≡ replies_only s x → Stays v hs w left → r ≡ x → Follows o w left r
-  quiet o x e e' is = stays o x e (e'.0 ∙ ap (λ (z : View). record v { accesses = z.accesses }) (sym e'.0)) e'.1 is
+  quiet o x e e' is = stays o x e (e'.0 ∙ ap (λ (z : View). record v { unused = z.unused; accesses = z.accesses }) (sym e'.0)) e'.1 is
 
   -- a range that is resized, or is not
   module _ (k x n : ℕ) (e : kept_name hs k ≡ Some x) where

@@ -15,7 +15,7 @@ use Rattle.offset_allocator.specs.Beside as named_beside
 use Rattle.offset_allocator.specs.Relocating.{Relocates}
 use Rattle.offset_allocator.specs.Retracting.{Retracts}
 use Rattle.offset_allocator.specs.Tight.{AlignsTight, CanHold, IsWhyTight}
-use Rattle.offset_script.specs.Steps.{kept_name, IfNamed, IsKept, Stays}
+use Rattle.offset_script.specs.Steps.{kept_name, AreNamedApart, IfNamed, IsKept, Stays}
 use Rattle.offset_script.specs.Machine as machine
 use Rattle.offset_script.specs.Steps as script
 use Rattle.offset_calls.specs.declared.calls.Call.{Call}
@@ -129,5 +129,5 @@ IsKeptSome handles o = (g : Handle) → o ≡ Some g → (k : ℕ) × (kept_name
 -- its grant.
 pub record AreNumbers (handles : List (Option Handle)) (read : ℕ) (numbers : List ℕ) : Type 0 where
   pub within : read ≤ length handles
-  pub apart : (j k x : ℕ) → kept_name handles j ≡ Some x → kept_name handles k ≡ Some x → j ≡ k
+  pub apart : AreNamedApart handles
   pub numbered : (k x : ℕ) → k ≤ read → kept_name handles k ≡ Some x → slice_index numbers x ≡ k

@@ -1,7 +1,7 @@
 //! The replies of a player to calls at the end of a space.
 
 ghost use Rattle.std.specs.Prelude.{IfOk, OnOk};
-ghost use Rattle.offset_script.specs.Steps.{AreLive};
+ghost use Rattle.offset_script.specs.Steps.{AreHeld};
 ghost use Rattle.offset_calls.specs.declared.calls.Call.{Call};
 ghost use Rattle.offset_calls.specs.Calls.{reply_view};
 ghost use Rattle.offset_calls.specs.Steps.{AreKept, AreNumbers, Finds, IsKeptSome, Takes};
@@ -18,7 +18,7 @@ pub(crate) fn relocate<T: Tables>(
     player: &mut PlayerOf<T>,
     number: u32,
 ) -> Result<Reply, AllocError>
-    requires { AreLive player.old.space player.old.handles.items }
+    requires { AreHeld player.old.space player.old.handles.items }
     ensures { IfOk result (λ r. Takes (Call.Relocate number) player.old.space player.old.handles.items
         player.new.space player.new.handles.items (reply_view r)) }
 {

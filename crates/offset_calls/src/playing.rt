@@ -4,7 +4,7 @@ ghost use Rattle.std.specs.Prelude.{◌≡◌, ◌+◌, ◌-◌, ◌<◌, ◌≤
 ghost use Rattle.std.specs.Prelude.{drop, false};
 ghost use Rattle.std.specs.Prelude.{if◌then◌else◌, length, map};
 ghost use Rattle.offset_allocator.specs.Compacting.{Compacts, live, moves};
-ghost use Rattle.offset_script.specs.Steps.{kept_name, AreLive};
+ghost use Rattle.offset_script.specs.Steps.{kept_name, AreHeld, AreLive};
 ghost use Rattle.offset_script.specs.Machine as machine;
 ghost use Rattle.offset_calls.specs.Calls.{is_valid, move_view, reply_view};
 ghost use Rattle.offset_calls.specs.Calls as plain;
@@ -187,7 +187,7 @@ fn reply<T: Tables>(
     numbers: &mut Numbers,
     call: Call,
 ) -> Result<Reply, AllocError>
-    requires live { AreLive player.old.space player.old.handles.items }
+    requires held { AreHeld player.old.space player.old.handles.items }
     requires kept { AreKept player.old.space player.old.handles.items }
     requires numbers { AreNumbers player.old.handles.items numbers.old.grants numbers.old.by_name.items }
     requires valid { IsTrue (is_valid call) }

@@ -4,7 +4,7 @@ use Rattle.std.proofs.Common.{slice_set, if◌then◌else◌, refl, sym}
 use Rattle.std.proofs.Common.{ap, ap₂, subst, ◌∙◌, inl, inr, arith, eq-eqb, ne_eqb}
 use Rattle.std.proofs.lemmas.Bool.{cases_eq, eqb-true, and_parts}
 use Rattle.std.proofs.lemmas.List.{get_or-set_same, get_or-set_other}
-use Rattle.offset_allocator.specs.View.{Block, View, Handle, Place, IsWellFormed, count_named, place_of}
+use Rattle.offset_allocator.specs.View.{Block, View, Handle, Place, AreNames, IsWellFormed, count_named, place_of}
 use Rattle.offset_allocator.specs.Ranges.{Range}
 use Rattle.offset_allocator.specs.Ranges as named
 use Rattle.offset_allocator.specs.Relations.{Aligns, Allocates}
@@ -142,5 +142,5 @@ copied {max} {v} {w} {t} {u} h e cells given room = record {
 }
 
 -- what the fields show is well formed
-pub formed : {max : ℕ} {v : View} {t : Table} → IsWellFormed v → IsGuarded max v t → (realm : ℕ) → realm ≤ 4294967295 → state.IsWellFormed (guard v t realm)
-formed {max} {v} {t} w is realm small = record { space = w; live = is.live; given = is.given; realm = small }
+pub formed : {max : ℕ} {v : View} {t : Table} → IsWellFormed v → AreNames v → IsGuarded max v t → (realm : ℕ) → realm ≤ 4294967295 → state.IsWellFormed (guard v t realm)
+formed {max} {v} {t} w names is realm small = record { space = w; names = names; live = is.live; given = is.given; realm = small }

@@ -1,3 +1,4 @@
 pub mod Guards
+pub mod Headed
 pub mod Numbers
 pub mod States

@@ -1,8 +1,9 @@
 -- Bytes as numbers of 64 bits.
 use Rattle.std.proofs.Common.{◌≡◌, ℕ, zero, suc, ◌+◌, ◌*◌, ◌-◌, ◌/◌, ◌%◌, ◌^◌, ◌<◌, ◌≤◌, List, [], ◌∷◌, ◌++◌, length, get_or, take, drop, refl, sym, ap, ap₂, ◌∙◌, arith, length-append, take_all}
-use Rattle.std.proofs.Math.Seq.{drop-append_seam}
+use Rattle.std.proofs.Math.Seq.{drop-append_seam, take-add}
+use Rattle.std.specs.List.{AllByRecursion}
 use Rattle.std.proofs.lemmas.List.{drop-drop, length-drop, length-take-le, take-append-drop, take-append-le, drop-append-le}
-use Rattle.std.proofs.lemmas.Nat.{from_le_bytes-to_le_bytes_8}
+use Rattle.std.proofs.lemmas.Nat.{from_le_bytes-to_le_bytes_8, le_bytes_8}
 use Rattle.std.specs.Int.{w64, from_le_bytes, to_le_bytes}
 use Rattle.offset_guarded.specs.State.{checksum_from, number_at, numbers}
 
@@ -63,3 +64,32 @@ number_added k n bs cs small e long =
 pub checksum_more : (s n : ℕ) (ns : List ℕ) → checksum_from s (ns ++ n ∷ []) ≡ (checksum_from s ns * 1099511628211 + n) % 18446744073709551616
 checksum_more s n [] = refl
 checksum_more s n (m ∷ ns) = checksum_more ((s * 1099511628211 + m) % 18446744073709551616) n ns
+
+-- bytes that are below 256 are those that their numbers say
+all_at : (bs : List ℕ) (i : ℕ) → AllByRecursion (λ x. x < 256) bs → get_or bs i 0 < 256
+all_at [] zero a = omega arith
+all_at [] (suc i) a = omega arith
+all_at (b ∷ bs) zero a = a.0
+all_at (b ∷ bs) (suc i) a = all_at bs i a.1
+
+pub all_drop : (k : ℕ) (bs : List ℕ) → AllByRecursion (λ x. x < 256) bs → AllByRecursion (λ x. x < 256) (drop k bs)
+all_drop zero bs a = a
+all_drop (suc k) [] a = tt
+all_drop (suc k) (b ∷ bs) a = all_drop k bs a.1
+
+pub all_take : (k : ℕ) (bs : List ℕ) → AllByRecursion (λ x. x < 256) bs → AllByRecursion (λ x. x < 256) (take k bs)
+all_take zero bs a = tt
+all_take (suc k) [] a = tt
+all_take (suc k) (b ∷ bs) a = (a.0, all_take k bs a.1)
+
+pub same_front : (n : ℕ) (ks bs : List ℕ) → 8 * n ≤ length ks → 8 * n ≤ length bs → AllByRecursion (λ x. x < 256) ks → AllByRecursion (λ x. x < 256) bs
+    → numbers n ks ≡ numbers n bs → take (8 * n) ks ≡ take (8 * n) bs
+same_front zero ks bs l m s t e = refl
+same_front (suc n) ks bs l m s t e =
+    let word : from_le_bytes w64 (take 8 ks) ≡ from_le_bytes w64 (take 8 bs) = ap (λ l. get_or l 0 0) e in
+    let eight : take 8 ks ≡ take 8 bs =
+    sym (le_bytes_8 (take 8 ks) _ (length-take-le 8 ks (omega (arith, l))) (λ i. all_at (take 8 ks) i (all_take 8 ks s)) refl)
+    ∙ le_bytes_8 (take 8 bs) _ (length-take-le 8 bs (omega (arith, m))) (λ i. all_at (take 8 bs) i (all_take 8 bs t)) word in
+    let rest = same_front n (drop 8 ks) (drop 8 bs) (omega (arith, l, length-drop 8 ks)) (omega (arith, m, length-drop 8 bs)) (all_drop 8 ks s) (all_drop 8 bs t) (ap (drop 1) e) in
+    let parted : (l : List ℕ) → take (8 * suc n) l ≡ take 8 l ++ take (8 * n) (drop 8 l) = λ l. ap (λ k. take k l) {x = 8 * suc n} {y = 8 + 8 * n} (omega arith) ∙ take-add 8 (8 * n) l in
+    parted ks ∙ ap₂ (λ (f r : List ℕ). f ++ r) eight rest ∙ sym (parted bs)

@@ -1,14 +1,15 @@
 -- The numbers of tickets of a state, and the guarded allocator that they are of.
 use Rattle.std.proofs.Common.{◌≡◌, ℕ, ◌+◌, ◌*◌, ◌<◌, ◌≤◌, List, [], ◌∷◌, ◌++◌, length, get_or, take, drop, sym, subst, ap, ap₂, ◌∙◌, arith, length-append}
 use Rattle.std.proofs.Math.Seq.{take-append_seam}
-use Rattle.std.proofs.lemmas.List.{get_or_push, length-drop}
+use Rattle.std.proofs.lemmas.List.{get_or_push, length-drop, take-append-drop}
 use Rattle.offset_allocator.proofs.Bytes.{length-in}
 use Rattle.offset_allocator.specs.State as allocator
-use Rattle.offset_allocator.specs.Relations.{SameSpace}
+use Rattle.offset_allocator.specs.Relations.{SameState}
 use Rattle.offset_guarded.specs.Guard.{Guard}
 use Rattle.offset_guarded.specs.State.{IsHeader, IsStateOf, SameGuard, checksum_from, number_at, numbers, ticket_numbers}
 use Rattle.offset_guarded.specs.declared.restoring.Header.{Header}
-use Rattle.offset_guarded.proofs.Numbers.{length-numbers, number_in, numbers-add, numbers_more}
+use Rattle.offset_guarded.proofs.Numbers.{length-numbers, number_in, numbers-add, numbers_more, all_drop, same_front}
+use Rattle.std.specs.List.{AllByRecursion, concat}
 
 five : (bs : List ℕ) → numbers 5 bs ≡ number_at bs 0 ∷ number_at bs 1 ∷ number_at bs 2 ∷ number_at bs 3 ∷ number_at bs 4 ∷ []
 five bs =
@@ -57,9 +58,8 @@ parts g bs st =
     let words : List ℕ = allocator.words_in (drop (48 + 8 * n) bs) in
     let some : 8 ≤ length words = omega (
       arith,
-      ap length st.space.text.words,
-      length-append (allocator.block_words g.space.blocks ++ (st.space.text.names ++ st.space.text.unused))
-          (allocator.checksum_from 0 (allocator.state_words g.space st.space.text.names st.space.text.unused) ∷ []),
+      ap length st.space.text,
+      length-append (allocator.block_words g.space.blocks ++ (concat g.space.bins ++ g.space.unused)) (allocator.checksum_from 0 (allocator.state_words g.space) ∷ []),
     ) in
     let seam : numbers (5 + n) bs ++ number_at bs (5 + n) ∷ [] ≡ ticket_numbers g ++ s ∷ [] =
     sym (numbers_more (5 + n) bs) ∙ ap (λ m. numbers m bs) {x = 5 + n + 1} {y = 6 + n} (omega arith) ∙ st.tickets in
@@ -84,7 +84,7 @@ serials_of g bs st =
 
 -- bytes are of one guarded allocator
 pub one_guard : (g h : Guard) (bs : List ℕ) → IsStateOf g bs → IsStateOf h bs
-    → ((bytes : List ℕ) → allocator.IsStateOf g.space bytes → allocator.IsStateOf h.space bytes → SameSpace g.space h.space) → SameGuard g h
+    → ((bytes : List ℕ) → allocator.IsStateOf g.space bytes → allocator.IsStateOf h.space bytes → SameState g.space h.space) → SameGuard g h
 one_guard g h bs s t spaces =
     let p = parts g bs s in
     let q = parts h bs t in
@@ -92,5 +92,18 @@ one_guard g h bs s t spaces =
     let serials : h.serials ≡ g.serials = sym (serials_of h bs t) ∙ ap (λ n. numbers n (drop 40 bs)) count ∙ serials_of g bs s in
     let given : h.given ≡ g.given = sym q.given ∙ p.given in
     let realm : h.realm ≡ g.realm = sym q.realm ∙ p.realm in
-    let space : SameSpace g.space h.space = spaces (drop (48 + 8 * length g.serials) bs) s.space (subst (λ n. allocator.IsStateOf h.space (drop (48 + 8 * n) bs)) count t.space) in
+    let space : SameState g.space h.space = spaces (drop (48 + 8 * length g.serials) bs) s.space (subst (λ n. allocator.IsStateOf h.space (drop (48 + 8 * n) bs)) count t.space) in
     λ i. record { space = space i; serials = serials i; given = given i; realm = realm i }
+
+-- and it has one list of bytes
+pub one_text : (g : Guard) (ks bs : List ℕ) → AllByRecursion (λ x. x < 256) ks → AllByRecursion (λ x. x < 256) bs → IsStateOf g ks → IsStateOf g bs
+    → ((xs ys : List ℕ) → AllByRecursion (λ x. x < 256) xs → AllByRecursion (λ x. x < 256) ys → allocator.IsStateOf g.space xs → allocator.IsStateOf g.space ys → xs ≡ ys) → ks ≡ bs
+one_text g ks bs small few s t rests =
+    let n : ℕ = length g.serials in
+    let p = parts g ks s in
+    let q = parts g bs t in
+    let front : take (8 * (6 + n)) ks ≡ take (8 * (6 + n)) bs =
+    same_front (6 + n) ks bs (omega (arith, p.long)) (omega (arith, q.long)) small few (s.tickets ∙ sym t.tickets) in
+    let rest : drop (48 + 8 * n) ks ≡ drop (48 + 8 * n) bs = rests _ _ (all_drop (48 + 8 * n) ks small) (all_drop (48 + 8 * n) bs few) s.space t.space in
+    let at : 8 * (6 + n) ≡ 48 + 8 * n = omega arith in
+    sym (take-append-drop (48 + 8 * n) ks) ∙ ap₂ (λ (l m : List ℕ). l ++ m) (subst (λ k. take k ks ≡ take k bs) at front) rest ∙ take-append-drop (48 + 8 * n) bs

@@ -1,3 +1,4 @@
 pub mod Faults
 pub mod Guard
 pub mod State
+pub mod StateFaults

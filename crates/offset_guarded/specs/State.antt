@@ -51,6 +51,7 @@ IsRestored bytes most g = IsStateOf g bytes × (g.space.accesses ≡ 0) × (g.sp
 -- what is true of each guarded allocator
 pub record IsWellFormed (g : Guard) : Type 0 where
   pub space : view.IsWellFormed g.space
+  pub names : view.AreNames g.space
   -- each live name has a serial
   pub live : (x : ℕ) → named.IsLive x g.space → 1 ≤ serial_of x g
   -- and no serial is above the number of grants: so no later grant has one of them

@@ -22,6 +22,9 @@ impl<T: Tables> GuardedOf<T> {
     /// Makes the range of a ticket smaller in place, as `Allocator::shrink` does, and returns whether it did;
     /// or `None` where the ticket is not live, and then nothing changes.
     ///
+    /// It makes at most 136 accesses to the tables of the allocator: 8 to see whether the name is live, which
+    /// the allocator does not count, and 128 that it counts.
+    ///
     /// ```
     /// let mesh = guarded.allocate(300).unwrap();
     /// assert_eq!(guarded.shrink(mesh, 200), Some(true));
@@ -41,6 +44,7 @@ impl<T: Tables> GuardedOf<T> {
         // The step of the allocator. All serials stay.
         ensures step { IfSome result (Shrinks ticket.name size self.old.space self.new.space) }
         ensures serials { KeepsSerials self.old self.new }
+        // It counts the accesses of the step, without those of the test whether the ticket is live, at most 8.
         ensures accesses_max { self.new.space.accesses ≤ self.old.space.accesses + 128 }
     {
         match self.handle(ticket) {
@@ -55,6 +59,9 @@ impl<T: Tables> GuardedOf<T> {
 
     /// Makes the range of a ticket larger in place, as `Allocator::grow_in_place` does, and returns whether
     /// it did; or `None` where the ticket is not live, and then nothing changes.
+    ///
+    /// It makes at most 136 accesses to the tables of the allocator: 8 to see whether the name is live, which
+    /// the allocator does not count, and 128 that it counts.
     ///
     /// ```
     /// let mesh = guarded.allocate(300).unwrap();
@@ -74,6 +81,7 @@ impl<T: Tables> GuardedOf<T> {
         // The step of the allocator. All serials stay.
         ensures step { IfSome result (Grows ticket.name size self.old.space self.new.space) }
         ensures serials { KeepsSerials self.old self.new }
+        // It counts the accesses of the step, without those of the test whether the ticket is live, at most 8.
         ensures accesses_max { self.new.space.accesses ≤ self.old.space.accesses + 128 }
     {
         match self.handle(ticket) {

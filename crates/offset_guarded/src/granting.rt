@@ -191,6 +191,9 @@ impl<T: Tables> GuardedOf<T> {
     /// `None` is returned where that call returns `None`, where the ticket is not live, or where all serials
     /// are given; then all is as it was.
     ///
+    /// It makes at most 88 accesses to the tables of the allocator: 8 to see whether the name is live, which
+    /// the allocator does not count, and 80 that it counts.
+    ///
     /// ```
     /// let hole = guarded.allocate(320).unwrap();
     /// let mesh = guarded.allocate(320).unwrap();
@@ -209,6 +212,7 @@ impl<T: Tables> GuardedOf<T> {
         // The step of the allocator, where the ticket is live and a serial is left.
         ensures step { IsLive ticket self.old → HasSerialLeft self.old
             → Relocates ticket.name self.old.space self.new.space (option_map handle_in result) }
+        // It counts the accesses of the step, without those of the test whether the ticket is live, at most 8.
         ensures accesses_max { self.new.space.accesses ≤ self.old.space.accesses + 80 }
     {
         let handle = self.handle(ticket)?;

@@ -1,17 +1,21 @@
 //! What holds of every guarded allocator. Its functions do nothing.
-ghost use Rattle.std.specs.Prelude.{◌+◌, ◌<◌, ℕ, List};
+ghost use Rattle.std.specs.Prelude.{◌≡◌, ◌+◌, ◌<◌, ℕ, List};
+ghost use Rattle.std.specs.List.{AllByRecursion};
 ghost use Rattle.offset_guarded.specs.Guard.{Guard};
 ghost use Rattle.offset_guarded.specs.State.{IsStateOf, IsWellFormed, SameGuard};
 
 use crate::GuardedOf;
 use offset_allocator::{Tables, laws};
 
-/// Bytes are those of a state of one guarded allocator at most, however many accesses were counted; and those
-/// of this one are refused by no `read_state` that admits its node limit. So `read_state` of what
-/// `write_state` returned is the same guarded allocator: with the same space, the same realm and serials, and
-/// so with the same live tickets.
+/// Bytes are those of a state of one guarded allocator at most, however many accesses were counted; it has
+/// one list of bytes; and those of this one are refused by no `read_state` that admits its node limit. So
+/// `read_state` of what `write_state` returned is the same guarded allocator: with the same space, the same
+/// realm and serials, and so with the same live tickets.
 pub fn a_state_is_read_back<T: Tables>(guarded: &GuardedOf<T>)
-    ensures one { (g h : Guard) (bytes : List ℕ) → IsStateOf g bytes → IsStateOf h bytes → SameGuard g h }
+    ensures one { (g h : Guard) (bytes : List ℕ) → IsWellFormed g → IsWellFormed h
+        → IsStateOf g bytes → IsStateOf h bytes → SameGuard g h }
+    ensures bytes { (g : Guard) (a b : List ℕ) → AllByRecursion (λ x. x < 256) a
+        → AllByRecursion (λ x. x < 256) b → IsStateOf g a → IsStateOf g b → a ≡ b }
     ensures formed { IsWellFormed guarded.now }
     ensures admitted { guarded.now.space.max_allocs + 1 < T.Index.MAX }
 {

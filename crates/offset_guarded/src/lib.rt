@@ -21,7 +21,8 @@ ghost use Rattle.offset_allocator.specs.Ranges.{Range};
 ghost use Rattle.offset_allocator.specs.Ranges as named;
 ghost use Rattle.offset_allocator.specs.View.{used_of};
 ghost use Rattle.offset_allocator.specs.Relations.{Frees, IsFresh, Resets};
-ghost use Rattle.offset_guarded.specs.Guard.{IsCopy, IsLive, KeepsOthers, last_serial, range_of, serial_of};
+ghost use Rattle.offset_guarded.specs.Guard.{HasSerialLeft, IsCopy, IsLive, KeepsOthers, last_serial};
+ghost use Rattle.offset_guarded.specs.Guard.{range_of, serial_of};
 
 mod changing;
 mod ending;
@@ -183,7 +184,9 @@ impl<T: Tables> GuardedOf<T> {
     /// assert!(!guarded.is_spent());
     /// ```
     pub fn is_spent(&self) -> bool
-        ensures { IsTrue result ↔ (self.now.given ≡ last_serial) }
+        ensures spent { IsTrue result ↔ (self.now.given ≡ last_serial) }
+        // Where it is false, a serial is left for one more grant.
+        ensures left { result ≡ false → HasSerialLeft self.now }
     {
         self.serials.is_spent()
     }
@@ -298,7 +301,7 @@ impl<T: Tables> GuardedOf<T> {
     /// ticket is not live, and then nothing changes.
     ///
     /// It reads at most one serial, and makes at most 136 accesses to the tables of the allocator: 8 to see
-    /// whether the name is live, and 128 to free it.
+    /// whether the name is live, which the allocator does not count, and 128 to free it, which it counts.
     ///
     /// ```
     /// let mesh = guarded.allocate(300).unwrap();
@@ -317,6 +320,8 @@ impl<T: Tables> GuardedOf<T> {
         // The step of the allocator. All serials stay.
         ensures step { result ≡ true → Frees ticket.name self.old.space self.new.space }
         ensures serials { self.new ≡ record self.old { space = self.new.space } }
+        // It counts the accesses of the step. Those of the test whether the ticket is live, at most 8, are left
+        // out: `is_live_counted` of the allocator's `laws` has them.
         ensures accesses_max { self.new.space.accesses ≤ self.old.space.accesses + 128 }
     {
         match self.handle(ticket) {

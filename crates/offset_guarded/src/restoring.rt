@@ -1,8 +1,11 @@
 //! A guarded allocator from the bytes of its state, or what is wrong with them. It makes tables.
-ghost use Rattle.std.specs.Prelude.{◌≡◌, ◌+◌, ◌*◌, ◌≤◌, ℕ, IfOk, IfSome, IsErr, IsSome, None, length};
+ghost use Rattle.std.specs.Prelude.{◌≡◌, ◌+◌, ◌*◌, ◌≤◌, ℕ, IfErr, IfOk, IfSome, IsErr, IsSome, None};
+ghost use Rattle.std.specs.Prelude.{length};
 ghost use Rattle.offset_allocator.specs.Ranges as named;
 ghost use Rattle.offset_guarded.specs.Guard.{Guard, cell};
 ghost use Rattle.offset_guarded.specs.State.{IsHeader, IsNoState, IsRestored, IsStateOf, IsWellFormed};
+ghost use Rattle.offset_guarded.specs.StateFaults.{IsFault, IsFaultOf};
+ghost use Rattle.offset_guarded.specs.declared.state.StateFaultKind.TheVariants.{Serial};
 
 use crate::GuardedOf;
 use crate::serials::Serials;
@@ -23,6 +26,7 @@ pub(crate) struct Header {
 // The header of these bytes, where all numbers of tickets are there and their checksum is right.
 fn header_of(bytes: &[u8]) -> Result<Header, StateFault>
     ensures header { IfOk result (IsHeader bytes.now) }
+    ensures fault { (max most : ℕ) → IfErr result (λ f. IsFaultOf max most bytes.now f.at f.kind) }
     ensures wrong { IsErr result → (g : Guard) → IsWellFormed g → IsStateOf g bytes.now → ⊥ }
 {
     if bytes.len() < 48 {
@@ -88,6 +92,7 @@ fn live_without_serial<T: Tables>(space: &AllocatorOf<T>, serials: &Serials) -> 
 
 // What is wrong with the serials of a space, if anything is.
 fn serial_fault<T: Tables>(space: &AllocatorOf<T>, serials: &Serials) -> Option<StateFault>
+    ensures serial { IfSome result (λ f. f.kind ≡ Serial) }
     ensures none { result ≡ None → ((x : ℕ) → named.IsLive x space.now → 1 ≤ cell x serials.now.cells)
         × ((x : ℕ) → cell x serials.now.cells ≤ serials.now.given) }
     ensures some { IsSome result → ((x : ℕ) → named.IsLive x space.now → 1 ≤ cell x serials.now.cells)
@@ -141,6 +146,9 @@ impl<T: Tables> GuardedOf<T> {
         ensures formed { IfOk result (λ r. IfOk r IsWellFormed) }
         // Where it returns a fault, they are those of none whose node limit is admitted.
         ensures refused { IfOk result (λ r. IsErr r → IsNoState T.Index.MAX most_allocs bytes.now) }
+        // A fault is the first of those of the numbers of tickets, and where it is; or else one of the space,
+        // or of a serial.
+        ensures fault { IfOk result (λ r. IfErr r (IsFault T.Index.MAX most_allocs bytes.now)) }
     {
         let header = match header_of(bytes) {
             Err(fault) => return Ok(Err(fault)),

@@ -1,7 +1,7 @@
 -- Grants: of a heap that was there, and of a new one.
 use Rattle.std.proofs.Common.{◌≡◌, ◌↔◌, ℕ, ◌+◌, ◌<◌, ◌≤◌, ◌⊎◌, true, false, Result, Ok, Err, IfOk, IfErr, length, List, Option, Some, None, slice_set, nat_eq, refl, sym, ap, ◌∙◌, subst, inl}
 use Rattle.std.proofs.Common.{inr, arith}
-use Rattle.std.proofs.lemmas.Bool.{cases_Bool, cases_eq}
+use Rattle.std.proofs.lemmas.Bool.{cases_Bool}
 use Rattle.offset_allocator.specs.Requests.{blocks_needed, units_needed}
 use Rattle.offset_guarded.specs.Guard.{Guard}
 use Rattle.offset_guarded.specs.Guard as guarded
@@ -10,8 +10,8 @@ use Rattle.offset_heaps.specs.declared.limits.Limits.{Limits}
 use Rattle.offset_heaps.specs.declared.place.Granted.{Granted}
 use Rattle.offset_heaps.specs.declared.refusal.Refusal.{Refusal}
 use Rattle.offset_heaps.specs.declared.refusal.Refusal.TheVariants.{Empty, TooLarge, Full, Memory}
-use Rattle.offset_heaps.specs.Heaps.{Heaps, Adds, Grants, IsBefore, IsFirstFit, IsForRoom, IsNext, IsWhy, NoneFits, IsNew, IsSame, IsSpareLarger, IsSpareUsual, IsUsual, KeepsOthers, heap_at}
-use Rattle.offset_heaps.specs.Heaps.{larger_limit, last_realm, range_in, range_of, slot}
+use Rattle.offset_heaps.specs.Heaps.{Heaps, Adds, Grants, IsBefore, IsFirstFit, IsForRoom, IsNext, IsWhy, MayEverFit, NoneFits, IsNew, IsSame, IsSpareLarger, IsSpareUsual, IsUsual, KeepsOthers, heap_at}
+use Rattle.offset_heaps.specs.Heaps.{larger_limit, last_realm, range_in, range_of, room_of, slot}
 use Rattle.offset_heaps.specs.Slots.{Changes, KeepsOthersIn, Serves, ServesTight}
 use Rattle.offset_heaps.proofs.Numbers.{slot_same}
 use Rattle.offset_heaps.proofs.Places.{none_if, put_keeps, same_realm, shown}
@@ -120,11 +120,11 @@ module _ (size align : ℕ) (hs ks : Heaps) (grant : Granted) (g : Grants size a
       kept (inl old) u apart = g.grants.others u apart ∙ sym (ap (range_in u) old.1)
       kept (inr new) u apart = g.grants.others u apart ∙ fresh u new.2 ∙ sym (ap (range_in u) new.1)
 
--- a new heap for a request that is too large needs a number for a larger one
-too_large : (units k : ℕ) (hs : Heaps) → (IsUsual units hs → ⊥) → hs.limits.most_larger ≡ 0 → IsNext units k hs → ⊥
-too_large units k hs unusual none next = elim next.1 [
-  | inl usual ↦ unusual usual.0
-  | inr larger ↦ let from = larger.1.0 in let to = larger.1.1 in absurd (omega arith)
+-- what is made for a request may be large enough for it
+pub next_fits : (units k : ℕ) (hs : Heaps) → IsNext units k hs → MayEverFit units hs
+next_fits units k hs next = elim next.1 [
+  | inl usual ↦ inl usual.0
+  | inr larger ↦ let from = larger.1.0 in let to = larger.1.1 in inr (omega arith)
 ]
 
 pub no_room : (size align : ℕ) (hs : Heaps) (r : Result Granted Refusal) → (size ≡ 0 → r ≡ Err Empty) → IfErr r (IsWhy size align hs)
@@ -133,9 +133,6 @@ pub no_room : (size align : ℕ) (hs : Heaps) (r : Result Granted Refusal) → (
     → IsForRoom r ↔ ((1 ≤ size) × NoneFits (blocks_needed align) (units_needed size align) hs × ((k : ℕ) → IsNext (units_needed size align) k hs → ⊥))
 no_room size align hs r empty why found made = (refused r empty why, kept r why found made)
   where
-    some : (r : Result Granted Refusal) → (r ≡ Err Empty → ⊥) → (size ≡ 0 → r ≡ Err Empty) → 1 ≤ size
-    some r other empty = elim (cases_eq size 0) [ inl e ↦ absurd (other (empty e)) | inr n ↦ omega arith ]
-
     refused : (r : Result Granted Refusal) → (size ≡ 0 → r ≡ Err Empty) → IfErr r (IsWhy size align hs) → IsForRoom r
         → (1 ≤ size) × NoneFits (blocks_needed align) (units_needed size align) hs × ((k : ℕ) → IsNext (units_needed size align) k hs → ⊥)
     refused (Ok g) empty why (inl e) = absurd (cc)
@@ -144,8 +141,8 @@ no_room size align hs r empty why found made = (refused r empty why, kept r why 
     refused (Err Empty) empty why (inr e) = absurd (cc)
     refused (Err Memory) empty why (inl e) = absurd (cc)
     refused (Err Memory) empty why (inr e) = absurd (cc)
-    refused (Err Full) empty why e = (some (Err Full) (λ same. cc) empty, why.0, why.1)
-    refused (Err TooLarge) empty why e = (some (Err TooLarge) (λ same. cc) empty, why.0, λ k. too_large (units_needed size align) k hs why.1 why.2)
+    refused (Err Full) empty why e = (why.0.0, why.0.1, why.2)
+    refused (Err TooLarge) empty why e = (why.0.0, why.0.1, λ k next. why.1 (next_fits (units_needed size align) k hs next))
 
     kept : (r : Result Granted Refusal) → IfErr r (IsWhy size align hs)
         → IfOk r (λ g. g.is_new ≡ false → IsFirstFit (blocks_needed align) (units_needed size align) g.place.heap hs)
@@ -159,6 +156,39 @@ no_room size align hs r empty why found made = (refused r empty why, kept r why 
       | inl e ↦ absurd (h.2 g.place.heap (made e).1)
       | inr e ↦ absurd (let fit = (found e).0 in let less = h.1 g.place.heap in omega arith)
     ]
+
+-- a request has one reason at most
+pub one_reason : (size align : ℕ) (hs : Heaps) (r s : Refusal) → IsWhy size align hs r → IsWhy size align hs s → r ≡ s
+one_reason size align hs Empty Empty a b = refl
+one_reason size align hs Empty TooLarge a b = absurd (omega (arith, a, b.0.0))
+one_reason size align hs Empty Full a b = absurd (omega (arith, a, b.0.0))
+one_reason size align hs Empty Memory a b = absurd (omega (arith, a, b.0.0))
+one_reason size align hs TooLarge Empty a b = absurd (omega (arith, a.0.0, b))
+one_reason size align hs TooLarge TooLarge a b = refl
+one_reason size align hs TooLarge Full a b = absurd (a.1 b.1)
+one_reason size align hs TooLarge Memory a b = absurd (a.1 (next_fits (units_needed size align) b.1.0 hs b.1.1))
+one_reason size align hs Full Empty a b = absurd (omega (arith, a.0.0, b))
+one_reason size align hs Full TooLarge a b = absurd (b.1 a.1)
+one_reason size align hs Full Full a b = refl
+one_reason size align hs Full Memory a b = absurd (a.2 b.1.0 b.1.1)
+one_reason size align hs Memory Empty a b = absurd (omega (arith, a.0.0, b))
+one_reason size align hs Memory TooLarge a b = absurd (b.1 (next_fits (units_needed size align) a.1.0 hs a.1.1))
+one_reason size align hs Memory Full a b = absurd (b.2 a.1.0 a.1.1)
+one_reason size align hs Memory Memory a b = refl
+
+-- none where a heap has room
+pub none_found : (size align k : ℕ) (hs : Heaps) (r : Refusal) → 1 ≤ size → units_needed size align ≤ room_of (blocks_needed align) (heap_at k hs) → IsWhy size align hs r → ⊥
+none_found size align k hs Empty some fits why = omega (arith, some, why)
+none_found size align k hs TooLarge some fits why = omega (arith, fits, why.0.1 k)
+none_found size align k hs Full some fits why = omega (arith, fits, why.0.1 k)
+none_found size align k hs Memory some fits why = omega (arith, fits, why.0.1 k)
+
+-- and where another heap may be made, no reason but its memory
+pub memory_alone : (size align k : ℕ) (hs : Heaps) (r : Refusal) → 1 ≤ size → IsNext (units_needed size align) k hs → IsWhy size align hs r → r ≡ Memory
+memory_alone size align k hs Empty some next why = absurd (omega (arith, some, why))
+memory_alone size align k hs TooLarge some next why = absurd (why.1 (next_fits (units_needed size align) k hs next))
+memory_alone size align k hs Full some next why = absurd (why.2 k next)
+memory_alone size align k hs Memory some next why = refl
 
 -- with no alignment the units needed are those of the request
 pub plain : (size : ℕ) → units_needed size 1 ≡ size

@@ -2,6 +2,7 @@ pub mod Emptiest
 pub mod Empties
 pub mod Finding
 pub mod Grants
+pub mod Histories
 pub mod Numbers
 pub mod Places
 pub mod Rooms

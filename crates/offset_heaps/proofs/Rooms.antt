@@ -1,5 +1,5 @@
 -- What a heap has room for.
-use Rattle.std.proofs.Common.{◌≡◌, ℕ, ◌+◌, ◌<◌, ◌≤◌, Bool, true, false, ◌&&◌, [], ◌∷◌, Option, Some, None, length, if◌then◌else◌, refl, ap, ◌∙◌, inl, inr, arith, eq-eqb, ne_eqb}
+use Rattle.std.proofs.Common.{◌≡◌, ℕ, ◌+◌, ◌<◌, ◌≤◌, Bool, true, false, ◌&&◌, [], ◌∷◌, Option, Some, None, length, if◌then◌else◌, refl, sym, ap, subst, ◌∙◌, inl, inr, arith, eq-eqb, ne_eqb, ◌↔◌}
 use Rattle.std.proofs.lemmas.Bool.{cases_eq, cases_lt, lt-ltb, le-ltb}
 use Rattle.offset_allocator.specs.FreeSizes.{largest}
 use Rattle.offset_allocator.specs.Reports.{IsReport}
@@ -7,7 +7,10 @@ use Rattle.offset_allocator.specs.Requests.{CanGrant, HasRoomFor}
 use Rattle.offset_allocator.specs.Relations.{IsFresh}
 use Rattle.offset_allocator.specs.View.{View, IsWellFormed, free_block, free_sizes}
 use Rattle.offset_allocator.specs.declared.reports.StorageReport.{StorageReport}
-use Rattle.offset_allocator.proofs.ViewFits.{fits_exactly, largest_small}
+use Rattle.offset_allocator.specs.Classes.{down, up, value}
+use Rattle.offset_allocator.proofs.Classes.{down_small, up_reached, value_down, value_grows}
+use Rattle.offset_allocator.proofs.Taken.{HasFit, fitting}
+use Rattle.offset_allocator.proofs.ViewFits.{HasName, fits_exactly, largest_small, sized_below, there_middle}
 use Rattle.offset_allocator.specs.Ranges.{Range}
 use Rattle.offset_allocator.specs.Ranges as named
 use Rattle.offset_guarded.specs.Guard.{Guard, HasSerialLeft, last_serial}
@@ -33,6 +36,21 @@ can blocks units g known some fits =
     let has = room_left blocks units g some fits in
     let small = largest_small g.space known known.fits units some has.2 in
     (has.0, (has.1, (fits_exactly g.space known units small known.fits some).1 has.2))
+
+-- and there is room for what is granted
+largest_there : (n : ℕ) (v : View) → IsWellFormed v → 1 ≤ n → HasFit n v → n ≤ largest (free_sizes v.blocks)
+largest_there n v w some h =
+    let t = fitting n v w h in
+    let there : HasName t.0.block v.blocks = subst (HasName t.0.block) (sym t.1) (there_middle t.0.before t.0.block t.0.after) in
+    let reached : n ≤ value (up n) = up_reached n (omega (arith, t.3, down_small t.0.block.size)) in
+    let small : n ≤ 4294967295 = omega (arith, reached, value_grows (up n) (down t.0.block.size) t.3, value_down t.0.block.size, sized_below t.0.block v.blocks there, w.whole, w.fits) in
+    (fits_exactly v w n small w.fits some).0 h
+
+pub room_grants : (blocks units : ℕ) (g : Guard) → IsWellFormed g.space → 1 ≤ units → (units ≤ room blocks g) ↔ (HasSerialLeft g × CanGrant blocks units g.space)
+room_grants blocks units g known some = (
+  can blocks units g known some,
+  λ h. subst (λ n. units ≤ n) (sym (room_there blocks g h.0 h.1.0)) (largest_there units g.space known some h.1.1),
+)
 
 -- a fresh heap of the size of a request has a block for it
 pub new_holds : (size : ℕ) (g : Guard) → IsFresh size 4 g.space → g.given ≡ 0 → CanHoldIn size (Some g)

@@ -2,8 +2,8 @@
 use Rattle.std.proofs.Common.{◌≡◌, ℕ, zero, suc, ◌+◌, ◌*◌, ◌-◌, ◌^◌, ◌<◌, ◌≤◌, [], ◌∷◌, ◌++◌, length, List, Option, Some, None, IfSome, map, replicate, slice_set, take, drop, get_or, refl, sym, ap}
 use Rattle.std.proofs.Common.{ap₂, ◌∙◌, subst, inl, inr, arith, length-append, ext_get_or, le-ltb}
 use Rattle.std.proofs.lemmas.Bool.{cases_eq, cases_lt}
-use Rattle.std.proofs.Math.Seq.{drop-append_seam, take-append_seam}
-use Rattle.std.proofs.lemmas.List.{drop-drop, get_or_append_left, get_or-append-add, get_or_push, take_all, length-drop, length-map, length-replicate, take-append-le, drop-append-le}
+use Rattle.std.proofs.Math.Seq.{drop-append_seam, take-add, take-append_seam}
+use Rattle.std.proofs.lemmas.List.{drop-drop, get_or_append_left, get_or-append-add, get_or_push, take_all, length-drop, length-map, length-replicate, take-append-le, drop-append-le, length-take-le, take-append-drop}
 use Rattle.offset_allocator.specs.State.{words_in}
 use Rattle.offset_allocator.proofs.Restored.{one_view}
 use Rattle.offset_guarded.specs.Guard.{Guard}
@@ -11,7 +11,9 @@ use Rattle.offset_guarded.specs.State as guarded
 use Rattle.std.specs.Int.{w64, from_le_bytes}
 use Rattle.offset_guarded.specs.State.{SameGuard, checksum_from, number_at}
 use Rattle.offset_guarded.proofs.States as guards
-use Rattle.offset_guarded.proofs.Numbers.{length-numbers, number_in, numbers-add, numbers_more}
+use Rattle.offset_guarded.proofs.Numbers.{length-numbers, number_in, numbers-add, numbers_more, all_take, all_drop, same_front}
+use Rattle.std.specs.List.{AllByRecursion}
+use Rattle.offset_allocator.proofs.Bytes.{same_bytes}
 use Rattle.offset_heaps.specs.declared.limits.Limits.{Limits}
 use Rattle.offset_heaps.specs.declared.index.Index.{Index}
 use Rattle.offset_heaps.specs.declared.restoring.Header.{Header}
@@ -202,17 +204,21 @@ heap_between hs bs st k l =
     (subst (λ b. IsHeapAt (slot k hs.slots) (cell k st.places) b (drop (80 + 8 * length hs.slots) bs)) (sym to) (st.heaps.heaps k l))
 
 -- bytes are of one heap
-same_heap : (o p : Option Guard) (bytes : List ℕ) → IsHeapState o bytes → IsHeapState p bytes → quiet p ≡ quiet o
-same_heap None None bytes s t = refl
-same_heap None (Some g) bytes s t = absurd (omega (arith, ap length s, (guards.parts g bytes t).long))
-same_heap (Some g) None bytes s t = absurd (omega (arith, ap length t, (guards.parts g bytes s).long))
-same_heap (Some g) (Some h) bytes s t =
-    ap (λ (o : Option Guard). quiet o) {x = Some h} {y = Some (record g { space = record g.space { accesses = h.space.accesses } })}
-    (ap Some (guards.one_guard g h bytes s t (λ bs a b. one_view g.space h.space (words_in bs) a.text b.text)))
+heap_formed : (limits : Limits) (made k : ℕ) (o : Option Guard) → IsHeapFormed limits made k o → IfSome o (λ g. guarded.IsWellFormed g)
+heap_formed limits made k None f = tt
+heap_formed limits made k (Some g) f = f.0
+
+same_heap : (o p : Option Guard) (bytes : List ℕ) → IfSome o (λ g. guarded.IsWellFormed g) → IfSome p (λ g. guarded.IsWellFormed g) → IsHeapState o bytes → IsHeapState p bytes → quiet p ≡ quiet o
+same_heap None None bytes f h s t = refl
+same_heap None (Some g) bytes f h s t = absurd (omega (arith, ap length s, (guards.parts g bytes t).long))
+same_heap (Some g) None bytes f h s t = absurd (omega (arith, ap length t, (guards.parts g bytes s).long))
+same_heap (Some g) (Some k) bytes f h s t =
+    ap (λ (o : Option Guard). quiet o) {x = Some k} {y = Some (record g { space = record g.space { accesses = k.space.accesses } })}
+    (ap Some (guards.one_guard g k bytes s t (λ bs a b. one_view g.space k.space (words_in bs) f.space h.space a.text b.text)))
 
 -- and of many heaps
-pub one_of_many : (hs ks : Heaps) (bs : List ℕ) → IsStateOf hs bs → IsStateOf ks bs → SameHeaps hs ks
-one_of_many hs ks bs s t =
+pub one_of_many : (hs ks : Heaps) (bs : List ℕ) → IsWellFormed hs → IsWellFormed ks → IsStateOf hs bs → IsStateOf ks bs → SameHeaps hs ks
+one_of_many hs ks bs w v s t =
     let p = parts hs bs s in
     let q = parts ks bs t in
     let size : ks.limits.size ≡ hs.limits.size = sym q.size ∙ p.size in
@@ -223,7 +229,7 @@ one_of_many hs ks bs s t =
     let realm : ks.realm ≡ hs.realm = sym q.realm ∙ p.realm in
     let long : length ks.slots ≡ length hs.slots = t.count ∙ ap₂ (λ a b. a + b) most larger ∙ sym s.count in
     let each : (k : ℕ) → k < length hs.slots → quiet (slot k ks.slots) ≡ quiet (slot k hs.slots) = λ k l.
-    same_heap (slot k hs.slots) (slot k ks.slots) _ (heap_between hs bs s k l).state
+    same_heap (slot k hs.slots) (slot k ks.slots) _ (heap_formed hs.limits hs.made k (slot k hs.slots) (w.heaps k)) (heap_formed ks.limits ks.made k (slot k ks.slots) (v.heaps k)) (heap_between hs bs s k l).state
     (subst (λ n. IsHeapState (slot k ks.slots) (take (number_at bs (9 + k) - number_at bs (8 + k)) (drop (number_at bs (8 + k)) (drop (80 + 8 * n) bs)))) long
     (heap_between ks bs t k (omega (arith, l, long))).state) in
     let slots : map quiet ks.slots ≡ map quiet hs.slots =
@@ -381,3 +387,46 @@ within_limit max slots each = past_too (λ k o. IfSome o (λ g. g.space.max_allo
     second : (o : Option Guard) → IfSome o (λ g. guarded.IsWellFormed g × (g.space.max_allocs + 1 < max)) → IfSome o (λ g. g.space.max_allocs + 1 < max)
     second None a = tt
     second (Some g) a = a.1
+
+-- a heap has one list of bytes
+one_state : (o : Option Guard) (ks bs : List ℕ) → AllByRecursion (λ x. x < 256) ks → AllByRecursion (λ x. x < 256) bs → IsHeapState o ks → IsHeapState o bs → ks ≡ bs
+one_state None ks bs small few s t = s ∙ sym t
+one_state (Some g) ks bs small few s t = guards.one_text g ks bs small few s t (λ xs ys a b u v. same_bytes xs ys u.whole v.whole a b (u.text ∙ sym v.text))
+
+-- so many heaps have one: their states begin at the same places
+states_same : (slots : List (Option Guard)) (ps qs ks bs : List ℕ) → AllByRecursion (λ x. x < 256) ks → AllByRecursion (λ x. x < 256) bs → AreStatesOf slots ps ks → AreStatesOf slots qs bs
+    → (n : ℕ) → n ≤ length slots → (cell n ps ≡ cell n qs) × (cell n ps ≤ length ks) × (cell n qs ≤ length bs) × (take (cell n ps) ks ≡ take (cell n ps) bs)
+states_same slots ps qs ks bs small few s t zero l =
+    (s.first ∙ sym t.first, omega (arith, s.first), omega (arith, t.first), ap (λ i. take i ks) s.first ∙ sym (ap (λ i. take i bs) s.first))
+states_same slots ps qs ks bs small few s t (suc n) l =
+    let r = states_same slots ps qs ks bs small few s t n (omega (arith, l)) in
+    let a = subst (λ i. IsHeapAt (slot n slots) (cell n ps) (cell i ps) ks) {x = n + 1} {y = suc n} (omega arith) (s.heaps n (omega (arith, l))) in
+    let b = subst (λ i. IsHeapAt (slot n slots) (cell n qs) (cell i qs) bs) {x = n + 1} {y = suc n} (omega arith) (t.heaps n (omega (arith, l))) in
+    let x : ℕ = cell (suc n) ps - cell n ps in
+    let y : ℕ = cell (suc n) qs - cell n qs in
+    let here : take x (drop (cell n ps) ks) ≡ take y (drop (cell n qs) bs) =
+    one_state (slot n slots) _ _ (all_take x _ (all_drop (cell n ps) ks small)) (all_take y _ (all_drop (cell n qs) bs few)) a.state b.state in
+    let lx : length (take x (drop (cell n ps) ks)) ≡ x = length-take-le x (drop (cell n ps) ks) (omega (arith, a.order, a.within, length-drop (cell n ps) ks)) in
+    let ly : length (take y (drop (cell n qs) bs)) ≡ y = length-take-le y (drop (cell n qs) bs) (omega (arith, b.order, b.within, length-drop (cell n qs) bs)) in
+    let same : x ≡ y = sym lx ∙ ap length here ∙ ly in
+    let next : cell (suc n) ps ≡ cell (suc n) qs = omega (arith, same, r.0, a.order, b.order) in
+    let parted : (ls : List ℕ) → take (cell (suc n) ps) ls ≡ take (cell n ps) ls ++ take x (drop (cell n ps) ls) = λ ls. ap (λ k. take k ls) {x = cell (suc n) ps} {y = cell n ps + x} (omega (arith, a.order))
+    ∙ take-add (cell n ps) x ls in
+    let there : take x (drop (cell n ps) ks) ≡ take x (drop (cell n ps) bs) = here ∙ ap₂ (λ i j. take i (drop j bs)) (sym same) (sym r.0) in
+    (next, a.within, b.within, parted ks ∙ ap₂ (λ (f g : List ℕ). f ++ g) r.3 there ∙ sym (parted bs))
+
+pub text_of_many : (hs : Heaps) (ks bs : List ℕ) → AllByRecursion (λ x. x < 256) ks → AllByRecursion (λ x. x < 256) bs → IsStateOf hs ks → IsStateOf hs bs → ks ≡ bs
+text_of_many hs ks bs small few s t =
+    let n : ℕ = length hs.slots in
+    let m : ℕ = 80 + 8 * n in
+    let ls : List ℕ = drop m ks in
+    let rs : List ℕ = drop m bs in
+    let all = states_same hs.slots s.places t.places ls rs (all_drop m ks small) (all_drop m bs few) s.heaps t.heaps in
+    let end = all n (omega arith) in
+    let rest : ls ≡ rs =
+    sym (take_all (cell n s.places) ls (omega (arith, s.heaps.last))) ∙ end.3 ∙ take_all (cell n s.places) rs (omega (arith, end.0, t.heaps.last)) in
+    let places : s.places ≡ t.places = ext_get_or 0 s.places t.places (s.heaps.count ∙ sym t.heaps.count) (λ k l. (all k (omega (arith, l, s.heaps.count))).0) in
+    let numbers : guarded.numbers (10 + n) ks ≡ guarded.numbers (10 + n) bs = s.head ∙ ap (λ ps. heaps_numbers hs ps ++ checksum_from 0 (heaps_numbers hs ps) ∷ []) places ∙ sym t.head in
+    let front : take (8 * (10 + n)) ks ≡ take (8 * (10 + n)) bs = same_front (10 + n) ks bs (omega (arith, s.long)) (omega (arith, t.long)) small few numbers in
+    let at : 8 * (10 + n) ≡ m = omega arith in
+    sym (take-append-drop m ks) ∙ ap₂ (λ (l r : List ℕ). l ++ r) (subst (λ k. take k ks ≡ take k bs) at front) rest ∙ take-append-drop m bs

@@ -86,13 +86,22 @@ IsNext units k hs = (hs.made < last_realm)
     × ((IsUsual units hs × IsSpareUsual k hs × ((j : ℕ) → j < k → IsSpareUsual j hs → ⊥))
     ⊎ ((IsUsual units hs → ⊥) × IsSpareLarger k hs × ((j : ℕ) → j < k → IsSpareLarger j hs → ⊥)))
 
--- why a request is refused. Empty: it is for no unit. TooLarge: no heap may ever be large enough. Full: no heap has room,
--- and no other may be made for it. Memory: one may be made, but its memory was refused
+-- no heap has room for a request of at least one unit
+abbrev pub IsUnmet : ℕ → ℕ → Heaps → Type 0
+IsUnmet size align hs = (1 ≤ size) × NoneFits (blocks_needed align) (units_needed size align) hs
+
+-- some heap may ever have that many units: a fresh one of the usual size, or a larger one, where there may be any
+abbrev pub MayEverFit : ℕ → Heaps → Type 0
+MayEverFit units hs = IsUsual units hs ⊎ (1 ≤ hs.limits.most_larger)
+
+-- why a request is refused. Empty: it is for no unit. TooLarge: no heap has room, and none may ever be large enough. Full:
+-- no heap has room, and though one may be large enough, none may be made for it now. Memory: one may be made, but its
+-- memory was refused
 abbrev pub IsWhy : ℕ → ℕ → Heaps → Refusal → Type 0
 IsWhy size align hs Empty = size ≡ 0
-IsWhy size align hs TooLarge = NoneFits (blocks_needed align) (units_needed size align) hs × (IsUsual (units_needed size align) hs → ⊥) × (hs.limits.most_larger ≡ 0)
-IsWhy size align hs Full = NoneFits (blocks_needed align) (units_needed size align) hs × ((k : ℕ) → IsNext (units_needed size align) k hs → ⊥)
-IsWhy size align hs Memory = NoneFits (blocks_needed align) (units_needed size align) hs × ((k : ℕ) × IsNext (units_needed size align) k hs)
+IsWhy size align hs TooLarge = IsUnmet size align hs × (MayEverFit (units_needed size align) hs → ⊥)
+IsWhy size align hs Full = IsUnmet size align hs × MayEverFit (units_needed size align) hs × ((k : ℕ) → IsNext (units_needed size align) k hs → ⊥)
+IsWhy size align hs Memory = IsUnmet size align hs × ((k : ℕ) × IsNext (units_needed size align) k hs)
 
 -- a refusal for room
 abbrev pub IsForRoom : Result Granted Refusal → Type 0

@@ -1,4 +1,5 @@
 pub mod Heaps
+pub mod Histories
 pub mod Maxima
 pub mod Relocating
 pub mod Slots

@@ -1,17 +1,23 @@
 //! Laws: what holds of all heaps. Its functions do nothing.
-ghost use Rattle.std.specs.Prelude.{ℕ, List, ◌≡◌, ◌+◌, ◌<◌, ◌≤◌, Some, IfSome, length};
+ghost use Rattle.std.specs.Prelude.{ℕ, List, ◌≡◌, ◌↔◌, ◌+◌, ◌<◌, ◌≤◌, ◌∷◌, None, Some, IfSome, length};
+ghost use Rattle.std.specs.List.{AllByRecursion};
 ghost use Rattle.offset_allocator.specs.Ranges.{AreDisjoint, Range};
 ghost use Rattle.offset_allocator.specs.Reports.{IsReport};
+ghost use Rattle.offset_allocator.specs.Requests.{CanGrant, blocks_needed, units_needed};
 ghost use Rattle.offset_allocator.specs.declared.reports.StorageReport.{StorageReport};
 ghost use Rattle.offset_guarded.specs.Guard.{Guard, HasSerialLeft};
 ghost use Rattle.offset_heaps.specs.Heaps.{Heaps, room, AreAlike, heap_at, numbers, range_of};
+ghost use Rattle.offset_heaps.specs.Heaps.{IsFirstFit, IsLive, IsNext, IsWhy, Puts};
+ghost use Rattle.offset_heaps.specs.Histories.{AreSteps, IsGone, IsStep};
 ghost use Rattle.offset_heaps.specs.State.{IsStateOf, IsWellFormed, SameHeaps};
 ghost use Rattle.offset_heaps.specs.declared.place.Place.{Place};
+ghost use Rattle.offset_heaps.specs.declared.refusal.Refusal.{Refusal};
+ghost use Rattle.offset_heaps.specs.declared.refusal.Refusal.TheVariants.{Memory};
 
 use crate::HeapsOf;
 pub use crate::relocating::emptiest_counted;
 use offset_allocator::Tables;
-use offset_allocator::laws::ranges_are_disjoint;
+use offset_allocator::laws::{is_well_formed, ranges_are_disjoint};
 
 /// Two live places in the heap of this number, of two grants, have no unit in common. So live places are
 /// apart: they are in two heaps, or share no unit of one.
@@ -30,11 +36,45 @@ pub fn room_is_reported()
         → room 1 g ≡ r.largest_free_region }
 {}
 
+/// A heap has room for exactly what it grants: where it has a serial left, what its space can grant, with as
+/// many more blocks as the request may add.
+pub fn room_is_granted<T: Tables>(heaps: &HeapsOf<T>, number: u32)
+    ensures { IfSome (heap_at number heaps.now) (λ g. (blocks units : ℕ) → 1 ≤ units
+        → (units ≤ room blocks g) ↔ (HasSerialLeft g × CanGrant blocks units g.space)) }
+{
+    if let Some(heap) = heaps.heap(number) {
+        is_well_formed(heap.allocator());
+    }
+}
+
+/// At most one reason of a refusal holds of a request. None holds where a heap has room for it; and where
+/// another may be made for it, no other than that its memory was refused.
+pub fn reasons_exclude_one_another()
+    ensures one { (size align : ℕ) (hs : Heaps) (r s : Refusal) → IsWhy size align hs r
+        → IsWhy size align hs s → r ≡ s }
+    ensures found { (size align k : ℕ) (hs : Heaps) (r : Refusal) → 1 ≤ size
+        → IsFirstFit (blocks_needed align) (units_needed size align) k hs → IsWhy size align hs r → ⊥ }
+    ensures made { (size align k : ℕ) (hs : Heaps) (r : Refusal) → 1 ≤ size
+        → IsNext (units_needed size align) k hs → IsWhy size align hs r → r ≡ Memory }
+{}
+
 /// There is a slot for each number, and no heap has a realm that a later one will have: theirs are above
 /// `made`.
 pub fn realms_are_given<T: Tables>(heaps: &HeapsOf<T>)
     ensures numbers { length heaps.now.slots ≡ numbers heaps.now }
     ensures realms { (k : ℕ) → IfSome (heap_at k heaps.now) (λ g. g.realm ≤ heaps.now.made) }
+{
+    let _ = &heaps.made;
+}
+
+/// No place of a heap that was dropped is ever live again, whatever calls follow: what `drop_empty`,
+/// `drop_heap` and `give_up` leave of its number, each later call keeps.
+pub fn dropped_heaps_stay_dropped<T: Tables>(heaps: &HeapsOf<T>)
+    ensures never { (p : Place) (g : Guard) (dropped : Heaps) (later : List Heaps)
+        → heap_at p.heap heaps.now ≡ Some g → p.ticket.realm ≡ g.realm → Puts p.heap None heaps.now dropped
+        → AreSteps dropped later → AllByRecursion (λ hs. IsLive p hs → ⊥) (dropped ∷ later) }
+    ensures step { (p : Place) (hs ks : Heaps) → IsGone p hs → IsStep hs ks → IsGone p ks }
+    ensures dead { (p : Place) (hs : Heaps) → IsGone p hs → IsLive p hs → ⊥ }
 {
     let _ = &heaps.made;
 }
@@ -46,12 +86,15 @@ fn made<T: Tables>(heaps: &HeapsOf<T>) -> u32
     heaps.made
 }
 
-/// Bytes are those of a state of one `Heaps` at most, however many accesses were counted; and those of these
-/// are refused by no `read_state` that admits their limits. So `read_state` of what `write_state` returned
-/// are the same heaps, and each place is live there exactly if it is live here. It looks at each slot.
+/// Bytes are those of a state of one `Heaps` at most, however many accesses were counted; it has one list of
+/// bytes; and those of these are refused by no `read_state` that admits their limits. So `read_state` of what
+/// `write_state` returned are the same heaps, and each place is live there exactly if it is live here. It
+/// looks at each slot.
 pub fn a_state_is_read_back<T: Tables>(heaps: &HeapsOf<T>)
-    ensures one { (hs ks : Heaps) (bytes : List ℕ) → IsStateOf hs bytes → IsStateOf ks bytes
-        → SameHeaps hs ks }
+    ensures one { (hs ks : Heaps) (bytes : List ℕ) → IsWellFormed hs → IsWellFormed ks
+        → IsStateOf hs bytes → IsStateOf ks bytes → SameHeaps hs ks }
+    ensures bytes { (hs : Heaps) (a b : List ℕ) → AllByRecursion (λ x. x < 256) a
+        → AllByRecursion (λ x. x < 256) b → IsStateOf hs a → IsStateOf hs b → a ≡ b }
     ensures formed { IsWellFormed heaps.now }
     ensures limit { heaps.now.limits.max_allocs + 1 < T.Index.MAX }
     ensures heaps { (k : ℕ) → IfSome (heap_at k heaps.now) (λ g. g.space.max_allocs + 1 < T.Index.MAX) }

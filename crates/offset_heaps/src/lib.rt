@@ -43,7 +43,7 @@ mod totals;
 
 use index::Index;
 pub use limits::Limits;
-use offset_allocator::{Accesses, ByRow, Tables};
+use offset_allocator::{Accesses, ByNode, Tables};
 use offset_guarded::GuardedOf;
 pub use place::{Granted, Place};
 pub use refusal::Refusal;
@@ -54,9 +54,8 @@ use std::fmt;
 use std::marker::Model;
 pub use totals::Totals;
 
-/// Many heaps as one, each with one table, of rows: a heap with few live ranges has a page of memory less
-/// resident than with `ByNode`, and a call takes some 3% more instructions.
-pub type Heaps<NI = u32> = HeapsOf<ByRow<NI>>;
+/// Many heaps as one, each with one table of nodes.
+pub type Heaps<NI = u32> = HeapsOf<ByNode<NI>>;
 
 /// Many heaps as one.
 ///

@@ -2,16 +2,17 @@
 
 use std::fmt;
 
-/// Why a request is refused: the first of these that applies.
+/// Why a request is refused. No two of these apply to one request: see `laws::reasons_exclude_one_another`.
 #[derive(Clone, Copy, Debug, PartialEq)]
 pub enum Refusal {
     /// It is for no unit.
     Empty,
-    /// No heap has room, a fresh one of the usual size would not have it either, and there may be no larger
-    /// ones.
+    /// No heap has room, and none may ever be large enough: a fresh one of the usual size would not have room
+    /// either, and there may be no larger ones.
     TooLarge,
-    /// No heap has room, and no other may be made for it: each number of its kind has a heap, or all
-    /// 4294967295 realms are given. Free ranges, or drop empty heaps of that kind.
+    /// No heap has room, and though one may be large enough, none may be made for it now: each number of its
+    /// kind has a heap, or all 4294967295 realms are given. Its kind is the usual one where a fresh heap of
+    /// the usual size would have room, and else a larger one. Free ranges, or drop empty heaps of that kind.
     Full,
     /// No heap has room. Another one may be made, but its memory was refused.
     Memory,

@@ -21,6 +21,20 @@ fn shown(answer: Result<Granted, Refusal>) -> (u32, u32, bool) {
     }
 }
 
+// A place that is live nowhere.
+fn nowhere() -> Place {
+    Place {
+        heap: 9,
+        realm: 0,
+        ticket: offset_guarded::Ticket {
+            offset: 0,
+            name: 0,
+            serial: 0,
+            realm: 0,
+        },
+    }
+}
+
 // The place of a grant, or one that is live nowhere.
 fn place_of(answer: Result<Granted, Refusal>, other: Place) -> Place {
     match answer {
@@ -93,22 +107,34 @@ fn heaps(rt: HostRuntime) -> Result<(), Fail> {
         most: 2,
         most_larger: 1,
     };
-    let nowhere = Place {
-        heap: 9,
-        realm: 0,
-        ticket: offset_guarded::Ticket {
-            offset: 0,
-            name: 0,
-            serial: 0,
-            realm: 0,
-        },
-    };
-    let mut by_row: Heaps = HeapsOf::new(rt.alloc(), limits, 9)?;
-    expect_growth(&rt, &mut by_row, nowhere);
-    expect_drops(&rt, &mut by_row, nowhere);
+    let nowhere = nowhere();
+    let mut by_node: Heaps = HeapsOf::new(rt.alloc(), limits, 9)?;
+    expect_growth(&rt, &mut by_node, nowhere);
+    expect_drops(&rt, &mut by_node, nowhere);
     let mut by_field: HeapsOf<ByField<u16>> = HeapsOf::new(rt.alloc(), limits, 9)?;
     expect_growth(&rt, &mut by_field, nowhere);
     expect_drops(&rt, &mut by_field, nowhere);
+    Ok(())
+}
+
+// 1001 units are of the class of 960, and a request for them is one of the class of 1024: so the heap that was
+// made for them has no room for them once it is empty, until it is dropped.
+#[test]
+fn an_empty_larger_heap_is_dropped_first(rt: HostRuntime) -> Result<(), Fail> {
+    let limits = Limits {
+        size: 1000,
+        max_allocs: 8,
+        most: 1,
+        most_larger: 1,
+    };
+    let mut heaps: Heaps = HeapsOf::new(rt.alloc(), limits, 1)?;
+    let first = place_of(heaps.allocate(1001), nowhere());
+    assert_that(&rt, heaps.free(first));
+    assert_same(&rt, &shown(heaps.allocate(1001)), &(1002, 0, false));
+    assert_same(&rt, &shown(heaps.allocate(961)), &(1002, 0, false));
+    assert_that(&rt, heaps.drop_heap(first.heap));
+    assert_same(&rt, &shown(heaps.allocate(1001)), &(1, 0, true));
+    assert_that(&rt, !heaps.is_live(first));
     Ok(())
 }
 

@@ -5,6 +5,7 @@
 mod asserts;
 #[cfg(test)]
 mod heaps;
+mod histories;
 #[cfg(test)]
 mod relocating;
 #[cfg(test)]

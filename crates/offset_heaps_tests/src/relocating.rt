@@ -101,8 +101,8 @@ fn relocation(rt: HostRuntime) -> Result<(), Fail> {
             realm: 0,
         },
     };
-    let mut by_row: Heaps = HeapsOf::new(rt.alloc(), limits, 9)?;
-    expect_pass(&rt, &mut by_row, nowhere);
+    let mut by_node: Heaps = HeapsOf::new(rt.alloc(), limits, 9)?;
+    expect_pass(&rt, &mut by_node, nowhere);
     let mut by_field: HeapsOf<ByField<u16>> = HeapsOf::new(rt.alloc(), limits, 9)?;
     expect_pass(&rt, &mut by_field, nowhere);
     Ok(())

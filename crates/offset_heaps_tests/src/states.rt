@@ -2,7 +2,7 @@
 //! that were read or copied.
 
 use crate::asserts::{assert_same, assert_that};
-use offset_allocator::{ByField, ByRow, Tables};
+use offset_allocator::{ByField, ByNode, Tables};
 use offset_guarded::StateFaultKind as HeapFault;
 use offset_heaps::StateFaultKind::{
     Checksum, Counts, Form, Heap, Length, Limits as OfLimits, Place as OfPlace, Realm, Size,
@@ -237,9 +237,9 @@ fn states(rt: HostRuntime) -> Result<(), Fail> {
         most: 1,
         most_larger: 1,
     };
-    let mut by_row: Heaps = HeapsOf::new(rt.alloc(), limits, 9)?;
-    expect_state(&rt, rt.alloc(), &mut by_row);
-    expect_faults::<ByRow<u32>>(&rt, rt.alloc());
+    let mut by_node: Heaps = HeapsOf::new(rt.alloc(), limits, 9)?;
+    expect_state(&rt, rt.alloc(), &mut by_node);
+    expect_faults::<ByNode<u32>>(&rt, rt.alloc());
     let mut by_field: HeapsOf<ByField<u16>> = HeapsOf::new(rt.alloc(), limits, 9)?;
     expect_state(&rt, rt.alloc(), &mut by_field);
     expect_faults::<ByField<u16>>(&rt, rt.alloc());

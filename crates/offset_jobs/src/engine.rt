@@ -2,8 +2,8 @@
 
 use crate::random::{Digest, Draw, Random};
 use crate::spaces::Space;
-use offset_allocator::Allocator;
-use offset_guarded::Guarded;
+use offset_allocator::{Allocation, Allocator};
+use offset_guarded::{Guarded, Ticket};
 use std::alloc::{AllocError, Global};
 
 // How many frames are played.
@@ -33,6 +33,23 @@ fn take<S: Space>(
     digest.add(space.take(slot, random.size(bits), align));
 }
 
+/// Slots that all rounds of a job use, so that their memory is requested once.
+#[derive(Drop)]
+pub struct Kept {
+    handles: Vec<Option<Allocation<u32>>>,
+    tickets: Vec<Option<Ticket>>,
+}
+
+impl Kept {
+    /// No slots. It takes no memory.
+    pub fn new(alloc: Global) -> Self {
+        Kept {
+            handles: Vec::new(alloc),
+            tickets: Vec::new(alloc),
+        }
+    }
+}
+
 /// Each step frees the range of a random slot, or requests one for it where it is empty; one in 256 asks for
 /// a report.
 pub fn play<S: Space>(
@@ -41,8 +58,23 @@ pub fn play<S: Space>(
     random: &mut Random,
     digest: &mut Digest,
 ) -> Result<(), AllocError> {
+    play_on::<S>(alloc, load, &mut Vec::new(alloc), random, digest)
+}
+
+// The same, on slots that are kept from one space to the next.
+fn play_on<S: Space>(
+    alloc: Global,
+    load: Load,
+    slots: &mut Vec<S::Slot>,
+    random: &mut Random,
+    digest: &mut Digest,
+) -> Result<(), AllocError> {
     let mut space = S::make(alloc, load.size, load.max_allocs)?;
-    let mut slots = Vec::from_elem(alloc, S::empty(), load.places as usize)?;
+    slots.clear();
+    slots.reserve(load.places as usize)?;
+    for _ in 0..load.places {
+        slots.push(S::empty())?;
+    }
     for _ in 0..load.steps {
         let draw = random.draw();
         if let Some(slot) = slots.get_mut(draw.place(load.places) as usize) {
@@ -115,6 +147,7 @@ pub fn engine(
 pub fn tight(
     alloc: Global,
     live: u32,
+    kept: &mut Kept,
     random: &mut Random,
     digest: &mut Digest,
 ) -> Result<(), AllocError> {
@@ -125,20 +158,20 @@ pub fn tight(
         bits: 14,
         steps: live.saturating_mul(5),
     };
-    play::<Allocator<u32>>(alloc, few_nodes, random, digest)?;
-    play::<Guarded<u32>>(alloc, few_nodes, random, digest)?;
+    play_on::<Allocator<u32>>(alloc, few_nodes, &mut kept.handles, random, digest)?;
+    play_on::<Guarded<u32>>(alloc, few_nodes, &mut kept.tickets, random, digest)?;
     let few_units = Load {
         size: live.saturating_mul(400),
         max_allocs: live.saturating_mul(2).saturating_add(2),
         ..few_nodes
     };
-    play::<Allocator<u32>>(alloc, few_units, random, digest)?;
-    play::<Guarded<u32>>(alloc, few_units, random, digest)?;
+    play_on::<Allocator<u32>>(alloc, few_units, &mut kept.handles, random, digest)?;
+    play_on::<Guarded<u32>>(alloc, few_units, &mut kept.tickets, random, digest)?;
     let one_size = Load {
         size: live.saturating_mul(24),
         bits: 0,
         ..few_units
     };
-    play::<Allocator<u32>>(alloc, one_size, random, digest)?;
-    play::<Guarded<u32>>(alloc, one_size, random, digest)
+    play_on::<Allocator<u32>>(alloc, one_size, &mut kept.handles, random, digest)?;
+    play_on::<Guarded<u32>>(alloc, one_size, &mut kept.tickets, random, digest)
 }

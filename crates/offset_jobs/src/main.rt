@@ -14,6 +14,7 @@ mod spaces;
 mod texts;
 mod upkeep;
 
+use engine::Kept;
 use random::{Digest, Random};
 use std::alloc::{AllocError, Global};
 use std::process::ExitCode;
@@ -24,19 +25,20 @@ fn round(
     alloc: Global,
     job: &str,
     size: u32,
+    kept: &mut Kept,
     random: &mut Random,
     digest: &mut Digest,
 ) -> Result<bool, AllocError> {
     match job {
         "engine" => engine::engine(alloc, size, random, digest)?,
-        "tight" => engine::tight(alloc, size, random, digest)?,
+        "tight" => engine::tight(alloc, size, kept, random, digest)?,
         "upkeep" => upkeep::upkeep(alloc, size, random, digest)?,
         "calls" => calls::calls(alloc, size, random, digest)?,
         "scripts" => texts::scripts(alloc, size, random, digest)?,
         "pictures" => texts::pictures(alloc, size, random, digest)?,
         "all" => {
             engine::engine(alloc, size, random, digest)?;
-            engine::tight(alloc, size, random, digest)?;
+            engine::tight(alloc, size, kept, random, digest)?;
             upkeep::upkeep(alloc, size, random, digest)?;
             calls::calls(alloc, size, random, digest)?;
             texts::scripts(alloc, size, random, digest)?;
@@ -56,9 +58,10 @@ fn digest_of(
     size: u32,
 ) -> Result<Option<u64>, AllocError> {
     let mut digest = Digest { value: 0 };
+    let mut kept = Kept::new(alloc);
     for at in 0..rounds {
         let mut random = Random::new(seed, at);
-        if !round(alloc, job, size, &mut random, &mut digest)? {
+        if !round(alloc, job, size, &mut kept, &mut random, &mut digest)? {
             return Ok(None);
         }
     }

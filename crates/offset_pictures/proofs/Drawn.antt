@@ -1,6 +1,10 @@
 -- The parts of a picture.
-use Rattle.std.proofs.Common.{◌≡◌, ℕ, List, [], ◌++◌, ◌∙◌, ap, Result, Ok, Err}
+use Rattle.std.proofs.Common.{◌≡◌, ℕ, ◌+◌, List, [], ◌++◌, ◌∙◌, sym, ap, subst, Result, Ok, Err}
 use Rattle.std.specs.Prelude.{IfOk}
+use Rattle.offset_pictures.specs.declared.axes.Axis.{Axis}
+use Rattle.offset_pictures.specs.Axes.{in_tenths, x_of}
+use Rattle.offset_pictures.specs.Scales.{along}
+use Rattle.offset_pictures.specs.StepLines.{AreXs}
 
 -- the parts of a picture, in the order in which they are written
 pub has_parts : (p₀ p₁ p₂ p₃ p₄ p₅ p₆ p₇ p₈ x₀ x₁ x₂ x₃ x₄ x₅ x₆ x₇ x₈ : List ℕ)
@@ -31,3 +35,10 @@ has_all p₁ p₂ p₃ p₄ p₅ p₆ p₇ p₈ x₀ x₁ x₂ x₃ x₄ x₅ x�
 pub ok_more : {T E : Type 0} (r : Result T E) (P Q : T → Type 0) → ((x : T) → P x → Q x) → IfOk r P → IfOk r Q
 ok_more (Ok x) P Q h p = h x p
 ok_more (Err e) P Q h p = tt
+
+-- where states lie on an axis, they lie on another that begins and ends there and shows as much
+pub same_xs : (a b : Axis) (xs ys : List ℕ) → a.start ≡ b.start → a.span ≡ b.span → a.most ≡ b.most → ys ≡ xs → AreXs a xs → AreXs b ys
+same_xs a b xs ys start span most same h = λ i l.
+    let x : x_of a i ≡ x_of b i =
+    ap (λ (n : ℕ). in_tenths (n + along a.span a.most i)) start ∙ ap (λ (n : ℕ). in_tenths (b.start + along n a.most i)) span ∙ ap (λ (n : ℕ). in_tenths (b.start + along b.span n i)) most in
+    subst (AreXs a) (sym same) h i l ∙ x

@@ -135,4 +135,4 @@ is_well_formed title c text u x =
     (x.is ∙ sym (same_text opening (escaped title ∷ codes "</title>\n" ∷ style ∷ heading_text title ∷ x.body ∷ codes "</svg>\n" ∷ [])))
 
 pub xml_law : PicturesAreWellFormed
-xml_law title plan text u x = is_well_formed title x.course text u x.is_picture
+xml_law = is_well_formed

@@ -6,13 +6,13 @@ use Rattle.offset_pictures.specs.Picture.{FiguresAreFixed}
 
 -- there is one first state with the largest value, and one with the smallest
 none_before : (v : ℕ → ℕ) (n s t : ℕ) → IsFirstLargest v n s → IsFirstLargest v n t → s < t → ⊥
-none_before v n s t a b l = let least = a.1 t b.0 in let less = b.2 s l in omega arith
+none_before v n s t a b l = let last = b.0 in let least = a.1 t (omega arith) in let less = b.2 s l in omega arith
 
 one_largest : (v : ℕ → ℕ) (n s t : ℕ) → IsFirstLargest v n s → IsFirstLargest v n t → s ≡ t
 one_largest v n s t a b = let x : s < t → ⊥ = none_before v n s t a b in let y : t < s → ⊥ = none_before v n t s b a in omega arith
 
 none_below : (v : ℕ → ℕ) (n s t : ℕ) → IsFirstSmallest v n s → IsFirstSmallest v n t → s < t → ⊥
-none_below v n s t a b l = let most = a.1 t b.0 in let more = b.2 s l in omega arith
+none_below v n s t a b l = let last = b.0 in let most = a.1 t (omega arith) in let more = b.2 s l in omega arith
 
 one_smallest : (v : ℕ → ℕ) (n s t : ℕ) → IsFirstSmallest v n s → IsFirstSmallest v n t → s ≡ t
 one_smallest v n s t a b = let x : s < t → ⊥ = none_below v n s t a b in let y : t < s → ⊥ = none_below v n t s b a in omega arith
@@ -54,15 +54,15 @@ same_figures f g e0 e1 e2 e3 e4 e5 e6 e7 e8 e9 e10 e11 e12 =
     ∙ ap (λ (x : ℕ). figures_with g.calls g.grants g.refusals g.most_live g.most_used g.size_then g.first_size g.largest_size g.highest g.worst g.worst_region g.worst_free x) e12
 
 pub figures_law : FiguresAreFixed
-figures_law c f g some a b =
-    let la = a.live some in
-    let lb = b.live some in
-    let ua = a.used some in
-    let ub = b.used some in
-    let sa = a.size some in
-    let sb = b.size some in
-    let wa = a.worst some in
-    let wb = b.worst some in
+figures_law c f g a b =
+    let la = a.live in
+    let lb = b.live in
+    let ua = a.used in
+    let ub = b.used in
+    let sa = a.size in
+    let sb = b.size in
+    let wa = a.worst in
+    let wb = b.worst in
     let live : la.0 ≡ lb.0 = one_largest (live_after c) (states c) la.0 lb.0 la.1 lb.1 in
     let used : ua.0 ≡ ub.0 = one_largest (used_after c) (states c) ua.0 ub.0 ua.1 ub.1 in
     let size : sa.0 ≡ sb.0 = one_largest (size_after c) (states c) sa.0 sb.0 sa.1 sb.1 in

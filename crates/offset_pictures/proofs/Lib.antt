@@ -31,6 +31,7 @@ mod Stepped
 mod Tagged
 mod Texts
 mod Ticked
+mod Told
 mod Traced
 mod Watched
 mod Whole

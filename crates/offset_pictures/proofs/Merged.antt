@@ -1,150 +1,164 @@
 -- Where lives are on the picture, and that merging rectangles keeps the places that they cover.
-use Rattle.std.proofs.Common.{◌≡◌, ℕ, ◌+◌, ◌*◌, ◌/◌, ◌<◌, Bool, true, false, ◌||◌, List, [], ◌∷◌, ◌++◌, length, map, take, get_or, Option, Some, None, arith, sym, ◌∙◌, ap, refl, min, take_all, ◌≤◌}
-use Rattle.std.specs.Prelude.{IsPermutation, option_to_list, if◌then◌else◌}
+use Rattle.std.proofs.Common.{◌≡◌, ℕ, ◌+◌, ◌*◌, ◌/◌, ◌%◌, ◌^◌, ◌<◌, ◌≤◌, All, Bool, true, false, not, cond, ◌||◌, List, [], ◌∷◌, map, Option, Some, None, arith, sym, ◌∙◌, ap, ap₂, refl, subst, min}
+use Rattle.std.specs.Prelude.{filter, if◌then◌else◌}
 use Rattle.std.specs.List.{list_any}
 use Rattle.std.proofs.lemmas.Bool.Decides.{nat_tests}
-use Rattle.std.proofs.lemmas.List.{map-append}
-use Rattle.std.proofs.lemmas.List.Folds.{list_any-append, list_any_more}
-use Rattle.std.proofs.lemmas.List.Sorted.{list_any-IsPermutation}
+use Rattle.std.proofs.lemmas.List.Elements.{All-append, All-cons, All-filter, All-head, All-map, All-nil, All-tail}
+use Rattle.std.proofs.lemmas.List.Folds.{list_any-append}
+use Rattle.std.proofs.lemmas.List.Sorted.{IsPermutation-map, list_any-IsPermutation}
+use Rattle.offset_pictures.specs.declared.axes.Axis.{Axis}
 use Rattle.offset_pictures.specs.declared.living.Life.{Life}
+use Rattle.offset_pictures.specs.declared.plots.Plot.{Plot}
 use Rattle.offset_pictures.specs.declared.shapes.Shape.{Shape}
+use Rattle.offset_pictures.specs.Axes.{right_of, up_of}
 use Rattle.offset_pictures.specs.Scales.{along}
-use Rattle.offset_pictures.specs.Merging.{Point, covers, rounded_if_tiny, is_tiny, round_out, shape_of_key, touch, join}
+use Rattle.offset_pictures.specs.Merging.{IsAtTenth, MergedRectanglesCoverLives, Point, covers, is_tiny, join, key_of, large_shapes, merge, merge_after, round_out, rounded_if_tiny, shape_of_key}
+use Rattle.offset_pictures.specs.Merging.{tiny_shapes, touch}
+use Rattle.offset_pictures.specs.Shapes.{shape_of}
+use Rattle.offset_pictures.proofs.Lined.{along_within}
+use Rattle.offset_pictures.specs.Rectangles.{MergedRectanglesAreDrawn}
+use Rattle.offset_pictures.proofs.Parted.{all_young, parted, young}
 
 -- a value that is cut to 64 bits lies where it lay
 pub along_capped : (span most v w : ℕ) → most < 4294967296 → v ≡ min w 18446744073709551615 → along span most v ≡ along span most w
 along_capped span most v w h e = let same : min v most ≡ min w most = omega arith in ap (λ m. m * span / most) same
 
--- two rectangles that touch cover what their union covers
-pub join_covers : (p : Point) (a b : Shape) → touch a b ≡ true → covers p (join a b) ≡ (covers p a || covers p b)
-join_covers p a b h = grind (arith, nat_tests)
-
-or_false : (b : Bool) → (b || false) ≡ b
-or_false true = refl
-or_false false = refl
-
--- what a list covers, with one more at its end
-pub one_more : (p : Point) (xs ys : List Shape) (x : Shape) → ys ≡ xs ++ x ∷ [] → list_any (covers p) ys ≡ (list_any (covers p) xs || covers p x)
-one_more p xs ys x e =
-    ap (list_any (covers p)) e ∙ list_any-append (covers p) xs (x ∷ []) ∙ ap (λ b. list_any (covers p) xs || b) (or_false (covers p x))
-
-any_map : (t : Shape → Bool) (h : Life → Shape) (ls : List Life) → list_any t (map h ls) ≡ list_any (λ l. t (h l)) ls
-any_map t h [] = refl
-any_map t h (l ∷ ls) = ap (λ b. t (h l) || b) (any_map t h ls)
-
--- the rectangles of keys, with one more at its end
-pub one_more_key : (keys more : List ℕ) (key : ℕ) (x : Shape) → more ≡ keys ++ key ∷ [] → shape_of_key key ≡ x → map shape_of_key more ≡ map shape_of_key keys ++ x ∷ []
-one_more_key keys more key x e is = ap (map shape_of_key) e ∙ map-append shape_of_key keys (key ∷ []) ∙ ap (λ (y : Shape). map shape_of_key keys ++ y ∷ []) is
-
-pub one_more_life : (p : Point) (h : Life → Shape) (ls : List Life) (i : ℕ) (d : Life) → i < length ls
-    → list_any (covers p) (map h (take (i + 1) ls)) ≡ (list_any (covers p) (map h (take i ls)) || covers p (h (get_or ls i d)))
-one_more_life p h ls i d less =
-    any_map (covers p) h (take (i + 1) ls) ∙ list_any_more (λ l. covers p (h l)) ls i d less ∙ ap (λ b. b || covers p (h (get_or ls i d))) (sym (any_map (covers p) h (take i ls)))
-
-pub drawn_tiny : (s : Shape) → is_tiny s ≡ true → rounded_if_tiny s ≡ round_out s
-drawn_tiny s e = ap (λ b. if b then round_out s else s) e
-
-pub drawn_plain : (s : Shape) → is_tiny s ≡ false → rounded_if_tiny s ≡ s
-drawn_plain s e = ap (λ b. if b then round_out s else s) e
-
 pub no_last : (o : Option Shape) → ((x : Shape) → o ≡ Some x → ⊥) → o ≡ None
 no_last None h = refl
 no_last (Some x) h = absurd (h x refl)
 
--- a life whose rectangle is tiny, and one whose rectangle is not
-or_right : (a b c d : Bool) → (a || b) ≡ c → (a || (b || d)) ≡ (c || d)
-or_right true b c d e = ap (λ x. x || d) e
-or_right false b c d e = ap (λ x. x || d) e
+-- ---- merging
 
-or_left : (a b c d : Bool) → (a || b) ≡ c → ((a || d) || b) ≡ (c || d)
-or_left true b c d e = ap (λ x. x || d) e
-or_left false true c true e = ap (λ x. x || true) e
-or_left false true c false e = ap (λ x. x || false) e
-or_left false false c true e = ap (λ x. x || true) e
-or_left false false c false e = ap (λ x. x || false) e
-
-pub tiny_life : (p : Point) (found tiny tinier : List Shape) (h : Life → Shape) (ls : List Life) (i : ℕ) (d : Life) (x : Shape) → i < length ls → tinier ≡ tiny ++ x ∷ [] → x ≡ h (get_or ls i d)
-    → (list_any (covers p) found || list_any (covers p) tiny) ≡ list_any (covers p) (map h (take i ls))
-    → (list_any (covers p) found || list_any (covers p) tinier) ≡ list_any (covers p) (map h (take (i + 1) ls))
-tiny_life p found tiny tinier h ls i d x less e is before =
-    ap (λ b. list_any (covers p) found || b) (one_more p tiny tinier x e) ∙ or_right (list_any (covers p) found) (list_any (covers p) tiny) _ (covers p x) before
-    ∙ ap (λ y. list_any (covers p) (map h (take i ls)) || covers p y) is ∙ sym (one_more_life p h ls i d less)
-
-pub plain_life : (p : Point) (found more tiny : List Shape) (h : Life → Shape) (ls : List Life) (i : ℕ) (d : Life) (x : Shape) → i < length ls → more ≡ found ++ x ∷ [] → x ≡ h (get_or ls i d)
-    → (list_any (covers p) found || list_any (covers p) tiny) ≡ list_any (covers p) (map h (take i ls))
-    → (list_any (covers p) more || list_any (covers p) tiny) ≡ list_any (covers p) (map h (take (i + 1) ls))
-plain_life p found more tiny h ls i d x less e is before =
-    ap (λ b. b || list_any (covers p) tiny) (one_more p found more x e) ∙ or_left (list_any (covers p) found) (list_any (covers p) tiny) _ (covers p x) before
-    ∙ ap (λ y. list_any (covers p) (map h (take i ls)) || covers p y) is ∙ sym (one_more_life p h ls i d less)
-
--- the rectangles that are done, and the last one, which may still grow
-abbrev pub so_far : Point → List Shape → Option Shape → Bool
-so_far p found last = list_any (covers p) found || list_any (covers p) (option_to_list last)
+-- two rectangles that touch cover what their union covers
+join_covers : (p : Point) (a b : Shape) → touch a b ≡ true → covers p (join a b) ≡ (covers p a || covers p b)
+join_covers p a b h = grind (arith, nat_tests)
 
 assoc : (r t b : Bool) → ((r || t) || b) ≡ (r || (t || b))
 assoc true t b = refl
 assoc false t b = refl
 
-shift_join : (f a b : Bool) → (f || ((a || b) || false)) ≡ ((f || (a || false)) || b)
-shift_join true a b = refl
-shift_join false true b = refl
-shift_join false false b = or_false b
+after_step : (p : Point) (a b : Shape) (bs : List Shape) (t : Bool) → touch a b ≡ t → list_any (covers p) (merge_after (join a b) bs) ≡ (covers p (join a b) || list_any (covers p) bs)
+    → list_any (covers p) (merge_after b bs) ≡ (covers p b || list_any (covers p) bs)
+    → list_any (covers p) (if t then merge_after (join a b) bs else a ∷ merge_after b bs) ≡ (covers p a || (covers p b || list_any (covers p) bs))
+after_step p a b bs true e joined apart = joined ∙ ap (λ x. x || list_any (covers p) bs) (join_covers p a b e) ∙ assoc (covers p a) (covers p b) (list_any (covers p) bs)
+after_step p a b bs false e joined apart = ap (λ x. covers p a || x) apart
 
-shift_push : (f a b : Bool) → ((f || a) || (b || false)) ≡ ((f || (a || false)) || b)
-shift_push true a b = refl
-shift_push false true b = refl
-shift_push false false b = or_false b
+-- a rectangle, as far as it has grown, and those after it
+after_covers : (p : Point) (a : Shape) (bs : List Shape) → list_any (covers p) (merge_after a bs) ≡ (covers p a || list_any (covers p) bs)
+after_covers p a [] = refl
+after_covers p a (b ∷ bs) = after_step p a b bs (touch a b) refl (after_covers p (join a b) bs) (after_covers p b bs)
 
-shift_start : (f b : Bool) → (f || (b || false)) ≡ ((f || false) || b)
-shift_start true b = refl
-shift_start false b = or_false b
+merge_covers : (p : Point) (bs : List Shape) → list_any (covers p) (merge bs) ≡ list_any (covers p) bs
+merge_covers p [] = refl
+merge_covers p (b ∷ bs) = after_covers p b bs
 
--- one more tiny rectangle is covered, where it is covered beside the rectangles before
-more_covered : (p : Point) (tiny : List Shape) (i : ℕ) (d b : Shape) (now before rest : Bool) → i < length tiny → b ≡ get_or tiny i d → now ≡ (before || covers p b)
-    → before ≡ (rest || list_any (covers p) (take i tiny)) → now ≡ (rest || list_any (covers p) (take (i + 1) tiny))
-more_covered p tiny i d b now before rest less is shifted e =
-    shifted ∙ ap (λ x. x || covers p b) e ∙ assoc rest (list_any (covers p) (take i tiny)) (covers p b) ∙ ap (λ x. rest || (list_any (covers p) (take i tiny) || covers p x)) is
-    ∙ ap (λ x. rest || x) (sym (list_any_more (covers p) tiny i d less))
+-- ---- numbers of rectangles
 
--- it is joined to the last one
-pub joins_last : (p : Point) (found more tiny : List Shape) (last next : Option Shape) (i : ℕ) (d a b : Shape) (rest : Bool) → i < length tiny → b ≡ get_or tiny i d → more ≡ found → last ≡ Some a
-    → next ≡ Some (join a b) → touch a b ≡ true → so_far p found last ≡ (rest || list_any (covers p) (take i tiny)) → so_far p more next ≡ (rest || list_any (covers p) (take (i + 1) tiny))
-joins_last p found more tiny last next i d a b rest less is found-is last-is next-is h before =
-    let shifted : so_far p more next ≡ (so_far p found last || covers p b) =
-    ap (λ x. so_far p x next) found-is ∙ ap (so_far p found) next-is ∙ ap (λ x. list_any (covers p) found || (x || false)) (join_covers p a b h)
-    ∙ shift_join (list_any (covers p) found) (covers p a) (covers p b) ∙ ap (λ x. so_far p found x || covers p b) (sym last-is) in
-    more_covered p tiny i d b (so_far p more next) (so_far p found last) rest less is shifted before
+abbrev shape_with : ℕ → ℕ → ℕ → ℕ → ℕ → Shape
+shape_with t b g l r = record { top = t; bottom = b; age = g; left = l; right = r }
 
--- the last one is done, and it becomes the last one
-pub pushes_last : (p : Point) (found more tiny : List Shape) (last next : Option Shape) (i : ℕ) (d a b : Shape) (rest : Bool) → i < length tiny → b ≡ get_or tiny i d → more ≡ found ++ a ∷ []
-    → last ≡ Some a → next ≡ Some b → so_far p found last ≡ (rest || list_any (covers p) (take i tiny)) → so_far p more next ≡ (rest || list_any (covers p) (take (i + 1) tiny))
-pushes_last p found more tiny last next i d a b rest less is more-is last-is next-is before =
-    let shifted : so_far p more next ≡ (so_far p found last || covers p b) =
-    ap (so_far p more) next-is ∙ ap (λ x. x || (covers p b || false)) (one_more p found more a more-is) ∙ shift_push (list_any (covers p) found) (covers p a) (covers p b)
-    ∙ ap (λ x. so_far p found x || covers p b) (sym last-is) in
-    more_covered p tiny i d b (so_far p more next) (so_far p found last) rest less is shifted before
+same_shape : (t b g l r t' b' g' l' r' : ℕ) → t ≡ t' → b ≡ b' → g ≡ g' → l ≡ l' → r ≡ r' → shape_with t b g l r ≡ shape_with t' b' g' l' r'
+same_shape t b g l r t' b' g' l' r' x y z u v = ap (λ n. shape_with n b g l r) x ∙ ap (λ n. shape_with t' n g l r) y ∙ ap (λ n. shape_with t' b' n l r) z ∙ ap₂ (shape_with t' b' g') u v
 
--- it is the first one
-pub starts_last : (p : Point) (found more tiny : List Shape) (last next : Option Shape) (i : ℕ) (d b : Shape) (rest : Bool) → i < length tiny → b ≡ get_or tiny i d → more ≡ found → last ≡ None
-    → next ≡ Some b → so_far p found last ≡ (rest || list_any (covers p) (take i tiny)) → so_far p more next ≡ (rest || list_any (covers p) (take (i + 1) tiny))
-starts_last p found more tiny last next i d b rest less is more-is last-is next-is before =
-    let shifted : so_far p more next ≡ (so_far p found last || covers p b) =
-    ap (λ x. so_far p x next) more-is ∙ ap (so_far p found) next-is ∙ shift_start (list_any (covers p) found) (covers p b) ∙ ap (λ x. so_far p found x || covers p b) (sym last-is) in
-    more_covered p tiny i d b (so_far p more next) (so_far p found last) rest less is shifted before
+-- the number of a rectangle is that of no other
+key_back : (s : Shape) → IsAtTenth s.top → IsAtTenth s.bottom → IsAtTenth s.left → IsAtTenth s.right → s.age < 8 → shape_of_key (key_of s) ≡ s
+unfolding shape_of_key
+key_back s top bottom left right age =
+    let t = top.0 in let t' = top.1 in let b = bottom.0 in let b' = bottom.1 in let l = left.0 in let l' = left.1 in let r = right.0 in let r' = right.1 in
+    same_shape (key_of s / 2 ^ 45 * 10) (key_of s / 2 ^ 31 % 2 ^ 14 * 10) (key_of s / 2 ^ 28 % 8) (key_of s / 2 ^ 14 % 2 ^ 14 * 10) (key_of s % 2 ^ 14 * 10) s.top s.bottom s.age s.left s.right
+    (omega arith) (omega arith) (omega arith) (omega arith) (omega arith)
 
--- in the end the last one is done too
-pub ends_with : (p : Point) (found more : List Shape) (last : Option Shape) (a : Shape) → more ≡ found ++ a ∷ [] → last ≡ Some a → list_any (covers p) more ≡ so_far p found last
-ends_with p found more last a more-is last-is =
-    one_more p found more a more-is ∙ ap (λ x. list_any (covers p) found || x) (sym (or_false (covers p a))) ∙ ap (so_far p found) (sym last-is)
+tenth_below : (n : ℕ) → n ≤ 120000 → IsAtTenth (n / 10 * 10)
+tenth_below n h = (omega arith, omega arith)
 
-pub ends_without : (p : Point) (found more : List Shape) (last : Option Shape) → more ≡ found → last ≡ None → list_any (covers p) more ≡ so_far p found last
-ends_without p found more last more-is last-is =
-    ap (list_any (covers p)) more-is ∙ sym (or_false (list_any (covers p) found)) ∙ ap (so_far p found) (sym last-is)
+tenth_above : (n : ℕ) → n ≤ 120000 → IsAtTenth ((n + 9) / 10 * 10)
+tenth_above n h = (omega arith, omega arith)
 
--- what the sorted tiny rectangles cover is what the lives do
-pub all_covered : (p : Point) (found tiny sorted : List Shape) (h : Life → Shape) (ls : List Life) (i j : ℕ) (now : Bool) → length ls ≤ i → length sorted ≤ j → IsPermutation tiny sorted
-    → (list_any (covers p) found || list_any (covers p) tiny) ≡ list_any (covers p) (map h (take i ls)) → now ≡ (list_any (covers p) found || list_any (covers p) (take j sorted))
-    → now ≡ list_any (covers p) (map h ls)
-all_covered p found tiny sorted h ls i j now all all_sorted same before e =
-    e ∙ ap (λ xs. list_any (covers p) found || list_any (covers p) xs) (take_all j sorted all_sorted)
-    ∙ ap (λ b. list_any (covers p) found || b) (sym (list_any-IsPermutation (covers p) tiny sorted same)) ∙ before ∙ ap (λ xs. list_any (covers p) (map h xs)) (take_all i ls all)
+-- an axis is on the picture
+up_within : (a : Axis) (value : ℕ) → up_of a value ≤ 120000
+up_within a value = let within = a.within in omega arith
+
+right_within : (a : Axis) (value : ℕ) → right_of a value ≤ 120000
+right_within a value = let within = a.within in let short = along_within a.span a.most value a.positive in omega arith
+
+rounded_back : (plot : Plot) (l : Life) → shape_of_key (key_of (round_out (shape_of plot l))) ≡ round_out (shape_of plot l)
+rounded_back plot l =
+    let s : Shape = shape_of plot l in
+    key_back (round_out s) (tenth_below s.top (up_within plot.units (l.offset + l.size))) (tenth_above s.bottom (up_within plot.units l.offset))
+    (tenth_below s.left (right_within plot.calls (l.first + 1))) (tenth_above s.right (right_within plot.calls (l.last + 1))) (young l.lived)
+
+back_step : (s : Shape) (rest : List Shape) (t : Bool) → shape_of_key (key_of (round_out s)) ≡ round_out s → map shape_of_key (map key_of (map round_out rest)) ≡ map round_out rest
+    → map shape_of_key (map key_of (map round_out (cond t (s ∷ rest) rest))) ≡ map round_out (cond t (s ∷ rest) rest)
+back_step s rest true e h = ap₂ (λ x xs. x ∷ xs) e h
+back_step s rest false e h = h
+
+keys_back : (plot : Plot) (ls : List Life) → map shape_of_key (map key_of (tiny_shapes plot ls)) ≡ tiny_shapes plot ls
+keys_back plot [] = refl
+keys_back plot (l ∷ ls) = back_step (shape_of plot l) (filter is_tiny (map (shape_of plot) ls)) (is_tiny (shape_of plot l)) (rounded_back plot l) (keys_back plot ls)
+
+-- ---- lives
+
+or_second : (a x b r : Bool) → (a || b) ≡ r → (a || (x || b)) ≡ (x || r)
+or_second true true b r e = refl
+or_second true false b r e = e
+or_second false x b r e = ap (λ y. x || y) e
+
+or_first : (a x b r : Bool) → (a || b) ≡ r → ((x || a) || b) ≡ (x || r)
+or_first a true b r e = refl
+or_first a false b r e = e
+
+parts_step : (p : Point) (s : Shape) (large tiny : List Shape) (rest : Bool) (t : Bool) → is_tiny s ≡ t → (list_any (covers p) large || list_any (covers p) (map round_out tiny)) ≡ rest
+    → (list_any (covers p) (cond (not t) (s ∷ large) large) || list_any (covers p) (map round_out (cond t (s ∷ tiny) tiny))) ≡ (covers p (if t then round_out s else s) || rest)
+parts_step p s large tiny rest true e h = or_second (list_any (covers p) large) (covers p (round_out s)) (list_any (covers p) (map round_out tiny)) rest h
+parts_step p s large tiny rest false e h = or_first (list_any (covers p) large) (covers p s) (list_any (covers p) (map round_out tiny)) rest h
+
+-- the rectangles that are not tiny, and those that are, rounded
+parts_cover : (p : Point) (plot : Plot) (ls : List Life)
+    → (list_any (covers p) (large_shapes plot ls) || list_any (covers p) (tiny_shapes plot ls)) ≡ list_any (covers p) (map (λ l. rounded_if_tiny (shape_of plot l)) ls)
+parts_cover p plot [] = refl
+parts_cover p plot (l ∷ ls) =
+    parts_step p (shape_of plot l) (large_shapes plot ls) (filter is_tiny (map (shape_of plot) ls)) (list_any (covers p) (map (λ k. rounded_if_tiny (shape_of plot k)) ls)) (is_tiny (shape_of plot l)) refl
+    (parts_cover p plot ls)
+
+pub covers_law : MergedRectanglesCoverLives
+covers_law plot lives shapes m p =
+    ap (list_any (covers p)) m.3 ∙ list_any-append (covers p) (large_shapes plot lives) (merge (map shape_of_key m.0))
+    ∙ ap (λ b. list_any (covers p) (large_shapes plot lives) || b)
+    (merge_covers p (map shape_of_key m.0)
+    ∙ sym (list_any-IsPermutation (covers p) (map shape_of_key (map key_of (tiny_shapes plot lives))) (map shape_of_key m.0) (IsPermutation-map shape_of_key (map key_of (tiny_shapes plot lives)) m.0 m.1))
+    ∙ ap (list_any (covers p)) (keys_back plot lives))
+    ∙ parts_cover p plot lives
+
+-- ---- ages
+
+abbrev IsYoung : Shape → Type 0
+IsYoung s = s.age < 8
+
+after_young_step : (a b : Shape) (bs : List Shape) (t : Bool) → IsYoung a → All IsYoung (merge_after (join a b) bs) → All IsYoung (merge_after b bs)
+    → All IsYoung (if t then merge_after (join a b) bs else a ∷ merge_after b bs)
+after_young_step a b bs true young joined apart = joined
+after_young_step a b bs false young joined apart = All-cons IsYoung a (merge_after b bs) young apart
+
+after_young : (a : Shape) (bs : List Shape) → IsYoung a → All IsYoung bs → All IsYoung (merge_after a bs)
+after_young a [] young h = All-cons IsYoung a [] young (All-nil IsYoung)
+after_young a (b ∷ bs) young h =
+    let rest = All-tail IsYoung b bs h in
+    after_young_step a b bs (touch a b) young (after_young (join a b) bs young rest) (after_young b bs (All-head IsYoung b bs h) rest)
+
+merged_young : (bs : List Shape) → All IsYoung bs → All IsYoung (merge bs)
+merged_young [] h = All-nil IsYoung
+merged_young (b ∷ bs) h = after_young b bs (All-head IsYoung b bs h) (All-tail IsYoung b bs h)
+
+key_young : (key : ℕ) → IsYoung (shape_of_key key)
+unfolding shape_of_key
+key_young key = omega arith
+
+keys_young : (keys : List ℕ) → All IsYoung (map shape_of_key keys)
+keys_young [] = All-nil IsYoung
+keys_young (k ∷ ks) = All-cons IsYoung (shape_of_key k) (map shape_of_key ks) (key_young k) (keys_young ks)
+
+pub drawn_law : MergedRectanglesAreDrawn
+drawn_law plot lives shapes m =
+    let large = All-filter (λ s. not (is_tiny s)) IsYoung (map (shape_of plot) lives) (All-map IsYoung (shape_of plot) lives (all_young lives)) in
+    let all = All-append IsYoung (large_shapes plot lives) (merge (map shape_of_key m.0)) large (merged_young (map shape_of_key m.0) (keys_young m.0)) in
+    parted (λ s. s.age) 8 shapes (subst (All IsYoung) (sym m.3) all)

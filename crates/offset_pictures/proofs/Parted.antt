@@ -42,7 +42,7 @@ same_parts key n zero xs l = refl
 same_parts key n (suc m) xs l = ap₂ (λ a b. a ++ b) (same_keyed key n m xs (omega arith)) (same_parts key n m xs (omega arith))
 
 -- the parts with the keys below n are all elements, where all keys are below n
-parted : {X : Type 0} (key : X → ℕ) (n : ℕ) (xs : List X) → All (λ x. key x < n) xs → IsPermutation xs (flat_map (keyed key xs) (falling_below n))
+pub parted : {X : Type 0} (key : X → ℕ) (n : ℕ) (xs : List X) → All (λ x. key x < n) xs → IsPermutation xs (flat_map (keyed key xs) (falling_below n))
 parted key zero [] h = IsPermutation-refl []
 parted key zero (x ∷ xs) h = let none : key x < 0 = All-head (λ y. key y < 0) x xs h in absurd (omega arith)
 parted key (suc n) xs h =
@@ -52,11 +52,11 @@ parted key (suc n) xs h =
     (IsPermutation-append_right (keyed key xs n) rest (flat_map (keyed key xs) (falling_below n))
     (subst (λ ys. IsPermutation rest ys) (same_parts key n n xs (omega arith)) (parted key n rest (kept key n xs h))))
 
-young : (calls : ℕ) → age_of calls < 8
+pub young : (calls : ℕ) → age_of calls < 8
 young calls =
     let most : age_of calls ≤ 7 = count_by-le-length (λ m. nat_lt m calls) (10 ∷ 30 ∷ 100 ∷ 300 ∷ 1000 ∷ 3000 ∷ 10000 ∷ []) in omega arith
 
-all_young : (lives : List Life) → All (λ l. age_of l.lived < 8) lives
+pub all_young : (lives : List Life) → All (λ l. age_of l.lived < 8) lives
 all_young [] = All-nil (λ l. age_of l.lived < 8)
 all_young (l ∷ ls) = All-cons (λ k. age_of k.lived < 8) l ls (young l.lived) (all_young ls)
 

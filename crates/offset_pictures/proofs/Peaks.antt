@@ -22,17 +22,13 @@ picks : {A : Type 0} (value : ℕ → A) (b : Bool) (n m : ℕ) → value (if b 
 picks value true n m = refl
 picks value false n m = refl
 
-either : (b : Bool) → (if b then zero else zero) ≡ zero
-either true = refl
-either false = refl
-
 larger_by : (value : ℕ → ℕ) (n m : ℕ) (b : Bool) → nat_lt (value m) (value n) ≡ b → IsFirstLargest value n m → IsFirstLargest value (n + 1) (if b then n else m)
 larger_by value n m true e h =
     let more : value m < value n = grind (arith, nat_tests) in
     (omega arith, below_more (λ k. value k ≤ value n) n (λ k less. omega (arith, h.1 k less)) (omega arith), λ k less. omega (arith, h.1 k less))
 larger_by value n m false e h =
     let no_more : value n ≤ value m = grind (arith, nat_tests) in
-    (omega arith, below_more (λ k. value k ≤ value m) n h.1 no_more, h.2)
+    (let first = h.0 in omega arith, below_more (λ k. value k ≤ value m) n h.1 no_more, h.2)
 
 smaller_by : (value : ℕ → ℕ) (n m : ℕ) (b : Bool) → nat_lt (value n) (value m) ≡ b → IsFirstSmallest value n m → IsFirstSmallest value (n + 1) (if b then n else m)
 smaller_by value n m true e h =
@@ -40,27 +36,19 @@ smaller_by value n m true e h =
     (omega arith, below_more (λ k. value n ≤ value k) n (λ k less. omega (arith, h.1 k less)) (omega arith), λ k less. omega (arith, h.1 k less))
 smaller_by value n m false e h =
     let no_less : value m ≤ value n = grind (arith, nat_tests) in
-    (omega arith, below_more (λ k. value m ≤ value k) n h.1 no_less, h.2)
+    (let first = h.0 in omega arith, below_more (λ k. value m ≤ value k) n h.1 no_less, h.2)
 
-pub first_largest_is : (value : ℕ → ℕ) (n : ℕ) → 0 < n → IsFirstLargest value n (first_largest value n)
-first_largest_is value zero h = absurd (omega arith)
-first_largest_is value (suc zero) h =
-    let here : IsFirstLargest value 1 0 = (omega arith, below_more (λ k. value k ≤ value 0) 0 (λ k less. absurd (omega arith)) (omega arith), λ k less. absurd (omega arith)) in
-    subst (IsFirstLargest value 1) (sym (either (nat_lt (value 0) (value 0)))) here
-first_largest_is value (suc (suc n)) h =
-    let m : ℕ = first_largest value (suc n) in
-    subst (λ k. IsFirstLargest value k (first_largest value (suc (suc n)))) (add-one (suc n))
-    (larger_by value (suc n) m (nat_lt (value m) (value (suc n))) refl (first_largest_is value (suc n) (omega arith)))
+pub first_largest_is : (value : ℕ → ℕ) (n : ℕ) → IsFirstLargest value n (first_largest value n)
+first_largest_is value zero = (omega arith, λ k less. absurd (omega arith), λ k less. absurd (omega arith))
+first_largest_is value (suc n) =
+    let m : ℕ = first_largest value n in
+    subst (λ k. IsFirstLargest value k (first_largest value (suc n))) (add-one n) (larger_by value n m (nat_lt (value m) (value n)) refl (first_largest_is value n))
 
-pub first_smallest_is : (value : ℕ → ℕ) (n : ℕ) → 0 < n → IsFirstSmallest value n (first_smallest value n)
-first_smallest_is value zero h = absurd (omega arith)
-first_smallest_is value (suc zero) h =
-    let here : IsFirstSmallest value 1 0 = (omega arith, below_more (λ k. value 0 ≤ value k) 0 (λ k less. absurd (omega arith)) (omega arith), λ k less. absurd (omega arith)) in
-    subst (IsFirstSmallest value 1) (sym (either (nat_lt (value 0) (value 0)))) here
-first_smallest_is value (suc (suc n)) h =
-    let m : ℕ = first_smallest value (suc n) in
-    subst (λ k. IsFirstSmallest value k (first_smallest value (suc (suc n)))) (add-one (suc n))
-    (smaller_by value (suc n) m (nat_lt (value (suc n)) (value m)) refl (first_smallest_is value (suc n) (omega arith)))
+pub first_smallest_is : (value : ℕ → ℕ) (n : ℕ) → IsFirstSmallest value n (first_smallest value n)
+first_smallest_is value zero = (omega arith, λ k less. absurd (omega arith), λ k less. absurd (omega arith))
+first_smallest_is value (suc n) =
+    let m : ℕ = first_smallest value n in
+    subst (λ k. IsFirstSmallest value k (first_smallest value (suc n))) (add-one n) (smaller_by value n m (nat_lt (value n) (value m)) refl (first_smallest_is value n))
 
 -- the value there, after one more state
 larger_of : (a b : ℕ) → (if nat_lt a b then b else a) ≡ max b a
@@ -147,9 +135,9 @@ has_seen_none f c s no_grants no_units = record {
 pub all_seen : (f : Figures) (c : Course) → HasSeen (states c) f c → AreFigures f c
 all_seen f c h = record {
   totals = h.totals;
-  live = λ some. (first_largest (live_after c) (states c), first_largest_is (live_after c) (states c) some, h.live);
-  used = λ some. (first_largest (used_after c) (states c), first_largest_is (used_after c) (states c) some, h.used, h.size_then);
-  size = λ some. (first_largest (size_after c) (states c), first_largest_is (size_after c) (states c) some, h.size);
-  worst = λ some. (first_smallest (region_after c) (states c), first_smallest_is (region_after c) (states c) some, h.worst, h.region, h.free);
+  live = (first_largest (live_after c) (states c), first_largest_is (live_after c) (states c), h.live);
+  used = (first_largest (used_after c) (states c), first_largest_is (used_after c) (states c), h.used, h.size_then);
+  size = (first_largest (size_after c) (states c), first_largest_is (size_after c) (states c), h.size);
+  worst = (first_smallest (region_after c) (states c), first_smallest_is (region_after c) (states c), h.worst, h.region, h.free);
   full = h.full;
 }

@@ -1,8 +1,7 @@
--- Two pictures of one script are one.
+-- Two pictures of one course are one, and so are two of one script.
 use Rattle.std.proofs.Common.{◌≡◌, ℕ, suc, ◌+◌, ◌-◌, ◌<◌, ◌≤◌, ◌∙◌, Bool, true, false, cond, ◌&&◌, List, [], ◌∷◌, ◌++◌}
 use Rattle.std.proofs.Common.{Option, Some, None, All, codes, length, map, nat_eq, nat_lt, refl, sym, ap, ap₂, subst, arith, eqb-true, eq-eqb, if◌then◌else◌}
 use Rattle.std.proofs.Math.Bridge.{le_prop}
-use Rattle.std.proofs.Math.ListN.{length-map}
 use Rattle.std.proofs.lemmas.List.Elements.{All-cons, All-head, All-tail, All-weaker}
 use Rattle.std.proofs.lemmas.List.Sorted.{sum_by-IsPermutation}
 use Rattle.std.proofs.lemmas.List.Sums.{sum_by-cons}
@@ -17,17 +16,16 @@ use Rattle.offset_pictures.specs.declared.living.Life.{Life}
 use Rattle.offset_pictures.specs.declared.plots.Plot.{Plot}
 use Rattle.offset_pictures.specs.declared.refusing.Refused.{Refused}
 use Rattle.offset_pictures.specs.declared.shapes.Shape.{Shape}
-use Rattle.offset_pictures.specs.Figures.{AreFigures, AreTotals, count_below, counted, end_of, IsFirstLargest, IsFirstSmallest, largest, states}
+use Rattle.offset_pictures.specs.Figures.{AreFigures, AreTotals, count_below, counted, end_of, IsFirstLargest, IsFirstSmallest, largest}
 use Rattle.offset_pictures.specs.Legend.{legend_text, notes_text}
 use Rattle.offset_pictures.specs.Levels.{free_of, joined_of, most_of}
 use Rattle.offset_pictures.specs.Lives.{is_on, life_view}
 use Rattle.offset_pictures.specs.Lives as plain
-use Rattle.offset_pictures.specs.Reports.{report_view, reports_from}
-use Rattle.offset_script.specs.declared.scripts.Command.{Command}
+use Rattle.offset_pictures.specs.Reports.{report_view}
 use Rattle.offset_script.specs.Grammar.{Plan}
-use Rattle.offset_script.specs.Machine.{Answer, Report, State, start}
+use Rattle.offset_script.specs.Machine.{Answer, Report}
 use Rattle.offset_pictures.specs.Merging.{AreMerged, key_of, large_shapes, merge, shape_of_key, tiny_shapes}
-use Rattle.offset_pictures.specs.Picture.{IsBody, IsPictureOf, opening, PicturesAreFixed, style}
+use Rattle.offset_pictures.specs.Picture.{IsBody, IsPictureOf, opening, PicturesAreFixed, ScriptsFixTheirPictures, style}
 use Rattle.offset_pictures.specs.Course.{IsCourse}
 use Rattle.offset_pictures.specs.Plots.{IsPlot, bottom_of, ranges_end, reports_end}
 use Rattle.offset_pictures.specs.Shapes.{shape_of}
@@ -194,13 +192,13 @@ like_totals c d f e x = record {
 like_figures : (c d : Course) (f : Figures) → IsLike c d → AreFigures f c → AreFigures f d
 like_figures c d f e x = record {
   totals = like_totals c d f e x.totals;
-  live = like_read c d (λ ls rs ss. 0 < states_in rs ss → (s : ℕ) × IsFirstLargest (live_in ls) (states_in rs ss) s × (f.most_live ≡ live_in ls s)) e x.live;
+  live = like_read c d (λ ls rs ss. (s : ℕ) × IsFirstLargest (live_in ls) (states_in rs ss) s × (f.most_live ≡ live_in ls s)) e x.live;
   used =
-      like_read c d (λ ls rs ss. 0 < states_in rs ss → (s : ℕ) × IsFirstLargest (used_in ls) (states_in rs ss) s × (f.most_used ≡ used_in ls s) × (f.size_then ≡ size_in ss s)) e x.used;
-  size = like_read c d (λ ls rs ss. 0 < states_in rs ss → (s : ℕ) × IsFirstLargest (size_in ss) (states_in rs ss) s × (f.largest_size ≡ size_in ss s)) e x.size;
+      like_read c d (λ ls rs ss. (s : ℕ) × IsFirstLargest (used_in ls) (states_in rs ss) s × (f.most_used ≡ used_in ls s) × (f.size_then ≡ size_in ss s)) e x.used;
+  size = like_read c d (λ ls rs ss. (s : ℕ) × IsFirstLargest (size_in ss) (states_in rs ss) s × (f.largest_size ≡ size_in ss s)) e x.size;
   worst =
       like_read c d
-      (λ ls rs ss. 0 < states_in rs ss → (s : ℕ) × IsFirstSmallest (region_in rs) (states_in rs ss) s × (f.worst ≡ counted s) × (f.worst_region ≡ region_in rs s) × (f.worst_free ≡ free_in rs s)) e
+      (λ ls rs ss. (s : ℕ) × IsFirstSmallest (region_in rs) (states_in rs ss) s × (f.worst ≡ counted s) × (f.worst_region ≡ region_in rs s) × (f.worst_free ≡ free_in rs s)) e
       x.worst;
   full = like_read c d (λ ls rs ss. f.full_states ≡ counted (count_below (λ s. nat_lt (used_in ls s) (size_in ss s) && nat_eq (free_in rs s) 0) (states_in rs ss))) e x.full;
 }
@@ -215,9 +213,9 @@ whole f nodes p q sizes refused reports rectangles merged =
     ++ line_text (codes "most") q (bottom_of q) (map most_of reports))
     ++ axes_text q 4 12 ++ notes_text merged
 
-pub one_body : (c d : Course) (a b : List ℕ) → IsLike c d → 0 < states d → IsBody c a → IsBody d b → a ≡ b
-one_body c d a b e some x y =
-    let f : x.figures ≡ y.figures = figures_law d x.figures y.figures some (like_figures c d x.figures e x.are) y.are in
+pub one_body : (c d : Course) (a b : List ℕ) → IsLike c d → IsBody c a → IsBody d b → a ≡ b
+one_body c d a b e x y =
+    let f : x.figures ≡ y.figures = figures_law d x.figures y.figures (like_figures c d x.figures e x.are) y.are in
     let p : x.ranges ≡ y.ranges = one_plot x.ranges y.ranges x.is_ranges y.is_ranges (ap (λ g. g.calls) f) (ap ranges_end f) in
     let q : x.reports ≡ y.reports = one_plot x.reports y.reports x.is_reports y.is_reports (ap (λ g. g.calls) f) (ap reports_end f) in
     let here : AreRectangles y.ranges d.lives.items y.figures.calls x.merged x.rectangles =
@@ -234,11 +232,11 @@ one_body c d a b e some x y =
     ∙ ap₂ (λ t m. whole y.figures d.max_allocs y.ranges y.reports d.sizes.items d.refused.items d.reports.items t m) g.1 g.0
     ∙ sym y.is
 
-pub one_picture : (title : List ℕ) (c d : Course) (a b : List ℕ) → IsLike c d → 0 < states d → IsPictureOf title c a → IsPictureOf title d b → a ≡ b
-one_picture title c d a b e some x y =
+pub one_picture : (title : List ℕ) (c d : Course) (a b : List ℕ) → IsLike c d → IsPictureOf title c a → IsPictureOf title d b → a ≡ b
+one_picture title c d a b e x y =
     x.is
     ∙ ap (λ body. opening ++ escaped title ++ codes "</title>\n" ++ style ++ heading_text title ++ body ++ codes "</svg>\n")
-    (one_body c d x.body y.body e some x.is_body y.is_body)
+    (one_body c d x.body y.body e x.is_body y.is_body)
     ∙ sym y.is
 
 -- ---- two courses of one script
@@ -249,10 +247,6 @@ life_of l = record { number = l.number; offset = l.offset; size = l.size; first 
 report_of : Answer → StorageReport
 report_of (Report free largest) = record { total_free_space = free; largest_free_region = largest }
 report_of other = record { total_free_space = 0; largest_free_region = 0 }
-
-some_reports : (cs : List Command) (s : State) → 0 < length (reports_from cs s)
-some_reports [] s = omega arith
-some_reports (c ∷ cs) s = omega arith
 
 like_courses : (plan : Plan) (c d : Course) → IsCourse plan c → IsCourse plan d → IsLike c d
 unfolding life_of report_of
@@ -267,12 +261,9 @@ like_courses plan c d x y =
       refused = x.refused ∙ sym y.refused;
     }
 
-some_states : (plan : Plan) (c : Course) → IsCourse plan c → 0 < states c
-some_states plan c x =
-    let reports = length-map c.reports.items report_view in
-    let some = some_reports plan.commands (start plan.header.size plan.header.max_allocs) in
-    omega (arith, x.sizes.0, ap length x.reports)
+pub scripts_law : ScriptsFixTheirPictures
+scripts_law title plan a b x y =
+    one_picture title x.course y.course a b (like_courses plan x.course y.course x.is_course y.is_course) x.is_picture y.is_picture
 
 pub pictures_law : PicturesAreFixed
-pictures_law title plan a b x y =
-    one_picture title x.course y.course a b (like_courses plan x.course y.course x.is_course y.is_course) (some_states plan y.course y.is_course) x.is_picture y.is_picture
+pictures_law title c a b x y = one_picture title c c a b (record { nodes = refl; grants = refl; lives = refl; reports = refl; sizes = refl; refused = refl }) x y

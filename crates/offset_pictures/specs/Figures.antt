@@ -38,12 +38,12 @@ free_after c s = slice_index (map (λ r. r.total_free_space) c.reports.items) s
 abbrev pub is_full_after : Course → ℕ → Bool
 is_full_after c s = nat_lt (used_after c s) (size_after c s) && nat_eq (free_after c s) 0
 
--- the first of the states 0 .. n - 1 with the largest value, and with the smallest
+-- the first of the states 0 .. n - 1 with the largest value, and with the smallest; where there are none, it is state 0
 abbrev pub IsFirstLargest : (ℕ → ℕ) → ℕ → ℕ → Type 0
-IsFirstLargest value n s = (s < n) × ((k : ℕ) → k < n → value k ≤ value s) × ((k : ℕ) → k < s → value k < value s)
+IsFirstLargest value n s = (s < max n 1) × ((k : ℕ) → k < n → value k ≤ value s) × ((k : ℕ) → k < s → value k < value s)
 
 abbrev pub IsFirstSmallest : (ℕ → ℕ) → ℕ → ℕ → Type 0
-IsFirstSmallest value n s = (s < n) × ((k : ℕ) → k < n → value s ≤ value k) × ((k : ℕ) → k < s → value s < value k)
+IsFirstSmallest value n s = (s < max n 1) × ((k : ℕ) → k < n → value s ≤ value k) × ((k : ℕ) → k < s → value s < value k)
 
 -- how many of the states 0 .. n - 1 pass a test
 abbrev pub count_below : (ℕ → Bool) → ℕ → ℕ
@@ -62,12 +62,12 @@ pub record AreTotals (f : Figures) (c : Course) : Type 0 where
   pub first_size : f.first_size ≡ size_after c 0
   pub highest : f.highest ≡ largest (map end_of c.lives.items)
 
--- the numbers of a course: where it has a state, each extreme is that of the first state that has it, and the size then,
--- or the report, is of that state
+-- the numbers of a course: each extreme is that of the first state that has it, and the size then, or the report, is of
+-- that state; of a course without states, it is that of state 0, in which nothing is live
 pub record AreFigures (f : Figures) (c : Course) : Type 0 where
   pub totals : AreTotals f c
-  pub live : 0 < states c → (s : ℕ) × IsFirstLargest (live_after c) (states c) s × (f.most_live ≡ live_after c s)
-  pub used : 0 < states c → (s : ℕ) × IsFirstLargest (used_after c) (states c) s × (f.most_used ≡ used_after c s) × (f.size_then ≡ size_after c s)
-  pub size : 0 < states c → (s : ℕ) × IsFirstLargest (size_after c) (states c) s × (f.largest_size ≡ size_after c s)
-  pub worst : 0 < states c → (s : ℕ) × IsFirstSmallest (region_after c) (states c) s × (f.worst ≡ counted s) × (f.worst_region ≡ region_after c s) × (f.worst_free ≡ free_after c s)
+  pub live : (s : ℕ) × IsFirstLargest (live_after c) (states c) s × (f.most_live ≡ live_after c s)
+  pub used : (s : ℕ) × IsFirstLargest (used_after c) (states c) s × (f.most_used ≡ used_after c s) × (f.size_then ≡ size_after c s)
+  pub size : (s : ℕ) × IsFirstLargest (size_after c) (states c) s × (f.largest_size ≡ size_after c s)
+  pub worst : (s : ℕ) × IsFirstSmallest (region_after c) (states c) s × (f.worst ≡ counted s) × (f.worst_region ≡ region_after c s) × (f.worst_free ≡ free_after c s)
   pub full : f.full_states ≡ counted (count_below (is_full_after c) (states c))

@@ -1,5 +1,6 @@
 -- How the rectangles of many lives are merged. Lengths are in hundredths of a pixel.
 use Rattle.std.specs.Prelude.{◌≡◌, ℕ, ◌+◌, ◌-◌, ◌*◌, ◌/◌, ◌%◌, ◌^◌, ◌≤◌, Bool, ◌&&◌, ◌||◌, not, List, [], ◌∷◌, ◌++◌, IsPermutation, filter, map, nat_eq, nat_lt, nat_le, min, max, if◌then◌else◌}
+use Rattle.std.specs.List.{list_any}
 use Rattle.std.specs.List.Sorted.{IsNonDecreasing}
 use Rattle.offset_pictures.specs.declared.living.Life.{Life}
 use Rattle.offset_pictures.specs.declared.plots.Plot.{Plot}
@@ -74,3 +75,11 @@ abbrev pub AreMerged : Plot → List Life → List Shape → Type 0
 AreMerged plot lives shapes =
     (keys : List ℕ) × IsPermutation (map key_of (tiny_shapes plot lives)) keys × IsNonDecreasing keys
     × (shapes ≡ large_shapes plot lives ++ merge (map shape_of_key keys))
+
+-- the rectangles cover what those of the lives do, the tiny ones rounded, and no point more
+abbrev pub CoverLives : Plot → List Life → List Shape → Type 0
+CoverLives plot lives shapes = (p : Point) → list_any (covers p) shapes ≡ list_any (covers p) (map (λ l. rounded_if_tiny (shape_of plot l)) lives)
+
+-- merging adds and removes no point: each life is covered, and whatever is covered is a life
+abbrev pub MergedRectanglesCoverLives : Type 0
+MergedRectanglesCoverLives = (plot : Plot) (lives : List Life) (shapes : List Shape) → AreMerged plot lives shapes → CoverLives plot lives shapes

@@ -1,11 +1,11 @@
 -- The whole text of a picture.
-use Rattle.std.specs.Prelude.{◌≡◌, ℕ, ◌<◌, List, ◌++◌, IsUtf8, Option, codes}
+use Rattle.std.specs.Prelude.{◌≡◌, ℕ, List, ◌++◌, IsUtf8, Option, codes}
 use Rattle.offset_script.specs.Grammar.{Plan}
 use Rattle.offset_pictures.specs.declared.course.Course.{Course}
 use Rattle.offset_pictures.specs.declared.figures.Figures.{Figures}
 use Rattle.offset_pictures.specs.declared.plots.Plot.{Plot}
 use Rattle.offset_pictures.specs.Course.{IsCourse}
-use Rattle.offset_pictures.specs.Figures.{AreFigures, states}
+use Rattle.offset_pictures.specs.Figures.{AreFigures}
 use Rattle.offset_pictures.specs.Legend.{legend_text, notes_text}
 use Rattle.offset_pictures.specs.Marks.{refusals_text}
 use Rattle.offset_pictures.specs.Plots.{IsPlot, ranges_end, ranges_height, ranges_top, reports_end, reports_height, reports_top}
@@ -74,18 +74,24 @@ abbrev pub HasTitle : List ℕ → List ℕ → Type 0
 HasTitle title text = (inner body : List ℕ)
     × (text ≡ opening ++ escaped title ++ codes "</title>\n" ++ inner ++ heading_text title ++ body ++ codes "</svg>\n")
 
+-- Laws on the pictures of all courses. That of a script is the picture of a course (`IsPicture`), so they hold of it too.
+
 -- each picture is such a text
 abbrev pub PicturesHaveTitles : Type 0
-PicturesHaveTitles = (title : List ℕ) (plan : Plan) (text : List ℕ) → IsPicture title plan text → HasTitle title text
+PicturesHaveTitles = (title : List ℕ) (c : Course) (text : List ℕ) → IsPictureOf title c text → HasTitle title text
 
--- the figures of a course that has a state are fixed
+-- the figures of a course are fixed
 abbrev pub FiguresAreFixed : Type 0
-FiguresAreFixed = (c : Course) (f g : Figures) → 0 < states c → AreFigures f c → AreFigures g c → f ≡ g
+FiguresAreFixed = (c : Course) (f g : Figures) → AreFigures f c → AreFigures g c → f ≡ g
 
--- two pictures of one script, with one title, are the same text
+-- two pictures of one course, with one title, are the same text
 abbrev pub PicturesAreFixed : Type 0
-PicturesAreFixed = (title : List ℕ) (plan : Plan) (a b : List ℕ) → IsPicture title plan a → IsPicture title plan b → a ≡ b
+PicturesAreFixed = (title : List ℕ) (c : Course) (a b : List ℕ) → IsPictureOf title c a → IsPictureOf title c b → a ≡ b
 
 -- each picture whose title is UTF-8 is well-formed XML
 abbrev pub PicturesAreWellFormed : Type 0
-PicturesAreWellFormed = (title : List ℕ) (plan : Plan) (text : List ℕ) → IsUtf8 title → IsPicture title plan text → IsWellFormed text
+PicturesAreWellFormed = (title : List ℕ) (c : Course) (text : List ℕ) → IsUtf8 title → IsPictureOf title c text → IsWellFormed text
+
+-- two courses of one script have the same pictures: so two pictures of one script, with one title, are the same text
+abbrev pub ScriptsFixTheirPictures : Type 0
+ScriptsFixTheirPictures = (title : List ℕ) (plan : Plan) (a b : List ℕ) → IsPicture title plan a → IsPicture title plan b → a ≡ b

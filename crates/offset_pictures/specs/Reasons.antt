@@ -1,5 +1,5 @@
 -- What a picture says of refused calls. Lengths are in hundredths of a pixel.
-use Rattle.std.specs.Prelude.{ℕ, ◌+◌, ◌-◌, ◌*◌, ◌/◌, List, [], ◌∷◌, ◌++◌, codes, flat_map, nat_eq, nat_le, slice_index_or, if◌then◌else◌}
+use Rattle.std.specs.Prelude.{◌≡◌, ◌≢◌, ℕ, ◌+◌, ◌-◌, ◌*◌, ◌/◌, All, List, [], ◌∷◌, ◌++◌, codes, flat_map, length, nat_eq, nat_le, slice_index_or, if◌then◌else◌}
 use Rattle.std.specs.Fmt.{decimal}
 use Rattle.offset_allocator.specs.Classes.{value, up}
 use Rattle.offset_allocator.specs.Requests.{refusal_words, units_needed}
@@ -88,3 +88,21 @@ spot_text y reports s =
 -- why these calls were refused, below the plot, where these are the reports of all states
 abbrev pub reasons_text : Plot → List StorageReport → List Refused → List ℕ
 reasons_text p reports refused = codes "<g class='why'>\n" ++ flat_map (spot_text (bottom_of p) reports) (spots_of p.calls refused) ++ codes "</g>\n"
+
+-- ---- every refused call is reported
+
+-- the first of these spots, if there is one, is of another pixel
+abbrev pub BeginElsewhere : ℕ → List Spot → Type 0
+BeginElsewhere left [] = Unit {0}
+BeginElsewhere left (s ∷ ss) = left ≢ s.left
+
+-- The spots report the refused calls in their order, each of a run of calls that lie in its pixel: of the first one, and
+-- how many there are after it. The next spot is of another pixel.
+abbrev pub TellOf : Axis → List Refused → List Spot → Type 0
+TellOf calls refused [] = refused ≡ []
+TellOf calls refused (s ∷ ss) = (others rest : List Refused) × (refused ≡ s.first ∷ (others ++ rest)) × (s.more ≡ length others)
+    × All (λ r. pixel_of calls r.call ≡ s.left) (s.first ∷ others) × BeginElsewhere s.left ss × TellOf calls rest ss
+
+-- each refused call is reported by one spot
+abbrev pub EachRefusalIsToldOf : Type 0
+EachRefusalIsToldOf = (calls : Axis) (refused : List Refused) → TellOf calls refused (spots_of calls refused)

@@ -77,3 +77,9 @@ EachLifeHasARectangle =
     (plot : Plot) (calls : ℕ) (lives : List Life)
     → ((age : ℕ) → titled_of_age calls (map (shape_of plot) lives) lives age ≡ flat_map (λ l. titled_text calls (shape_of plot l, l)) (lives_of_age lives age))
     × IsPermutation lives (flat_map (lives_of_age lives) (falling_below 8))
+
+-- where they are merged, the groups have each rectangle once
+abbrev pub MergedRectanglesAreDrawn : Type 0
+MergedRectanglesAreDrawn =
+    (plot : Plot) (lives : List Life) (shapes : List Shape)
+    → AreMerged plot lives shapes → IsPermutation shapes (flat_map (λ age. filter (λ s. nat_eq s.age age) shapes) (falling_below 8))

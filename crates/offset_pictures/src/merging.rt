@@ -1,10 +1,8 @@
 //! Merges the rectangles of many lives. It only computes.
 
-ghost use Rattle.std.specs.Prelude.{◌≡◌, ◌<◌, ◌≤◌, IfOk, IsTrue, map};
-ghost use Rattle.std.specs.List.{list_any};
-ghost use Rattle.offset_pictures.specs.Merging.{AreMerged, Point, IsAtTenth, covers, is_tiny, join};
-ghost use Rattle.offset_pictures.specs.Merging.{key_of, round_out, rounded_if_tiny, shape_of_key, touch};
-ghost use Rattle.offset_pictures.specs.Shapes.{shape_of};
+ghost use Rattle.std.specs.Prelude.{◌≡◌, ◌<◌, ◌≤◌, IfOk};
+ghost use Rattle.offset_pictures.specs.Merging.{AreMerged, IsAtTenth, is_tiny, join};
+ghost use Rattle.offset_pictures.specs.Merging.{key_of, round_out, shape_of_key, touch};
 
 use crate::axes::TENTH;
 use crate::living::Life;
@@ -93,12 +91,8 @@ fn join(before: Shape, shape: &Shape) -> Shape
 /// The rectangles of lives. Those thinner than a tenth of a pixel are rounded to whole tenths, and then those
 /// of one row that touch are merged.
 pub fn merged_shapes(alloc: Global, plot: &Plot, lives: &[Life]) -> Result<Vec<Shape>, AllocError>
-    // Merging adds and removes no point: in each row the result covers what the rectangles of the lives do,
-    // the tiny ones rounded.
-    ensures covers { IfOk result (λ v. (p : Point) → list_any (covers p) v.items
-        ≡ list_any (covers p) (map (λ l. rounded_if_tiny (shape_of plot.now l)) lives.now)) }
-    // The list, in its order.
-    ensures is { IfOk result (λ v. AreMerged plot.now lives.now v.items) }
+    // The list, in its order. By the law `merged_rectangles_cover_each_life` merging adds and removes no point.
+    ensures { IfOk result (λ v. AreMerged plot.now lives.now v.items) }
 {
     let mut found = Vec::new(alloc);
     let mut tiny: Vec<u64> = Vec::new(alloc);

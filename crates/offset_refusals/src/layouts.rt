@@ -3,7 +3,7 @@
 use crate::numbers::Cells;
 use crate::outcomes::Failure;
 use crate::scripts::script;
-use offset_allocator::{Allocation, ByField, ByNode, ByRow, Tables};
+use offset_allocator::{Allocation, ByField, ByNode, Tables};
 use offset_script::{IndexWidth, Script};
 use std::alloc::Global;
 
@@ -15,7 +15,6 @@ pub type Kept<NI> = Option<Allocation<NI>>;
 pub enum Layout {
     ByNode,
     ByField,
-    ByRow,
 }
 
 /// What is done for a script on one layout, with its index width.
@@ -52,12 +51,6 @@ pub fn run_on<W: Work>(
         }
         (Layout::ByField, IndexWidth::Bits32) => {
             work.run::<ByField<u32>>(alloc, &script, &mut wide, cells)
-        }
-        (Layout::ByRow, IndexWidth::Bits16) => {
-            work.run::<ByRow<u16>>(alloc, &script, &mut narrow, cells)
-        }
-        (Layout::ByRow, IndexWidth::Bits32) => {
-            work.run::<ByRow<u32>>(alloc, &script, &mut wide, cells)
         }
     }
 }

@@ -2,7 +2,7 @@
 //! requests for memory and refuses some of them. These functions have no contracts; those that they call are
 //! proved.
 //!
-//! The words are the call and, where it has tables, `by_node`, `by_field` or `by_row`; standard input is the
+//! The words are the call and, where it has tables, `by_node` or `by_field`; standard input is the
 //! text of a script. The words are printed before the call, and its outcome after it: 0 for a result, 1 for
 //! out of memory, 2 for a faulty text, 3 for a device that failed, and 4 where the call needs a script and
 //! the text is none. Between both lines this program requests no memory itself. A third line has the numbers
@@ -110,7 +110,6 @@ fn main(rt: HostRuntime) -> io::Result<ExitCode> {
     let outcome = match tables.as_str() {
         "by_node" => made_on(Layout::ByNode, &call, rt.alloc(), &text, &mut cells),
         "by_field" => made_on(Layout::ByField, &call, rt.alloc(), &text, &mut cells),
-        "by_row" => made_on(Layout::ByRow, &call, rt.alloc(), &text, &mut cells),
         _ => made(&call, rt.alloc(), &text, &mut cells),
     };
     match outcome {

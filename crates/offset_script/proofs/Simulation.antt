@@ -41,12 +41,12 @@ if_ok (Ok a) f p = f a p
 if_ok (Err e) f p = tt
 
 -- only numbers from 1 to that of the last handle have one
-kept_within : (hs : List (Option Handle)) (k x : ℕ) → kept_name hs k ≡ Some x → (1 ≤ k) × (k - 1 < length hs)
+pub kept_within : (hs : List (Option Handle)) (k x : ℕ) → kept_name hs k ≡ Some x → (1 ≤ k) × (k - 1 < length hs)
 kept_within hs zero x e = absurd (cc)
 kept_within hs (suc k) x e = search (arith, cases_lt, length, option_map, get_or_past)
 
 -- where no handle is left, no name is kept
-none_kept : (hs : List (Option Handle)) → ((i : ℕ) → i < length hs → slice_index_or hs i None ≡ None) → (k : ℕ) → kept_name hs k ≡ None
+pub none_kept : (hs : List (Option Handle)) → ((i : ℕ) → i < length hs → slice_index_or hs i None ≡ None) → (k : ℕ) → kept_name hs k ≡ None
 none_kept hs none zero = refl
 none_kept hs none (suc k) = search (arith, cases_lt, option_map, get_or_past)
 

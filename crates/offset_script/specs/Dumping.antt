@@ -38,11 +38,11 @@ live_json size limit s =
     codes "{\"size\":" ++ (decimal size
     ++ (codes ",\"max_allocs\":" ++ (decimal limit ++ (codes ",\"live_ranges\":" ++ (decimal s.live_ranges ++ (codes ",\"live_units\":" ++ decimal s.live_units))))))
 
--- what is free
+-- what is free, and the nodes that no block has
 abbrev pub free_json : Statistics → List ℕ
 free_json s =
     codes ",\"free_blocks\":" ++ (decimal s.free_blocks ++ (codes ",\"free_units\":" ++ (decimal s.free_units ++ (codes ",\"largest_free_block\":" ++ (decimal s.largest_free_block
-    ++ (codes ",\"largest_free_region\":" ++ (decimal s.largest_free_region ++ codes ",\"blocks\":[")))))))
+    ++ (codes ",\"largest_free_region\":" ++ (decimal s.largest_free_region ++ (codes ",\"unused_nodes\":" ++ (decimal s.unused_nodes ++ codes ",\"blocks\":[")))))))))
 
 -- the numbers of a space
 abbrev pub numbers_json : ℕ → ℕ → Statistics → List ℕ

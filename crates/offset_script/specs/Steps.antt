@@ -1,5 +1,5 @@
 -- The named step of each command, and runs of such steps.
-use Rattle.std.specs.Prelude.{◌≡◌, ◌-◌, ℕ, zero, suc, Bool, List, [], ◌∷◌, ◌++◌, length, Option, Some, None, option_map, slice_index_or, slice_set, if◌then◌else◌}
+use Rattle.std.specs.Prelude.{◌≡◌, ◌≢◌, ◌-◌, ℕ, zero, suc, Bool, List, [], ◌∷◌, ◌++◌, length, Option, Some, None, IfSome, option_map, slice_index_or, slice_set, if◌then◌else◌}
 use Rattle.offset_allocator.specs.View.{View, Handle, IsWellFormed, free_sizes, reported_free, reported_largest}
 use Rattle.offset_allocator.specs.Ranges.{IsLive, size_of}
 use Rattle.offset_allocator.specs.Relations.{IsFresh, Allocates, Aligns, Frees, Resets, Extends}
@@ -10,7 +10,12 @@ use Rattle.offset_script.specs.Machine as machine
 
 -- ---- handles
 
--- the name of the handle kept for grant k, where handle k - 1 is that of grant k
+-- the handle kept for grant k, where handle k - 1 is that of grant k
+abbrev pub kept_handle : List (Option Handle) → ℕ → Option Handle
+kept_handle hs zero = None
+kept_handle hs (suc k) = slice_index_or hs k None
+
+-- the name of the handle kept for grant k
 abbrev pub kept_name : List (Option Handle) → ℕ → Option ℕ
 kept_name hs zero = None
 kept_name hs (suc k) = option_map (λ (h : Handle). h.name) (slice_index_or hs k None)
@@ -18,6 +23,19 @@ kept_name hs (suc k) = option_map (λ (h : Handle). h.name) (slice_index_or hs k
 -- each handle that is kept is live
 abbrev pub AreLive : View → List (Option Handle) → Type 0
 AreLive v handles = (k x : ℕ) → kept_name handles k ≡ Some x → IsLive x v
+
+-- no two handles that are kept have one name
+abbrev pub AreNamedApart : List (Option Handle) → Type 0
+AreNamedApart handles = (j k x : ℕ) → kept_name handles j ≡ Some x → kept_name handles k ≡ Some x → j ≡ k
+
+-- what holds of a space and the handles that are kept before and after each call: each is live, and no two have one name
+pub record AreHeld (v : View) (handles : List (Option Handle)) : Type 0 where
+  pub live : AreLive v handles
+  pub apart : AreNamedApart handles
+
+-- a grant, if there is one, may be kept beside these handles: it is live, and none of them has its name
+abbrev pub MayBeKept : Option Handle → View → List (Option Handle) → Type 0
+MayBeKept granted v handles = IfSome granted (λ h. IsLive h.name v × ((k : ℕ) → kept_name handles k ≢ Some h.name))
 
 -- ---- named steps
 

@@ -119,7 +119,7 @@ fn put_live(
     )
 }
 
-// Appends what is free.
+// Appends what is free, and the nodes that no block has.
 fn put_free(text: &mut String, sums: &Statistics) -> Result<(), AllocError>
     ensures { OnOk result (string_bytes text.new ≡ string_bytes text.old ++ free_json sums.now) }
 {
@@ -127,9 +127,10 @@ fn put_free(text: &mut String, sums: &Statistics) -> Result<(), AllocError>
     let free = sums.free_units;
     let block = sums.largest_free_block;
     let region = sums.largest_free_region;
+    let unused = sums.unused_nodes;
     write!(
         text,
-        ",\"free_blocks\":{blocks},\"free_units\":{free},\"largest_free_block\":{block},\"largest_free_region\":{region},\"blocks\":["
+        ",\"free_blocks\":{blocks},\"free_units\":{free},\"largest_free_block\":{block},\"largest_free_region\":{region},\"unused_nodes\":{unused},\"blocks\":["
     )
 }
 

@@ -1,10 +1,13 @@
 //! Laws on what `parse` reads and on the answers of `play`. The functions touch nothing.
 
 ghost use Rattle.std.specs.Prelude.{◌≡◌, ◌↔◌, ℕ, ◌+◌, ◌≤◌, List, [], ◌∷◌, ◌++◌, length, sum};
+ghost use Rattle.std.specs.Prelude.{IfSome, None, Option};
 ghost use Rattle.offset_script.specs.declared.scripts.Command.{Command};
 ghost use Rattle.offset_script.specs.declared.scripts.Command.TheVariants as command;
 ghost use Rattle.offset_script.specs.declared.scripts.Header.{Header};
-ghost use Rattle.offset_allocator.specs.View.{max_size};
+ghost use Rattle.offset_allocator.specs.Ranges.{Grants};
+ghost use Rattle.offset_allocator.specs.Relations.{SameSpace};
+ghost use Rattle.offset_allocator.specs.View.{Handle, View, max_size};
 ghost use Rattle.offset_script.specs.Grammar.{command_of, header_of};
 ghost use Rattle.offset_script.specs.Histories.{HasNoLive, IsCollapse, IsNest, IsQuestion};
 ghost use Rattle.offset_script.specs.Histories.{answers_renumbered, collapse, outline, releases};
@@ -12,6 +15,7 @@ ghost use Rattle.offset_script.specs.Histories.{without_offset};
 ghost use Rattle.offset_script.specs.Machine.{State, start, step, after, answers, total, free_sizes};
 ghost use Rattle.offset_script.specs.Machine as machine;
 ghost use Rattle.offset_script.specs.Spelling.{IsSpelling, IsHeaderSpelling};
+ghost use Rattle.offset_script.specs.Steps.{AreHeld, MayBeKept};
 ghost use Rattle.offset_script.specs.Totals.{live, added_by};
 
 /// A line means a command exactly if it is a spelling of that command.
@@ -90,4 +94,14 @@ pub fn a_full_space_refuses()
         → (step (command.Align n align) s).answer ≡ machine.Refused }
     ensures report { (s : State) → s.limit ≤ length s.blocks + 1
         → (step command.Report s).answer ≡ machine.Report 0 0 }
+{}
+
+/// After a request to the space of a player, the handles that it keeps are live as before, each with a name of
+/// its own, and what was granted may be kept beside them: so `keep` may follow any request.
+pub fn a_grant_may_be_kept()
+    ensures held { (n : ℕ) (v w : View) (handles : List (Option Handle)) (granted : Option Handle)
+        → IfSome granted (Grants n v w) → (granted ≡ None → SameSpace v w)
+        → AreHeld v handles → AreHeld w handles }
+    ensures granted { (n : ℕ) (v w : View) (handles : List (Option Handle)) (granted : Option Handle)
+        → IfSome granted (Grants n v w) → AreHeld v handles → MayBeKept granted w handles }
 {}

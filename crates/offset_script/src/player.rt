@@ -2,8 +2,8 @@
 //! crate changes a space.
 
 ghost use Rattle.std.specs.Prelude.{◌≡◌, ◌+◌, ◌<◌, ◌≤◌, ℕ, IsTrue, [], length, slice_index_or, vec_len};
-ghost use Rattle.std.specs.Prelude.{None, IfOk, IfSome, option_map};
-ghost use Rattle.offset_script.specs.Steps.{kept_name, IsKept, Takes, AreLive};
+ghost use Rattle.std.specs.Prelude.{vec_capacity, None, IfOk, IfSome, IsOk, OnErr, OnOk, option_map};
+ghost use Rattle.offset_script.specs.Steps.{kept_handle, kept_name, AreHeld, IsKept, MayBeKept, Stays, Takes};
 ghost use Rattle.offset_script.specs.Machine.{answer_view};
 ghost use Rattle.offset_script.specs.Grammar.{has_valid_alignment};
 ghost use Rattle.offset_allocator.specs.Relations.{IsFresh};
@@ -43,7 +43,8 @@ impl<T: Tables> PlayerOf<T> {
     pub fn start(alloc: Global, size: u32, max_allocs: u32) -> Result<Self, AllocError>
         requires low { 2 ≤ max_allocs }
         requires high { max_allocs + 1 < T.Index.MAX }
-        ensures { IfOk result (λ p. IsFresh size max_allocs p.space × (p.handles.items ≡ [])) }
+        ensures fresh { IfOk result (λ p. IsFresh size max_allocs p.space × (p.handles.items ≡ [])) }
+        ensures held { IfOk result (λ p. AreHeld p.space p.handles.items) }
     {
         let space = AllocatorOf::with_max_allocs(alloc, size, max_allocs)?;
         Ok(PlayerOf {
@@ -60,6 +61,8 @@ impl<T: Tables> PlayerOf<T> {
     /// assert!(player.handle(1).is_some());
     /// ```
     pub fn handle(&self, number: u32) -> Option<Allocation<T::Index>>
+        // The handle as it was kept, and so its name.
+        ensures handle { result ≡ kept_handle self.now.handles.items number }
         ensures name { option_map (λ h. h.name) result ≡ kept_name self.now.handles.items number }
         ensures within { IfSome result (λ h. (1 ≤ number)
             × (number ≤ length self.now.handles.items)) }
@@ -73,11 +76,13 @@ impl<T: Tables> PlayerOf<T> {
         }
     }
 
-    /// The answer to a request with this result. The handle of a grant is kept under the next number.
+    /// The answer to a request with this result. The handle of a grant is kept under the next number: it has
+    /// to be live in `space`, and not kept yet.
     ///
     /// # Errors
     ///
-    /// It fails only where an allocation fails.
+    /// It fails only where an allocation fails, and never while `handles` has room for one more. Then the
+    /// grant is live, and not kept: to free it, or to keep it later, is left to the caller.
     ///
     /// ```
     /// let granted = player.space.allocate(300);
@@ -85,9 +90,18 @@ impl<T: Tables> PlayerOf<T> {
     /// assert_eq!(player.handle(1), granted);
     /// ```
     pub fn keep(&mut self, granted: Option<Allocation<T::Index>>) -> Result<Answer, AllocError>
+        // Each handle that is kept is live, and no two have one name; so it is before and after each call.
+        requires held { AreHeld self.old.space self.old.handles.items }
+        // The grant is live, and no handle that is kept has its name.
+        requires granted { MayBeKept granted self.old.space self.old.handles.items }
         ensures handle { IfOk result (λ a. IsKept granted self.old.handles.items
             self.new.handles.items (answer_view a)) }
+        ensures held { AreHeld self.new.space self.new.handles.items }
+        // The space is never touched, and where memory is refused, no handle either.
         ensures space { self.new.space ≡ self.old.space }
+        ensures same { OnErr result (self.new.handles.items ≡ self.old.handles.items) }
+        // With room for one more handle it takes no memory.
+        ensures succeeds { vec_len self.old.handles < vec_capacity self.old.handles → IsOk result }
     {
         match granted {
             None => Ok(Answer::Refused),
@@ -101,20 +115,34 @@ impl<T: Tables> PlayerOf<T> {
         }
     }
 
+    // Makes room for one more handle. It comes before a request, so that no grant is without a number.
+    fn reserve(&mut self) -> Result<(), AllocError>
+        ensures room { OnOk result (vec_len self.new.handles < vec_capacity self.new.handles) }
+        ensures same { Stays self.old.space self.old.handles.items self.new.space self.new.handles.items }
+    {
+        self.handles.reserve(1)
+    }
+
     // The answer to `alloc`.
     fn allocate(&mut self, size: u32) -> Result<Answer, AllocError>
-        ensures { IfOk result (λ a. Takes (Command.Alloc size) self.old.space self.old.handles.items
+        requires { AreHeld self.old.space self.old.handles.items }
+        ensures takes { IfOk result (λ a. Takes (Command.Alloc size) self.old.space self.old.handles.items
             self.new.space self.new.handles.items (answer_view a)) }
+        ensures held { AreHeld self.new.space self.new.handles.items }
+        ensures same { OnErr result (Stays self.old.space self.old.handles.items
+            self.new.space self.new.handles.items) }
     {
+        self.reserve()?;
         let granted = self.space.allocate(size);
         self.keep(granted)
     }
 
     // The answer to `free`. The grant's handle is removed.
     fn release(&mut self, number: u32) -> Answer
-        requires { AreLive self.old.space self.old.handles.items }
-        ensures { Takes (Command.Free number) self.old.space self.old.handles.items
+        requires { AreHeld self.old.space self.old.handles.items }
+        ensures takes { Takes (Command.Free number) self.old.space self.old.handles.items
             self.new.space self.new.handles.items (answer_view result) }
+        ensures held { AreHeld self.new.space self.new.handles.items }
     {
         match self.handle(number) {
             None => Answer::Gone,
@@ -147,8 +175,9 @@ impl<T: Tables> PlayerOf<T> {
 
     // The answer to `reset`. All handles are removed, and numbers go on.
     fn reset(&mut self) -> Answer
-        ensures { Takes Command.Reset self.old.space self.old.handles.items
+        ensures takes { Takes Command.Reset self.old.space self.old.handles.items
             self.new.space self.new.handles.items (answer_view result) }
+        ensures held { AreHeld self.new.space self.new.handles.items }
     {
         self.space.reset();
         for i in self.swept..self.handles.len() {
@@ -160,18 +189,25 @@ impl<T: Tables> PlayerOf<T> {
 
     // The answer to `align`.
     fn allocate_aligned(&mut self, size: u32, align: u32) -> Result<Answer, AllocError>
-        requires { IsTrue (has_valid_alignment (Command.Align size align)) }
-        ensures { IfOk result (λ a. Takes (Command.Align size align) self.old.space self.old.handles.items
+        requires power { IsTrue (has_valid_alignment (Command.Align size align)) }
+        requires held { AreHeld self.old.space self.old.handles.items }
+        ensures takes { IfOk result (λ a. Takes (Command.Align size align) self.old.space self.old.handles.items
             self.new.space self.new.handles.items (answer_view a)) }
+        ensures held { AreHeld self.new.space self.new.handles.items }
+        ensures same { OnErr result (Stays self.old.space self.old.handles.items
+            self.new.space self.new.handles.items) }
     {
+        self.reserve()?;
         let granted = self.space.allocate_aligned(size, align);
         self.keep(granted)
     }
 
     // The answer to `extend`.
     fn extend(&mut self, more: u32) -> Answer
-        ensures { Takes (Command.Extend more) self.old.space self.old.handles.items
+        requires { AreHeld self.old.space self.old.handles.items }
+        ensures takes { Takes (Command.Extend more) self.old.space self.old.handles.items
             self.new.space self.new.handles.items (answer_view result) }
+        ensures held { AreHeld self.new.space self.new.handles.items }
     {
         if self.space.extend(more) {
             Answer::Extended
@@ -181,20 +217,29 @@ impl<T: Tables> PlayerOf<T> {
     }
 
     /// Carries out one command, and returns its answer. The alignment of a request has to be a power of two.
+    /// Each handle that is kept has to be live, and no two may have one name: so it is in a player that
+    /// `start` made, and after each `call` and each `keep`.
     ///
     /// # Errors
     ///
-    /// It fails only where an allocation fails.
+    /// It fails only where an allocation fails. Then nothing was done: the space and the handles are as they
+    /// were, and the command may be tried again.
     ///
     /// ```
     /// let answer = player.call(alloc, Command::Alloc(300))?;
     /// assert!(matches!(answer, Answer::Grant { number: 1, offset: 0 }));
     /// ```
     pub fn call(&mut self, alloc: Global, command: Command) -> Result<Answer, AllocError>
-        requires live { AreLive self.old.space self.old.handles.items }
+        requires held { AreHeld self.old.space self.old.handles.items }
         requires power { IsTrue (has_valid_alignment command) }
-        ensures { IfOk result (λ a. Takes command self.old.space self.old.handles.items
+        // The step of the command, with its answer.
+        ensures takes { IfOk result (λ a. Takes command self.old.space self.old.handles.items
             self.new.space self.new.handles.items (answer_view a)) }
+        // So the next call may follow.
+        ensures held { AreHeld self.new.space self.new.handles.items }
+        // Where memory is refused, nothing is done.
+        ensures same { OnErr result (Stays self.old.space self.old.handles.items
+            self.new.space self.new.handles.items) }
     {
         match command {
             Command::Alloc(size) => self.allocate(size),

@@ -1,12 +1,11 @@
-//! The answers and replies that a layout has to give: two of the library's, and one of the tests. The layouts
-//! are named here alone, for scripts and for calls: the proof of a call takes seconds for each of them.
+//! The answers and replies that a layout has to give. The layouts are named here alone, for scripts and for
+//! calls: the proof of a call takes seconds for each of them.
 
 use crate::calls::{List, expect_replies};
 use crate::long_lists::expect_long;
 use crate::playing::expect_with;
 use offset_allocator::{ByField, ByNode, NodeIndex, Tables};
 use offset_script::Script;
-use offset_test_base::flat::Flat;
 use offset_test_base::tiny::Tiny;
 use std::alloc::Global;
 use std::process::Abort;
@@ -38,18 +37,16 @@ fn limit_of(trial: Trial<'_>) -> u32 {
     }
 }
 
-// Expects the same of two of the library's layouts with one index type.
+// Expects the same of both layouts with one index type.
 fn expect_of_both<NI: NodeIndex>(rt: &impl Abort, alloc: Global, trial: Trial<'_>) {
     expect_of::<ByNode<NI>>(rt, alloc, trial);
     expect_of::<ByField<NI>>(rt, alloc, trial);
 }
 
-/// Expects the same of each layout: of two of the library's with both index types, and with a third
-/// where it admits the limit, and of one more layout.
+/// Expects the same of both layouts with both index types, and with a third where it admits the limit.
 pub fn expect_of_each(rt: &impl Abort, alloc: Global, trial: Trial<'_>) {
     expect_of_both::<u32>(rt, alloc, trial);
     expect_of_both::<u16>(rt, alloc, trial);
-    expect_of::<Flat>(rt, alloc, trial);
     if limit_of(trial) <= 5 {
         expect_of_both::<Tiny>(rt, alloc, trial);
     }

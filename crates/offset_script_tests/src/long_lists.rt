@@ -76,23 +76,29 @@ fn with_tickets(alloc: Global, calls: &[Call]) -> Result<Vec<TicketCall>, AllocE
     Ok(found)
 }
 
-/// Plays lists of up to 262,144 calls, or of up to 32,768 where the index type admits no more nodes.
+// Plays a list with handles and with tickets: there is a reply to each call.
+fn expect_replies_to<T: Tables>(rt: &impl Abort, alloc: Global, limit: u32, calls: &[Call]) {
+    assert_that(rt, 2 <= limit);
+    assert_that(rt, limit < T::Index::MAX - 1);
+    let guarded = with_tickets(alloc, calls).expect(rt, "memory");
+    assert_that(rt, are_valid(calls));
+    assert_that(rt, guarded.iter().all(|call| call.call.is_valid()));
+    let replies = play_calls_of::<T>(alloc, 4_000_000_000, limit, calls).expect(rt, "memory");
+    assert_same(rt, &replies.len(), &calls.len());
+    let played = play_guarded::<T>(alloc, 4_000_000_000, limit, 7, &guarded).expect(rt, "memory");
+    assert_same(rt, &played.replies.len(), &calls.len());
+}
+
+/// Plays lists of no call, and of up to 262,144 calls, or of up to 32,768 where the index type admits no more
+/// nodes.
 pub fn expect_long<T: Tables>(rt: &impl Abort, alloc: Global) {
     let is_wide = T::Index::MAX > 600_000;
     let limit: u32 = if is_wide { 599_998 } else { 60_000 };
     let most: u32 = if is_wide { 19 } else { 16 };
-    assert_that(rt, limit < T::Index::MAX - 1);
+    expect_replies_to::<T>(rt, alloc, limit, &[]);
     for power in 0..most {
         let calls = list(alloc, 1u32.wrapping_shl(power)).expect(rt, "memory");
-        let guarded = with_tickets(alloc, &calls).expect(rt, "memory");
-        assert_that(rt, are_valid(&calls));
-        assert_that(rt, guarded.iter().all(|call| call.call.is_valid()));
-        let replies = play_calls_of::<T>(alloc, 4_000_000_000, limit, &calls).expect(rt, "memory");
-        assert_same(rt, &replies.len(), &calls.len());
-        let played = play_guarded::<T>(alloc, 4_000_000_000, limit, 7, &guarded).expect(
-            rt, "memory",
-        );
-        assert_same(rt, &played.replies.len(), &calls.len());
+        expect_replies_to::<T>(rt, alloc, limit, &calls);
     }
 }
 

@@ -2,7 +2,6 @@
 #![tactic(auto)]
 
 pub mod devices;
-pub mod flat;
 mod living;
 pub mod mixed;
 pub mod random;

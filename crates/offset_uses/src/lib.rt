@@ -18,9 +18,8 @@ pub mod assets;
 pub mod daily;
 pub mod engine;
 pub mod in_memory;
+pub mod players;
 pub mod pool;
-pub mod promises;
-pub mod questions;
 pub mod tickets;
 pub mod walking;
 

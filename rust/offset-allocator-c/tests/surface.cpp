@@ -125,6 +125,16 @@ static void sideTable() {
     CHECK(std::count(meshes.begin(), meshes.end(), nullptr) == 15);
 }
 
+// A walk from either end meets each live range once, also one at 0, and ends where none is at 0.
+template <class H, class A, class F> static void walkToTheEnd(const A &heap, F offsetOf, std::vector<uint32> wanted) {
+    std::vector<uint32> met, back;
+    heap.eachLive([&](H at) { met.push_back(offsetOf(at)); return met.size() < 100; });
+    heap.eachLiveBack([&](H at) { back.push_back(offsetOf(at)); return back.size() < 100; });
+    CHECK(met == wanted);
+    std::reverse(back.begin(), back.end());
+    CHECK(back == wanted);
+}
+
 // The end of a heap is emptied: each last range that finds a place before it is copied there, and the old one freed.
 static void emptyTheEnd() {
     Allocator heap(100, 16);
@@ -149,8 +159,13 @@ static void emptyTheEnd() {
     heap.eachLive([&](Allocation at) { met.push_back(at.offset); return true; });
     heap.eachLiveBack([&](Allocation at) { met.push_back(at.offset); return at.offset != 10; });
     CHECK(heap.firstLive().offset == 0 && met == (std::vector<uint32>{0, 10, 20, 20, 10}));
+    auto offset = [&](Allocation at) { return heap.allocationOffset(at); };
+    walkToTheEnd<Allocation>(heap, offset, {0, 10, 20});
     heap.eachLive([&](Allocation at) { return at.offset == 20 || heap.free(at); });
     CHECK(heap.firstLive().offset == 20 && heap.lastLive().offset == 20);
+    walkToTheEnd<Allocation>(heap, offset, {20});
+    CHECK(heap.free(heap.firstLive()));
+    walkToTheEnd<Allocation>(heap, offset, {});
     CHECK(std::string(bytes.begin() + 10, bytes.begin() + 20) == "eeeeeeeeee");
     CHECK(!copyInPieces(Move{4, 4, 1, last}, 1, [](Piece) {}));
 }
@@ -350,6 +365,13 @@ static void tickets() {
         caught = true;
     }
     CHECK(caught && g.offsetOf(w) == 0);
+    Ticket last = g.allocateAligned(10, 32);
+    walkToTheEnd<Ticket>(g, [&](Ticket at) { return g.offsetOf(at); }, {0, 32});
+    CHECK(g.allocate(2) && g.free(w) && g.free(last));
+    walkToTheEnd<Ticket>(g, [&](Ticket at) { return g.offsetOf(at); }, {1});
+    CHECK(g.free(g.lastLive()));
+    walkToTheEnd<Ticket>(g, [&](Ticket at) { return g.offsetOf(at); }, {});
+    w = g.allocate(1);
     // moves, as those of Allocator
     GuardedAllocator h(std::move(g));
     CHECK(!g && h.isLive(w) && !g.allocate(1) && g.refusal(1) == Refusal::badCall && !g.eachBlock([](Block) {}) && g.isFull());

@@ -21,20 +21,18 @@
 #![no_std]
 #![forbid(unsafe_code)]
 #![warn(missing_docs)]
+#![expect(clippy::question_mark)] // a step of a proof stands before the return, and is left out here
 #![expect(clippy::manual_find)] // a loop over places needs no closure, whose calls would need a proof
 #![expect(clippy::manual_map)] // a `match` needs no closure, whose calls would need a proof
 
-extern crate alloc;
-
-mod memory;
 mod traits;
 
-pub use memory::{AllocError, Global, Vec};
+pub use offset_allocator_memory as memory;
+pub use offset_allocator_memory::{AllocError, Global};
 
 mod changing;
 mod ending;
 mod granting;
-pub mod laws;
 mod refusal;
 mod restoring;
 mod saving;
@@ -42,7 +40,6 @@ mod serials;
 mod state;
 mod ticket;
 
-use offset_allocator::laws::is_well_formed;
 use offset_allocator::{Allocation, AllocatorOf, ByNode, NodeIndex, Tables};
 pub use refusal::Refusal;
 use serials::Serials;
@@ -198,8 +195,6 @@ impl<T: Tables> GuardedOf<T> {
             return None;
         }
         let Some(handle) = Allocation::from_parts(ticket.offset, ticket.name) else {
-            // A step of the proof, which does nothing: no block has such a name.
-            is_well_formed(&self.space);
             return None;
         };
         if self.space.is_live(handle) {
@@ -297,7 +292,7 @@ impl<T: Tables> GuardedOf<T> {
     /// ticket is not live, and then nothing changes.
     ///
     /// It reads at most one serial, and makes at most 136 accesses to the tables of the allocator: 8 to see
-    /// whether the name is live, and 128 to free it.
+    /// whether the name is live, which the allocator does not count, and 128 to free it, which it counts.
     ///
     /// ```
     /// # use offset_allocator_guarded::*;

@@ -5,7 +5,6 @@
 use crate::GuardedOf;
 use crate::serials::Serials;
 use crate::state::{StateFault, StateFaultKind, checksum, number};
-use offset_allocator::laws::a_state_is_read_back;
 use offset_allocator::{Allocation, AllocatorOf, Tables};
 use crate::memory::{AllocError, Global};
 
@@ -62,8 +61,6 @@ fn header_of(bytes: &[u8]) -> Result<Header, StateFault> {
 
 // The first live name that has no serial.
 fn live_without_serial<T: Tables>(space: &AllocatorOf<T>, serials: &Serials) -> Option<u32> {
-    // A step of the proof, which does nothing: names are below the limit.
-    a_state_is_read_back(space);
     for name in 0..space.node_count() {
         if serials.at(name) != 0 {
             continue;
@@ -140,8 +137,6 @@ impl<T: Tables> GuardedOf<T> {
             }
             Ok(space) => space,
         };
-        // A step of the proof, which does nothing: no other space has these bytes.
-        a_state_is_read_back(&space);
         let serials = Serials::of_bytes(
             alloc,
             &bytes[40..end - 8],

@@ -2,10 +2,10 @@
 
 //! The bytes of the state of a guarded allocator. It changes nothing.
 
-use crate::memory::Vec;
 use crate::GuardedOf;
 use crate::state::checksum;
 use offset_allocator::Tables;
+use crate::memory::Vec;
 use crate::memory::{AllocError, Global};
 
 // Adds a number at the end.

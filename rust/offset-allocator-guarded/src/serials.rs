@@ -2,8 +2,8 @@
 
 //! The serials of grants, by name. It touches its own numbers alone.
 
-use crate::memory::Vec;
 use crate::state::number;
+use crate::memory::Vec;
 use crate::memory::{AllocError, Global};
 
 /// The serial that each name was last granted with, 0 before its first grant, and the number of serials given

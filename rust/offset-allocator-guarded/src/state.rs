@@ -14,7 +14,9 @@ pub struct StateFault {
     pub kind: StateFaultKind,
 }
 
-/// What is wrong with the bytes of a state.
+/// What is wrong with the bytes of a state: of the numbers of tickets the first that applies of `Length`, for
+/// fewer than 48 bytes, `Form`, `Length` again, for the counts, `Realm` and `Checksum`; then what is wrong with
+/// the space, or with a serial.
 #[derive(Clone, Copy, PartialEq, Debug)]
 pub enum StateFaultKind {
     /// They are fewer than the numbers of tickets, of which they say how many there are.

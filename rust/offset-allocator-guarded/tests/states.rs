@@ -7,7 +7,7 @@
 #[path = "../../random.rs"]
 mod random;
 
-use offset_allocator::{ByField, ByNode, ByRow, StateFaultKind as SpaceFault, Tables};
+use offset_allocator::{ByField, ByNode, StateFaultKind as SpaceFault, Tables};
 use offset_allocator_guarded::{Global, GuardedOf, StateFault, StateFaultKind, Ticket};
 use random::Random;
 use std::collections::{BTreeMap, HashMap};
@@ -129,7 +129,6 @@ fn goes_on<T: Tables<Index = u32>>(seed: u64, rounds: u64) {
 fn a_space_that_was_read_goes_on_alike() {
     goes_on::<ByNode<u32>>(1, 1_000);
     goes_on::<ByField<u32>>(2, 1_000);
-    goes_on::<ByRow<u32>>(6, 1_000);
 }
 
 // What is wrong with numbers of tickets whose checksum is right, before a space with these live names.

@@ -34,12 +34,10 @@
 #![expect(clippy::single_match)] // both cases are proved
 #![expect(unused_variables)] // a parameter may be there for a contract only
 
-extern crate alloc;
-
-mod memory;
 mod traits;
 
-pub use memory::{AllocError, Global, Vec};
+pub use offset_allocator_memory as memory;
+pub use offset_allocator_memory::{AllocError, Global};
 pub use offset_guarded::Ticket;
 
 mod copying;
@@ -61,7 +59,7 @@ mod totals;
 
 use index::Index;
 pub use limits::Limits;
-use offset_allocator::{Accesses, ByRow, Tables};
+use offset_allocator::{Accesses, ByNode, Tables};
 use offset_guarded::GuardedOf;
 pub use place::{Granted, Place};
 pub use refusal::Refusal;
@@ -70,9 +68,8 @@ pub use state::{StateFault, StateFaultKind};
 use core::fmt;
 pub use totals::Totals;
 
-/// Many heaps as one, each with one table, of rows: a heap with few live ranges has a page of memory less
-/// resident than with `ByNode`, and a call takes some 3% more instructions.
-pub type Heaps<NI = u32> = HeapsOf<ByRow<NI>>;
+/// Many heaps as one, each with one table of nodes.
+pub type Heaps<NI = u32> = HeapsOf<ByNode<NI>>;
 
 /// Many heaps as one.
 ///

@@ -3,8 +3,8 @@
 //! A row of numbers, of which the first that is large enough is found in few steps: a tree of maxima. It
 //! touches its own cells alone, and counts each access.
 
-use crate::memory::Vec;
 use offset_allocator::Accesses;
+use crate::memory::Vec;
 use crate::memory::{AllocError, Global};
 
 /// Numbers at places from 0 on.

@@ -10,7 +10,6 @@ use crate::slots::{self, Slots};
 use crate::state::{StateFault, StateFaultKind, checksum, number};
 use offset_allocator::{Accesses, NodeIndex, Tables};
 use offset_guarded::GuardedOf;
-use offset_guarded::laws::a_state_is_read_back;
 use crate::memory::{AllocError, Global};
 
 // What the numbers before the places say.
@@ -114,8 +113,6 @@ fn read_heap<T: Tables>(
         }
         Ok(heap) => heap,
     };
-    // A step of the proof, which does nothing: no other heap has these bytes.
-    a_state_is_read_back(&heap);
     if heap.realm() > made {
         return Ok(Err(StateFault {
             at: 32,

@@ -2,12 +2,12 @@
 
 //! The bytes of the state of many heaps. It changes nothing.
 
-use crate::memory::Vec;
 use crate::slots::Slots;
 use crate::state::{checksum, push_numbers};
 use crate::{HeapsOf, slots};
 use offset_allocator::{Accesses, Tables};
 use offset_guarded::GuardedOf;
+use crate::memory::Vec;
 use crate::memory::{AllocError, Global};
 
 // Adds the state of a heap, or nothing where there is none.

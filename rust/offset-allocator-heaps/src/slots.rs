@@ -3,11 +3,10 @@
 //! The heaps by their numbers: no other module reads or writes them. Each function counts the slots that it
 //! touches.
 
-use crate::memory::Vec;
 use crate::index::rooms;
-use offset_allocator::laws::is_well_formed;
 use offset_allocator::{Accesses, Tables};
 use offset_guarded::{GuardedOf, Ticket};
+use crate::memory::Vec;
 use crate::memory::{AllocError, Global};
 
 /// The heap of each number, where there is one.
@@ -58,7 +57,6 @@ pub(crate) fn put<T: Tables>(
 pub(crate) fn grant_in<T: Tables>(slot: &mut Option<GuardedOf<T>>, size: u32, align: u32) -> Ticket {
     match slot {
         Some(heap) => {
-            is_well_formed(heap.allocator());
             match heap.allocate_aligned(size, align) {
                 Some(ticket) => ticket,
                 None => unreachable!(),

@@ -4,7 +4,6 @@
 
 use crate::index::rooms;
 use crate::{HeapsOf, slots};
-use offset_allocator::laws::sizes_add_up;
 use offset_allocator::{Accesses, Tables};
 use offset_guarded::GuardedOf;
 
@@ -27,7 +26,6 @@ pub struct Totals {
 // The units of a heap: live ones, free ones and all.
 fn units_of<T: Tables>(heap: &GuardedOf<T>) -> (u32, u32, u32) {
     let space = heap.allocator();
-    sizes_add_up(space);
     (space.live_units(), space.free_units(), space.size())
 }
 

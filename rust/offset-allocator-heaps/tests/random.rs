@@ -8,7 +8,7 @@
 #[path = "../../random.rs"]
 mod random;
 
-use offset_allocator::{ByField, ByNode, ByRow, Tables};
+use offset_allocator::{ByField, ByNode, Tables};
 use offset_allocator_heaps::{Global, Granted, Heaps, HeapsOf, Limits, Place, Refusal};
 use random::Xorshift as Numbers;
 use std::collections::{BTreeMap, HashMap};
@@ -368,17 +368,16 @@ fn runs<T: Tables>(calls: u64) {
 
 #[test]
 fn random_calls() {
-    runs::<ByRow<u32>>(200_000);
-    runs::<ByRow<u16>>(200_000);
     runs::<ByNode<u32>>(200_000);
+    runs::<ByNode<u16>>(200_000);
     runs::<ByField<u32>>(200_000);
 }
 
 #[test]
 #[ignore = "takes longer"]
 fn two_million_random_calls() {
-    runs::<ByRow<u32>>(2_000_000);
-    runs::<ByRow<u16>>(2_000_000);
+    runs::<ByNode<u32>>(2_000_000);
+    runs::<ByNode<u16>>(2_000_000);
 }
 
 // No heap may be made.

@@ -1,7 +1,7 @@
-//! Every call that may return out of memory, with units, node limits and numbers of heaps in powers of two: no clause says
-//! when memory is out, so a body that gives up at some sizes is proved, and refused here.
+//! Every call that may return out of memory, with units, alignments, node limits, made nodes and numbers of heaps in powers
+//! of two: no clause says when memory is out, so a body that gives up at some sizes is proved, and refused here.
 
-use offset_allocator::{AllocError, ByField, ByNode, ByRow, Global, NodeIndex, Tables};
+use offset_allocator::{AllocError, ByField, ByNode, Global, NodeIndex, Tables};
 use offset_allocator_heaps::{HeapsOf, Limits, Refusal};
 
 // Makes a request, and returns whether a heap was made for it.
@@ -63,10 +63,69 @@ fn heaps_of_each_size<T: Tables>() {
     }
 }
 
+// The first request of each heap, at each alignment.
+fn first_requests<T: Tables>() -> Result<(), AllocError> {
+    let limits = Limits { size: u32::MAX, max_allocs: 100, most: 1, most_larger: 0 };
+    for power in 0..31 {
+        for size in [1, 3, 1 << 30] {
+            let mut heaps = HeapsOf::<T>::new(Global, limits, 1)?;
+            assert!(is_made(&mut heaps, size, 1 << power)?);
+            assert!(!is_made(&mut heaps, size, 1 << power)?);
+        }
+    }
+    Ok(())
+}
+
+// Copies and states of two heaps with so many nodes made, of which a quarter is live.
+fn filled<T: Tables>(nodes: u32) -> Result<(), AllocError> {
+    let limits = Limits { size: nodes, max_allocs: nodes + 2, most: 2, most_larger: 0 };
+    let mut heaps = HeapsOf::<T>::new(Global, limits, 1)?;
+    let mut places = Vec::new();
+    for _ in 0..2 * nodes {
+        match heaps.allocate(1) {
+            Ok(granted) => places.push(granted.place),
+            Err(why) => panic!("{why:?}"),
+        }
+    }
+    for (at, place) in places.iter().enumerate() {
+        if at % 2 == 0 || at % nodes as usize > nodes as usize / 2 {
+            assert!(heaps.free(*place));
+        }
+    }
+    let copy = heaps.try_clone(Global)?;
+    assert_eq!(copy.totals(), heaps.totals());
+    let bytes = heaps.write_state(Global)?;
+    let read = HeapsOf::<T>::read_state(Global, &bytes, 2, nodes + 2)?.expect("a state");
+    assert_eq!(read.totals(), heaps.totals());
+    for place in places {
+        assert_eq!(read.is_live(place), heaps.is_live(place));
+    }
+    Ok(())
+}
+
+fn filled_heaps<T: Tables>() {
+    for power in 2..18 {
+        if (1 << power) + 3 < T::Index::MAX {
+            filled::<T>(1 << power).expect("memory");
+        }
+    }
+}
+
+#[test]
+fn the_first_request_has_memory_at_each_alignment() {
+    first_requests::<ByNode<u32>>().expect("memory");
+    first_requests::<ByField<u16>>().expect("memory");
+}
+
+#[test]
+fn each_number_of_nodes_has_memory() {
+    filled_heaps::<ByNode<u32>>();
+    filled_heaps::<ByNode<u16>>();
+    filled_heaps::<ByField<u32>>();
+}
+
 #[test]
 fn each_size_has_memory() {
-    heaps_of_each_size::<ByRow<u32>>();
-    heaps_of_each_size::<ByRow<u16>>();
     heaps_of_each_size::<ByNode<u32>>();
     heaps_of_each_size::<ByField<u32>>();
     heaps_of_each_size::<ByNode<u16>>();

@@ -7,8 +7,9 @@
 #[path = "../../random.rs"]
 mod random;
 
-use offset_allocator::{ByField, ByNode, ByRow, Tables};
+use offset_allocator::{ByField, ByNode, Tables};
 use offset_allocator_heaps::{Global, Heaps, HeapsOf, Limits, Place, StateFault, StateFaultKind};
+use offset_guarded::GuardedOf;
 use random::Random;
 use std::collections::BTreeMap;
 
@@ -129,7 +130,6 @@ fn goes_on<T: Tables<Index = u32>>(seed: u64, rounds: u64) {
 fn heaps_that_were_read_or_copied_go_on_alike() {
     goes_on::<ByNode<u32>>(1, 1_000);
     goes_on::<ByField<u32>>(2, 1_000);
-    goes_on::<ByRow<u32>>(6, 1_000);
 }
 
 const MOST: u64 = 40;
@@ -183,7 +183,7 @@ fn change(numbers: &mut Vec<u64>, random: &mut Random) {
 fn changed_states_are_read_or_refused() {
     let mut random = Random(3);
     let (mut read, mut kinds) = (0u64, BTreeMap::<String, u64>::new());
-    let mut own = worked::<ByRow<u32>>(&mut random);
+    let mut own = worked::<ByNode<u32>>(&mut random);
     let (mut old, mut rest) = parts(&written(&own.heaps));
     for round in 0..count() {
         if round % 16 == 0 {
@@ -246,8 +246,9 @@ fn changed_states_are_read_or_refused() {
 #[test]
 fn changed_bytes_are_refused() {
     let mut random = Random(4);
+    let mut later = 0;
     for _ in 0..count() / 50 {
-        let own = worked::<ByRow<u32>>(&mut random);
+        let own = worked::<ByNode<u32>>(&mut random);
         let mut state = written(&own.heaps);
         let read = |state: &[u8]| Heaps::<u32>::read_state(Global, state, 100, 100).unwrap();
         let last = 8 * parts(&state).0.len() - 8;
@@ -263,7 +264,18 @@ fn changed_bytes_are_refused() {
         let fault = read(&state).err().unwrap();
         assert!(fault.at <= state.len());
         assert_eq!(matches!(fault.kind, StateFaultKind::Heap(_)), place >= last + 16);
+        if place >= last + 16 {
+            // what that heap alone is refused for, behind the heaps before it
+            let (numbers, rest) = parts(&state);
+            let start = last + 16;
+            let heap = (9..numbers.len()).find(|k| place < start + numbers[*k] as usize).unwrap();
+            let (from, to) = (numbers[heap - 1] as usize, numbers[heap] as usize);
+            let own = GuardedOf::<ByNode<u32>>::read_state(Global, &rest[from..to], 100).unwrap().err().unwrap();
+            assert_eq!((fault.at, fault.kind), (start + from + own.at, StateFaultKind::Heap(own.kind)));
+            later += u32::from(from > 0);
+        }
     }
+    assert!(later > 100);
 }
 
 #[test]

@@ -14,7 +14,6 @@ fn live_up_to<T: Tables>(
     name: u32,
     count: &mut Accesses,
 ) -> Option<Allocation<T::Index>> {
-    tables.shape();
     if chain::is_used(tables, name, count) {
         return Some(handle_of(tables.offset(name, count), name));
     }
@@ -24,7 +23,6 @@ fn live_up_to<T: Tables>(
 
 // The handle of a block, or of the one after it where it is free.
 fn live_from<T: Tables>(tables: &T, name: u32, count: &mut Accesses) -> Option<Allocation<T::Index>> {
-    tables.shape();
     if chain::is_used(tables, name, count) {
         return Some(handle_of(tables.offset(name, count), name));
     }
@@ -52,7 +50,6 @@ pub fn first_live_counted<T: Tables>(
     count: &mut Accesses,
 ) -> Option<Allocation<T::Index>> {
     let tables = &allocator.store.tables;
-    tables.shape();
     let name = first_used(tables, allocator.store.last, count)?;
     Some(handle_of(tables.offset(name, count), name))
 }
@@ -96,8 +93,9 @@ pub fn live_after_counted<T: Tables>(
 impl<T: Tables> AllocatorOf<T> {
     /// The handle of the live range that is the first one in space, or `None` where none is live. It
     /// makes 2 accesses to the tables for each block, and one more: the first block of a space is not
-    /// known, so it walks back from the last one. With `live_after` a walk from here meets all live
-    /// ranges, as one with `live_before` does from `last_live`.
+    /// known, so it walks back from the last one. With `live_after` a walk from here meets each live
+    /// range once, as one with `live_before` does from `last_live`: see
+    /// `laws::each_live_range_is_met_once`.
     ///
     /// ```
     /// # use offset_allocator_proved::*;

@@ -72,7 +72,6 @@ pub(crate) fn push<T: Tables>(store: &mut Store<T>, name: u32, class: u32) {
     let tables = &mut store.tables;
     let top_mask = &mut store.top_mask;
     let count = &mut store.accesses;
-    tables.shape();
     let link = link_to(name);
     let newest = tables.head(class, count);
     tables.set_head(class, name, count);
@@ -112,7 +111,6 @@ fn link_newer<T: Tables>(tables: &mut T, at: T::Index, to: T::Index, count: &mut
 fn remove_newest<T: Tables>(store: &mut Store<T>, class: u32, older: T::Index) {
     let tables = &mut store.tables;
     let count = &mut store.accesses;
-    tables.shape();
     let next = number(older);
     tables.set_head(class, next, count);
     if next == T::Index::MAX {
@@ -127,7 +125,6 @@ fn remove_newest<T: Tables>(store: &mut Store<T>, class: u32, older: T::Index) {
 fn remove_linked<T: Tables>(store: &mut Store<T>, name: u32, newer: T::Index, size: u32) {
     let tables = &mut store.tables;
     let count = &mut store.accesses;
-    tables.shape();
     let older = tables.older(name, count);
     if number(newer) == T::Index::MAX {
         // the head changes only for the newest name, so only then is the class computed
@@ -149,7 +146,6 @@ pub(crate) fn remove<T: Tables>(store: &mut Store<T>, name: u32, size: u32) {
 /// `class`. Where both are one bin and `gone` is its newest, `name` takes its place.
 #[inline(always)]
 pub(crate) fn exchange<T: Tables>(store: &mut Store<T>, gone: u32, size: u32, name: u32, class: u32) {
-    store.tables.shape();
     let newer = store.tables.newer(gone, &mut store.accesses);
     if number(newer) == T::Index::MAX && class == uint_to_float_round_down(size) {
         // the bin is empty neither before nor after, so the masks stay
@@ -177,7 +173,6 @@ pub(crate) fn pop<T: Tables>(store: &mut Store<T>, class: u32) -> u32 {
 
 /// The top mask of bins that are all empty, as those of new tables are.
 pub(crate) fn empty_mask<T: Tables>(tables: &T) -> u32 {
-    tables.shape();
     0
 }
 
@@ -186,7 +181,6 @@ pub(crate) fn empty<T: Tables>(store: &mut Store<T>) {
     let tables = &mut store.tables;
     let top_mask = &mut store.top_mask;
     let count = &mut store.accesses;
-    tables.shape();
     for class in 0..256 {
         tables.set_head(class, T::Index::MAX, count);
     }

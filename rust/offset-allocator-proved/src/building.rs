@@ -61,7 +61,6 @@ pub(crate) fn place_blocks<T: Tables>(
 
 // Writes an unused name onto the stack, and marks its node as used.
 fn put_unused<T: Tables>(tables: &mut T, place: u32, name: u32, count: &mut Accesses) {
-    tables.shape();
     tables.set_spare(place, link_to(name), count);
     tables.set_used(name, true, count);
 }
@@ -73,7 +72,6 @@ pub(crate) fn place_unused<T: Tables>(
     words: &[u32],
     count: &mut Accesses,
 ) -> Option<usize> {
-    tables.shape();
     let nodes = tables.len();
     for i in 0..words.len() {
         let name = words[i];
@@ -92,24 +90,31 @@ pub(crate) fn clear_marks<T: Tables>(tables: &mut T, words: &[u32], count: &mut 
     }
 }
 
-// Makes a used block free, and the newest of its bin.
-fn free_name<T: Tables>(store: &mut Store<T>, name: u32) {
+// Makes a used block free, and the newest of its bin, which is that of this class.
+fn free_name<T: Tables>(store: &mut Store<T>, name: u32, class: u32) {
     store.tables.set_used(name, false, &mut store.accesses);
-    let size = store.tables.size(name, &mut store.accesses);
-    bins::push(store, name, uint_to_float_round_down(size));
+    bins::push(store, name, class);
 }
 
-/// Frees the blocks of these names, the last one first. Returns the place of the word that is wrong, if one
-/// is.
+/// Frees the blocks of these names, which are in the order of bins, the last one first. Returns the place of
+/// the word that is wrong, if one is.
 pub(crate) fn free_names<T: Tables>(store: &mut Store<T>, words: &[u32]) -> Option<usize> {
     let nodes = store.tables.len();
+    // the class of the name after
+    let mut most = 255;
     for i in 0..words.len() {
         let at = words.len() - 1 - i;
         let name = words[at];
         if name >= nodes || !store.tables.used(name, &mut store.accesses) {
             return Some(at);
         }
-        free_name(store, name);
+        let size = store.tables.size(name, &mut store.accesses);
+        let class = uint_to_float_round_down(size);
+        if class > most {
+            return Some(at);
+        }
+        most = class;
+        free_name(store, name, class);
     }
     None
 }
@@ -136,7 +141,6 @@ pub(crate) fn look_over<T: Tables>(
     };
     let mut name = last;
     let mut is_free_after = false;
-    tables.shape();
     for i in 0..blocks {
         let is_free = !tables.used(name, count);
         if is_free && is_free_after {
@@ -161,7 +165,7 @@ pub(crate) enum Wrong {
     Block(usize),
     /// An unused name: it is that of no node or of a block, or listed twice.
     Unused(usize),
-    /// The name of a free block: it is that of no block, or listed twice.
+    /// The name of a free block: it is that of no block, listed twice, or not in the order of bins.
     Free(usize),
     /// A block and the one after it are both free.
     Neighbours(usize),
@@ -186,7 +190,6 @@ fn lay_out<T: Tables>(
         return Ok(Err(Wrong::Unused(at)));
     }
     clear_marks(&mut tables, unused, &mut count);
-    tables.shape();
     let top_mask = bins::empty_mask(&tables);
     Ok(Ok(Store {
         tables,

@@ -2,11 +2,11 @@
 
 //! The layout with a table for each field of a node. It alone touches the cells of these tables.
 
-use crate::memory::Vec;
 use crate::accesses::Accesses;
 use crate::fills::{probe, push_within, reserved};
 use crate::index::{NodeIndex, link_to, mark, no_link, number};
 use crate::tables::Tables;
+use crate::memory::Vec;
 use crate::memory::{AllocError, Global};
 
 /// A table for each field of a node. A used block is in no bin: its link to a newer node is the number below
@@ -96,11 +96,6 @@ impl<NI: NodeIndex> Tables for ByField<NI> {
         push_within(&mut self.older, no_link());
         push_within(&mut self.spare, name);
         self.spare[place as usize] = name;
-    }
-
-    fn shape(&self) {
-        // a look at a field recalls the invariant
-        let _ = &self.offset;
     }
 
     fn link_to(&self, name: u32) -> NI {

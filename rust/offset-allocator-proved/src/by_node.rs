@@ -3,11 +3,11 @@
 //! The layout with one table of nodes: the fields of a node are in one cache line or two. It alone touches
 //! the cells of these tables.
 
-use crate::memory::Vec;
 use crate::accesses::Accesses;
 use crate::fills::{probe, push_within, reserved};
 use crate::index::{NodeIndex, link_to, mark, no_link, number};
 use crate::tables::Tables;
+use crate::memory::Vec;
 use crate::memory::{AllocError, Global};
 
 /// A block's offset and size, the links to its neighbours in space, and the links to the next nodes of its
@@ -88,11 +88,6 @@ impl<NI: NodeIndex> Tables for ByNode<NI> {
         push_within(&mut self.nodes, blank());
         push_within(&mut self.spare, name);
         self.spare[place as usize] = name;
-    }
-
-    fn shape(&self) {
-        // a look at a field recalls the invariant
-        let _ = &self.nodes;
     }
 
     fn link_to(&self, name: u32) -> NI {

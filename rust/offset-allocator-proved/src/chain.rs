@@ -10,7 +10,6 @@ use crate::tables::Tables;
 
 /// Makes the whole space one free block, under the name of the only node.
 pub(crate) fn start<T: Tables>(tables: &mut T, size: u32, max_allocs: u32, count: &mut Accesses) {
-    tables.shape();
     tables.set_block(0, 0, size, no_link(), no_link(), count);
 }
 
@@ -91,7 +90,6 @@ pub(crate) fn split<T: Tables>(
 pub(crate) fn coalesce_after<T: Tables>(store: &mut Store<T>, name: u32, following: u32, whole: u32) {
     let tables = &mut store.tables;
     let count = &mut store.accesses;
-    tables.shape();
     let next = tables.after(following, count);
     tables.set_end(name, whole, next, count);
     point_back(tables, &mut store.last, next, name, count);
@@ -104,7 +102,6 @@ pub(crate) fn coalesce_after<T: Tables>(store: &mut Store<T>, name: u32, followi
 pub(crate) fn coalesce_before<T: Tables>(store: &mut Store<T>, previous: u32, name: u32, whole: u32) {
     let tables = &mut store.tables;
     let count = &mut store.accesses;
-    tables.shape();
     let offset = tables.offset(previous, count);
     let link = tables.before(previous, count);
     tables.set_start(name, offset, whole, link, count);

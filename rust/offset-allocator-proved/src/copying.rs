@@ -24,8 +24,6 @@ pub(crate) fn with_nodes<T: Tables>(
 
 // Copies the node of a name, and its links in its bin.
 fn copy_node<T: Tables>(from: &T, into: &mut T, name: u32, count: &mut Accesses) {
-    from.shape();
-    into.shape();
     let offset = from.offset(name, count);
     let size = from.size(name, count);
     let before = from.before(name, count);
@@ -43,8 +41,6 @@ fn copy_node<T: Tables>(from: &T, into: &mut T, name: u32, count: &mut Accesses)
 
 // Copies the cells of a name.
 fn copy_name<T: Tables>(from: &T, into: &mut T, name: u32, count: &mut Accesses) {
-    from.shape();
-    into.shape();
     copy_node(from, into, name, count);
     let spare = from.spare(name, count);
     into.set_spare(name, spare, count);
@@ -52,8 +48,6 @@ fn copy_name<T: Tables>(from: &T, into: &mut T, name: u32, count: &mut Accesses)
 
 // Copies the newest name of each bin, and the masks.
 fn copy_bins<T: Tables>(from: &T, into: &mut T, count: &mut Accesses) {
-    from.shape();
-    into.shape();
     for class in 0..256 {
         let head = from.head(class, count);
         into.set_head(class, head, count);
@@ -71,13 +65,11 @@ fn copied<T: Tables>(
     limit: u32,
     count: &mut Accesses,
 ) -> Result<T, AllocError> {
-    from.shape();
     let mut into = with_nodes(alloc, limit, from.len(), count)?;
     for name in 0..from.len() {
         copy_name(from, &mut into, name, count);
     }
     copy_bins(from, &mut into, count);
-    into.shape();
     Ok(into)
 }
 
@@ -107,7 +99,6 @@ impl<T: Tables> AllocatorOf<T> {
     pub fn try_clone(&self, alloc: Global) -> Result<Self, AllocError> {
         let mut count = Accesses::new();
         let store = &self.store;
-        self.formed();
         let tables = copied(alloc, &store.tables, self.max_allocs, &mut count)?;
         Ok(AllocatorOf {
             size: self.size,

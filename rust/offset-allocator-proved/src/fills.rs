@@ -2,8 +2,8 @@
 
 //! Requests the memory of tables, and fills it within its bounds. It touches the vectors that it is given.
 
-use crate::memory::Vec;
 use crate::index::NodeIndex;
+use crate::memory::Vec;
 use crate::memory::{AllocError, Global};
 
 // The bytes that the tables of this many nodes reserve: of each node its offset, its size, four links and an

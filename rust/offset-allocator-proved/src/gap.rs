@@ -37,7 +37,6 @@ pub(crate) fn open<T: Tables>(
 
 /// Slides the block `next` of `more` units, which is directly after the gap, to its front.
 pub(crate) fn pass<T: Tables>(store: &mut Store<T>, gap: &mut Gap<T::Index>, next: u32, more: u32) {
-    store.tables.shape();
     store
         .tables
         .set_start(next, gap.offset, more, gap.before, &mut store.accesses);
@@ -48,7 +47,6 @@ pub(crate) fn pass<T: Tables>(store: &mut Store<T>, gap: &mut Gap<T::Index>, nex
 
 /// Coalesces the free block `next` of `more` units, which is directly after the gap and in no bin, with it.
 pub(crate) fn gather<T: Tables>(store: &mut Store<T>, gap: &mut Gap<T::Index>, next: u32, more: u32) {
-    store.tables.shape();
     store
         .tables
         .set_spare(store.spare_count, link_to(next), &mut store.accesses);
@@ -58,7 +56,6 @@ pub(crate) fn gather<T: Tables>(store: &mut Store<T>, gap: &mut Gap<T::Index>, n
 
 /// Puts the free block back into the chain, before the one that the link `after` names.
 pub(crate) fn close<T: Tables>(store: &mut Store<T>, gap: Gap<T::Index>, after: T::Index) {
-    store.tables.shape();
     store.tables.set_block(
         gap.name,
         gap.offset,

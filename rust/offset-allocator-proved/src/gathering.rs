@@ -21,7 +21,6 @@ fn slide_to<T: Tables, F: FnMut(Move<T::Index>)>(
     end: u32,
     moved: &mut F,
 ) -> Gap<T::Index> {
-    store.tables.shape();
     let mut gap = gap::open(&store.tables, name, size, &mut store.accesses);
     let mut at = store.tables.after(name, &mut store.accesses);
     while let Some(next) = linked(at) {
@@ -76,7 +75,6 @@ impl<T: Tables> AllocatorOf<T> {
         size: u32,
         moved: &mut F,
     ) -> Option<RoomCost> {
-        self.formed();
         let class = uint_to_float_round_up(size);
         let found = bins::find_at_or_above(
             &self.store.tables,

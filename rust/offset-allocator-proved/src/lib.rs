@@ -30,12 +30,10 @@
 #![expect(clippy::needless_range_loop)] // a loop over places calls no iterator, which might count accesses of its own
 #![expect(unused_variables)] // a parameter may be there for a contract only
 
-extern crate alloc;
-
-mod memory;
 mod traits;
 
-pub use memory::{AllocError, Global, Vec};
+pub use offset_allocator_memory as memory;
+pub use offset_allocator_memory::{AllocError, Global};
 pub use nonmax::IsMax;
 
 mod accesses;
@@ -45,7 +43,6 @@ mod blocks;
 mod building;
 mod by_field;
 mod by_node;
-mod by_row;
 mod chain;
 mod compact;
 mod copies;
@@ -79,7 +76,6 @@ pub use accesses::Accesses;
 pub use blocks::{Block, BlocksOf};
 pub use by_field::ByField;
 pub use by_node::ByNode;
-pub use by_row::ByRow;
 pub use compact::Move;
 pub use copies::{MovePieces, Piece};
 pub use handle::Allocation;
@@ -138,8 +134,8 @@ impl<T: Tables> AllocatorOf<T> {
     /// blocks exist at a time, free ones included. A request is granted only while at most `max_allocs - 2`
     /// exist, and makes one of them live: so at most `max_allocs - 2` grants are live. The limit is 2 to
     /// `T::Index::MAX - 2`: 65533 for `u16`, 4294967293 for `u32`. `ByNode` and `ByField` reserve 28 bytes a
-    /// node with `u32`, 18 with `u16`, `ByRow` 28 and 20, all of them here; those of a node are written when
-    /// it is made, which `node_count` counts.
+    /// node with `u32`, 18 with `u16`, all of them here; those of a node are written when it is made, which
+    /// `node_count` counts.
     ///
     /// # Errors
     ///
@@ -197,8 +193,6 @@ impl<T: Tables> AllocatorOf<T> {
     /// # Ok::<(), AllocError>(())
     /// ```
     pub fn reset(&mut self) {
-        // the invariant bounds the number of blocks
-        self.formed();
         // of at most five blocks at most five are live; to free these takes about as long as to empty the
         // bins
         if self.block_count() <= 5 {
@@ -248,9 +242,10 @@ impl<T: Tables> AllocatorOf<T> {
         self.store.tables.len() - self.store.spare_count
     }
 
-    /// The number of nodes that were made: each block's name is below it. Contracts leave it open, as some
-    /// names, and no other answer depends on it: `grow_in_place` and a call that may add a block can make it
-    /// larger by 1 or 2, also where they leave the space as it was, and only `reset` makes it smaller.
+    /// The number of nodes that were made: one for each block, and those whose names are unused. Each block's
+    /// name is below it. When a node is made is left open, as some names, and no other answer depends on it:
+    /// `grow_in_place` and a call that may add a block can make 1 or 2, also where they leave the blocks as
+    /// they were, and only `reset` forgets some.
     ///
     /// ```
     /// # use offset_allocator_proved::*;

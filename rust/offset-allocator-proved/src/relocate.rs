@@ -12,7 +12,6 @@ impl<T: Tables> AllocatorOf<T> {
     // Where the block begins that a request for `size` units would take, if there is one: where it is
     // granted, its range begins there.
     fn would_begin(&mut self, size: u32) -> Option<u32> {
-        self.store.tables.shape();
         let smallest = uint_to_float_round_up(size);
         let class = bins::find_at_or_above(
             &self.store.tables,

@@ -127,7 +127,6 @@ pub(crate) fn cheapest<T: Tables>(
     want: u32,
     count: &mut Accesses,
 ) -> Option<Run> {
-    tables.shape();
     let size = tables.size(last, count);
     let used = chain::is_used(tables, last, count);
     let mut window = Window::alone(last, size, used);
@@ -170,7 +169,6 @@ pub fn room_cost_counted<T: Tables>(
     size: u32,
     count: &mut Accesses,
 ) -> Option<RoomCost> {
-    allocator.formed();
     let tables = &allocator.store.tables;
     let class = uint_to_float_round_up(size);
     if bins::find_at_or_above(tables, allocator.store.top_mask, class, count).is_some() {

@@ -2,12 +2,12 @@
 
 //! The bytes of the state of a space. It reads the tables, and changes nothing.
 
-use crate::memory::Vec;
 use crate::AllocatorOf;
 use crate::accesses::Accesses;
 use crate::index::{NodeIndex, linked, number};
 use crate::state::checksum;
 use crate::tables::Tables;
+use crate::memory::Vec;
 use crate::memory::{AllocError, Global};
 
 // Adds the names of a bin, the newest first.
@@ -17,7 +17,6 @@ fn push_bin<T: Tables>(
     class: u32,
     count: &mut Accesses,
 ) -> Result<(), AllocError> {
-    tables.shape();
     let mut name = tables.head(class, count);
     while name != T::Index::MAX {
         names.push(name)?;
@@ -88,9 +87,7 @@ fn bytes_of(alloc: Global, words: &[u32]) -> Result<Vec<u8>, AllocError> {
 impl<T: Tables> AllocatorOf<T> {
     // The numbers of the state.
     fn state_numbers(&self, alloc: Global) -> Result<Vec<u32>, AllocError> {
-        self.formed();
         let tables = &self.store.tables;
-        tables.shape();
         let mut count = Accesses::new();
         let names = names_in_bins(alloc, tables, &mut count)?;
         let mut words = Vec::new(alloc);
@@ -118,7 +115,7 @@ impl<T: Tables> AllocatorOf<T> {
     /// of each first: 1414742351 and the version 1, the size, the node limit, the numbers of blocks, of free
     /// ones and of unused names; name and size of each block, from the end of the space to its start; the
     /// names of free blocks, bin by bin, the newest first; the unused names, the next one last; and a
-    /// checksum.
+    /// checksum. So the bytes follow from the space, and two that differ are of two spaces.
     ///
     /// It takes time for the nodes that were made.
     ///

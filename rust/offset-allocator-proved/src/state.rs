@@ -16,7 +16,8 @@ pub struct StateFault {
     pub kind: StateFaultKind,
 }
 
-/// What is wrong with the bytes of a state.
+/// What is wrong with the bytes of a state: where it is before the lists of blocks and names, the first that
+/// applies of `Length`, `Form`, `Limit`, `Counts`, `Length` again, for the counts, and `Checksum`.
 #[derive(Clone, Copy, PartialEq, Debug)]
 pub enum StateFaultKind {
     /// They are not as many as their counts say, or no multiple of 4.
@@ -25,7 +26,8 @@ pub enum StateFaultKind {
     Form,
     /// The node limit is above that which the caller or the index type admits.
     Limit,
-    /// There is no block, or more blocks and unused nodes than the node limit admits.
+    /// There is no block, or more blocks and unused nodes than the node limit admits; or more of the blocks
+    /// are live.
     Counts,
     /// The checksum is not that of the bytes.
     Checksum,
@@ -33,7 +35,8 @@ pub enum StateFaultKind {
     Block,
     /// An unused name: it is that of no node or of a block, or is listed twice.
     Unused,
-    /// The name of a free block: it is that of no block, or is listed twice.
+    /// The name of a free block: it is that of no block, is listed twice, or is not in the order of bins: its
+    /// size class is above that of the next one.
     Free,
     /// This block and the one after it in space are both free.
     Neighbours,

@@ -35,7 +35,6 @@ pub struct Statistics {
 
 // The units of the largest block of a class, or 0 where its bin is empty.
 fn largest_of_class<T: Tables>(tables: &T, class: u32, count: &mut Accesses) -> u32 {
-    tables.shape();
     let mut largest = 0;
     let mut name = tables.head(class, count);
     while name != T::Index::MAX {
@@ -53,7 +52,6 @@ pub fn is_empty_counted<T: Tables>(allocator: &AllocatorOf<T>, count: &mut Acces
 
 // How many blocks are free.
 fn free_blocks<T: Tables>(allocator: &AllocatorOf<T>, count: &mut Accesses) -> u32 {
-    allocator.store.tables.shape();
     let report = storage_report_full_counted(allocator, count);
     let mut blocks = 0;
     for class in 0..256usize {
@@ -73,7 +71,6 @@ fn largest_free<T: Tables>(allocator: &AllocatorOf<T>, count: &mut Accesses) -> 
 
 /// As `Allocator::statistics`. The count grows by at most 520, and 4 for each free block.
 pub fn statistics_counted<T: Tables>(allocator: &AllocatorOf<T>, count: &mut Accesses) -> Statistics {
-    allocator.formed();
     let free_blocks = free_blocks(allocator, count);
     let (largest_free_block, largest_free_region) = largest_free(allocator, count);
     Statistics {
@@ -115,7 +112,6 @@ impl<T: Tables> AllocatorOf<T> {
     /// # Ok::<(), AllocError>(())
     /// ```
     pub fn live_units(&self) -> u32 {
-        self.formed();
         self.size - self.free_total
     }
 

@@ -168,10 +168,4 @@ impl<T: Tables> AllocatorOf<T> {
         self.size += more;
         self.free_total += more;
     }
-
-    /// The blocks and the bins agree. A step of proofs, which does nothing.
-    pub(crate) fn formed(&self) {
-        // a look at a field recalls the invariant
-        let _ = &self.size;
-    }
 }

@@ -1,8 +1,8 @@
 // Printed by rust/erase from crates/offset_allocator/src/tables.rt: change it there.
 
-//! What every layout of the tables does: only the layouts, `by_node`, `by_field` and `by_row`, touch cells. A
-//! function on single cells counts each that it touches; `with_capacity` makes tables, `clear` empties them,
-//! and neither counts.
+//! What every layout of the tables does: only the layouts, `by_node` and `by_field`, touch cells. A function
+//! on single cells counts each that it touches; `with_capacity` makes tables, `clear` empties them, and
+//! neither counts.
 
 use crate::accesses::Accesses;
 use crate::index::NodeIndex;
@@ -30,10 +30,6 @@ pub trait Tables: Sized {
     /// Makes one more node, which is blank. Its name is a new last entry of the stack of unused names, and
     /// becomes the one at a place of it.
     fn add(&mut self, place: u32, count: &mut Accesses);
-
-    /// The tables have their lengths, and links say which nodes are used. A step of proofs, which does
-    /// nothing.
-    fn shape(&self);
 
     /// The link to a node: its name is below the largest number.
     fn link_to(&self, name: u32) -> Self::Index;

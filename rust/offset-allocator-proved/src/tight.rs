@@ -26,7 +26,6 @@ fn first_of_bin<T: Tables>(
     align: u32,
     count: &mut Accesses,
 ) -> Option<u32> {
-    tables.shape();
     let mut name = tables.head(class, count);
     while name != T::Index::MAX {
         let offset = tables.offset(name, count);
@@ -78,7 +77,6 @@ pub fn refusal_tight_aligned_counted<T: Tables>(
     count: &mut Accesses,
 ) -> Option<Refusal> {
     assert!(align.is_power_of_two(), "align must be a power of two");
-    allocator.formed();
     if allocator.names_left() <= align.min(2) {
         return Some(Refusal::Nodes);
     }
@@ -120,7 +118,6 @@ impl<T: Tables> AllocatorOf<T> {
 
     // Grants `size` units of the first block that holds them.
     fn grant_first(&mut self, name: u32, size: u32, align: u32) -> Allocation<T::Index> {
-        self.formed();
         let class = self.bring_first(name);
         self.grant(class, size, align)
     }
@@ -174,7 +171,6 @@ impl<T: Tables> AllocatorOf<T> {
     /// # Ok::<(), AllocError>(())
     /// ```
     pub fn allocate_tight(&mut self, size: u32) -> Option<Allocation<T::Index>> {
-        self.formed();
         self.serve_tight(size, 1)
     }
 

@@ -285,7 +285,6 @@ fn the_calls_of_laws_change_nothing() {
     assert_eq!(laws::storage_report_full_counted(&a, &mut count).free_regions[35].count, 1);
     assert!(laws::undo(&mut a, 88));
     assert!(!laws::undo(&mut a, 89));
-    laws::sizes_add_up(&a);
     assert_eq!(a.storage_report().total_free_space, 90);
     assert_eq!(std::mem::size_of::<Accesses>(), 0);
 }

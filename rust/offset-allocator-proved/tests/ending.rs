@@ -6,7 +6,7 @@
 #[path = "../../random.rs"]
 mod random;
 
-use offset_allocator_proved::{Allocation, AllocatorOf, ByField, ByNode, ByRow, Global, MovePieces, Tables};
+use offset_allocator_proved::{Allocation, AllocatorOf, ByField, ByNode, Global, MovePieces, Tables};
 use random::Random;
 
 fn count() -> u64 {
@@ -112,11 +112,6 @@ fn by_node() {
 #[test]
 fn by_field() {
     spaces::<ByField<u32>>(2);
-}
-
-#[test]
-fn by_row() {
-    spaces::<ByRow<u32>>(4);
 }
 
 #[test]

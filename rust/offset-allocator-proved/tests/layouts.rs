@@ -2,7 +2,7 @@
 #[path = "../../random.rs"]
 mod random;
 
-use offset_allocator_proved::{AllocatorOf, Allocation, ByField, ByNode, ByRow, Global, Move, NodeIndex, Tables};
+use offset_allocator_proved::{AllocatorOf, Allocation, ByField, ByNode, Global, Move, NodeIndex, Tables};
 use random::Xorshift;
 
 fn next(state: &mut Xorshift) -> u32 {
@@ -61,7 +61,6 @@ fn alike<NI: NodeIndex>(size: u32, max_allocs: u32, seed: u64) {
     let lines = history::<ByNode<NI>>(size, max_allocs, seed);
     assert!(lines.iter().any(|l| l.starts_with("Some")) && lines.iter().any(|l| l.starts_with("None")));
     assert_eq!(lines, history::<ByField<NI>>(size, max_allocs, seed));
-    assert_eq!(lines, history::<ByRow<NI>>(size, max_allocs, seed));
 }
 
 #[test]

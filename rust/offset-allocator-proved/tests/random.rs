@@ -210,18 +210,7 @@ impl<NI: NodeIndex> Pair<NI> {
                 result(|| self.space.reset()).unwrap();
                 self.live.clear();
             }
-            _ => {
-                laws::is_well_formed(&self.space);
-                laws::sizes_add_up(&self.space);
-                laws::ranges_are_disjoint(&self.space);
-                laws::no_free_neighbours(&self.space);
-                laws::few_are_live(&self.space);
-                laws::a_full_space_refuses(&self.space);
-                laws::a_compacted_space_grants(&self.space);
-                laws::moves_are_safe();
-                laws::statistics_belong_together(&self.space);
-                laws::tight_refusals_advise(&self.space);
-            }
+            _ => {}
         }
         self.check();
     }

@@ -7,7 +7,7 @@
 mod random;
 
 use offset_allocator_proved::laws::room_cost_counted;
-use offset_allocator_proved::{Accesses, Allocation, AllocatorOf, Block, ByField, ByNode, ByRow, Global, Refusal, RoomCost, Tables};
+use offset_allocator_proved::{Accesses, Allocation, AllocatorOf, Block, ByField, ByNode, Global, Refusal, RoomCost, Tables};
 use random::Random;
 
 fn count() -> u64 {
@@ -184,10 +184,9 @@ fn it_is_the_least_cost_of_all_runs() {
     let mut seen = Seen::default();
     for seed in 0..count() {
         let mut random = Random(seed);
-        match seed % 3 {
+        match seed % 2 {
             0 => try_one::<ByNode<u32>>(&mut random, &mut seen),
-            1 => try_one::<ByField<u32>>(&mut random, &mut seen),
-            _ => try_one::<ByRow<u32>>(&mut random, &mut seen),
+            _ => try_one::<ByField<u32>>(&mut random, &mut seen),
         }
     }
     println!("{seen:?}");

@@ -6,8 +6,7 @@
 #[path = "../../random.rs"]
 mod random;
 
-use offset_allocator_proved::small_float::uint_to_float_round_down;
-use offset_allocator_proved::{Allocation, AllocatorOf, ByField, ByNode, ByRow, Global, StateFaultKind, Tables};
+use offset_allocator_proved::{Allocation, AllocatorOf, ByField, ByNode, Global, StateFaultKind, Tables};
 use random::Random;
 
 fn count() -> u64 {
@@ -116,21 +115,6 @@ fn goes_on<T: Tables<Index = u32>>(seed: u64, rounds: u64) {
 fn a_copy_and_a_space_that_was_read_go_on_alike() {
     goes_on::<ByNode<u32>>(1, 1_000);
     goes_on::<ByField<u32>>(2, 1_000);
-    goes_on::<ByRow<u32>>(6, 1_000);
-}
-
-// The bytes that a space is written to whose state was read from these: the free names class by class.
-fn canonical(state: &[u8]) -> Vec<u8> {
-    let mut numbers = words(state);
-    numbers.pop();
-    let (blocks, free) = (numbers[4] as usize, numbers[5] as usize);
-    let pairs = numbers[7..7 + 2 * blocks].to_vec();
-    let class = |name: u32| {
-        let place = pairs.chunks_exact(2).position(|it| it[0] == name).unwrap();
-        uint_to_float_round_down(pairs[2 * place + 1])
-    };
-    numbers[7 + 2 * blocks..7 + 2 * blocks + free].sort_by_key(|it| class(*it));
-    summed(numbers)
 }
 
 // A state that is changed at random, mostly with a checksum that fits again.
@@ -183,7 +167,8 @@ fn changed_states_are_read_or_refused() {
             }
             Ok(mut space) => {
                 read += 1;
-                assert_eq!(written(&space), canonical(&changed));
+                // a space has one list of bytes
+                assert_eq!(written(&space), changed);
                 let mut held = Vec::new();
                 for _ in 0..4 {
                     call(&mut space, &mut held, &mut random);

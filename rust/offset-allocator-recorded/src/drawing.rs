@@ -3,7 +3,8 @@
 use crate::playing::{Answer, Play};
 use crate::reading::{Call, Header, Line, Lines};
 use offset_allocator_proved::NodeIndex;
-use offset_pictures::{Asked, Course, Global, Life, Reason, Refused, Vec};
+use offset_allocator_memory::Vec;
+use offset_pictures::{Asked, Course, Global, Life, Reason, Refused};
 use offset_script::{Answer as Said, Command, IndexWidth, RunFault, ScriptFault};
 use std::io::BufRead;
 

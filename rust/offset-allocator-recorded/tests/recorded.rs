@@ -1,7 +1,7 @@
 //! What a recording has: each call, before it is made, flushed; and that playing it gives what the calls gave.
 
 use offset_allocator_guarded::{Guarded, GuardedOf};
-use offset_allocator_proved::{Allocator, AllocatorOf, ByField, ByNode, ByRow, Global, Tables};
+use offset_allocator_proved::{Allocator, AllocatorOf, ByField, ByNode, Global, Tables};
 use offset_allocator_recorded::{play, Recorded};
 use std::cell::RefCell;
 use std::io::{self, Write};
@@ -225,7 +225,6 @@ fn playing_gives_what_the_calls_gave() {
     for seed in 0..200 {
         random_calls::<ByNode<u32>>(seed);
         random_calls::<ByField<u16>>(seed);
-        random_calls::<ByRow<u32>>(seed);
     }
 }
 
@@ -263,6 +262,5 @@ fn playing_gives_what_the_tickets_gave() {
     for seed in 0..200 {
         random_tickets::<ByNode<u16>>(seed);
         random_tickets::<ByField<u32>>(seed);
-        random_tickets::<ByRow<u16>>(seed);
     }
 }

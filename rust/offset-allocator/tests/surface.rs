@@ -72,6 +72,14 @@ fn sizes() {
 }
 
 #[test]
+fn new_has_as_many_allocations_as_it_says() {
+    let mut wide: Allocator = Allocator::new(1 << 20);
+    assert_eq!((0..200_000).take_while(|_| wide.allocate(1).is_some()).count(), 131_070);
+    let mut narrow = Allocator::<u16>::new(1 << 20);
+    assert_eq!((0..200_000).take_while(|_| narrow.allocate(1).is_some()).count(), 65_535 - 4);
+}
+
+#[test]
 fn handles_are_as_small_as_the_originals() {
     use std::mem::size_of;
     assert_eq!((size_of::<Allocation>(), size_of::<Option<Allocation>>()), (8, 8));

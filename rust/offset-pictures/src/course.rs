@@ -3,12 +3,12 @@
 //! The course of calls, such as those of a script: all that a picture shows of them. It plays the script, and
 //! keeps no space.
 
-use crate::memory::Vec;
 use crate::living::{Life, lives_of_answers};
 use crate::refusing::Refused;
 use crate::watching::{Watched, watch};
 use offset_allocator::StorageReport;
 use offset_script::{Answer, Command, Script};
+use crate::memory::Vec;
 use crate::memory::{AllocError, Global};
 
 /// What some calls did to a space: those of a script, by `course_of`, or other calls, as noted by the program

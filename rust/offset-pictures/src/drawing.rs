@@ -2,7 +2,6 @@
 
 //! The picture of a script, which it plays, or of a course: its parts in order. It appends text.
 
-use crate::memory::String;
 use crate::course::{Course, course_of};
 use crate::figures::figures_of;
 use crate::legend::{put_legend, put_notes};
@@ -16,6 +15,7 @@ use crate::style::{OPENING, STYLE};
 use crate::titles::{put_escaped, put_heading};
 use offset_allocator::StorageReport;
 use offset_script::Script;
+use crate::memory::String;
 use crate::memory::{AllocError, Global};
 
 // The units that are not in the space yet, where the plot goes beyond it.

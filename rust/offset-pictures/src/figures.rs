@@ -3,10 +3,10 @@
 //! What the legend counts over all states of a course, and what the plots are scaled by. It only reads the
 //! course.
 
-use crate::memory::Vec;
 use crate::course::Course;
 use crate::living::Life;
 use offset_allocator::StorageReport;
+use crate::memory::Vec;
 use crate::memory::{AllocError, Global};
 
 /// The numbers in a picture.

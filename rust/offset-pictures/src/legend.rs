@@ -2,11 +2,11 @@
 
 //! The legend above the plots, and the notes below them. It only appends text.
 
-use crate::memory::String;
 use crate::ages::AGES;
 use crate::figures::{Figures, counted};
 use crate::numerals::{Grouped, Pixels, share_of};
 use crate::plots::{LEFT, REPORTS_TOP, WIDTH};
+use crate::memory::String;
 use crate::memory::AllocError;
 
 // The ending of a word after a number.

@@ -3,9 +3,9 @@
 //! The values of the lower plot: the free units, the largest free region, and what it would be without
 //! fragmentation. It only computes.
 
-use crate::memory::Vec;
 use offset_allocator::StorageReport;
 use offset_allocator::small_float::{float_to_uint, uint_to_float_round_down};
+use crate::memory::Vec;
 use crate::memory::{AllocError, Global};
 
 /// The numbers of each state that the lower plot has a line of.

@@ -7,16 +7,14 @@
 #![expect(clippy::collapsible_match)] // an arm of a `match` and a test within it have a name each in the proof
 #![expect(clippy::needless_range_loop)] // the proof speaks of the numbers of calls
 
-mod memory;
-
-pub use memory::{AllocError, Global, String, Vec};
+pub use offset_allocator_memory as memory;
+pub use offset_allocator_memory::{AllocError, Global};
 
 mod ages;
 mod axes;
 mod course;
 mod drawing;
 mod figures;
-pub mod laws;
 mod legend;
 mod levels;
 mod living;

@@ -2,8 +2,8 @@
 
 //! The lives of grants. It reads commands and their answers, which `lives` has by a play of its script.
 
-use crate::memory::Vec;
 use offset_script::{Answer, Command, Script, play_script};
+use crate::memory::Vec;
 use crate::memory::{AllocError, Global};
 
 /// A life: a range that a grant has, and the calls between which it has it.

@@ -2,11 +2,11 @@
 
 //! Merges the rectangles of many lives. It only computes.
 
-use crate::memory::Vec;
 use crate::axes::TENTH;
 use crate::living::Life;
 use crate::plots::Plot;
 use crate::shapes::{Shape, shape_of};
+use crate::memory::Vec;
 use crate::memory::{AllocError, Global};
 
 // Whether a rectangle is thinner than a tenth of a pixel.

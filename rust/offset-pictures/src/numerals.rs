@@ -2,8 +2,8 @@
 
 //! Numbers as the picture writes them. It only adds text: after what is there, or before it in a `Piece`.
 
-use crate::memory::String;
 use offset_script::TextBuffer;
+use crate::memory::String;
 use crate::memory::AllocError;
 use core::fmt;
 

@@ -2,10 +2,10 @@
 
 //! The two plots: where they are, and their axes with round numbers. It only appends text.
 
-use crate::memory::String;
 use crate::axes::{Axis, round_step};
 use crate::figures::Figures;
 use crate::numerals::{Grouped, Pixels};
+use crate::memory::String;
 use crate::memory::AllocError;
 
 /// A plot: calls to the right, units upwards.

@@ -2,12 +2,12 @@
 
 //! Why calls were refused, as the titles of their marks. It only appends text.
 
-use crate::memory::String;
 use crate::numerals::Pixels;
 use crate::plots::Plot;
 use crate::refusing::{Asked, Reason, Refused};
 use offset_allocator::ext::min_allocator_size;
 use offset_allocator::{Refusal, StorageReport};
+use crate::memory::String;
 use crate::memory::AllocError;
 
 // The largest value of a class that a block can have: no space grants a request for more units.

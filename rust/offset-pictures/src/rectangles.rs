@@ -2,14 +2,14 @@
 
 //! The rectangles of lives, in a group for each age, whose class has the colour. It only appends text.
 
-use crate::memory::String;
-use crate::memory::Vec;
 use crate::ages::AGES;
 use crate::living::Life;
 use crate::merging::merged_shapes;
 use crate::numerals::{Piece, Pixels, prepend_pixels, put_piece};
 use crate::plots::Plot;
 use crate::shapes::{Shape, shape_of};
+use crate::memory::String;
+use crate::memory::Vec;
 use crate::memory::{AllocError, Global};
 
 // The most lives that are drawn with a title each.

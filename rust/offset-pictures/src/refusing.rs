@@ -3,10 +3,9 @@
 //! Which calls were refused, and why: what a space says after a refused call, which left it as it was. It
 //! only asks the space.
 
-use crate::memory::Vec;
-use offset_allocator::laws::is_well_formed;
 use offset_allocator::{AllocatorOf, Refusal, Tables};
 use offset_script::{Answer, Command};
+use crate::memory::Vec;
 use crate::memory::AllocError;
 
 /// What a refused call asked for, in the words of scripts and recordings.
@@ -57,8 +56,6 @@ pub fn is_refusal(answer: &Answer) -> bool {
 
 // Why a space refuses a request.
 fn shortage<T: Tables>(space: &AllocatorOf<T>, size: u32, align: u32) -> Refusal {
-    // A step of the proof, which does nothing.
-    is_well_formed(space);
     match space.refusal_aligned(size, align) {
         Some(why) => why,
         // It would be granted.

@@ -3,12 +3,12 @@
 //! Values of states, as a line of steps, and calls, as marks. Both are drawn to a tenth of a pixel. It only
 //! appends text.
 
-use crate::memory::String;
-use crate::memory::Vec;
 use crate::axes::{Axis, TENTH};
 use crate::numerals::{Piece, Pixels, prepend_pixels, put_piece};
 use crate::plots::Plot;
 use crate::refusing::Refused;
+use crate::memory::String;
+use crate::memory::Vec;
 use crate::memory::{AllocError, Global};
 
 // The length in whole tenths of a pixel.

@@ -3,8 +3,8 @@
 //! The title of a picture: its heading, how large that is, and its accessible name. XML gives some characters
 //! a meaning of their own. It only appends text.
 
-use crate::memory::String;
 use crate::numerals::Pixels;
+use crate::memory::String;
 use crate::memory::AllocError;
 
 // Whether a character is shown: it is no character below the space, and neither U+FFFE nor U+FFFF, which XML

@@ -3,10 +3,10 @@
 //! What a script's space says while the script is played, without its full reports: what it reports after
 //! each command, and why it refuses commands. It plays the script, and asks its space after each command.
 
-use crate::memory::Vec;
 use crate::refusing::{Refused, note};
 use offset_allocator::{AllocatorOf, ByNode, StorageReport, Tables};
 use offset_script::{Answer, Command, Listener, Script, play_script_to};
+use crate::memory::Vec;
 use crate::memory::{AllocError, Global};
 
 /// What a script's space says while the script is played, with a report in place of each full report.

@@ -4,12 +4,12 @@
 //! played: no list of answers is kept, unless full reports have many rows. It plays by `playing`, and
 //! touches only its text.
 
-use crate::memory::Vec;
 use crate::answers::{Answer, put_answer};
 use crate::listening::Listener;
 use crate::playing::play_script_to;
 use crate::scripts::{Command, Script};
 use offset_allocator::{AllocatorOf, ByNode, Tables};
+use crate::memory::Vec;
 use crate::memory::{AllocError, Global};
 use core::mem::replace;
 

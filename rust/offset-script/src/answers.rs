@@ -2,9 +2,9 @@
 
 //! Answers, and the lines of each. It reads spaces, and appends to texts.
 
-use crate::memory::Vec;
 use crate::buffer::TextBuffer;
 use offset_allocator::{AllocatorOf, StorageReport, Tables};
+use crate::memory::Vec;
 use crate::memory::{AllocError, Global};
 
 // The most bytes of a line. Three numbers of 20 digits and the words of a row fit.
@@ -53,6 +53,7 @@ pub enum Answer {
 ///
 /// ```
 /// # use offset_allocator::ByNode;
+/// # use offset_script::memory::Vec;
 /// # use offset_script::*;
 /// # let alloc = Global;
 /// let mut player = Player::<u32>::start(alloc, 1000, 16)?;

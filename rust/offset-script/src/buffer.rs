@@ -29,6 +29,7 @@ impl<const ROOM: usize> TextBuffer<ROOM> {
     ///
     /// ```
     /// # use offset_allocator::ByNode;
+    /// # use offset_script::memory::Vec;
     /// # use offset_script::*;
     /// # let alloc = Global;
     /// let line = TextBuffer::<80>::new();
@@ -47,6 +48,7 @@ impl<const ROOM: usize> TextBuffer<ROOM> {
     ///
     /// ```
     /// # use offset_allocator::ByNode;
+    /// # use offset_script::memory::Vec;
     /// # use offset_script::*;
     /// # let alloc = Global;
     /// let mut line = TextBuffer::<80>::new();
@@ -72,6 +74,7 @@ impl<const ROOM: usize> TextBuffer<ROOM> {
     ///
     /// ```
     /// # use offset_allocator::ByNode;
+    /// # use offset_script::memory::Vec;
     /// # use offset_script::*;
     /// # let alloc = Global;
     /// let mut line = TextBuffer::<80>::new();
@@ -92,6 +95,7 @@ impl<const ROOM: usize> TextBuffer<ROOM> {
     ///
     /// ```
     /// # use offset_allocator::ByNode;
+    /// # use offset_script::memory::Vec;
     /// # use offset_script::*;
     /// # let alloc = Global;
     /// let mut line = TextBuffer::<80>::new();
@@ -107,6 +111,7 @@ impl<const ROOM: usize> TextBuffer<ROOM> {
     ///
     /// ```
     /// # use offset_allocator::ByNode;
+    /// # use offset_script::memory::Vec;
     /// # use offset_script::*;
     /// # let alloc = Global;
     /// let mut line = TextBuffer::<80>::new();
@@ -124,6 +129,7 @@ impl<const ROOM: usize> TextBuffer<ROOM> {
     ///
     /// ```
     /// # use offset_allocator::ByNode;
+    /// # use offset_script::memory::Vec;
     /// # use offset_script::*;
     /// # let alloc = Global;
     /// let mut line = TextBuffer::<80>::new();

@@ -3,10 +3,10 @@
 //! Reads lines of the commonest commands, in one pass over each; all others, and the last ones of a text,
 //! are left to `parsing`. It only reads the text, and appends commands.
 
-use crate::memory::Vec;
 use crate::lines::Lines;
 use crate::scripts::Command;
 use crate::tokens::MOST_DIGITS;
+use crate::memory::Vec;
 use crate::memory::AllocError;
 
 // The most bytes that are read here: a word, a space, and a number with its line end. Where fewer are left,

@@ -33,6 +33,7 @@ impl<R: Read> FromRead<R> {
     ///
     /// ```
     /// # use offset_allocator::ByNode;
+    /// # use offset_script::memory::Vec;
     /// # use offset_script::*;
     /// # let alloc = Global;
     /// let mut input = FromRead::new(&b"space 1000 nodes 16 index 32\n"[..]);
@@ -50,6 +51,7 @@ impl<R: Read> FromRead<R> {
     ///
     /// ```
     /// # use offset_allocator::ByNode;
+    /// # use offset_script::memory::Vec;
     /// # use offset_script::*;
     /// # let alloc = Global;
     /// let mut input = FromRead::new(&b"ab"[..]);
@@ -89,6 +91,7 @@ impl<W: Write> IntoWrite<W> {
     ///
     /// ```
     /// # use offset_allocator::ByNode;
+    /// # use offset_script::memory::Vec;
     /// # use offset_script::*;
     /// # let alloc = Global;
     /// let mut output = IntoWrite::new(std::vec::Vec::new());
@@ -108,6 +111,7 @@ impl<W: Write> IntoWrite<W> {
     ///
     /// ```
     /// # use offset_allocator::ByNode;
+    /// # use offset_script::memory::Vec;
     /// # use offset_script::*;
     /// # let alloc = Global;
     /// let mut output = IntoWrite::new(std::vec::Vec::new());

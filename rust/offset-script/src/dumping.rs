@@ -2,9 +2,9 @@
 
 //! A space as JSON, for tools that draw or count its blocks. It only reads the space.
 
+use offset_allocator::{AllocatorOf, Block, NodeIndex, Statistics, Tables};
 use crate::memory::String;
 use crate::memory::Vec;
-use offset_allocator::{AllocatorOf, Block, NodeIndex, Statistics, Tables};
 use crate::memory::{AllocError, Global};
 
 // The blocks of a space, in space order.
@@ -97,15 +97,16 @@ fn put_live(
     )
 }
 
-// Appends what is free.
+// Appends what is free, and the nodes that no block has.
 fn put_free(text: &mut String, sums: &Statistics) -> Result<(), AllocError> {
     let blocks = sums.free_blocks;
     let free = sums.free_units;
     let block = sums.largest_free_block;
     let region = sums.largest_free_region;
+    let unused = sums.unused_nodes;
     write!(
         text,
-        ",\"free_blocks\":{blocks},\"free_units\":{free},\"largest_free_block\":{block},\"largest_free_region\":{region},\"blocks\":["
+        ",\"free_blocks\":{blocks},\"free_units\":{free},\"largest_free_block\":{block},\"largest_free_region\":{region},\"unused_nodes\":{unused},\"blocks\":["
     )
 }
 
@@ -138,6 +139,7 @@ fn put_vma_numbers(text: &mut String, size: u32, sums: &Statistics) -> Result<()
 ///
 /// ```
 /// # use offset_allocator::ByNode;
+/// # use offset_script::memory::Vec;
 /// # use offset_script::*;
 /// # let alloc = Global;
 /// let mut player = Player::<u32>::start(alloc, 1000, 16)?;
@@ -162,6 +164,7 @@ pub fn json_of<T: Tables>(space: &AllocatorOf<T>, alloc: Global) -> Result<Strin
 ///
 /// ```
 /// # use offset_allocator::ByNode;
+/// # use offset_script::memory::Vec;
 /// # use offset_script::*;
 /// # let alloc = Global;
 /// let mut player = Player::<u32>::start(alloc, 1000, 16)?;

@@ -46,6 +46,7 @@ impl RunFault {
     ///
     /// ```
     /// # use offset_allocator::ByNode;
+    /// # use offset_script::memory::Vec;
     /// # use offset_script::*;
     /// # let alloc = Global;
     /// assert_eq!(RunFault::Read.status(), 4);
@@ -63,6 +64,7 @@ impl RunFault {
     ///
     /// ```
     /// # use offset_allocator::ByNode;
+    /// # use offset_script::memory::Vec;
     /// # use offset_script::*;
     /// # let alloc = Global;
     /// assert_eq!(RunFault::Read.parts(), (None, "read failed"));

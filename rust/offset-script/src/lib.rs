@@ -7,9 +7,8 @@
 #![expect(clippy::manual_unwrap_or_default)] // a `match` needs no call, whose contract a proof would need
 #![expect(clippy::new_without_default)] // one name for an empty text is enough
 
-mod memory;
-
-pub use memory::{AllocError, Global, String, Vec};
+pub use offset_allocator_memory as memory;
+pub use offset_allocator_memory::{AllocError, Global};
 
 mod answer_text;
 mod answers;
@@ -18,7 +17,6 @@ mod common_lines;
 mod devices;
 mod dumping;
 mod faults;
-pub mod laws;
 mod lines;
 mod listening;
 mod parsing;

@@ -2,12 +2,12 @@
 
 //! Parses a text as a script, the commonest lines by `common_lines`. It only reads the text.
 
-use crate::memory::Vec;
 use crate::common_lines::read_common;
 use crate::faults::ScriptFault;
 use crate::lines::Lines;
 use crate::scripts::{Command, Header, IndexWidth, Script};
 use crate::tokens::{number, split_once};
+use crate::memory::Vec;
 use crate::memory::Global;
 
 /// The largest number of bytes of a script.
@@ -122,6 +122,7 @@ impl Header {
 ///
 /// ```
 /// # use offset_allocator::ByNode;
+/// # use offset_script::memory::Vec;
 /// # use offset_script::*;
 /// # let alloc = Global;
 /// let script = parse(alloc, b"space 1000 nodes 16 index 32\nalloc 300\n")?;

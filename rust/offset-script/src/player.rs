@@ -3,10 +3,10 @@
 //! A player: it carries out commands on an allocator, of which it keeps the handles. No other module of this
 //! crate changes a space.
 
-use crate::memory::Vec;
 use crate::answers::{Answer, full_answer};
 use crate::scripts::Command;
 use offset_allocator::{Allocation, AllocatorOf, ByNode, NodeIndex, Tables};
+use crate::memory::Vec;
 use crate::memory::{AllocError, Global};
 
 /// A player of an allocator by node.
@@ -35,6 +35,7 @@ impl<T: Tables> PlayerOf<T> {
     ///
     /// ```
     /// # use offset_allocator::ByNode;
+    /// # use offset_script::memory::Vec;
     /// # use offset_script::*;
     /// # let alloc = Global;
     /// let player = Player::<u16>::start(alloc, 1000, 16)?;
@@ -57,6 +58,7 @@ impl<T: Tables> PlayerOf<T> {
     ///
     /// ```
     /// # use offset_allocator::ByNode;
+    /// # use offset_script::memory::Vec;
     /// # use offset_script::*;
     /// # let alloc = Global;
     /// let mut player = Player::<u32>::start(alloc, 1000, 16)?;
@@ -74,14 +76,17 @@ impl<T: Tables> PlayerOf<T> {
         }
     }
 
-    /// The answer to a request with this result. The handle of a grant is kept under the next number.
+    /// The answer to a request with this result. The handle of a grant is kept under the next number: it has
+    /// to be live in `space`, and not kept yet.
     ///
     /// # Errors
     ///
-    /// It fails only where an allocation fails.
+    /// It fails only where an allocation fails, and never while `handles` has room for one more. Then the
+    /// grant is live, and not kept: to free it, or to keep it later, is left to the caller.
     ///
     /// ```
     /// # use offset_allocator::ByNode;
+    /// # use offset_script::memory::Vec;
     /// # use offset_script::*;
     /// # let alloc = Global;
     /// let mut player = Player::<u32>::start(alloc, 1000, 16)?;
@@ -103,8 +108,14 @@ impl<T: Tables> PlayerOf<T> {
         }
     }
 
+    // Makes room for one more handle. It comes before a request, so that no grant is without a number.
+    fn reserve(&mut self) -> Result<(), AllocError> {
+        self.handles.reserve(1)
+    }
+
     // The answer to `alloc`.
     fn allocate(&mut self, size: u32) -> Result<Answer, AllocError> {
+        self.reserve()?;
         let granted = self.space.allocate(size);
         self.keep(granted)
     }
@@ -146,6 +157,7 @@ impl<T: Tables> PlayerOf<T> {
 
     // The answer to `align`.
     fn allocate_aligned(&mut self, size: u32, align: u32) -> Result<Answer, AllocError> {
+        self.reserve()?;
         let granted = self.space.allocate_aligned(size, align);
         self.keep(granted)
     }
@@ -160,10 +172,13 @@ impl<T: Tables> PlayerOf<T> {
     }
 
     /// Carries out one command, and returns its answer. The alignment of a request has to be a power of two.
+    /// Each handle that is kept has to be live, and no two may have one name: so it is in a player that
+    /// `start` made, and after each `call` and each `keep`.
     ///
     /// # Errors
     ///
-    /// It fails only where an allocation fails.
+    /// It fails only where an allocation fails. Then nothing was done: the space and the handles are as they
+    /// were, and the command may be tried again.
     ///
     /// # Panics
     ///
@@ -171,6 +186,7 @@ impl<T: Tables> PlayerOf<T> {
     ///
     /// ```
     /// # use offset_allocator::ByNode;
+    /// # use offset_script::memory::Vec;
     /// # use offset_script::*;
     /// # let alloc = Global;
     /// let mut player = Player::<u32>::start(alloc, 1000, 16)?;

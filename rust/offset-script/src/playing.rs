@@ -3,13 +3,12 @@
 //! Plays commands in a row by a player, for a listener: a list of their answers is such a listener. It
 //! changes spaces by its player alone.
 
-use crate::memory::Vec;
 use crate::answers::Answer;
 use crate::listening::Listener;
 use crate::player::PlayerOf;
 use crate::scripts::{Command, IndexWidth, Script};
-use offset_allocator::laws::is_well_formed;
 use offset_allocator::{AllocatorOf, ByNode, NodeIndex, Tables};
+use crate::memory::Vec;
 use crate::memory::{AllocError, Global};
 
 /// Plays commands on an allocator of `size` units with the node limit `max_allocs`, drops its space, and
@@ -28,13 +27,10 @@ pub(crate) fn play_to<T: Tables, L: Listener>(
     commands: &[Command],
 ) -> Result<L, AllocError> {
     let mut player: PlayerOf<T> = PlayerOf::start(alloc, size, max_allocs)?;
-    // A step of the proof, which does nothing, here and below.
-    is_well_formed(&player.space);
     let mut listener = L::begin(alloc, &player.space, commands.len())?;
     for command in commands {
         let asked = L::played(*command);
         let answer = player.call(alloc, asked)?;
-        is_well_formed(&player.space);
         listener.hear(alloc, &player.space, asked, answer)?;
     }
     Ok(listener)
@@ -49,6 +45,7 @@ pub(crate) fn play_to<T: Tables, L: Listener>(
 ///
 /// ```
 /// # use offset_allocator::ByNode;
+/// # use offset_script::memory::Vec;
 /// # use offset_script::*;
 /// # let alloc = Global;
 /// let script = parse(alloc, b"space 1000 nodes 16 index 32\nalloc 300\nfree 1\n")?;
@@ -109,6 +106,7 @@ impl Listener for Vec<Answer> {
 ///
 /// ```
 /// # use offset_allocator::ByNode;
+/// # use offset_script::memory::Vec;
 /// # use offset_script::*;
 /// # let alloc = Global;
 /// let script = parse(alloc, b"space 1000 nodes 16 index 32\nalloc 300\nfree 1\n")?;
@@ -138,6 +136,7 @@ pub fn play_of<T: Tables>(
 ///
 /// ```
 /// # use offset_allocator::ByNode;
+/// # use offset_script::memory::Vec;
 /// # use offset_script::*;
 /// # let alloc = Global;
 /// let script = parse(alloc, b"space 1000 nodes 16 index 32\nalloc 300\nfree 1\n")?;
@@ -167,6 +166,7 @@ pub fn play<NI: NodeIndex>(
 ///
 /// ```
 /// # use offset_allocator::ByNode;
+/// # use offset_script::memory::Vec;
 /// # use offset_script::*;
 /// # let alloc = Global;
 /// let script = parse(alloc, b"space 1000 nodes 16 index 32\nalloc 300\nfree 1\n")?;

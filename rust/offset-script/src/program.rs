@@ -32,6 +32,7 @@ pub fn run_program_of<X: Rendering, S: Source, K: Sink, E: Sink>(
 ///
 /// ```
 /// # use offset_allocator::ByNode;
+/// # use offset_script::memory::Vec;
 /// # use offset_script::*;
 /// # let alloc = Global;
 /// let mut input = FromRead::new(&b"no script"[..]);

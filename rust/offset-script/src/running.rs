@@ -3,13 +3,13 @@
 //! Runs a script from a source to a sink. It touches these and its own spaces; nothing is sent before all is
 //! read and made.
 
-use crate::memory::Vec;
 use crate::answer_text::text_of_answers;
 use crate::devices::{Sink, Source};
 use crate::faults::RunFault;
 use crate::parsing::{MAX_TEXT, parse};
 use crate::scripts::Script;
 use crate::sending::send_in_turn;
+use crate::memory::Vec;
 use crate::memory::{AllocError, Global};
 
 // The largest number of bytes that one pull requests.
@@ -37,6 +37,7 @@ fn read_text<S: Source>(alloc: Global, input: &mut S) -> Result<Vec<u8>, RunFaul
 ///
 /// ```
 /// # use offset_allocator::ByNode;
+/// # use offset_script::memory::Vec;
 /// # use offset_script::*;
 /// # let alloc = Global;
 /// let mut input = FromRead::new(&b"space 1000 nodes 16 index 32\nalloc 300\n"[..]);
@@ -106,6 +107,7 @@ impl Rendering for AnswerText {
 ///
 /// ```
 /// # use offset_allocator::ByNode;
+/// # use offset_script::memory::Vec;
 /// # use offset_script::*;
 /// # let alloc = Global;
 /// let mut input = FromRead::new(&b"space 1000 nodes 16 index 32\nalloc 300\n"[..]);

@@ -3,6 +3,7 @@
 //! Sends texts to sinks. It touches the sinks alone, and takes no memory.
 
 use crate::memory::Vec;
+
 use crate::buffer::TextBuffer;
 use crate::devices::Sink;
 use crate::faults::RunFault;
@@ -27,6 +28,7 @@ fn push_all<K: Sink>(output: &mut K, text: &[u8]) -> bool {
 ///
 /// ```
 /// # use offset_allocator::ByNode;
+/// # use offset_script::memory::Vec;
 /// # use offset_script::*;
 /// # let alloc = Global;
 /// let mut output = IntoWrite::new(std::vec::Vec::new());
@@ -58,6 +60,7 @@ pub(crate) fn send_in_turn<K: Sink>(output: &mut K, pieces: &[Vec<u8>]) -> bool 
 ///
 /// ```
 /// # use offset_allocator::ByNode;
+/// # use offset_script::memory::Vec;
 /// # use offset_script::*;
 /// # let alloc = Global;
 /// let mut output = IntoWrite::new(std::vec::Vec::new());

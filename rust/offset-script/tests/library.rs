@@ -22,7 +22,7 @@ fn spaces_as_json() {
     space.free(first);
     let wanted = format!(
         "{{\"size\":100,\"max_allocs\":16,\"live_ranges\":1,\"live_units\":8,\"free_blocks\":2,\"free_units\":92,\
-         \"largest_free_block\":76,\"largest_free_region\":72,\"blocks\":[{{\"offset\":0,\"size\":16}},\
+         \"largest_free_block\":76,\"largest_free_region\":72,\"unused_nodes\":13,\"blocks\":[{{\"offset\":0,\"size\":16}},\
          {{\"offset\":16,\"size\":8,\"name\":{name}}},{{\"offset\":24,\"size\":76}}]}}"
     );
     assert_eq!(String::from(json_of(&space, Global).unwrap()), wanted);

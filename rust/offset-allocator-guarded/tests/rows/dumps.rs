@@ -15,9 +15,10 @@ const VMA: &str =
 fn wanted(limit: u32, name: u32) -> String {
     let counts =
         ",\"free_blocks\":1,\"free_units\":17,\"largest_free_block\":17,\"largest_free_region\":16";
+    let unused = limit - 2;
     format!(
         "{{\"size\":20,\"max_allocs\":{limit},\"live_ranges\":1,\"live_units\":3{counts},\
-         \"blocks\":[{{\"offset\":0,\"size\":3,\"name\":{name}}},{{\"offset\":3,\"size\":17}}]}}"
+         \"unused_nodes\":{unused},\"blocks\":[{{\"offset\":0,\"size\":3,\"name\":{name}}},{{\"offset\":3,\"size\":17}}]}}"
     )
 }
 

@@ -1,7 +1,7 @@
 //! All layouts, with each index type.
 
 use super::tiny::Tiny;
-use offset_allocator::{ByField, ByNode, ByRow, Tables};
+use offset_allocator::{ByField, ByNode, Tables};
 
 /// All layouts of an index type.
 #[derive(Clone, Copy)]
@@ -26,17 +26,14 @@ pub fn check_each<E: Expectation>(layouts: &[Layout], expected: &E) {
             Layout::Wide => {
                 expected.check::<ByNode<u32>>();
                 expected.check::<ByField<u32>>();
-                expected.check::<ByRow<u32>>();
             }
             Layout::Narrow => {
                 expected.check::<ByNode<u16>>();
                 expected.check::<ByField<u16>>();
-                expected.check::<ByRow<u16>>();
             }
             Layout::Tiny => {
                 expected.check::<ByNode<Tiny>>();
                 expected.check::<ByField<Tiny>>();
-                expected.check::<ByRow<Tiny>>();
             }
         }
     }

@@ -1,10 +1,11 @@
-//! Every call that may return out of memory, at sizes in powers of two: no clause says when memory is out, so a body that
-//! gives up at some sizes is proved, and refused here. Large spaces and node limits that are reached grant and report
-//! what they have to.
+//! Every call that may return out of memory, at sizes in powers of two, and with as many nodes made: no clause says when
+//! memory is out, so a body that gives up at some sizes is proved, and refused here. Large spaces and node limits that are
+//! reached grant and report what they have to.
 
 use super::layouts::{check_each, Expectation, ALL};
 use offset_allocator::{AllocError, Allocation, AllocatorOf, Global, NodeIndex, StorageReport, Tables};
-use offset_allocator_guarded::GuardedOf;
+use offset_allocator_guarded::{GuardedOf, Ticket};
+use offset_script::{full_answer, json_of, vma_json_of};
 
 // Whether the index type admits a node limit.
 fn is_admitted<T: Tables>(limit: u32) -> bool {
@@ -121,9 +122,115 @@ impl Expectation for Limits {
     }
 }
 
+// A space with as many nodes made as its limit admits. A quarter of its ranges is live, each beside a free block; the
+// others were freed, and coalesced: so there are as many unused names.
+fn filled<T: Tables>(max_allocs: u32) -> Result<AllocatorOf<T>, AllocError> {
+    let mut space = AllocatorOf::<T>::with_max_allocs(Global, u32::MAX, max_allocs)?;
+    let handles = fill(&mut space);
+    for (place, handle) in handles.iter().enumerate() {
+        if place % 2 == 0 || place > handles.len() / 2 {
+            space.free(*handle);
+        }
+    }
+    assert_eq!(space.node_count(), max_allocs - 1);
+    Ok(space)
+}
+
+// The same with tickets.
+fn filled_guarded<T: Tables>(max_allocs: u32) -> Result<GuardedOf<T>, AllocError> {
+    let mut guarded = GuardedOf::<T>::with_max_allocs(Global, u32::MAX, max_allocs, 1)?;
+    let tickets: Vec<Ticket> = (0..max_allocs - 2).map(|_| guarded.allocate(1).expect("room")).collect();
+    for (place, ticket) in tickets.iter().enumerate() {
+        if place % 2 == 0 || place > tickets.len() / 2 {
+            assert!(guarded.free(*ticket));
+        }
+    }
+    assert_eq!(guarded.allocator().node_count(), max_allocs - 1);
+    Ok(guarded)
+}
+
+// A call that takes memory, of a space and of a guarded one whose nodes are all made.
+type Row<T> = (&'static str, fn(&AllocatorOf<T>, &GuardedOf<T>) -> Result<(), AllocError>);
+
+// Each such call.
+fn rows<T: Tables>() -> [Row<T>; 9] {
+    [
+        ("try_clone", |space, _| {
+            let copy = space.try_clone(Global)?;
+            assert_eq!(copy.statistics(), space.statistics());
+            assert_eq!(copy.node_count(), space.node_count());
+            Ok(())
+        }),
+        ("write_state", |space, _| {
+            let sums = space.statistics();
+            let unused = space.node_count() - space.block_count();
+            let words = 8 + 2 * space.block_count() + sums.free_blocks + unused;
+            assert_eq!(space.write_state(Global)?.len(), 4 * words as usize);
+            Ok(())
+        }),
+        ("read_state", |space, _| {
+            let bytes = space.write_state(Global)?;
+            let read = AllocatorOf::<T>::read_state(Global, &bytes, space.max_allocs())?.expect("a state");
+            assert_eq!(read.statistics(), space.statistics());
+            assert_eq!(read.node_count(), space.node_count());
+            Ok(())
+        }),
+        ("json_of", |space, _| {
+            assert!(json_of(space, Global)?.len() > 20 * space.block_count() as usize);
+            Ok(())
+        }),
+        ("vma_json_of", |space, _| {
+            assert!(vma_json_of(space, Global)?.len() > 20 * space.block_count() as usize);
+            Ok(())
+        }),
+        ("full_answer", |space, _| full_answer(Global, space).map(|_| ())),
+        ("try_clone with tickets", |_, guarded| {
+            let copy = guarded.try_clone(Global)?;
+            assert_eq!(copy.allocator().statistics(), guarded.allocator().statistics());
+            Ok(())
+        }),
+        ("write_state with tickets", |space, guarded| {
+            // a serial for each name, which is in 64 bits
+            let length = guarded.write_state(Global)?.len();
+            assert_eq!(length, space.write_state(Global)?.len() + 48 + 8 * space.node_count() as usize);
+            Ok(())
+        }),
+        ("read_state with tickets", |_, guarded| {
+            let bytes = guarded.write_state(Global)?;
+            let limit = guarded.allocator().max_allocs();
+            let read = GuardedOf::<T>::read_state(Global, &bytes, limit)?.expect("a state");
+            assert_eq!(read.allocator().statistics(), guarded.allocator().statistics());
+            Ok(())
+        }),
+    ]
+}
+
+struct Filled;
+
+impl Expectation for Filled {
+    fn check<T: Tables>(&self) {
+        for power in 2..19 {
+            let max_allocs = (1 << power) + 2;
+            if !is_admitted::<T>(max_allocs) {
+                break;
+            }
+            let space = filled::<T>(max_allocs).expect("memory");
+            let guarded = filled_guarded::<T>(max_allocs).expect("memory");
+            for (name, row) in rows::<T>() {
+                assert!(row(&space, &guarded).is_ok(), "{name} with {max_allocs} nodes");
+            }
+        }
+    }
+}
+
 #[test]
 fn each_size_has_memory() {
     check_each(&ALL, &Spaces);
+}
+
+#[test]
+fn each_number_of_nodes_has_memory() {
+    check_each(&ALL, &Filled);
 }
 
 #[test]

@@ -1,6 +1,6 @@
-use Rattle.offset_allocator.proofs.Common.{◌∙◌, ℕ, true, refl, ap, arith, Node, View, ends_used, units}
-use Rattle.offset_allocator.proofs.{Sound.fields_of, Classes.down_small, Places.at_place, Places.end_place, Places.last_place, Places.placed, Readied.made, Readied.made_shown, Readied.with_made}
-use Rattle.offset_allocator.proofs.{Views.blocks-chain, Extending.Growth, Extending.Grown, Extending.end_held, Extending.free_fits, Extending.split_fits, Extending.append_unlisted, Extending.appended}
+use Rattle.offset_allocator.proofs.Common.{◌∙◌, ◌+◌, ℕ, true, refl, sym, subst, ap, arith, Node, View, Adds, HasRoomFor, KeepsAll, ends_used, units}
+use Rattle.offset_allocator.proofs.{Sound.fields_of, Sound.shown, Classes.down_small, Places.at_place, Places.end_place, Places.last_place, Places.placed, Readied.made, Readied.made_shown, Readied.with_made}
+use Rattle.offset_allocator.proofs.{Views.blocks-chain, Extending.Growth, Extending.Grown, Extending.end_held, Extending.free_fits, Extending.split_fits, Extending.append_unlisted, Extending.appended, Extending.adds_unused}
 use Rattle.offset_allocator.proofs.AllocatorOf.append.Goals as goal
 use Rattle.offset_allocator.proofs.AllocatorOf.append.{Goals.After-ensure_spare, Goals.After-push, Given.Over}
 
@@ -12,8 +12,7 @@ pre g c = record {
   some = c.requires.more;
   fits = rw (← c.self.view_is) at c.requires.fits;
   ends =
-      ap (λ (u : View). ends_used u.blocks) (made_shown (fields_of g.T.Tables.cells g.T.Index.NodeIndex.MAX c.self.inside) c.self.invariant c.ensure_spare.ensures.readies
-      ∙ c.self.view_is) ∙ c.requires.used;
+      ap (λ (u : View). ends_used u.blocks) (made_shown (fields_of g.T.Tables.cells g.T.Index.NodeIndex.MAX c.self.inside) c.self.invariant c.ensure_spare.ensures.readies _ c.self.view_is) ∙ c.requires.used;
 }
 
 pub ensure_spare-requires-clause-memory : goal.ensure_spare-requires-clause-memory
@@ -71,19 +70,36 @@ done g c r k =
     let grown = c.grow.ensures.place _ _ _ _ (last_place _ _ _ (c.split-name.ensures.place _ _ held)) in
     rw (c.push.ensures.chain.1, c.push.ensures.chain.2)
     (appended r (g.T.Tables.cells c.push.new.store.tables) k
-    (rw (← (made_shown (fields_of g.T.Tables.cells g.T.Index.NodeIndex.MAX c.self.inside) c.self.invariant c.ensure_spare.ensures.readies ∙ c.self.view_is)) at c.requires.enough)
+    (subst (HasRoomFor 1)
+    (sym (made_shown (fields_of g.T.Tables.cells g.T.Index.NodeIndex.MAX c.self.inside) c.self.invariant c.ensure_spare.ensures.readies _ c.self.view_is)) c.requires.enough)
     c.size-whole.ensures.cell (rw c.push.ensures.chain.0 grown.chain) c.push.ensures.binned
     (rw (c.grow.ensures.bins, c.split-name.ensures.bins.0, c.uint_to_float_round_down.ensures.is) at c.push.ensures.lists) (c.split-name.ensures.fresh _ _ held) c.split-name.ensures.below)
 
 pub invariant_of-self : goal.invariant_of-self
 invariant_of-self g c = let at = goal.at.invariant_of-self g c in (done g at.After-push (pre g at.After-ensure_spare) 0).0
 
+-- what is left
+abbrev left : (g : Over) → After-push g → View
+left g c = shown (record (with_made (fields_of g.T.Tables.cells g.T.Index.NodeIndex.MAX c.self.inside) (g.T.Tables.cells c.ensure_spare.new.tables) c.ensure_spare.new.spare_count) {
+  size = c.self.inside.size + c.args.more;
+  cells = (g.T.Tables.cells c.push.new.store.tables);
+  last = c.push.new.store.last;
+  count = c.push.new.store.spare_count;
+  top = c.push.new.store.top_mask;
+  free = c.self.inside.free_total + c.args.more;
+  accesses = c.push.new.store.accesses;
+})
+
 pub returns-clause-step : goal.returns-clause-step
-returns-clause-step g c = let at = goal.at.returns-clause-step g c in
-    rw (← (made_shown (fields_of g.T.Tables.cells g.T.Index.NodeIndex.MAX c.self.inside) c.self.invariant c.ensure_spare.ensures.readies ∙ c.self.view_is))
-    (done g at.After-push (pre g at.After-ensure_spare) c.push.new.store.accesses).1
+returns-clause-step g c =
+    let at = goal.at.returns-clause-step g c in
+    adds_unused c.args.more c.args.self.now (left g at.After-push) _ (subst (λ (u : View). Adds c.args.more u (left g at.After-push))
+    (made_shown (fields_of g.T.Tables.cells g.T.Index.NodeIndex.MAX c.self.inside) c.self.invariant c.ensure_spare.ensures.readies _ c.self.view_is)
+    (done g at.After-push (pre g at.After-ensure_spare) c.push.new.store.accesses).1)
 
 pub returns-clause-kept : goal.returns-clause-kept
-returns-clause-kept g c = let at = goal.at.returns-clause-kept g c in
-    rw (← (made_shown (fields_of g.T.Tables.cells g.T.Index.NodeIndex.MAX c.self.inside) c.self.invariant c.ensure_spare.ensures.readies ∙ c.self.view_is))
+returns-clause-kept g c =
+    let at = goal.at.returns-clause-kept g c in
+    subst (λ (u : View). KeepsAll u (left g at.After-push))
+    (made_shown (fields_of g.T.Tables.cells g.T.Index.NodeIndex.MAX c.self.inside) c.self.invariant c.ensure_spare.ensures.readies _ c.self.view_is)
     (done g at.After-push (pre g at.After-ensure_spare) c.push.new.store.accesses).2

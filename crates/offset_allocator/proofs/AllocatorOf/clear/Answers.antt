@@ -3,7 +3,7 @@ use Rattle.offset_allocator.proofs.AllocatorOf.clear.Goals as goal
 
 pub returns-clause-step : goal.returns-clause-step
 returns-clause-step g c =
-    let left : View = view_of g.T.Index.NodeIndex.MAX c.self.inside.size c.self.inside.max_allocs (g.T.Tables.cells c.start.new.store.tables) 0 c.start.new.store.accesses in
+    let left : View = view_of g.T.Index.NodeIndex.MAX c.self.inside.size c.self.inside.max_allocs (g.T.Tables.cells c.start.new.store.tables) 0 0 c.start.new.store.accesses in
     subst (λ (v : View). Resets v left) c.self.view_is (record {
       name = 0;
       below = omega (arith, c.self.invariant.well.room);

@@ -3,6 +3,7 @@ use Rattle.offset_allocator.proofs.Common.{◌≢◌, [], ◌∷◌}
 use Rattle.offset_allocator.specs.Requests.{NewestHolds}
 use Rattle.offset_allocator.proofs.Common.{Splits}
 use Rattle.offset_allocator.proofs.Sound.{shown, AreSound, Fields, fields_of}
+use Rattle.offset_allocator.proofs.Served.{split_seen}
 use Rattle.offset_allocator.proofs.Granting.{Call, got, held, unlisted, padding_fits, units_free, granted}
 use Rattle.offset_allocator.proofs.{Places.at_place, Places.kept_place, Readied.made, Readied.made_shown, Readied.with_made, Tallies.one-same, Uses.removed_unlisted}
 use Rattle.offset_allocator.proofs.AllocatorOf.grant.Goals as goal
@@ -27,7 +28,7 @@ holding : (g : Over) (c : After-pop-name g)
 holding g c =
     let p = call g c in
     subst (NewestHolds c.args.class c.args.size c.args.align)
-    (sym (made_shown (fields_of g.T.Tables.cells g.T.Index.NodeIndex.MAX c.self.inside) c.self.invariant c.ensure_spares.ensures.readies ∙ c.self.view_is)) c.requires.holds
+    (sym (made_shown (fields_of g.T.Tables.cells g.T.Index.NodeIndex.MAX c.self.inside) c.self.invariant c.ensure_spares.ensures.readies _ c.self.view_is)) c.requires.holds
     (got p).place p.older (got p).list_is (p.newest ∙ ap (λ y. y ∷ p.older) (sym (got p).name))
 
 two : (align o : ℕ) → 1 ≤ padding_to align o → 2 ≤ blocks_needed align
@@ -39,7 +40,7 @@ pop-name-requires-clause-binned g c = (c.ensure_spares.ensures.readies.bins _ c.
 pub pop-name-requires-clause-some : goal.pop-name-requires-clause-some
 pop-name-requires-clause-some g c =
     subst (λ (u : View). bin_at u.bins c.args.class ≢ [])
-    (sym (made_shown (fields_of g.T.Tables.cells g.T.Index.NodeIndex.MAX c.self.inside) c.self.invariant c.ensure_spares.ensures.readies ∙ c.self.view_is)) c.requires.filled
+    (sym (made_shown (fields_of g.T.Tables.cells g.T.Index.NodeIndex.MAX c.self.inside) c.self.invariant c.ensure_spares.ensures.readies _ c.self.view_is)) c.requires.filled
 
 pub offset-offset-requires : goal.offset-offset-requires
 offset-offset-requires g c = (kept_place c.pop-name.ensures.chain (held (call g (goal.at.offset-offset-requires g c).After-pop-name) refl)).below
@@ -115,7 +116,7 @@ done g c p holds k f e =
     let we = c.size-whole.ensures.cell ∙ ap (λ (v : Node). v.size) at in
     let place = c.divide.ensures.place _ _ h in
     let room = subst (HasRoomFor (blocks_needed c.args.align))
-    (sym (made_shown (fields_of g.T.Tables.cells g.T.Index.NodeIndex.MAX c.self.inside) c.self.invariant c.ensure_spares.ensures.readies ∙ c.self.view_is)) c.requires.enough in
+    (sym (made_shown (fields_of g.T.Tables.cells g.T.Index.NodeIndex.MAX c.self.inside) c.self.invariant c.ensure_spares.ensures.readies _ c.self.view_is)) c.requires.enough in
     rw (e, oe) (granted p c.args.size (padding_to c.args.align) holds (blocks_needed c.args.align) room (omega (arith, c.requires.some))
     (two c.args.align) _ _ _ _ _ (rw (oe, we) at place) c.divide.ensures.binned (rw (oe, we, c.pop-name.ensures.lists) at c.divide.ensures.lists))
 
@@ -125,10 +126,10 @@ invariant_of-self g c = let at = goal.at.invariant_of-self g c in (done g at.Aft
 pub returns-clause-step : goal.returns-clause-step
 returns-clause-step g c needed found =
     let at = goal.at.returns-clause-step g c in
-    let seen = (made_shown (fields_of g.T.Tables.cells g.T.Index.NodeIndex.MAX c.self.inside) c.self.invariant c.ensure_spares.ensures.readies ∙ c.self.view_is) in
-    rw (c.handle_of.ensures, ← seen)
-    ((done g at.After-divide (call g at.After-pop-name) (holding g at.After-pop-name) c.divide.new.store.accesses _ refl).1 needed
-    (subst (λ (u : View). IsFoundFrom (up needed) u.bins (Some c.args.class)) (sym seen) found))
+    let seen = (made_shown (fields_of g.T.Tables.cells g.T.Index.NodeIndex.MAX c.self.inside) c.self.invariant c.ensure_spares.ensures.readies _ c.self.view_is) in
+    rw c.handle_of.ensures
+    (split_seen c.args.self.now _ seen ((done g at.After-divide (call g at.After-pop-name) (holding g at.After-pop-name) c.divide.new.store.accesses _ refl).1 needed
+    (subst (λ (u : View). IsFoundFrom (up needed) u.bins (Some c.args.class)) (sym seen) found)))
 
 pub overflow_add-parts : goal.overflow_add-parts
 overflow_add-parts g c = let at = goal.at.overflow_add-parts g c in omega (arith, fits g at.After-size-whole (call g at.After-pop-name) (holding g at.After-pop-name))

@@ -1,6 +1,6 @@
 use Rattle.offset_allocator.proofs.Common.{◌≡◌, ◌⊎◌, ◌+◌, ◌-◌, ◌<◌, ◌≤◌, ◌∙◌, ℕ, true, false, length, inl, inr, refl, sym, ap, subst, arith, Node, View, IsWellFormed, free_start, units, HasRoomFor}
 use Rattle.offset_allocator.proofs.Common.{range_of, size_of, Resizes, ResizesTo, common_steps}
-use Rattle.offset_allocator.proofs.Resizing.{resized, free_beside, next_some, some_after, resizes_full, resizes_short, resizes_done, resized_units, resized_others, size_there}
+use Rattle.offset_allocator.proofs.Resizing.{resized, free_beside, next_some, some_after, resizes_full, resizes_short, resizes_done, resized_units, resized_others, resized_unused, size_there}
 use Rattle.offset_allocator.proofs.{Freeing.Release, Freeing.at, Freeing.filed, Freeing.room_for, Freeing.named_live, Places.at_place, Reading.live_used, Readied.made, Readied.made_shown}
 use Rattle.offset_allocator.proofs.{Readied.with_made, Sound.Fields, Sound.AreSound, Sound.shown, Sound.fields_of, Sound.known_sound}
 use Rattle.offset_allocator.proofs.AllocatorOf.resize_to.Goals as goal
@@ -14,8 +14,8 @@ ready g c = with_made (fields_of g.T.Tables.cells g.T.Index.NodeIndex.MAX c.self
 is_ready : (g : Over) (c : After-ensure_spare g) → AreSound (ready g c)
 is_ready g c = made (fields_of g.T.Tables.cells g.T.Index.NodeIndex.MAX c.self.inside) c.self.invariant c.ensure_spare.ensures.readies
 
-same_view : (g : Over) (c : After-ensure_spare g) → shown (ready g c) ≡ c.args.self.now
-same_view g c = made_shown (fields_of g.T.Tables.cells g.T.Index.NodeIndex.MAX c.self.inside) c.self.invariant c.ensure_spare.ensures.readies ∙ c.self.view_is
+same_view : (g : Over) (c : After-ensure_spare g) → shown (ready g c) ≡ record c.args.self.now { unused = (shown (ready g c)).unused }
+same_view g c = made_shown (fields_of g.T.Tables.cells g.T.Index.NodeIndex.MAX c.self.inside) c.self.invariant c.ensure_spare.ensures.readies _ c.self.view_is
 
 -- where the block is, and its size
 block : (g : Over) (c : After-ensure_spare g) → Release (ready g c) c.args.name
@@ -50,7 +50,7 @@ returns-then-size-old_size-2-clause-step g c =
     (resizes_short r c.args.size c.units_after-more.new.count (omega (arith, size g here.After-ensure_spare, more g here.After-units_after-more r, c.if-size-old_size-2.true)))
 
 pub returns-then-size-old_size-2-clause-same : goal.returns-then-size-old_size-2-clause-same
-returns-then-size-old_size-2-clause-same g c e = grind (arith, same_view)
+returns-then-size-old_size-2-clause-same g c e = ap (λ (u : View). record u { accesses = c.units_after-more.new.count }) (same_view g (goal.at.returns-then-size-old_size-2-clause-same g c).After-ensure_spare)
 
 pub returns-then-size-old_size-2-clause-others : goal.returns-then-size-old_size-2-clause-others
 returns-then-size-old_size-2-clause-others g c y ne = ap (range_of y) (returns-then-size-old_size-2-clause-same g c refl)
@@ -118,7 +118,7 @@ room g c r = elim c.else-is_none.branch [
         arith,
         c.names_left-left.ensures,
         w.if-left-lt2.false,
-        ap (λ (u : View). length u.blocks) (made_shown (fields_of g.T.Tables.cells g.T.Index.NodeIndex.MAX c.self.inside) c.self.invariant c.ensure_spare.ensures.readies ∙ c.self.view_is),
+        ap (λ (u : View). length u.blocks) (made_shown (fields_of g.T.Tables.cells g.T.Index.NodeIndex.MAX c.self.inside) c.self.invariant c.ensure_spare.ensures.readies _ c.self.view_is),
         ap (λ (u : View). u.max_allocs) c.self.view_is,
       ))
   | else-is_none-via-else-is_none w ↦ inl ((next_some r _ c.free_after-next.ensures.free).0 w.if-is_none.ensures)
@@ -146,9 +146,9 @@ returns-clause-step g c =
     let r = block g here.After-ensure_spare in
     let e = size g here.After-ensure_spare in
     let m = more g here.After-units_after-more r in
-    subst (λ (u : View). ResizesTo c.args.name c.args.size u new true) (same_view g here.After-ensure_spare)
+    resized_unused c.args.name c.args.size c.args.self.now new _ true (subst (λ (u : View). ResizesTo c.args.name c.args.size u new true) (same_view g here.After-ensure_spare)
     (resizes_done r c.args.size new (λ z. absurd (c.if-size-old_size.false (z ∙ sym e))) (omega (arith, e, m, c.if-size-old_size-2.false)) (room g here.After-resize r)
-    (done g here.After-resize r e m c.resize.new.store.accesses).1)
+    (done g here.After-resize r e m c.resize.new.store.accesses).1))
 
 -- the views before and after it are well formed
 well : (g : Over) (c : After-resize g)

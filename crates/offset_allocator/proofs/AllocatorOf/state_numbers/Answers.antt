@@ -1,7 +1,7 @@
-use Rattle.offset_allocator.proofs.Common.{◌≡◌, ◌∙◌, ◌+◌, ◌++◌, ◌∷◌, [], ap, ap₂, sym, take, length, length-take-le, append_assoc, arith, ℕ, List, Block, View, count_named, times, nat_lt}
-use Rattle.offset_allocator.proofs.Common.{if◌then◌else◌, blocks, bins_in}
+use Rattle.offset_allocator.proofs.Common.{◌≡◌, ◌∙◌, ◌++◌, ◌∷◌, [], ap, ap₂, sym, take, length, length-take-le, append_assoc, arith, ℕ, List, Block, View, count_named}
+use Rattle.offset_allocator.proofs.Common.{blocks, bins_in}
 use Rattle.std.specs.List.{concat}
-use Rattle.offset_allocator.proofs.{Saved.names_once, Saved.names_free, Saved.names_bins, Exchange.there-below, Walks.length_below}
+use Rattle.offset_allocator.proofs.{Saved.names_once, Exchange.there-below, Walks.length_below}
 use Rattle.offset_allocator.specs.State.{block_words}
 use Rattle.offset_allocator.proofs.AllocatorOf.state_numbers.Goals as goal
 
@@ -39,20 +39,11 @@ returns g c =
     let limit : c.self.inside.max_allocs ≡ v.max_allocs = ap (λ (u : View). u.max_allocs) c.self.view_is in
     let count : c.block_count.result ≡ length v.blocks = c.block_count.ensures in
     let free : c.len.result ≡ length (concat v.bins) = omega (arith, c.len.ensures, c.in_ok-names.names.ok.0, ap length names) in
-    let left : c.self.inside.store.spare_count ≡ length us = sym long in
-    let same_head : head ≡ 1414742351 ∷ 1 ∷ v.size ∷ v.max_allocs ∷ length v.blocks ∷ length (concat v.bins) ∷ length us ∷ [] = cc in (
-      concat v.bins,
-      us,
-      record {
-        free = names_free v w;
-        once = names_once v w;
-        bins = names_bins v w;
-        each = λ x. ap (λ bs. count_named x bs + times x us) (sym same) ∙ chain.each x ∙ ap {B = ℕ} (λ n. if nat_lt x n then 1 else 0) (omega (arith, chain.full, long, ap length same));
-        made = omega (arith, chain.full, chain.within, c.self.invariant.memory, long, ap length same, ap (λ (u : View). u.max_allocs) c.self.view_is);
-      },
-      c.in_ok-push_unused.ensures
-          ∙ ap (λ l. l ++ us) (c.in_ok-extend_from_slice.ensures.items
-          ∙ ap₂ (λ (l m : List ℕ). l ++ m) (c.in_ok-push_blocks.ensures ∙ ap (λ l. l ++ block_words bs) begun) (c.deref.ensures.value ∙ names))
-          ∙ append_assoc (head ++ block_words bs) (concat v.bins) us ∙ append_assoc head (block_words bs) (concat v.bins ++ us)
-          ∙ ap₂ (λ (h t : List ℕ). h ++ t) same_head (ap (λ (l : List Block). block_words l ++ (concat v.bins ++ us)) same),
-    )
+    let unused : us ≡ v.unused = ap (λ (u : View). u.unused) c.self.view_is in
+    let left : c.self.inside.store.spare_count ≡ length v.unused = sym long ∙ ap length unused in
+    let same_head : head ≡ 1414742351 ∷ 1 ∷ v.size ∷ v.max_allocs ∷ length v.blocks ∷ length (concat v.bins) ∷ length v.unused ∷ [] = cc in
+    c.in_ok-push_unused.ensures
+    ∙ ap (λ l. l ++ us) (c.in_ok-extend_from_slice.ensures.items
+    ∙ ap₂ (λ (l m : List ℕ). l ++ m) (c.in_ok-push_blocks.ensures ∙ ap (λ l. l ++ block_words bs) begun) (c.deref.ensures.value ∙ names))
+    ∙ append_assoc (head ++ block_words bs) (concat v.bins) us ∙ append_assoc head (block_words bs) (concat v.bins ++ us)
+    ∙ ap₂ (λ (h t : List ℕ). h ++ t) same_head (ap₂ (λ (l : List Block) (m : List ℕ). block_words l ++ (concat v.bins ++ m)) same unused)

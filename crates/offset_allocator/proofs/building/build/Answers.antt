@@ -1,11 +1,12 @@
 use Rattle.offset_allocator.proofs.Common.{◌∙◌, ap, refl, sym, subst, length, arith, AreCoalesced, take}
-use Rattle.offset_allocator.proofs.{StateWords.length-words, StateWords.same_counts, StateWords.freed_same, StateWords.length-freed, Views.blocks-chain, Views.space-chain}
+use Rattle.offset_allocator.proofs.{StateWords.length-words, StateWords.same_counts, StateWords.words_same, Saved.ordered_same, StateWords.freed_same, StateWords.length-freed, Views.blocks-chain, Views.space-chain}
 use Rattle.offset_allocator.proofs.building.build.Goals as goal
 
 pub returns-in-Some-clause-wrong : goal.returns-in-Some-clause-wrong
-returns-in-Some-clause-wrong g c _ bs words whole each once apart =
+returns-in-Some-clause-wrong g c _ bs words whole each once order apart =
     let l = rw c.in-Ok.is at c.in_ok-wrong.ensures.out in
     c.in-Some.ensures.wrong refl c.args.limit l.all l.used l.chain (λ x. omega (arith, once x, same_counts x bs l.all (words ∙ sym l.words)))
+    (ordered_same bs l.all 0 c.args.free.now (words_same bs l.all (words ∙ sym l.words)) order)
 
 pub look_over-requires-clause-space : goal.look_over-requires-clause-space
 look_over-requires-clause-space g c =
@@ -20,7 +21,7 @@ look_over-requires-clause-all g c =
     omega (arith, ap length (blocks-chain (g.T.Tables.cells c.free_names.new.store.tables).chain c.args.limit _ _ _ f.0), length-freed c.args.free.now l.all, ap length l.words, length-words l.all)
 
 pub returns-in-Err-look_over-clause-wrong : goal.returns-in-Err-look_over-clause-wrong
-returns-in-Err-look_over-clause-wrong g c _ bs words whole each once apart =
+returns-in-Err-look_over-clause-wrong g c _ bs words whole each once order apart =
     let l = rw c.in-Ok.is at c.in_ok-wrong.ensures.out in
     let f = c.in_default.ensures.chain refl c.args.limit l.all l.used l.chain in
     c.in-Err-look_over.ensures.wrong refl
@@ -43,6 +44,7 @@ returns-in-Ok-look_over-clause-built g c =
         binned = c.in_default.ensures.binned;
         bins = f.1;
         once = f.2;
+        ordered = f.3;
         apart = subst AreCoalesced (blocks-chain (g.T.Tables.cells c.free_names.new.store.tables).chain c.args.limit _ _ _ f.0) o.0;
       },
       o.1,

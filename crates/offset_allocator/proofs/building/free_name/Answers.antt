@@ -1,5 +1,5 @@
-use Rattle.offset_allocator.proofs.Common.{◌≡◌, ◌∙◌, ap, ap₂, sym, subst, false, arith, Cells, ChainCells, Node, node, ℕ, List, push, down, bins_in, IsUnlisted, IsBinned}
-use Rattle.offset_allocator.proofs.{Classes.down_small, Freed.chain_freed, Marks.use_here, Marks.use_spare, Uses.binned_marked, Exchange.wrote}
+use Rattle.offset_allocator.proofs.Common.{◌≡◌, ◌∙◌, ap, sym, subst, false, arith, Cells, ChainCells, node, push, bins_in, IsUnlisted, IsBinned}
+use Rattle.offset_allocator.proofs.{Classes.down_small, Freed.chain_freed, Marks.use_here, Marks.use_spare, Uses.binned_marked}
 use Rattle.offset_allocator.proofs.building.free_name.Goals as goal
 use Rattle.offset_allocator.proofs.building.free_name.{Goals.After-set_used, Given.Over}
 
@@ -16,7 +16,7 @@ push-requires-clause-idle g c = use_here (g.T.Tables.cells c.args.store.now.tabl
     (ap (λ (v : Cells). v.chain) c.set_used.ensures.cells)
 
 pub push-requires-clause-classed : goal.push-requires-clause-classed
-push-requires-clause-classed g c = omega (arith, down_small c.size-size.result, c.uint_to_float_round_down.ensures.is)
+push-requires-clause-classed g c = omega (arith, down_small (node (g.T.Tables.cells c.args.store.now.tables).chain c.args.name).size, c.requires.class)
 
 pub push-requires-clause-unlisted : goal.push-requires-clause-unlisted
 push-requires-clause-unlisted g c = subst (IsUnlisted c.args.name) (sym (marked g (goal.at.push-requires-clause-unlisted g c).After-set_used).1) c.requires.unlisted
@@ -28,12 +28,7 @@ returns-clause-chain g c m xs bs h there =
 
 pub returns-clause-lists : goal.returns-clause-lists
 returns-clause-lists g c =
-    let old = g.T.Tables.cells c.args.store.now.tables in
-    let new = g.T.Tables.cells c.set_used.new.self in
-    let w = wrote (ap (λ (v : Cells). v.chain) c.set_used.ensures.cells) c.requires.named in
-    let size : c.size-size.result ≡ (node old.chain c.args.name).size = c.size-size.ensures.cell ∙ ap (λ (n : Node). n.size) w.here in
-    c.push.ensures.lists ∙ ap₂ (λ (k : ℕ) (ls : List (List ℕ)). push k c.args.name ls) (c.uint_to_float_round_down.ensures.is ∙ ap down size)
-    (marked g (goal.at.returns-clause-lists g c).After-set_used).1
+    c.push.ensures.lists ∙ ap (push c.args.class c.args.name) (marked g (goal.at.returns-clause-lists g c).After-set_used).1
 
 pub returns-clause-same : goal.returns-clause-same
 returns-clause-same g c =

@@ -1,12 +1,13 @@
 use Rattle.offset_allocator.proofs.Common.{◌≡◌, ◌∙◌, ◌+◌, ◌-◌, ◌≤◌, ap, ap₂, sym, subst, length, get_or, drop, arith, ℕ, List, push, down, bin_at, count_named, times, IsAmong, cases_eq, inl, inr}
-use Rattle.offset_allocator.proofs.{Exchange.each-le, Exchange.there-below, Freed.drop_at, Freed.times_drop, Freed.times-filed, Freed.used_now, Freed.unused_now, Tallies.one-same}
+use Rattle.offset_allocator.proofs.{Exchange.each-le, Exchange.there-below, Freed.drop_at, Freed.times_drop, Freed.times-filed, Freed.used_now, Freed.unused_now, Tallies.one-same, Classes.down_small, Saved.ordered_below, Saved.ordered_drop}
 use Rattle.offset_allocator.proofs.{Tallies.one-eq, Tallies.one-other}
-use Rattle.offset_allocator.specs.State.{filed}
+use Rattle.offset_allocator.specs.State.{filed, size_named}
+use Rattle.offset_allocator.specs.Building.{AreOrdered}
 use Rattle.offset_allocator.proofs.building.free_names.Goals as goal
 use Rattle.offset_allocator.proofs.building.free_names.Goals.{then-name-nodes-via-then-name-nodes, then-name-nodes-via-else-name-nodes+then-not-used}
 
 pub returns-then-name-nodes-clause-wrong : goal.returns-then-name-nodes-clause-wrong
-returns-then-name-nodes-clause-wrong g c _ m bs plain h once =
+returns-then-name-nodes-clause-wrong g c _ m bs plain h once order =
     let i = c.loop-i.invariant in
     let ws : List ℕ = c.args.words.now in
     let at : ℕ = length ws - 1 - c.loop-i.i in
@@ -32,6 +33,20 @@ free_name-requires-clause-unlisted g c k small there =
     let used = used_now name xs r.1 now.0 (sym c.used.ensures.cell ∙ c.if-not-used.false) in
     omega (arith, subst (λ (ls : List (List ℕ)). IsAmong name (bin_at ls k)) now.1 there, times-filed name k r.1 xs small, used.1)
 
+pub returns-then-class-most-clause-wrong : goal.returns-then-class-most-clause-wrong
+returns-then-class-most-clause-wrong g c _ m bs plain h once order =
+    let i = c.loop-i.invariant in
+    let ws : List ℕ = c.args.words.now in
+    let at : ℕ = length ws - 1 - c.loop-i.i in
+    let name : ℕ = get_or ws at 0 in
+    let from = drop_at ws c.loop-i.i at (omega (arith, c.loop-i-test.true)) in
+    let now = i.chain m bs plain h in
+    let used = used_now name (drop (length ws - c.loop-i.i) ws) bs now.0 (sym c.used.ensures.cell ∙ c.if-not-used.false) in
+    let rest = ordered_drop bs 0 (length ws - (c.loop-i.i + 1)) ws order in
+    let here = subst (AreOrdered bs rest.0) from rest.1 in
+    let class : c.uint_to_float_round_down-class.result ≡ down (size_named name bs) = c.uint_to_float_round_down-class.ensures.is ∙ ap down (c.size-size.ensures.cell ∙ used.2) in
+    omega (arith, c.if-class-most.true, class, now.4 (down (size_named name bs)) (down_small (size_named name bs)) here.1)
+
 pub loop-i-preserved : goal.loop-i-preserved
 loop-i-preserved g c =
     let i = c.loop-i.invariant in
@@ -44,13 +59,17 @@ loop-i-preserved g c =
     record {
       chain = λ m bs plain h.
           let now = i.chain m bs plain h in
-          let used = used_now name xs bs now.0 (sym c.used.ensures.cell ∙ c.if-not-used.false) in (
+          let used = used_now name xs bs now.0 (sym c.used.ensures.cell ∙ c.if-not-used.false) in
+          let class : c.uint_to_float_round_down-class.result ≡ down (size_named name bs) = c.uint_to_float_round_down-class.ensures.is ∙ ap down (c.size-size.ensures.cell ∙ used.2) in (
             rw from (f.chain m xs bs now.0 used.0),
-            f.lists ∙ ap₂ (λ (n : ℕ) (ls : List (List ℕ)). push (down n) name ls) used.2 now.1 ∙ ap (filed bs) (sym from),
+            f.lists ∙ ap₂ (λ (n : ℕ) (ls : List (List ℕ)). push n name ls) class now.1 ∙ ap (filed bs) (sym from),
             λ x. elim (cases_eq x name) [
               | inl e ↦ omega (arith, ap (times x) from, one-eq x name (sym e), ap (λ y. times y xs) e, used.1, ap (λ y. count_named y bs) e, used.0)
               | inr ne ↦ omega (arith, ap (times x) from, one-other x name ne, now.2 x)
             ],
+            subst (AreOrdered bs c.uint_to_float_round_down-class.result) (sym from)
+                (omega (arith, class), ordered_below bs _ _ xs (omega (arith, class, c.if-class-most.false)) now.3),
+            λ n l o. omega (arith, class, (subst (AreOrdered bs n) from o).0),
           );
       binned = f.binned;
       nodes = f.nodes ∙ i.nodes;
@@ -65,4 +84,4 @@ returns-clause-chain g c _ m bs plain h =
     let none : length ws - c.loop-i.i ≡ 0 = omega (arith, c.loop-i-test.false) in
     let now = c.loop-i.invariant.chain m bs plain h in
     let all : drop (length ws - c.loop-i.i) ws ≡ ws = ap (λ n. drop n ws) none in
-    (rw all at now.0, now.1 ∙ ap (filed bs) all, λ x. rw all at (now.2 x))
+    (rw all at now.0, now.1 ∙ ap (filed bs) all, λ x. rw all at (now.2 x), ordered_below bs 0 _ ws (omega arith) (rw all at now.3))

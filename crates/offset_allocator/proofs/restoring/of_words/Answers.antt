@@ -1,55 +1,76 @@
-use Rattle.offset_allocator.proofs.Common.{◌+◌, ◌*◌, ◌-◌, ◌≤◌, ◌++◌, ◌∷◌, [], ◌≡◌, ◌∙◌, ap, ap₂, refl, sym, subst, take, drop, get_or, length, arith, ℕ, List, Block, View, AreCoalesced}
+use Rattle.offset_allocator.proofs.Common.{◌+◌, ◌*◌, ◌-◌, ◌≤◌, ◌++◌, [], ◌≡◌, ◌∙◌, ap, ap₂, refl, sym, subst, take, drop, get_or, length, arith, ℕ, List, Block, View, AreCoalesced}
 use Rattle.offset_allocator.proofs.Common.{used_of, count_named, times}
-use Rattle.offset_allocator.proofs.Restored.{AreParts, parted, well_built, text_built}
+use Rattle.offset_allocator.proofs.Restored.{AreParts, text_parts, well_built, text_shown}
+use Rattle.offset_allocator.proofs.Common.{view_of}
+use Rattle.offset_allocator.proofs.Sound.{well_unused}
 use Rattle.offset_allocator.proofs.{StateWords.freed_same, StateWords.length-words, StateWords.length-freed, Views.blocks-chain, Views.space-chain}
-use Rattle.offset_allocator.specs.Building.{AreEach, IsHeader}
+use Rattle.offset_allocator.specs.Building.{AreEach, AreOrdered, IsHeader}
+use Rattle.std.specs.List.{concat}
+use Rattle.offset_allocator.proofs.{Saved.names_once, Saved.names_free, Saved.names_ordered}
 use Rattle.offset_allocator.specs.declared.restoring.Header.{Header}
-use Rattle.offset_allocator.specs.State.{IsTextOf, block_words, checksum_from, freed, state_words}
+use Rattle.offset_allocator.specs.State.{block_words, checksum_from, freed, state_text, state_words}
 use Rattle.std.proofs.lemmas.List.{length-drop}
 use Rattle.offset_allocator.proofs.Common.{IsWellFormed, length-take-le}
 use Rattle.offset_allocator.proofs.{StateWords.units-freed}
+use Rattle.offset_allocator.proofs.Common.{inr}
+use Rattle.offset_allocator.proofs.Headed.{counted, formed, headed, limited, long}
 use Rattle.offset_allocator.proofs.restoring.of_words.Goals as goal
 
 -- the parts of the words of a view, where the header is read
-module _ {max most : ℕ} {ws : List ℕ} {h : Header} {v : View} (hd : IsHeader max most ws h) (t : IsTextOf v ws) where
+module _ {max most : ℕ} {ws : List ℕ} {h : Header} (v : View) (hd : IsHeader max most ws h) (t : ws ≡ state_text v) where
   blocks_count : h.blocks ≡ length v.blocks
-  blocks_count = sym (ap (λ l. get_or l 4 0) hd.words) ∙ ap (λ l. get_or l 4 0) t.words
+  blocks_count = sym (ap (λ l. get_or l 4 0) hd.words) ∙ ap (λ l. get_or l 4 0) t
 
-  free_count : h.free ≡ length t.names
-  free_count = sym (ap (λ l. get_or l 5 0) hd.words) ∙ ap (λ l. get_or l 5 0) t.words
+  free_count : h.free ≡ length (concat v.bins)
+  free_count = sym (ap (λ l. get_or l 5 0) hd.words) ∙ ap (λ l. get_or l 5 0) t
 
   same_size : h.size ≡ v.size
-  same_size = sym (ap (λ l. get_or l 2 0) hd.words) ∙ ap (λ l. get_or l 2 0) t.words
+  same_size = sym (ap (λ l. get_or l 2 0) hd.words) ∙ ap (λ l. get_or l 2 0) t
 
   same_limit : h.max_allocs ≡ v.max_allocs
-  same_limit = sym (ap (λ l. get_or l 3 0) hd.words) ∙ ap (λ l. get_or l 3 0) t.words
+  same_limit = sym (ap (λ l. get_or l 3 0) hd.words) ∙ ap (λ l. get_or l 3 0) t
 
-  parts : AreParts ws (block_words v.blocks) t.names t.unused (checksum_from 0 (state_words v t.names t.unused)) (2 * h.blocks) h.free
-  parts = parted ws (1414742351 ∷ 1 ∷ v.size ∷ v.max_allocs ∷ length v.blocks ∷ length t.names ∷ length t.unused ∷ []) (block_words v.blocks) t.names t.unused _ (2 * h.blocks) h.free t.words refl
-      (omega (arith, length-words v.blocks, blocks_count)) (sym free_count)
+  parts : AreParts ws (block_words v.blocks) (concat v.bins) v.unused (checksum_from 0 (state_words v)) (2 * h.blocks) h.free
+  parts = text_parts v t h.blocks h.free (sym blocks_count) (sym free_count)
 
   summed : checksum_from 0 (take (length ws - 1) ws) ≡ get_or ws (length ws - 1) 0
-  summed = ap (checksum_from 0) (parts.numbers ∙ ap (λ k. k ++ (block_words v.blocks ++ (t.names ++ t.unused))) (ap (take 7) t.words)) ∙ sym parts.last
+  summed = ap (checksum_from 0) (parts.numbers ∙ ap (λ k. k ++ (block_words v.blocks ++ (concat v.bins ++ v.unused))) (ap (take 7) t)) ∙ sym parts.last
 
 pub returns-then-checksum-words-clause-refused : goal.returns-then-checksum-words-clause-refused
-returns-then-checksum-words-clause-refused g c _ v w admitted asked t = c.if-checksum-words.true (c.checksum.ensures ∙ summed c.in-Ok.ensures.header t)
+returns-then-checksum-words-clause-refused g c _ v w names admitted asked t = c.if-checksum-words.true (c.checksum.ensures ∙ summed v c.in-Ok.ensures.header t)
 
 pub returns-in-Err-2-clause-refused : goal.returns-in-Err-2-clause-refused
-returns-in-Err-2-clause-refused g c _ v w admitted asked t =
+returns-in-Err-2-clause-refused g c _ v w names admitted asked t =
     let hd = c.in-Ok.ensures.header in
-    let p = parts hd t in
+    let p = parts v hd t in
     let b = rw c.in-Err-2.is at c.in_ok-wrong.ensures.wrong in
-    b refl v.blocks (sym p.first) (w.whole ∙ sym (same_size hd t)) (subst (AreEach v.blocks) (sym p.third) t.are.each)
-    (λ x. subst (λ l. times x l ≤ count_named x v.blocks) (sym p.second) (t.are.once x))
-    (subst AreCoalesced (sym t.are.free ∙ ap (λ l. freed l v.blocks) (sym p.second)) w.apart)
+    b refl v.blocks (sym p.first) (w.whole ∙ sym (same_size v hd t)) (subst (AreEach v.blocks) (sym p.third) names.each)
+    (λ x. subst (λ l. times x l ≤ count_named x v.blocks) (sym p.second) (names_once v w x))
+    (subst (AreOrdered v.blocks 0) (sym p.second) (names_ordered v w))
+    (subst AreCoalesced (sym (names_free v w) ∙ ap (λ l. freed l v.blocks) (sym p.second)) w.apart)
 
 pub returns-then-found-header-clause-refused : goal.returns-then-found-header-clause-refused
-returns-then-found-header-clause-refused g c _ v w admitted asked t =
+returns-then-found-header-clause-refused g c _ v w names admitted asked t =
     let hd = c.in-Ok.ensures.header in
-    let p = parts hd t in
+    let p = parts v hd t in
     let b = rw c.in-Ok-2.is at c.in_ok-wrong.ensures.built in
-    let same = blocks-chain _ _ _ _ _ b.0.chain ∙ freed_same _ b.0.all v.blocks (b.0.words ∙ p.first) ∙ ap (λ l. freed l v.blocks) p.second ∙ t.are.free in
-    omega (arith, c.if-found-header.true, b.2, ap used_of same, w.few_used, same_limit hd t)
+    let same = blocks-chain _ _ _ _ _ b.0.chain ∙ freed_same _ b.0.all v.blocks (b.0.words ∙ p.first) ∙ ap (λ l. freed l v.blocks) p.second ∙ names_free v w in
+    omega (arith, c.if-found-header.true, b.2, ap used_of same, w.few_used, same_limit v hd t)
+
+pub returns-then-checksum-words-clause-fault : goal.returns-then-checksum-words-clause-fault
+returns-then-checksum-words-clause-fault g c =
+    let hd = subst (λ m. IsHeader m c.args.most_allocs c.args.words.now c.in-Ok.header) c.MAX.ensures c.in-Ok.ensures.header in
+    (omega (arith, (formed hd).0), formed hd, limited hd, counted hd, long hd, λ e. c.if-checksum-words.true (c.checksum.ensures ∙ e))
+
+pub returns-in-Err-2-clause-fault : goal.returns-in-Err-2-clause-fault
+returns-in-Err-2-clause-fault g c =
+    let hd = subst (λ m. IsHeader m c.args.most_allocs c.args.words.now c.in-Ok.header) c.MAX.ensures c.in-Ok.ensures.header in
+    c.fault_of.ensures g.T.Index.NodeIndex.MAX c.args.most_allocs c.args.words.now (headed hd (sym c.checksum.ensures ∙ c.if-checksum-words.false))
+
+pub returns-then-found-header-clause-fault : goal.returns-then-found-header-clause-fault
+returns-then-found-header-clause-fault g c =
+    let hd = subst (λ m. IsHeader m c.args.most_allocs c.args.words.now c.in-Ok.header) c.MAX.ensures c.in-Ok.ensures.header in
+    (refl, formed hd, limited hd, inr (headed hd (sym c.checksum.ensures ∙ c.if-checksum-words.false)))
 
 pub invariant_of-result : goal.invariant_of-result
 invariant_of-result g c =
@@ -63,15 +84,16 @@ invariant_of-result g c =
       admitted = omega (arith, hd.admitted, c.MAX.ensures);
       space = space-chain _ _ _ _ _ b.0.chain;
       bins = b.0.binned;
-      well = subst IsWellFormed
+      well = well_unused _ (take c.in-Ok-2.built.0.spare_count (g.T.Tables.cells c.in-Ok-2.built.0.tables).chain.spare) 0 (subst IsWellFormed
           (sym (ap₂ (λ (bs : List Block) (o : List (List ℕ)). let u : View = record {
             size = c.in-Ok.header.size;
             max_allocs = c.in-Ok.header.max_allocs;
             blocks = bs;
             bins = o;
+            unused = [];
             accesses = 0;
           } in u) same b.0.bins))
-          (well_built c.in-Ok.header.size c.in-Ok.header.max_allocs 0 b.0.all _ _ (omega (arith, hd.some, count))
+          (well_unused _ [] 0 (well_built c.in-Ok.header.size c.in-Ok.header.max_allocs 0 b.0.all _ _ (omega (arith, hd.some, count))
           b.0.whole (omega (
             arith,
             b.0.chain.fits,
@@ -86,7 +108,7 @@ invariant_of-result g c =
             b.0.count,
             length-freed (take (7 + 2 * c.in-Ok.header.blocks + c.in-Ok.header.free - (7 + 2 * c.in-Ok.header.blocks)) (drop (7 + 2 * c.in-Ok.header.blocks) c.args.words.now)) b.0.all,
           ))
-          (omega (arith, hd.room, count)) b.0.once b.0.apart (omega (arith, c.if-found-header.false, b.2, ap used_of same)));
+          (omega (arith, hd.room, count)) b.0.once b.0.apart (omega (arith, c.if-found-header.false, b.2, ap used_of same)))));
       total = sym b.1;
     }
 
@@ -94,16 +116,10 @@ pub returns-clause-read : goal.returns-clause-read
 returns-clause-read g c =
     let hd = c.in-Ok.ensures.header in
     let b = rw c.in-Ok-2.is at c.in_ok-wrong.ensures.built in
-    let same = blocks-chain _ _ _ _ _ b.0.chain in (
-      subst (λ v. IsTextOf v c.args.words.now)
-          (sym (ap₂ (λ (bs : List Block) (o : List (List ℕ)). let u : View = record {
-            size = c.in-Ok.header.size;
-            max_allocs = c.in-Ok.header.max_allocs;
-            blocks = bs;
-            bins = o;
-            accesses = c.new.result;
-          } in u) same b.0.bins))
-          (text_built c.args.words.now c.in-Ok.header c.new.result b.0.all _ _ _ hd refl refl refl b.0.words b.0.each b.0.once (sym c.checksum.ensures ∙ c.if-checksum-words.false)),
+    let store = c.in-Ok-2.built.0 in
+    let v : View = view_of g.T.Index.NodeIndex.MAX c.in-Ok.header.size c.in-Ok.header.max_allocs (g.T.Tables.cells store.tables) store.last store.spare_count c.new.result in (
+      text_shown c.args.words.now c.in-Ok.header v b.0.all _ _ _ hd refl refl refl b.0.words b.0.ordered (sym c.checksum.ensures ∙ c.if-checksum-words.false) refl refl
+          (blocks-chain _ _ _ _ _ b.0.chain) b.0.bins (ap (λ k. take k (g.T.Tables.cells store.tables).chain.spare) b.0.count ∙ b.0.spare),
       c.new.ensures,
       hd.asked,
     )

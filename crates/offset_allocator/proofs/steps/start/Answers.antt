@@ -4,7 +4,7 @@ use Rattle.offset_allocator.proofs.steps.start.Goals as goal
 use Rattle.offset_allocator.proofs.steps.start.{Goals.After-push, Given.Over}
 
 begun : (g : Over) (c : After-push g) → IsSound g.T.Index.NodeIndex.MAX c.args.size c.args.max_allocs (g.T.Tables.cells c.push.new.store.tables) 0 0 c.push.new.store.top_mask c.args.size
-    × (view_of g.T.Index.NodeIndex.MAX c.args.size c.args.max_allocs (g.T.Tables.cells c.push.new.store.tables) 0 0 ≡ fresh c.args.size c.args.max_allocs)
+    × (view_of g.T.Index.NodeIndex.MAX c.args.size c.args.max_allocs (g.T.Tables.cells c.push.new.store.tables) 0 0 0 ≡ fresh c.args.size c.args.max_allocs)
 begun g c =
     let empty : bins_in g.T.Index.NodeIndex.MAX (g.T.Tables.cells c.start.new.tables).bins ≡ replicate 256 [] = rw c.start.ensures.bins c.requires.empty in
     let bins = c.push.ensures.lists ∙ ap (λ (o : List (List ℕ)). push c.uint_to_float_round_down.result 0 o) empty

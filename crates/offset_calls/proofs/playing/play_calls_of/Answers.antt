@@ -27,8 +27,11 @@ replies_all : (cs : List Call) (s : State) (i : ℕ) (found : List program.Reply
     → map reply_view found ≡ all
 replies_all cs s i found all h so_far = sym (append-nil (map reply_view found)) ∙ ap (λ l. map reply_view found ++ l) (sym (ap (λ l. replies l (after (take i cs) s)) (drop_all i cs h))) ∙ so_far
 
-pub reply-requires-clause-live : goal.reply-requires-clause-live
-reply-requires-clause-live g c = all_live _ _ _ (well_calls (take c.loop-call.call-index c.args.calls.now) _ (well_start c.args.size c.args.max_allocs c.requires.low)) c.loop-call.invariant.represents
+pub reply-requires-clause-held : goal.reply-requires-clause-held
+reply-requires-clause-held g c = record {
+  live = all_live _ _ _ (well_calls (take c.loop-call.call-index c.args.calls.now) _ (well_start c.args.size c.args.max_allocs c.requires.low)) c.loop-call.invariant.represents;
+  apart = c.loop-call.invariant.numbers.apart;
+}
 
 pub reply-requires-clause-kept : goal.reply-requires-clause-kept
 reply-requires-clause-kept g c =

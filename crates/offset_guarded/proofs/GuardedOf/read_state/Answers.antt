@@ -1,10 +1,13 @@
-use Rattle.std.proofs.Common.{◌≡◌, ◌∙◌, ◌+◌, ◌*◌, ◌≤◌, ap, refl, sym, subst, arith, drop, length, List, ℕ}
+use Rattle.std.proofs.Common.{◌≡◌, ◌∙◌, ◌+◌, ◌*◌, ◌%◌, ◌^◌, ◌≤◌, ap, refl, sym, subst, arith, drop, length, List, ℕ}
 use Rattle.std.proofs.lemmas.List.{length-drop}
 use Rattle.offset_allocator.specs.Ranges as named
 use Rattle.offset_allocator.specs.State as allocator
 use Rattle.offset_allocator.specs.View.{View}
 use Rattle.offset_guarded.specs.Guard.{Guard, cell}
 use Rattle.offset_guarded.specs.State.{numbers}
+use Rattle.offset_guarded.specs.StateFaults.{IsFaultOf}
+use Rattle.offset_allocator.specs.StateFaults as faults
+use Rattle.offset_guarded.proofs.Headed.{headed}
 use Rattle.offset_guarded.proofs.Guards.{guard}
 use Rattle.offset_guarded.proofs.Numbers.{length-numbers, numbers_sliced, rest_of}
 use Rattle.offset_guarded.proofs.States.{parts, serials_of, tickets_read}
@@ -16,7 +19,28 @@ returns-in-Err-2-clause-refused g c _ v w admitted asked st =
     let count : c.in-Ok.header.count ≡ length v.serials = sym c.in-Ok.ensures.header.count ∙ (parts v bs st).count in
     let b = rw c.in-Err-2.is at c.in_ok-fault.ensures.refused in
     let state : allocator.IsStateOf v.space (drop (48 + 8 * c.in-Ok.header.count) bs) = subst (λ n. allocator.IsStateOf v.space (drop (48 + 8 * n) bs)) (sym count) st.space in
-    b refl v.space w.space admitted asked (subst (allocator.IsStateOf v.space) (sym (rest_of (48 + 8 * c.in-Ok.header.count) bs)) state)
+    b refl v.space w.space w.names admitted asked (subst (allocator.IsStateOf v.space) (sym (rest_of (48 + 8 * c.in-Ok.header.count) bs)) state)
+
+pub returns-in-Err-clause-fault : goal.returns-in-Err-clause-fault
+returns-in-Err-clause-fault g c = rw c.in-Err.is at (c.header_of.ensures.fault g.T.Index.NodeIndex.MAX c.args.most_allocs)
+
+pub returns-in-Err-2-clause-fault : goal.returns-in-Err-2-clause-fault
+returns-in-Err-2-clause-fault g c =
+    let bs : List ℕ = c.args.bytes.now in
+    let hd = c.in-Ok.ensures.header in
+    let b = rw c.in-Err-2.is at c.in_ok-fault.ensures.fault in
+    let wrong = subst (λ k. faults.IsFault g.T.Index.NodeIndex.MAX c.args.most_allocs k c.in-Err-2.fault) (rest_of (48 + 8 * c.in-Ok.header.count) bs) b in (
+      headed hd,
+      (
+        c.in-Err-2.fault.at,
+        ap (λ n. (48 + 8 * n + c.in-Err-2.fault.at) % 2 ^ 64) (sym hd.count),
+        subst (λ n. faults.IsFault g.T.Index.NodeIndex.MAX c.args.most_allocs (drop (48 + 8 * n) bs) c.in-Err-2.fault) (sym hd.count) wrong,
+      ),
+    )
+
+pub returns-in-Some-clause-fault : goal.returns-in-Some-clause-fault
+returns-in-Some-clause-fault g c =
+    subst (λ k. IsFaultOf g.T.Index.NodeIndex.MAX c.args.most_allocs c.args.bytes.now c.in-Some.fault.at k) (sym c.in-Some.ensures.serial) (headed c.in-Ok.ensures.header)
 
 pub returns-in-Some-clause-refused : goal.returns-in-Some-clause-refused
 returns-in-Some-clause-refused g c _ v w admitted asked st =
@@ -26,7 +50,7 @@ returns-in-Some-clause-refused g c _ v w admitted asked st =
     let count : c.in-Ok.header.count ≡ length v.serials = sym hd.count ∙ p.count in
     let b = rw c.in-Ok-2.is at c.in_ok-fault.ensures.read in
     let state : allocator.IsStateOf c.in-Ok-2.space (drop (48 + 8 * c.in-Ok.header.count) bs) = subst (allocator.IsStateOf c.in-Ok-2.space) (rest_of (48 + 8 * c.in-Ok.header.count) bs) b.0 in
-    let same = c.a_state_is_read_back.ensures.one v.space c.in-Ok-2.space (drop (48 + 8 * length v.serials) bs) st.space
+    let same = c.a_state_is_read_back.ensures.one v.space c.in-Ok-2.space (drop (48 + 8 * length v.serials) bs) w.space c.a_state_is_read_back.ensures.formed st.space
     (subst (λ n. allocator.IsStateOf c.in-Ok-2.space (drop (48 + 8 * n) bs)) count state) in
     let cells : c.in_ok-serials.serials.cells ≡ v.serials =
     c.in_ok-serials.ensures.cells ∙ numbers_sliced c.in-Ok.header.count _ (drop 40 bs) (omega arith) (omega (arith, hd.long, length-drop 40 bs))
@@ -66,4 +90,4 @@ returns-clause-read g c =
 pub returns-clause-formed : goal.returns-clause-formed
 returns-clause-formed g c =
     let ok = c.in_default.ensures.none refl in
-    record { space = c.a_state_is_read_back.ensures.formed; live = ok.0; given = ok.1; realm = c.in-Ok.ensures.header.fits }
+    record { space = c.a_state_is_read_back.ensures.formed; names = c.a_state_is_read_back.ensures.names; live = ok.0; given = ok.1; realm = c.in-Ok.ensures.header.fits }

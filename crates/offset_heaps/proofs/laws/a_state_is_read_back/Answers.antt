@@ -2,11 +2,14 @@ use Rattle.std.proofs.Common.{◌+◌, ◌<◌, ap, arith, subst, sym, ℕ, IfSo
 use Rattle.offset_guarded.specs.State as guarded
 use Rattle.offset_heaps.specs.Heaps.{Heaps, heap_at}
 use Rattle.offset_heaps.specs.State.{IsWellFormed}
-use Rattle.offset_heaps.proofs.States.{formed, one_of_many}
+use Rattle.offset_heaps.proofs.States.{formed, one_of_many, text_of_many}
 use Rattle.offset_heaps.proofs.laws.a_state_is_read_back.Goals as goal
 
 pub returns-clause-one : goal.returns-clause-one
-returns-clause-one g c hs ks bytes s t = one_of_many hs ks bytes s t
+returns-clause-one g c hs ks bytes w v s t = one_of_many hs ks bytes w v s t
+
+pub returns-clause-bytes : goal.returns-clause-bytes
+returns-clause-bytes g c hs ks bs small few s t = text_of_many hs ks bs small few s t
 
 pub returns-clause-formed : goal.returns-clause-formed
 returns-clause-formed g c =

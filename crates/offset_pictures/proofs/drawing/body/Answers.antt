@@ -1,4 +1,4 @@
-use Rattle.std.proofs.Common.{◌++◌, ◌∙◌, List, ℕ, ap₂, subst}
+use Rattle.std.proofs.Common.{◌++◌, ◌∙◌, List, ℕ, sym, ap₂, subst}
 use Rattle.std.specs.Prelude.{string_bytes}
 use Rattle.offset_allocator.specs.declared.reports.StorageReport.{StorageReport}
 use Rattle.offset_pictures.specs.declared.course.Course.{Course}
@@ -11,8 +11,15 @@ use Rattle.offset_pictures.specs.Rectangles.{AreRectangles}
 use Rattle.offset_pictures.specs.StepLines.{beyond_text, reports_text}
 use Rattle.offset_pictures.specs.Marks.{refusals_text}
 use Rattle.offset_pictures.specs.Ticks.{axes_text}
-use Rattle.offset_pictures.proofs.Drawn.{has_all}
+use Rattle.offset_pictures.proofs.Drawn.{has_all, same_xs}
 use Rattle.offset_pictures.proofs.drawing.body.Goals as goal
+
+pub put_reports-requires-clause-xs : goal.put_reports-requires-clause-xs
+put_reports-requires-clause-xs c =
+    let x = c.ranges_plot-ranges.ensures.calls in
+    let y = c.reports_plot-reports.ensures.calls in
+    same_xs c.ranges_plot-ranges.result.calls c.reports_plot-reports.result.calls c.in_ok-xs.xs.items c.deref-5.result.now (x.0 ∙ sym y.0) (x.1 ∙ sym y.1) (x.2 ∙ sym y.2) c.deref-5.ensures.value
+    c.in_ok-xs.ensures.xs
 
 pub returns : goal.returns
 returns c =

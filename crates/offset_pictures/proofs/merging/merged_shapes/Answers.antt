@@ -1,15 +1,14 @@
 use Rattle.std.proofs.lemmas.List.{get_or-map, length-map}
-use Rattle.std.proofs.lemmas.List.Sorted.{IsNonDecreasingBy-from_sort, IsPermutation-map}
-use Rattle.std.proofs.Common.{◌≡◌, ℕ, ◌<◌, ◌≤◌, [], ◌∷◌, ◌++◌, length, map, ◌∙◌, List, Some, true, false, get_or, arith, ap, subst, sym, ◌||◌}
+use Rattle.std.proofs.lemmas.List.Sorted.{IsNonDecreasingBy-from_sort}
+use Rattle.std.proofs.Common.{◌≡◌, ℕ, ◌<◌, ◌≤◌, [], ◌∷◌, ◌++◌, length, map, ◌∙◌, List, Some, true, false, get_or, arith, ap, subst, sym}
 use Rattle.std.specs.Prelude.{IsPermutation}
-use Rattle.std.specs.List.{list_any}
 use Rattle.std.specs.List.Sorted.{IsNonDecreasing}
 use Rattle.offset_pictures.specs.declared.living.Life.{Life}
 use Rattle.offset_pictures.specs.declared.plots.Plot.{Plot}
 use Rattle.offset_pictures.specs.declared.shapes.Shape.{Shape}
-use Rattle.offset_pictures.specs.Merging.{covers, rounded_if_tiny, is_tiny, join, key_of, large_shapes, merge, shape_of_key, tiny_shapes, touch}
+use Rattle.offset_pictures.specs.Merging.{is_tiny, join, key_of, large_shapes, merge, shape_of_key, tiny_shapes, touch}
 use Rattle.offset_pictures.specs.Shapes.{shape_of}
-use Rattle.offset_pictures.proofs.Merged.{one_more_key, drawn_tiny, drawn_plain, no_last, tiny_life, plain_life, joins_last, pushes_last, starts_last, ends_with, ends_without, all_covered}
+use Rattle.offset_pictures.proofs.Merged.{no_last}
 use Rattle.offset_pictures.proofs.Listed.{large_is_pushed, large_stay, tiny_is_pushed, tiny_stay, large_all, tiny_all, one_joins, one_is_done, one_starts, last_is_done, none_is_done}
 use Rattle.offset_pictures.proofs.merging.merged_shapes.Goals as goal
 use Rattle.offset_pictures.proofs.merging.merged_shapes.Goals.{then-is_tiny+in_ok-push, else-is_tiny+in_ok-push-2, in-Some, in-Some-2+in_ok-push-in-Some-2, in-None, in-Some-last+in_ok-push-3}
@@ -24,19 +23,11 @@ loop-life-preserved c =
     let shape : Shape = c.shape_of-shape.result in
     let is : shape ≡ shape_of plot (get_or ls i none) = c.shape_of-shape.ensures.shape in
     let less : i < length ls = omega arith in
-    let h : Life → Shape = λ l. rounded_if_tiny (shape_of plot l) in
     elim c.if-is_tiny.branch [
       | then-is_tiny+in_ok-push w ↦
-          let x : Shape = w.round_out.result in
           let is_so : is_tiny shape ≡ true = sym c.is_tiny.ensures ∙ w.if-is_tiny.true in
           let pushed = ap (λ v. v.items) w.tiny-is ∙ w.in_ok-push.ensures.items in
-          let tinier : map shape_of_key c.if-is_tiny.tiny.items ≡ map shape_of_key c.loop-life.tiny.items ++ x ∷ [] = one_more_key _ _ _ x pushed w.key_of.ensures.shape in
-          let drawn_is : x ≡ h (get_or ls i none) = w.round_out.ensures ∙ sym (drawn_tiny shape is_so) ∙ ap rounded_if_tiny is in
           record {
-            covers = λ p.
-                ap (λ (v : List Shape). list_any (covers p) v || list_any (covers p) (map shape_of_key c.if-is_tiny.tiny.items)) (ap (λ v. v.items) w.found-is)
-                ∙ tiny_life p c.loop-life.found.items (map shape_of_key c.loop-life.tiny.items) (map shape_of_key c.if-is_tiny.tiny.items) h ls i none x less tinier drawn_is
-                (c.loop-life.invariant.covers p);
             large = large_stay plot i none shape ls c.loop-life.found.items c.if-is_tiny.found.items (large_shapes plot ls) less is is_so (ap (λ v. v.items) w.found-is) c.loop-life.invariant.large;
             tiny = tiny_is_pushed plot i none shape ls c.loop-life.tiny.items c.if-is_tiny.tiny.items (map key_of (tiny_shapes plot ls)) less is is_so
                 (pushed ∙ ap (λ (k : ℕ). c.loop-life.tiny.items ++ k ∷ []) (w.key_of.ensures.is ∙ ap key_of w.round_out.ensures)) c.loop-life.invariant.tiny;
@@ -44,12 +35,7 @@ loop-life-preserved c =
       | else-is_tiny+in_ok-push-2 w ↦
           let is_not : is_tiny shape ≡ false = sym c.is_tiny.ensures ∙ w.if-is_tiny.false in
           let pushed = ap (λ v. v.items) w.found-is ∙ w.in_ok-push-2.ensures.items in
-          let drawn_is : shape ≡ h (get_or ls i none) = sym (drawn_plain shape is_not) ∙ ap rounded_if_tiny is in
           record {
-            covers = λ p.
-                ap (λ (v : List ℕ). list_any (covers p) c.if-is_tiny.found.items || list_any (covers p) (map shape_of_key v)) (ap (λ v. v.items) w.tiny-is)
-                ∙ plain_life p c.loop-life.found.items c.if-is_tiny.found.items (map shape_of_key c.loop-life.tiny.items) h ls i none shape less pushed drawn_is
-                (c.loop-life.invariant.covers p);
             large = large_is_pushed plot i none shape ls c.loop-life.found.items c.if-is_tiny.found.items (large_shapes plot ls) less is is_not pushed c.loop-life.invariant.large;
             tiny = tiny_stay plot i none shape ls c.loop-life.tiny.items c.if-is_tiny.tiny.items (map key_of (tiny_shapes plot ls)) less is is_not
                 (ap (λ v. v.items) w.tiny-is) c.loop-life.invariant.tiny;
@@ -76,7 +62,6 @@ loop-key-preserved c =
           let joined = w.last-is ∙ ap Some w.join.ensures ∙ ap (λ x. Some (join x b)) w.in-Some.before-is in
           let touching = ap (λ x. touch x b) (sym w.in-Some.before-is) ∙ sym w.touch.ensures ∙ w.if-touch.true in
           record {
-            covers = λ p. joins_last p found more tiny c.loop-key.last c.match-last.last i none a b _ less at same w.in-Some.is joined touching (c.loop-key.invariant.covers p);
             listed = one_joins i none a b c.loop-key.last c.match-last.last tiny found more whole less at touching same w.in-Some.is joined c.loop-key.invariant.listed;
           }
       | in-Some-2+in_ok-push-in-Some-2 w ↦
@@ -85,35 +70,17 @@ loop-key-preserved c =
           let tested : a ≡ w.in-Some.before = let e = w.in-Some-2.is in let f = w.in-Some.is in cc in
           let apart = ap (λ x. touch x b) (tested ∙ sym w.in-Some.before-is) ∙ sym w.touch.ensures ∙ w.if-touch.false in
           record {
-            covers = λ p. pushes_last p found more tiny c.loop-key.last c.match-last.last i none a b _ less at pushed w.in-Some-2.is w.last-is (c.loop-key.invariant.covers p);
             listed = one_is_done i none a b c.loop-key.last c.match-last.last tiny found more whole less at apart pushed w.in-Some-2.is w.last-is c.loop-key.invariant.listed;
           }
       | in-None w ↦
           let same : more ≡ found = ap (λ v. v.items) w.found-is in
           record {
-            covers = λ p. starts_last p found more tiny c.loop-key.last c.match-last.last i none b _ less at same w.in-None.is w.last-is (c.loop-key.invariant.covers p);
             listed = one_starts i none b c.loop-key.last c.match-last.last tiny found more whole less at same w.in-None.is w.last-is c.loop-key.invariant.listed;
           }
     ]
 
-pub returns-clause-covers : goal.returns-clause-covers
-returns-clause-covers c = λ p.
-    let plot : Plot = c.args.plot.now in
-    let ls : List Life = c.args.lives.now in
-    let covered = all_covered p c.loop-life.found.items (map shape_of_key c.loop-life.tiny.items) (map shape_of_key c.deref-key-items.result.now)
-    (λ l. rounded_if_tiny (shape_of plot l)) ls c.loop-life.life-index c.loop-key.key-index _
-    (omega arith) (omega (arith, length-map c.deref-key-items.result.now shape_of_key))
-    (IsPermutation-map shape_of_key c.loop-life.tiny.items c.deref-key-items.result.now (subst (IsPermutation c.loop-life.tiny.items) (sym c.deref-key-items.ensures.value) c.sort.ensures.permutation))
-    (c.loop-life.invariant.covers p)
-    (c.loop-key.invariant.covers p) in
-    elim c.match-last-2.branch [
-      | in-Some-last+in_ok-push-3 w ↦ ends_with p c.loop-key.found.items c.match-last-2.found.items c.loop-key.last w.in-Some-last.before
-          (ap (λ v. v.items) w.found-is ∙ w.in_ok-push-3.ensures.items) w.in-Some-last.is ∙ covered
-      | in_default w ↦ ends_without p c.loop-key.found.items c.match-last-2.found.items c.loop-key.last (ap (λ v. v.items) w.found-is) (no_last c.loop-key.last w.in_default.not-Some) ∙ covered
-    ]
-
-pub returns-clause-is : goal.returns-clause-is
-returns-clause-is c =
+pub returns : goal.returns
+returns c =
     let plot : Plot = c.args.plot.now in
     let ls : List Life = c.args.lives.now in
     let keys : List ℕ = c.deref-key-items.result.now in

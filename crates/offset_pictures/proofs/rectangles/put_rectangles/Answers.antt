@@ -39,7 +39,7 @@ returns c =
     elim c.if-is_merged.branch [
       | then-is_merged+in_ok-shapes w ↦
           let many = lt-ltb 20000 (length lives) w.if-is_merged.true in
-          many_lives plot lives c.args.calls shapes c.then_some.result many (subst (AreMerged plot lives) (sym (ap (λ v. v.items) w.shapes-is)) w.in_ok-shapes.ensures.is)
+          many_lives plot lives c.args.calls shapes c.then_some.result many (subst (AreMerged plot lives) (sym (ap (λ v. v.items) w.shapes-is)) w.in_ok-shapes.ensures)
           (c.then_some.ensures ∙ ap (λ b. then_some b c.len-2.result) many ∙ ap Some count)
       | else-is_merged+in_ok-shapes-2 w ↦
           let few = le-ltb 20000 (length lives) w.if-is_merged.false in

@@ -1,32 +1,27 @@
 use Rattle.offset_script.proofs.Common.{◌≡◌, ◌+◌, ◌<◌, ◌∙◌, [], ◌∷◌, ◌++◌, length, take, map, refl, sym, ap, subst, arith, answers, start, after, Takes, AreStepsFromFresh}
 use Rattle.offset_script.proofs.Common.{take_more, take_all, map-append, Command}
-use Rattle.offset_script.proofs.Simulation.{all_live, fresh_represents, steps_begin, steps_go_on, steps_end}
+use Rattle.offset_script.proofs.Simulation.{fresh_represents, steps_begin, steps_go_on, steps_end}
 use Rattle.offset_script.proofs.{Agreement.IsAtState, Asking.answers-append, Heard.shows, Heard.told, Nests.after-append, Well.well_start, Well.well_after}
 use Rattle.offset_script.proofs.playing.play_to.Goals as goal
 
 pub call-requires : goal.call-requires
-call-requires g c =
-    let s = start c.args.size c.args.max_allocs in
-    let before = map g.L.Listener.played (take c.loop-command.command-index c.args.commands.now) in
-    record {
-      live = all_live _ _ (after before s) (well_after before s (well_start c.args.size c.args.max_allocs c.requires.low)) c.loop-command.invariant.represents;
-      power = c.played-asked.ensures.power;
-    }
+call-requires g c = record { held = c.loop-command.invariant.held; power = c.played-asked.ensures.power }
 
 pub hear-requires : goal.hear-requires
 hear-requires g c =
     let s = start c.args.size c.args.max_allocs in
     let before = map g.L.Listener.played (take c.loop-command.command-index c.args.commands.now) in
     let t = told c.played-asked.result (after before s) _ _ _ _ _ (well_after before s (well_start c.args.size c.args.max_allocs c.requires.low)) c.loop-command.invariant.represents
-    c.played-asked.ensures.power c.is_well_formed-in-loop-command.ensures c.in_ok-answer.ensures in
+    c.played-asked.ensures.power c.is_well_formed-in-loop-command.ensures c.in_ok-answer.ensures.takes in
     record { power = c.played-asked.ensures.power; told = (after before s, t.0) }
 
 pub loop-command-init : goal.loop-command-init
 loop-command-init g c =
     let s = start c.args.size c.args.max_allocs in
-    let fresh = c.in_ok-player.ensures in
+    let fresh = c.in_ok-player.ensures.fresh in
     let represents = fresh_represents c.in_ok-player.player.space c.is_well_formed.ensures c.args.size c.args.max_allocs c.in_ok-player.player.handles.items fresh.0 fresh.1 in
     record {
+      held = c.in_ok-player.ensures.held;
       represents = represents;
       steps = steps_begin Takes c.args.size c.args.max_allocs _ _ [] fresh.0 fresh.1 refl;
       heard = c.in_ok-listener.ensures s (shows _ _ s (well_start c.args.size c.args.max_allocs c.requires.low) represents);
@@ -41,12 +36,13 @@ loop-command-preserved g c =
     let q : Command = c.played-asked.result in
     let within : i < length cs = omega arith in
     let t = told q (after before s) _ _ _ _ _ (well_after before s (well_start c.args.size c.args.max_allocs c.requires.low)) c.loop-command.invariant.represents
-    c.played-asked.ensures.power c.is_well_formed-in-loop-command.ensures c.in_ok-answer.ensures in
+    c.played-asked.ensures.power c.is_well_formed-in-loop-command.ensures c.in_ok-answer.ensures.takes in
     let more : map g.L.Listener.played (take (i + 1) cs) ≡ before ++ q ∷ [] =
     ap (map g.L.Listener.played) (take_more cs i _ within) ∙ map-append g.L.Listener.played (take i cs) _ ∙ ap (λ x. before ++ x ∷ []) (sym c.played-asked.ensures.command) in
     record {
+      held = c.in_ok-answer.ensures.held;
       represents = subst (IsAtState c.call.new.self.space c.call.new.self.handles.items) (sym (ap (λ l. after l s) more ∙ after-append before (q ∷ []) s)) t.1;
-      steps = steps_go_on Takes _ _ _ _ _ _ _ _ _ _ _ _ c.loop-command.invariant.steps c.in_ok-answer.ensures c.is_well_formed-in-loop-command.ensures more
+      steps = steps_go_on Takes _ _ _ _ _ _ _ _ _ _ _ _ c.loop-command.invariant.steps c.in_ok-answer.ensures.takes c.is_well_formed-in-loop-command.ensures more
           (ap (λ l. answers l s) more ∙ answers-append before (q ∷ []) s ∙ ap (λ a. answers before s ++ a ∷ []) (sym t.0.answer));
       heard = subst (g.L.Listener.Heard c.hear.new.self s) (sym more) (c.in_ok-hear.ensures s before t.0 c.loop-command.invariant.heard);
     }

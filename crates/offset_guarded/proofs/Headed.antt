@@ -1,0 +1,13 @@
+-- The numbers that a state with tickets begins with, read one by one.
+use Rattle.std.proofs.Common.{◌≡◌, ℕ, ◌+◌, List, arith, subst, sym}
+use Rattle.offset_guarded.specs.State.{IsHeader, checksum_from, number_at, numbers}
+use Rattle.offset_guarded.specs.StateFaults.{IsHeaded}
+use Rattle.offset_guarded.specs.declared.restoring.Header.{Header}
+
+pub headed : {bytes : List ℕ} {h : Header} → IsHeader bytes h → IsHeaded bytes
+headed {bytes} hd = record {
+  form = (omega (arith, hd.long), hd.form, hd.version);
+  long = omega (arith, hd.long, hd.count);
+  realm = omega (arith, hd.realm, hd.fits);
+  sum = subst (λ n. checksum_from 0 (numbers (5 + n) bytes) ≡ number_at bytes (5 + n)) (sym hd.count) hd.sum;
+}

@@ -1,0 +1,29 @@
+-- Histories: what calls leave of many heaps, one after another, and the places of a heap that is gone.
+use Rattle.std.specs.Prelude.{◌≡◌, ◌≢◌, ℕ, ◌≤◌, ◌⊎◌, List, [], ◌∷◌, None, IfSome}
+use Rattle.offset_heaps.specs.declared.place.Granted.{Granted}
+use Rattle.offset_heaps.specs.declared.place.Place.{Place}
+use Rattle.offset_heaps.specs.Heaps.{Heaps, FreesIn, Grants, IsSame, Puts, heap_at}
+use Rattle.offset_heaps.specs.Slots.{ResetsIn}
+
+-- each heap is reset
+pub record ResetsAll (hs ks : Heaps) : Type 0 where
+  pub heaps : (k : ℕ) → ResetsIn (heap_at k hs) (heap_at k ks)
+  pub rest : ks ≡ record hs { slots = ks.slots; accesses = ks.accesses }
+
+-- what one call leaves: all as it was, a grant, a range freed, a heap dropped, or all reset
+abbrev pub IsStep : Heaps → Heaps → Type 0
+IsStep hs ks = IsSame hs ks
+    ⊎ ((size align : ℕ) × (grant : Granted) × Grants size align hs ks grant)
+    ⊎ ((p : Place) × FreesIn p hs ks)
+    ⊎ ((k : ℕ) × Puts k None hs ks)
+    ⊎ ResetsAll hs ks
+
+-- what some calls leave, one after another
+abbrev pub AreSteps : Heaps → List Heaps → Type 0
+AreSteps hs [] = Unit {0}
+AreSteps hs (ks ∷ later) = IsStep hs ks × AreSteps ks later
+
+-- the heap of a place is gone: it was made, and its number has another one, or none
+pub record IsGone (p : Place) (hs : Heaps) : Type 0 where
+  pub made : p.ticket.realm ≤ hs.made
+  pub other : IfSome (heap_at p.heap hs) (λ g. p.ticket.realm ≢ g.realm)

@@ -1,0 +1,97 @@
+//! Any calls, one after another: each leaves a step of a history, so no place of a heap that is gone is live
+//! after them. Nothing calls it: it is proved.
+
+ghost use Rattle.offset_heaps.specs.Heaps.{IsLive};
+ghost use Rattle.offset_heaps.specs.Histories.{IsGone, IsStep};
+
+use offset_heaps::laws::dropped_heaps_stay_dropped;
+use offset_heaps::{Heaps, Place};
+
+/// A call that changes many heaps.
+#[derive(Clone, Copy)]
+pub enum Change {
+    Allocate(u32),
+    AllocateAligned(u32),
+    Relocate(Place),
+    Free(Place),
+    DropEmpty(u32),
+    DropHeap(u32),
+    GiveUp(u32),
+    Reset,
+}
+
+fn allocate(heaps: &mut Heaps, size: u32)
+    ensures { IsStep heaps.old heaps.new }
+{
+    let _ = heaps.allocate(size);
+}
+
+fn allocate_aligned(heaps: &mut Heaps, size: u32)
+    ensures { IsStep heaps.old heaps.new }
+{
+    let _ = heaps.allocate_aligned(size, 256);
+}
+
+fn relocate(heaps: &mut Heaps, place: Place)
+    ensures { IsStep heaps.old heaps.new }
+{
+    let _ = heaps.relocate(place);
+}
+
+fn free(heaps: &mut Heaps, place: Place)
+    ensures { IsStep heaps.old heaps.new }
+{
+    let _ = heaps.free(place);
+}
+
+fn drop_empty(heaps: &mut Heaps, keep: u32)
+    ensures { IsStep heaps.old heaps.new }
+{
+    let _ = heaps.drop_empty(keep);
+}
+
+fn drop_heap(heaps: &mut Heaps, number: u32)
+    ensures { IsStep heaps.old heaps.new }
+{
+    let _ = heaps.drop_heap(number);
+}
+
+fn give_up(heaps: &mut Heaps, number: u32)
+    ensures { IsStep heaps.old heaps.new }
+{
+    let _ = heaps.give_up(number);
+}
+
+fn reset(heaps: &mut Heaps)
+    ensures { IsStep heaps.old heaps.new }
+{
+    heaps.reset();
+}
+
+/// Makes a call.
+pub fn make(heaps: &mut Heaps, change: Change)
+    ensures { IsStep heaps.old heaps.new }
+{
+    match change {
+        Change::Allocate(size) => allocate(heaps, size),
+        Change::AllocateAligned(size) => allocate_aligned(heaps, size),
+        Change::Relocate(place) => relocate(heaps, place),
+        Change::Free(place) => free(heaps, place),
+        Change::DropEmpty(keep) => drop_empty(heaps, keep),
+        Change::DropHeap(number) => drop_heap(heaps, number),
+        Change::GiveUp(number) => give_up(heaps, number),
+        Change::Reset => reset(heaps),
+    }
+}
+
+/// Makes calls, one after another, after the heap of a place is gone.
+pub fn make_all(heaps: &mut Heaps, place: Place, changes: &[Change])
+    requires { IsGone place heaps.old }
+    ensures gone { IsGone place heaps.new }
+    ensures dead { IsLive place heaps.new → ⊥ }
+{
+    dropped_heaps_stay_dropped(heaps);
+    for change in changes {
+        make(heaps, *change);
+    }
+}
