@@ -5,16 +5,7 @@ use Rattle.offset_pictures.specs.declared.axes.Axis.{Axis}
 use Rattle.offset_pictures.specs.Axes.{in_tenths, x_of}
 use Rattle.offset_pictures.specs.Scales.{along}
 use Rattle.offset_pictures.specs.StepLines.{AreXs}
-
--- the parts of a picture, in the order in which they are written
-pub has_parts : (p₀ p₁ p₂ p₃ p₄ p₅ p₆ p₇ p₈ x₀ x₁ x₂ x₃ x₄ x₅ x₆ x₇ x₈ : List ℕ)
-    → x₀ ≡ p₀ → x₁ ≡ x₀ ++ p₁ → x₂ ≡ x₁ ++ p₂ → x₃ ≡ x₂ ++ p₃ → x₄ ≡ x₃ ++ p₄ → x₅ ≡ x₄ ++ p₅ → x₆ ≡ x₅ ++ p₆ → x₇ ≡ x₆ ++ p₇ → x₈ ≡ x₇ ++ p₈
-    → x₈ ≡ p₀ ++ p₁ ++ p₂ ++ p₃ ++ p₄ ++ p₅ ++ p₆ ++ p₇ ++ p₈
-has_parts p₀ p₁ p₂ p₃ p₄ p₅ p₆ p₇ p₈ x₀ x₁ x₂ x₃ x₄ x₅ x₆ x₇ x₈ e₀ e₁ e₂ e₃ e₄ e₅ e₆ e₇ e₈ =
-    e₈ ∙ ap (λ (x : List ℕ). x ++ p₈) (e₇
-    ∙ ap (λ (x : List ℕ). x ++ p₇) (e₆
-    ∙ ap (λ (x : List ℕ). x ++ p₆) (e₅
-    ∙ ap (λ (x : List ℕ). x ++ p₅) (e₄ ∙ ap (λ (x : List ℕ). x ++ p₄) (e₃ ∙ ap (λ (x : List ℕ). x ++ p₃) (e₂ ∙ ap (λ (x : List ℕ). x ++ p₂) (e₁ ∙ ap (λ (x : List ℕ). x ++ p₁) e₀)))))))
+use Rattle.offset_pictures.proofs.Texts.{goes_on}
 
 -- the parts of a picture with its title
 pub has_title : (p₀ p₁ p₂ p₃ p₄ p₅ p₆ x₀ x₁ x₂ x₃ x₄ x₅ x₆ : List ℕ)
@@ -24,12 +15,18 @@ has_title p₀ p₁ p₂ p₃ p₄ p₅ p₆ x₀ x₁ x₂ x₃ x₄ x₅ x₆ 
     e₆ ∙ ap (λ (x : List ℕ). x ++ p₆) (e₅
     ∙ ap (λ (x : List ℕ). x ++ p₅) (e₄ ∙ ap (λ (x : List ℕ). x ++ p₄) (e₃ ∙ ap (λ (x : List ℕ). x ++ p₃) (e₂ ∙ ap (λ (x : List ℕ). x ++ p₂) (e₁ ∙ ap (λ (x : List ℕ). x ++ p₁) e₀)))))
 
--- the parts below the heading, of which the first is put after nothing
+-- the parts below the heading, in the order in which they are put after what is there
 pub has_all : (p₁ p₂ p₃ p₄ p₅ p₆ p₇ p₈ x₀ x₁ x₂ x₃ x₄ x₅ x₆ x₇ x₈ : List ℕ)
-    → x₀ ≡ [] → x₁ ≡ x₀ ++ p₁ → x₂ ≡ x₁ ++ p₂ → x₃ ≡ x₂ ++ p₃ → x₄ ≡ x₃ ++ p₄ → x₅ ≡ x₄ ++ p₅ → x₆ ≡ x₅ ++ p₆ → x₇ ≡ x₆ ++ p₇ → x₈ ≡ x₇ ++ p₈
-    → x₈ ≡ p₁ ++ p₂ ++ p₃ ++ p₄ ++ p₅ ++ p₆ ++ p₇ ++ p₈
-has_all p₁ p₂ p₃ p₄ p₅ p₆ p₇ p₈ x₀ x₁ x₂ x₃ x₄ x₅ x₆ x₇ x₈ e₀ e₁ e₂ e₃ e₄ e₅ e₆ e₇ e₈ =
-    has_parts [] p₁ p₂ p₃ p₄ p₅ p₆ p₇ p₈ x₀ x₁ x₂ x₃ x₄ x₅ x₆ x₇ x₈ e₀ e₁ e₂ e₃ e₄ e₅ e₆ e₇ e₈
+    → x₁ ≡ x₀ ++ p₁ → x₂ ≡ x₁ ++ p₂ → x₃ ≡ x₂ ++ p₃ → x₄ ≡ x₃ ++ p₄ → x₅ ≡ x₄ ++ p₅ → x₆ ≡ x₅ ++ p₆ → x₇ ≡ x₆ ++ p₇ → x₈ ≡ x₇ ++ p₈
+    → x₈ ≡ x₀ ++ (p₁ ++ p₂ ++ p₃ ++ p₄ ++ p₅ ++ p₆ ++ p₇ ++ p₈)
+has_all p₁ p₂ p₃ p₄ p₅ p₆ p₇ p₈ x₀ x₁ x₂ x₃ x₄ x₅ x₆ x₇ x₈ e₁ e₂ e₃ e₄ e₅ e₆ e₇ e₈ =
+    let f₂ = goes_on p₁ p₂ [] x₀ x₁ x₂ e₁ e₂ in
+    let f₃ = goes_on (p₁ ++ p₂) p₃ [] x₀ x₂ x₃ f₂ e₃ in
+    let f₄ = goes_on (p₁ ++ p₂ ++ p₃) p₄ [] x₀ x₃ x₄ f₃ e₄ in
+    let f₅ = goes_on (p₁ ++ p₂ ++ p₃ ++ p₄) p₅ [] x₀ x₄ x₅ f₄ e₅ in
+    let f₆ = goes_on (p₁ ++ p₂ ++ p₃ ++ p₄ ++ p₅) p₆ [] x₀ x₅ x₆ f₅ e₆ in
+    let f₇ = goes_on (p₁ ++ p₂ ++ p₃ ++ p₄ ++ p₅ ++ p₆) p₇ [] x₀ x₆ x₇ f₆ e₇ in
+    goes_on (p₁ ++ p₂ ++ p₃ ++ p₄ ++ p₅ ++ p₆ ++ p₇) p₈ [] x₀ x₇ x₈ f₇ e₈
 
 -- what holds of a success holds of it if something stronger does
 pub ok_more : {T E : Type 0} (r : Result T E) (P Q : T → Type 0) → ((x : T) → P x → Q x) → IfOk r P → IfOk r Q

@@ -1,5 +1,5 @@
 -- Each refused call is reported by the spot of its pixel.
-use Rattle.std.proofs.Common.{◌≡◌, ◌≢◌, ℕ, ◌+◌, ◌∙◌, Bool, true, false, All, List, [], ◌∷◌, nat_eq, refl, sym, ap, subst, arith, eqb-true, eq-eqb, true≢false, if◌then◌else◌}
+use Rattle.std.proofs.Common.{◌≡◌, ℕ, ◌+◌, ◌∙◌, Bool, true, false, All, List, [], ◌∷◌, nat_eq, refl, sym, ap, subst, arith, eqb-true, eq-eqb, true≢false, if◌then◌else◌}
 use Rattle.std.proofs.lemmas.List.Elements.{All-cons, All-nil}
 use Rattle.offset_pictures.specs.declared.axes.Axis.{Axis}
 use Rattle.offset_pictures.specs.declared.reasons.Spot.{Spot}

@@ -1,5 +1,5 @@
 -- How the numbers in a picture are counted, state by state.
-use Rattle.std.specs.Prelude.{◌≡◌, ℕ, ◌+◌, Bool, ◌&&◌, List, count_by, sum_by, nat_eq, nat_lt, min, max, if◌then◌else◌}
+use Rattle.std.specs.Prelude.{◌≡◌, ℕ, ◌+◌, ◌-◌, ◌^◌, ◌&&◌, List, count_by, sum_by, nat_eq, nat_lt, min, max, if◌then◌else◌}
 use Rattle.offset_allocator.specs.declared.reports.StorageReport.{StorageReport}
 use Rattle.offset_pictures.specs.declared.living.Life.{Life}
 use Rattle.offset_pictures.specs.declared.course.Course.{Course}
@@ -11,10 +11,14 @@ use Rattle.offset_pictures.specs.Figures.{AreTotals, counted, size_after, region
 abbrev pub raised : Count → ℕ → Count
 raised c units = record { lives = c.lives + 1; units = c.units + units }
 
--- how many of these lives pass a test, and how many units they have
-pub record IsCount (test : Life → Bool) (ls : List Life) (c : Count) : Type 0 where
-  pub lives : c.lives ≡ count_by test ls
-  pub units : c.units ≡ sum_by (λ l. if test l then l.size else 0) ls
+-- a count with one life less, of `units` units
+abbrev pub lowered : Count → ℕ → Count
+lowered c units = record { lives = c.lives - 1; units = c.units - units }
+
+-- how many of these lives a call begins, less those that it ends, and their units: counted from 2 to the power of 63, and of 127
+pub record IsChange (call : ℕ) (ls : List Life) (c : Count) : Type 0 where
+  pub lives : c.lives + count_by (λ l. nat_eq l.last call) ls ≡ 2 ^ 63 + count_by (λ l. nat_eq l.first call) ls
+  pub units : c.units + sum_by (λ l. if nat_eq l.last call then l.size else 0) ls ≡ 2 ^ 127 + sum_by (λ l. if nat_eq l.first call then l.size else 0) ls
 
 -- the numbers before any state is seen
 pub record StartsAs (f : Figures) (c : Course) : Type 0 where

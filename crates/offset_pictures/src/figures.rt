@@ -5,7 +5,7 @@ ghost use Rattle.std.specs.Prelude.{◌≡◌, ◌≤◌, ℕ, ◌+◌, ◌-◌,
 ghost use Rattle.std.specs.Prelude.{slice_index_or, if◌then◌else◌};
 ghost use Rattle.offset_pictures.specs.Lives.{IsOrdered, life_view};
 ghost use Rattle.offset_pictures.specs.Figures.{AreFigures, counted, end_of, largest};
-ghost use Rattle.offset_pictures.specs.Counting.{IsCount, raised, StartsAs, Sees};
+ghost use Rattle.offset_pictures.specs.Counting.{IsChange, lowered, raised, StartsAs, Sees};
 
 use crate::course::Course;
 use crate::living::Life;
@@ -84,66 +84,79 @@ pub struct Count {
 
 const NONE: Count = Count { lives: 0, units: 0 };
 
+// The change of a call that begins and ends no life. A change is counted from here, so that it is no number
+// below 0: there are never so many lives or units.
+const UNCHANGED: Count = Count {
+    lives: usize::MAX / 2 + 1,
+    units: u128::MAX / 2 + 1,
+};
+
 impl Count {
-    fn add(&mut self, other: Count)
-        requires lives { self.old.lives + other.lives < 2 ^ 64 }
-        requires units { self.old.units + other.units < 2 ^ 128 }
-        ensures lives { self.new.lives ≡ self.old.lives + other.lives }
-        ensures units { self.new.units ≡ self.old.units + other.units }
+    // Adds what a call changes.
+    fn change(&mut self, change: Count)
+        requires lives { 2 ^ 63 ≤ self.old.lives + change.lives }
+        requires units { 2 ^ 127 ≤ self.old.units + change.units }
+        requires few_lives { self.old.lives + change.lives < 2 ^ 64 }
+        requires few_units { self.old.units + change.units < 2 ^ 128 }
+        ensures lives { self.new.lives + 2 ^ 63 ≡ self.old.lives + change.lives }
+        ensures units { self.new.units + 2 ^ 127 ≡ self.old.units + change.units }
     {
-        self.lives += other.lives;
-        self.units += other.units;
+        self.lives = self.lives + change.lives - UNCHANGED.lives;
+        self.units = self.units + change.units - UNCHANGED.units;
     }
 }
 
-// Adds a life of so many units to those of a call, if there is one.
-fn add(counts: &mut Vec<Count>, call: usize, units: u32)
-    requires lives { (c : ℕ) (d : Count) → c < length counts.old.items
-        → (slice_index_or counts.old.items c d).lives < 2 ^ 64 - 1 }
-    requires units { (c : ℕ) (d : Count) → c < length counts.old.items
-        → (slice_index_or counts.old.items c d).units < 2 ^ 127 }
-    ensures len { length counts.new.items ≡ length counts.old.items }
-    ensures counts { (c : ℕ) (d : Count) → c < length counts.old.items → slice_index_or counts.new.items c d
-        ≡ (if nat_eq call c then raised
-        (slice_index_or counts.old.items c d) units else slice_index_or counts.old.items c d) }
+// Adds a life of so many units to what a call changes, if there is such a call: it begins the life.
+fn begin(changes: &mut Vec<Count>, call: usize, units: u32)
+    requires lives { (c : ℕ) (d : Count) → c < length changes.old.items
+        → (slice_index_or changes.old.items c d).lives < 2 ^ 64 - 1 }
+    requires units { (c : ℕ) (d : Count) → c < length changes.old.items
+        → (slice_index_or changes.old.items c d).units < 2 ^ 128 - 2 ^ 32 }
+    ensures len { length changes.new.items ≡ length changes.old.items }
+    ensures counts { (c : ℕ) (d : Count) → c < length changes.old.items
+        → slice_index_or changes.new.items c d ≡ (if nat_eq call c then raised
+        (slice_index_or changes.old.items c d) units else slice_index_or changes.old.items c d) }
 {
-    if call < counts.len() {
-        let count = &mut counts[call];
-        count.lives += 1;
-        count.units += u128::from(units);
+    if call < changes.len() {
+        let change = &mut changes[call];
+        change.lives += 1;
+        change.units += u128::from(units);
     }
 }
 
-// The lives that each call begins: those of `begun[n]` are on from state n + 1.
-fn begun(alloc: Global, states: usize, lives: &[Life]) -> Result<Vec<Count>, AllocError>
-    ensures len { IfOk result (λ v. length v.items ≡ states) }
-    ensures counts { IfOk result (λ v. (c : ℕ) (d : Count) → c < states
-        → IsCount (λ l. nat_eq l.first c) lives.now (slice_index_or v.items c d)) }
+// Takes a life of so many units from what a call changes, if there is such a call: it ends the life.
+fn end(changes: &mut Vec<Count>, call: usize, units: u32)
+    requires lives { (c : ℕ) (d : Count) → c < length changes.old.items
+        → 0 < (slice_index_or changes.old.items c d).lives }
+    requires units { (c : ℕ) (d : Count) → c < length changes.old.items
+        → units ≤ (slice_index_or changes.old.items c d).units }
+    ensures len { length changes.new.items ≡ length changes.old.items }
+    ensures counts { (c : ℕ) (d : Count) → c < length changes.old.items
+        → slice_index_or changes.new.items c d ≡ (if nat_eq call c then lowered
+        (slice_index_or changes.old.items c d) units else slice_index_or changes.old.items c d) }
+{
+    if call < changes.len() {
+        let change = &mut changes[call];
+        change.lives -= 1;
+        change.units -= u128::from(units);
+    }
+}
+
+// What each of so many calls changes: from state n to state n + 1 it is `changes[n]`.
+fn changes(alloc: Global, calls: usize, lives: &[Life]) -> Result<Vec<Count>, AllocError>
+    ensures len { IfOk result (λ v. length v.items ≡ calls) }
+    ensures changes { IfOk result (λ v. (c : ℕ) (d : Count) → c < calls
+        → IsChange c lives.now (slice_index_or v.items c d)) }
     ensures sizes { OnOk result (All (λ l. l.size < 4294967296) lives.now) }
-    ensures few { OnOk result (length lives.now < 2 ^ 64) }
+    ensures few { OnOk result (length lives.now < 2 ^ 63) }
 {
-    let mut counts = Vec::new(alloc);
-    counts.resize(states, NONE)?;
+    let mut changes = Vec::new(alloc);
+    changes.resize(calls, UNCHANGED)?;
     for life in lives {
-        add(&mut counts, life.first, life.size);
+        begin(&mut changes, life.first, life.size);
+        end(&mut changes, life.last, life.size);
     }
-    Ok(counts)
-}
-
-// The lives that each call ends: those of `ended[n]` are on to state n.
-fn ended(alloc: Global, states: usize, lives: &[Life]) -> Result<Vec<Count>, AllocError>
-    ensures len { IfOk result (λ v. length v.items ≡ states) }
-    ensures counts { IfOk result (λ v. (c : ℕ) (d : Count) → c < states
-        → IsCount (λ l. nat_eq l.last c) lives.now (slice_index_or v.items c d)) }
-    ensures sizes { OnOk result (All (λ l. l.size < 4294967296) lives.now) }
-    ensures few { OnOk result (length lives.now < 2 ^ 64) }
-{
-    let mut counts = Vec::new(alloc);
-    counts.resize(states, NONE)?;
-    for life in lives {
-        add(&mut counts, life.last, life.size);
-    }
-    Ok(counts)
+    Ok(changes)
 }
 
 impl Figures {
@@ -197,14 +210,15 @@ pub fn figures_of(alloc: Global, course: &Course) -> Result<Figures, AllocError>
     ensures { IfOk result (λ f. AreFigures f course.now) }
 {
     let states = course.sizes.len().min(course.reports.len());
-    let begun = begun(alloc, states, &course.lives)?;
-    let ended = ended(alloc, states, &course.lives)?;
+    let changes = changes(alloc, states.saturating_sub(1), &course.lives)?;
     let mut found = Figures::start(course);
-    let mut granted = NONE;
-    let mut gone = NONE;
+    let mut on = NONE;
     for state in 0..states {
-        let live = counted(granted.lives - gone.lives);
-        let used = counted_units(granted.units - gone.units);
+        if state > 0 {
+            on.change(changes[state - 1]);
+        }
+        let live = counted(on.lives);
+        let used = counted_units(on.units);
         found.see(
             counted(state),
             live,
@@ -212,8 +226,6 @@ pub fn figures_of(alloc: Global, course: &Course) -> Result<Figures, AllocError>
             course.sizes[state],
             &course.reports[state],
         );
-        granted.add(begun[state]);
-        gone.add(ended[state]);
     }
     Ok(found)
 }

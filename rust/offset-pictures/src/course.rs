@@ -46,7 +46,7 @@ fn added_units(command: Command, answer: &Answer) -> u32 {
 fn sizes_of(alloc: Global, script: &Script, answers: &[Answer]) -> Result<Vec<u32>, AllocError> {
     let calls = script.commands.len();
     let mut size = script.size;
-    let mut sizes = Vec::new(alloc);
+    let mut sizes = Vec::with_capacity(alloc, calls + 1)?;
     sizes.push(size)?;
     for i in 0..calls {
         size = size.saturating_add(added_units(script.commands[i], &answers[i]));

@@ -55,8 +55,8 @@ fn put_reports(
     put_line(out, "most", plot, base, &levels.most, xs)
 }
 
-// What a picture holds after its heading.
-fn body(alloc: Global, course: &Course) -> Result<String, AllocError> {
+// Appends what a picture holds after its heading.
+fn put_body(alloc: Global, out: &mut String, course: &Course) -> Result<(), AllocError> {
     let figures = figures_of(alloc, course)?;
     let ranges = ranges_plot(&figures);
     let reports = reports_plot(&figures);
@@ -64,16 +64,15 @@ fn body(alloc: Global, course: &Course) -> Result<String, AllocError> {
     // the larger of the two numbers, and `states` of a course is the smaller.
     let entries = course.sizes.len().max(course.reports.len());
     let xs = xs_of(alloc, &ranges.calls, entries)?;
-    let mut out = String::new(alloc);
-    put_legend(&mut out, &figures, course.max_allocs, ranges.units.most)?;
-    put_beyond(&mut out, &ranges, course, &xs)?;
-    ranges.put_axes(&mut out, 6, 12)?;
-    let merged = put_rectangles(alloc, &mut out, &ranges, &course.lives, figures.calls)?;
-    put_refusals(&mut out, &ranges, &course.reports, &course.refused)?;
-    put_reports(alloc, &mut out, &reports, course, &xs)?;
-    reports.put_axes(&mut out, 4, 12)?;
-    put_notes(&mut out, merged)?;
-    Ok(out)
+    put_legend(out, &figures, course.max_allocs, ranges.units.most)?;
+    put_beyond(out, &ranges, course, &xs)?;
+    ranges.put_axes(out, 6, 12)?;
+    let merged = put_rectangles(alloc, out, &ranges, &course.lives, figures.calls)?;
+    put_refusals(out, &ranges, &course.reports, &course.refused)?;
+    put_reports(alloc, out, &reports, course, &xs)?;
+    reports.put_axes(out, 4, 12)?;
+    put_notes(out, merged)?;
+    Ok(())
 }
 
 /// The picture of a course, as SVG, with this title: its accessible name, and the heading that it shows. In
@@ -102,16 +101,12 @@ fn body(alloc: Global, course: &Course) -> Result<String, AllocError> {
 #[track_caller]
 pub fn picture_of(alloc: Global, title: &str, course: &Course) -> Result<String, AllocError> {
     assert!(course.lives.iter().all(|life| life.first <= life.last), "no life may end before it begins");
-    let body = body(alloc, course)?;
     let mut out = String::from_str(alloc, OPENING)?;
     put_escaped(&mut out, title)?;
     out.push_str("</title>\n")?;
     out.push_str(STYLE)?;
     put_heading(&mut out, title)?;
-    // So that the last seven bytes do not double the room of the text, with a copy of all of it. Where this
-    // room is refused, the text grows as it needs.
-    let _has_room = out.reserve(body.len().saturating_add(7)).is_ok();
-    out.push_str(&body)?;
+    put_body(alloc, &mut out, course)?;
     out.push_str("</svg>\n")?;
     Ok(out)
 }

@@ -73,40 +73,48 @@ pub struct Count {
 
 const NONE: Count = Count { lives: 0, units: 0 };
 
+// The change of a call that begins and ends no life. A change is counted from here, so that it is no number
+// below 0: there are never so many lives or units.
+const UNCHANGED: Count = Count {
+    lives: usize::MAX / 2 + 1,
+    units: u128::MAX / 2 + 1,
+};
+
 impl Count {
-    fn add(&mut self, other: Count) {
-        self.lives += other.lives;
-        self.units += other.units;
+    // Adds what a call changes.
+    fn change(&mut self, change: Count) {
+        self.lives = self.lives + change.lives - UNCHANGED.lives;
+        self.units = self.units + change.units - UNCHANGED.units;
     }
 }
 
-// Adds a life of so many units to those of a call, if there is one.
-fn add(counts: &mut Vec<Count>, call: usize, units: u32) {
-    if call < counts.len() {
-        let count = &mut counts[call];
-        count.lives += 1;
-        count.units += u128::from(units);
+// Adds a life of so many units to what a call changes, if there is such a call: it begins the life.
+fn begin(changes: &mut Vec<Count>, call: usize, units: u32) {
+    if call < changes.len() {
+        let change = &mut changes[call];
+        change.lives += 1;
+        change.units += u128::from(units);
     }
 }
 
-// The lives that each call begins: those of `begun[n]` are on from state n + 1.
-fn begun(alloc: Global, states: usize, lives: &[Life]) -> Result<Vec<Count>, AllocError> {
-    let mut counts = Vec::new(alloc);
-    counts.resize(states, NONE)?;
+// Takes a life of so many units from what a call changes, if there is such a call: it ends the life.
+fn end(changes: &mut Vec<Count>, call: usize, units: u32) {
+    if call < changes.len() {
+        let change = &mut changes[call];
+        change.lives -= 1;
+        change.units -= u128::from(units);
+    }
+}
+
+// What each of so many calls changes: from state n to state n + 1 it is `changes[n]`.
+fn changes(alloc: Global, calls: usize, lives: &[Life]) -> Result<Vec<Count>, AllocError> {
+    let mut changes = Vec::new(alloc);
+    changes.resize(calls, UNCHANGED)?;
     for life in lives {
-        add(&mut counts, life.first, life.size);
+        begin(&mut changes, life.first, life.size);
+        end(&mut changes, life.last, life.size);
     }
-    Ok(counts)
-}
-
-// The lives that each call ends: those of `ended[n]` are on to state n.
-fn ended(alloc: Global, states: usize, lives: &[Life]) -> Result<Vec<Count>, AllocError> {
-    let mut counts = Vec::new(alloc);
-    counts.resize(states, NONE)?;
-    for life in lives {
-        add(&mut counts, life.last, life.size);
-    }
-    Ok(counts)
+    Ok(changes)
 }
 
 impl Figures {
@@ -159,14 +167,15 @@ impl Figures {
 pub fn figures_of(alloc: Global, course: &Course) -> Result<Figures, AllocError> {
     assert!(course.lives.iter().all(|life| life.first <= life.last), "no life may end before it begins");
     let states = course.sizes.len().min(course.reports.len());
-    let begun = begun(alloc, states, &course.lives)?;
-    let ended = ended(alloc, states, &course.lives)?;
+    let changes = changes(alloc, states.saturating_sub(1), &course.lives)?;
     let mut found = Figures::start(course);
-    let mut granted = NONE;
-    let mut gone = NONE;
+    let mut on = NONE;
     for state in 0..states {
-        let live = counted(granted.lives - gone.lives);
-        let used = counted_units(granted.units - gone.units);
+        if state > 0 {
+            on.change(changes[state - 1]);
+        }
+        let live = counted(on.lives);
+        let used = counted_units(on.units);
         found.see(
             counted(state),
             live,
@@ -174,8 +183,6 @@ pub fn figures_of(alloc: Global, course: &Course) -> Result<Figures, AllocError>
             course.sizes[state],
             &course.reports[state],
         );
-        granted.add(begun[state]);
-        gone.add(ended[state]);
     }
     Ok(found)
 }

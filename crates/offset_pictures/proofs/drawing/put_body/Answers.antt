@@ -1,4 +1,4 @@
-use Rattle.std.proofs.Common.{◌++◌, ◌∙◌, List, ℕ, sym, ap₂, subst}
+use Rattle.std.proofs.Common.{◌++◌, ◌∙◌, List, ℕ, sym, ap₂, subst, refl}
 use Rattle.std.specs.Prelude.{string_bytes}
 use Rattle.offset_allocator.specs.declared.reports.StorageReport.{StorageReport}
 use Rattle.offset_pictures.specs.declared.course.Course.{Course}
@@ -12,7 +12,7 @@ use Rattle.offset_pictures.specs.StepLines.{beyond_text, reports_text}
 use Rattle.offset_pictures.specs.Marks.{refusals_text}
 use Rattle.offset_pictures.specs.Ticks.{axes_text}
 use Rattle.offset_pictures.proofs.Drawn.{has_all, same_xs}
-use Rattle.offset_pictures.proofs.drawing.body.Goals as goal
+use Rattle.offset_pictures.proofs.drawing.put_body.Goals as goal
 
 pub put_reports-requires-clause-xs : goal.put_reports-requires-clause-xs
 put_reports-requires-clause-xs c =
@@ -27,23 +27,26 @@ returns c =
     let f : Figures = c.in_ok-figures.figures in
     let ranges : Plot = c.ranges_plot-ranges.result in
     let reports : Plot = c.reports_plot-reports.result in
-    let rectangles : List ℕ = c.in_ok-merged.ensures.0 in
-    record {
-      figures = f;
-      are = c.in_ok-figures.ensures;
-      ranges = ranges;
-      is_ranges = c.ranges_plot-ranges.ensures;
-      reports = reports;
-      is_reports = c.reports_plot-reports.ensures;
-      rectangles = rectangles;
-      merged = c.in_ok-merged.merged;
-      are_rectangles = subst (λ (ls : List Life). AreRectangles ranges ls f.calls c.in_ok-merged.merged rectangles) c.deref-2.ensures.value c.in_ok-merged.ensures.2;
-      is =
-          has_all (legend_text f course.max_allocs ranges.units.most) (beyond_text ranges course) (axes_text ranges 6 12) rectangles (refusals_text ranges course.reports.items course.refused.items)
+    let rectangles : List ℕ = c.in_ok-merged.ensures.0 in (
+      legend_text f course.max_allocs ranges.units.most ++ beyond_text ranges course ++ axes_text ranges 6 12 ++ rectangles ++ refusals_text ranges course.reports.items course.refused.items
+          ++ reports_text reports course ++ axes_text reports 4 12 ++ notes_text c.in_ok-merged.merged,
+      has_all (legend_text f course.max_allocs ranges.units.most) (beyond_text ranges course) (axes_text ranges 6 12) rectangles (refusals_text ranges course.reports.items course.refused.items)
           (reports_text reports course) (axes_text reports 4 12)
-          (notes_text c.in_ok-merged.merged) _ _ _ _ _ _ _ _ _ c.new-out.ensures.bytes c.in_ok-put_legend.ensures c.in_ok-put_beyond.ensures c.in_ok-put_axes.ensures c.in_ok-merged.ensures.1
+          (notes_text c.in_ok-merged.merged) _ _ _ _ _ _ _ _ _ c.in_ok-put_legend.ensures c.in_ok-put_beyond.ensures c.in_ok-put_axes.ensures c.in_ok-merged.ensures.1
           (c.in_ok-put_refusals.ensures
           ∙ ap₂ (λ (rs : List StorageReport) (calls : List Refused). string_bytes c.put_rectangles.new.out ++ refusals_text ranges rs calls) c.deref-3.ensures.value c.deref-4.ensures.value)
           c.in_ok-put_reports.ensures c.in_ok-put_axes-2.ensures
-          c.in_ok-put_notes.ensures;
-    }
+          c.in_ok-put_notes.ensures,
+      record {
+        figures = f;
+        are = c.in_ok-figures.ensures;
+        ranges = ranges;
+        is_ranges = c.ranges_plot-ranges.ensures;
+        reports = reports;
+        is_reports = c.reports_plot-reports.ensures;
+        rectangles = rectangles;
+        merged = c.in_ok-merged.merged;
+        are_rectangles = subst (λ (ls : List Life). AreRectangles ranges ls f.calls c.in_ok-merged.merged rectangles) c.deref-2.ensures.value c.in_ok-merged.ensures.2;
+        is = refl;
+      },
+    )
