@@ -1,5 +1,5 @@
 -- Walks along the live ranges: each is met once.
-use Rattle.offset_allocator.proofs.Common.{◌≡◌, ℕ, zero, suc, ◌+◌, ◌≤◌, ◌⊎◌, Bool, true, false, List, [], ◌∷◌, ◌++◌, Option, None, Some, nat_eq, option_map, length, length-append, reverse, reverse-append, refl, sym, ap, subst}
+use Rattle.offset_allocator.proofs.Common.{◌≡◌, ℕ, zero, suc, ◌+◌, ◌≤◌, ◌⊎◌, true, false, List, [], ◌∷◌, ◌++◌, Option, None, Some, nat_eq, option_map, length, length-append, reverse, reverse-append, refl, sym, ap, subst}
 use Rattle.offset_allocator.proofs.Common.{◌∙◌, inl, inr, arith, append_assoc, append-nil, eq-eqb, ne_eqb, AllByRecursion}
 use Rattle.offset_allocator.proofs.Common.{Block, View, Place, Handle, IsWellFormed, units, placed, place_of, is_used_at, count_named, tally, one}
 use Rattle.std.proofs.lemmas.Bool.{cases_Bool}

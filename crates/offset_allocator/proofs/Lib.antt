@@ -19,7 +19,9 @@ pub mod Emptied
 pub mod Ends
 pub mod Exchange
 pub mod Extending
+pub mod FaultPlaces
 pub mod Filed
+pub mod Firsts
 pub mod Find
 pub mod Foremost
 pub mod Freed

@@ -12,6 +12,7 @@ pub mod Faults
 pub mod FreeSizes
 pub mod Gaps
 pub mod Layouts
+pub mod ListFaults
 pub mod Listing
 pub mod Ranges
 pub mod Readies

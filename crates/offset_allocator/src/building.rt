@@ -2,13 +2,15 @@
 //! changes no other tables.
 ghost use Rattle.std.specs.Prelude.{◌≡◌, ◌+◌, ◌-◌, ◌*◌, ◌/◌, ◌%◌, ◌<◌, ◌≤◌, ◌∷◌, ◌++◌, [], ℕ};
 ghost use Rattle.std.specs.Prelude.{List, Option, None, Some, false};
-ghost use Rattle.std.specs.Prelude.{length, replicate, sum, take, IfOk, IsErr, IsSome};
+ghost use Rattle.std.specs.Prelude.{length, replicate, sum, take, IfErr, IfOk, IfSome, IsErr, IsSome};
 ghost use Rattle.offset_allocator.specs.Bins.{IsUnlisted};
 ghost use Rattle.offset_allocator.specs.Building.{AreEach, AreOrdered, HasBack, IsBuilt, IsLaidOut, IsMade};
 ghost use Rattle.offset_allocator.specs.Cells.{link_of, node};
 ghost use Rattle.offset_allocator.specs.Chain.{IsChain, IsSpace, first_or, last_or};
 ghost use Rattle.offset_allocator.specs.Chain.{blocks as blocks_in};
 ghost use Rattle.offset_allocator.specs.Classes.{down};
+ghost use Rattle.offset_allocator.specs.ListFaults.{IsBlockFault, IsFreeFault, IsNeighboursFault};
+ghost use Rattle.offset_allocator.specs.ListFaults.{IsUnusedFault, IsWrong};
 ghost use Rattle.offset_allocator.specs.State.{block_words, filed, freed};
 ghost use Rattle.offset_allocator.specs.Store.{AreBinned, bins_of};
 ghost use Rattle.offset_allocator.specs.View.{Block, AreCoalesced, count_named, free_sizes, push, times};
@@ -71,6 +73,7 @@ pub(crate) fn place_blocks<T: Tables>(
     ensures wrong { IsErr result → (bs : List Block) → block_words bs ≡ words.now → units bs ≡ size
         → ((x : ℕ) → count_named x bs ≤ 1)
         → ((x : ℕ) → length (T.cells tables.old).chain.nodes ≤ x → count_named x bs ≡ 0) → ⊥ }
+    ensures fault { IfErr result (IsBlockFault (length (T.cells tables.old).chain.nodes) size words.now) }
     ensures made { (n limit : ℕ) → IsMade T.Index.MAX n limit (T.cells tables.old)
         → IsMade T.Index.MAX n limit (T.cells tables.new) }
 {
@@ -131,6 +134,8 @@ pub(crate) fn place_unused<T: Tables>(
     ensures wrong { IsSome result → (o : ℕ) (bs : List Block) → HasBack (T.cells tables.old) o bs []
         → ((x : ℕ) → count_named x bs + times x words.now ≤ 1)
         → ((x : ℕ) → length (T.cells tables.old).chain.nodes ≤ x → times x words.now ≡ 0) → ⊥ }
+    ensures fault { IfSome result (λ at. (o : ℕ) (bs : List Block) → HasBack (T.cells tables.old) o bs []
+        → IsUnusedFault (length (T.cells tables.old).chain.nodes) bs words.now at) }
     ensures made { (n limit : ℕ) → IsMade T.Index.MAX n limit (T.cells tables.old)
         → IsMade T.Index.MAX n limit (T.cells tables.new) }
     ensures nodes { length (T.cells tables.new).chain.nodes ≡ length (T.cells tables.old).chain.nodes }
@@ -203,6 +208,9 @@ pub(crate) fn free_names<T: Tables>(store: &mut Store<T>, words: &[u32]) -> Opti
     ensures wrong { IsSome result → (limit : ℕ) (bs : List Block) → freed [] bs ≡ bs
         → IsChain (T.cells store.old.tables).chain limit store.old.last store.old.spare_count bs
         → ((x : ℕ) → times x words.now ≤ count_named x bs) → AreOrdered bs 0 words.now → ⊥ }
+    ensures fault { IfSome result (λ at. (limit : ℕ) (bs : List Block) → freed [] bs ≡ bs
+        → IsChain (T.cells store.old.tables).chain limit store.old.last store.old.spare_count bs
+        → IsFreeFault bs words.now at) }
     ensures same { (store.new.last ≡ store.old.last) × (store.new.spare_count ≡ store.old.spare_count)
         × ((T.cells store.new.tables).chain.spare ≡ (T.cells store.old.tables).chain.spare) }
 {
@@ -249,6 +257,7 @@ pub(crate) fn look_over<T: Tables>(
         × (s.free_units ≡ sum (free_sizes (blocks_in (T.cells tables.now).chain last)))
         × (s.used ≡ used_of (blocks_in (T.cells tables.now).chain last))) }
     ensures wrong { IsErr result → AreCoalesced (blocks_in (T.cells tables.now).chain last) → ⊥ }
+    ensures fault { IfErr result (IsNeighboursFault (blocks_in (T.cells tables.now).chain last)) }
 {
     let mut found = Overview {
         free_units: 0,
@@ -304,6 +313,8 @@ fn lay_out<T: Tables>(
     ensures wrong { IfOk result (λ r. IsErr r → (bs : List Block) → block_words bs ≡ blocks.now
         → units bs ≡ size
         → AreEach bs unused.now → ⊥) }
+    ensures fault { (free : List ℕ) → IfOk result (λ r. IfErr r
+        (IsWrong (length blocks.now / 2 + length unused.now) size blocks.now free unused.now)) }
 {
     let mut count = Accesses::new();
     let nodes = (blocks.len() / 2 + unused.len()) as u32;
@@ -349,6 +360,8 @@ pub(crate) fn build<T: Tables>(
         → units bs ≡ size
         → AreEach bs unused.now → ((x : ℕ) → times x free.now ≤ count_named x bs)
         → AreOrdered bs 0 free.now → AreCoalesced (freed free.now bs) → ⊥) }
+    ensures fault { IfOk result (λ r. IfErr r
+        (IsWrong (length blocks.now / 2 + length unused.now) size blocks.now free.now unused.now)) }
 {
     let mut store = match lay_out(alloc, size, limit, blocks, unused)? {
         Err(wrong) => return Ok(Err(wrong)),

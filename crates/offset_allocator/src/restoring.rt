@@ -1,8 +1,9 @@
 //! A space from the bytes of its state, and what is wrong with bytes that are none. It makes tables.
 ghost use Rattle.std.specs.Prelude.{◌≡◌, ◌+◌, ◌*◌, ◌%◌, ◌<◌, ◌≤◌, ℕ, List, IfErr, IfOk, IsErr, length};
 ghost use Rattle.offset_allocator.specs.Building.{IsHeader};
+ghost use Rattle.offset_allocator.specs.ListFaults.{word};
 ghost use Rattle.offset_allocator.specs.State.{IsNoState, IsOfWords, IsRestored, state_text};
-ghost use Rattle.offset_allocator.specs.StateFaults.{IsFault, IsFaultOf, IsHeaded};
+ghost use Rattle.offset_allocator.specs.StateFaults.{IsFault, IsFaultOf, IsHeaded, IsWrongIn};
 ghost use Rattle.offset_allocator.specs.View.{View, AreNames, IsWellFormed};
 
 use crate::AllocatorOf;
@@ -74,8 +75,9 @@ fn header_of(words: &[u32], max: u32, most_allocs: u32) -> Result<Header, StateF
 
 // The fault of a word in one of the lists: blocks from word 7 on, then free names, then unused ones.
 fn fault_of(wrong: Wrong, first_free: usize, first_unused: usize) -> StateFault
-    ensures { (max most : ℕ) (ws : List ℕ) → IsHeaded max most ws
-        → IsFaultOf max most ws result.at result.kind }
+    ensures { (max most : ℕ) (ws : List ℕ) → IsHeaded max most ws → IsWrongIn ws wrong
+        → first_free ≡ 7 + 2 * word 4 ws → first_unused ≡ first_free + word 5 ws
+        → 4 * length ws ≤ 18446744073709551615 → IsFaultOf max most ws result.at result.kind }
 {
     match wrong {
         Wrong::Block(place) => StateFault {
@@ -181,7 +183,7 @@ impl<T: Tables> AllocatorOf<T> {
         ensures read { IfOk result (λ r. IfOk r (IsRestored bytes.now most_allocs)) }
         // Where it returns a fault, they are those of no space whose node limit is admitted.
         ensures refused { IfOk result (λ r. IsErr r → IsNoState T.Index.MAX most_allocs bytes.now) }
-        // A fault is the first of those before the lists, and where it is; or else one of the lists.
+        // A fault is the first of those before the lists, and where it is; or else the first of the lists.
         ensures fault { IfOk result (λ r. IfErr r (IsFault T.Index.MAX most_allocs bytes.now)) }
     {
         if bytes.len() % 4 != 0 {

@@ -1,3 +1,4 @@
+pub mod FaultPlaces
 pub mod Guards
 pub mod Headed
 pub mod Numbers

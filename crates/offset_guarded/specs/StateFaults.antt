@@ -1,6 +1,11 @@
 -- What is wrong with the bytes of a state with tickets, and where.
-use Rattle.std.specs.Prelude.{◌≡◌, ℕ, ◌+◌, ◌*◌, ◌%◌, ◌^◌, ◌<◌, ◌≤◌, ◌⊎◌, List, drop, length}
+use Rattle.std.specs.Prelude.{◌≡◌, ℕ, ◌+◌, ◌*◌, ◌<◌, ◌≤◌, ◌⊎◌, List, drop, length, nat_lt, if◌then◌else◌}
+use Rattle.offset_allocator.specs.Ranges as named
+use Rattle.offset_allocator.specs.State as space
 use Rattle.offset_allocator.specs.StateFaults as allocator
+use Rattle.offset_allocator.specs.View as view
+use Rattle.offset_allocator.specs.View.{View}
+use Rattle.offset_guarded.specs.Guard.{cell}
 use Rattle.offset_guarded.specs.State.{checksum_from, number_at, numbers}
 use Rattle.offset_guarded.specs.declared.state.StateFault.{StateFault}
 use Rattle.offset_guarded.specs.declared.state.StateFaultKind.{StateFaultKind}
@@ -29,17 +34,42 @@ pub record IsHeaded (bytes : List ℕ) : Type 0 where
   pub realm : HasRealm bytes
   pub sum : HasChecksum bytes
 
+-- bytes are those of a space that is admitted
+pub record IsOfSpace (max most : ℕ) (bytes : List ℕ) (v : View) : Type 0 where
+  pub state : space.IsStateOf v bytes
+  pub formed : view.IsWellFormed v
+  pub names : view.AreNames v
+  pub admitted : (v.max_allocs + 1 < max) × (v.max_allocs ≤ most)
+
+-- the first name whose serial is above the number of grants
+abbrev pub IsFirstAbove : ℕ → List ℕ → ℕ → Type 0
+IsFirstAbove given cells x = (given < cell x cells) × ((y : ℕ) → y < x → cell y cells ≤ given)
+
+-- the first live name that has no serial, where none is above the number of grants
+abbrev pub IsFirstWithout : View → ℕ → List ℕ → ℕ → Type 0
+IsFirstWithout v given cells x = ((y : ℕ) → cell y cells ≤ given) × named.IsLive x v × (cell x cells ≡ 0) × ((y : ℕ) → y < x → named.IsLive y v → 1 ≤ cell y cells)
+
+-- where the serial of a name is, or the number of serials, where there are too few for the name
+abbrev pub serial_place : ℕ → List ℕ → ℕ
+serial_place x cells = if nat_lt x (length cells) then 40 + 8 * x else 16
+
+-- what a fault of the serials of a space says
+abbrev pub IsSerialFault : View → ℕ → List ℕ → ℕ → Type 0
+IsSerialFault v given cells at = (x : ℕ) × (at ≡ serial_place x cells) × (IsFirstAbove given cells x ⊎ IsFirstWithout v given cells x)
+
 -- what a fault says, by its kind: the first of these that does not hold, and its place; where all hold, a fault of the
--- space, whose place counts from the first byte of all, or a serial
+-- space, whose place counts from the first byte of all; and where these are a space, the first serial that is wrong
 abbrev pub IsFaultOf : ℕ → ℕ → List ℕ → ℕ → StateFaultKind → Type 0
 IsFaultOf max most bytes at Length = (at ≡ length bytes) × ((length bytes < 48) ⊎ (HasForm bytes × (HasLength bytes → ⊥)))
 IsFaultOf max most bytes at Form = (at ≡ 0) × (48 ≤ length bytes) × (HasForm bytes → ⊥)
 IsFaultOf max most bytes at Realm = (at ≡ 32) × HasForm bytes × HasLength bytes × (HasRealm bytes → ⊥)
 IsFaultOf max most bytes at Checksum = (at ≡ 40 + 8 * number_at bytes 2) × HasForm bytes × HasLength bytes × HasRealm bytes × (HasChecksum bytes → ⊥)
 IsFaultOf max most bytes at (Allocator kind) =
-    IsHeaded bytes × ((inner : ℕ) × (at ≡ (48 + 8 * number_at bytes 2 + inner) % 2 ^ 64)
+    IsHeaded bytes × ((inner : ℕ) × (at ≡ 48 + 8 * number_at bytes 2 + inner)
     × allocator.IsFault max most (drop (48 + 8 * number_at bytes 2) bytes) (record { at = inner; kind = kind }))
-IsFaultOf max most bytes at Serial = IsHeaded bytes
+IsFaultOf max most bytes at Serial =
+    IsHeaded bytes × ((v : View) × IsOfSpace max most (drop (48 + 8 * number_at bytes 2) bytes) v
+    × IsSerialFault v (number_at bytes 3) (numbers (number_at bytes 2) (drop 40 bytes)) at)
 
 abbrev pub IsFault : ℕ → ℕ → List ℕ → StateFault → Type 0
 IsFault max most bytes f = IsFaultOf max most bytes f.at f.kind

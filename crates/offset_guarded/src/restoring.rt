@@ -1,10 +1,10 @@
 //! A guarded allocator from the bytes of its state, or what is wrong with them. It makes tables.
-ghost use Rattle.std.specs.Prelude.{◌≡◌, ◌+◌, ◌*◌, ◌≤◌, ℕ, IfErr, IfOk, IfSome, IsErr, IsSome, None};
+ghost use Rattle.std.specs.Prelude.{◌≡◌, ◌+◌, ◌*◌, ◌<◌, ◌≤◌, ℕ, IfErr, IfOk, IfSome, IsErr, IsSome, None};
 ghost use Rattle.std.specs.Prelude.{length};
 ghost use Rattle.offset_allocator.specs.Ranges as named;
 ghost use Rattle.offset_guarded.specs.Guard.{Guard, cell};
 ghost use Rattle.offset_guarded.specs.State.{IsHeader, IsNoState, IsRestored, IsStateOf, IsWellFormed};
-ghost use Rattle.offset_guarded.specs.StateFaults.{IsFault, IsFaultOf};
+ghost use Rattle.offset_guarded.specs.StateFaults.{IsFault, IsFaultOf, IsSerialFault};
 ghost use Rattle.offset_guarded.specs.declared.state.StateFaultKind.TheVariants.{Serial};
 
 use crate::GuardedOf;
@@ -73,7 +73,8 @@ fn header_of(bytes: &[u8]) -> Result<Header, StateFault>
 // The first live name that has no serial.
 fn live_without_serial<T: Tables>(space: &AllocatorOf<T>, serials: &Serials) -> Option<u32>
     ensures none { result ≡ None → (x : ℕ) → named.IsLive x space.now → 1 ≤ cell x serials.now.cells }
-    ensures some { IfSome result (λ x. named.IsLive x space.now × (cell x serials.now.cells ≡ 0)) }
+    ensures some { IfSome result (λ x. named.IsLive x space.now × (cell x serials.now.cells ≡ 0)
+        × ((y : ℕ) → y < x → named.IsLive y space.now → 1 ≤ cell y serials.now.cells)) }
 {
     // A step of the proof, which does nothing: names are below the limit.
     a_state_is_read_back(space);
@@ -93,21 +94,20 @@ fn live_without_serial<T: Tables>(space: &AllocatorOf<T>, serials: &Serials) -> 
 // What is wrong with the serials of a space, if anything is.
 fn serial_fault<T: Tables>(space: &AllocatorOf<T>, serials: &Serials) -> Option<StateFault>
     ensures serial { IfSome result (λ f. f.kind ≡ Serial) }
+    ensures fault { IfSome result (λ f.
+        IsSerialFault space.now serials.now.given serials.now.cells f.at) }
     ensures none { result ≡ None → ((x : ℕ) → named.IsLive x space.now → 1 ≤ cell x serials.now.cells)
         × ((x : ℕ) → cell x serials.now.cells ≤ serials.now.given) }
     ensures some { IsSome result → ((x : ℕ) → named.IsLive x space.now → 1 ≤ cell x serials.now.cells)
         → ((x : ℕ) → cell x serials.now.cells ≤ serials.now.given) → ⊥ }
 {
-    if let Some(name) = serials.first_above() {
-        return Some(StateFault {
-            at: 8usize.wrapping_mul(name).wrapping_add(40),
-            kind: StateFaultKind::Serial,
-        });
-    }
-    let name = live_without_serial(space, serials)? as usize;
+    let name = match serials.first_above() {
+        None => live_without_serial(space, serials)? as usize,
+        Some(name) => name,
+    };
     let is_stored = name < serials.cells().len();
     Some(StateFault {
-        at: if is_stored { 8 * name + 40 } else { 16 },
+        at: if is_stored { 40 + 8 * name } else { 16 },
         kind: StateFaultKind::Serial,
     })
 }
@@ -146,8 +146,8 @@ impl<T: Tables> GuardedOf<T> {
         ensures formed { IfOk result (λ r. IfOk r IsWellFormed) }
         // Where it returns a fault, they are those of none whose node limit is admitted.
         ensures refused { IfOk result (λ r. IsErr r → IsNoState T.Index.MAX most_allocs bytes.now) }
-        // A fault is the first of those of the numbers of tickets, and where it is; or else one of the space,
-        // or of a serial.
+        // A fault is the first of those of the numbers of tickets, and where it is; or else that of the space,
+        // or the first of a serial.
         ensures fault { IfOk result (λ r. IfErr r (IsFault T.Index.MAX most_allocs bytes.now)) }
     {
         let header = match header_of(bytes) {

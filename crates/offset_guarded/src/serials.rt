@@ -4,6 +4,7 @@ ghost use Rattle.std.specs.Prelude.{None, false};
 ghost use Rattle.std.specs.Prelude.{length, slice_set, vec_capacity, vec_len};
 ghost use Rattle.offset_guarded.specs.Guard.{cell, last_serial};
 ghost use Rattle.offset_guarded.specs.State.{numbers};
+ghost use Rattle.offset_guarded.specs.StateFaults.{IsFirstAbove};
 
 use crate::state::number;
 use std::alloc::{AllocError, Global};
@@ -97,7 +98,7 @@ impl Serials {
     /// The first name whose serial is above the number that is given.
     pub(crate) fn first_above(&self) -> Option<usize>
         ensures none { result ≡ None → (x : ℕ) → cell x self.now.cells ≤ self.now.given }
-        ensures some { IfSome result (λ x. self.now.given < cell x self.now.cells) }
+        ensures some { IfSome result (IsFirstAbove self.now.given self.now.cells) }
     {
         for name in 0..self.cells.len() {
             if self.cells[name] > self.given {

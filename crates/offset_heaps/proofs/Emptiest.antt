@@ -1,5 +1,5 @@
 -- The heap with the fewest live units, number by number.
-use Rattle.std.proofs.Common.{◌≡◌, ◌≢◌, ℕ, ◌+◌, ◌<◌, ◌≤◌, List, Option, Some, None, MatchOption, inl, inr, arith, subst, le-ltb, refl}
+use Rattle.std.proofs.Common.{◌≡◌, ℕ, ◌+◌, List, Option, Some, None, MatchOption, inl, inr, arith, subst, le-ltb}
 use Rattle.std.proofs.lemmas.Bool.{cases_eq, cases_lt, lt-ltb}
 use Rattle.offset_guarded.specs.Guard.{Guard}
 use Rattle.offset_heaps.specs.Heaps.{live_of, part, slot}

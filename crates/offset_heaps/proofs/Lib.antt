@@ -1,5 +1,6 @@
 pub mod Emptiest
 pub mod Empties
+pub mod FaultPlaces
 pub mod Finding
 pub mod Grants
 pub mod Histories

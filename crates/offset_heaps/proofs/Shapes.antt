@@ -1,5 +1,5 @@
 -- A heap that was made has the size and the node limit of its kind.
-use Rattle.std.proofs.Common.{◌≡◌, ℕ, ◌<◌, ◌≤◌, Option, Some, IfSome, refl, ap, ◌∙◌, subst, inl, inr, arith}
+use Rattle.std.proofs.Common.{◌≡◌, ℕ, ◌<◌, ◌≤◌, Option, Some, IfSome, ap, inl, inr, arith}
 use Rattle.offset_allocator.specs.Tight.{AlignsTight}
 use Rattle.offset_allocator.specs.View.{Handle, View}
 use Rattle.offset_guarded.specs.Guard.{Guard, handle_in}

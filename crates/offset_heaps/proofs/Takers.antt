@@ -1,9 +1,9 @@
 -- The first heap that takes a range of another one.
-use Rattle.std.proofs.Common.{◌≡◌, ◌≢◌, ℕ, ◌<◌, ◌≤◌, length, List, Option, Some, None, IfSome, MatchOption, sym, ap, ◌∙◌, subst, inl, inr, arith}
+use Rattle.std.proofs.Common.{◌≡◌, ℕ, ◌<◌, ◌≤◌, length, List, Option, Some, None, IfSome, MatchOption, sym, ap, ◌∙◌, subst, inl, inr, arith}
 use Rattle.std.proofs.lemmas.Bool.{cases_lt}
 use Rattle.offset_guarded.specs.Guard.{Guard}
 use Rattle.offset_heaps.specs.declared.place.Place.{Place}
-use Rattle.offset_heaps.specs.Heaps.{Heaps, heap_at, live_of, part, range_in, range_of, room_of, slot}
+use Rattle.offset_heaps.specs.Heaps.{Heaps, heap_at, live_of, part, range_in, room_of, slot}
 use Rattle.offset_heaps.specs.Relocating.{Takes, TakesRange, live_at, units_in, units_of}
 use Rattle.offset_heaps.proofs.Numbers.{room_there}
 use Rattle.offset_heaps.proofs.Places.{same_realm}

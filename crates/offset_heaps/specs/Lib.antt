@@ -5,3 +5,4 @@ pub mod Relocating
 pub mod Slots
 pub mod Soundness
 pub mod State
+pub mod StateFaults

@@ -1,5 +1,5 @@
 -- Which heap takes a range of another one, which one is the emptiest, and the places of the live ranges of a heap.
-use Rattle.std.specs.Prelude.{◌≡◌, ◌≢◌, ℕ, ◌+◌, ◌<◌, ◌≤◌, List, Option, Some, None, false, option_map, unwrap_or}
+use Rattle.std.specs.Prelude.{◌≢◌, ℕ, ◌<◌, ◌≤◌, List, Option, Some, None, false, option_map, unwrap_or}
 use Rattle.offset_allocator.specs.Beside.{last_live, live_before}
 use Rattle.offset_allocator.specs.Ranges.{Range}
 use Rattle.offset_allocator.specs.View.{Handle, used_of}
@@ -7,7 +7,7 @@ use Rattle.offset_guarded.specs.Guard.{Guard, ticket_at}
 use Rattle.offset_guarded.specs.declared.ticket.Ticket.{Ticket}
 use Rattle.offset_heaps.specs.declared.place.Place.{Place}
 use Rattle.offset_heaps.specs.declared.place.Granted.{Granted}
-use Rattle.offset_heaps.specs.Heaps.{Heaps, Grants, IsSame, heap_at, live_of, part, range_in, range_of, room_of, slot}
+use Rattle.offset_heaps.specs.Heaps.{Heaps, heap_at, live_of, part, range_of, room_of, slot}
 
 -- the units of a range, or 0 where there is none
 abbrev pub units_in : Option Range → ℕ

@@ -1,9 +1,11 @@
 //! Many heaps from the bytes of their state, or what is wrong with them. It makes heaps, and their index.
-ghost use Rattle.std.specs.Prelude.{ℕ, ◌≡◌, ◌↔◌, ◌+◌, ◌*◌, ◌<◌, ◌≤◌, IfOk, IsErr, IsTrue, Option, length};
+ghost use Rattle.std.specs.Prelude.{ℕ, ◌≡◌, ◌↔◌, ◌+◌, ◌*◌, ◌<◌, ◌≤◌, Err, IfErr, IfOk, IsErr, IsTrue};
+ghost use Rattle.std.specs.Prelude.{Option, length};
 ghost use Rattle.offset_guarded.specs.Guard.{Guard};
 ghost use Rattle.offset_heaps.specs.Heaps.{IsOfKind};
 ghost use Rattle.offset_heaps.specs.State.{AreNone, AreRead, IsHeader, IsHeapAdmitted, IsHeapFormed};
 ghost use Rattle.offset_heaps.specs.State.{IsHeapRead, IsHeapState, IsNoState, IsRestored, IsWellFormed};
+ghost use Rattle.offset_heaps.specs.StateFaults.{IsFault, IsHeapFault, IsHeapsFault, IsNumbersFault};
 
 use crate::HeapsOf;
 use crate::copying::index_of;
@@ -27,7 +29,7 @@ pub(crate) struct Header {
 
 // A fault of the numbers.
 fn fault<V>(at: usize, kind: StateFaultKind) -> Result<V, StateFault>
-    ensures { IsErr result }
+    ensures { result ≡ Err (record { at = at; kind = kind }) }
 {
     Err(StateFault { at, kind })
 }
@@ -40,6 +42,7 @@ fn header_of<T: Tables>(
     most_allocs: u32,
 ) -> Result<Header, StateFault>
     ensures header { IfOk result (IsHeader T.Index.MAX most_heaps most_allocs bytes.now) }
+    ensures fault { IfErr result (λ f. IsNumbersFault T.Index.MAX most_heaps most_allocs bytes.now f.at f.kind) }
     ensures wrong { IsErr result → IsNoState T.Index.MAX most_heaps most_allocs bytes.now }
 {
     if bytes.len() < 80 {
@@ -114,6 +117,8 @@ fn read_heap<T: Tables>(
 ) -> Result<Result<Option<GuardedOf<T>>, StateFault>, AllocError>
     ensures read { IfOk result (λ r. IfOk r
         (IsHeapRead limits T.Index.MAX made most_allocs number bytes.now)) }
+    ensures fault { IfOk result (λ r. IfErr r (λ f.
+        IsHeapFault limits T.Index.MAX made most_allocs number bytes.now f.at f.kind)) }
     ensures refused { IfOk result (λ r. IsErr r → (o : Option Guard) → IsHeapFormed limits made number o
         → IsHeapAdmitted T.Index.MAX most_allocs o → IsHeapState o bytes.now → ⊥) }
 {
@@ -159,6 +164,8 @@ fn read_slots<T: Tables>(
     requires long { 80 + 8 * count ≤ length bytes.now }
     ensures read { IfOk result (λ r. IfOk r (λ s. AreRead limits T.Index.MAX made most_allocs count
         bytes.now states.now s.items)) }
+    ensures fault { IfOk result (λ r. IfErr r (λ f. IsHeapsFault limits T.Index.MAX made most_allocs count
+        bytes.now states.now f.at f.kind)) }
     ensures refused { IfOk result (λ r. IsErr r
         → AreNone limits T.Index.MAX made most_allocs count bytes.now states.now) }
 {
@@ -232,6 +239,9 @@ impl<T: Tables> HeapsOf<T> {
         // Where it returns a fault, they are those of none that are admitted.
         ensures refused { IfOk result (λ r. IsErr r
             → IsNoState T.Index.MAX most_heaps most_allocs bytes.now) }
+        // A fault is the first, and where it is: of the numbers, of where the states of all heaps begin and
+        // end, or of the first heap that is wrong.
+        ensures fault { IfOk result (λ r. IfErr r (IsFault T.Index.MAX most_heaps most_allocs bytes.now)) }
     {
         let header = match header_of::<T>(bytes, most_heaps, most_allocs) {
             Err(fault) => return Ok(Err(fault)),

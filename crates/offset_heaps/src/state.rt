@@ -14,12 +14,16 @@ pub struct StateFault {
     pub kind: StateFaultKind,
 }
 
-/// What is wrong with the bytes of a state.
+/// What is wrong with the bytes of a state: of the numbers of many heaps the first that applies of `Length`,
+/// for fewer than 80 bytes, `Form`, `Limits`, `Counts`, `Length` again, for the numbers of heaps, and
+/// `Checksum`; then `Place`, where the first state begins or the last one ends; and then of the first heap
+/// that is wrong the first of `Place`, `Heap`, `Realm` and `Size`. The place is that of the number that is
+/// wrong, if nothing else is said.
 #[derive(Clone, Copy, PartialEq, Debug)]
 pub enum StateFaultKind {
     /// They are fewer than the numbers of many heaps, of which they say how many there are.
     Length,
-    /// They do not begin as a state of many heaps does, or are of another version.
+    /// They do not begin as a state of many heaps does, or are of another version: the place is 0.
     Form,
     /// The limits are none that `new` takes, or more than the caller admits.
     Limits,
@@ -30,13 +34,14 @@ pub enum StateFaultKind {
     /// The place of a heap's state: the first is not 0, one is before the one before it or behind the bytes,
     /// or the last is not their end.
     Place,
-    /// The realm of a heap, of which fewer were made.
+    /// The realm of a heap, of which fewer were made: the place is in the state of the heap.
     Realm,
     /// The size or the node limit of a heap: not those of the limits, where its number is below `most`; else
     /// no unit, or another node limit than a larger heap has. The place is where the state of the heap
     /// begins.
     Size,
-    /// The state of a heap has this fault.
+    /// The state of a heap has this fault: the place is that in its bytes, and counts from where all bytes
+    /// begin.
     Heap(offset_guarded::StateFaultKind),
 }
 

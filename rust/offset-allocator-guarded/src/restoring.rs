@@ -76,16 +76,13 @@ fn live_without_serial<T: Tables>(space: &AllocatorOf<T>, serials: &Serials) -> 
 
 // What is wrong with the serials of a space, if anything is.
 fn serial_fault<T: Tables>(space: &AllocatorOf<T>, serials: &Serials) -> Option<StateFault> {
-    if let Some(name) = serials.first_above() {
-        return Some(StateFault {
-            at: 8usize.wrapping_mul(name).wrapping_add(40),
-            kind: StateFaultKind::Serial,
-        });
-    }
-    let name = live_without_serial(space, serials)? as usize;
+    let name = match serials.first_above() {
+        None => live_without_serial(space, serials)? as usize,
+        Some(name) => name,
+    };
     let is_stored = name < serials.cells().len();
     Some(StateFault {
-        at: if is_stored { 8 * name + 40 } else { 16 },
+        at: if is_stored { 40 + 8 * name } else { 16 },
         kind: StateFaultKind::Serial,
     })
 }

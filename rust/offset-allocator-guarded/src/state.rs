@@ -16,21 +16,24 @@ pub struct StateFault {
 
 /// What is wrong with the bytes of a state: of the numbers of tickets the first that applies of `Length`, for
 /// fewer than 48 bytes, `Form`, `Length` again, for the counts, `Realm` and `Checksum`; then what is wrong with
-/// the space, or with a serial.
+/// the space; and then with the first serial that is wrong. The place is that of the number that is wrong, if
+/// nothing else is said.
 #[derive(Clone, Copy, PartialEq, Debug)]
 pub enum StateFaultKind {
     /// They are fewer than the numbers of tickets, of which they say how many there are.
     Length,
-    /// They do not begin as a state with tickets does, or are of another version.
+    /// They do not begin as a state with tickets does, or are of another version: the place is 0.
     Form,
     /// The realm has more than 32 bits.
     Realm,
     /// The checksum is not that of the numbers of tickets.
     Checksum,
-    /// The serial of a name: it is above the number of grants; or there is none for a live range, and then
-    /// the place is that of the serial, which is 0, or of the number of serials, which is too small.
+    /// The serial of a name: it is above the number of grants; or, where none is, there is none for a live
+    /// range, and then the place is that of the serial, which is 0, or of the number of serials, which is too
+    /// small.
     Serial,
-    /// The state of the space, which is behind the numbers of tickets, has this fault.
+    /// The state of the space, which is behind the numbers of tickets, has this fault: the place is that in
+    /// its bytes, and counts from where all bytes begin.
     Allocator(offset_allocator::StateFaultKind),
 }
 

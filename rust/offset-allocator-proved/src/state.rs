@@ -16,29 +16,37 @@ pub struct StateFault {
     pub kind: StateFaultKind,
 }
 
-/// What is wrong with the bytes of a state: where it is before the lists of blocks and names, the first that
-/// applies of `Length`, `Form`, `Limit`, `Counts`, `Length` again, for the counts, and `Checksum`.
+/// What is wrong with the bytes of a state: the first that applies of `Length`, `Form`, `Limit`, `Counts`,
+/// `Length` again, for the counts, and `Checksum`; then of the first list that is wrong, `Block`, `Unused`,
+/// `Free` or `Neighbours`; and then `Counts` again, for live blocks.
+///
+/// A state is numbers of 4 bytes. The place is that of the number that is wrong, if nothing else is said.
 #[derive(Clone, Copy, PartialEq, Debug)]
 pub enum StateFaultKind {
     /// They are not as many as their counts say, or no multiple of 4.
     Length,
-    /// They do not begin as a state does, or are of another version.
+    /// They do not begin as a state does, or are of another version: the place is 0.
     Form,
     /// The node limit is above that which the caller or the index type admits.
     Limit,
     /// There is no block, or more blocks and unused nodes than the node limit admits; or more of the blocks
-    /// are live.
+    /// are live. The place is that of the number of blocks.
     Counts,
     /// The checksum is not that of the bytes.
     Checksum,
     /// A block: its name is that of no node or of an earlier block, or the sizes are not that of the space.
+    /// The place is that of the name, of the size with which the sizes are more than the space has, or, where
+    /// all are less, of the last size. Blocks are listed from the end of the space back.
     Block,
-    /// An unused name: it is that of no node or of a block, or is listed twice.
+    /// An unused name: it is that of no node or of a block, or is listed twice. It is the first that is
+    /// wrong: the second of two that are the same.
     Unused,
     /// The name of a free block: it is that of no block, is listed twice, or is not in the order of bins: its
-    /// size class is above that of the next one.
+    /// size class is above that of the next one. It is the last that is wrong: the first of two that are the
+    /// same.
     Free,
-    /// This block and the one after it in space are both free.
+    /// This block and the one after it in space are both free: the last such block of the space. The place is
+    /// that of its name in the list of blocks.
     Neighbours,
 }
 

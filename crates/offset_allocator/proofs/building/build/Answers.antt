@@ -1,5 +1,7 @@
 use Rattle.offset_allocator.proofs.Common.{◌∙◌, ap, refl, sym, subst, length, arith, AreCoalesced, take}
 use Rattle.offset_allocator.proofs.{StateWords.length-words, StateWords.same_counts, StateWords.words_same, Saved.ordered_same, StateWords.freed_same, StateWords.length-freed, Views.blocks-chain, Views.space-chain}
+use Rattle.offset_allocator.specs.ListFaults.{IsNeighboursFault}
+use Rattle.offset_allocator.proofs.Firsts.{each_read}
 use Rattle.offset_allocator.proofs.building.build.Goals as goal
 
 pub returns-in-Some-clause-wrong : goal.returns-in-Some-clause-wrong
@@ -49,4 +51,27 @@ returns-in-Ok-look_over-clause-built g c =
       },
       o.1,
       o.2,
+    )
+
+pub returns-in-Err-clause-fault : goal.returns-in-Err-clause-fault
+returns-in-Err-clause-fault g c = rw c.in-Err.is at (c.in_ok-wrong.ensures.fault c.args.free.now)
+
+pub returns-in-Some-clause-fault : goal.returns-in-Some-clause-fault
+returns-in-Some-clause-fault g c =
+    let l = rw c.in-Ok.is at c.in_ok-wrong.ensures.out in (
+      l.all,
+      each_read _ c.args.size c.args.blocks.now l.all c.args.unused.now l.each (omega (arith, ap length l.words, length-words l.all)) l.words l.whole,
+      l.each,
+      c.in-Some.ensures.fault c.args.limit l.all l.used l.chain,
+    )
+
+pub returns-in-Err-look_over-clause-fault : goal.returns-in-Err-look_over-clause-fault
+returns-in-Err-look_over-clause-fault g c =
+    let l = rw c.in-Ok.is at c.in_ok-wrong.ensures.out in
+    let f = c.in_default.ensures.chain refl c.args.limit l.all l.used l.chain in (
+      l.all,
+      each_read _ c.args.size c.args.blocks.now l.all c.args.unused.now l.each (omega (arith, ap length l.words, length-words l.all)) l.words l.whole,
+      l.each,
+      (f.2, f.3),
+      subst (λ bs. IsNeighboursFault bs c.in-Err-look_over.at) (blocks-chain (g.T.Tables.cells c.free_names.new.store.tables).chain c.args.limit _ _ _ f.0) c.in-Err-look_over.ensures.fault,
     )

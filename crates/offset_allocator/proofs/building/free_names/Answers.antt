@@ -1,8 +1,9 @@
-use Rattle.offset_allocator.proofs.Common.{◌≡◌, ◌∙◌, ◌+◌, ◌-◌, ◌≤◌, ap, ap₂, sym, subst, length, get_or, drop, arith, ℕ, List, push, down, bin_at, count_named, times, IsAmong, cases_eq, inl, inr}
+use Rattle.offset_allocator.proofs.Common.{◌≡◌, ◌∙◌, ◌+◌, ◌-◌, ◌≤◌, ◌<◌, ap, ap₂, sym, subst, length, get_or, drop, arith, ℕ, List, push, down, bin_at, count_named, times, IsAmong, cases_eq, cases_lt, inl, inr}
 use Rattle.offset_allocator.proofs.{Exchange.each-le, Exchange.there-below, Freed.drop_at, Freed.times_drop, Freed.times-filed, Freed.used_now, Freed.unused_now, Tallies.one-same, Classes.down_small, Saved.ordered_below, Saved.ordered_drop}
 use Rattle.offset_allocator.proofs.{Tallies.one-eq, Tallies.one-other}
 use Rattle.offset_allocator.specs.State.{filed, size_named}
 use Rattle.offset_allocator.specs.Building.{AreOrdered}
+use Rattle.offset_allocator.proofs.{Firsts.free_behind, Firsts.own_class, Firsts.past_order}
 use Rattle.offset_allocator.proofs.building.free_names.Goals as goal
 use Rattle.offset_allocator.proofs.building.free_names.Goals.{then-name-nodes-via-then-name-nodes, then-name-nodes-via-else-name-nodes+then-not-used}
 
@@ -85,3 +86,46 @@ returns-clause-chain g c _ m bs plain h =
     let now = c.loop-i.invariant.chain m bs plain h in
     let all : drop (length ws - c.loop-i.i) ws ≡ ws = ap (λ n. drop n ws) none in
     (rw all at now.0, now.1 ∙ ap (filed bs) all, λ x. rw all at (now.2 x), ordered_below bs 0 _ ws (omega arith) (rw all at now.3))
+
+-- the names behind one that is wrong are right
+pub returns-then-name-nodes-clause-fault : goal.returns-then-name-nodes-clause-fault
+returns-then-name-nodes-clause-fault g c m bs plain h =
+    let i = c.loop-i.invariant in
+    let ws : List ℕ = c.args.words.now in
+    let at : ℕ = length ws - 1 - c.loop-i.i in
+    let name : ℕ = get_or ws at 0 in
+    let now = i.chain m bs plain h in
+    let next : length ws - c.loop-i.i ≡ at + 1 = omega (arith, c.loop-i-test.true) in (
+      omega (arith, c.loop-i-test.true),
+      elim (cases_eq (count_named name bs) 0) [
+        | inl none ↦ inl none
+        | inr some ↦ inr (inl (elim c.then-name-nodes.branch [
+          | then-name-nodes-via-then-name-nodes w ↦ omega (arith, there-below _ m _ _ name bs h (omega (arith, some)), w.if-name-nodes.true, c.len-nodes.ensures)
+          | then-name-nodes-via-else-name-nodes+then-not-used w ↦ rw next at
+              (unused_now name (drop (length ws - c.loop-i.i) ws) bs now.0 (sym w.used.ensures.cell ∙ w.if-not-used.true) (omega (arith, some)))
+        ]))
+      ],
+      λ j l within. free_behind bs ws (length ws - c.loop-i.i) c.loop-i.most j now.2 (λ x. omega (arith, each-le _ m _ _ bs h x)) now.3 (omega (arith, l, next)) within,
+    )
+
+pub returns-then-class-most-clause-fault : goal.returns-then-class-most-clause-fault
+returns-then-class-most-clause-fault g c m bs plain h =
+    let i = c.loop-i.invariant in
+    let ws : List ℕ = c.args.words.now in
+    let at : ℕ = length ws - 1 - c.loop-i.i in
+    let name : ℕ = get_or ws at 0 in
+    let now = i.chain m bs plain h in
+    let next : length ws - c.loop-i.i ≡ at + 1 = omega (arith, c.loop-i-test.true) in
+    let used = used_now name (drop (length ws - c.loop-i.i) ws) bs now.0 (sym c.used.ensures.cell ∙ c.if-not-used.false) in
+    let class : c.uint_to_float_round_down-class.result ≡ down (size_named name bs) = c.uint_to_float_round_down-class.ensures.is ∙ ap down (c.size-size.ensures.cell ∙ used.2) in
+    let more : c.loop-i.most < down (size_named name bs) = omega (arith, class, c.if-class-most.true) in
+    let behind : at + 1 < length ws = elim (cases_lt (at + 1) (length ws)) [
+      | inl l ↦ l
+      | inr past ↦ absurd (omega (arith, more, down_small (size_named name bs), now.4 255 (omega arith) (past_order bs 255 (length ws - c.loop-i.i) ws (omega (arith, past, next)))))
+    ] in
+    let after : ℕ = down (size_named (get_or ws (at + 1) 0) bs) in
+    let below : after ≤ c.loop-i.most = now.4 after (down_small _) (rw next (own_class bs c.loop-i.most ws (at + 1) (rw next at now.3) behind)) in (
+      omega (arith, c.loop-i-test.true),
+      inr (inr (behind, omega (arith, more, below))),
+      λ j l within. free_behind bs ws (length ws - c.loop-i.i) c.loop-i.most j now.2 (λ x. omega (arith, each-le _ m _ _ bs h x)) now.3 (omega (arith, l, next)) within,
+    )

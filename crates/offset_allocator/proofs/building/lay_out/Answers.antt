@@ -1,6 +1,9 @@
 use Rattle.offset_allocator.proofs.Common.{◌≡◌, ◌∙◌, ◌+◌, ◌/◌, ap, refl, sym, length, take, arith, ℕ, List}
 use Rattle.offset_allocator.proofs.{Backwards.marked_below, Laying.each_small, Laying.each_far, Laying.idle_made, Laying.laid_chain, Laying.marked_each, StateWords.length-words}
 use Rattle.offset_allocator.proofs.{StateWords.same_counts}
+use Rattle.offset_allocator.proofs.Common.{subst}
+use Rattle.offset_allocator.specs.ListFaults.{IsBlockFault, IsUnusedFault}
+use Rattle.offset_allocator.proofs.Firsts.{all_read}
 use Rattle.offset_allocator.proofs.building.lay_out.Goals as goal
 
 pub returns-in-Err-clause-wrong : goal.returns-in-Err-clause-wrong
@@ -47,3 +50,15 @@ returns-clause-out g c =
       binned = c.empty_mask-top_mask.ensures.binned;
       empty = c.empty_mask-top_mask.ensures.lists;
     }
+
+pub returns-in-Err-clause-fault : goal.returns-in-Err-clause-fault
+returns-in-Err-clause-fault g c free = subst (λ n. IsBlockFault n c.args.size c.args.blocks.now c.in-Err.at) c.in_ok-tables.ensures.nodes c.in-Err.ensures.fault
+
+pub returns-in-Some-clause-fault : goal.returns-in-Some-clause-fault
+returns-in-Some-clause-fault g c free =
+    let p = c.in-Ok.ensures.placed in
+    let made = c.in-Ok.ensures.made _ _ (idle_made c.in_ok-tables.ensures) in (
+      p.0,
+      all_read _ c.args.size c.args.blocks.now p.1 (sym made.nodes) p.2 p.3,
+      subst (λ n. IsUnusedFault n p.0 c.args.unused.now c.in-Some.at) made.nodes (c.in-Some.ensures.fault 0 p.0 p.1),
+    )

@@ -3,6 +3,7 @@ use Rattle.offset_allocator.proofs.Common.{starts_free, AreCoalesced}
 use Rattle.offset_allocator.proofs.{Surveys.next_back, Surveys.drop_sums, Surveys.sums_free, Surveys.sums_used, Surveys.joined_apart, Surveys.not_apart, Surveys.drop_apart, Surveys.name_next}
 use Rattle.offset_allocator.specs.Chain.{blocks as blocks_in}
 use Rattle.offset_allocator.specs.declared.building.Overview.{Overview}
+use Rattle.offset_allocator.proofs.Common.{length}
 use Rattle.offset_allocator.proofs.building.look_over.Goals as goal
 use Rattle.offset_allocator.proofs.building.look_over.Goals.{then-is_free-2, else-is_free-2, else-is_free-via-then-is_free+else-is_free_after, else-is_free-via-else-is_free, in-Some, in_default}
 
@@ -100,3 +101,16 @@ loop-i-preserved g c =
         | else-is_free-2 w ↦ omega (arith, ap (λ (f : Overview). f.used) w.found-is, i.used, ap used_of passed, (sums_used r.block (drop k bs) (sym used ∙ w.if-is_free-2.false)).1)
       ];
     }
+
+pub returns-then-is_free_after-clause-fault : goal.returns-then-is_free_after-clause-fault
+returns-then-is_free_after-clause-fault g c =
+    let bs : List Block = blocks_in (g.T.Tables.cells c.args.tables.now).chain c.args.last in
+    let k : ℕ = c.args.blocks - c.loop-i.i in
+    let r = next_back bs k c.loop-i.name c.requires.space.1 (omega (arith, c.requires.all)) (c.loop-i.invariant.at (omega (arith, c.loop-i-test.true))) in
+    let here : length bs - c.loop-i.i ≡ k = omega (arith, c.requires.all) in
+    let before : length bs - (c.loop-i.i + 1) ≡ k - 1 = omega (arith, c.requires.all) in (
+      omega (arith, c.requires.all, c.loop-i-test.true),
+      subst (λ n. AreCoalesced (drop n bs)) (sym here) c.loop-i.invariant.apart,
+      λ apart. not_apart r.block (drop k bs) (ap not (sym (c.used-is_free.ensures.cell ∙ r.used) ∙ c.if-is_free.true)) (sym c.loop-i.invariant.first ∙ c.if-is_free_after.true)
+          (subst AreCoalesced (ap (λ n. drop n bs) before ∙ r.passed) apart),
+    )

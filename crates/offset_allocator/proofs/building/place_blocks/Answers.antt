@@ -1,6 +1,8 @@
 use Rattle.offset_allocator.proofs.Common.{◌≡◌, ◌∙◌, ◌+◌, ◌*◌, ap, sym, refl, ℕ, ◌<◌, List, [], ◌∷◌, Block, used_block, length, take, take_all, get_or, arith, one}
 use Rattle.offset_allocator.proofs.{Backwards.last_case, StateWords.words_next, StateWords.some_of, StateWords.same_units, StateWords.length-words, Tallies.one-same}
 use Rattle.offset_allocator.specs.State.{block_words}
+use Rattle.offset_allocator.proofs.Common.{inl, inr}
+use Rattle.offset_allocator.proofs.{Firsts.count_read, Firsts.last_read}
 use Rattle.offset_allocator.proofs.building.place_blocks.Goals as goal
 use Rattle.offset_allocator.proofs.building.place_blocks.Goals.{then-name-nodes-via-then-name-nodes, then-name-nodes-via-else-name-nodes+then-used}
 
@@ -68,3 +70,53 @@ returns-then-left-ne0-clause-wrong g c _ vs words whole once below =
     let i = c.loop-i.invariant in
     let all : block_words i.blocks ≡ block_words vs = i.words ∙ take_all (2 * c.loop-i.i) c.args.words.now (omega (arith, c.loop-i-test.false, c.requires.even)) ∙ sym words in
     absurd (omega (arith, i.whole, whole, same_units i.blocks vs all, c.if-left-ne0.true))
+
+pub returns-then-name-nodes-clause-fault : goal.returns-then-name-nodes-clause-fault
+returns-then-name-nodes-clause-fault g c =
+    let i = c.loop-i.invariant in
+    let ws : List ℕ = c.args.words.now in
+    let name : ℕ = get_or ws (2 * c.loop-i.i) 0 in
+    let inside : 2 * c.loop-i.i + 1 < length ws = omega (arith, c.loop-i-test.true) in
+    let long = count_read i.blocks ws c.loop-i.i i.words (omega (arith, inside)) in (
+      i.blocks,
+      last_read _ c.args.size c.loop-i.i ws i.back (sym i.nodes) long i.words (omega (arith, i.whole)),
+      inl (
+        omega (arith, long),
+        omega (arith, inside),
+        elim c.then-name-nodes.branch [
+          | then-name-nodes-via-then-name-nodes w ↦ inl (omega (arith, w.if-name-nodes.true, c.len-nodes.ensures))
+          | then-name-nodes-via-else-name-nodes+then-used w ↦ inr (omega (arith, i.back.marks name, ap one (sym w.used.ensures.cell ∙ w.if-used.true)))
+        ],
+      ),
+    )
+
+pub returns-then-units-left-clause-fault : goal.returns-then-units-left-clause-fault
+returns-then-units-left-clause-fault g c =
+    let i = c.loop-i.invariant in
+    let ws : List ℕ = c.args.words.now in
+    let name : ℕ = get_or ws (2 * c.loop-i.i) 0 in
+    let inside : 2 * c.loop-i.i + 1 < length ws = omega (arith, c.loop-i-test.true) in
+    let long = count_read i.blocks ws c.loop-i.i i.words (omega (arith, inside)) in (
+      i.blocks,
+      last_read _ c.args.size c.loop-i.i ws i.back (sym i.nodes) long i.words (omega (arith, i.whole)),
+      inr (inl (
+        omega (arith, long),
+        inside,
+        λ taken. elim (rw long at taken) [
+          | inl far ↦ omega (arith, far, c.if-name-nodes.false, c.len-nodes.ensures)
+          | inr there ↦ omega (arith, there, i.back.marks name, ap one (sym c.used.ensures.cell ∙ c.if-used.false))
+        ],
+        omega (arith, i.whole, c.if-units-left.true),
+      )),
+    )
+
+pub returns-then-left-ne0-clause-fault : goal.returns-then-left-ne0-clause-fault
+returns-then-left-ne0-clause-fault g c =
+    let i = c.loop-i.invariant in
+    let ws : List ℕ = c.args.words.now in
+    let end : 2 * c.loop-i.i ≡ length ws = omega (arith, c.loop-i-test.false, c.requires.even) in
+    let long = count_read i.blocks ws c.loop-i.i i.words (omega (arith, end)) in (
+      i.blocks,
+      last_read _ c.args.size c.loop-i.i ws i.back (sym i.nodes) long i.words (omega (arith, i.whole)),
+      inr (inr (omega (arith, c.requires.some), omega (arith, long, end), omega (arith, i.whole, c.if-left-ne0.true))),
+    )

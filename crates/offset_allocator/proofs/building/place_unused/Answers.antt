@@ -1,6 +1,8 @@
 use Rattle.offset_allocator.proofs.Common.{◌≡◌, ◌∙◌, ◌+◌, ◌++◌, ◌∷◌, [], ap, subst, sym, refl, ℕ, List, take, take_more, get_or, arith, one}
 use Rattle.offset_allocator.proofs.Marks.{times_at}
 use Rattle.offset_allocator.specs.Building.{HasBack}
+use Rattle.offset_allocator.proofs.Common.{cases_eq, count_named, inl, inr}
+use Rattle.offset_allocator.proofs.Firsts.{unused_before}
 use Rattle.offset_allocator.proofs.building.place_unused.Goals as goal
 use Rattle.offset_allocator.proofs.building.place_unused.Goals.{then-name-nodes-via-then-name-nodes, then-name-nodes-via-else-name-nodes+then-used}
 
@@ -26,3 +28,20 @@ loop-i-preserved g c =
       made = λ n m h. c.put_unused.ensures.made n m (i.made n m h);
       nodes = c.put_unused.ensures.nodes ∙ i.nodes;
     }
+
+pub returns-then-name-nodes-clause-fault : goal.returns-then-name-nodes-clause-fault
+returns-then-name-nodes-clause-fault g c o bs h =
+    let i = c.loop-i.invariant in
+    let ws : List ℕ = c.args.words.now in
+    let name : ℕ = get_or ws c.loop-i.i 0 in
+    let back = i.back o bs h in (
+      c.loop-i-test.true,
+      elim c.then-name-nodes.branch [
+        | then-name-nodes-via-then-name-nodes w ↦ inl (omega (arith, w.if-name-nodes.true, c.len-nodes.ensures))
+        | then-name-nodes-via-else-name-nodes+then-used w ↦ inr (elim (cases_eq (count_named name bs) 0) [
+          | inl none ↦ inr (omega (arith, none, back.marks name, ap one (sym w.used.ensures.cell ∙ w.if-used.true)))
+          | inr some ↦ inl (omega (arith, some))
+        ])
+      ],
+      λ j l. unused_before _ c.loop-i.i j ws back (sym i.nodes) l (omega (arith, c.loop-i-test.true)),
+    )

@@ -13,7 +13,8 @@ use Rattle.std.proofs.lemmas.List.{length-drop}
 use Rattle.offset_allocator.proofs.Common.{IsWellFormed, length-take-le}
 use Rattle.offset_allocator.proofs.{StateWords.units-freed}
 use Rattle.offset_allocator.proofs.Common.{inr}
-use Rattle.offset_allocator.proofs.Headed.{counted, formed, headed, limited, long}
+use Rattle.offset_allocator.proofs.Headed.{counted, formed, headed, limited, long, overused, wrong_in}
+use Rattle.offset_allocator.specs.StateFaults.{IsFaultOf}
 use Rattle.offset_allocator.proofs.restoring.of_words.Goals as goal
 
 -- the parts of the words of a view, where the header is read
@@ -62,15 +63,34 @@ returns-then-checksum-words-clause-fault g c =
     let hd = subst (λ m. IsHeader m c.args.most_allocs c.args.words.now c.in-Ok.header) c.MAX.ensures c.in-Ok.ensures.header in
     (omega (arith, (formed hd).0), formed hd, limited hd, counted hd, long hd, λ e. c.if-checksum-words.true (c.checksum.ensures ∙ e))
 
+pub returns-in-Err-clause-fault : goal.returns-in-Err-clause-fault
+returns-in-Err-clause-fault g c = subst (λ m. IsFaultOf m c.args.most_allocs c.args.words.now c.in-Err.fault.at c.in-Err.fault.kind) c.MAX.ensures c.in-Err.ensures.fault
+
 pub returns-in-Err-2-clause-fault : goal.returns-in-Err-2-clause-fault
 returns-in-Err-2-clause-fault g c =
-    let hd = subst (λ m. IsHeader m c.args.most_allocs c.args.words.now c.in-Ok.header) c.MAX.ensures c.in-Ok.ensures.header in
-    c.fault_of.ensures g.T.Index.NodeIndex.MAX c.args.most_allocs c.args.words.now (headed hd (sym c.checksum.ensures ∙ c.if-checksum-words.false))
+    let ws : List ℕ = c.args.words.now in
+    let hd = subst (λ m. IsHeader m c.args.most_allocs ws c.in-Ok.header) c.MAX.ensures c.in-Ok.ensures.header in
+    let b = rw c.in-Err-2.is at c.in_ok-wrong.ensures.fault in
+    c.fault_of.ensures g.T.Index.NodeIndex.MAX c.args.most_allocs ws (headed hd (sym c.checksum.ensures ∙ c.if-checksum-words.false)) (wrong_in hd c.in-Err-2.wrong b)
+    (omega (arith, ap (λ l. get_or l 4 0) hd.words)) (omega (arith, ap (λ l. get_or l 5 0) hd.words))
+    (omega (
+      arith,
+      hd.long,
+      ap (λ l. get_or l 4 0) hd.words,
+      ap (λ l. get_or l 5 0) hd.words,
+      ap (λ l. get_or l 6 0) hd.words,
+      c.type_inv.words 4,
+      c.type_inv.words 5,
+      c.type_inv.words 6,
+    ))
 
 pub returns-then-found-header-clause-fault : goal.returns-then-found-header-clause-fault
 returns-then-found-header-clause-fault g c =
     let hd = subst (λ m. IsHeader m c.args.most_allocs c.args.words.now c.in-Ok.header) c.MAX.ensures c.in-Ok.ensures.header in
-    (refl, formed hd, limited hd, inr (headed hd (sym c.checksum.ensures ∙ c.if-checksum-words.false)))
+    let b = rw c.in-Ok-2.is at c.in_ok-wrong.ensures.built in
+    let same = blocks-chain _ _ _ _ _ b.0.chain in
+    let over = overused hd b.0.all b.0.words b.0.whole b.0.each (b.0.once, b.0.ordered) b.0.apart (omega (arith, c.if-found-header.true, b.2, ap used_of same)) in
+    (refl, formed hd, limited hd, inr (headed hd (sym c.checksum.ensures ∙ c.if-checksum-words.false), over))
 
 pub invariant_of-result : goal.invariant_of-result
 invariant_of-result g c =

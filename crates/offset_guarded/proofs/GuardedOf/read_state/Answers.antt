@@ -1,11 +1,12 @@
-use Rattle.std.proofs.Common.{◌≡◌, ◌∙◌, ◌+◌, ◌*◌, ◌%◌, ◌^◌, ◌≤◌, ap, refl, sym, subst, arith, drop, length, List, ℕ}
+use Rattle.std.proofs.Common.{◌≡◌, ◌∙◌, ◌+◌, ◌*◌, ◌≤◌, ap, refl, sym, subst, arith, drop, length, List, ℕ}
 use Rattle.std.proofs.lemmas.List.{length-drop}
 use Rattle.offset_allocator.specs.Ranges as named
 use Rattle.offset_allocator.specs.State as allocator
 use Rattle.offset_allocator.specs.View.{View}
 use Rattle.offset_guarded.specs.Guard.{Guard, cell}
-use Rattle.offset_guarded.specs.State.{numbers}
-use Rattle.offset_guarded.specs.StateFaults.{IsFaultOf}
+use Rattle.offset_guarded.specs.State.{number_at, numbers}
+use Rattle.offset_guarded.specs.StateFaults.{IsFaultOf, IsSerialFault}
+use Rattle.offset_allocator.proofs.FaultPlaces.{fault_within}
 use Rattle.offset_allocator.specs.StateFaults as faults
 use Rattle.offset_guarded.proofs.Headed.{headed}
 use Rattle.offset_guarded.proofs.Guards.{guard}
@@ -28,19 +29,44 @@ pub returns-in-Err-2-clause-fault : goal.returns-in-Err-2-clause-fault
 returns-in-Err-2-clause-fault g c =
     let bs : List ℕ = c.args.bytes.now in
     let hd = c.in-Ok.ensures.header in
+    let end : ℕ = 48 + 8 * c.in-Ok.header.count in
     let b = rw c.in-Err-2.is at c.in_ok-fault.ensures.fault in
-    let wrong = subst (λ k. faults.IsFault g.T.Index.NodeIndex.MAX c.args.most_allocs k c.in-Err-2.fault) (rest_of (48 + 8 * c.in-Ok.header.count) bs) b in (
+    let wrong = subst (λ k. faults.IsFault g.T.Index.NodeIndex.MAX c.args.most_allocs k c.in-Err-2.fault) (rest_of end bs) b in
+    let within = fault_within g.T.Index.NodeIndex.MAX c.args.most_allocs (drop end bs) c.in-Err-2.fault wrong in (
       headed hd,
       (
         c.in-Err-2.fault.at,
-        ap (λ n. (48 + 8 * n + c.in-Err-2.fault.at) % 2 ^ 64) (sym hd.count),
+        omega (arith, hd.count, hd.long, within, length-drop end bs),
         subst (λ n. faults.IsFault g.T.Index.NodeIndex.MAX c.args.most_allocs (drop (48 + 8 * n) bs) c.in-Err-2.fault) (sym hd.count) wrong,
       ),
     )
 
 pub returns-in-Some-clause-fault : goal.returns-in-Some-clause-fault
 returns-in-Some-clause-fault g c =
-    subst (λ k. IsFaultOf g.T.Index.NodeIndex.MAX c.args.most_allocs c.args.bytes.now c.in-Some.fault.at k) (sym c.in-Some.ensures.serial) (headed c.in-Ok.ensures.header)
+    let bs : List ℕ = c.args.bytes.now in
+    let hd = c.in-Ok.ensures.header in
+    let count : ℕ = c.in-Ok.header.count in
+    let at : ℕ = c.in-Some.fault.at in
+    let v : View = c.in-Ok-2.space in
+    let b = rw c.in-Ok-2.is at c.in_ok-fault.ensures.read in
+    let state = subst (allocator.IsStateOf v) (rest_of (48 + 8 * count) bs) b.0 in
+    let given : c.in_ok-serials.serials.given ≡ number_at bs 3 = c.in_ok-serials.ensures.given ∙ sym hd.given in
+    let cells : c.in_ok-serials.serials.cells ≡ numbers (number_at bs 2) (drop 40 bs) =
+    c.in_ok-serials.ensures.cells ∙ numbers_sliced count _ (drop 40 bs) (omega arith) (omega (arith, hd.long, length-drop 40 bs)) ∙ ap (λ n. numbers n (drop 40 bs)) (sym hd.count) in
+    subst (λ k. IsFaultOf g.T.Index.NodeIndex.MAX c.args.most_allocs bs at k) (sym c.in-Some.ensures.serial) (
+      headed hd,
+      (
+        v,
+        record {
+          state = subst (λ n. allocator.IsStateOf v (drop (48 + 8 * n) bs)) (sym hd.count) state;
+          formed = c.a_state_is_read_back.ensures.formed;
+          names = c.a_state_is_read_back.ensures.names;
+          admitted = (c.a_state_is_read_back.ensures.admitted, b.2);
+        },
+        subst (λ n. IsSerialFault v n (numbers (number_at bs 2) (drop 40 bs)) at) given
+            (subst (λ ks. IsSerialFault v c.in_ok-serials.serials.given ks at) cells c.in-Some.ensures.fault),
+      ),
+    )
 
 pub returns-in-Some-clause-refused : goal.returns-in-Some-clause-refused
 returns-in-Some-clause-refused g c _ v w admitted asked st =

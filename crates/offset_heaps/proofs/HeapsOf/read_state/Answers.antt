@@ -1,9 +1,10 @@
-use Rattle.std.proofs.Common.{◌≡◌, ◌∙◌, ◌+◌, ◌*◌, ap, arith, drop, length, refl, subst, sym, List, ℕ}
+use Rattle.std.proofs.Common.{◌≡◌, ◌∙◌, ◌+◌, ◌*◌, ap, arith, drop, inl, inr, length, refl, subst, sym, List, ℕ}
 use Rattle.offset_guarded.specs.State.{number_at}
 use Rattle.offset_guarded.proofs.Numbers.{rest_of}
 use Rattle.offset_heaps.specs.declared.limits.Limits.{Limits}
 use Rattle.offset_heaps.specs.Heaps.{slot}
 use Rattle.offset_heaps.specs.State.{AreRead, IsHeapAt, IsHeapFormed}
+use Rattle.offset_heaps.specs.StateFaults.{IsStatesFault}
 use Rattle.offset_heaps.proofs.States.{heap_between, parts, read_restored, read_sound, read_well_formed}
 use Rattle.offset_heaps.proofs.HeapsOf.read_state.Goals as goal
 
@@ -76,3 +77,31 @@ returns-clause-formed g c =
     subst (λ r. AreRead h.limits g.T.Index.NodeIndex.MAX h.made c.args.most_allocs m bs r c.in-Ok-2.slots.items) (rest_of (80 + 8 * m) bs) b in
     read_well_formed g.T.Index.NodeIndex.MAX c.args.most_heaps c.args.most_allocs bs h c.in-Ok-2.slots.items c.new.result c.in-Ok.ensures.header (sym c.number.ensures ∙ c.if-number-ne0.false)
     (sym c.number-2.ensures ∙ c.if-number-states.false ∙ ap length (rest_of (80 + 8 * m) bs)) are c.new.ensures (omega (arith, c.ranges.most_heaps))
+
+pub returns-then-number-ne0-clause-fault : goal.returns-then-number-ne0-clause-fault
+returns-then-number-ne0-clause-fault g c = inr (c.in-Ok.header, c.in-Ok.ensures.header, inl (refl, inl (refl, λ e. c.if-number-ne0.true (c.number.ensures ∙ e))))
+
+pub returns-then-number-states-clause-fault : goal.returns-then-number-states-clause-fault
+returns-then-number-states-clause-fault g c =
+    let bs : List ℕ = c.args.bytes.now in
+    let lim = c.in-Ok.header.limits in
+    let rest = ap length (rest_of (80 + 8 * (lim.most + lim.most_larger)) bs) in
+    inr (
+      c.in-Ok.header,
+      c.in-Ok.ensures.header,
+      inl (refl, inr (refl, sym c.number.ensures ∙ c.if-number-ne0.false, λ e. c.if-number-states.true (c.number-2.ensures ∙ e ∙ sym rest))),
+    )
+
+pub returns-in-Err-2-clause-fault : goal.returns-in-Err-2-clause-fault
+returns-in-Err-2-clause-fault g c =
+    let bs : List ℕ = c.args.bytes.now in
+    let h = c.in-Ok.header in
+    let m : ℕ = h.limits.most + h.limits.most_larger in
+    let wrong = c.in-Err-2.fault in
+    let f = rw c.in-Err-2.is at c.in_ok-fault.ensures.fault in
+    inr (
+      h,
+      c.in-Ok.ensures.header,
+      subst (λ r. IsStatesFault h.limits g.T.Index.NodeIndex.MAX h.made c.args.most_allocs m bs r wrong.at wrong.kind) (rest_of (80 + 8 * m) bs)
+          (inr (sym c.number.ensures ∙ c.if-number-ne0.false, sym c.number-2.ensures ∙ c.if-number-states.false, f)),
+    )

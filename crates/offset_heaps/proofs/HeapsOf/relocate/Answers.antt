@@ -1,4 +1,4 @@
-use Rattle.std.proofs.Common.{◌≡◌, ◌≤◌, ap, arith, subst, sym, ◌∙◌, true, false}
+use Rattle.std.proofs.Common.{ap, arith, subst, sym}
 use Rattle.offset_heaps.specs.Heaps.{Heaps, Grants, numbers}
 use Rattle.offset_heaps.specs.Relocating.{IsTaker, granted}
 use Rattle.offset_heaps.proofs.Grants.{granted_since, not_live_before, others_kept, range_granted}

@@ -1,4 +1,4 @@
-use Rattle.std.proofs.Common.{◌≡◌, ◌<◌, ◌+◌, ℕ, MatchOption, IfSome, length, ap, arith, subst, sym, ◌∙◌}
+use Rattle.std.proofs.Common.{◌<◌, ◌+◌, ℕ, MatchOption, IfSome, length, ap, arith, subst, sym, ◌∙◌}
 use Rattle.offset_heaps.specs.Heaps.{Heaps, room_of, slot, numbers}
 use Rattle.offset_heaps.specs.Relocating.{Takes}
 use Rattle.offset_heaps.proofs.Takers.{all_takers, taker_there}
