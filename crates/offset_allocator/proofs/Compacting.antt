@@ -9,6 +9,8 @@ use Rattle.offset_allocator.proofs.{Emptied.no_name, Emptied.none_at, Exchange.e
 use Rattle.offset_allocator.proofs.{Joints.free_units-free, Joints.free_units-used, Places.placed, Sound.Fields, Sound.AreSound, Sound.shown, Sound.well_counted, Tallies.one-same}
 use Rattle.offset_allocator.proofs.{Tallies.tally_append, Tallies.units-append, ViewBins.times_put_all, ViewBins.length_put, ViewTaken.replicate_none}
 use Rattle.offset_allocator.proofs.Tallies.{free_units, free_sum}
+use Rattle.offset_allocator.proofs.Common.{drop, take}
+use Rattle.offset_allocator.specs.Names.{free_blocks, names_of}
 
 abbrev pub AreUsed : List Block → Type 0
 AreUsed bs = AllByRecursion (λ b. b.used ≡ true) bs
@@ -64,6 +66,17 @@ apart_end (b ∷ bs) d h = (ap (λ (u : Bool). not u && starts_free (bs ++ d ∷
 none_filed : (ls : List (List ℕ)) (bs : List Block) → length ls ≡ 256 → AreUsed bs → AreInBins bs ls → ls ≡ replicate 256 []
 none_filed ls bs long used f = ext_get_or [] ls _ (long ∙ sym (length-replicate {A = List ℕ} 256 [])) (λ c _. no_name (bin_at ls c) (λ y. f c y ∙ none_listed bs used c y) ∙ sym (none_at c))
 
+-- the free blocks of a list
+free_past : (b : Block) (bs : List Block) → b.used ≡ true → free_blocks (b ∷ bs) ≡ free_blocks bs
+free_past b bs u = ap (λ (t : Bool). if not t then b ∷ free_blocks bs else free_blocks bs) u
+
+pub free_here : (b : Block) (bs : List Block) → b.used ≡ false → free_blocks (b ∷ bs) ≡ b ∷ free_blocks bs
+free_here b bs u = ap (λ (t : Bool). if not t then b ∷ free_blocks bs else free_blocks bs) u
+
+none_free : (bs : List Block) → AreUsed bs → free_blocks bs ≡ []
+none_free [] a = refl
+none_free (b ∷ bs) a = free_past b bs a.0 ∙ none_free bs a.1
+
 -- the first free block
 pub record IsFirst (bs : List Block) (x : ℕ) : Type 0 where
   pub place : Place
@@ -74,6 +87,8 @@ pub record IsFirst (bs : List Block) (x : ℕ) : Type 0 where
   pub live : live bs ≡ place.before ++ live place.after
   pub sizes : free_sizes bs ≡ place.block.size ∷ free_sizes place.after
   pub moves : (i : ℕ) → moves i i bs ≡ moves (i + (units place.before + place.block.size)) (i + units place.before) place.after
+  pub rest : drop 1 (free_blocks bs) ≡ free_blocks place.after
+  pub all : free_blocks bs ≡ place.block ∷ free_blocks place.after
 
 stays : (i : ℕ) (b : Block) → move_of i i b ≡ []
 stays i b = grind (arith, nat_tests)
@@ -97,6 +112,8 @@ first_is (b ∷ bs) x e = go b.used refl (λ h. first_is bs x h)
           live = live_used b bs u ∙ ap (λ l. b ∷ l) f.live;
           sizes = ap (λ (v : Bool). if v then free_sizes bs else b.size ∷ free_sizes bs) u ∙ f.sizes;
           moves = λ i. moves_used i i b bs u ∙ ap (λ l. l ++ moves (i + b.size) (i + b.size) bs) (stays i b) ∙ f.moves (i + b.size) ∙ ap₂ (λ j k. moves j k p.after) (from i) (to i);
+          rest = ap (drop 1) (free_past b bs u) ∙ f.rest;
+          all = free_past b bs u ∙ f.all;
         }
     go false u rest =
         let from : (i : ℕ) → i + b.size ≡ i + (0 + b.size) = λ i. omega arith in
@@ -110,6 +127,8 @@ first_is (b ∷ bs) x e = go b.used refl (λ h. first_is bs x h)
           live = live_idle b bs u;
           sizes = ap (λ (v : Bool). if v then free_sizes bs else b.size ∷ free_sizes bs) u;
           moves = λ i. moves_idle i i b bs u ∙ ap₂ (λ j k. moves j k bs) (from i) (to i);
+          rest = ap (drop 1) (free_here b bs u);
+          all = free_here b bs u;
         }
 
 -- no free block
@@ -184,12 +203,14 @@ module _ (f : Fields) (s : AreSound f) where
           few_used = omega (arith, w.room, fewer, used_at_most packed_blocks, tally_append (λ (b : Block). one b.used) packed_blocks (free_block hole size ∷ []));
         }
 
-        compacted : (u : View) → SameSpace left_view u → Compacts v u
-        compacted u same =
+        compacted : (u : View) → SameSpace left_view u → hole ≡ x → u.unused ≡ v.unused ++ names_of (free_blocks p.after) → first_free v.blocks ≡ Some x → Compacts v u
+        compacted u same named unused first =
             let gathers : gathered hole (free_sizes v.blocks) ≡ free_block hole size ∷ [] = grind (arith, common_steps, free_sum) in
             record {
               name = hole;
               below = omega (arith, there.below, there.chain.within, s.memory);
+              first = rw first named;
+              names = unused ∙ ap (λ (bs : List Block). v.unused ++ names_of bs) (sym o.rest);
               absent = ap (count_named hole) o.live ∙ omega (
                 arith,
                 each-le d.chain _ last count _ there.chain hole,
@@ -200,9 +221,10 @@ module _ (f : Fields) (s : AreSound f) where
             }
 
         pub packs : {top accesses : ℕ} → IsBinned f.max d.bins top → bins_in f.max d.bins ≡ push (down size) hole (replicate 256 [])
+            → hole ≡ x → take count d.chain.spare ≡ take f.count f.cells.chain.spare ++ names_of (free_blocks o.place.after) → first_free (blocks f.cells.chain f.last) ≡ Some x
             → AreSound (record f { cells = d; last = last; count = count; top = top; accesses = accesses })
             × Compacts (shown f) (shown (record f { cells = d; last = last; count = count; top = top; accesses = accesses }))
-        packs {top} {accesses} bins lists =
+        packs {top} {accesses} bins lists named unused first =
             let done = stepped f s left_view d f.free accesses left_well refl there.chain refl bins lists
             (omega (
               arith,
@@ -218,7 +240,7 @@ module _ (f : Fields) (s : AreSound f) where
               free_units-free (free_block hole size) [] refl,
               sized,
             )) in
-            (done.0, compacted _ done.1)
+            (done.0, compacted _ done.1 named unused first)
 
   -- a space with none
   pub stays_packed : (accesses : ℕ) → first_free (blocks f.cells.chain f.last) ≡ None → Compacts (shown f) (shown (record f { accesses = accesses }))
@@ -226,4 +248,13 @@ module _ (f : Fields) (s : AreSound f) where
       let r = packed v.blocks e in
       let t = unused s.space (omega (arith, w.room, s.memory)) in
       let whole = live_whole v.blocks r.used in
-      grind (arith, common_steps, append-nil, none_filed)
+      let none : gathered t.0 (free_sizes v.blocks) ≡ [] = ap (gathered t.0) r.sizes in
+      record {
+        name = t.0;
+        below = omega (arith, t.1, s.memory);
+        first = rw e tt;
+        names = sym (ap (λ (bs : List Block). v.unused ++ names_of (drop 1 bs)) (none_free v.blocks r.used) ∙ append-nil v.unused);
+        absent = ap (count_named t.0) whole ∙ t.2;
+        view = sym (ap₂ (λ (bs g : List Block). record v { blocks = bs ++ g; bins = push_all g (replicate 256 []); accesses = accesses }) whole none
+            ∙ ap₂ (λ (bs : List Block) (bins : List (List ℕ)). record v { blocks = bs; bins = bins; accesses = accesses }) (append-nil v.blocks) (sym (none_filed v.bins v.blocks w.classes r.used w.binned)));
+      }

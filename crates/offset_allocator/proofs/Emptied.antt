@@ -1,8 +1,10 @@
 -- A space whose used blocks are freed one after the other, from its end on: each is the last block or the one before
 -- it, and where none is left the space is one free block.
-use Rattle.offset_allocator.proofs.Common.{◌≡◌, ℕ, ◌+◌, ◌*◌, append_assoc, ◌<◌, ◌≤◌, Bool, true, false, not, List, [], ◌∷◌, ◌++◌, length, replicate, Option, Some, None, IfSome, nat_eq, refl, sym, ap}
+use Rattle.offset_allocator.proofs.Common.{zero, suc, if◌then◌else◌, ◌≡◌, ℕ, ◌+◌, ◌*◌, append_assoc, ◌<◌, ◌≤◌, Bool, true, false, not, List, [], ◌∷◌, ◌++◌, length, replicate, Option, Some, None, IfSome, nat_eq, refl, sym, ap}
 use Rattle.offset_allocator.proofs.Common.{ap₂, subst, ◌∙◌, arith, inl, inr, length-replicate, ext_get_or, cases_lt, false≢true, not-false, down, Block, View, one, free_block, units}
-use Rattle.offset_allocator.proofs.Common.{count_named, used_of, times, count_in_bin, bin_at, push, AreCoalesced, IsWellFormed, place_of, is_used_at, SameSpace, Frees, Resets, last_or, IsLive}
+use Rattle.offset_allocator.proofs.Common.{count_named, used_of, times, count_in_bin, bin_at, push, AreCoalesced, IsWellFormed, place_of, is_used_at, Frees, Resets, push_all, last_or, IsLive}
+use Rattle.std.specs.{List.AllByRecursion, Option.option_or}
+use Rattle.offset_allocator.specs.{Relations.FreesLast, Relations.IsEmpty, Relations.SameState, View.last_used}
 use Rattle.offset_allocator.proofs.ViewBins.{hit_at, hit_other, names_same, names_other, length_put}
 use Rattle.offset_allocator.proofs.{Ends.Ended, Ends.ended, Ends.last_none, Classes.down_small, Reading.used_live, ViewApart.apart_parts, ViewApart.left_false, Tallies.hit_cases, Tallies.tally_append}
 use Rattle.offset_allocator.proofs.{Tallies.one-same, Tallies.one-eq, ViewSteps.place_here, ViewTaken.replicate_none}
@@ -72,6 +74,18 @@ emptied v w u =
               ∙ sym (names_other (replicate 256 []) (down n) c (x ∷ bin_at (replicate 256 []) (down n)) f.0 ∙ none_at c)
         ]
 
+-- the last used block of a list with one more at its end
+pub last_used_end : (fs : List Block) (b : Block) → last_used (fs ++ b ∷ []) ≡ (if b.used then Some b.name else last_used fs)
+last_used_end [] b = refl
+last_used_end (f ∷ fs) b = ap (λ (o : Option ℕ). option_or o (if f.used then Some f.name else None)) (last_used_end fs b) ∙ go b.used
+  where
+    go : (u : Bool) → option_or (if u then Some b.name else last_used fs) (if f.used then Some f.name else None) ≡ (if u then Some b.name else last_used (f ∷ fs))
+    go true = refl
+    go false = refl
+
+pub last_used_there : (fs : List Block) (b : Block) → b.used ≡ true → last_used (fs ++ b ∷ []) ≡ Some b.name
+last_used_there fs b u = last_used_end fs b ∙ ap (λ (t : Bool). if t then Some b.name else last_used fs) u
+
 -- where the last block is free
 module _ (bs : List Block) (last : ℕ) (ends : last_or None bs ≡ Some last) (each : (k : ℕ) → count_named k bs ≤ 1) (apart : AreCoalesced bs) (idle : is_used_at (place_of last bs) ≡ false) where
   abbrev end : Ended last bs
@@ -103,17 +117,78 @@ module _ (bs : List Block) (last : ℕ) (ends : last_or None bs ≡ Some last) (
   pub none_used : last_or None (ended bs last ends).front ≡ None → used_of bs ≡ 0
   none_used e = omega (arith, ap used_of (end.is ∙ ap (λ (l : List Block). l ++ b ∷ []) (last_none front e)), ap one is_idle)
 
+  pub last_before : last_used bs ≡ last_or None (ended bs last ends).front
+  last_before = ap last_used end.is ∙ last_used_end front b ∙ ap (λ (t : Bool). if t then Some b.name else last_used front) is_idle ∙ go (last_or None front) refl
+    where
+      go : (o : Option ℕ) → last_or None front ≡ o → last_used front ≡ last_or None front
+      go None e = ap last_used (last_none front e) ∙ sym (ap (last_or None) (last_none front e))
+      go (Some x) e =
+          let e2 = ended front x e in
+          let d : Block = e2.last in
+          let parts = apart_parts e2.front (d ∷ b ∷ []) (subst AreCoalesced (end.is ∙ ap (λ (l : List Block). l ++ b ∷ []) e2.is ∙ append_assoc e2.front (d ∷ []) (b ∷ [])) apart) in
+          let used : d.used ≡ true = not-false d.used (left_false (not d.used) (not b.used) parts.1.0 (ap not is_idle)) in
+          ap last_used e2.is ∙ last_used_there e2.front d used ∙ ap (λ (i : ℕ). Some i) e2.name ∙ sym e
+
   pub before_live : (v : View) → v.blocks ≡ bs → (o : Option ℕ) → o ≡ last_or None (ended bs last ends).front → IfSome o (λ x. IsLive x v)
   before_live v is None e = tt
   before_live v is (Some x) e = used_live x v (ap (λ (l : List Block). is_used_at (place_of x l)) is ∙ before_used x (sym e))
 
--- a release leaves fewer used blocks
-pub freed_fewer : (x : ℕ) (v w : View) → Frees x v w → used_of w.blocks < used_of v.blocks
-freed_fewer x v w f = grind (arith, tally_append)
+-- a release leaves one used block fewer
+pub freed_one : (x : ℕ) (v w : View) → Frees x v w → used_of v.blocks ≡ suc (used_of w.blocks)
+freed_one x v w f = grind (arith, tally_append, idle_used)
+  where
+    idle_used : (bs : List Block) → AllByRecursion (λ (b : Block). b.used ≡ false) bs → used_of bs ≡ 0
+    idle_used [] a = refl
+    idle_used (b ∷ bs) a = omega (arith, ap one a.0, idle_used bs a.1)
 
--- a space without a used block is as a reset leaves one
-pub as_reset : (v w : View) → IsWellFormed v → used_of v.blocks ≡ 0 → SameSpace v w → Resets v w
-as_reset v w well none same = let e = emptied v well none in record { name = e.0; below = e.1; view = same ∙ ap (λ (u : View). record u { unused = w.unused; accesses = w.accesses }) e.2 }
+-- however many accesses were counted before
+frees_counted : (x : ℕ) (v w : View) (k : ℕ) → Frees x (record v { accesses = k }) w → Frees x v w
+frees_counted x v w k f = record {
+  before = f.before;
+  left = f.left;
+  block = f.block;
+  right = f.right;
+  after = f.after;
+  blocks = f.blocks;
+  named = f.named;
+  used = f.used;
+  free = f.free;
+  names = f.names;
+  view = f.view;
+  apart = f.apart;
+}
 
-pub reset_alike : (u v w : View) → v.size ≡ u.size → v.max_allocs ≡ u.max_allocs → Resets v w → Resets u w
-reset_alike u v w e f r = grind arith
+-- one more range was freed first
+pub freed_first : (x : ℕ) (v was u w : View) → SameState v was → last_used v.blocks ≡ Some x → Frees x was u → FreesLast (used_of u.blocks) u w → FreesLast (used_of v.blocks) v w
+freed_first x v was u w same last f rest =
+    let first = frees_counted x v u was.accesses (subst (λ (z : View). Frees x z u) same f) in
+    subst (λ k. FreesLast k v w) (sym (freed_one x v u first)) (x, u, last, first, rest)
+
+-- nothing is freed where nothing is live
+pub freed_none : (v w : View) → SameState v w → IsEmpty w → FreesLast (used_of v.blocks) v w
+freed_none v w same e =
+    let none : used_of v.blocks ≡ 0 = ap (λ (u : View). used_of u.blocks) (sym same) ∙ ap (λ (u : View). used_of u.blocks) e.view in
+    subst (λ k. FreesLast k v w) (sym none) same
+
+-- the size and the node limit stay
+pub freed_sizes : (k : ℕ) (v w : View) → FreesLast k v w → (w.size ≡ v.size) × (w.max_allocs ≡ v.max_allocs)
+freed_sizes zero v w e = (ap (λ (u : View). u.size) e, ap (λ (u : View). u.max_allocs) e)
+freed_sizes (suc k) v w f =
+    let rest = freed_sizes k f.1 w f.4 in
+    (rest.0 ∙ ap (λ (u : View). u.size) f.3.view, rest.1 ∙ ap (λ (u : View). u.max_allocs) f.3.view)
+
+-- a space without a used block
+pub as_empty : (w : View) → IsWellFormed w → used_of w.blocks ≡ 0 → IsEmpty w
+as_empty w well none = let e = emptied w well none in record { name = e.0; below = e.1; view = e.2 }
+
+-- at most five blocks
+pub few_reset : (v w : View) → length v.blocks ≤ 5 → FreesLast (used_of v.blocks) v w → IsEmpty w → Resets v w
+few_reset v w few f e =
+    let same = freed_sizes (used_of v.blocks) v w f in
+    record {
+      name = e.name;
+      below = omega (arith, e.below, same.1);
+      few = λ _. f;
+      many = λ l. absurd (omega (arith, few, l));
+      view = e.view ∙ ap₂ (λ (n m : ℕ). record v { size = n; max_allocs = m; blocks = free_block e.name n ∷ []; bins = push_all (free_block e.name n ∷ []) (replicate 256 []); unused = w.unused; accesses = w.accesses }) same.0 same.1;
+    }

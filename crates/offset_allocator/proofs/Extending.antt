@@ -1,4 +1,7 @@
 -- What more units at the end leave of the whole allocator.
+use Rattle.offset_allocator.proofs.Common.{ap₂, take}
+use Rattle.offset_allocator.proofs.Sound.{well_unused}
+use Rattle.offset_allocator.specs.Names.{AreTaken, IsTaken, names_of}
 use Rattle.offset_allocator.proofs.Common.{◌≡◌, ◌↔◌, ℕ, ◌+◌, ◌-◌, ◌<◌, ◌≤◌, ◌^◌, Bool, true, false, not, ◌⊎◌, List, [], ◌∷◌, ◌++◌, length, refl, sym, ap, subst, ◌∙◌, inl, inr, arith, slice_set}
 use Rattle.offset_allocator.proofs.Common.{append-nil, true≢false, false≢true, AllByRecursion, down, Cells, ChainCells, Node, node, Block, View, count_named, bin_at, count_in_bin, AreCoalesced}
 use Rattle.offset_allocator.proofs.Common.{IsWellFormed, IsNew, free_block, units, replace, remove_all, push, remove, times, ends_used, HasRoomFor, KeepsAll, Adds, CanExtend, Extends}
@@ -101,15 +104,28 @@ module _ {it : Fields} {more : ℕ} {used : Bool} (r : Growth it more used) wher
       → AllByRecursion (λ b. b.name ≡ x) old
       → (1 ≤ count_named x old) ⊎ IsNew x v → (1 ≤ length old) ⊎ (length bs + 1 < it.limit) → (old ≡ [] → IsNew x v)
       → IsChain d.chain it.cells.chain.reserved last count (before ++ free_block x (units old + more) ∷ []) → IsBinned it.max d.bins top
-      → bins_in it.max d.bins ≡ push (down (units old + more)) x (remove_all old ls) → Grown d last count top k
-  grown d {last} {count} {top} k x before old e closed idle named name spare new chain bins lists =
-      let left_view : View = record (replace v before old (free_block x (units old + more) ∷ []) []) { size = v.size + more } in
-      let well = well_added v w more x before old e closed name spare r.fits in
+      → bins_in it.max d.bins ≡ push (down (units old + more)) x (remove_all old ls)
+      → AreTaken (length bs) (take it.count it.cells.chain.spare ++ names_of old) (x ∷ []) (take count d.chain.spare) → Grown d last count top k
+  grown d {last} {count} {top} k x before old e closed idle named name spare new chain bins lists taken =
+      let left_view : View = record (replace v before old (free_block x (units old + more) ∷ []) []) { size = v.size + more; unused = take count d.chain.spare } in
+      let well = well_unused (record (replace v before old (free_block x (units old + more) ∷ []) []) { size = v.size + more }) (take count d.chain.spare) v.accesses
+      (well_added v w more x before old e closed name spare r.fits) in
       let total = free_units-append before old in
       let left = stepped it s left_view d (it.free + more) k well refl chain refl bins lists
       (free_units-append before (free_block x (units old + more) ∷ [])
       ∙ omega (arith, r.sound.total, free_sum bs, ap free_units e, total, idle_units old idle, free_units-free (free_block x (units old + more)) [] refl)) in
-      let added : Adds more v (shown (record it { size = it.size + more; cells = d; last = last; count = count; top = top; free = it.free + more; accesses = k })) = grind (arith, common_steps) in
+      let added : Adds more v (shown (record it { size = it.size + more; cells = d; last = last; count = count; top = top; free = it.free + more; accesses = k })) = record {
+        before = before;
+        last = old;
+        blocks = e;
+        free = idle;
+        name = x;
+        named = named;
+        new = new;
+        names = taken;
+        view = left.1;
+        apart = left.0.well.apart;
+      } in
       (left.0, added, adds_keep v _ w (well_same left_view _ left.1 well) more added)
 
 -- after a used block
@@ -131,19 +147,20 @@ module _ {it : Fields} {more : ℕ} (r : Growth it more true) where
   pub appended : (d : Cells) (k : ℕ) {last count top y n : ℕ} → HasRoomFor 1 (shown it) → n ≡ (node it.cells.chain it.last).size
       → IsChain d.chain it.cells.chain.reserved last count (((end r).front ++ record (end r).last { size = n } ∷ []) ++ free_block y (((end r).last.size - n) + more) ∷ [])
       → IsBinned it.max d.bins top
-      → bins_in it.max d.bins ≡ push (down more) y (bins_in it.max it.cells.bins) → count_named y ((end r).front ++ (end r).last ∷ []) ≡ 0 → y < length it.cells.chain.nodes
+      → bins_in it.max d.bins ≡ push (down more) y (bins_in it.max it.cells.bins) → count_named y ((end r).front ++ (end r).last ∷ []) ≡ 0 → y < length d.chain.nodes
+      → IsTaken (length (blocks it.cells.chain it.last)) (take it.count it.cells.chain.spare) y (take count d.chain.spare)
       → Grown r d last count top k
-  appended d k {y = y} {n = n} room e chain bins eo new below =
+  appended d k {count = count} {y = y} {n = n} room e chain bins eo new below taken =
       let whole : n ≡ (end r).last.size = e ∙ size_at_end r in
       let none : (end r).last.size - (end r).last.size ≡ 0 = omega arith in
       let sum : 0 + more ≡ more = omega arith in
       let unused : IsNew y (shown it) = record {
-        below = omega (arith, below, r.sound.space.within, r.sound.memory);
+        below = omega (arith, below, chain.within, r.sound.memory);
         absent = counted_none y (shown it).blocks (ap (count_named y) (end r).is ∙ new);
       } in
       grown r d k y ((end r).front ++ (end r).last ∷ []) [] ((end r).is ∙ sym (append-nil _)) (ends_free_last (end r).front (end r).last ∙ ap not (b_used r)) tt tt
       (inr unused) (inr room) (λ _. unused)
-      (rw (whole, none) at chain) bins (rw sum eo)
+      (rw (whole, none) at chain) bins (rw sum eo) (rw (append-nil (take it.count it.cells.chain.spare)) (take count d.chain.spare, taken, refl))
 
 -- fields whose last block is free
 pub record EndsFree (it : Fields) : Type 0 where
@@ -216,8 +233,9 @@ module _ {it : Fields} {more : ℕ} (r : Growth it more false) where
 
   pub widened : (d : Cells) (k : ℕ) {count top : ℕ} → IsChain d.chain it.cells.chain.reserved it.last count ((end r).front ++ record (end r).last { size = (end r).last.size + more } ∷ [])
       → IsBinned it.max d.bins top
-      → bins_in it.max d.bins ≡ push (down ((node it.cells.chain it.last).size + more)) it.last widen_left → Grown r d it.last count top k
-  widened d k chain bins eo =
+      → bins_in it.max d.bins ≡ push (down ((node it.cells.chain it.last).size + more)) it.last widen_left → take count d.chain.spare ≡ take it.count it.cells.chain.spare
+      → Grown r d it.last count top k
+  widened d k {count} chain bins eo unused =
       let size_is : (node it.cells.chain it.last).size ≡ units ((end r).last ∷ []) = omega (arith, size_at_end r) in
       let sum : (end r).last.size + more ≡ units ((end r).last ∷ []) + more = omega arith in
       let named = (end r).name in
@@ -225,14 +243,22 @@ module _ {it : Fields} {more : ℕ} (r : Growth it more false) where
       grown r d k it.last (end r).front ((end r).last ∷ []) (end r).is (left_false (ends_free (end r).front) (not (end r).last.used) parts.2 (ap not (b_used r))) (b_used r, tt) (named, tt)
       (inl (omega (arith, one-eq it.last (end r).last.name named))) (inl (omega arith)) (λ n. absurd (cc))
       (rw (b_used r, named, sum) at chain) bins (rw (← is_left, ← size_is) eo)
+      (take count d.chain.spare, inl (ap₂ (λ (l : List ℕ) (i : ℕ). l ++ i ∷ []) (sym unused) named), refl)
 
 -- what was counted before changes nothing of it
 pub adds_counted : (more : ℕ) (v w : View) (accesses : ℕ) → Adds more (record v { accesses = accesses }) w → Adds more v w
-adds_counted more v w accesses g = grind arith
-
--- nor does which names were unused
-pub adds_unused : (more : ℕ) (v w : View) (unused : List ℕ) → Adds more (record v { unused = unused }) w → Adds more v w
-adds_unused more v w unused g = grind arith
+adds_counted more v w accesses g = record {
+  before = g.before;
+  last = g.last;
+  blocks = g.blocks;
+  free = g.free;
+  name = g.name;
+  named = g.named;
+  new = λ e. let n = g.new e in record { below = n.below; absent = n.absent };
+  names = g.names;
+  view = g.view;
+  apart = g.apart;
+}
 
 -- when it is done
 pub extends_done : (more : ℕ) (v w : View) (done : Bool) → Extends more v w done → (done ≡ true) ↔ (1 ≤ more → CanExtend more v)

@@ -1,5 +1,5 @@
 -- The whole allocator after a block was freed.
-use Rattle.offset_allocator.proofs.Common.{◌≡◌, ℕ, ◌+◌, ◌<◌, ◌^◌, Bool, true, not, ◌&&◌, List, [], ◌∷◌, ◌++◌, Option, Some, None, if◌then◌else◌, refl, sym, ap, ap₂, subst, ◌∙◌, arith, nat_eq}
+use Rattle.offset_allocator.proofs.Common.{take, ◌≡◌, ℕ, ◌+◌, ◌<◌, ◌^◌, Bool, true, not, ◌&&◌, List, [], ◌∷◌, ◌++◌, Option, Some, None, if◌then◌else◌, refl, sym, ap, ap₂, subst, ◌∙◌, arith, nat_eq}
 use Rattle.offset_allocator.proofs.Common.{false≢true, down, Cells, Block, View, Place, one, count_named, count_in_bin, IsWellFormed, units, place_of, is_used_at, free_end, without_end, free_start}
 use Rattle.offset_allocator.proofs.Common.{without_start, remove_all, push, free_block, replace, AreCoalesced, remove, IsChain, HasPlace, blocks, bins_in, IsBinned, IsSound, view_of, AreInBins}
 use Rattle.offset_allocator.proofs.Common.{SameSpace, Frees, common_steps}
@@ -7,6 +7,7 @@ use Rattle.offset_allocator.proofs.{Filed.share, Sound.Fields, Sound.AreSound, S
 use Rattle.offset_allocator.proofs.{ViewTaken.tally_start, ViewApart.apart_parts, ViewApart.apart_coalesced, ViewApart.coalesced_parts, Released.idle_append, Released.idle_end, Released.idle_start}
 use Rattle.offset_allocator.proofs.{Joints.stepped, Joints.free_most, Joints.free_units-append, Joints.free_units-free, Joints.free_units-used, Tallies.tally_append, Tallies.units-append}
 use Rattle.offset_allocator.proofs.Tallies.{free_units, free_sum}
+use Rattle.offset_allocator.specs.Names.{names_of}
 
 share_used : (k y : ℕ) (b : Block) → b.used ≡ true → share k y b ≡ 0
 share_used k y b e = ap (λ (u : Bool). one (not u && (nat_eq k (down b.size) && nat_eq y b.name))) e
@@ -109,17 +110,18 @@ module _ {f : Fields} {x : ℕ} (r : Release f x) where
   pub freed : (d : Cells) (last' count' top' acc' : ℕ)
       → IsChain d.chain f.cells.chain.reserved last' count' (without_end at.place.before ++ free_block at.place.block.name whole ∷ without_start at.place.after) → IsBinned max d.bins top'
       → bins_in f.max d.bins ≡ push (down whole) x left
+      → take count' d.chain.spare ≡ take f.count f.cells.chain.spare ++ names_of (free_end at.place.before ++ free_start at.place.after)
       → IsSound f.max f.size f.limit d last' count' top' (f.free + at.place.block.size) × Frees x (shown f) (view_of f.max f.size f.limit d last' count' acc')
-  freed d last' count' top' acc' chain bins eo =
+  freed d last' count' top' acc' chain bins eo unused =
       let gone : List Block = free_end fs ++ (b ∷ free_start cs) in
       let sum : units gone ≡ (units (free_end fs) + b.size) + units (free_start cs) = units-append (free_end fs) (b ∷ free_start cs) ∙ omega arith in
       let removes : remove_all gone ls ≡ remove_all (free_start cs) (remove_all (free_end fs) ls) = grind (arith, common_steps, remove_all-append, remove_used, used) in
       let was = ap free_units at.list_is ∙ free_units-append fs (b ∷ cs) ∙ ap (λ k. free_units fs + k) (free_units-used b cs used) in
       let freed : Block = free_block x (units gone) in
       let total = free_units-append (without_end fs) (freed ∷ without_start cs) ∙ ap (λ k. free_units (without_end fs) + k) (free_units-free freed (without_start cs) refl) in
-      let left_view : View = replace v (without_end fs) gone (freed ∷ []) (without_start cs) in
+      let left_view : View = record (replace v (without_end fs) gone (freed ∷ []) (without_start cs)) { unused = take count' d.chain.spare } in
       let apart = apart_parts fs (b ∷ cs) (subst AreCoalesced at.list_is w.apart) in
-      let frees : (u : View) → SameSpace left_view u → Frees x v u = λ u same. record {
+      let frees : (u : View) → SameSpace left_view u → u.unused ≡ take count' d.chain.spare → Frees x v u = λ u same names. record {
         before = without_end fs;
         left = free_end fs;
         block = b;
@@ -129,12 +131,13 @@ module _ {f : Fields} {x : ℕ} (r : Release f x) where
         named = at.held.name;
         used = used;
         free = idle_append (free_end fs) (free_start cs) (idle_end fs) (idle_start cs);
+        names = names ∙ unused;
         view = same;
         apart = subst AreCoalesced (sym (ap (λ (u : View). u.blocks) same)) (apart_coalesced fs freed cs apart.0 apart.1.1);
       } in
       let named : IsChain d.chain f.cells.chain.reserved last' count' (without_end fs ++ free_block x whole ∷ without_start cs) =
       subst (λ y. IsChain d.chain f.cells.chain.reserved last' count' (without_end fs ++ free_block y whole ∷ without_start cs)) at.held.name chain in
-      let left = stepped f s left_view d (f.free + b.size) acc' (well_frees x v left_view w (frees left_view refl)) refl (rw sum named) refl bins (rw (removes, sum) eo)
+      let left = stepped f s left_view d (f.free + b.size) acc' (well_frees x v left_view w (frees left_view refl refl)) refl (rw sum named) refl bins (rw (removes, sum) eo)
       (omega (
         arith,
         s.total,
@@ -147,4 +150,4 @@ module _ {f : Fields} {x : ℕ} (r : Release f x) where
         tally_end (λ (d : Block). if d.used then 0 else d.size) fs,
         tally_start (λ (d : Block). if d.used then 0 else d.size) cs,
       )) in
-      (left.0, frees _ left.1)
+      (left.0, frees _ left.1 refl)

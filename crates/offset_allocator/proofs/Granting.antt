@@ -12,6 +12,8 @@ use Rattle.offset_allocator.proofs.{Tallies.times-append}
 use Rattle.offset_allocator.specs.Requests.{NewestHolds}
 use Rattle.offset_allocator.proofs.Tallies.{without, counted_none}
 use Rattle.offset_allocator.proofs.Tallies.{free_units, free_sum}
+use Rattle.offset_allocator.proofs.Common.{append-nil, take}
+use Rattle.offset_allocator.specs.Names.{AreTaken, names_of}
 
 -- a grant: sound fields, a class that has a block, and the first name there
 pub record Call (f : Fields) (class x : ℕ) : Type 0 where
@@ -90,9 +92,9 @@ module _ {f : Fields} {class x : ℕ} (call : Call f class x) where
       abbrev parts : List Block
       parts = free_part front padding ++ (used_block p.block.name n ∷ free_part rest left)
 
-      names : (y : ℕ) → (count_named y p.before + count_named y (free_part front padding)) + (count_named y
+      each_once : (y : ℕ) → (count_named y p.before + count_named y (free_part front padding)) + (count_named y
           (used_block p.block.name n ∷ []) + (count_named y (free_part rest left) + count_named y p.after)) ≤ 1
-      names y = omega (
+      each_once y = omega (
         arith,
         each-le d.chain _ last count _ there.chain y,
         times-append y (p.before ++ free_part front padding) (used_block p.block.name n ∷ (free_part rest left ++ p.after)),
@@ -105,17 +107,18 @@ module _ {f : Fields} {class x : ℕ} (call : Call f class x) where
           let some : 1 ≤ count_named y ((p.before ++ free_part front padding) ++ used_block p.block.name n ∷ (free_part rest left ++ p.after)) = grind (arith, common_steps, times-append) in
           record {
             below = omega (arith, there-below d.chain _ last count y _ there.chain some, there.chain.within, call.sound.memory);
-            absent = counted_none y v.blocks (ap (count_named y) got.list_is ∙ omega (arith, l, names y, times-append y p.before (p.block ∷ p.after)));
+            absent = counted_none y v.blocks (ap (count_named y) got.list_is ∙ omega (arith, l, each_once y, times-append y p.before (p.block ∷ p.after)));
           }
 
       abbrev left_view : View
-      left_view = replace v p.before (p.block ∷ []) parts p.after
+      left_view = record (replace v p.before (p.block ∷ []) parts p.after) { unused = take count d.chain.spare }
 
       abbrev grant : Handle
       grant = record { name = x; offset = units p.before + padding }
 
-      split : (needed : ℕ) → IsFoundFrom (up needed) ls (Some class) → (u : View) → SameSpace left_view u → Splits needed n padding_at v u grant
-      split needed smallest u same = record {
+      split : (needed : ℕ) → IsFoundFrom (up needed) ls (Some class) → (u : View) → SameSpace left_view u → u.unused ≡ take count d.chain.spare
+          → AreTaken (length v.blocks) v.unused (names_of (free_part front padding ++ free_part rest left)) (take count d.chain.spare) → Splits needed n padding_at v u grant
+      split needed smallest u same left_unused names_are = record {
         before = p.before;
         block = p.block;
         after = p.after;
@@ -133,24 +136,28 @@ module _ {f : Fields} {class x : ℕ} (call : Call f class x) where
         remainder_name = rest;
         padding_new = λ l. unused front (omega (arith, part_names front front padding l, one-same front));
         remainder_new = λ l. unused rest (omega (arith, part_names rest rest left l, one-same rest));
-        differ = λ l m q. absurd (omega (arith, names front, part_names front front padding l, one-same front, part_names front rest left m, one-eq front rest (sym q)));
+        differ = λ l m q. absurd (omega (arith, each_once front, part_names front front padding l, one-same front, part_names front rest left m, one-eq front rest (sym q)));
         grant = ap (λ i. record { name = i; offset = units p.before + padding }) (sym got.name);
         parts = parts;
         made = refl;
+        names = rw (append-nil v.unused, left_unused) names_are;
         view = same ∙ ap (λ o. record v { blocks = p.before ++ (parts ++ p.after); bins = push_all parts o; unused = u.unused; accesses = u.accesses }) (remove_free p.block ls got.free);
       }
 
       pub granted : {top accesses : ℕ} → IsBinned f.max d.bins top
           → bins_in f.max d.bins ≡ push_all (free_part front
           (padding_at (units got.place.before)) ++ (used_block x n ∷ free_part rest (got.place.block.size - (padding_at (units got.place.before) + n)))) (popped f class x)
+          → AreTaken (length (got.place.before ++ got.place.block ∷ got.place.after)) (take f.count f.cells.chain.spare)
+          (names_of (free_part front (padding_at (units got.place.before)) ++ free_part rest (got.place.block.size - (padding_at (units got.place.before) + n)))) (take count d.chain.spare)
           → AreSound (record f { cells = d; last = last; count = count; top = top; free = f.free - n; accesses = accesses })
           × ((needed : ℕ) → IsFoundFrom (up needed) (bins_in f.max f.cells.bins) (Some class)
           → Splits needed n padding_at (shown f) (shown (record f { cells = d; last = last; count = count; top = top; free = f.free - n; accesses = accesses }))
           (record { name = x; offset = units got.place.before + padding_at (units got.place.before) }))
       unfolding split
-      granted {top} {accesses} bins lists =
+      granted {top} {accesses} bins lists names_are =
           let flat : (p.before ++ free_part front padding) ++ (used_block p.block.name n ∷ (free_part rest left ++ p.after)) ≡ p.before ++ (parts ++ p.after) = simp append_assoc in
-          let well = well_split (split (value class) (found_itself class call.classed (bin_at ls class) (λ e. absurd (let q = sym call.newest ∙ e in cc)) ls refl) left_view refl) k w room
+          let names = rw (← got.list_is) at names_are in
+          let well = well_split (split (value class) (found_itself class call.classed (bin_at ls class) (λ e. absurd (let q = sym call.newest ∙ e in cc)) ls refl) left_view refl refl names) k w room
           (part_room front padding k some (two (units p.before))) in
           let units_are = ap free_units flat ∙ free_units-append p.before (parts ++ p.after) in
           let parts_are = ap free_units (append_assoc (free_part front padding) (used_block p.block.name n ∷ free_part rest left) p.after) in
@@ -165,7 +172,7 @@ module _ {f : Fields} {class x : ℕ} (call : Call f class x) where
             had_free,
             whole_fits,
           )) in
-          (done.0, λ needed smallest. split needed smallest _ done.1)
+          (done.0, λ needed smallest. split needed smallest _ done.1 refl names)
 
 -- the padding and the units are within the units needed
 pub within : (n align o : ℕ) → 1 ≤ align → padding_to align o + n ≤ units_needed n align

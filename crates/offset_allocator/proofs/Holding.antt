@@ -1,4 +1,5 @@
 -- Requests for any free block that is large enough.
+use Rattle.offset_allocator.specs.Relations.{SameState}
 use Rattle.offset_allocator.proofs.Common.{◌≡◌, ℕ, zero, suc, ◌+◌, ◌-◌, ◌%◌, ◌<◌, ◌≤◌, ◌^◌, ◌↔◌, Bool, true, false, List, [], ◌∷◌, ◌++◌, length, Option, Some, None, IsSome, IfSome, is_some}
 use Rattle.offset_allocator.proofs.Common.{nat_eq, nat_le, cond, refl, sym, ap, ap₂, subst, ◌∙◌, inl, inr, arith, append-nil, get_or_past, cases_lt, le-leb, leb-true, false≢true}
 use Rattle.offset_allocator.proofs.Common.{if◌then◌else◌, value, up, down, Block, View, Place, Handle, one, units, times, count_named, count_in_bin, bin_at, push, remove, place_of, padding_to}
@@ -10,7 +11,7 @@ use Rattle.offset_allocator.proofs.{Classes.down_law, Classes.down_small, Classe
 use Rattle.offset_allocator.proofs.{Tallies.one-eq, Tallies.times-join}
 use Rattle.offset_allocator.proofs.{ViewBins.times_put, ViewBins.times_remove, ViewBins.length_put, ViewBins.length_remove, ViewBins.names_same, Tallies.free_sum, Tallies.tally_append}
 use Rattle.offset_allocator.proofs.{Tallies.units-append, Tallies.listed_named}
-use Rattle.offset_allocator.proofs.{Granting.within, Split.well_split, Split.part_room, Ranges.split_grants, Served.split_as, Served.split_unused, Served.can_grant, Served.grants, Served.multiple, Padding.reaches}
+use Rattle.offset_allocator.proofs.{Granting.within, Split.well_split, Split.part_room, Ranges.split_grants, Served.split_as, Served.can_grant, Served.grants, Served.multiple, Padding.reaches}
 use Rattle.offset_allocator.proofs.{Largest.free_most}
 use Rattle.offset_allocator.proofs.{Classes.up_after, Classes.up_itself, Classes.up_reached, Classes.value_rises}
 use Rattle.offset_allocator.specs.Statistics.{greatest}
@@ -239,17 +240,14 @@ at_first v known c n x padding_at s =
     record { small = small; class = same; name = named }
 
 -- ---- what contracts say of a request, from the relation that says it all
--- what was counted before changes nothing, nor does which names were unused
-pub fills_counted : (n align : ℕ) (v w : View) (unused : List ℕ) (k : ℕ) (r : Option Handle) → FillsFirst n align (record v { unused = unused; accesses = k }) w r → FillsFirst n align v w r
-fills_counted n align v w unused k None a = a
-fills_counted n align v w unused k (Some g) a = (
-  a.0,
-  (a.1.0, a.1.1, a.1.2, split_unused (with_first a.1.0 a.1.1 v) unused (split_as a.1.3 v.accesses w.accesses (padding_to align) (λ o. refl))),
-)
+-- what was counted before changes nothing
+pub fills_counted : (n align : ℕ) (v w : View) (k : ℕ) (r : Option Handle) → FillsFirst n align (record v { accesses = k }) w r → FillsFirst n align v w r
+fills_counted n align v w k None a = a
+fills_counted n align v w k (Some g) a = (a.0, (a.1.0, a.1.1, a.1.2, split_as a.1.3 v.accesses w.accesses (padding_to align) (λ o. refl)))
 
-pub tight_of : (n align : ℕ) (v m w : View) (r : Option Handle) → (CanGrant (blocks_needed align) (units_needed n align) v → ⊥) → SameSpace v m → FillsFirst n align m w r → AlignsTight n align v w r
-tight_of n align v m w None refuses same a = fills_counted n align v w m.unused m.accesses None (subst (λ (u : View). FillsFirst n align u w None) same a)
-tight_of n align v m w (Some g) refuses same a = inr (refuses, fills_counted n align v w m.unused m.accesses (Some g) (subst (λ (u : View). FillsFirst n align u w (Some g)) same a))
+pub tight_of : (n align : ℕ) (v m w : View) (r : Option Handle) → (CanGrant (blocks_needed align) (units_needed n align) v → ⊥) → SameState v m → FillsFirst n align m w r → AlignsTight n align v w r
+tight_of n align v m w None refuses same a = fills_counted n align v w m.accesses None (subst (λ (u : View). FillsFirst n align u w None) same a)
+tight_of n align v m w (Some g) refuses same a = inr (refuses, fills_counted n align v w m.accesses (Some g) (subst (λ (u : View). FillsFirst n align u w (Some g)) same a))
 
 module _ (n align : ℕ) (v w : View) (known : IsWellFormed v) (some : 1 ≤ align) where
   filled_holds : (g : Handle) → FillsFirst n align v w (Some g) → CanHold n align v
@@ -265,7 +263,7 @@ module _ (n align : ℕ) (v w : View) (known : IsWellFormed v) (some : 1 ≤ ali
   plain (Some g) (inl a) c = a
   plain (Some g) (inr a) c = absurd (a.0 c)
 
-  pub same_space : (r : Option Handle) → AlignsTight n align v w r → r ≡ None → SameSpace v w
+  pub same_space : (r : Option Handle) → AlignsTight n align v w r → r ≡ None → SameState v w
   same_space None a e = a.1
   same_space (Some g) a e = absurd (cc)
 

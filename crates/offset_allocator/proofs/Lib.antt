@@ -14,6 +14,9 @@ pub mod Alike
 pub mod AlongLive
 pub mod InPieces
 pub mod Counting
+pub mod Decided
+pub mod DecidedChanges
+pub mod DecidedRooms
 pub mod Dropped
 pub mod Emptied
 pub mod Ends
@@ -36,6 +39,7 @@ pub mod Laying
 pub mod Listing
 pub mod Marks
 pub mod Masks
+pub mod Names
 pub mod Nearby
 pub mod Nearest
 pub mod Nodes

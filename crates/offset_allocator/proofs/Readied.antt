@@ -3,7 +3,7 @@ use Rattle.offset_allocator.proofs.Common.{◌≡◌, ◌<◌, ◌≤◌, ◌+�
 use Rattle.offset_allocator.proofs.Common.{take_more_set, Cells, ChainCells, Node, blank, node, with_node, AreShaped, Block, View, times, IsChain, blocks, common_steps}
 use Rattle.offset_allocator.proofs.Tallies.{one-eq, one-other, times-join}
 use Rattle.offset_allocator.proofs.{Rows.IsRow-kept, Sound.Fields, Sound.AreSound, Sound.shown, Sound.well_unused, Uses.binned_more, Views.blocks-chain, Views.space-chain}
-use Rattle.offset_allocator.specs.Readies.{Readies}
+use Rattle.offset_allocator.specs.Readies.{AreReady, Readies}
 
 -- a blank node at the end is what is read of a node that is not made
 blank_at : (ns : List Node) (x : ℕ) → get_or (ns ++ blank ∷ []) x blank ≡ get_or ns x blank
@@ -59,9 +59,22 @@ chain_more {c} {d} {m} {last} {count} {bs} h e room =
       fits = h.fits;
     }
 
--- there is memory for one more node where fewer names are unused than there are left
-pub has_memory : {c : ChainCells} {m last count names : ℕ} {bs : List Block} → IsChain c m last count bs → length bs + names ≤ m → count < names → length c.nodes < m
-has_memory h l few = omega (arith, h.full, l, few)
+-- there is memory for one more node where no name is unused
+pub has_memory : {c : ChainCells} {m last count : ℕ} {bs : List Block} → IsChain c m last count bs → length bs < m → count ≡ 0 → length c.nodes < m
+has_memory h l none = omega (arith, h.full, l, none)
+
+-- its name is the unused one then
+pub made_name : (c : ChainCells) (k : ℕ) → k ≡ 0 → AreReady c k (take 1 (with_node c 0).spare)
+made_name c zero e = ap (take 1) (spare-with_node c 0) ∙ go c.spare
+  where
+    go : (l : List ℕ) → take 1 (set (l ++ length c.nodes ∷ []) 0 (length c.nodes)) ≡ length c.nodes ∷ []
+    go [] = refl
+    go (x ∷ l) = refl
+made_name c (suc k) e = absurd (omega (arith, e))
+
+pub not_made : (c : ChainCells) (k : ℕ) → 0 < k → AreReady c k (take k c.spare)
+not_made c zero l = absurd (omega (arith, l))
+not_made c (suc k) l = refl
 
 -- one node was made
 pub readied : {max count : ℕ} {c d : Cells} → AreShaped max c → length c.chain.nodes < c.chain.reserved → d.chain ≡ with_node c.chain count → d.bins.newer ≡ c.bins.newer ++ max ∷ []
@@ -73,16 +86,14 @@ readied {max} {count} {c} {d} s room e newer older heads masks = record {
   bins = λ top b. binned_more max max b (omega (arith, s.newer, s.within, s.limit)) newer older heads masks;
 }
 
+pub readied_first : {max count : ℕ} {c d : Cells} → count ≡ 0 → AreShaped max c → length c.chain.nodes < c.chain.reserved → d.chain ≡ with_node c.chain 0 → d.bins.newer ≡ c.bins.newer ++ max ∷ []
+    → d.bins.older ≡ c.bins.older ++ max ∷ [] → d.bins.heads ≡ c.bins.heads → d.bins.masks ≡ c.bins.masks
+    → Readies max c d count 1
+readied_first {count = zero} none s room e newer older heads masks = readied s room e newer older heads masks
+readied_first {count = suc k} none s room e newer older heads masks = absurd (omega (arith, none))
+
 pub not_readied : {max count : ℕ} {c : Cells} → Readies max c c count count
 not_readied = record { chain = λ m last bs h. h; node = λ x. refl; bins = λ top b. (b, refl) }
-
-pub readied_twice : {max count count' count'' : ℕ} {c d e : Cells} → Readies max c d count count' → Readies max d e count' count'' → Readies max c e count count''
-readied_twice a b = record {
-  chain = λ m last bs h. b.chain m last bs (a.chain m last bs h);
-  node = λ x. b.node x ∙ a.node x;
-  bins = λ top h. let x = a.bins top h in
-      let y = b.bins top x.0 in (y.0, y.1 ∙ x.1);
-}
 
 -- the fields then
 abbrev pub with_made : Fields → Cells → ℕ → Fields

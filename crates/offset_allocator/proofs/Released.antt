@@ -24,7 +24,7 @@ pub idle_start : (bs : List Block) → AllByRecursion (λ b. b.used ≡ false) (
 idle_start [] = tt
 idle_start (b ∷ bs) = idle_if b b.used refl
 
-two_free : (b c : Block) (bs : List Block) → b.used ≡ false → c.used ≡ false → AreCoalesced (b ∷ c ∷ bs) → ⊥
+pub two_free : (b c : Block) (bs : List Block) → b.used ≡ false → c.used ≡ false → AreCoalesced (b ∷ c ∷ bs) → ⊥
 two_free b c bs e f a = true≢false (ap₂ (λ (x y : Bool). not x && not y) (sym e) (sym f) ∙ a.0)
 
 -- free blocks after a list that ends in none are its free end

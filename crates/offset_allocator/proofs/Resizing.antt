@@ -1,4 +1,6 @@
 -- A block that is resized with the free block after it: what that leaves of a view, and of the whole allocator.
+use Rattle.offset_allocator.proofs.Common.{take}
+use Rattle.offset_allocator.specs.{Names.AreTaken, Names.names_of, Relations.SameState}
 use Rattle.offset_allocator.proofs.Common.{IsSome, ◌≡◌, ◌≢◌, ◌↔◌, ℕ, zero, suc, ◌+◌, ◌-◌, ◌<◌, ◌≤◌, Bool, true, false, ◌⊎◌, List, [], ◌∷◌, ◌++◌, length, Option, Some, None, is_some, nat_eq, refl, sym}
 use Rattle.offset_allocator.proofs.Common.{ap, ap₂, subst, ◌∙◌, inl, inr, arith, length-append, eq-zero-or-pos, if◌then◌else◌, false≢true, true≢false, and_right, Cells, Node, Block, View, Place, one}
 use Rattle.offset_allocator.proofs.Common.{units, count_named, used_of, used_block, AreCoalesced, IsWellFormed, IsNew, free_start, without_start, free_part, remove_all, push_all, replace, HasRoomFor}
@@ -111,7 +113,7 @@ module _ {f : Fields} {x : ℕ} (call : Release f x) where
     new = used_block x n ∷ free_part name left
 
     abbrev left_view : View
-    left_view = replace v p.before (p.block ∷ next) new after
+    left_view = record (replace v p.before (p.block ∷ next) new after) { unused = take count d.chain.spare }
 
     same_block : record p.block { size = n } ≡ used_block x n
     same_block = ap₂ (λ (i : ℕ) (u : Bool). record { name = i; size = n; used = u }) (at call).held.name (used call)
@@ -141,23 +143,43 @@ module _ {f : Fields} {x : ℕ} (call : Release f x) where
         let tail = apart_without_start p.after parts.1.1 in
         apart_append p.before (new ++ after) parts.0 (refl, apart_free_part name left after tail.0 tail.1) (and_right (ends_free p.before) false refl)
 
-    resizes : (u : View) → SameSpace left_view u → Resizes x n v u
-    resizes u same = grind (arith, split, named, at, used, idle_start, apart)
+    resizes : (u : View) → SameSpace left_view u → u.unused ≡ take count d.chain.spare
+        → AreTaken (length v.blocks) (v.unused ++ names_of next) (names_of (free_part name left)) (take count d.chain.spare) → Resizes x n v u
+    resizes u same left_unused taken = record {
+      before = p.before;
+      block = p.block;
+      next = next;
+      after = after;
+      blocks = split;
+      named = (at call).held.name;
+      used = used call;
+      free = idle_start p.after;
+      left = left;
+      whole = omega (arith, enough);
+      name = name;
+      new = named;
+      names = rw left_unused taken;
+      view = same;
+      apart = subst AreCoalesced (sym (ap (λ (z : View). z.blocks) same)) apart;
+    }
 
     pub resized : {top : ℕ} (accesses free : ℕ) → IsBinned f.max d.bins top
         → bins_in f.max d.bins ≡ push_all (free_part name (both - n)) (remove_all (free_start (at call).place.after) (bins_in f.max f.cells.bins))
         → free + n ≡ f.free + (at call).place.block.size
+        → AreTaken (length ((at call).place.before ++ (at call).place.block ∷ (at call).place.after)) (take f.count f.cells.chain.spare ++ names_of (free_start (at call).place.after))
+        (names_of (free_part name (both - n))) (take count d.chain.spare)
         → AreSound (record f { cells = d; last = last; count = count; top = top; free = free; accesses = accesses })
         × Resizes x n (shown f) (shown (record f { cells = d; last = last; count = count; top = top; free = free; accesses = accesses }))
     unfolding resizes
-    resized {top} accesses free bins lists total =
-        let well = well_resized (resizes left_view refl) (w call) room in
+    resized {top} accesses free bins lists total names_are =
+        let taken = rw (← (at call).list_is) at names_are in
+        let well = well_resized (resizes left_view refl refl taken) (w call) room in
         let flat : p.before ++ record p.block { size = n } ∷ (free_part name left ++ after) ≡ p.before ++ (new ++ after) = ap (λ b. p.before ++ b ∷ (free_part name left ++ after)) same_block in
         let bins_are : bins_in f.max d.bins ≡ push_all new (remove_all (p.block ∷ next) ls) = lists ∙ ap (push_all (free_part name left)) (sym (remove_used p.block next ls (used call))) in
         let units_are = free_units-append p.before (new ++ after) in
         let done = stepped f call.sound left_view d free accesses well refl there.chain flat bins bins_are
         (ap free_units flat ∙ units_are ∙ omega (arith, free_units-used (used_block x n) (free_part name left ++ after) refl, free_part_units name left after, had_free, total, enough)) in
-        (done.0, resizes _ done.1)
+        (done.0, resizes _ done.1 refl taken)
 
   -- whether a free block is after it
   pub next_some : (o : Option ℕ) → IsFreeAfter f.cells.chain x o → (is_some o ≡ true → 1 ≤ length (free_start (at call).place.after))
@@ -195,15 +217,23 @@ module _ {f : Fields} {x : ℕ} (call : Release f x) where
 
 -- however many accesses were counted before
 resizes_counted : (x n : ℕ) (v w : View) (accesses : ℕ) → Resizes x n (record v { accesses = accesses }) w → Resizes x n v w
-resizes_counted x n v w accesses r = grind (arith, used)
-
--- whichever names were unused
-resizes_unused : (x n : ℕ) (v w : View) (unused : List ℕ) → Resizes x n (record v { unused = unused }) w → Resizes x n v w
-resizes_unused x n v w unused r = grind (arith, used)
-
-pub resized_unused : (x n : ℕ) (v w : View) (unused : List ℕ) (done : Bool) → ResizesTo x n (record v { unused = unused }) w done → ResizesTo x n v w done
-resized_unused x n v w unused true s = elim s [ inl z ↦ inl z | inr r ↦ inr (r.0, r.1, resizes_unused x n v w unused r.2) ]
-resized_unused x n v w unused false s = s
+resizes_counted x n v w accesses r = record {
+  before = r.before;
+  block = r.block;
+  next = r.next;
+  after = r.after;
+  blocks = r.blocks;
+  named = r.named;
+  used = r.used;
+  free = r.free;
+  left = r.left;
+  whole = r.whole;
+  name = r.name;
+  new = λ l. elim (r.new l) [ inl a ↦ inl a | inr n ↦ inr (record { below = n.below; absent = n.absent }) ];
+  names = r.names;
+  view = r.view;
+  apart = r.apart;
+}
 
 pub resized_counted : (x n : ℕ) (v w : View) (accesses : ℕ) (done : Bool) → ResizesTo x n (record v { accesses = accesses }) w done → ResizesTo x n v w done
 resized_counted x n v w accesses true s = elim s [ inl z ↦ inl z | inr r ↦ inr (r.0, r.1, resizes_counted x n v w accesses r.2) ]
@@ -228,7 +258,7 @@ grows_can x n v w true s = (λ h. elim s [ inl z ↦ (omega (arith, z.0), omega 
 grows_can x n v w false s = (λ h. absurd (false≢true h), λ h. absurd (s.0 h))
 
 -- a range of n units has them already
-pub has_units : (x n : ℕ) (v w : View) → n ≡ size_of x v → SameSpace v w → HasUnits x n v w
+pub has_units : (x n : ℕ) (v w : View) → n ≡ size_of x v → SameState v w → HasUnits x n v w
 has_units x n v w e same r is = grind arith
 
 -- what the calls leave of ranges

@@ -1,4 +1,5 @@
 -- The last block of a space has fewer units, or goes.
+use Rattle.offset_allocator.specs.Names.{AreTaken, names_of}
 use Rattle.offset_allocator.proofs.Common.{◌≡◌, ℕ, zero, suc, ◌+◌, ◌-◌, ◌<◌, ◌≤◌, Bool, true, false, not, ◌&&◌, List, [], ◌∷◌, ◌++◌, length, take, refl, sym, ap, subst, ◌∙◌, arith, inl, inr, append-nil}
 use Rattle.offset_allocator.proofs.Common.{append_assoc, length-append}
 use Rattle.offset_allocator.proofs.Common.{Block, View, Cells, units, one, down, free_block, used_of, AreCoalesced, IsWellFormed, IsChain, IsBinned, bins_in, blocks, push, push_all, remove_all, replace}
@@ -82,8 +83,9 @@ module _ {it : Fields} (r : EndsFree it) (less : ℕ) (enough : less ≤ (last_o
 
   pub narrowed : ((last_of r).last.size - less ≡ 0 → (last_of r).front ≡ []) → (d : Cells) (k : ℕ) {count top : ℕ}
       → IsChain d.chain it.cells.chain.reserved it.last count ((last_of r).front ++ record (last_of r).last { size = (last_of r).last.size - less } ∷ []) → IsBinned it.max d.bins top
-      → bins_in it.max d.bins ≡ push (down ((last_of r).last.size - less)) it.last (last_left r) → Cut d it.last count top k
-  narrowed rest d k {count} {top} chain bins lists =
+      → bins_in it.max d.bins ≡ push (down ((last_of r).last.size - less)) it.last (last_left r) → take count d.chain.spare ≡ take it.count it.cells.chain.spare
+      → Cut d it.last count top k
+  narrowed rest d k {count} {top} chain bins lists unused =
       let n : ℕ = b.size - less in
       let made = stepped it s narrow_view d (it.free - less) k well_narrow refl chain (ap (λ (c : Block). fs ++ c ∷ []) (as_free b n (last_free r))) bins
       (lists ∙ ap (λ (x : ℕ). push (down n) x (last_left r)) (sym (last_of r).name) ∙ ap (push (down n) b.name) (last_removed r))
@@ -94,6 +96,9 @@ module _ {it : Fields} (r : EndsFree it) (less : ℕ) (enough : less ≤ (last_o
         blocks = (last_of r).is;
         free = last_free r;
         enough = enough;
+        names =
+            subst (λ (new : List Block). AreTaken (length (shown it).blocks) ((shown it).unused ++ b.name ∷ []) (names_of new) (take count d.chain.spare)) (sym (end_some fs b.name n rest))
+            (take count d.chain.spare, inl (ap (λ (l : List ℕ). l ++ b.name ∷ []) (sym unused)), refl);
         view = made.1 ∙ ap (λ (new : List Block). record (replace (shown it) fs (b ∷ []) new []) { size = it.size - less; unused = take count d.chain.spare; accesses = k }) (sym (end_some fs b.name n rest));
       } in (
         made.0,
@@ -104,10 +109,10 @@ module _ {it : Fields} (r : EndsFree it) (less : ℕ) (enough : less ≤ (last_o
 
   pub narrowed_to : (n : ℕ) → n ≡ (last_of r).last.size - less → (n ≡ 0 → (last_of r).front ≡ []) → (d : Cells) (k : ℕ) {count top : ℕ}
       → IsChain d.chain it.cells.chain.reserved it.last count ((last_of r).front ++ record (last_of r).last { size = n } ∷ []) → IsBinned it.max d.bins top
-      → bins_in it.max d.bins ≡ push (down n) it.last (last_left r) → Cut d it.last count top k
-  narrowed_to n e rest d k {count} chain bins lists =
+      → bins_in it.max d.bins ≡ push (down n) it.last (last_left r) → take count d.chain.spare ≡ take it.count it.cells.chain.spare → Cut d it.last count top k
+  narrowed_to n e rest d k {count} chain bins lists unused =
       narrowed (λ q. rest (e ∙ q)) d k (subst (λ (m : ℕ). IsChain d.chain it.cells.chain.reserved it.last count (fs ++ record b { size = m } ∷ [])) e chain) bins (lists
-      ∙ ap (λ (m : ℕ). push (down m) it.last (last_left r)) e)
+      ∙ ap (λ (m : ℕ). push (down m) it.last (last_left r)) e) unused
 
   -- nothing of it does
   module _ (gs : List Block) (a : Block) (others : (last_of r).front ≡ gs ++ a ∷ []) (whole : less ≡ (last_of r).last.size) where
@@ -137,8 +142,8 @@ module _ {it : Fields} (r : EndsFree it) (less : ℕ) (enough : less ≤ (last_o
     removed = grind (arith, a_used)
 
     pub dropped : (d : Cells) (k x : ℕ) {count top : ℕ} → IsChain d.chain it.cells.chain.reserved x count (gs ++ a ∷ []) → IsBinned it.max d.bins top → bins_in it.max d.bins ≡ last_left r
-        → Cut d x count top k
-    dropped d k x {count} {top} chain bins lists =
+        → take count d.chain.spare ≡ take it.count it.cells.chain.spare ++ it.last ∷ [] → Cut d x count top k
+    dropped d k x {count} {top} chain bins lists unused =
         let made = stepped it s cut_view d (it.free - less) k well_cut refl chain refl bins (lists ∙ last_removed r ∙ sym removed)
         (sym (ap free_units others) ∙ omega (arith, its_free, whole)) in
         let is : Cuts less (shown it) (shown (record it { size = it.size - less; cells = d; last = x; count = count; top = top; free = it.free - less; accesses = k })) = record {
@@ -147,6 +152,9 @@ module _ {it : Fields} (r : EndsFree it) (less : ℕ) (enough : less ≤ (last_o
           blocks = (last_of r).is;
           free = last_free r;
           enough = enough;
+          names =
+              subst (λ (new : List Block). AreTaken (length (shown it).blocks) ((shown it).unused ++ b.name ∷ []) (names_of new) (take count d.chain.spare))
+              (sym (gone (b.size - less) (omega (arith, whole)))) (unused ∙ ap (λ (i : ℕ). (shown it).unused ++ i ∷ []) (sym (last_of r).name));
           view =
               made.1
               ∙ ap (λ (o : List (List ℕ)). record (shown it) { blocks = gs ++ a ∷ []; bins = o; size = it.size - less; unused = take count d.chain.spare; accesses = k }) removed
@@ -178,7 +186,7 @@ too_few r less l c = let e = last_same (last_of r).front c.0 (last_of r).last c.
 -- a call after some accesses
 pub retracts_counted : (less : ℕ) (v w : View) (k : ℕ) (done : Bool) → Retracts less (record v { accesses = k }) w done → Retracts less v w done
 retracts_counted less v w k true (inl a) = inl a
-retracts_counted less v w k true (inr a) = inr (a.0, record { before = a.1.before; last = a.1.last; blocks = a.1.blocks; free = a.1.free; enough = a.1.enough; view = a.1.view })
+retracts_counted less v w k true (inr a) = inr (a.0, record { before = a.1.before; last = a.1.last; blocks = a.1.blocks; free = a.1.free; enough = a.1.enough; names = a.1.names; view = a.1.view })
 retracts_counted less v w k false a = a
 
 -- nothing is taken off a used block

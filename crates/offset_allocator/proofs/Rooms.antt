@@ -1,4 +1,7 @@
 -- The whole allocator after a run has slid to its front.
+use Rattle.offset_allocator.proofs.Common.{drop, take}
+use Rattle.offset_allocator.proofs.{Common.first_free, Compacting.free_here}
+use Rattle.offset_allocator.specs.Names.{free_blocks, names_of}
 use Rattle.offset_allocator.proofs.Common.{◌%◌, ◌*◌, value, up, moves, Move, FoldsTo, CanGrant}
 use Rattle.std.specs.Prelude.{drop}
 use Rattle.offset_allocator.proofs.{Sliding.moves_idle, Compacting.live_whole, Classes.down_law, Classes.down_small, ViewBins.names_same, ViewBins.length_remove_all}
@@ -354,10 +357,11 @@ module _ (f : Fields) (s : AreSound f) (want : ℕ) (r : Run) (o : IsOpened want
 
     pub slides : {top accesses : ℕ} (k : ℕ) → k ≡ (node f.cells.chain r.first).size → IsBinned f.max d.bins top
         → bins_in f.max d.bins ≡ push (down n) x (remove_all o.rest (remove (down k) r.first ls))
+        → x ≡ r.first → take count d.chain.spare ≡ take f.count f.cells.chain.spare ++ names_of (free_blocks o.rest)
         → AreSound (record f { cells = d; last = last; count = count; top = top; accesses = accesses })
         × ((h : SlidesRun want v (shown (record f { cells = d; last = last; count = count; top = top; accesses = accesses }))) × (h.run ≡ run) × (h.front ≡ o.front))
         × SameSpace left_view (shown (record f { cells = d; last = last; count = count; top = top; accesses = accesses }))
-    slides {top} {accesses} k e binned lists =
+    slides {top} {accesses} k e binned lists same_name unused =
         let bins : bins_in f.max d.bins ≡ left_view.bins =
         lists ∙ ap (λ m. push (down n) x (remove_all o.rest m)) (removed k e) ∙ sym (pushed_used (live o.rest) (free_block x n ∷ []) (remove_all run ls) (live_are_used o.rest))
         ∙ ap (λ l. push_all l (remove_all run ls)) (sym new_is) in
@@ -375,6 +379,8 @@ module _ (f : Fields) (s : AreSound f) (want : ℕ) (r : Run) (o : IsOpened want
               later = subst (λ (c : RoomCost). CostMore want c (o.rest ++ o.back)) o.cost o.later;
               name = x;
               below = omega (arith, there.below, there.chain.within, s.memory);
+              first = ap (λ (u : Bool). if u then first_free o.rest else Some o.block.name) o.idle ∙ ap (λ (i : ℕ). Some i) (o.name ∙ sym same_name);
+              names = unused ∙ ap (λ (l : List Block). take f.count f.cells.chain.spare ++ names_of (drop 1 l)) (sym (free_here o.block o.rest o.idle));
               absent = omega (
                 arith,
                 named x,

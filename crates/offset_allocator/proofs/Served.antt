@@ -1,14 +1,15 @@
 -- What contracts say of a request, from the relation that says it all.
+use Rattle.offset_allocator.specs.Relations.{SameState}
 use Rattle.offset_allocator.proofs.Common.{◌≡◌, List, ◌↔◌, ℕ, ◌+◌, ◌%◌, ◌<◌, ◌≤◌, Bool, length, Option, Some, None, IsSome, IfSome, if◌then◌else◌, refl, sym, ap, ap₂, subst, ◌∙◌, arith, le-leb, cases_lt}
 use Rattle.offset_allocator.proofs.Common.{false≢true, lt-leb, down, View, Handle, units, count_named, place_of, IsWellFormed, free_sizes, reported_largest, padding_to, max_size, largest, IsGoodRefusal}
-use Rattle.offset_allocator.proofs.Common.{HasRoomFor, CanGrant, blocks_needed, units_needed, SameSpace, Splits, Allocates, Aligns, IsSplitNearBest, Grants}
+use Rattle.offset_allocator.proofs.Common.{HasRoomFor, CanGrant, blocks_needed, units_needed, Splits, Allocates, Aligns, IsSplitNearBest, Grants}
 use Rattle.offset_allocator.proofs.ViewFits.{HasName, there_middle, near_best_fit, good_refusal, fits_exactly, refusal_past, largest_small}
 use Rattle.offset_allocator.proofs.{Padding.reaches, Refusals.fit_small, Split.well_split, Split.part_room, Ranges.beside, Ranges.split_grants, ViewSteps.place_here}
 
 -- a request that may add this many blocks, takes a block of a class large enough for the units needed, and is granted n
 -- of them, after padding
 abbrev pub Serves : ℕ → ℕ → ℕ → (ℕ → ℕ) → View → View → Option Handle → Type 0
-Serves blocks needed n padding_at v w None = (CanGrant blocks needed v → ⊥) × SameSpace v w
+Serves blocks needed n padding_at v w None = (CanGrant blocks needed v → ⊥) × SameState v w
 Serves blocks needed n padding_at v w (Some g) = HasRoomFor blocks v × Splits needed n padding_at v w g
 
 pub plain_serves : (n : ℕ) (v w : View) (r : Option Handle) → Allocates n v w r → Serves 1 n n (λ offset. 0) v w r
@@ -32,7 +33,7 @@ module _ (blocks needed n : ℕ) (padding_at : ℕ → ℕ) (v w : View) (known 
   can_grant None a = (λ h. absurd (false≢true h), λ h. absurd (a.0 h))
   can_grant (Some g) a = (λ h. (a.0, (down a.1.block.size, a.1.fits, λ e. let f = sym a.1.newest ∙ e in absurd (cc))), λ h. refl)
 
-  pub same : (r : Option Handle) → Serves blocks needed n padding_at v w r → r ≡ None → SameSpace v w
+  pub same : (r : Option Handle) → Serves blocks needed n padding_at v w r → r ≡ None → SameState v w
   same None a e = a.1
   same (Some g) a e = absurd (cc)
 
@@ -76,19 +77,6 @@ module _ (blocks needed n : ℕ) (padding_at : ℕ → ℕ) (v w : View) (known 
 pub split_as : {needed n : ℕ} {padding_at : ℕ → ℕ} {v w : View} {g : Handle} → Splits needed n padding_at v w g → (a b : ℕ) (padded_at : ℕ → ℕ)
     → ((o : ℕ) → padding_at o ≡ padded_at o) → Splits needed n padded_at (record v { accesses = a }) (record w { accesses = b }) g
 split_as {w = w} s a b padded_at alike = grind arith
-
--- nor do the names that were unused
-pub split_unused : {needed n : ℕ} {padding_at : ℕ → ℕ} (v : View) {w : View} {g : Handle} (unused : List ℕ) → Splits needed n padding_at (record v { unused = unused }) w g → Splits needed n padding_at v w g
-split_unused v unused s = grind arith
-
-pub split_seen : {needed n : ℕ} {padding_at : ℕ → ℕ} {u w : View} {g : Handle} (v : View) (unused : List ℕ) → u ≡ record v { unused = unused } → Splits needed n padding_at u w g
-    → Splits needed n padding_at v w g
-split_seen {needed} {n} {padding_at} {u} {w} {g} v unused e s = split_unused v unused (subst (λ (x : View). Splits needed n padding_at x w g) e s)
-
--- nor do those that are
-pub split_left : {needed n : ℕ} {padding_at : ℕ → ℕ} {v w : View} {g : Handle} → Splits needed n padding_at v w g → (unused : List ℕ) (k : ℕ)
-    → Splits needed n padding_at v (record w { unused = unused; accesses = k }) g
-split_left s unused k = grind arith
 
 pub aligns_counted : (n align : ℕ) (v w : View) (accesses : ℕ) (r : Option Handle) → Aligns n align (record v { accesses = accesses }) w r → Aligns n align v w r
 aligns_counted n align v w accesses None a = a

@@ -8,7 +8,10 @@ use Rattle.offset_allocator.proofs.{Freeing.remove_all-append, Freeing.remove_us
 use Rattle.offset_allocator.proofs.Gaps.{follows, next_after, seen}
 use Rattle.offset_allocator.proofs.Sliding.{folds_append, live_used, live_idle, moves_used, moves_idle}
 use Rattle.offset_allocator.proofs.Compacting.{live_append, live_units}
+use Rattle.std.proofs.lemmas.List.Elements.{filter-append}
+use Rattle.offset_allocator.proofs.{Common.not, Common.if◌then◌else◌, Names.names-append}
 use Rattle.offset_allocator.specs.Gaps.{HasGap, IsGap}
+use Rattle.offset_allocator.specs.Names.{free_blocks, names_of}
 use Rattle.offset_allocator.specs.declared.gap.Gap.{Gap}
 
 -- how far a gap has come over a run of blocks: those in `done` were met, those in `rest` not yet, and `at` is the link to
@@ -247,3 +250,21 @@ module _ {F A B : Type 0} {R : F → Move → F → Type 0} {p : Place} {run bac
 
 pub same_move : (to' to n x k : ℕ) (b : Block) → to' ≡ to → x ≡ b.name → k ≡ b.size → move_of (to' + n) to' (record { name = x; size = k; used = b.used }) ≡ move_of (to + n) to b
 same_move to' to n x k b e f h = rw (e, f, h) refl
+
+-- the unused names once some blocks of the run were met: those of the free ones are put on top
+abbrev pub HasPut : List ℕ → List Block → List ℕ → Type 0
+HasPut before done now = now ≡ before ++ names_of (free_blocks done)
+
+pub put_none : (u : List ℕ) → HasPut u [] u
+put_none u = sym (append-nil u)
+
+pub put_past : (u : List ℕ) {now now' : List ℕ} (done : List Block) (b : Block) → b.used ≡ true → now' ≡ now → HasPut u done now → HasPut u (done ++ b ∷ []) now'
+put_past u done b used same h =
+    let kept : free_blocks (done ++ b ∷ []) ≡ free_blocks done = filter-append _ done (b ∷ []) ∙ ap (λ (t : Bool). free_blocks done ++ (if not t then b ∷ [] else [])) used ∙ append-nil _ in
+    same ∙ h ∙ ap (λ (l : List Block). u ++ names_of l) (sym kept)
+
+pub put_into : (u : List ℕ) {now now' : List ℕ} {x : ℕ} (done : List Block) (b : Block) → b.used ≡ false → b.name ≡ x → now' ≡ now ++ x ∷ [] → HasPut u done now → HasPut u (done ++ b ∷ []) now'
+put_into u done b free is more h =
+    let one_more : free_blocks (done ++ b ∷ []) ≡ free_blocks done ++ b ∷ [] = filter-append _ done (b ∷ []) ∙ ap (λ (t : Bool). free_blocks done ++ (if not t then b ∷ [] else [])) free in
+    more ∙ ap₂ (λ (l : List ℕ) (i : ℕ). l ++ i ∷ []) h (sym is) ∙ append_assoc u (names_of (free_blocks done)) (b.name ∷ [])
+    ∙ ap (λ (l : List ℕ). u ++ l) (sym (ap names_of one_more ∙ names-append (free_blocks done) (b ∷ [])))

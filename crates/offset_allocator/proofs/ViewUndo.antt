@@ -1,9 +1,10 @@
 -- A request that is granted, and released at once, leaves no trace.
+use Rattle.offset_allocator.specs.Relations.{SameState}
 use Rattle.offset_allocator.proofs.Common.{◌≡◌, ℕ, zero, suc, ◌<◌, ◌≤◌, Bool, true, false, not, ◌&&◌, List, [], ◌∷◌, ◌++◌, length, Some, slice_set, refl, sym, ap, ap₂, subst, ◌∙◌, arith, append_assoc}
 use Rattle.offset_allocator.proofs.Common.{set-get_or, AllByRecursion, down, Block, View, Place, Handle, used_block, free_block, units, times, count_named, starts_free, AreCoalesced, bin_at, push, remove}
 use Rattle.offset_allocator.proofs.Common.{push_all, remove_all, replace, free_start, without_start, free_end, without_end, free_part, IsWellFormed, place_of, SameSpace, Splits, Frees, Allocates}
 use Rattle.offset_allocator.proofs.ViewApart.{ends_free, apart_parts, left_false, right_false, no_end, no_start}
-use Rattle.offset_allocator.proofs.{Served.split_left, Served.well_served, Walks.without_first, Ranges.beside, Released.idle_parts, Released.end_is, Released.start_is, Classes.down_small}
+use Rattle.offset_allocator.proofs.{Served.split_as, Served.well_served, Walks.without_first, Ranges.beside, Released.idle_parts, Released.end_is, Released.start_is, Classes.down_small}
 use Rattle.offset_allocator.proofs.{ViewBins.names_same, ViewBins.length_remove, ViewBins.times_remove, ViewSteps.place_here, Tallies.listed_named, Tallies.part_sums, Tallies.new_absent}
 use Rattle.offset_allocator.proofs.{Tallies.one-same}
 
@@ -30,7 +31,7 @@ bins_back x zero bins h e = refl
 bins_back x (suc n) bins h e = remove_put (down (suc n)) x bins h (down_small (suc n)) (e (omega arith))
 
 -- a name of a well-formed space is at one place
-one_place : (v : View) → IsWellFormed v → (x : ℕ) (fs gs cs ds : List Block) (b d : Block) → v.blocks ≡ fs ++ (b ∷ cs) → v.blocks ≡ gs ++ (d ∷ ds) → b.name ≡ x → d.name ≡ x
+pub one_place : (v : View) → IsWellFormed v → (x : ℕ) (fs gs cs ds : List Block) (b d : Block) → v.blocks ≡ fs ++ (b ∷ cs) → v.blocks ≡ gs ++ (d ∷ ds) → b.name ≡ x → d.name ≡ x
     → (fs ≡ gs) × (b ≡ d) × (cs ≡ ds)
 one_place v w x fs gs cs ds b d e f p q =
     let at : (hs es : List Block) (c : Block) → v.blocks ≡ hs ++ (c ∷ es) → c.name ≡ x → place_of x v.blocks ≡ Some (record { before = hs; block = c; after = es }) = λ hs es c g r.
@@ -125,6 +126,6 @@ pub is_undone : (n : ℕ) (v : View) → IsWellFormed v → (w u : View) (g : Ha
 is_undone n v known w u g a f = undone n v w u g known (well_served 1 n n (λ offset. 0) v w known (omega arith) (λ o l. absurd (omega arith)) g a) a.1 f
 
 -- a grant leaves no trace where it is released, though other requests were refused between
-pub taken_back : (n : ℕ) (v w u z : View) (g : Handle) → IsWellFormed v → Allocates n v w (Some g) → SameSpace w u → Frees g.name u z → SameSpace v z
+pub taken_back : (n : ℕ) (v w u z : View) (g : Handle) → IsWellFormed v → Allocates n v w (Some g) → SameState w u → Frees g.name u z → SameSpace v z
 taken_back n v w u z g known a same f =
-    is_undone n v known (record w { unused = u.unused; accesses = u.accesses }) z g (a.0, split_left a.1 u.unused u.accesses) (subst (λ x. Frees g.name x z) same f)
+    is_undone n v known (record w { accesses = u.accesses }) z g (a.0, split_as a.1 v.accesses u.accesses (λ offset. 0) (λ o. refl)) (subst (λ x. Frees g.name x z) same f)

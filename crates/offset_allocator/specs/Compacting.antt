@@ -1,10 +1,11 @@
 -- What `compact` leaves: the live ranges at the front of the space, and all free units in one block after them.
-use Rattle.std.specs.Prelude.{◌≡◌, ℕ, zero, suc, ◌+◌, ◌<◌, ◌≤◌, List, [], ◌∷◌, ◌++◌, Option, Some, None, option_map, sum, replicate, nat_eq, nat_lt, if◌then◌else◌}
+use Rattle.std.specs.Prelude.{◌≡◌, ℕ, zero, suc, ◌+◌, ◌<◌, ◌≤◌, List, [], ◌∷◌, ◌++◌, Option, Some, None, option_map, sum, replicate, nat_eq, nat_lt, if◌then◌else◌, drop, IfSome}
 use Rattle.std.specs.List.{AllByRecursion, filter}
 use Rattle.offset_allocator.specs.declared.compact.Move.{Move as Moved}
 use Rattle.offset_allocator.specs.Chain.{last_or}
 use Rattle.offset_allocator.specs.View.{View, Block, count_named, free_sizes, free_block, push_all, times}
 use Rattle.offset_allocator.specs.Ranges.{Range, range_of}
+use Rattle.offset_allocator.specs.Names.{Renames, free_blocks}
 use Rattle.offset_allocator.specs.Relations.{SameSpace}
 
 -- a range that goes to another offset
@@ -79,9 +80,12 @@ abbrev pub IsCalledWith : {A N M F : Type 0} → (N → ℕ) → (F → Moved A 
 IsCalledWith {A} {N} {M} number step f x g = (m : Moved A N M)
     × (x ≡ record { name = number m.name; from = m.from; to = m.to; size = m.size }) × step f m g
 
--- the used blocks are packed at the front, and the free units are one block at the end, alone in its bin
+-- the used blocks are packed at the front, and the free units are one block at the end, alone in its bin, under the name
+-- of the first free block
 pub record Compacts (v w : View) : Type 0 where
   pub name : ℕ
   pub below : name < v.max_allocs
+  pub first : IfSome (first_free v.blocks) (λ x. name ≡ x)
+  pub names : Renames v (drop 1 (free_blocks v.blocks)) [] w
   pub absent : count_named name (live v.blocks) ≡ 0
   pub view : SameSpace (record v { blocks = live v.blocks ++ gathered name (free_sizes v.blocks); bins = push_all (gathered name (free_sizes v.blocks)) (replicate 256 []) }) w

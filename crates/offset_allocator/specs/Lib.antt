@@ -14,6 +14,7 @@ pub mod Gaps
 pub mod Layouts
 pub mod ListFaults
 pub mod Listing
+pub mod Names
 pub mod Ranges
 pub mod Readies
 pub mod Relations

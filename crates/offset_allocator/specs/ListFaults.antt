@@ -20,15 +20,15 @@ pub record AreLast (nodes size : ℕ) (ws : List ℕ) (bs : List Block) : Type 0
   pub fit : units bs ≤ size
 
 -- a name that no further block can have: that of no node, or of one of these blocks
-abbrev pub IsTaken : ℕ → List Block → ℕ → Type 0
-IsTaken nodes bs x = (nodes ≤ x) ⊎ (1 ≤ count_named x bs)
+abbrev pub CannotName : ℕ → List Block → ℕ → Type 0
+CannotName nodes bs x = (nodes ≤ x) ⊎ (1 ≤ count_named x bs)
 
 -- the first word of a block that is wrong, where those before it are of the last blocks: the name is taken; or with this
 -- size they are larger than the space; or it is the last word, and they are smaller
 abbrev pub IsBlockFault : ℕ → ℕ → List ℕ → ℕ → Type 0
 IsBlockFault nodes size words i = (bs : List Block) × AreLast nodes size words bs × (
-    ((i ≡ 2 * length bs) × (i < length words) × IsTaken nodes bs (word i words))
-    ⊎ ((i ≡ 2 * length bs + 1) × (i < length words) × (IsTaken nodes bs (word (2 * length bs) words) → ⊥) × (size < word i words + units bs))
+    ((i ≡ 2 * length bs) × (i < length words) × CannotName nodes bs (word i words))
+    ⊎ ((i ≡ 2 * length bs + 1) × (i < length words) × (CannotName nodes bs (word (2 * length bs) words) → ⊥) × (size < word i words + units bs))
     ⊎ ((i + 1 ≡ length words) × (2 * length bs ≡ length words) × (units bs < size)))
 
 -- these are all blocks of the space, with a node each

@@ -1,10 +1,11 @@
 -- What `allocate`, `allocate_aligned`, `free`, `extend` and `reset` leave and return, which their clauses `step` state;
 -- other calls have files of their own.
-use Rattle.std.specs.Prelude.{◌≡◌, ◌≢◌, ℕ, ◌+◌, ◌<◌, ◌≤◌, ◌⊎◌, List, [], ◌∷◌, ◌++◌, replicate, Bool, true, false, Option, Some, None}
+use Rattle.std.specs.Prelude.{◌≡◌, ◌≢◌, ℕ, zero, suc, ◌+◌, ◌<◌, ◌≤◌, ◌⊎◌, List, [], ◌∷◌, ◌++◌, length, replicate, Bool, true, false, Option, Some, None}
 use Rattle.std.specs.List.{AllByRecursion}
 use Rattle.offset_allocator.specs.Classes.{up, down}
+use Rattle.offset_allocator.specs.Names.{Renames}
 use Rattle.offset_allocator.specs.Requests.{HasRoomFor, CanGrant, blocks_needed, units_needed}
-use Rattle.offset_allocator.specs.View.{View, Block, Handle, units, bin_at, AreCoalesced, IsNew, max_size, padding_to, replace, remove, push_all, free_block, free_part}
+use Rattle.offset_allocator.specs.View.{View, Block, Handle, last_used, units, used_of, bin_at, AreCoalesced, IsNew, max_size, padding_to, replace, remove, push_all, free_block, free_part}
 
 -- the same blocks and bins, however many accesses are counted, and whichever names are unused
 abbrev pub SameSpace : View → View → Type 0
@@ -54,6 +55,7 @@ pub record Splits (needed n : ℕ) (padding_at : ℕ → ℕ) (v w : View) (g : 
   pub parts : List Block
   pub made : parts ≡ free_part padding_name padding
       ++ record block { size = n; used = true } ∷ free_part remainder_name remainder
+  pub names : Renames v [] (free_part padding_name padding ++ free_part remainder_name remainder) w
   pub view : SameSpace (record v {
     blocks = before ++ (parts ++ after);
     bins = push_all parts (remove (down block.size) block.name v.bins);
@@ -61,13 +63,13 @@ pub record Splits (needed n : ℕ) (padding_at : ℕ → ℕ) (v w : View) (g : 
 
 -- a request for n units: it is refused exactly when it cannot be granted, and then nothing changes
 abbrev pub Allocates : ℕ → View → View → Option Handle → Type 0
-Allocates n v w None = (CanGrant 1 n v → ⊥) × SameSpace v w
+Allocates n v w None = (CanGrant 1 n v → ⊥) × SameState v w
 Allocates n v w (Some g) = HasRoomFor 1 v × Splits n n (λ offset. 0) v w g
 
 -- a request for n units from a multiple of align on, likewise: it may add more blocks, and takes a block of a class
 -- large enough for the units needed
 abbrev pub Aligns : ℕ → ℕ → View → View → Option Handle → Type 0
-Aligns n align v w None = (CanGrant (blocks_needed align) (units_needed n align) v → ⊥) × SameSpace v w
+Aligns n align v w None = (CanGrant (blocks_needed align) (units_needed n align) v → ⊥) × SameState v w
 Aligns n align v w (Some g) = HasRoomFor (blocks_needed align) v
     × Splits (units_needed n align) n (padding_to align) v w g
 
@@ -83,6 +85,7 @@ pub record Frees (x : ℕ) (v w : View) : Type 0 where
   pub named : block.name ≡ x
   pub used : block.used ≡ true
   pub free : AllByRecursion (λ b. b.used ≡ false) (left ++ right)
+  pub names : Renames v (left ++ right) [] w
   pub view : SameSpace (replace v before (left ++ (block ∷ right)) (free_block x (units (left ++ (block ∷ right))) ∷ []) after) w
   -- afterwards no two free blocks are neighbours: so left and right are all the free neighbours there were
   pub apart : AreCoalesced w.blocks
@@ -97,6 +100,7 @@ pub record Adds (more : ℕ) (v w : View) : Type 0 where
   pub name : ℕ
   pub named : AllByRecursion (λ b. b.name ≡ name) last
   pub new : last ≡ [] → IsNew name v
+  pub names : Renames v last (free_block name (units last + more) ∷ []) w
   pub view : SameSpace (record (replace v before last (free_block name (units last + more) ∷ []) []) { size = v.size + more }) w
   -- afterwards no two free blocks are neighbours: so last is the last block if that is free
   pub apart : AreCoalesced w.blocks
@@ -108,11 +112,25 @@ CanExtend more v = (v.size + more ≤ max_size) × (HasRoomFor 1 v ⊎ ((before 
 
 -- a call for more units at the end
 abbrev pub Extends : ℕ → View → View → Bool → Type 0
-Extends more v w true = ((more ≡ 0) × SameSpace v w) ⊎ ((1 ≤ more) × CanExtend more v × Adds more v w)
-Extends more v w false = (1 ≤ more) × (CanExtend more v → ⊥) × SameSpace v w
+Extends more v w true = ((more ≡ 0) × SameState v w) ⊎ ((1 ≤ more) × CanExtend more v × Adds more v w)
+Extends more v w false = (1 ≤ more) × (CanExtend more v → ⊥) × SameState v w
 
--- one free block of the whole size, under some name
+-- one free block of the whole size, alone in its bin, under some name
+pub record IsEmpty (w : View) : Type 0 where
+  pub name : ℕ
+  pub below : name < w.max_allocs
+  pub view : w ≡ record w { blocks = free_block name w.size ∷ []; bins = push_all (free_block name w.size ∷ []) (replicate 256 []) }
+
+-- the k live ranges are freed, each time the last one
+abbrev pub FreesLast : ℕ → View → View → Type 0
+FreesLast zero v w = SameState v w
+FreesLast (suc k) v w = (x : ℕ) × (u : View) × (last_used v.blocks ≡ Some x) × Frees x v u × FreesLast k u w
+
+-- one free block of the whole size, under some name: of at most five blocks each live one is freed, and of more all nodes
+-- are forgotten but one
 pub record Resets (v w : View) : Type 0 where
   pub name : ℕ
   pub below : name < v.max_allocs
+  pub few : length v.blocks ≤ 5 → FreesLast (used_of v.blocks) v w
+  pub many : 5 < length v.blocks → (name ≡ 0) × (w.unused ≡ [])
   pub view : SameSpace (record v { blocks = free_block name v.size ∷ []; bins = push_all (free_block name v.size ∷ []) (replicate 256 []) }) w

@@ -1,15 +1,31 @@
 -- What `relocate` grants.
-use Rattle.std.specs.Prelude.{ℕ, ◌<◌, ◌≤◌, Option, Some, None, option_map, unwrap_or}
+use Rattle.std.specs.Prelude.{◌≡◌, ℕ, ◌<◌, ◌≤◌, List, [], ◌∷◌, ◌++◌, Option, Some, None, option_map, unwrap_or}
+use Rattle.offset_allocator.specs.Classes.{up, down}
 use Rattle.offset_allocator.specs.Ranges.{Range, range_of, size_of}
-use Rattle.offset_allocator.specs.Relations.{Allocates, SameSpace}
-use Rattle.offset_allocator.specs.View.{View, Handle}
+use Rattle.offset_allocator.specs.Relations.{Allocates, SameState}
+use Rattle.offset_allocator.specs.Requests.{HasRoomFor}
+use Rattle.offset_allocator.specs.View.{View, Block, Handle, bin_at, units}
 
 -- where the range of a name begins: 0 where it is not live
 abbrev pub offset_of : ℕ → View → ℕ
 offset_of x v = unwrap_or (option_map (λ (r : Range). r.offset) (range_of x v)) 0
 
--- a request for the units of x, where its grant begins before the range of x; nothing changes where it begins after it,
--- or there is none
+-- a request for n units would be granted from this offset on: there is room for one more block, and the newest block of
+-- the smallest class that is large enough and has a block begins there
+pub record WouldBegin (n : ℕ) (v : View) (offset : ℕ) : Type 0 where
+  pub before : List Block
+  pub block : Block
+  pub after : List Block
+  pub blocks : v.blocks ≡ before ++ (block ∷ after)
+  pub room : HasRoomFor 1 v
+  pub fits : up n ≤ down block.size
+  pub smallest : (c : ℕ) → up n ≤ c → c < down block.size → bin_at v.bins c ≡ []
+  pub older : List ℕ
+  pub newest : bin_at v.bins (down block.size) ≡ block.name ∷ older
+  pub begins : offset ≡ units before
+
+-- a request for the units of x, where its grant begins before the range of x; nothing changes where it would begin after
+-- it, or be refused
 abbrev pub Relocates : ℕ → View → View → Option Handle → Type 0
-Relocates x v w None = ((u : View) (g : Handle) → Allocates (size_of x v) v u (Some g) → offset_of x v ≤ g.offset) × SameSpace v w
+Relocates x v w None = ((o : ℕ) → WouldBegin (size_of x v) v o → offset_of x v ≤ o) × SameState v w
 Relocates x v w (Some g) = Allocates (size_of x v) v w (Some g) × (g.offset < offset_of x v)

@@ -4,7 +4,8 @@ use Rattle.std.specs.List.{AllByRecursion}
 use Rattle.offset_allocator.specs.View.{View, Block, Place, units, count_named, place_of, free_start, free_part, used_block, replace, AreCoalesced, IsNew}
 use Rattle.offset_allocator.specs.Requests.{HasRoomFor}
 use Rattle.offset_allocator.specs.Ranges.{Range, range_of, size_of}
-use Rattle.offset_allocator.specs.Relations.{SameSpace}
+use Rattle.offset_allocator.specs.Names.{Renames}
+use Rattle.offset_allocator.specs.Relations.{SameSpace, SameState}
 
 -- the free block directly after the block of a name, if there is one
 abbrev pub free_after : ℕ → View → List Block
@@ -44,6 +45,7 @@ pub record Resizes (x n : ℕ) (v w : View) : Type 0 where
   -- the free block has a name that no block has, or that of the free block that was there
   pub name : ℕ
   pub new : 1 ≤ left → (1 ≤ count_named name next) ⊎ IsNew name v
+  pub names : Renames v next (free_part name left) w
   pub view : SameSpace (replace v before (block ∷ next) (used_block x n ∷ free_part name left) after) w
   -- afterwards no two free blocks are neighbours: so where units are left, next is the free block after it if there was
   -- one
@@ -52,16 +54,16 @@ pub record Resizes (x n : ℕ) (v w : View) : Type 0 where
 -- the one change of both calls: it is refused exactly where the range cannot have n units, and then nothing changes, nor
 -- does it where the range has just as many
 abbrev pub ResizesTo : ℕ → ℕ → View → View → Bool → Type 0
-ResizesTo x n v w true = ((n ≡ size_of x v) × SameSpace v w) ⊎ ((n ≢ size_of x v) × CanResize x n v × Resizes x n v w)
-ResizesTo x n v w false = (CanResize x n v → ⊥) × SameSpace v w
+ResizesTo x n v w true = ((n ≡ size_of x v) × SameState v w) ⊎ ((n ≢ size_of x v) × CanResize x n v × Resizes x n v w)
+ResizesTo x n v w false = (CanResize x n v → ⊥) × SameState v w
 
 -- a call for fewer units: it is refused exactly where the range cannot shrink to them, and then nothing changes, nor
 -- does it where the range has just as many
 abbrev pub Shrinks : ℕ → ℕ → View → View → Bool → Type 0
-Shrinks x n v w true = ((n ≡ size_of x v) × SameSpace v w) ⊎ ((n < size_of x v) × CanShrink x n v × Resizes x n v w)
-Shrinks x n v w false = (CanShrink x n v → ⊥) × SameSpace v w
+Shrinks x n v w true = ((n ≡ size_of x v) × SameState v w) ⊎ ((n < size_of x v) × CanShrink x n v × Resizes x n v w)
+Shrinks x n v w false = (CanShrink x n v → ⊥) × SameState v w
 
 -- a call for more units
 abbrev pub Grows : ℕ → ℕ → View → View → Bool → Type 0
-Grows x n v w true = ((n ≡ size_of x v) × SameSpace v w) ⊎ ((size_of x v < n) × CanGrow x n v × Resizes x n v w)
-Grows x n v w false = (CanGrow x n v → ⊥) × SameSpace v w
+Grows x n v w true = ((n ≡ size_of x v) × SameState v w) ⊎ ((size_of x v < n) × CanGrow x n v × Resizes x n v w)
+Grows x n v w false = (CanGrow x n v → ⊥) × SameState v w

@@ -7,8 +7,9 @@ use Rattle.offset_allocator.specs.declared.room.Window.{Window}
 use Rattle.offset_allocator.specs.Chain.{first_or, last_or}
 use Rattle.offset_allocator.specs.View.{View, Block, Place, count_named, ends_used, free_block, free_sizes, replace}
 use Rattle.offset_allocator.specs.View.{starts_free, units, used_of, used_units}
-use Rattle.offset_allocator.specs.Compacting.{Move, live, moves}
-use Rattle.offset_allocator.specs.Relations.{SameSpace}
+use Rattle.offset_allocator.specs.Compacting.{Move, first_free, live, moves}
+use Rattle.offset_allocator.specs.Names.{Renames, free_blocks}
+use Rattle.offset_allocator.specs.Relations.{SameSpace, SameState}
 use Rattle.std.specs.List.{FoldsTo}
 
 -- neighbouring blocks, of which the first and the last are free
@@ -49,7 +50,8 @@ IsLeastCost want bs (Some c) =
     × ((run : List Block) → IsRun run bs → want ≤ sum (free_sizes run) → IsAtMost c (cost_of run))
 
 -- a run with at least `want` free units slides to its front, and each such run that begins later costs more. Its live
--- blocks keep their order, and its free units are one block after them, the newest of its bin; all else stays
+-- blocks keep their order, and its free units are one block after them, the newest of its bin, under the name of the first
+-- free one; all else stays
 pub record SlidesRun (want : ℕ) (v w : View) : Type 0 where
   pub front : List Block
   pub run : List Block
@@ -61,15 +63,17 @@ pub record SlidesRun (want : ℕ) (v w : View) : Type 0 where
   pub later : CostMore want (cost_of run) (drop 1 (run ++ back))
   pub name : ℕ
   pub below : name < v.max_allocs
+  pub first : first_free run ≡ Some name
+  pub names : Renames v (drop 1 (free_blocks run)) [] w
   pub absent : count_named name (front ++ (live run ++ back)) ≡ 0
   pub view : SameSpace (replace v front run (live run ++ free_block name (sum (free_sizes run)) ∷ []) back) w
 
 -- room is made at a cost: where that has ranges, a run of this cost slides, and a closure is called with the moves of
 -- its live blocks; else nothing changes
 abbrev pub MakesRoom : {F : Type 0} → (F → Move → F → Type 0) → ℕ → View → F → Option RoomCost → View → F → Type 0
-MakesRoom R want v f None w g = SameSpace v w × (g ≡ f)
+MakesRoom R want v f None w g = SameState v w × (g ≡ f)
 MakesRoom R want v f (Some c) w g =
-    (c.ranges ≡ 0 → SameSpace v w × (g ≡ f))
+    (c.ranges ≡ 0 → SameState v w × (g ≡ f))
     × (1 ≤ c.ranges → (s : SlidesRun want v w) × (c ≡ cost_of s.run)
     × FoldsTo R f (moves (units s.front) (units s.front) s.run) g)
 

@@ -1,5 +1,5 @@
 -- What the fields of a store hold: `cells` is what its tables hold.
-use Rattle.std.specs.Prelude.{◌≡◌, ℕ, List}
+use Rattle.std.specs.Prelude.{◌≡◌, ℕ, List, take}
 use Rattle.offset_allocator.specs.declared.store.Store.{Store}
 use Rattle.offset_allocator.specs.Cells.{Cells}
 use Rattle.offset_allocator.specs.View.{Place}
@@ -25,3 +25,7 @@ SameChain cells s t = ((cells t.tables).chain ≡ (cells s.tables).chain) × (t.
 -- a change of the chain leaves the bins as they were
 abbrev pub SameBins : {A B C : Type 0} → (A → Cells) → Store A B C → Store A B C → Type 0
 SameBins cells s t = ((cells t.tables).bins ≡ (cells s.tables).bins) × (t.top_mask ≡ s.top_mask)
+
+-- its unused names, the next one last
+abbrev pub unused_of : {A B C : Type 0} → (A → Cells) → Store A B C → List ℕ
+unused_of cells s = take s.spare_count (cells s.tables).chain.spare

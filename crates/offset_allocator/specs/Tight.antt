@@ -5,7 +5,7 @@ use Rattle.offset_allocator.specs.declared.reports.Refusal.{Refusal}
 use Rattle.offset_allocator.specs.declared.reports.Refusal.TheVariants.{Nodes, TooLarge, Space, Fragmented}
 use Rattle.offset_allocator.specs.Cells.{ChainCells, node}
 use Rattle.offset_allocator.specs.Classes.{value, down}
-use Rattle.offset_allocator.specs.Relations.{SameSpace, Splits, Aligns}
+use Rattle.offset_allocator.specs.Relations.{SameState, Splits, Aligns}
 use Rattle.offset_allocator.specs.Requests.{HasRoomFor, CanGrant, Holds, blocks_needed, units_needed}
 use Rattle.offset_allocator.specs.View.{View, Handle, Place, units, place_of, padding_to, push, remove, free_sizes}
 
@@ -33,7 +33,7 @@ with_first c x v = record v { bins = push c x (remove c x v.bins) }
 -- a request for the block that is first to hold it: this is split as if it were the newest of its bin, that of class c.
 -- It is refused where no free block holds it
 abbrev pub FillsFirst : ℕ → ℕ → View → View → Option Handle → Type 0
-FillsFirst n align v w None = (CanHold n align v → ⊥) × SameSpace v w
+FillsFirst n align v w None = (CanHold n align v → ⊥) × SameState v w
 FillsFirst n align v w (Some g) = HasRoomFor (blocks_needed align) v × ((c x : ℕ) × (first_holding n align v ≡ Some x) × Splits (value c) n (padding_to align) (with_first c x v) w g)
 
 -- a request as `Aligns` has it, and where that refuses it, one for the block that is first to hold it

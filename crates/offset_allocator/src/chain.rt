@@ -10,7 +10,7 @@ ghost use Rattle.offset_allocator.specs.Accesses.{Costs};
 ghost use Rattle.offset_allocator.specs.Cells.{IsBare, node, put, link_of};
 ghost use Rattle.offset_allocator.specs.Bins.{IsUnlisted, bins_in};
 ghost use Rattle.offset_allocator.specs.Readies.{SameBinLists, Readies};
-ghost use Rattle.offset_allocator.specs.Store.{IsPlaceIn, SameBins};
+ghost use Rattle.offset_allocator.specs.Store.{IsPlaceIn, SameBins, unused_of};
 ghost use Rattle.offset_allocator.specs.Chain.{IsChain, IsSpace, HasPlace, blocks, coalesced_before};
 ghost use Rattle.offset_allocator.specs.Chain.{coalesced_after};
 
@@ -151,6 +151,7 @@ pub(crate) fn split<T: Tables>(
     ensures nodes { length (T.cells store.new.tables).chain.nodes
         ≡ length (T.cells store.old.tables).chain.nodes }
     ensures spares { store.new.spare_count + 1 ≡ store.old.spare_count }
+    ensures unused { unused_of T.cells store.old ≡ unused_of T.cells store.new ++ result ∷ [] }
     ensures fresh { (limit : ℕ) (p : Place) → IsPlaceIn T.cells store.old limit name p
         → count_named result (p.before ++ p.block ∷ p.after) ≡ 0 }
     ensures below { result < length (T.cells store.old.tables).chain.nodes }
@@ -184,6 +185,7 @@ pub(crate) fn coalesce_after<T: Tables>(store: &mut Store<T>, name: u32, followi
     ensures nodes { length (T.cells store.new.tables).chain.nodes
         ≡ length (T.cells store.old.tables).chain.nodes }
     ensures spares { store.new.spare_count ≡ store.old.spare_count + 1 }
+    ensures unused { unused_of T.cells store.new ≡ unused_of T.cells store.old ++ following ∷ [] }
     ensures accesses { Costs 4 5 store.old.accesses store.new.accesses }
 {
     let tables = &mut store.tables;
@@ -211,6 +213,7 @@ pub(crate) fn coalesce_before<T: Tables>(store: &mut Store<T>, previous: u32, na
     ensures nodes { length (T.cells store.new.tables).chain.nodes
         ≡ length (T.cells store.old.tables).chain.nodes }
     ensures spares { store.new.spare_count ≡ store.old.spare_count + 1 }
+    ensures unused { unused_of T.cells store.new ≡ unused_of T.cells store.old ++ previous ∷ [] }
     ensures accesses { Costs 6 7 store.old.accesses store.new.accesses }
 {
     let tables = &mut store.tables;
@@ -235,6 +238,7 @@ pub(crate) fn set_used<T: Tables>(tables: &mut T, name: u32, used: bool, count: 
     ensures bins { (top : ℕ) → IsUnlisted name (bins_in T.Index.MAX (T.cells tables.old).bins)
         → SameBinLists T.Index.MAX (T.cells tables.old) (T.cells tables.new) top }
     ensures nodes { length (T.cells tables.new).chain.nodes ≡ length (T.cells tables.old).chain.nodes }
+    ensures spare { (T.cells tables.new).chain.spare ≡ (T.cells tables.old).chain.spare }
     ensures accesses { count.new ≡ count.old + 1 }
 {
     tables.set_used(name, used, count);
@@ -257,6 +261,7 @@ pub(crate) fn split_before<T: Tables>(store: &mut Store<T>, name: u32, cut: u32)
     ensures nodes { length (T.cells store.new.tables).chain.nodes
         ≡ length (T.cells store.old.tables).chain.nodes }
     ensures spares { store.new.spare_count + 1 ≡ store.old.spare_count }
+    ensures unused { unused_of T.cells store.old ≡ unused_of T.cells store.new ++ result ∷ [] }
     ensures fresh { (limit : ℕ) (p : Place) → IsPlaceIn T.cells store.old limit name p
         → count_named result (p.before ++ p.block ∷ p.after) ≡ 0 }
     ensures below { result < length (T.cells store.old.tables).chain.nodes }
@@ -294,6 +299,7 @@ pub(crate) fn grow<T: Tables>(tables: &mut T, last: u32, more: u32, count: &mut 
         }) }
     ensures bins { (T.cells tables.new).bins ≡ (T.cells tables.old).bins }
     ensures nodes { length (T.cells tables.new).chain.nodes ≡ length (T.cells tables.old).chain.nodes }
+    ensures spare { (T.cells tables.new).chain.spare ≡ (T.cells tables.old).chain.spare }
     ensures accesses { count.new ≡ count.old + 2 }
 {
     let size = tables.size(last, count);
@@ -316,6 +322,7 @@ pub(crate) fn trim<T: Tables>(tables: &mut T, last: u32, size: u32, count: &mut 
         }) }
     ensures bins { (T.cells tables.new).bins ≡ (T.cells tables.old).bins }
     ensures nodes { length (T.cells tables.new).chain.nodes ≡ length (T.cells tables.old).chain.nodes }
+    ensures spare { (T.cells tables.new).chain.spare ≡ (T.cells tables.old).chain.spare }
     ensures accesses { count.new ≡ count.old + 1 }
 {
     tables.set_size(last, size, count);
@@ -332,6 +339,7 @@ pub(crate) fn drop_end<T: Tables>(store: &mut Store<T>, previous: u32, size: u32
         (record { before = before; block = a; after = [] }) }
     ensures bins { SameBins T.cells store.old store.new }
     ensures last { store.new.last ≡ previous }
+    ensures unused { unused_of T.cells store.new ≡ unused_of T.cells store.old ++ store.old.last ∷ [] }
     ensures accesses { Costs 6 7 store.old.accesses store.new.accesses }
 {
     let end = store.last;

@@ -6,6 +6,7 @@ ghost use Rattle.std.specs.Prelude.{sum, unwrap_or};
 ghost use Rattle.std.specs.List.{FoldsTo};
 ghost use Rattle.offset_allocator.specs.Accesses.{Costs};
 ghost use Rattle.offset_allocator.specs.Cells.{node};
+ghost use Rattle.offset_allocator.specs.Names.{free_blocks, names_of};
 ghost use Rattle.offset_allocator.specs.View.{Place, free_block, free_sizes, units};
 ghost use Rattle.offset_allocator.specs.Bins.{IsBinned, bins_in};
 ghost use Rattle.offset_allocator.specs.Chain.{IsSpace, HasPlace, blocks};
@@ -13,7 +14,7 @@ ghost use Rattle.offset_allocator.specs.Compacting.{live, moves, move_of, Compac
 ghost use Rattle.offset_allocator.specs.Compacting.{IsStart, first_among, first_free, newest, until};
 ghost use Rattle.offset_allocator.specs.Compacting.{until_free};
 ghost use Rattle.offset_allocator.specs.View.{AreInBins};
-ghost use Rattle.offset_allocator.specs.Store.{IsPlaceIn, SameBins};
+ghost use Rattle.offset_allocator.specs.Store.{IsPlaceIn, SameBins, unused_of};
 
 use crate::accesses::Accesses;
 use crate::gap::Gap;
@@ -172,6 +173,11 @@ fn slide<T: Tables, F: FnMut(Move<T::Index>)>(
         × FoldsTo (IsCalledWith T.Index.NonMax.number (λ f range g. F.step f range tt g)) moved.old
         (moves (units p.before + p.block.size) (units p.before) p.after) moved.new
         × (store.new.accesses ≤ store.old.accesses + 7 * length p.after + 9) }
+    ensures name { result.name ≡ name }
+    ensures unused { (limit : ℕ) (p : Place) → IsPlaceIn T.cells store.old limit name p
+        → p.block.used ≡ false
+        → unused_of T.cells store.new
+        ≡ unused_of T.cells store.old ++ names_of (free_blocks p.after) }
     ensures bins { SameBins T.cells store.old store.new }
     ensures accesses_min { (limit : ℕ) (p : Place) → IsPlaceIn T.cells store.old limit name p
         → p.block.used ≡ false
@@ -201,8 +207,8 @@ impl<T: Tables> AllocatorOf<T> {
     /// that a later one reads.
     ///
     /// Every handle stays live, with its name and its size; only the public `offset` of a moved one is that
-    /// of before, and `allocation_offset` returns the new one. The name of the free block at the end is left
-    /// open. `moved` has to be callable with any move: its contract may require nothing of it. It makes at
+    /// of before, and `allocation_offset` returns the new one. The free block at the end has the name of the
+    /// first one that there was. `moved` has to be callable with any move: its contract may require nothing of it. It makes at
     /// most 10 accesses to the tables for each block, and 384, and takes no memory.
     ///
     /// ```

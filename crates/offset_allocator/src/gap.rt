@@ -6,7 +6,7 @@ ghost use Rattle.offset_allocator.specs.Accesses.{Costs};
 ghost use Rattle.offset_allocator.specs.Cells.{link_of, node};
 ghost use Rattle.offset_allocator.specs.Chain.{HasPlace, first_or};
 ghost use Rattle.offset_allocator.specs.Gaps.{IsGap};
-ghost use Rattle.offset_allocator.specs.Store.{IsPlaceIn, SameBins};
+ghost use Rattle.offset_allocator.specs.Store.{IsPlaceIn, SameBins, unused_of};
 ghost use Rattle.offset_allocator.specs.View.{Block, Place};
 
 use crate::accesses::Accesses;
@@ -39,6 +39,7 @@ pub(crate) fn open<T: Tables>(
         → HasPlace (T.cells tables.now).chain limit last spare_count name p
         → p.block.used ≡ false
         → IsGap T.Index.MAX T.Index.number result (T.cells tables.now).chain limit last spare_count p }
+    ensures name { result.name ≡ name }
     ensures accesses { count.new ≡ count.old + 2 }
 {
     Gap {
@@ -61,6 +62,8 @@ pub(crate) fn pass<T: Tables>(store: &mut Store<T>, gap: &mut Gap<T::Index>, nex
         store.old.spare_count p → p.after ≡ b ∷ bs → b.name ≡ next
         → IsGap T.Index.MAX T.Index.number gap.new (T.cells store.new.tables).chain limit store.new.last
         store.new.spare_count (record { before = p.before ++ b ∷ []; block = p.block; after = bs }) }
+    ensures name { gap.new.name ≡ gap.old.name }
+    ensures unused { unused_of T.cells store.new ≡ unused_of T.cells store.old }
     ensures bins { SameBins T.cells store.old store.new }
     ensures accesses { Costs 3 4 store.old.accesses store.new.accesses }
 {
@@ -88,6 +91,8 @@ pub(crate) fn gather<T: Tables>(store: &mut Store<T>, gap: &mut Gap<T::Index>, n
           block = record p.block { size = p.block.size + b.size };
           after = bs;
         }) }
+    ensures name { gap.new.name ≡ gap.old.name }
+    ensures unused { unused_of T.cells store.new ≡ unused_of T.cells store.old ++ next ∷ [] }
     ensures bins { SameBins T.cells store.old store.new }
     ensures accesses { store.new.accesses ≡ store.old.accesses + 1 }
 {
@@ -111,6 +116,7 @@ pub(crate) fn close<T: Tables>(store: &mut Store<T>, gap: Gap<T::Index>, after: 
         store.old.spare_count p
         → link_of T.Index.MAX (T.Index.number after) ≡ first_or None p.after
         → IsPlaceIn T.cells store.new limit gap.name p }
+    ensures unused { unused_of T.cells store.new ≡ unused_of T.cells store.old }
     ensures bins { SameBins T.cells store.old store.new }
     ensures accesses { Costs 4 6 store.old.accesses store.new.accesses }
 {

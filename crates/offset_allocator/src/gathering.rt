@@ -5,12 +5,13 @@ ghost use Rattle.std.specs.List.{FoldsTo};
 ghost use Rattle.offset_allocator.specs.Accesses.{Costs};
 ghost use Rattle.offset_allocator.specs.Requests.{CanGrant};
 ghost use Rattle.offset_allocator.specs.Cells.{node};
+ghost use Rattle.offset_allocator.specs.Names.{free_blocks, names_of};
 ghost use Rattle.offset_allocator.specs.View.{Block, Place, free_block, free_sizes, remove_all, units};
 ghost use Rattle.offset_allocator.specs.Compacting.{IsCalledWith, KeepsSizes, live, moves};
 ghost use Rattle.offset_allocator.specs.Classes.{up, value};
 ghost use Rattle.offset_allocator.specs.Room.{IsLeastCost, IsStretch, MakesRoom, ranges_of};
 ghost use Rattle.offset_allocator.specs.View.{AreInBins};
-ghost use Rattle.offset_allocator.specs.Store.{AreBinned, IsPlaceIn, bins_of};
+ghost use Rattle.offset_allocator.specs.Store.{AreBinned, IsPlaceIn, bins_of, unused_of};
 
 use crate::compact::{Move, report};
 use crate::gap::Gap;
@@ -49,6 +50,11 @@ fn slide_to<T: Tables, F: FnMut(Move<T::Index>)>(
         × (bins_of T.cells T.Index.MAX store.new ≡ remove_all run (bins_of T.cells T.Index.MAX store.old))
         × AreInBins ((p.before ++ live run) ++ back) (bins_of T.cells T.Index.MAX store.new)
         × (store.new.accesses ≤ store.old.accesses + 15 * length run + 9) }
+    ensures name { result.name ≡ name }
+    ensures unused { (limit : ℕ) (p : Place) (run back : List Block) → IsPlaceIn T.cells store.old limit name p
+        → IsStretch p run back end → AreInBins (p.before ++ p.after) (bins_of T.cells T.Index.MAX store.old)
+        → unused_of T.cells store.new
+        ≡ unused_of T.cells store.old ++ names_of (free_blocks run) }
     ensures binned { AreBinned T.cells T.Index.MAX store.new }
     ensures callable { F.IsAlwaysCallable moved.new }
     ensures accesses_min { store.old.accesses ≤ store.new.accesses }
@@ -87,7 +93,7 @@ impl<T: Tables> AllocatorOf<T> {
     /// returned, since all free units together are not enough, and where the cost has no ranges, since one
     /// free block is large enough. Else the request is granted afterwards, also at the node limit. For an
     /// aligned request ask with `size + align - 1`. Of several runs that cost as much it is the last in
-    /// space; the name of the free block is left open. It makes at most 6 accesses to the tables for each
+    /// space, and its free block keeps the name of its first one. It makes at most 6 accesses to the tables for each
     /// block, 40 for each range that moves, and 20, and takes no memory.
     ///
     /// ```

@@ -2,7 +2,8 @@
 //! their functions do nothing. With them are the calls that leave an allocator as it is, with a count of
 //! their accesses.
 ghost use Rattle.std.specs.Prelude.{◌≡◌, ◌≢◌, ◌<◌, ◌≤◌, ◌+◌, ◌-◌, ◌*◌, ◌%◌, ◌↔◌, ℕ, List, ◌++◌, false};
-ghost use Rattle.std.specs.Prelude.{IsTrue, None, Option, Some, length, min, reverse, sum};
+ghost use Rattle.std.specs.Prelude.{◌∷◌, []};
+ghost use Rattle.std.specs.Prelude.{Bool, IsTrue, None, Option, Some, length, min, reverse, sum};
 ghost use Rattle.std.specs.Int.{IsPowerOfTwo};
 ghost use Rattle.std.specs.List.{AllByRecursion};
 ghost use Rattle.offset_allocator.specs.Accesses.{Costs};
@@ -13,20 +14,24 @@ ghost use Rattle.offset_allocator.specs.View.{View, AreNames, Block, Handle, IsW
 ghost use Rattle.offset_allocator.specs.View.{reported_free};
 ghost use Rattle.offset_allocator.specs.View.{reported_largest, padding_to, used_of, used_units};
 ghost use Rattle.offset_allocator.specs.Ranges.{Range, range_of, AreDisjoint};
-ghost use Rattle.offset_allocator.specs.Relations.{SameSpace, SameState, Allocates, Frees, IsFresh};
+ghost use Rattle.offset_allocator.specs.Relations.{SameSpace, SameState, Aligns, Allocates, Extends, Frees, IsFresh};
+ghost use Rattle.offset_allocator.specs.Relations.{Resets};
+ghost use Rattle.offset_allocator.specs.Relocating.{Relocates};
 ghost use Rattle.offset_allocator.specs.Requests.{IsAlignment};
 ghost use Rattle.offset_allocator.specs.Reports.{IsReport};
+ghost use Rattle.offset_allocator.specs.Resizing.{Grows, Shrinks};
+ghost use Rattle.offset_allocator.specs.Retracting.{Retracts};
 ghost use Rattle.offset_allocator.specs.Requests.{CanGrant, HasRoomFor, IsWhy};
 ghost use Rattle.offset_allocator.specs.State.{IsStateOf};
 ghost use Rattle.offset_allocator.specs.Statistics.{AreStatistics};
-ghost use Rattle.offset_allocator.specs.Tight.{CanHold, IsWhyTight};
+ghost use Rattle.offset_allocator.specs.Tight.{AlignsTight, CanHold, IsWhyTight};
 ghost use Rattle.offset_allocator.specs.declared.reports.StorageReport.{StorageReport};
 ghost use Rattle.offset_allocator.specs.declared.statistics.Statistics.{Statistics};
 ghost use Rattle.offset_allocator.specs.declared.reports.Refusal.{Refusal};
 ghost use Rattle.offset_allocator.specs.declared.reports.Refusal.TheVariants.{TooLarge, Space, Fragmented};
 ghost use Rattle.offset_allocator.specs.declared.room.RoomCost.{RoomCost};
-ghost use Rattle.offset_allocator.specs.Room.{IsLeastCost, ranges_of};
-ghost use Rattle.offset_allocator.specs.Compacting.{moves, AreSafe, Compacts};
+ghost use Rattle.offset_allocator.specs.Room.{IsLeastCost, MakesRoom, ranges_of};
+ghost use Rattle.offset_allocator.specs.Compacting.{moves, AreSafe, Compacts, Move};
 ghost use Rattle.offset_allocator.specs.Copies.{pieces, copied, all_copied, ArePieces};
 
 use crate::AllocatorOf;
@@ -309,3 +314,40 @@ pub fn a_state_is_read_back<T: Tables>(allocator: &AllocatorOf<T>)
     // a look at a field recalls the invariant
     let _ = &allocator.size;
 }
+
+/// A view and a call decide the result, and the view that is left: in the same state, however many accesses
+/// were counted, a call returns the same, handles included, and leaves the same state. So a copy, and a space
+/// that was read back from its bytes, continue as the first one does.
+pub fn a_state_decides_each_step()
+    ensures allocate { (n : ℕ) (v v' w w' : View) → IsWellFormed v → SameState v v'
+        → (r r' : Option Handle) → Allocates n v w r → Allocates n v' w' r' → (r ≡ r') × SameState w w' }
+    ensures allocate_aligned { (n align : ℕ) (v v' w w' : View) → IsWellFormed v → SameState v v'
+        → (r r' : Option Handle) → Aligns n align v w r → Aligns n align v' w' r' → (r ≡ r') × SameState w w' }
+    ensures allocate_tight { (n align : ℕ) (v v' w w' : View) → IsWellFormed v → SameState v v'
+        → (r r' : Option Handle) → AlignsTight n align v w r → AlignsTight n align v' w' r'
+        → (r ≡ r') × SameState w w' }
+    ensures relocate { (x : ℕ) (v v' w w' : View) → IsWellFormed v → SameState v v'
+        → (r r' : Option Handle) → Relocates x v w r → Relocates x v' w' r' → (r ≡ r') × SameState w w' }
+    ensures free { (x : ℕ) (v v' w w' : View) → IsWellFormed v → SameState v v' → Frees x v w → Frees x v' w'
+        → SameState w w' }
+    ensures reset { (v v' w w' : View) → IsWellFormed v → SameState v v' → Resets v w → Resets v' w'
+        → SameState w w' }
+    ensures extend { (more : ℕ) (v v' w w' : View) → IsWellFormed v → SameState v v'
+        → (r r' : Bool) → Extends more v w r → Extends more v' w' r' → (r ≡ r') × SameState w w' }
+    ensures retract { (less : ℕ) (v v' w w' : View) → SameState v v'
+        → (r r' : Bool) → Retracts less v w r → Retracts less v' w' r' → (r ≡ r') × SameState w w' }
+    ensures shrink { (x n : ℕ) (v v' w w' : View) → IsWellFormed v → SameState v v'
+        → (r r' : Bool) → Shrinks x n v w r → Shrinks x n v' w' r' → (r ≡ r') × SameState w w' }
+    ensures grow { (x n : ℕ) (v v' w w' : View) → IsWellFormed v → SameState v v'
+        → (r r' : Bool) → Grows x n v w r → Grows x n v' w' r' → (r ≡ r') × SameState w w' }
+    ensures compact { (v v' w w' : View) → SameState v v' → Compacts v w → Compacts v' w' → SameState w w' }
+    ensures room_cost { (want : ℕ) (bs : List Block) (r r' : Option RoomCost) → IsLeastCost want bs r
+        → IsLeastCost want bs r' → r ≡ r' }
+    // the moves too, each noted after those before it
+    ensures make_room { (want : ℕ) (v v' w w' : View) → IsWellFormed v → SameState v v'
+        → (r r' : Option RoomCost) (ms ms' : List Move)
+        → IsLeastCost want v.blocks r → IsLeastCost want v'.blocks r'
+        → MakesRoom (λ ns m os. os ≡ ns ++ m ∷ []) want v [] r w ms
+        → MakesRoom (λ ns m os. os ≡ ns ++ m ∷ []) want v' [] r' w' ms'
+        → (r ≡ r') × (ms ≡ ms') × SameState w w' }
+{}

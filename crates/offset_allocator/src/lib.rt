@@ -5,8 +5,9 @@
 //! the tables, whose index is the block's *name*; the range of a used block, and its name, are *live*. A
 //! *size class* is a range of sizes, and its *bin* the list of the free blocks of that class, the newest
 //! first, which is the one that last became free or changed its size. A range takes over the name of the
-//! free block that it is cut from, and what remains of that block gets an unused name, which one is left
-//! open. Where the range is freed, the coalesced block keeps the range's name.
+//! free block that it is cut from, and what remains of that block gets the name that became unused last, or
+//! that of a new node where none is unused. Where the range is freed, the coalesced block keeps the range's
+//! name, and those of its neighbours become unused.
 //!
 //! ```
 //! let mut vertices = Allocator::<u32>::new(alloc, 1 << 20)?;
@@ -27,7 +28,7 @@ ghost use Rattle.offset_allocator.specs.Requests.{IsGoodRefusal};
 ghost use Rattle.offset_allocator.specs.View.{count_named, is_full, free_sizes, reported_largest, used_of};
 ghost use Rattle.offset_allocator.specs.Relations.{Allocates, Aligns, Frees, Extends, CanExtend};
 ghost use Rattle.offset_allocator.specs.Requests.{IsAlignment};
-ghost use Rattle.offset_allocator.specs.Relations.{SameSpace, IsFresh, Resets};
+ghost use Rattle.offset_allocator.specs.Relations.{SameState, IsFresh, Resets};
 ghost use Rattle.offset_allocator.specs.Requests.{IsSplitNearBest};
 ghost use Rattle.offset_allocator.specs.Reports.{IsReport, IsFullReport};
 ghost use Rattle.offset_allocator.specs.Requests.{CanGrant, IsWhy, HasRoomFor};
@@ -98,9 +99,8 @@ pub type Blocks<'a, NI = u32> = BlocksOf<'a, ByNode<NI>>;
 
 /// The allocator of one space.
 ///
-/// `T` is the layout of its tables; it changes no answer but names that are left open, and `node_count`. The
-/// index type of the layout is the type of the links between nodes: it limits how many nodes there can be,
-/// and changes no other answer either.
+/// `T` is the layout of its tables, which changes no answer. The index type of the layout is the type of the
+/// links between nodes: it limits how many nodes there can be, and changes no answer either.
 #[derive(Drop)]
 pub struct AllocatorOf<T: Tables> {
     // the units of the space
@@ -252,9 +252,8 @@ impl<T: Tables> AllocatorOf<T> {
     }
 
     /// The number of nodes that were made: one for each block, and those whose names are unused. Each block's
-    /// name is below it. When a node is made is left open, as some names, and no other answer depends on it:
-    /// `grow_in_place` and a call that may add a block can make 1 or 2, also where they leave the blocks as
-    /// they were, and only `reset` forgets some.
+    /// name is below it. A call that adds a block makes a node for it where no name is unused, and only
+    /// `reset`, of more than 5 blocks, forgets some.
     ///
     /// ```
     /// space.allocate(300);
@@ -310,7 +309,7 @@ impl<T: Tables> AllocatorOf<T> {
         // overlaps no live range. All live ranges stay as they are.
         ensures grants { IfSome result (Grants size self.old self.new) }
         // A refusal leaves the space as it was.
-        ensures same { result ≡ None → SameSpace self.old self.new }
+        ensures same { result ≡ None → SameState self.old self.new }
         // Near-best fit: if a free block has at least 9/8 of the requested units, the block taken is at most
         // 9/8 as large as that block.
         ensures nearly { IfSome result (IsSplitNearBest size self.old) }
@@ -515,7 +514,7 @@ impl<T: Tables> AllocatorOf<T> {
         // The range begins at a multiple of the alignment.
         ensures aligned { IfSome result (λ h. h.offset % align ≡ 0) }
         // A refusal leaves the space as it was.
-        ensures same { result ≡ None → SameSpace self.old self.new }
+        ensures same { result ≡ None → SameState self.old self.new }
         // Near-best fit: if a free block has at least 9/8 of the units needed, the block taken is at most 9/8
         // as large as that block. A refusal with room for the blocks needed means that every free block is
         // smaller than 9/8 of these units.
@@ -548,7 +547,7 @@ impl<T: Tables> AllocatorOf<T> {
         // Then the space has `more` units more. All ranges stay, and a refusal leaves the space as it was.
         ensures size { IsTrue result → self.new.size ≡ self.old.size + more }
         ensures kept { KeepsAll self.old self.new }
-        ensures same { result ≡ false → SameSpace self.old self.new }
+        ensures same { result ≡ false → SameState self.old self.new }
         // It makes at most 128 accesses to table cells, and at least 10 where it adds units.
         ensures accesses { Costs 0 128 self.old.accesses self.new.accesses }
         ensures accesses_min { result ≡ true → 0 < more → self.old.accesses + 10 ≤ self.new.accesses }

@@ -1,6 +1,6 @@
 //! A block and its neighbours: it is coalesced with the free ones, divided or resized, by `chain` and `bins`
 //! together; of the tables it reads sizes and offsets itself.
-ghost use Rattle.std.specs.Prelude.{ℕ, ◌≡◌, ◌+◌, ◌≤◌, ◌++◌, ◌∷◌, Some, false, length, ◌-◌, ◌<◌, IsSome};
+ghost use Rattle.std.specs.Prelude.{ℕ, ◌≡◌, ◌+◌, ◌≤◌, ◌++◌, ◌∷◌, ◌⊎◌, Some, false, length, ◌-◌, ◌<◌, IsSome};
 ghost use Rattle.offset_allocator.specs.Accesses.{Costs};
 ghost use Rattle.offset_allocator.specs.Classes.{down};
 ghost use Rattle.offset_allocator.specs.Cells.{node};
@@ -10,12 +10,13 @@ ghost use Rattle.offset_allocator.specs.Chain.{HasPlace, IsFreeAfter, IsFreeBefo
 ghost use Rattle.offset_allocator.specs.Chain.{coalesced_after};
 ghost use Rattle.offset_allocator.specs.Bins.{ListsOnly};
 ghost use Rattle.offset_allocator.specs.View.{AreInBins};
-ghost use Rattle.offset_allocator.specs.Store.{IsPlaceIn, AreBinned, bins_of};
+ghost use Rattle.offset_allocator.specs.Store.{IsPlaceIn, AreBinned, bins_of, unused_of};
+ghost use Rattle.offset_allocator.specs.Names.{AreTaken, names_of};
 ghost use Rattle.offset_allocator.specs.Bins.{IsUnlisted};
 
 use crate::accesses::Accesses;
 use crate::small_float::uint_to_float_round_down;
-use crate::store::Store;
+use crate::store::{Store, ensure_spare};
 use crate::tables::Tables;
 use crate::{bins, chain};
 
@@ -65,6 +66,8 @@ fn with_before<T: Tables>(store: &mut Store<T>, name: u32, size: u32) -> u32
     ensures lists { (limit : ℕ) (p : Place) → IsPlaceIn T.cells store.old limit name p
         → bins_of T.cells T.Index.MAX store.new
         ≡ remove_all (free_end p.before) (bins_of T.cells T.Index.MAX store.old) }
+    ensures unused { (limit : ℕ) (p : Place) → IsPlaceIn T.cells store.old limit name p
+        → unused_of T.cells store.new ≡ unused_of T.cells store.old ++ names_of (free_end p.before) }
     ensures nodes { length (T.cells store.new.tables).chain.nodes
         ≡ length (T.cells store.old.tables).chain.nodes }
     ensures size { result ≡ (node (T.cells store.new.tables).chain name).size }
@@ -95,7 +98,8 @@ fn with_after<T: Tables>(store: &mut Store<T>, name: u32, size: u32, next: Optio
     ensures lists { (limit : ℕ) (p : Place) → IsPlaceIn T.cells store.old limit name p
         → bins_of T.cells T.Index.MAX store.new
         ≡ remove_all (free_start p.after) (bins_of T.cells T.Index.MAX store.old) }
-    ensures spares { store.old.spare_count ≤ store.new.spare_count }
+    ensures unused { (limit : ℕ) (p : Place) → IsPlaceIn T.cells store.old limit name p
+        → unused_of T.cells store.new ≡ unused_of T.cells store.old ++ names_of (free_start p.after) }
     ensures size { result ≡ (node (T.cells store.new.tables).chain name).size }
     ensures accesses { Costs 0 11 store.old.accesses store.new.accesses }
     ensures accesses_min { IsSome next → store.old.accesses + 8 ≤ store.new.accesses }
@@ -130,6 +134,9 @@ pub(crate) fn coalesce<T: Tables>(store: &mut Store<T>, name: u32, size: u32)
         ≡ push (down (node (T.cells store.new.tables).chain name).size) name
         (remove_all (free_start p.after)
         (remove_all (free_end p.before) (bins_of T.cells T.Index.MAX store.old))) }
+    ensures unused { (limit : ℕ) (p : Place) → IsPlaceIn T.cells store.old limit name p
+        → unused_of T.cells store.new
+        ≡ unused_of T.cells store.old ++ names_of (free_end p.before ++ free_start p.after) }
     ensures accesses { Costs 7 34 store.old.accesses store.new.accesses }
 {
     // `gone` is the neighbour that is coalesced last: it is in its bin until the exchange
@@ -157,9 +164,9 @@ pub(crate) fn coalesce<T: Tables>(store: &mut Store<T>, name: u32, size: u32)
 #[inline(always)]
 fn split_padding<T: Tables>(store: &mut Store<T>, name: u32, units: u32) -> u32
     requires place { (limit : ℕ) × (p : Place) × IsPlaceIn T.cells store.old limit name p
-        × ListsOnly (p.before ++ p.block ∷ p.after) (bins_of T.cells T.Index.MAX store.old) }
+        × ListsOnly (p.before ++ p.block ∷ p.after) (bins_of T.cells T.Index.MAX store.old)
+        × (0 < units → length (p.before ++ p.block ∷ p.after) < limit) }
     requires binned { AreBinned T.cells T.Index.MAX store.old }
-    requires spare { 0 < store.old.spare_count }
     requires within { units ≤ (node (T.cells store.old.tables).chain name).size }
     ensures place { (limit : ℕ) (p : Place) → IsPlaceIn T.cells store.old limit name p
         → IsPlaceIn T.cells store.new limit name (record {
@@ -170,15 +177,19 @@ fn split_padding<T: Tables>(store: &mut Store<T>, name: u32, units: u32) -> u32
     ensures binned { AreBinned T.cells T.Index.MAX store.new }
     ensures lists { bins_of T.cells T.Index.MAX store.new
         ≡ push_all (free_part result units) (bins_of T.cells T.Index.MAX store.old) }
-    ensures nodes { length (T.cells store.new.tables).chain.nodes
-        ≡ length (T.cells store.old.tables).chain.nodes }
-    ensures spares { store.old.spare_count ≤ store.new.spare_count + 1 }
-    ensures spares_kept { units ≡ 0 → store.old.spare_count ≤ store.new.spare_count }
-    ensures accesses { Costs 0 18 store.old.accesses store.new.accesses }
+    ensures unused { (limit : ℕ) (p : Place) → IsPlaceIn T.cells store.old limit name p
+        → AreTaken (length (p.before ++ p.block ∷ p.after)) (unused_of T.cells store.old)
+        (names_of (free_part result units)) (unused_of T.cells store.new) }
+    ensures accesses { Costs 0 26 store.old.accesses store.new.accesses }
 {
     if units == 0 {
         return name;
     }
+    ensure_spare(
+        &mut store.tables,
+        &mut store.spare_count,
+        &mut store.accesses,
+    );
     let front = chain::split_before(store, name, units);
     bins::push(store, front, uint_to_float_round_down(units));
     front
@@ -196,9 +207,9 @@ fn split_remainder<T: Tables>(
     left: u32,
 ) -> u32
     requires place { (limit : ℕ) × (p : Place) × IsPlaceIn T.cells store.old limit name p
-        × ListsOnly (p.before ++ p.block ∷ p.after) (bins_of T.cells T.Index.MAX store.old) }
+        × ListsOnly (p.before ++ p.block ∷ p.after) (bins_of T.cells T.Index.MAX store.old)
+        × (0 < left → length (p.before ++ p.block ∷ p.after) < limit) }
     requires binned { AreBinned T.cells T.Index.MAX store.old }
-    requires spare { 0 < store.old.spare_count }
     requires offset { offset ≡ (node (T.cells store.old.tables).chain name).offset }
     requires whole { size + left ≡ (node (T.cells store.old.tables).chain name).size }
     ensures place { (limit : ℕ) (p : Place) → IsPlaceIn T.cells store.old limit name p
@@ -209,14 +220,20 @@ fn split_remainder<T: Tables>(
     ensures binned { AreBinned T.cells T.Index.MAX store.new }
     ensures lists { bins_of T.cells T.Index.MAX store.new
         ≡ push_all (free_part result left) (bins_of T.cells T.Index.MAX store.old) }
-    ensures nodes { length (T.cells store.new.tables).chain.nodes
-        ≡ length (T.cells store.old.tables).chain.nodes }
-    ensures accesses { Costs 0 16 store.old.accesses store.new.accesses }
+    ensures unused { (limit : ℕ) (p : Place) → IsPlaceIn T.cells store.old limit name p
+        → AreTaken (length (p.before ++ p.block ∷ p.after)) (unused_of T.cells store.old)
+        (names_of (free_part result left)) (unused_of T.cells store.new) }
+    ensures accesses { Costs 0 24 store.old.accesses store.new.accesses }
     ensures accesses_min { 0 < left → store.old.accesses + 13 ≤ store.new.accesses }
 {
     if left == 0 {
         return name;
     }
+    ensure_spare(
+        &mut store.tables,
+        &mut store.spare_count,
+        &mut store.accesses,
+    );
     let rest = chain::split(store, name, offset, size + left, size);
     bins::push(store, rest, uint_to_float_round_down(left));
     rest
@@ -240,11 +257,11 @@ pub(crate) fn divide<T: Tables>(
     parts: Parts,
 ) -> (u32, u32)
     requires place { (limit : ℕ) × (p : Place) × IsPlaceIn T.cells store.old limit name p
-        × ListsOnly (p.before ++ p.block ∷ p.after) (bins_of T.cells T.Index.MAX store.old) }
+        × ListsOnly (p.before ++ p.block ∷ p.after) (bins_of T.cells T.Index.MAX store.old)
+        × (length (p.before ++ p.block ∷ p.after) < limit)
+        × (0 < parts.padding → length (p.before ++ p.block ∷ p.after) + 1 < limit) }
     requires binned { AreBinned T.cells T.Index.MAX store.old }
     requires unlisted { IsUnlisted name (bins_of T.cells T.Index.MAX store.old) }
-    requires spare { 0 < store.old.spare_count }
-    requires two { 0 < parts.padding → 1 < store.old.spare_count }
     requires start { start ≡ (node (T.cells store.old.tables).chain name).offset + parts.padding }
     requires whole { parts.padding + parts.size + parts.remainder
         ≡ (node (T.cells store.old.tables).chain name).size }
@@ -259,9 +276,11 @@ pub(crate) fn divide<T: Tables>(
         ≡ push_all (free_part result.0 parts.padding ++ used_block name parts.size
         ∷ free_part result.1 parts.remainder)
         (bins_of T.cells T.Index.MAX store.old) }
-    ensures nodes { length (T.cells store.new.tables).chain.nodes
-        ≡ length (T.cells store.old.tables).chain.nodes }
-    ensures accesses { Costs 1 35 store.old.accesses store.new.accesses }
+    ensures unused { (limit : ℕ) (p : Place) → IsPlaceIn T.cells store.old limit name p
+        → AreTaken (length (p.before ++ p.block ∷ p.after)) (unused_of T.cells store.old)
+        (names_of (free_part result.0 parts.padding ++ free_part result.1 parts.remainder))
+        (unused_of T.cells store.new) }
+    ensures accesses { Costs 1 51 store.old.accesses store.new.accesses }
 {
     let padding_name = split_padding(store, name, parts.padding);
     chain::set_used(&mut store.tables, name, true, &mut store.accesses);
@@ -282,9 +301,9 @@ pub(crate) fn resize<T: Tables>(
 ) -> u32
     requires place { (limit : ℕ) × (p : Place) × IsPlaceIn T.cells store.old limit name p
         × AreInBins (p.before ++ p.after) (bins_of T.cells T.Index.MAX store.old)
-        × (size ≤ p.block.size + units (free_start p.after)) }
+        × (size ≤ p.block.size + units (free_start p.after))
+        × ((1 ≤ length (free_start p.after)) ⊎ (length (p.before ++ p.block ∷ p.after) < limit)) }
     requires binned { AreBinned T.cells T.Index.MAX store.old }
-    requires spare { 0 < store.old.spare_count }
     requires old_size { old_size ≡ (node (T.cells store.old.tables).chain name).size }
     requires next { IsFreeAfter (T.cells store.old.tables).chain name next }
     ensures place { (limit : ℕ) (p : Place) → IsPlaceIn T.cells store.old limit name p
@@ -299,7 +318,12 @@ pub(crate) fn resize<T: Tables>(
         → bins_of T.cells T.Index.MAX store.new
         ≡ push_all (free_part result (p.block.size + units (free_start p.after) - size))
         (remove_all (free_start p.after) (bins_of T.cells T.Index.MAX store.old)) }
-    ensures accesses { Costs 1 28 store.old.accesses store.new.accesses }
+    ensures unused { (limit : ℕ) (p : Place) → IsPlaceIn T.cells store.old limit name p
+        → AreTaken (length (p.before ++ p.block ∷ p.after))
+        (unused_of T.cells store.old ++ names_of (free_start p.after))
+        (names_of (free_part result (p.block.size + units (free_start p.after) - size)))
+        (unused_of T.cells store.new) }
+    ensures accesses { Costs 1 36 store.old.accesses store.new.accesses }
     ensures accesses_less { size < old_size → store.old.accesses + 14 ≤ store.new.accesses }
     ensures accesses_more { IsSome next → store.old.accesses + 9 ≤ store.new.accesses }
 {

@@ -3,9 +3,8 @@
 ghost use Rattle.std.specs.Prelude.{◌≡◌, ◌+◌, ◌<◌, ◌≤◌, ℕ, None, Some, IfSome};
 ghost use Rattle.offset_allocator.specs.Accesses.{Costs};
 ghost use Rattle.offset_allocator.specs.Ranges.{Grants, IsLive, size_of};
-ghost use Rattle.offset_allocator.specs.Relations.{Allocates, SameSpace, SameState};
-ghost use Rattle.offset_allocator.specs.Relocating.{Relocates, offset_of};
-ghost use Rattle.offset_allocator.specs.View.{View, Handle};
+ghost use Rattle.offset_allocator.specs.Relations.{SameState};
+ghost use Rattle.offset_allocator.specs.Relocating.{Relocates, WouldBegin, offset_of};
 
 use crate::handle::Allocation;
 use crate::small_float::uint_to_float_round_up;
@@ -17,8 +16,7 @@ impl<T: Tables> AllocatorOf<T> {
     // granted, its range begins there.
     fn would_begin(&mut self, size: u32) -> Option<u32>
         ensures same { SameState self.old self.new }
-        ensures begins { (w : View) (g : Handle) → Allocates size self.old w (Some g) → result
-            ≡ Some g.offset }
+        ensures begins { (offset : ℕ) → WouldBegin size self.old offset → result ≡ Some offset }
         ensures accesses { Costs 1 4 self.old.accesses self.new.accesses }
     {
         self.store.tables.shape();
@@ -59,7 +57,7 @@ impl<T: Tables> AllocatorOf<T> {
         ensures before { IfSome result (λ h. h.offset + size_of allocation.name self.old
             ≤ offset_of allocation.name self.old) }
         // A refusal leaves the space as it was.
-        ensures same { result ≡ None → SameSpace self.old self.new }
+        ensures same { result ≡ None → SameState self.old self.new }
         // At most 80 accesses to table cells, and at least 3.
         ensures accesses { Costs 3 80 self.old.accesses self.new.accesses }
         // The step as a whole: it is the grant of `allocate` where that begins before the range, and only

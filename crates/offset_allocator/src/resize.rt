@@ -5,13 +5,13 @@ ghost use Rattle.offset_allocator.specs.Accesses.{Costs};
 ghost use Rattle.offset_allocator.specs.Chain.{HasPlace, IsFreeAfter};
 ghost use Rattle.offset_allocator.specs.View.{Place, free_start, units};
 ghost use Rattle.offset_allocator.specs.Ranges.{IsLive, KeepsOthers, size_of};
-ghost use Rattle.offset_allocator.specs.Relations.{SameSpace};
+ghost use Rattle.offset_allocator.specs.Relations.{SameState};
 ghost use Rattle.offset_allocator.specs.Resizing.{CanShrink, CanGrow, HasUnits, Shrinks, Grows, ResizesTo};
 
 use crate::accesses::Accesses;
 use crate::handle::Allocation;
 use crate::tables::Tables;
-use crate::{AllocatorOf, neighbours, store};
+use crate::{AllocatorOf, neighbours};
 
 // The units of the free block `next`, if any, directly after a block.
 #[inline(always)]
@@ -56,7 +56,7 @@ impl<T: Tables> AllocatorOf<T> {
         ensures range { IsTrue result → HasUnits allocation.name size self.old self.new }
         ensures others { KeepsOthers allocation.name self.old self.new }
         // A refusal leaves the space as it was.
-        ensures same { result ≡ false → SameSpace self.old self.new }
+        ensures same { result ≡ false → SameState self.old self.new }
         // It makes at most 128 accesses to table cells, at least 1, and at least 16 where units are freed.
         ensures accesses { Costs 1 128 self.old.accesses self.new.accesses }
         ensures accesses_done { IsTrue result → size < size_of allocation.name self.old
@@ -95,7 +95,7 @@ impl<T: Tables> AllocatorOf<T> {
         ensures range { IsTrue result → HasUnits allocation.name size self.old self.new }
         ensures others { KeepsOthers allocation.name self.old self.new }
         // A refusal leaves the space as it was.
-        ensures same { result ≡ false → SameSpace self.old self.new }
+        ensures same { result ≡ false → SameState self.old self.new }
         // It makes at most 128 accesses to table cells, at least 1, and at least 11 where units are added.
         ensures accesses { Costs 1 128 self.old.accesses self.new.accesses }
         ensures accesses_done { IsTrue result → size_of allocation.name self.old < size
@@ -119,7 +119,7 @@ impl<T: Tables> AllocatorOf<T> {
         ensures step { ResizesTo name size self.old self.new result }
         ensures range { IsTrue result → HasUnits name size self.old self.new }
         ensures others { KeepsOthers name self.old self.new }
-        ensures same { result ≡ false → SameSpace self.old self.new }
+        ensures same { result ≡ false → SameState self.old self.new }
         ensures accesses { Costs 0 127 self.old.accesses self.new.accesses }
         ensures accesses_less { IsTrue result → size < old_size → self.old.accesses + 15 ≤ self.new.accesses }
         ensures accesses_more { IsTrue result → old_size < size → self.old.accesses + 10 ≤ self.new.accesses }
@@ -127,19 +127,12 @@ impl<T: Tables> AllocatorOf<T> {
         if size == old_size {
             return true;
         }
-        let left = self.names_left();
-        store::ensure_spare(
-            &mut self.store.tables,
-            &mut self.store.spare_count,
-            1,
-            &mut self.store.accesses,
-        );
         let next = neighbours::free_after(&self.store.tables, name, &mut self.store.accesses);
         let more = units_after(&self.store.tables, name, next, &mut self.store.accesses);
         if size > old_size + more {
             return false;
         }
-        if next.is_none() && left < 2 {
+        if next.is_none() && !self.has_room_for(1) {
             return false;
         }
         neighbours::resize(&mut self.store, name, old_size, next, size);

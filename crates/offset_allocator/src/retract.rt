@@ -3,7 +3,7 @@ ghost use Rattle.std.specs.Prelude.{◌≡◌, ◌↔◌, ◌+◌, ◌<◌, ◌�
 ghost use Rattle.offset_allocator.specs.Accesses.{Costs};
 ghost use Rattle.offset_allocator.specs.Cells.{node};
 ghost use Rattle.offset_allocator.specs.Ranges.{KeepsAll};
-ghost use Rattle.offset_allocator.specs.Relations.{SameSpace};
+ghost use Rattle.offset_allocator.specs.Relations.{SameState};
 ghost use Rattle.offset_allocator.specs.Retracting.{CanRetract, Retracts};
 ghost use Rattle.offset_allocator.specs.View.{ends_used};
 
@@ -77,7 +77,7 @@ impl<T: Tables> AllocatorOf<T> {
         // Then the space has as many units fewer. All ranges stay, and a refusal leaves the space as it was.
         ensures size { IsTrue result → self.new.size + less ≡ self.old.size }
         ensures kept { KeepsAll self.old self.new }
-        ensures same { result ≡ false → SameSpace self.old self.new }
+        ensures same { result ≡ false → SameState self.old self.new }
         // It makes at most 64 accesses to table cells, and at least 10 where it takes units.
         ensures accesses { Costs 0 64 self.old.accesses self.new.accesses }
         ensures accesses_min { result ≡ true → 0 < less → self.old.accesses + 10 ≤ self.new.accesses }

@@ -12,8 +12,9 @@ ghost use Rattle.offset_allocator.specs.Store.{AreBinned, bins_of};
 ghost use Rattle.offset_allocator.specs.Ranges.{range_of, IsLive, KeepsAll, KeepsOthers};
 ghost use Rattle.offset_allocator.specs.Requests.{NewestHolds};
 ghost use Rattle.offset_allocator.specs.View.{IsWellFormed, bin_at, ends_used, padding_to, free_block, push};
-ghost use Rattle.offset_allocator.specs.View.{used_of};
-ghost use Rattle.offset_allocator.specs.Relations.{Splits, Aligns, Frees, Adds, SameSpace, Resets};
+ghost use Rattle.offset_allocator.specs.View.{last_used, used_of};
+ghost use Rattle.offset_allocator.specs.Relations.{Splits, Aligns, Frees, Adds, SameState, Resets};
+ghost use Rattle.offset_allocator.specs.Relations.{FreesLast, IsEmpty};
 ghost use Rattle.offset_allocator.specs.Soundness.{IsSound, view_of};
 ghost use Rattle.offset_allocator.specs.Requests.{HasRoomFor, blocks_needed, units_needed};
 
@@ -22,9 +23,9 @@ use crate::handle::Allocation;
 use crate::index::NodeIndex;
 use crate::neighbours::Parts;
 use crate::small_float::{uint_to_float_round_down, uint_to_float_round_up};
-use crate::store::Store;
+use crate::store::{Store, ensure_spare};
 use crate::tables::Tables;
-use crate::{AllocatorOf, bins, chain, neighbours, store};
+use crate::{AllocatorOf, bins, chain, neighbours};
 
 /// The handle of an offset and a name.
 pub(crate) fn handle_of<NI: NodeIndex>(offset: u32, name: u32) -> Allocation<NI>
@@ -61,12 +62,13 @@ pub(crate) fn start<T: Tables>(store: &mut Store<T>, size: u32, max_allocs: u32)
 }
 
 impl<T: Tables> AllocatorOf<T> {
-    /// The name of a live range, or `None` where nothing is live: then the space is as after a reset. Since
-    /// no two neighbours are free, the last used block is the last block or the one before it.
+    /// The name of the last live range, or `None` where nothing is live: then the whole space is one free block.
+    /// Since no two neighbours are free, the last used block is the last block or the one before it.
     pub(crate) fn last_used(&mut self) -> Option<u32>
-        ensures same { SameSpace self.old self.new }
+        ensures same { SameState self.old self.new }
+        ensures last { result ≡ last_used self.old.blocks }
         ensures used { IfSome result (λ x. IsLive x self.new) }
-        ensures none { result ≡ None → Resets self.old self.new }
+        ensures none { result ≡ None → IsEmpty self.new }
         ensures accesses { Costs 1 2 self.old.accesses self.new.accesses }
     {
         let last = self.store.last;
@@ -76,10 +78,11 @@ impl<T: Tables> AllocatorOf<T> {
         chain::before(&self.store.tables, last, &mut self.store.accesses)
     }
 
-    /// Frees every live range. It is out of line, so that `reset` stays small where it is inlined.
+    /// Frees every live range, the last one first. It is out of line, so that `reset` stays small where it is inlined.
     #[inline(never)]
     pub(crate) fn free_all(&mut self)
-        ensures step { Resets self.old self.new }
+        ensures freed { FreesLast (used_of self.old.blocks) self.old self.new }
+        ensures empty { IsEmpty self.new }
         ensures accesses { Costs 1 (38 * used_of self.old.blocks + 2) self.old.accesses self.new.accesses }
     {
         while let Some(name) = self.last_used() {
@@ -91,6 +94,7 @@ impl<T: Tables> AllocatorOf<T> {
     /// where it is inlined.
     #[inline(never)]
     pub(crate) fn clear(&mut self)
+        requires many { 5 < length self.old.blocks }
         ensures step { Resets self.old self.new }
         ensures accesses { Costs 269 270 self.old.accesses self.new.accesses }
     {
@@ -131,12 +135,6 @@ impl<T: Tables> AllocatorOf<T> {
             → Splits needed size (padding_to align) self.old self.new result }
         ensures accesses { Costs 6 59 self.old.accesses self.new.accesses }
     {
-        store::ensure_spares(
-            &mut self.store.tables,
-            &mut self.store.spare_count,
-            align.min(2),
-            &mut self.store.accesses,
-        );
         let name = bins::pop(&mut self.store, class);
         let offset = self.store.tables.offset(name, &mut self.store.accesses);
         let whole = self.store.tables.size(name, &mut self.store.accesses);
@@ -240,10 +238,9 @@ impl<T: Tables> AllocatorOf<T> {
         ensures kept { KeepsAll self.old self.new }
         ensures accesses { Costs 9 27 self.old.accesses self.new.accesses }
     {
-        store::ensure_spare(
+        ensure_spare(
             &mut self.store.tables,
             &mut self.store.spare_count,
-            1,
             &mut self.store.accesses,
         );
         let end = self.store.last;

@@ -1,10 +1,10 @@
-//! The tables with the numbers that belong to them, and the nodes that are made before names are taken: it
+//! The tables with the numbers that belong to them, and the nodes that are made where no name is unused: it
 //! touches the nodes that it makes, and the stack of unused names.
-ghost use Rattle.std.specs.Prelude.{ℕ, ◌≡◌, ◌+◌, ◌≤◌, List, length};
+ghost use Rattle.std.specs.Prelude.{ℕ, ◌<◌, List, length, take};
 ghost use Rattle.offset_allocator.specs.Accesses.{Costs};
 ghost use Rattle.offset_allocator.specs.Chain.{IsChain};
 ghost use Rattle.offset_allocator.specs.View.{Block};
-ghost use Rattle.offset_allocator.specs.Readies.{Readies};
+ghost use Rattle.offset_allocator.specs.Readies.{AreReady, Readies};
 
 use crate::accesses::Accesses;
 use crate::tables::Tables;
@@ -25,51 +25,21 @@ pub(crate) struct Store<T: Tables> {
     pub(crate) accesses: Accesses,
 }
 
-/// Makes sure that `names` nodes have no block, where at least `names - 1` have none: it makes one more node
-/// where they are too few.
+/// Makes sure that a node has no block: it makes one where none is left.
 #[inline(always)]
-pub(crate) fn ensure_spare<T: Tables>(
-    tables: &mut T,
-    spare_count: &mut u32,
-    names: u32,
-    count: &mut Accesses,
-)
+pub(crate) fn ensure_spare<T: Tables>(tables: &mut T, spare_count: &mut u32, count: &mut Accesses)
     requires memory { (limit last : ℕ) × (bs : List Block)
-        × IsChain (T.cells tables.old).chain limit last spare_count.old bs
-        × (length bs + names ≤ limit) }
-    requires next { names ≤ spare_count.old + 1 }
+        × IsChain (T.cells tables.old).chain limit last spare_count.old bs × (length bs < limit) }
     ensures readies { Readies T.Index.MAX (T.cells tables.old)
         (T.cells tables.new) spare_count.old spare_count.new }
-    ensures enough { names ≤ spare_count.new }
+    ensures some { 0 < spare_count.new }
+    ensures unused { AreReady (T.cells tables.old).chain spare_count.old
+        (take spare_count.new (T.cells tables.new).chain.spare) }
     ensures accesses { Costs 0 8 count.old count.new }
 {
     tables.shape();
-    if *spare_count < names {
-        tables.add(*spare_count, count);
-        *spare_count += 1;
-    }
-}
-
-/// Makes as many nodes as are missing, so that at least `names`, 1 or 2, have no block.
-#[inline(always)]
-pub(crate) fn ensure_spares<T: Tables>(
-    tables: &mut T,
-    spare_count: &mut u32,
-    names: u32,
-    count: &mut Accesses,
-)
-    requires memory { (limit last : ℕ) × (bs : List Block)
-        × IsChain (T.cells tables.old).chain limit last spare_count.old bs
-        × (length bs + names ≤ limit) }
-    requires some { 1 ≤ names }
-    requires few { names ≤ 2 }
-    ensures readies { Readies T.Index.MAX (T.cells tables.old)
-        (T.cells tables.new) spare_count.old spare_count.new }
-    ensures enough { names ≤ spare_count.new }
-    ensures accesses { Costs 0 16 count.old count.new }
-{
-    ensure_spare(tables, spare_count, 1, count);
-    if names > 1 {
-        ensure_spare(tables, spare_count, names, count);
+    if *spare_count == 0 {
+        tables.add(0, count);
+        *spare_count = 1;
     }
 }

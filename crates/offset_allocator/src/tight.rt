@@ -9,7 +9,7 @@ ghost use Rattle.offset_allocator.specs.Accesses.{Costs};
 ghost use Rattle.offset_allocator.specs.Bins.{HasBins, IsBinned, bins_in};
 ghost use Rattle.offset_allocator.specs.Classes.{down, value};
 ghost use Rattle.offset_allocator.specs.Ranges.{Grants};
-ghost use Rattle.offset_allocator.specs.Relations.{Aligns, Allocates, SameSpace, Splits};
+ghost use Rattle.offset_allocator.specs.Relations.{Aligns, Allocates, SameState, Splits};
 ghost use Rattle.offset_allocator.specs.Requests.{IsAlignment};
 ghost use Rattle.offset_allocator.specs.Requests.{CanGrant, HasRoomFor, blocks_needed, units_needed};
 ghost use Rattle.offset_allocator.specs.Statistics.{greatest};
@@ -152,7 +152,7 @@ impl<T: Tables> AllocatorOf<T> {
         requires free { (p : Place) × (self.old.blocks ≡ p.before ++ (p.block ∷ p.after))
             × (p.block.name ≡ name)
             × (p.block.used ≡ false) }
-        ensures first { SameSpace (with_first result name self.old) self.new }
+        ensures first { SameState (with_first result name self.old) self.new }
         ensures class { (p : Place) → self.old.blocks ≡ p.before ++ (p.block ∷ p.after) → p.block.name ≡ name
             → result ≡ down p.block.size }
         ensures accesses { Costs 9 12 self.old.accesses self.new.accesses }
@@ -253,7 +253,7 @@ impl<T: Tables> AllocatorOf<T> {
         // overlaps no live range. All live ranges stay as they are.
         ensures grants { IfSome result (Grants size self.old self.new) }
         // A refusal leaves the space as it was.
-        ensures same { result ≡ None → SameSpace self.old self.new }
+        ensures same { result ≡ None → SameState self.old self.new }
         // At most 140 accesses to table cells, and 6 for each free block of the class; for a grant at least
         // 7.
         ensures accesses { Costs 0 (140 + 6 * length (bin_at self.old.bins (down size)))
@@ -291,7 +291,7 @@ impl<T: Tables> AllocatorOf<T> {
         ensures grants { IfSome result (Grants size self.old self.new) }
         // The range begins at a multiple of the alignment.
         ensures aligned { IfSome result (λ h. h.offset % align ≡ 0) }
-        ensures same { result ≡ None → SameSpace self.old self.new }
+        ensures same { result ≡ None → SameState self.old self.new }
         ensures accesses { Costs 0 (140 + 6 * length (listed_from (down size) self.old.bins))
             self.old.accesses self.new.accesses }
         ensures accesses_min { IsSome result → self.old.accesses + 7 ≤ self.new.accesses }

@@ -1,4 +1,5 @@
 -- The steps of calls are those of the plain machine.
+use Rattle.offset_allocator.specs.Relations.{SameState}
 use Rattle.offset_calls.proofs.Common.{◌≡◌, ◌≢◌, ◌⊎◌, ℕ, zero, suc, ◌+◌, ◌-◌, ◌<◌, ◌≤◌, leb-false, Bool, true, false, not, ◌&&◌, List, [], ◌∷◌, length, sum, Option, Some, None, is_some, IfSome}
 use Rattle.offset_calls.proofs.Common.{IsTrue, option_map}
 use Rattle.offset_calls.proofs.Common.{option_and_then, nat_eq, nat_lt, nat_le, if◌then◌else◌, refl, sym, ap, ap₂, subst, ◌∙◌, inl, inr, arith, eq-eqb, ne_eqb, le-leb, leb-true, lt-ltb, le-ltb}
@@ -145,11 +146,11 @@ well_calls (c ∷ cs) s w = well_calls cs _ (well_call c s w)
 
 module _ (v w : View) (hs left : List (Option Handle)) (r : Reply) (s : State) (formed : IsWellFormed w) (ws : IsWell s) (p : IsAtState v hs s) where
   -- a call that leaves all as it is
-  stays : (o : Outcome) (x : Reply) → o ≡ replies_only s x → SameSpace v w → left ≡ hs → r ≡ x → Follows o w left r
+  stays : (o : Outcome) (x : Reply) → o ≡ replies_only s x → SameState v w → left ≡ hs → r ≡ x → Follows o w left r
   stays o x e same f is = search (arith, agrees_but, agrees_quiet)
 
   quiet : (o : Outcome) (x : Reply) → o ≡ replies_only s x → Stays v hs w left → r ≡ x → Follows o w left r
-  quiet o x e e' is = stays o x e (e'.0 ∙ ap (λ (z : View). record v { unused = z.unused; accesses = z.accesses }) (sym e'.0)) e'.1 is
+  quiet o x e e' is = stays o x e (e'.0 ∙ ap (λ (z : View). record v { accesses = z.accesses }) (sym e'.0)) e'.1 is
 
   -- a range that is resized, or is not
   module _ (k x n : ℕ) (e : kept_name hs k ≡ Some x) where
@@ -159,10 +160,10 @@ module _ (v w : View) (hs left : List (Option Handle)) (r : Reply) (s : State) (
     sized : size_of x v ≡ (spot v (kept_name hs) s p.formed ws p.agrees k x e).label.size
     sized = size_found v (kept_name hs) s p.formed ws p.agrees k x e
 
-    resize_same_size : (can : machine.Place → Bool) → n ≡ size_of x v → SameSpace v w → left ≡ hs → r ≡ Resized → Follows (resize can n s (machine.place_of k s.blocks)) w left r
+    resize_same_size : (can : machine.Place → Bool) → n ≡ size_of x v → SameState v w → left ≡ hs → r ≡ Resized → Follows (resize can n s (machine.place_of k s.blocks)) w left r
     resize_same_size can same space f is = stays _ Resized (ap (resize can n s) at ∙ resize_same can n s _ (same ∙ sized)) space f is
 
-    resize_refuses : (can : machine.Place → Bool) → n ≢ size_of x v → (can (plain_place (spot v (kept_name hs) s p.formed ws p.agrees k x e)) ≡ true → ⊥) → SameSpace v w → left ≡ hs
+    resize_refuses : (can : machine.Place → Bool) → n ≢ size_of x v → (can (plain_place (spot v (kept_name hs) s p.formed ws p.agrees k x e)) ≡ true → ⊥) → SameState v w → left ≡ hs
         → r ≡ Answer machine.Refused
         → Follows (resize can n s (machine.place_of k s.blocks)) w left r
     resize_refuses can d none space f is = stays _ (Answer machine.Refused) (ap (resize can n s) at ∙ resize_refused can n s _ (λ z. d (z ∙ sym sized)) (not_true _ none)) space f is

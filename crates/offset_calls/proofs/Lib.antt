@@ -1,4 +1,6 @@
 mod Beside
+mod Decided
+mod DecidedTickets
 mod EndPairs
 mod EndServed
 mod Kept

@@ -1,4 +1,7 @@
 -- A second grant for a live range: where one is refused or begins, on the plain machine too.
+use Rattle.offset_allocator.proofs.{Begins.begins_still, Begins.grant_begins, Sound.well_unused}
+use Rattle.offset_allocator.specs.{Names.AreTaken, Names.names_of, Relocating.WouldBegin}
+use Rattle.offset_allocator.specs.Relations.{SameState}
 use Rattle.offset_calls.proofs.Common.{◌≡◌, ◌≢◌, ℕ, zero, suc, ◌+◌, ◌-◌, ◌<◌, ◌≤◌, Bool, true, false, not, List, [], ◌∷◌, ◌++◌, length, Option, Some, None, nat_eq, nat_le}
 use Rattle.offset_calls.proofs.Common.{if◌then◌else◌, refl, sym, ap, ap₂, subst, ◌∙◌, inl, inr, arith}
 use Rattle.offset_calls.proofs.Common.{eq-eqb, ne_eqb, cases_eq, cases_lt, leb-true, lt-ltb, le-ltb, and_parts, option_map, option_and_then, unwrap_or}
@@ -77,20 +80,28 @@ least bins (suc d) a c e some = least_step bins a (least bins d (a + 1) c (omega
 
 -- ---- a request that is granted
 
--- the grant of n units of the newest block of the smallest class
-granted_from : (v : View) → IsWellFormed v → (n c : ℕ) → HasRoomFor 1 v → IsLeast v.bins (up n) c → (xs : List ℕ) → bin_at v.bins c ≡ xs
-    → (u : View) × (g : Handle) × Allocates n v u (Some g)
-granted_from v w n c room least [] e = absurd (least.1 e)
-granted_from v w n c room least (x ∷ xs) e =
+-- the only unused name goes where a remainder takes it
+abbrev unused_left : ℕ → List ℕ → List ℕ
+unused_left zero us = us
+unused_left (suc n) us = []
+
+one_name : (k y n : ℕ) → AreTaken k ((y ∷ []) ++ []) (names_of (free_part y n)) (unused_left n (y ∷ []))
+one_name k y zero = refl
+one_name k y (suc n) = ([], inl refl, refl)
+
+-- the grant of n units of the newest block of the smallest class, where the name that a remainder takes is new
+granted_from : (v : View) → IsWellFormed v → (n c : ℕ) → HasRoomFor 1 v → (y : (x : ℕ) × (x < v.max_allocs) × AllByRecursion (λ (b : Block). b.name ≢ x) v.blocks) → v.unused ≡ y.0 ∷ []
+    → IsLeast v.bins (up n) c → (xs : List ℕ) → bin_at v.bins c ≡ xs → (u : View) × (g : Handle) × Allocates n v u (Some g)
+granted_from v w n c room y alone least [] e = absurd (least.1 e)
+granted_from v w n c room y alone least (x ∷ xs) e =
     let t = taken v w c x xs e in
-    let y = unused v.max_allocs v.blocks (omega (arith, room)) in
     let fit : up n ≤ down t.place.block.size = omega (arith, t.class, least.0) in
     let enough : n ≤ t.place.block.size = fits_size n t.place.block.size (le-leb (up n) (down t.place.block.size) fit) in
     let left = t.place.block.size - n in
     let parts = used_block t.place.block.name n ∷ free_part y.0 left in
     let newest : bin_at v.bins (down t.place.block.size) ≡ t.place.block.name ∷ xs = ap (bin_at v.bins) t.class ∙ e ∙ ap (λ (z : ℕ). z ∷ xs) (sym t.name) in
     let new : 1 ≤ left → IsNew y.0 v = λ l. record { below = y.1; absent = y.2 } in (
-      record v { blocks = t.place.before ++ (parts ++ t.place.after); bins = named.push_all parts (named.remove (down t.place.block.size) t.place.block.name v.bins) },
+      record v { blocks = t.place.before ++ (parts ++ t.place.after); bins = named.push_all parts (named.remove (down t.place.block.size) t.place.block.name v.bins); unused = unused_left left (y.0 ∷ []) },
       record { name = t.place.block.name; offset = units t.place.before + 0 },
       (
         room,
@@ -116,6 +127,8 @@ granted_from v w n c room least (x ∷ xs) e =
           grant = refl;
           parts = parts;
           made = refl;
+          names =
+              subst (λ (us : List ℕ). AreTaken (length v.blocks) (us ++ []) (names_of (free_part y.0 left)) (unused_left left (y.0 ∷ []))) (sym alone) (one_name (length v.blocks) y.0 left);
           view = refl;
         },
       ),
@@ -132,12 +145,13 @@ module _ (v : View) (kept_name : ℕ → Option ℕ) (s : State) (w : IsWellForm
       let listed = listed_spot v w r.0 (g.view ∙ ap names r.1) parts.0 in
       (down r.0.label.size, leb-true (up n) (down r.0.label.size) parts.1, λ z. absurd (omega (arith, listed, ap (times r.0.label.name) z)))
 
-  -- where the machine grants a request, the allocator can
-  granted_too : is_short_of 1 s ≡ false → (p : machine.Place) → chosen_place n s.blocks ≡ Some p → (u : View) × (h : Handle) × Allocates n v u (Some h)
-  granted_too e p f =
+  -- where the machine grants a request, the allocator can, if a new name is the only unused one
+  granted_too : is_short_of 1 s ≡ false → (p : machine.Place) → chosen_place n s.blocks ≡ Some p
+      → (y : (x : ℕ) × (x < v.max_allocs) × AllByRecursion (λ (b : Block). b.name ≢ x) v.blocks) → v.unused ≡ y.0 ∷ [] → (u : View) × (h : Handle) × Allocates n v u (Some h)
+  granted_too e p f y alone =
       let h = fit_of p f in
       let l = least v.bins (h.0 - up n) (up n) h.0 (omega (arith, h.1)) h.2 in
-      granted_from v w n l.0 (room_for v kept_name s w ws g 1 e) l.1 (bin_at v.bins l.0) refl
+      granted_from v w n l.0 (room_for v kept_name s w ws g 1 e) y alone l.1 (bin_at v.bins l.0) refl
 
   -- the machine has the answer of a grant
   pub answer_is : (u : View) → IsWellFormed u → (h : Handle) → Allocates n v u (Some h) → (machine.allocate n s).answer ≡ machine.Grant (s.grants + 1) h.offset
@@ -146,16 +160,29 @@ module _ (v : View) (kept_name : ℕ → Option ℕ) (s : State) (w : IsWellForm
   formed_after : (u : View) (h : Handle) → Allocates n v u (Some h) → IsWellFormed u
   formed_after u h a = well_split a.1 1 w a.0 (subst (λ m. length (free_part a.1.padding_name m) + 1 ≤ 1) (sym a.1.padded) (omega arith))
 
-  -- where no grant begins before an offset, the machine's does not
-  pub not_before : (o : ℕ) → ((u : View) (h : Handle) → Allocates n v u (Some h) → o ≤ h.offset) → begins_before o (machine.allocate n s).answer ≡ false
+  -- where the machine grants a request, it would begin there
+  pub begins_there : is_short_of 1 s ≡ false → (p : machine.Place) → chosen_place n s.blocks ≡ Some p
+      → (y : (x : ℕ) × (x < v.max_allocs) × AllByRecursion (λ (b : Block). b.name ≢ x) v.blocks) → v.unused ≡ y.0 ∷ []
+      → (o : ℕ) × WouldBegin n v o × ((machine.allocate n s).answer ≡ machine.Grant (s.grants + 1) o)
+  begins_there e p f y alone =
+      let r = granted_too e p f y alone in
+      (r.1.offset, grant_begins n v r.0 r.1 r.2, answer_is r.0 (formed_after r.0 r.1 r.2) r.1 r.2)
+
+module _ (v : View) (kept_name : ℕ → Option ℕ) (s : State) (w : IsWellFormed v) (ws : IsWell s) (g : HasBlocksOf v kept_name s) (n : ℕ) where
+  -- where no grant would begin before an offset, the machine's does not
+  pub not_before : (o : ℕ) → ((m : ℕ) → WouldBegin n v m → o ≤ m) → begins_before o (machine.allocate n s).answer ≡ false
   not_before o none = go (is_short_of 1 s) refl (chosen_place n s.blocks) refl
     where
       go : (b : Bool) → is_short_of 1 s ≡ b → (c : Option machine.Place) → chosen_place n s.blocks ≡ c → begins_before o (machine.allocate n s).answer ≡ false
       go true e c f = ap (λ b. begins_before o (if b then machine.returns_only s machine.Refused else machine.grant_or_refuse s n (λ offset. 0) (chosen_place n s.blocks)).answer) e
       go false e None f = ap₂ (λ b c. begins_before o (if b then machine.returns_only s machine.Refused else machine.grant_or_refuse s n (λ offset. 0) c).answer) e f
       go false e (Some p) f =
-          let r = granted_too e p f in
-          ap (begins_before o) (answer_is r.0 (formed_after r.0 r.1 r.2) r.1 r.2) ∙ le-ltb r.1.offset o (none r.0 r.1 r.2)
+          -- which name a remainder takes changes nothing
+          let y = unused v.max_allocs v.blocks (let room = room_for v kept_name s w ws g 1 e in omega (arith, room)) in
+          let u = record v { unused = y.0 ∷ [] } in
+          let r = begins_there u kept_name s (well_unused v (y.0 ∷ []) v.accesses w) ws
+          (record { labels = g.labels; view = g.view; state = g.state; limit = g.limit; newest = g.newest; handles = g.handles }) n e p f y refl in
+          ap (begins_before o) r.2 ∙ le-ltb r.0 o (none r.0 (begins_still n r.0 u v.unused v.accesses r.1))
 
 module _ (v w : View) (hs left : List (Option Handle)) (r : Reply) (s : State) (formed : IsWellFormed w) (ws : IsWell s) (p : IsAtState v hs s) (k x : ℕ) (e : kept_name hs k ≡ Some x) where
   abbrev at : Spot
@@ -171,7 +198,7 @@ module _ (v w : View) (hs left : List (Option Handle)) (r : Reply) (s : State) (
       ∙ sym (total_units at.before)
 
   -- the machine goes on as it is
-  refuses : SameSpace v w → left ≡ hs → begins_before (total (tags at.before)) (machine.allocate at.label.size s).answer ≡ false → r ≡ Answer machine.Refused
+  refuses : SameState v w → left ≡ hs → begins_before (total (tags at.before)) (machine.allocate at.label.size s).answer ≡ false → r ≡ Answer machine.Refused
       → (r ≡ (answered (relocate s (Some (plain_place at)))).reply) × IsAtState w left (relocate s (Some (plain_place at))).state
   refuses same f b is =
       let o : relocate s (Some (plain_place at)) ≡ machine.returns_only s machine.Refused =
@@ -186,7 +213,7 @@ module _ (v w : View) (hs left : List (Option Handle)) (r : Reply) (s : State) (
       let n = size_found v (kept_name hs) s p.formed ws p.agrees k x e in
       refuses t.1 kept.0
       (not_before v (kept_name hs) s p.formed ws p.agrees at.label.size (total (tags at.before))
-      (λ u h al. subst (λ o. o ≤ h.offset) begins (t.0 u h (subst (λ m. Allocates m v u (Some h)) (sym n) al))))
+      (λ m b. subst (λ o. o ≤ m) begins (t.0 m (subst (λ z. WouldBegin z v m) (sym n) b))))
       (is ∙ ap Answer kept.1)
   relocates_there (Some h) a t kept is =
       let n = size_found v (kept_name hs) s p.formed ws p.agrees k x e in

@@ -1,4 +1,5 @@
 -- Making room: what is left agrees with the plain machine, and the cost and the moves are the same.
+use Rattle.offset_allocator.specs.Relations.{SameState}
 use Rattle.offset_calls.proofs.Common.{◌≡◌, ℕ, suc, ◌+◌, ◌<◌, ◌≤◌, ◌&&◌, Bool, true, false, not, List, [], ◌∷◌, ◌++◌, map, length, sum, Option, Some, None, option_map, nat_eq, if◌then◌else◌, drop}
 use Rattle.offset_calls.proofs.Common.{refl, sym, ap, ap₂, subst, ◌∙◌, inl, inr, arith, eq-eqb, ne_eqb, length-append, append_assoc, map-append, cases_eq, cases_lt, true≢false, false≢true, Block}
 use Rattle.offset_calls.proofs.Common.{View, Handle}
@@ -232,7 +233,7 @@ module _ (v w : View) (hs left : List (Option Handle)) (r : Reply) (s : State) (
   Agrees o = (r ≡ o.reply) × IsAtState w left o.state
 
   -- where nothing changes
-  stays : (x : Reply) → SameSpace v w → r ≡ x → Agrees (replies_only s x)
+  stays : (x : Reply) → SameState v w → r ≡ x → Agrees (replies_only s x)
   stays x same is = (
     is,
     subst (λ l. IsAtState w l (replies_only s x).state) (sym e)

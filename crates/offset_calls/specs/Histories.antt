@@ -1,5 +1,7 @@
 -- Laws over whole histories of calls.
-use Rattle.std.specs.Prelude.{ℕ, ◌+◌, ◌-◌, Bool, true, false, List, map, nat_le, option_map, if◌then◌else◌}
+use Rattle.std.specs.Prelude.{ℕ, ◌+◌, ◌-◌, Bool, true, false, List, [], ◌∷◌, Option, map, nat_le, option_map, if◌then◌else◌}
+use Rattle.offset_allocator.specs.View.{View, Handle, IsWellFormed}
+use Rattle.offset_script.specs.Steps.{Stays}
 use Rattle.offset_script.specs.Histories.{number_without, raise_number}
 use Rattle.offset_script.specs.Histories as script
 use Rattle.offset_script.specs.Machine.{State}
@@ -7,6 +9,7 @@ use Rattle.offset_calls.specs.declared.calls.Call.{Call}
 use Rattle.offset_calls.specs.declared.calls.Call.TheVariants as call
 use Rattle.offset_calls.specs.declared.calls.LiveRange.{LiveRange}
 use Rattle.offset_calls.specs.Calls.{Move, Reply, Answer, Compacted, Made_room, Beside, Outcome, replies, step}
+use Rattle.offset_calls.specs.Steps.{Takes}
 use Rattle.offset_script.specs.declared.scripts.Command.TheVariants as command
 
 -- a call with the function r applied to its grant number, if it has one
@@ -73,3 +76,11 @@ retract_again n s = step (call.Retract n) (step (call.Command (command.Extend n)
 abbrev pub relocates : Call → Bool
 relocates (call.Relocate k) = true
 relocates other = false
+
+-- calls with these replies, one step after the other: they begin at the view v, where the handles of the grants so far
+-- are those in `handles`, and leave the view w and the handles in `kept`
+abbrev pub Runs : View → List (Option Handle) → List Call → List Reply → View → List (Option Handle) → Type 0
+Runs v handles [] [] w kept = Stays v handles w kept
+Runs v handles (c ∷ cs) (r ∷ rs) w kept = (u : View) × (now : List (Option Handle)) × Takes c v handles u now r
+    × IsWellFormed u × Runs u now cs rs w kept
+Runs v handles cs rs w kept = ⊥

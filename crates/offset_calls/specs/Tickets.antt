@@ -3,7 +3,7 @@ use Rattle.std.specs.Prelude.{◌≡◌, ℕ, zero, suc, ◌+◌, Bool, false, �
 use Rattle.std.specs.Prelude.{if◌then◌else◌}
 use Rattle.std.specs.List.{Contains}
 use Rattle.std.specs.Option.{option_map_or, option_or}
-use Rattle.offset_allocator.specs.View.{Handle}
+use Rattle.offset_allocator.specs.View.{Handle, IsWellFormed}
 use Rattle.offset_guarded.specs.declared.ticket.Ticket.{Ticket}
 use Rattle.offset_guarded.specs.Guard.{Guard, handle_in, range_of}
 use Rattle.offset_script.specs.declared.scripts.Command.{Command}
@@ -101,6 +101,14 @@ pub record Serves (c : Call) (g : Guard) (ts : List Ticket) (h : Guard) (us : Li
   pub ledger : IsLedger h us
   pub grown : IsGrown ts us r
   pub realm : h.realm ≡ g.realm
+
+-- calls with these replies, one step after the other: they begin at g, where the tickets of the grants so far are those
+-- in `ts`, and leave h and the tickets in `us`
+abbrev pub AreServed : Guard → List Ticket → List TicketCall → List Reply → Guard → List Ticket → Type 0
+AreServed g ts [] [] h us = (h ≡ g) × (us ≡ ts)
+AreServed g ts (c ∷ cs) (r ∷ rs) h us = (i : Guard) × (now : List Ticket) × Serves (meant ts c) g ts i now r
+    × IsWellFormed i.space × AreServed i now cs rs h us
+AreServed g ts cs rs h us = ⊥
 
 -- the answer to a request with this result; the ticket of a grant is kept
 abbrev pub IsStored : Option Ticket → List Ticket → List Ticket → machine.Answer → Type 0

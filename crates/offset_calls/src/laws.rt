@@ -1,9 +1,16 @@
 //! Laws on the replies of `play_calls`. The functions do nothing.
 
 ghost use Rattle.std.specs.Prelude.{◌≡◌, ◌≤◌, ◌+◌, ◌++◌, ◌∷◌, IsTrue, ℕ, List, false, map};
+ghost use Rattle.std.specs.Prelude.{Option};
+ghost use Rattle.offset_allocator.specs.Relations.{SameState};
+ghost use Rattle.offset_allocator.specs.View.{Handle, IsWellFormed, View};
+ghost use Rattle.offset_guarded.specs.Guard.{Guard};
+ghost use Rattle.offset_guarded.specs.State.{SameGuard};
+ghost use Rattle.offset_guarded.specs.declared.ticket.Ticket.{Ticket};
 ghost use Rattle.offset_script.specs.declared.scripts.Command.{Command};
 ghost use Rattle.offset_script.specs.Histories.{HasNoLive, IsCollapse, IsNest, collapse, outline, releases};
 ghost use Rattle.offset_script.specs.Machine as machine;
+ghost use Rattle.offset_script.specs.Steps.{AreHeld};
 ghost use Rattle.offset_script.specs.Machine.{State, ends_live, units_at_end, stamp_of_call, start, total};
 ghost use Rattle.offset_script.specs.declared.scripts.Command.TheVariants as command;
 ghost use Rattle.offset_calls.specs.declared.calls.Call.{Call};
@@ -11,7 +18,9 @@ ghost use Rattle.offset_calls.specs.declared.calls.Call.TheVariants as call;
 ghost use Rattle.offset_calls.specs.Calls as plain;
 ghost use Rattle.offset_calls.specs.Calls.{after, replies, step};
 ghost use Rattle.offset_calls.specs.Ending.{with_end};
-ghost use Rattle.offset_calls.specs.Histories.{IsQuestion, relocates, replies_renumbered, without_offset};
+ghost use Rattle.offset_calls.specs.Tickets.{AreServed, IsLedger};
+ghost use Rattle.offset_calls.specs.declared.guarded.TicketCall.{TicketCall};
+ghost use Rattle.offset_calls.specs.Histories.{IsQuestion, Runs, relocates, replies_renumbered, without_offset};
 ghost use Rattle.offset_calls.specs.Histories.{retract_again};
 
 /// The replies to calls that are commands of a script are the answers to the script.
@@ -85,4 +94,31 @@ pub fn retract_undoes_extend()
         → let s = after cs (start size limit) in
         (step (call.Command (command.Extend n)) s).reply ≡ plain.Answer machine.Extended
         → 1 ≤ units_at_end s.blocks → outline (retract_again n s).state.blocks ≡ outline s.blocks }
+{}
+
+/// In the same state, with the same handles kept, every list of calls has the same replies, and leaves the
+/// same state and the same handles, each with its name and its offset. Only the counts of accesses may
+/// differ.
+///
+/// So a copy that `try_clone` made continues as its original, since `IsCopy` gives `SameState`. And so do
+/// two spaces of which `write_state` returns the same bytes, as a restored one and that which was saved:
+/// `SameState` of these is a clause of the library's law `a_state_is_read_back`.
+pub fn a_copy_continues_alike()
+    ensures { (v v' w w' : View) (handles kept kept' : List (Option Handle)) (cs : List Call)
+        (rs rs' : List plain.Reply) → IsWellFormed v → SameState v v' → AreHeld v handles
+        → Runs v handles cs rs w kept → Runs v' handles cs rs' w' kept'
+        → (rs ≡ rs') × SameState w w' × (kept ≡ kept') }
+{}
+
+/// In the same guarded allocator every list of calls, which may pass any tickets, has the same replies, and
+/// the tickets of all grants are the same: each has its offset, name, serial and realm. Only the counts of
+/// accesses may differ.
+///
+/// So it is with a copy that `try_clone` made, since its `IsCopy` gives `SameGuard`, and with two of which
+/// `write_state` returns the same bytes, by the law `a_state_is_read_back` of `offset_guarded`.
+pub fn a_guarded_copy_continues_alike()
+    ensures { (g g' h h' : Guard) (ts us us' : List Ticket) (cs : List TicketCall)
+        (rs rs' : List plain.Reply) → IsWellFormed g.space → SameGuard g g' → IsLedger g ts
+        → AreServed g ts cs rs h us → AreServed g' ts cs rs' h' us'
+        → (rs ≡ rs') × SameState h.space h'.space × (us ≡ us') }
 {}

@@ -3,7 +3,7 @@ use Rattle.std.specs.Prelude.{codes, ◌≡◌, ℕ, ◌+◌, ◌<◌, ◌≤◌
 use Rattle.offset_allocator.specs.View.{View, Handle}
 use Rattle.offset_allocator.specs.Ranges.{Range}
 use Rattle.offset_allocator.specs.Ranges as named
-use Rattle.offset_allocator.specs.Relations.{SameSpace}
+use Rattle.offset_allocator.specs.Relations.{SameState}
 use Rattle.offset_allocator.specs.Requests as allocator
 use Rattle.offset_allocator.specs.Tight as tight
 use Rattle.offset_guarded.specs.declared.ticket.Ticket.{Ticket}
@@ -83,7 +83,7 @@ pub record KeepsSerials (g h : Guard) : Type 0 where
 
 -- all is as it was, however many accesses are counted
 abbrev pub IsSame : Guard → Guard → Type 0
-IsSame g h = SameSpace g.space h.space × KeepsSerials g h
+IsSame g h = SameState g.space h.space × KeepsSerials g h
 
 -- the same, of a space that has counted no access
 abbrev pub IsCopy : Guard → Guard → Type 0

@@ -3,7 +3,7 @@ use Rattle.offset_script.proofs.Common.{◌≡◌, ℕ, zero, suc, ◌+◌, ◌-
 use Rattle.offset_script.proofs.Common.{None, Option, Some, ap, ap₂, arith, cond, false≢true, le-leb, le-ltb, length, lt-leb, lt-ltb, map, nat_le, nat_lt, refl, subst, sum, sym, up, value, ◌∙◌}
 use Rattle.offset_allocator.specs.declared.reports.Refusal.{Refusal}
 use Rattle.offset_allocator.specs.declared.reports.Refusal.TheVariants.{Nodes, TooLarge, Space, Fragmented}
-use Rattle.offset_allocator.specs.Relations.{SameSpace}
+use Rattle.offset_allocator.specs.Relations.{SameState}
 use Rattle.offset_allocator.specs.Requests.{CanGrant, IsWhy, blocks_needed, size_needed, units_needed}
 use Rattle.offset_allocator.specs.View.{IsWellFormed, View, Handle, max_size}
 use Rattle.offset_allocator.specs.View as named
@@ -93,7 +93,7 @@ refused_keeps (command.Extend (suc more)) s e = by_extend _ s _ e
 not_kept : (h : Handle) (hs left : List (Option Handle)) (a : Answer) → IsKept (Some h) hs left a → is_refusal a ≡ true → ⊥
 not_kept h hs left a k e = false≢true (sym (ap is_refusal k.1) ∙ e)
 
-still_not : (v w : View) (spare needed : ℕ) → SameSpace v w → (CanGrant spare needed v → ⊥) → CanGrant spare needed w → ⊥
+still_not : (v w : View) (spare needed : ℕ) → SameState v w → (CanGrant spare needed v → ⊥) → CanGrant spare needed w → ⊥
 still_not v w spare needed same none = subst (λ u. CanGrant spare needed u → ⊥) (sym same) none
 
 pub is_refused : (c : Command) (v w : View) (hs left : List (Option Handle)) (a : Answer) → Takes c v hs w left a → is_refusal a ≡ true → IsRefusedBy w c

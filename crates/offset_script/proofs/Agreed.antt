@@ -1,4 +1,5 @@
 -- What each call of the allocator leaves agrees with what the plain machine leaves, and the answers are the same.
+use Rattle.offset_allocator.specs.Relations.{SameState}
 use Rattle.offset_script.proofs.Common.{◌≡◌, ℕ, zero, suc, ◌+◌, ◌-◌, ◌<◌, ◌≤◌, Bool, true, false, not, ◌&&◌, ◌||◌, ◌⊎◌, List, [], ◌∷◌, ◌++◌, replicate, length, sum, Option, Some, None, nat_eq, nat_lt}
 use Rattle.offset_script.proofs.Common.{nat_le, if◌then◌else◌, refl, sym, ap, ap₂, subst, ◌∙◌, inl, inr, arith, eq-eqb, ne_eqb, le-leb, le-ltb, leb-false, append_assoc, append-nil, option_or}
 use Rattle.offset_script.proofs.Common.{cases_eq, cases_lt, true≢false, false≢true, lt-leb, ltb-true, ltb-false, and_parts, and_right, or_parts, not-false, up, down, rows_below, Live, Free, is_free}
@@ -100,7 +101,7 @@ pub record IsMatch (u : View) (kept_name : ℕ → Option ℕ) (grants : ℕ) (r
   pub grants_after : p.state.grants ≡ grant_count_after grants r
 
 -- accesses are no part of the agreement
-pub agrees_but : (v w : View) (kept_name : ℕ → Option ℕ) (s : State) → SameSpace v w → HasBlocksOf v kept_name s → HasBlocksOf w kept_name s
+pub agrees_but : (v w : View) (kept_name : ℕ → Option ℕ) (s : State) → SameState v w → HasBlocksOf v kept_name s → HasBlocksOf w kept_name s
 agrees_but v w kept_name s e g = subst (λ x. HasBlocksOf x kept_name s) (sym e) (record { labels = g.labels; view = g.view; state = g.state; limit = g.limit; newest = g.newest; handles = g.handles })
 
 module _ (v : View) (kept_name : ℕ → Option ℕ) (s : State) (w : IsWellFormed v) (ws : IsWell s) (g : HasBlocksOf v kept_name s) where

@@ -7,7 +7,7 @@ ghost use Rattle.std.specs.Prelude.{IfSome, IfOk, IfErr, IsOk, IsSome, IsTrue, l
 ghost use Rattle.std.specs.Int.{is_power_of_two};
 ghost use Rattle.offset_allocator.specs.View.{used_units, reported_largest};
 ghost use Rattle.offset_allocator.specs.Ranges.{Range, range_of, size_of, KeepsAll, KeepsOthers, IsLive};
-ghost use Rattle.offset_allocator.specs.Relations.{Aligns, Allocates, Frees, SameSpace, Resets};
+ghost use Rattle.offset_allocator.specs.Relations.{Aligns, Allocates, Frees, SameState, Resets};
 ghost use Rattle.offset_allocator.specs.Requests.{CanGrant, IsWhy};
 ghost use Rattle.offset_allocator.specs.Resizing.{CanShrink, CanGrow, HasUnits};
 ghost use Rattle.offset_allocator.specs.Compacting.{Compacts, KeepsSizes};
@@ -255,7 +255,7 @@ pub fn resize<T: Tables>(
         → (IsTrue result ↔ CanGrow mesh.name size vertices.old) }
     ensures range { IsTrue result → HasUnits mesh.name size vertices.old vertices.new }
     ensures others { KeepsOthers mesh.name vertices.old vertices.new }
-    ensures same { result ≡ false → SameSpace vertices.old vertices.new }
+    ensures same { result ≡ false → SameState vertices.old vertices.new }
     ensures size { vertices.new.size ≡ vertices.old.size }
 {
     if size < vertices.allocation_size(mesh) {

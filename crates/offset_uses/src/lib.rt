@@ -9,7 +9,7 @@ ghost use Rattle.offset_allocator.specs.Ranges.{Range, AreDisjoint, IsLive, Keep
 ghost use Rattle.offset_allocator.specs.Ranges.{range_of};
 ghost use Rattle.offset_allocator.specs.Ranges.{size_of};
 ghost use Rattle.offset_allocator.specs.Requests.{CanGrant};
-ghost use Rattle.offset_allocator.specs.Relations.{Aligns, Allocates, Extends, Frees, SameSpace};
+ghost use Rattle.offset_allocator.specs.Relations.{Aligns, Allocates, Extends, Frees, SameSpace, SameState};
 ghost use Rattle.offset_script.specs.Machine.{answer_view, answers, start};
 ghost use Rattle.offset_script.specs.Grammar.{has_valid_alignment};
 ghost use Rattle.offset_uses.specs.Grants.{IsGrantOf, range_from};
@@ -101,7 +101,7 @@ pub fn place_what_fits<T: Tables>(
     ensures range { IfSome result (λ got. IsGrantOf got.1 got.0 vertices.new) }
     ensures most { IfSome result (λ got. got.1 ≡ min n (reported_largest vertices.old)) }
     ensures some { IsSome result ↔ (1 ≤ reported_largest vertices.old) }
-    ensures step { MatchOption result (SameSpace vertices.old vertices.new)
+    ensures step { MatchOption result (SameState vertices.old vertices.new)
         (λ got. Allocates got.1 vertices.old vertices.new (Some got.0)) }
     ensures kept { KeepsRanges vertices.old vertices.new }
 {
@@ -176,7 +176,7 @@ pub fn charge<T: Tables>(
     n: u32,
 ) -> Option<Allocation<T::Index>>
     requires within { tenant.old.held ≤ tenant.old.quota }
-    ensures step { MatchOption result (SameSpace space.old space.new)
+    ensures step { MatchOption result (SameState space.old space.new)
         (λ h. Allocates n space.old space.new (Some h)) }
     ensures within { tenant.new.held ≤ tenant.new.quota }
     ensures quota { tenant.new.quota ≡ tenant.old.quota }

@@ -54,7 +54,7 @@ impl<T: Tables> AllocatorOf<T> {
     /// returned, since all free units together are not enough, and where the cost has no ranges, since one
     /// free block is large enough. Else the request is granted afterwards, also at the node limit. For an
     /// aligned request ask with `size + align - 1`. Of several runs that cost as much it is the last in
-    /// space; the name of the free block is left open. It makes at most 6 accesses to the tables for each
+    /// space, and its free block keeps the name of its first one. It makes at most 6 accesses to the tables for each
     /// block, 40 for each range that moves, and 20, and takes no memory.
     ///
     /// ```

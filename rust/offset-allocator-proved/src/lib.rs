@@ -7,8 +7,9 @@
 //! the tables, whose index is the block's *name*; the range of a used block, and its name, are *live*. A
 //! *size class* is a range of sizes, and its *bin* the list of the free blocks of that class, the newest
 //! first, which is the one that last became free or changed its size. A range takes over the name of the
-//! free block that it is cut from, and what remains of that block gets an unused name, which one is left
-//! open. Where the range is freed, the coalesced block keeps the range's name.
+//! free block that it is cut from, and what remains of that block gets the name that became unused last, or
+//! that of a new node where none is unused. Where the range is freed, the coalesced block keeps the range's
+//! name, and those of its neighbours become unused.
 //!
 //! ```
 //! use offset_allocator_proved::*;
@@ -97,9 +98,8 @@ pub type Blocks<'a, NI = u32> = BlocksOf<'a, ByNode<NI>>;
 
 /// The allocator of one space.
 ///
-/// `T` is the layout of its tables; it changes no answer but names that are left open, and `node_count`. The
-/// index type of the layout is the type of the links between nodes: it limits how many nodes there can be,
-/// and changes no other answer either.
+/// `T` is the layout of its tables, which changes no answer. The index type of the layout is the type of the
+/// links between nodes: it limits how many nodes there can be, and changes no answer either.
 pub struct AllocatorOf<T: Tables> {
     // the units of the space
     size: u32,
@@ -243,9 +243,8 @@ impl<T: Tables> AllocatorOf<T> {
     }
 
     /// The number of nodes that were made: one for each block, and those whose names are unused. Each block's
-    /// name is below it. When a node is made is left open, as some names, and no other answer depends on it:
-    /// `grow_in_place` and a call that may add a block can make 1 or 2, also where they leave the blocks as
-    /// they were, and only `reset` forgets some.
+    /// name is below it. A call that adds a block makes a node for it where no name is unused, and only
+    /// `reset`, of more than 5 blocks, forgets some.
     ///
     /// ```
     /// # use offset_allocator_proved::*;

@@ -5,7 +5,7 @@
 
 use crate::accesses::Accesses;
 use crate::small_float::uint_to_float_round_down;
-use crate::store::Store;
+use crate::store::{Store, ensure_spare};
 use crate::tables::Tables;
 use crate::{bins, chain};
 
@@ -93,6 +93,11 @@ fn split_padding<T: Tables>(store: &mut Store<T>, name: u32, units: u32) -> u32 
     if units == 0 {
         return name;
     }
+    ensure_spare(
+        &mut store.tables,
+        &mut store.spare_count,
+        &mut store.accesses,
+    );
     let front = chain::split_before(store, name, units);
     bins::push(store, front, uint_to_float_round_down(units));
     front
@@ -112,6 +117,11 @@ fn split_remainder<T: Tables>(
     if left == 0 {
         return name;
     }
+    ensure_spare(
+        &mut store.tables,
+        &mut store.spare_count,
+        &mut store.accesses,
+    );
     let rest = chain::split(store, name, offset, size + left, size);
     bins::push(store, rest, uint_to_float_round_down(left));
     rest

@@ -9,9 +9,9 @@ use crate::handle::Allocation;
 use crate::index::NodeIndex;
 use crate::neighbours::Parts;
 use crate::small_float::{uint_to_float_round_down, uint_to_float_round_up};
-use crate::store::Store;
+use crate::store::{Store, ensure_spare};
 use crate::tables::Tables;
-use crate::{AllocatorOf, bins, chain, neighbours, store};
+use crate::{AllocatorOf, bins, chain, neighbours};
 
 /// The handle of an offset and a name.
 pub(crate) fn handle_of<NI: NodeIndex>(offset: u32, name: u32) -> Allocation<NI> {
@@ -25,8 +25,8 @@ pub(crate) fn start<T: Tables>(store: &mut Store<T>, size: u32, max_allocs: u32)
 }
 
 impl<T: Tables> AllocatorOf<T> {
-    /// The name of a live range, or `None` where nothing is live: then the space is as after a reset. Since
-    /// no two neighbours are free, the last used block is the last block or the one before it.
+    /// The name of the last live range, or `None` where nothing is live: then the whole space is one free block.
+    /// Since no two neighbours are free, the last used block is the last block or the one before it.
     pub(crate) fn last_used(&mut self) -> Option<u32> {
         let last = self.store.last;
         if chain::is_used(&self.store.tables, last, &mut self.store.accesses) {
@@ -35,7 +35,7 @@ impl<T: Tables> AllocatorOf<T> {
         chain::before(&self.store.tables, last, &mut self.store.accesses)
     }
 
-    /// Frees every live range. It is out of line, so that `reset` stays small where it is inlined.
+    /// Frees every live range, the last one first. It is out of line, so that `reset` stays small where it is inlined.
     #[inline(never)]
     pub(crate) fn free_all(&mut self) {
         while let Some(name) = self.last_used() {
@@ -71,12 +71,6 @@ impl<T: Tables> AllocatorOf<T> {
     /// block. The block has to hold them.
     #[inline(always)]
     pub(crate) fn grant(&mut self, class: u32, size: u32, align: u32) -> Allocation<T::Index> {
-        store::ensure_spares(
-            &mut self.store.tables,
-            &mut self.store.spare_count,
-            align.min(2),
-            &mut self.store.accesses,
-        );
         let name = bins::pop(&mut self.store, class);
         let offset = self.store.tables.offset(name, &mut self.store.accesses);
         let whole = self.store.tables.size(name, &mut self.store.accesses);
@@ -148,10 +142,9 @@ impl<T: Tables> AllocatorOf<T> {
 
     /// Puts a free block after the last one, which is used.
     pub(crate) fn append(&mut self, more: u32) {
-        store::ensure_spare(
+        ensure_spare(
             &mut self.store.tables,
             &mut self.store.spare_count,
-            1,
             &mut self.store.accesses,
         );
         let end = self.store.last;

@@ -1,6 +1,6 @@
 use Rattle.std.proofs.Common.{refl, ap, ◌∙◌, inl, inr}
 use Rattle.offset_allocator.specs.Ranges.{range_of}
-use Rattle.offset_allocator.proofs.ViewUndo.{taken_back}
+use Rattle.offset_allocator.proofs.{Sound.state_space, ViewUndo.taken_back}
 use Rattle.offset_uses.proofs.place_mesh.Goals as goal
 
 -- the first range is freed
@@ -10,6 +10,9 @@ returns-in-None-clause-same g c e = taken_back c.args.outer c.args.vertices.now 
 
 pub returns-in-None-clause-kept : goal.returns-in-None-clause-kept
 returns-in-None-clause-kept g c x r e = ap (range_of x) (returns-in-None-clause-same g c refl) ∙ e
+
+pub returns-in_err-one-clause-same : goal.returns-in_err-one-clause-same
+returns-in_err-one-clause-same g c e = state_space c.args.vertices.now c.allocate.new.self (c.allocate.ensures.same c.in_err-one.was)
 
 pub returns-in_err-one-clause-refused : goal.returns-in_err-one-clause-refused
 returns-in_err-one-clause-refused g c e = inl (c.allocate.new.self, c.in_err-one.ensures.step)

@@ -1,4 +1,4 @@
-use Rattle.offset_allocator.proofs.Common.{ap, subst, arith, View, view_of, Resets}
+use Rattle.offset_allocator.proofs.Common.{length, refl, ap, subst, arith, View, view_of, Resets}
 use Rattle.offset_allocator.proofs.AllocatorOf.clear.Goals as goal
 
 pub returns-clause-step : goal.returns-clause-step
@@ -7,5 +7,7 @@ returns-clause-step g c =
     subst (λ (v : View). Resets v left) c.self.view_is (record {
       name = 0;
       below = omega (arith, c.self.invariant.well.room);
+      few = λ l. absurd (omega (arith, l, c.requires, ap (λ (u : View). length u.blocks) c.self.view_is));
+      many = λ _. (refl, refl);
       view = ap (λ (v : View). record v { accesses = c.start.new.store.accesses }) c.start.ensures.view;
     })

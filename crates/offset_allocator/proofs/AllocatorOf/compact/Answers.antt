@@ -1,10 +1,11 @@
-use Rattle.offset_allocator.proofs.Common.{◌≡◌, ℕ, ◌+◌, ◌*◌, ◌≤◌, List, Block, length, length-append, ◌∷◌, [], refl, sym, ap, subst, ◌∙◌, arith, replicate, Place, View, units, free_sizes, BinCells}
+use Rattle.offset_allocator.proofs.Common.{◌++◌, ◌≡◌, ℕ, ◌+◌, ◌*◌, ◌≤◌, List, Block, length, length-append, ◌∷◌, [], refl, sym, ap, subst, ◌∙◌, arith, replicate, Place, View, units, free_sizes, BinCells}
 use Rattle.offset_allocator.proofs.Common.{Node, bins_in, blocks, live, moves, KeepsSizes}
 use Rattle.offset_allocator.proofs.Common.{Compacts, common_steps}
 use Rattle.offset_allocator.proofs.Sound.{AreSound, Fields, shown, fields_of, known_sound}
 use Rattle.offset_allocator.proofs.Compacting.{IsFirst, first_is, packed, compacts_live, first_held, packs, stays_packed}
 use Rattle.offset_allocator.proofs.{Nearest.newest_few, Starts.until_first, Starts.until_none, Packed.compacts_sizes, Places.at_place, Places.kept_place, Classes.down_small, Fresh.empty_unlisted}
-use Rattle.offset_allocator.specs.Compacting.{until_free}
+use Rattle.offset_allocator.proofs.Names.{kept_unused}
+use Rattle.offset_allocator.specs.{Compacting.until_free, Names.free_blocks, Names.names_of}
 use Rattle.offset_allocator.proofs.AllocatorOf.compact.Goals as goal
 use Rattle.offset_allocator.proofs.AllocatorOf.compact.{Goals.After-slide-hole, Goals.After-push, Given.Over}
 
@@ -73,7 +74,10 @@ done g c k f is =
     let empty : bins_in g.T.Index.NodeIndex.MAX (g.T.Tables.cells c.slide-hole.new.store.tables).bins ≡ replicate 256 [] =
     ap (λ (k : BinCells). bins_in g.T.Index.NodeIndex.MAX k) c.slide-hole.ensures.bins.0 ∙ c.empty.ensures.lists in
     rw is (packs old c.self.invariant o (g.T.Tables.cells c.push.new.store.tables) _ _ c.slide-hole.result.name c.slide-hole.result.size (kept_place c.push.ensures.chain e.0) e.1 {accesses = k}
-    c.push.ensures.binned (rw (c.uint_to_float_round_down-class.ensures.is, empty) at c.push.ensures.lists))
+    c.push.ensures.binned (rw (c.uint_to_float_round_down-class.ensures.is, empty) at c.push.ensures.lists) c.slide-hole.ensures.name
+    (kept_unused c.push.ensures.chain ∙ c.slide-hole.ensures.unused _ _ (kept_place c.empty.ensures.chain (first_held old c.self.invariant o refl)) o.idle
+    ∙ ap (λ (u : List ℕ). u ++ names_of (free_blocks o.place.after)) (kept_unused c.empty.ensures.chain))
+    (sym c.first_free.ensures.first ∙ c.in-Some.is))
 
 pub invariant_of-self-2 : goal.invariant_of-self-2
 invariant_of-self-2 g c = (done g (goal.at.invariant_of-self-2 g c).After-push 0 _ refl).0

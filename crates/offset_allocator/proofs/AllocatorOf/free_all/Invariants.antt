@@ -1,10 +1,10 @@
-use Rattle.offset_allocator.proofs.Common.{◌≡◌, ◌≤◌, ◌+◌, ◌*◌, used_of}
+use Rattle.offset_allocator.proofs.Common.{◌≤◌, ◌+◌, ◌*◌, View, used_of}
+use Rattle.offset_allocator.specs.Relations.{FreesLast}
 use Rattle.offset_allocator.proofs.AllocatorOf.free_all.Given as goal
 
 abbrev pub invariant-loop-name : goal.invariant-loop-name
 invariant-loop-name g l = record {
-  size : l.self.size ≡ l.initial.self.size;
-  limit : l.self.max_allocs ≡ l.initial.self.max_allocs;
+  freed : (w : View) → FreesLast (used_of l.self.blocks) l.self w → FreesLast (used_of l.initial.self.blocks) l.initial.self w;
   least : l.initial.self.accesses ≤ l.self.accesses;
   most : l.self.accesses + 38 * used_of l.self.blocks ≤ l.initial.self.accesses + 38 * used_of l.initial.self.blocks;
 }

@@ -1,22 +1,18 @@
 use Rattle.offset_allocator.proofs.Common.{◌≡◌, ◌+◌, ◌-◌, ◌≤◌, ◌<◌, ◌^◌, ◌∙◌, ℕ, ap, arith, refl, subst, sym, up, Node, View, padding_to, IsFoundFrom, Some, HasRoomFor, blocks_needed, units, bin_at}
-use Rattle.offset_allocator.proofs.Common.{◌≢◌, [], ◌∷◌}
+use Rattle.offset_allocator.proofs.Common.{length, ◌≢◌, [], ◌∷◌}
 use Rattle.offset_allocator.specs.Requests.{NewestHolds}
 use Rattle.offset_allocator.proofs.Common.{Splits}
 use Rattle.offset_allocator.proofs.Sound.{shown, AreSound, Fields, fields_of}
-use Rattle.offset_allocator.proofs.Served.{split_seen}
 use Rattle.offset_allocator.proofs.Granting.{Call, got, held, unlisted, padding_fits, units_free, granted}
-use Rattle.offset_allocator.proofs.{Places.at_place, Places.kept_place, Readied.made, Readied.made_shown, Readied.with_made, Tallies.one-same, Uses.removed_unlisted}
+use Rattle.offset_allocator.proofs.{Places.at_place, Places.kept_place, Names.kept_unused, Tallies.one-same, Uses.removed_unlisted}
 use Rattle.offset_allocator.proofs.AllocatorOf.grant.Goals as goal
 use Rattle.offset_allocator.proofs.AllocatorOf.grant.{Goals.After-pop-name, Goals.After-size-whole, Goals.After-divide, Given.Over}
 
-pub ensure_spares-requires-clause-memory : goal.ensure_spares-requires-clause-memory
-ensure_spares-requires-clause-memory g c = (_, _, _, c.self.invariant.space, omega (arith, c.min.ensures, rw (← c.self.view_is) at c.requires.enough, c.self.invariant.memory))
-
 -- what the contract asks of the view, said of the fields
 call : (g : Over) (c : After-pop-name g)
-    → Call (with_made (fields_of g.T.Tables.cells g.T.Index.NodeIndex.MAX c.self.inside) (g.T.Tables.cells c.ensure_spares.new.tables) c.ensure_spares.new.spare_count) c.args.class c.pop-name.result
+    → Call (fields_of g.T.Tables.cells g.T.Index.NodeIndex.MAX c.self.inside) c.args.class c.pop-name.result
 call g c = record {
-  sound = made (fields_of g.T.Tables.cells g.T.Index.NodeIndex.MAX c.self.inside) c.self.invariant c.ensure_spares.ensures.readies;
+  sound = c.self.invariant;
   classed = c.requires.classed;
   older = _;
   newest = c.pop-name.ensures.first;
@@ -28,19 +24,16 @@ holding : (g : Over) (c : After-pop-name g)
 holding g c =
     let p = call g c in
     subst (NewestHolds c.args.class c.args.size c.args.align)
-    (sym (made_shown (fields_of g.T.Tables.cells g.T.Index.NodeIndex.MAX c.self.inside) c.self.invariant c.ensure_spares.ensures.readies _ c.self.view_is)) c.requires.holds
+    (sym c.self.view_is) c.requires.holds
     (got p).place p.older (got p).list_is (p.newest ∙ ap (λ y. y ∷ p.older) (sym (got p).name))
 
 two : (align o : ℕ) → 1 ≤ padding_to align o → 2 ≤ blocks_needed align
 two align o l = omega arith
 
-pub pop-name-requires-clause-binned : goal.pop-name-requires-clause-binned
-pop-name-requires-clause-binned g c = (c.ensure_spares.ensures.readies.bins _ c.self.invariant.bins).0
-
 pub pop-name-requires-clause-some : goal.pop-name-requires-clause-some
 pop-name-requires-clause-some g c =
     subst (λ (u : View). bin_at u.bins c.args.class ≢ [])
-    (sym (made_shown (fields_of g.T.Tables.cells g.T.Index.NodeIndex.MAX c.self.inside) c.self.invariant c.ensure_spares.ensures.readies _ c.self.view_is)) c.requires.filled
+    (sym c.self.view_is) c.requires.filled
 
 pub offset-offset-requires : goal.offset-offset-requires
 offset-offset-requires g c = (kept_place c.pop-name.ensures.chain (held (call g (goal.at.offset-offset-requires g c).After-pop-name) refl)).below
@@ -49,7 +42,7 @@ pub size-whole-requires : goal.size-whole-requires
 size-whole-requires g c = (kept_place c.pop-name.ensures.chain (held (call g (goal.at.size-whole-requires g c).After-pop-name) refl)).below
 
 fits : (g : Over) (c : After-size-whole g)
-    (p : Call (with_made (fields_of g.T.Tables.cells g.T.Index.NodeIndex.MAX c.self.inside) (g.T.Tables.cells c.ensure_spares.new.tables) c.ensure_spares.new.spare_count) c.args.class
+    (p : Call (fields_of g.T.Tables.cells g.T.Index.NodeIndex.MAX c.self.inside) c.args.class
     c.pop-name.result)
     → padding_to c.args.align (units (got p).place.before) + c.args.size ≤ (got p).place.block.size
     → padding_to c.args.align c.offset-offset.result + c.args.size ≤ c.size-whole.result
@@ -61,7 +54,15 @@ overflow_sub-parts g c = let at = goal.at.overflow_sub-parts g c in fits g at.Af
 pub divide-requires-clause-place : goal.divide-requires-clause-place
 divide-requires-clause-place g c =
     let p = call g (goal.at.divide-requires-clause-place g c).After-pop-name in
-    (_, _, kept_place c.pop-name.ensures.chain (held p refl), rw c.pop-name.ensures.lists (unlisted p))
+    let enough = rw (← c.self.view_is) at c.requires.enough in
+    let all = ap length (got p).list_is in (
+      _,
+      _,
+      kept_place c.pop-name.ensures.chain (held p refl),
+      rw c.pop-name.ensures.lists (unlisted p),
+      omega (arith, enough, all, c.self.invariant.memory, c.requires.some),
+      λ l. omega (arith, enough, all, c.self.invariant.memory, two c.args.align c.offset-offset.result (omega (arith, l))),
+    )
 
 pub divide-requires-clause-whole : goal.divide-requires-clause-whole
 divide-requires-clause-whole g c = let at = goal.at.divide-requires-clause-whole g c in
@@ -71,12 +72,6 @@ pub divide-requires-clause-unlisted : goal.divide-requires-clause-unlisted
 divide-requires-clause-unlisted g c =
     let p = call g (goal.at.divide-requires-clause-unlisted g c).After-pop-name in
     rw c.pop-name.ensures.lists (removed_unlisted p.sound.bins.linked c.args.class p.classed c.pop-name.result (rw p.newest (omega (arith, one-same c.pop-name.result))))
-
-pub divide-requires-clause-spare : goal.divide-requires-clause-spare
-divide-requires-clause-spare g c = omega (arith, c.min.ensures, c.requires.some, c.ensure_spares.ensures.enough)
-
-pub divide-requires-clause-two : goal.divide-requires-clause-two
-divide-requires-clause-two g c l = omega (arith, c.min.ensures, two c.args.align c.offset-offset.result (omega (arith, l)), c.ensure_spares.ensures.enough)
 
 pub overflow_sub-self : goal.overflow_sub-self
 overflow_sub-self g c = let at = goal.at.overflow_sub-self g c in units_free (call g at.After-pop-name) c.args.size (padding_to c.args.align) (holding g at.After-pop-name)
@@ -90,9 +85,20 @@ overflow_add-start g c =
     (padding_fits p c.args.size (padding_to c.args.align) (holding g at.After-pop-name)) in
     omega (arith, small)
 
--- the fields that are left, and what was split
+-- the fields that are left
+abbrev left : (g : Over) → After-divide g → Fields
+left g c = record (fields_of g.T.Tables.cells g.T.Index.NodeIndex.MAX c.self.inside) {
+  cells = (g.T.Tables.cells c.divide.new.store.tables);
+  last = c.divide.new.store.last;
+  count = c.divide.new.store.spare_count;
+  top = c.divide.new.store.top_mask;
+  free = c.self.inside.free_total - c.args.size;
+  accesses = c.divide.new.store.accesses;
+}
+
+-- they are sound, and what was split
 done : (g : Over) (c : After-divide g)
-    (p : Call (with_made (fields_of g.T.Tables.cells g.T.Index.NodeIndex.MAX c.self.inside) (g.T.Tables.cells c.ensure_spares.new.tables) c.ensure_spares.new.spare_count) c.args.class
+    (p : Call (fields_of g.T.Tables.cells g.T.Index.NodeIndex.MAX c.self.inside) c.args.class
     c.pop-name.result)
     → padding_to c.args.align (units (got p).place.before) + c.args.size ≤ (got p).place.block.size → (k : ℕ) (f : Fields)
     → f ≡ record (fields_of g.T.Tables.cells g.T.Index.NodeIndex.MAX c.self.inside) {
@@ -105,9 +111,9 @@ done : (g : Over) (c : After-divide g)
     }
     → AreSound f
     × ((needed : ℕ) → IsFoundFrom (up needed)
-    (shown (with_made (fields_of g.T.Tables.cells g.T.Index.NodeIndex.MAX c.self.inside) (g.T.Tables.cells c.ensure_spares.new.tables) c.ensure_spares.new.spare_count)).bins (Some c.args.class)
+    (shown (fields_of g.T.Tables.cells g.T.Index.NodeIndex.MAX c.self.inside)).bins (Some c.args.class)
     → Splits needed c.args.size (padding_to c.args.align)
-    (shown (with_made (fields_of g.T.Tables.cells g.T.Index.NodeIndex.MAX c.self.inside) (g.T.Tables.cells c.ensure_spares.new.tables) c.ensure_spares.new.spare_count)) (shown f)
+    (shown (fields_of g.T.Tables.cells g.T.Index.NodeIndex.MAX c.self.inside)) (shown f)
     (record { name = c.pop-name.result; offset = c.offset-offset.result + padding_to c.args.align c.offset-offset.result }))
 done g c p holds k f e =
     let h = kept_place c.pop-name.ensures.chain (held p refl) in
@@ -116,9 +122,10 @@ done g c p holds k f e =
     let we = c.size-whole.ensures.cell ∙ ap (λ (v : Node). v.size) at in
     let place = c.divide.ensures.place _ _ h in
     let room = subst (HasRoomFor (blocks_needed c.args.align))
-    (sym (made_shown (fields_of g.T.Tables.cells g.T.Index.NodeIndex.MAX c.self.inside) c.self.invariant c.ensure_spares.ensures.readies _ c.self.view_is)) c.requires.enough in
+    (sym c.self.view_is) c.requires.enough in
     rw (e, oe) (granted p c.args.size (padding_to c.args.align) holds (blocks_needed c.args.align) room (omega (arith, c.requires.some))
-    (two c.args.align) _ _ _ _ _ (rw (oe, we) at place) c.divide.ensures.binned (rw (oe, we, c.pop-name.ensures.lists) at c.divide.ensures.lists))
+    (two c.args.align) _ _ _ _ _ (rw (oe, we) at place) c.divide.ensures.binned (rw (oe, we, c.pop-name.ensures.lists) at c.divide.ensures.lists)
+    (rw (kept_unused c.pop-name.ensures.chain, oe, we) at (c.divide.ensures.unused _ _ h)))
 
 pub invariant_of-self : goal.invariant_of-self
 invariant_of-self g c = let at = goal.at.invariant_of-self g c in (done g at.After-divide (call g at.After-pop-name) (holding g at.After-pop-name) 0 _ refl).0
@@ -126,9 +133,10 @@ invariant_of-self g c = let at = goal.at.invariant_of-self g c in (done g at.Aft
 pub returns-clause-step : goal.returns-clause-step
 returns-clause-step g c needed found =
     let at = goal.at.returns-clause-step g c in
-    let seen = (made_shown (fields_of g.T.Tables.cells g.T.Index.NodeIndex.MAX c.self.inside) c.self.invariant c.ensure_spares.ensures.readies _ c.self.view_is) in
+    let seen = c.self.view_is in
+    let P : View → Type 0 = λ u. Splits needed c.args.size (padding_to c.args.align) u (shown (left g at.After-divide)) (record { name = c.pop-name.result; offset = c.offset-offset.result + padding_to c.args.align c.offset-offset.result }) in
     rw c.handle_of.ensures
-    (split_seen c.args.self.now _ seen ((done g at.After-divide (call g at.After-pop-name) (holding g at.After-pop-name) c.divide.new.store.accesses _ refl).1 needed
+    (subst P seen ((done g at.After-divide (call g at.After-pop-name) (holding g at.After-pop-name) c.divide.new.store.accesses _ refl).1 needed
     (subst (λ (u : View). IsFoundFrom (up needed) u.bins (Some c.args.class)) (sym seen) found)))
 
 pub overflow_add-parts : goal.overflow_add-parts
@@ -140,5 +148,5 @@ divide-requires-clause-start g c = ap (λ o. o + padding_to c.args.align c.offse
 pub handle_of-requires : goal.handle_of-requires
 handle_of-requires g c =
     let h = held (call g (goal.at.handle_of-requires g c).After-pop-name) refl in
-    let k = made (fields_of g.T.Tables.cells g.T.Index.NodeIndex.MAX c.self.inside) c.self.invariant c.ensure_spares.ensures.readies in
+    let k = c.self.invariant in
     omega (arith, h.below, h.chain.within, k.memory, k.admitted)

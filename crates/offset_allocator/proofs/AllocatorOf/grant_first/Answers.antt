@@ -1,6 +1,6 @@
 use Rattle.offset_allocator.proofs.Common.{◌≡◌, ◌∷◌, Some, ap, arith, refl, sym, subst, ◌∙◌, value, bin_at, remove, View, Splits, padding_to, ◌<◌}
 use Rattle.offset_allocator.specs.Tight.{with_first}
-use Rattle.offset_allocator.proofs.{Holding.holder, Holding.place_there, Holding.first_is, Classes.down_small, Granting.found_itself, Served.split_as, Served.split_unused}
+use Rattle.offset_allocator.proofs.{Holding.holder, Holding.place_there, Holding.first_is, Classes.down_small, Granting.found_itself, Served.split_as}
 use Rattle.offset_allocator.specs.Requests.{Holds}
 use Rattle.offset_allocator.proofs.AllocatorOf.grant_first.Goals as goal
 
@@ -48,4 +48,4 @@ returns-clause-step g c =
     let same = c.bring_first-class.ensures.first in
     let found = found_itself k small (bin_at m.bins k) (λ e. let q = sym first ∙ sym (ap (λ (u : View). bin_at u.bins k) same) ∙ e in absurd (cc)) m.bins refl in
     let P : View → Type 0 = λ u. Splits (value k) c.args.size (padding_to c.args.align) u c.grant.new.self c.grant.result in
-    (k, split_unused (with_first k c.args.name v) m.unused (split_as (subst P same (c.grant.ensures.step (value k) found)) v.accesses c.grant.new.self.accesses (padding_to c.args.align) (λ o. refl)))
+    (k, split_as (subst P same (c.grant.ensures.step (value k) found)) v.accesses c.grant.new.self.accesses (padding_to c.args.align) (λ o. refl))

@@ -1,5 +1,7 @@
-use Rattle.offset_allocator.proofs.Common.{refl, sym, ap, subst, ◌∙◌, Node, View, Resets}
-use Rattle.offset_allocator.proofs.{Sound.shown, Sound.fields_of, Sound.known_sound, Places.at_place, Places.end_place, Emptied.as_reset, Emptied.before_live, Emptied.none_used, Reading.used_live}
+use Rattle.offset_allocator.proofs.Common.{ℕ, Some, refl, sym, ap, ◌∙◌, Node, View}
+use Rattle.offset_allocator.proofs.{Emptied.last_before, Emptied.last_used_there, Ends.ended}
+use Rattle.offset_allocator.specs.View.{last_used}
+use Rattle.offset_allocator.proofs.{Sound.shown, Sound.fields_of, Sound.known_sound, Places.at_place, Places.end_place, Emptied.as_empty, Emptied.before_live, Emptied.none_used, Reading.used_live}
 use Rattle.offset_allocator.proofs.AllocatorOf.last_used.Goals as goal
 
 pub is_used-requires : goal.is_used-requires
@@ -25,6 +27,18 @@ returns-clause-none g c e =
     let s = c.self.invariant in
     let none = none_used _ _ s.space.ends s.well.distinct s.well.apart (sym (c.is_used.ensures.used _ _ s.space)
     ∙ c.if-is_used.false) (sym (c.before-2.ensures.before ∙ ap (λ (n : Node). n.before) (at_place (end_place s.space))) ∙ e) in
-    let f = fields_of g.T.Tables.cells g.T.Index.NodeIndex.MAX c.self.inside in
-    let left : View = shown (record f { accesses = c.before-2.new.count }) in
-    subst (λ (v : View). Resets v left) c.self.view_is (as_reset (shown f) left (known_sound f s (shown f) refl).0 none refl)
+    let f = record (fields_of g.T.Tables.cells g.T.Index.NodeIndex.MAX c.self.inside) { accesses = c.before-2.new.count } in
+    as_empty (shown f) (known_sound f s (shown f) refl).0 none
+
+pub returns-then-is_used-clause-last : goal.returns-then-is_used-clause-last
+returns-then-is_used-clause-last g c =
+    let end = end_place c.self.invariant.space in
+    let e = ended _ _ c.self.invariant.space.ends in
+    let used = sym (ap (λ (n : Node). n.used) (at_place end)) ∙ sym c.is_used.ensures.cell ∙ c.if-is_used.true in
+    ap (λ (i : ℕ). Some i) (sym e.name) ∙ sym (last_used_there e.front e.last used) ∙ ap last_used (sym e.is) ∙ ap (λ (u : View). last_used u.blocks) c.self.view_is
+
+pub returns-clause-last : goal.returns-clause-last
+returns-clause-last g c =
+    let s = c.self.invariant in
+    let last = last_before _ _ s.space.ends s.well.distinct s.well.apart (sym (c.is_used.ensures.used _ _ s.space) ∙ c.if-is_used.false) in
+    c.before-2.ensures.before ∙ ap (λ (n : Node). n.before) (at_place (end_place s.space)) ∙ sym last ∙ ap (λ (u : View). last_used u.blocks) c.self.view_is

@@ -23,4 +23,4 @@ returns-in-Some-clause-step g c =
     let room = subst (HasRoomFor (blocks_needed c.args.align)) (sym c.self.view_is) c.requires.enough in
     let step = c.grant_first.ensures.step in
     subst (λ (u : View). FillsFirst c.args.size c.args.align u w (Some c.grant_first.result)) c.self.view_is
-    (fills_counted c.args.size c.args.align (shown f) w (shown f).unused c.choose.new.count (Some c.grant_first.result) (room, (step.0, c.in-Some.name, e, step.1)))
+    (fills_counted c.args.size c.args.align (shown f) w c.choose.new.count (Some c.grant_first.result) (room, (step.0, c.in-Some.name, e, step.1)))

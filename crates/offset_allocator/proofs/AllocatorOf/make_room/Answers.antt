@@ -1,4 +1,6 @@
-use Rattle.offset_allocator.proofs.Common.{◌∙◌, refl, sym, ap, subst, arith, sum, View, free_sizes, value, up, live, length, KeepsSizes, true≢false, Node}
+use Rattle.offset_allocator.proofs.Names.{kept_unused}
+use Rattle.offset_allocator.specs.Names.{free_blocks, names_of}
+use Rattle.offset_allocator.proofs.Common.{ℕ, List, ◌++◌, ◌∙◌, refl, sym, ap, subst, arith, sum, View, free_sizes, value, up, live, length, KeepsSizes, true≢false, Node}
 use Rattle.offset_allocator.proofs.Classes.{below_value_up, down_small}
 use Rattle.offset_allocator.proofs.{Advice.none_free, Advice.free_within, Sound.Fields, Sound.shown, Sound.fields_of, Sound.known_sound}
 use Rattle.offset_allocator.proofs.{Packed.live_sizes, Taken.HasFit, Refusals.total_is, Places.kept_place, Places.at_place, Filed.unlisted}
@@ -142,7 +144,8 @@ invariant_of-self-2 g c =
     (slides f c.self.invariant want c.in_ok-run.run' o (g.T.Tables.cells c.push.new.store.tables) c.push.new.store.last c.push.new.store.spare_count c.slide_to-hole.result.name
     c.slide_to-hole.result.size
     (kept_place c.push.ensures.chain e.0) e.1 {accesses = 0} c.size-first.result c.size-first.ensures.cell c.push.ensures.binned
-    (rw (c.uint_to_float_round_down-class.ensures.is, e.3, c.remove.ensures.lists) at c.push.ensures.lists)).0
+    (rw (c.uint_to_float_round_down-class.ensures.is, e.3, c.remove.ensures.lists) at c.push.ensures.lists) c.slide_to-hole.ensures.name
+    (kept_unused c.push.ensures.chain ∙ c.slide_to-hole.ensures.unused _ _ o.rest o.back held st filed ∙ ap (λ (u : List ℕ). u ++ names_of (free_blocks o.rest)) (kept_unused c.remove.ensures.chain))).0
 
 pub returns-clause-step : goal.returns-clause-step
 returns-clause-step g c =
@@ -159,7 +162,8 @@ returns-clause-step g c =
     let done = slides f c.self.invariant want c.in_ok-run.run' o (g.T.Tables.cells c.push.new.store.tables) c.push.new.store.last c.push.new.store.spare_count c.slide_to-hole.result.name
     c.slide_to-hole.result.size
     (kept_place c.push.ensures.chain e.0) e.1 {accesses = c.push.new.store.accesses} c.size-first.result c.size-first.ensures.cell c.push.ensures.binned
-    (rw (c.uint_to_float_round_down-class.ensures.is, e.3, c.remove.ensures.lists) at c.push.ensures.lists) in
+    (rw (c.uint_to_float_round_down-class.ensures.is, e.3, c.remove.ensures.lists) at c.push.ensures.lists) c.slide_to-hole.ensures.name
+    (kept_unused c.push.ensures.chain ∙ c.slide_to-hole.ensures.unused _ _ o.rest o.back held st filed ∙ ap (λ (u : List ℕ). u ++ names_of (free_blocks o.rest)) (kept_unused c.remove.ensures.chain)) in
     makes f c.self.invariant want c.in_ok-run.run' o _ done.1.0 done.1.1 done.1.2 e.2 c.args.self.now c.self.view_is c.if-run-eq0.false
 
 pub returns-clause-live : goal.returns-clause-live
@@ -177,7 +181,8 @@ returns-clause-live g c =
     let done = slides f c.self.invariant want c.in_ok-run.run' o (g.T.Tables.cells c.push.new.store.tables) c.push.new.store.last c.push.new.store.spare_count c.slide_to-hole.result.name
     c.slide_to-hole.result.size
     (kept_place c.push.ensures.chain e.0) e.1 {accesses = c.push.new.store.accesses} c.size-first.result c.size-first.ensures.cell c.push.ensures.binned
-    (rw (c.uint_to_float_round_down-class.ensures.is, e.3, c.remove.ensures.lists) at c.push.ensures.lists) in
+    (rw (c.uint_to_float_round_down-class.ensures.is, e.3, c.remove.ensures.lists) at c.push.ensures.lists) c.slide_to-hole.ensures.name
+    (kept_unused c.push.ensures.chain ∙ c.slide_to-hole.ensures.unused _ _ o.rest o.back held st filed ∙ ap (λ (u : List ℕ). u ++ names_of (free_blocks o.rest)) (kept_unused c.remove.ensures.chain)) in
     slides_live want (shown f) _ done.1.0 ∙ ap (λ (u : View). live u.blocks) c.self.view_is
 
 pub returns-clause-sizes : goal.returns-clause-sizes
@@ -195,7 +200,8 @@ returns-clause-sizes g c =
     let done = slides f c.self.invariant want c.in_ok-run.run' o (g.T.Tables.cells c.push.new.store.tables) c.push.new.store.last c.push.new.store.spare_count c.slide_to-hole.result.name
     c.slide_to-hole.result.size
     (kept_place c.push.ensures.chain e.0) e.1 {accesses = c.push.new.store.accesses} c.size-first.result c.size-first.ensures.cell c.push.ensures.binned
-    (rw (c.uint_to_float_round_down-class.ensures.is, e.3, c.remove.ensures.lists) at c.push.ensures.lists) in
+    (rw (c.uint_to_float_round_down-class.ensures.is, e.3, c.remove.ensures.lists) at c.push.ensures.lists) c.slide_to-hole.ensures.name
+    (kept_unused c.push.ensures.chain ∙ c.slide_to-hole.ensures.unused _ _ o.rest o.back held st filed ∙ ap (λ (u : List ℕ). u ++ names_of (free_blocks o.rest)) (kept_unused c.remove.ensures.chain)) in
     let left : View = (shown (record f {
       cells = (g.T.Tables.cells c.push.new.store.tables);
       last = c.push.new.store.last;
@@ -228,7 +234,8 @@ returns-clause-granted g c =
     let done = slides f c.self.invariant want c.in_ok-run.run' o (g.T.Tables.cells c.push.new.store.tables) c.push.new.store.last c.push.new.store.spare_count c.slide_to-hole.result.name
     c.slide_to-hole.result.size
     (kept_place c.push.ensures.chain e.0) e.1 {accesses = c.push.new.store.accesses} c.size-first.result c.size-first.ensures.cell c.push.ensures.binned
-    (rw (c.uint_to_float_round_down-class.ensures.is, e.3, c.remove.ensures.lists) at c.push.ensures.lists) in
+    (rw (c.uint_to_float_round_down-class.ensures.is, e.3, c.remove.ensures.lists) at c.push.ensures.lists) c.slide_to-hole.ensures.name
+    (kept_unused c.push.ensures.chain ∙ c.slide_to-hole.ensures.unused _ _ o.rest o.back held st filed ∙ ap (λ (u : List ℕ). u ++ names_of (free_blocks o.rest)) (kept_unused c.remove.ensures.chain)) in
     λ some. grants f c.self.invariant want c.in_ok-run.run' o (g.T.Tables.cells c.push.new.store.tables) c.push.new.store.last c.push.new.store.spare_count c.slide_to-hole.result.name
     c.slide_to-hole.result.size
     (kept_place c.push.ensures.chain e.0) e.1 c.args.size refl _ done.2
@@ -248,7 +255,8 @@ returns-clause-accesses g c =
     let done = slides f c.self.invariant want c.in_ok-run.run' o (g.T.Tables.cells c.push.new.store.tables) c.push.new.store.last c.push.new.store.spare_count c.slide_to-hole.result.name
     c.slide_to-hole.result.size
     (kept_place c.push.ensures.chain e.0) e.1 {accesses = c.push.new.store.accesses} c.size-first.result c.size-first.ensures.cell c.push.ensures.binned
-    (rw (c.uint_to_float_round_down-class.ensures.is, e.3, c.remove.ensures.lists) at c.push.ensures.lists) in
+    (rw (c.uint_to_float_round_down-class.ensures.is, e.3, c.remove.ensures.lists) at c.push.ensures.lists) c.slide_to-hole.ensures.name
+    (kept_unused c.push.ensures.chain ∙ c.slide_to-hole.ensures.unused _ _ o.rest o.back held st filed ∙ ap (λ (u : List ℕ). u ++ names_of (free_blocks o.rest)) (kept_unused c.remove.ensures.chain)) in
     let few = few_moved f c.self.invariant want c.in_ok-run.run' o (g.T.Tables.cells c.push.new.store.tables) c.push.new.store.last c.push.new.store.spare_count c.slide_to-hole.result.name
     c.slide_to-hole.result.size
     (kept_place c.push.ensures.chain e.0) e.1 in

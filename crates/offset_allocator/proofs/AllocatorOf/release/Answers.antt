@@ -1,4 +1,4 @@
-use Rattle.offset_allocator.proofs.Common.{◌≡◌, false, refl, ◌+◌, ◌∙◌, ℕ, ap, arith, sym, Node, IsWellFormed, IsBinned, bins_in, HasPlace, Frees}
+use Rattle.offset_allocator.proofs.Common.{take, ◌≡◌, false, refl, ◌+◌, ◌∙◌, ℕ, ap, arith, sym, Node, IsWellFormed, IsBinned, bins_in, HasPlace, Frees}
 use Rattle.offset_allocator.proofs.{Filed.unlisted, Sound.Fields, Sound.AreSound, Sound.shown, Sound.fields_of, Sound.known_sound, Places.at_place, Freeing.Release, Freeing.at, Freeing.room_for}
 use Rattle.offset_allocator.proofs.{Freeing.filed, Freeing.freed, Freeing.named_live, Ranges.frees_gone, Ranges.frees_others, Reading.live_used, ViewTaken.well_frees}
 use Rattle.offset_allocator.proofs.AllocatorOf.release.Goals as goal
@@ -37,7 +37,8 @@ done g c k =
     let h = marked g here.After-set_used r in
     let m = c.coalesce.ensures.place _ _ h in
     let bins_are = rw (ap (λ (v : Node). v.size) (at_place m), (bins g here.After-set_used r).1) at (c.coalesce.ensures.lists _ _ h) in
-    let left = freed r new.cells new.last new.count new.top k m.chain c.coalesce.ensures.binned bins_are in
+    let left = freed r new.cells new.last new.count new.top k m.chain c.coalesce.ensures.binned bins_are
+    (rw (ap (take c.self.inside.store.spare_count) c.set_used.ensures.spare) at (c.coalesce.ensures.unused _ _ h)) in
     (rw (c.size-size.ensures.cell ∙ ap (λ (v : Node). v.size) (at_place (at r).held)) left.0, rw (← c.self.view_is) left.1)
 
 pub size-size-requires : goal.size-size-requires

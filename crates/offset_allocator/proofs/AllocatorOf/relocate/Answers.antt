@@ -1,7 +1,7 @@
 use Rattle.offset_allocator.proofs.Common.{◌≡◌, ℕ, Some, sym, ap, subst, ◌∙◌, arith, View, Handle, Allocates, Aligns, IsLive, IsWellFormed, Option, unwrap_or, size_of}
-use Rattle.offset_allocator.specs.Relocating.{offset_of, Relocates}
+use Rattle.offset_allocator.specs.Relocating.{WouldBegin, offset_of, Relocates}
 use Rattle.offset_allocator.specs.Relations.{SameState}
-use Rattle.offset_allocator.proofs.{Sound.fields_of, Sound.state_space, Sound.known_sound, Reading.live_below, Reading.live_size, Reading.live_offset}
+use Rattle.offset_allocator.proofs.{Sound.fields_of, Sound.known_sound, Reading.live_below, Reading.live_size, Reading.live_offset}
 use Rattle.offset_allocator.proofs.{Begins.Begins, Begins.none_relocates, Begins.later_relocates, Begins.earlier_relocates, Begins.relocated_grants, Begins.relocated_before}
 use Rattle.offset_allocator.proofs.AllocatorOf.relocate.Goals as goal
 use Rattle.offset_allocator.proofs.AllocatorOf.relocate.{Goals.After-would_begin, Goals.After-serve, Given.Over}
@@ -33,7 +33,7 @@ its_offset g c = c.offset-old.ensures.cell
 -- what was found of the block
 found : (g : Over) (c : After-would_begin g) → Begins c.args.self.now c.args.allocation.name c.size-size.result c.offset-old.result (its_size g c) (its_offset g c) c.would_begin.result
 found g c =
-    subst (λ (v : View). (k : ℕ) × ((w : View) (h : Handle) → Allocates c.size-size.result (record v { accesses = k }) w (Some h) → c.would_begin.result ≡ Some h.offset)) c.self.view_is
+    subst (λ (v : View). (k : ℕ) × ((m : ℕ) → WouldBegin c.size-size.result (record v { accesses = k }) m → c.would_begin.result ≡ Some m)) c.self.view_is
     (_, c.would_begin.ensures.begins)
 
 the_same : (g : Over) (c : After-would_begin g) → SameState c.args.self.now c.would_begin.new.self
@@ -44,7 +44,7 @@ returns-in_err-begins-clause-step g c =
     let at = (goal.at.returns-in_err-begins-clause-step g c).After-would_begin in
     subst (λ (h : Option Handle). Relocates c.args.allocation.name c.args.self.now c.would_begin.new.self h) (sym c.from_residual.ensures)
     (none_relocates c.args.self.now c.args.allocation.name c.size-size.result c.offset-old.result (its_size g at) (its_offset g at) c.would_begin.result
-    (found g at) c.in_err-begins.was c.would_begin.new.self (state_space c.args.self.now c.would_begin.new.self (the_same g at)))
+    (found g at) c.in_err-begins.was c.would_begin.new.self (the_same g at))
 
 pub returns-then-begins-old-clause-step : goal.returns-then-begins-old-clause-step
 returns-then-begins-old-clause-step g c =
@@ -72,4 +72,4 @@ returns-else-begins-old-clause-step g c =
     let at = (goal.at.returns-else-begins-old-clause-step g c).After-would_begin in
     later_relocates c.args.self.now c.args.allocation.name c.size-size.result c.offset-old.result (its_size g at) (its_offset g at) c.would_begin.result
     (found g at) c.in_ok-begins.begins c.in_ok-begins.was (omega (arith, c.if-begins-old.false))
-    c.would_begin.new.self (state_space c.args.self.now c.would_begin.new.self (the_same g at))
+    c.would_begin.new.self (the_same g at)

@@ -1,8 +1,9 @@
-use Rattle.offset_allocator.proofs.Common.{◌≡◌, ◌-◌, ◌≤◌, ◌∙◌, ℕ, [], length, refl, sym, ap, subst, arith, inr, false, Node, node, ChainCells, View}
+use Rattle.offset_allocator.proofs.Common.{◌∷◌, ◌++◌, List, ap₂, take, ◌≡◌, ◌-◌, ◌≤◌, ◌∙◌, ℕ, [], length, refl, sym, ap, subst, arith, inr, false, Node, node, ChainCells, View}
 use Rattle.offset_allocator.specs.Retracting.{Retracts}
 use Rattle.offset_allocator.proofs.{Sound.shown, Sound.fields_of, Classes.down_small, Ends.last_none, Places.at_place, Places.end_place, Places.previous_place, Places.kept_place}
 use Rattle.offset_allocator.proofs.Extending.{EndsFree, last_of, last_held, last_size, last_free, last_listed, last_unlisted}
 use Rattle.offset_allocator.proofs.Retracted.{Cut, size_fits, free_fits, narrowed_to, dropped, too_few}
+use Rattle.offset_allocator.proofs.Names.{kept_unused}
 use Rattle.offset_allocator.proofs.AllocatorOf.take_end.Goals as goal
 use Rattle.offset_allocator.proofs.AllocatorOf.take_end.{Goals.After-size-size, Goals.After-remove, Goals.After-drop_end, Goals.After-push, Given.Over}
 
@@ -70,6 +71,7 @@ done_some g c r e l k =
     let place = c.drop_end.ensures.place _ i.front i.block (last_of r).last (kept_place c.remove.ensures.chain i.place) (last_free r) in
     dropped r c.args.less l i.front i.block i.is (omega (arith, e, l, c.in-Some.ensures.some.0)) _ k _ place.chain (rw (c.drop_end.ensures.bins.0, c.drop_end.ensures.bins.1) c.remove.ensures.binned)
     (rw (c.drop_end.ensures.bins.0, c.remove.ensures.lists, c.size-size.ensures.cell) refl)
+    (c.drop_end.ensures.unused ∙ ap₂ (λ (u : List ℕ) (n : ℕ). u ++ n ∷ []) (kept_unused c.remove.ensures.chain) c.remove.ensures.chain.1)
 
 -- some of it stays
 done_none : (g : Over) (c : After-push g) (r : EndsFree (fields_of g.T.Tables.cells g.T.Index.NodeIndex.MAX c.self.inside)) (e : c.size-size.result ≡ (last_of r).last.size) (l : c.args.less
@@ -83,7 +85,8 @@ done_none g c r e l k =
     (narrowed_to r c.args.less l ((node (g.T.Tables.cells c.self.inside.store.tables).chain c.self.inside.store.last).size - c.args.less) (omega (arith, e, c.size-size.ensures.cell)) alone
     (g.T.Tables.cells c.push.new.store.tables) k
     (rw (c.push.ensures.chain.0, ← c.size-size.ensures.cell) trimmed.chain) c.push.ensures.binned
-    (rw (c.trim.ensures.bins, c.remove.ensures.lists, c.uint_to_float_round_down.ensures.is, c.size-size.ensures.cell) at c.push.ensures.lists))
+    (rw (c.trim.ensures.bins, c.remove.ensures.lists, c.uint_to_float_round_down.ensures.is, c.size-size.ensures.cell) at c.push.ensures.lists)
+    (ap (take c.self.inside.store.spare_count) (ap (λ (t : ChainCells). t.spare) c.push.ensures.chain.0 ∙ c.trim.ensures.spare ∙ ap (λ (t : ChainCells). t.spare) c.remove.ensures.chain.0)))
 
 pub invariant_of-self-in-Some : goal.invariant_of-self-in-Some
 invariant_of-self-in-Some g c =

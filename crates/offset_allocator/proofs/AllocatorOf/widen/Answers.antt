@@ -1,4 +1,4 @@
-use Rattle.offset_allocator.proofs.Common.{◌+◌, ◌∙◌, ℕ, length, false, ap, arith, Node, ChainCells}
+use Rattle.offset_allocator.proofs.Common.{take, ◌+◌, ◌∙◌, ℕ, length, false, ap, arith, Node, ChainCells}
 use Rattle.offset_allocator.proofs.Extending.{Growth, Grown, b_used, end_held, end_small, free_fits, widen_listed, widen_unlisted, widened}
 use Rattle.offset_allocator.proofs.{Sound.fields_of, Classes.down_small, Places.at_place, Places.end_place}
 use Rattle.offset_allocator.proofs.AllocatorOf.widen.Goals as goal
@@ -44,7 +44,8 @@ done g c r k =
     let grown = c.grow.ensures.place _ _ _ _ (end_held r c.remove.ensures.chain.0) in
     rw (c.push.ensures.chain.1, c.push.ensures.chain.2, c.remove.ensures.chain.1, c.remove.ensures.chain.2)
     (widened r (g.T.Tables.cells c.push.new.store.tables) k (rw c.push.ensures.chain.0 grown.chain) c.push.ensures.binned
-    (rw (c.grow.ensures.bins, c.remove.ensures.lists, c.uint_to_float_round_down.ensures.is, c.size-size.ensures.cell) at c.push.ensures.lists))
+    (rw (c.grow.ensures.bins, c.remove.ensures.lists, c.uint_to_float_round_down.ensures.is, c.size-size.ensures.cell) at c.push.ensures.lists)
+    (ap (take c.self.inside.store.spare_count) (ap (λ (t : ChainCells). t.spare) c.push.ensures.chain.0 ∙ c.grow.ensures.spare ∙ ap (λ (t : ChainCells). t.spare) c.remove.ensures.chain.0)))
 
 pub invariant_of-self : goal.invariant_of-self
 invariant_of-self g c = let at = goal.at.invariant_of-self g c in (done g at.After-push (pre g at.After-self) 0).0

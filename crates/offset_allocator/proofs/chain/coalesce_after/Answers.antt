@@ -1,6 +1,7 @@
-use Rattle.offset_allocator.proofs.Common.{ap, arith, refl, Cells, ChainCells, common_steps}
+use Rattle.offset_allocator.proofs.Common.{◌∙◌, ap, arith, refl, Cells, ChainCells, common_steps}
 use Rattle.offset_allocator.proofs.Nodes.{length-put, spare-put, nodes-with_spare}
-use Rattle.offset_allocator.proofs.{Exchange.relinked_spare, Places.next_place, Places.next_below, Places.spare_room, Writes.coalesce_after_place}
+use Rattle.offset_allocator.proofs.{Exchange.back_to, Exchange.relinked_spare, Places.next_place, Places.next_below, Places.spare_room, Writes.coalesce_after_place}
+use Rattle.offset_allocator.proofs.{Names.put_back}
 use Rattle.offset_allocator.proofs.chain.coalesce_after.Goals as goal
 
 pub after-next-requires : goal.after-next-requires
@@ -32,3 +33,10 @@ returns-clause-nodes g c = rw (c.set_spare.ensures.cells, nodes-with_spare, c.po
 
 pub returns-clause-accesses : goal.returns-clause-accesses
 returns-clause-accesses g c = (omega arith, omega arith)
+
+pub returns-clause-unused : goal.returns-clause-unused
+returns-clause-unused g c =
+    let room : Cells → ChainCells = λ v. v.chain in
+    let h = c.requires.place.2 in
+    put_back _ _ _ _ _ (spare_room h) (relinked_spare (back_to _) _ _ _ c.point_back.ensures.cells ∙ rw (c.set_end.ensures.cells, spare-put) refl)
+    (rw c.link_to.ensures.number at (ap room c.set_spare.ensures.cells))

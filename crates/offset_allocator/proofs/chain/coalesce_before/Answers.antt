@@ -1,6 +1,7 @@
-use Rattle.offset_allocator.proofs.Common.{ap, arith, refl, Cells, ChainCells, common_steps}
+use Rattle.offset_allocator.proofs.Common.{◌∙◌, ap, arith, refl, Cells, ChainCells, common_steps}
 use Rattle.offset_allocator.proofs.Places.{previous_place, previous_below, spare_room}
-use Rattle.offset_allocator.proofs.{Exchange.relinked_spare, Nodes.length-put, Nodes.spare-put, Nodes.nodes-with_spare, Writes.coalesce_before_place}
+use Rattle.offset_allocator.proofs.{Exchange.on_to, Exchange.relinked_spare, Nodes.length-put, Nodes.spare-put, Nodes.nodes-with_spare, Writes.coalesce_before_place}
+use Rattle.offset_allocator.proofs.{Names.put_back}
 use Rattle.offset_allocator.proofs.chain.coalesce_before.Goals as goal
 
 pub offset-offset-requires : goal.offset-offset-requires
@@ -35,3 +36,10 @@ returns-clause-nodes g c = rw (c.set_spare.ensures.cells, nodes-with_spare, c.po
 
 pub returns-clause-accesses : goal.returns-clause-accesses
 returns-clause-accesses g c = (omega arith, omega arith)
+
+pub returns-clause-unused : goal.returns-clause-unused
+returns-clause-unused g c =
+    let room : Cells → ChainCells = λ v. v.chain in
+    let h = c.requires.place.2 in
+    put_back _ _ _ _ _ (spare_room h) (relinked_spare (on_to _) _ _ _ c.point_on.ensures.cells ∙ rw (c.set_start.ensures.cells, spare-put) refl)
+    (rw c.link_to.ensures.number at (ap room c.set_spare.ensures.cells))

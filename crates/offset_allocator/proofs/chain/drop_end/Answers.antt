@@ -1,5 +1,6 @@
 use Rattle.offset_allocator.proofs.Common.{◌≡◌, ℕ, sym, ap, subst, ◌∙◌, arith, [], Node, HasPlace}
 use Rattle.offset_allocator.proofs.{Places.at_place, Places.after_fits, Dropped.next_is, Dropped.end_node, Dropped.joined, Dropped.joined_last}
+use Rattle.offset_allocator.proofs.{Common.take}
 use Rattle.offset_allocator.proofs.chain.drop_end.Goals as goal
 
 pub overflow_add-kept : goal.overflow_add-kept
@@ -31,3 +32,6 @@ returns-clause-place g c m before a b h free =
 
 pub returns-clause-last : goal.returns-clause-last
 returns-clause-last g c = let r = c.requires.place in joined_last r.1 r.2 r.3 (c.coalesce_after.ensures.place r.0 _ r.4) r.5
+
+pub returns-clause-unused : goal.returns-clause-unused
+returns-clause-unused g c = ap (take _) c.trim.ensures.spare ∙ c.coalesce_after.ensures.unused

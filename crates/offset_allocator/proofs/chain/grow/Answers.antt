@@ -1,5 +1,6 @@
 use Rattle.offset_allocator.proofs.Common.{ap, arith, [], ◌∷◌, Cells, Node, units}
 use Rattle.offset_allocator.proofs.{Views.blocks-chain, Places.at_place, Writes.grow_place, Tallies.units-append}
+use Rattle.offset_allocator.proofs.{Common.refl, Nodes.spare-put}
 use Rattle.offset_allocator.proofs.chain.grow.Goals as goal
 
 pub overflow_add-size : goal.overflow_add-size
@@ -10,3 +11,6 @@ overflow_add-size g c =
 pub returns-clause-place : goal.returns-clause-place
 returns-clause-place g c m spare before b h =
     grow_place c.args.more h (omega (arith, ap units (blocks-chain _ _ _ _ _ h.chain), c.requires.fits)) c.size-size.ensures.cell (ap (λ (v : Cells). v.chain) c.set_size.ensures.cells)
+
+pub returns-clause-spare : goal.returns-clause-spare
+returns-clause-spare g c = rw (c.set_size.ensures.cells, spare-put) refl

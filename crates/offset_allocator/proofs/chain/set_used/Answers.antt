@@ -1,4 +1,5 @@
 use Rattle.offset_allocator.proofs.{Common.ap, Common.Cells, Uses.binned_marked, Writes.mark_place}
+use Rattle.offset_allocator.proofs.{Common.refl, Nodes.spare-put}
 use Rattle.offset_allocator.proofs.chain.set_used.Goals as goal
 
 pub returns-clause-place : goal.returns-clause-place
@@ -6,3 +7,6 @@ returns-clause-place g c m last spare p h = mark_place h (ap (λ (v : Cells). v.
 
 pub returns-clause-bins : goal.returns-clause-bins
 returns-clause-bins g c top fresh held = binned_marked c.args.name _ held fresh (ap (λ (v : Cells). v.bins) c.set_used.ensures.cells)
+
+pub returns-clause-spare : goal.returns-clause-spare
+returns-clause-spare g c = rw (c.set_used.ensures.cells, spare-put) refl

@@ -1,5 +1,6 @@
 use Rattle.offset_allocator.proofs.Common.{◌∙◌, ap, arith, refl, Cells, ChainCells, Node}
 use Rattle.offset_allocator.proofs.{Exchange.top, Nodes.length-put, Places.at_place, Places.end_fits, Places.next_below, Writes.split_place}
+use Rattle.offset_allocator.proofs.{Exchange.back_to, Exchange.relinked_spare, Names.top_taken, Nodes.spare-put}
 use Rattle.offset_allocator.proofs.chain.split.Goals as goal
 
 pub overflow_add-offset : goal.overflow_add-offset
@@ -48,3 +49,9 @@ returns-clause-nodes g c = rw (c.point_back.ensures.nodes, c.set_end.ensures.cel
 
 pub returns-clause-accesses : goal.returns-clause-accesses
 returns-clause-accesses g c = (omega arith, omega arith)
+
+pub returns-clause-unused : goal.returns-clause-unused
+returns-clause-unused g c =
+    let h = c.requires.place.2.chain in
+    top_taken _ _ _ _ c.requires.spare (omega (arith, h.full, h.stack)) (c.number-rest.ensures.number ∙ c.spare.ensures.cell)
+    (relinked_spare (back_to _) _ _ _ c.point_back.ensures.cells ∙ rw (c.set_end.ensures.cells, spare-put, c.set_block.ensures.cells, spare-put) refl)

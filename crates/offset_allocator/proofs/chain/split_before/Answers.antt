@@ -1,5 +1,6 @@
 use Rattle.offset_allocator.proofs.Common.{◌∙◌, ap, arith, refl, Cells, ChainCells, Node}
 use Rattle.offset_allocator.proofs.{Exchange.top, Nodes.length-put, Places.at_place, Places.end_fits, Places.previous_below, Writes.split_before_place}
+use Rattle.offset_allocator.proofs.{Exchange.on_to, Exchange.relinked_spare, Names.top_taken, Nodes.spare-put}
 use Rattle.offset_allocator.proofs.chain.split_before.Goals as goal
 
 pub set_block-requires-clause-name : goal.set_block-requires-clause-name
@@ -48,3 +49,9 @@ returns-clause-nodes g c = rw (c.point_on.ensures.nodes, c.set_start.ensures.cel
 
 pub returns-clause-accesses : goal.returns-clause-accesses
 returns-clause-accesses g c = (omega arith, omega arith)
+
+pub returns-clause-unused : goal.returns-clause-unused
+returns-clause-unused g c =
+    let h = c.requires.place.2.chain in
+    top_taken _ _ _ _ c.requires.spare (omega (arith, h.full, h.stack)) (c.number-front.ensures.number ∙ c.spare.ensures.cell)
+    (relinked_spare (on_to _) _ _ _ c.point_on.ensures.cells ∙ rw (c.set_start.ensures.cells, spare-put, c.set_block.ensures.cells, spare-put) refl)

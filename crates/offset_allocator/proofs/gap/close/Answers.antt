@@ -1,6 +1,7 @@
 use Rattle.offset_allocator.proofs.Common.{ap, refl, None, first_or, last_or, Cells, ChainCells}
 use Rattle.offset_allocator.proofs.Nodes.{length-put}
 use Rattle.offset_allocator.proofs.Gaps.{gap_below, before_some, after_some, closed}
+use Rattle.offset_allocator.proofs.{Common.take, Common.◌∙◌, Exchange.back_to, Exchange.on_to, Exchange.relinked_spare, Nodes.spare-put}
 use Rattle.offset_allocator.proofs.gap.close.Goals as goal
 
 pub set_block-requires-clause-name : goal.set_block-requires-clause-name
@@ -32,3 +33,6 @@ returns-clause-place g c m p i l =
     closed (g.T.Tables.cells c.point_on.new.tables).chain p.before p.block p.after i.there (rw (i.offset, i.size, i.link, l) at (ap room c.set_block.ensures.cells))
     (rw i.link at c.point_on.ensures.cells)
     (rw l at c.point_back.ensures.cells) (rw l at c.point_back.ensures.last)
+
+pub returns-clause-unused : goal.returns-clause-unused
+returns-clause-unused g c = ap (take _) (relinked_spare (back_to _) _ _ _ c.point_back.ensures.cells ∙ relinked_spare (on_to _) _ _ _ c.point_on.ensures.cells ∙ rw (c.set_block.ensures.cells, spare-put) refl)

@@ -1,5 +1,6 @@
-use Rattle.offset_allocator.proofs.Common.{◌∙◌, ap, sym, arith, Cells, ChainCells, node}
+use Rattle.offset_allocator.proofs.Common.{◌∙◌, ◌∷◌, length, length-append, ap, refl, sym, arith, Cells, ChainCells, node}
 use Rattle.offset_allocator.proofs.Gaps.{follows, next_node, next_below, next_fits, taken_in}
+use Rattle.offset_allocator.proofs.Names.{put_back}
 use Rattle.offset_allocator.proofs.gap.gather.Goals as goal
 
 pub link_to-requires : goal.link_to-requires
@@ -25,3 +26,10 @@ returns-clause-gap g c m p b bs i e named idle =
       size = omega (arith, i.size, size);
       link = i.link;
     }
+
+pub returns-clause-unused : goal.returns-clause-unused
+returns-clause-unused g c =
+    let room : Cells → ChainCells = λ v. v.chain in
+    let h = c.requires.place.4.there in
+    put_back _ _ _ _ _ (omega (arith, h.full, h.stack, length-append c.requires.place.1.before (c.requires.place.1.block ∷ c.requires.place.1.after), ap length c.requires.place.5)) refl
+    (rw c.link_to.ensures.number at (ap room c.set_spare.ensures.cells))

@@ -1,6 +1,7 @@
 use Rattle.offset_allocator.proofs.Common.{◌∷◌, [], ◌∙◌, ap, refl, sym, arith, Some, last_or, None, Cells, ChainCells, node}
 use Rattle.offset_allocator.proofs.{Nodes.length-put, Rows.last_or-append, Tallies.units-append}
 use Rattle.offset_allocator.proofs.Gaps.{follows, before_some, next_node, next_below, next_fits, passed_by}
+use Rattle.offset_allocator.proofs.{Common.take, Exchange.on_to, Exchange.relinked_spare, Nodes.spare-put}
 use Rattle.offset_allocator.proofs.gap.pass.Goals as goal
 
 pub set_start-requires : goal.set_start-requires
@@ -39,3 +40,6 @@ returns-clause-gap g c m p b bs i e named =
       size = i.size;
       link = c.link_to-gap.ensures ∙ ap (λ n. Some n) (sym named) ∙ sym (last_or-append None p.before (b ∷ []));
     }
+
+pub returns-clause-unused : goal.returns-clause-unused
+returns-clause-unused g c = ap (take _) (relinked_spare (on_to _) _ _ _ c.point_on.ensures.cells ∙ rw (c.set_start.ensures.cells, spare-put) refl)

@@ -1,9 +1,11 @@
-use Rattle.offset_allocator.proofs.Common.{◌≡◌, ◌+◌, ◌++◌, true, false, List, refl, sym, ap, ap₂, subst, ◌∙◌, append-nil, Block, ◌*◌, remove, down, arith, FoldsTo, Node, node, Move, move_of}
+use Rattle.offset_allocator.proofs.Common.{ℕ, ◌∷◌, [], ◌≡◌, ◌+◌, ◌++◌, true, false, List, refl, sym, ap, ap₂, subst, ◌∙◌, append-nil, Block, ◌*◌, remove, down, arith, FoldsTo, Node, node, Move, move_of}
 use Rattle.offset_allocator.proofs.Common.{IsCalledWith, AreInBins, live, remove_all, bins_in}
 use Rattle.offset_allocator.proofs.Places.{at_place}
 use Rattle.offset_allocator.proofs.Gaps.{next_node, next_used, next_below, next_fits, kept_gap}
 use Rattle.offset_allocator.proofs.Stretches.{way_start, way_past, way_into, way_more, way_within, way_done, after_is, held, named, first_part}
-use Rattle.offset_allocator.proofs.Stretches.{filed_past, filed_next, filed_into, out_past, out_into, goes_on, is_last, not_last, run_some}
+use Rattle.offset_allocator.proofs.Stretches.{put_into, put_none, put_past, filed_past, filed_next, filed_into, out_past, out_into, goes_on, is_last, not_last, run_some}
+use Rattle.offset_allocator.proofs.Names.{kept_unused}
+use Rattle.offset_allocator.specs.{Names.free_blocks, Names.names_of, Store.unused_of}
 use Rattle.offset_allocator.proofs.gathering.slide_to.Goals as goal
 
 pub loop-next-init : goal.loop-next-init
@@ -16,7 +18,9 @@ loop-next-init g c = record {
     refl,
     subst (λ l. AreInBins l (bins_in g.T.Index.NodeIndex.MAX (g.T.Tables.cells c.args.store.now.tables).bins)) (ap₂ (λ (l k : List Block). l ++ k) (sym (append-nil p.before)) st.is) fl,
     run_some st.ends,
+    put_none _,
   );
+  name = c.open-gap.ensures.name;
 }
 
 pub size-more-requires : goal.size-more-requires
@@ -112,7 +116,9 @@ loop-next-preserved-then-is_used g c = record {
         out_past s f.0 f.1 f.2 _ _ used (ap (bins_in g.T.Index.NodeIndex.MAX) c.pass.ensures.bins.0 ∙ i.1),
         rw c.pass.ensures.bins.0 (filed_past s f.0 f.1 f.2 _ used i.2),
         goes_on s f.0 f.1 f.2 st.free used,
+        put_past _ s.done f.0 used c.pass.ensures.unused i.4,
       );
+  name = c.pass.ensures.name ∙ c.loop-next.invariant.name;
 }
 
 pub remove-requires-clause-listed : goal.remove-requires-clause-listed
@@ -221,10 +227,31 @@ loop-next-preserved g c = record {
         out_into s f.0 f.1 f.2 _ _ _ free gone i.1,
         rw gone (filed_into s f.0 f.1 f.2 _ free c.loop-next.invariant.binned.linked.lists_len i.2),
         not_last s f.0 f.1 f.2 c.args.end st.ends (λ q. c.if-next-end.false (sym n ∙ q)),
+        put_into _ s.done f.0 free n (c.gather.ensures.unused ∙ ap (λ (u : List ℕ). u ++ c.in-Some.next ∷ []) (kept_unused c.remove.ensures.chain)) i.4,
       );
+  name = c.gather.ensures.name ∙ c.loop-next.invariant.name;
 }
 
 pub returns-clause-place : goal.returns-clause-place
 returns-clause-place g c m p run back h st fl =
+    let i = c.loop-next.invariant.at m p run back h st fl in
+    absurd (way_more i.0 i.3 (sym c.linked.ensures ∙ c.in_default.is))
+
+pub returns-then-next-end-clause-unused : goal.returns-then-next-end-clause-unused
+returns-then-next-end-clause-unused g c m p run back h st fl =
+    let i = c.loop-next.invariant.at m p run back h st fl in
+    let s = i.0 in
+    let f = first_part s.rest i.3 in
+    let n = named s f.0 f.1 f.2 (sym c.linked.ensures ∙ c.in-Some.is) in
+    let t = (g.T.Tables.cells c.loop-next.store.tables).chain in
+    let free : f.0.used ≡ false = sym (next_used _ _ f.0 _ (held s f.0 f.1 f.2)) ∙ ap (λ k. (node t k).used) n ∙ sym c.is_used.ensures.cell ∙ c.if-is_used.false in
+    let all : s.done ++ f.0 ∷ [] ≡ run =
+    sym (s.is ∙ ap (λ (l : List Block). s.done ++ l) (f.2 ∙ ap (λ (l : List Block). f.0 ∷ l) (is_last s f.0 f.1 f.2 c.args.end st.ends (n ∙ c.if-next-end.true)))) in
+    c.close.ensures.unused
+    ∙ put_into (unused_of g.T.Tables.cells c.args.store.now) s.done f.0 free n (c.gather.ensures.unused ∙ ap (λ (u : List ℕ). u ++ c.in-Some.next ∷ []) (kept_unused c.remove.ensures.chain)) i.4
+    ∙ ap (λ (l : List Block). unused_of g.T.Tables.cells c.args.store.now ++ names_of (free_blocks l)) all
+
+pub returns-clause-unused : goal.returns-clause-unused
+returns-clause-unused g c m p run back h st fl =
     let i = c.loop-next.invariant.at m p run back h st fl in
     absurd (way_more i.0 i.3 (sym c.linked.ensures ∙ c.in_default.is))

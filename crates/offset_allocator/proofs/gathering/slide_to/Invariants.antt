@@ -1,12 +1,13 @@
 use Rattle.offset_allocator.proofs.Common.{◌≡◌, ◌≤◌, ℕ, ◌+◌, ◌-◌, ◌*◌, ◌++◌, [], List, length, Place, Block, HasPlace, IsCalledWith, IsBinned, bins_in, AreInBins, live, remove_all, link_of}
-use Rattle.offset_allocator.proofs.Stretches.{IsOnTheWay}
-use Rattle.offset_allocator.specs.Room.{IsStretch}
+use Rattle.offset_allocator.proofs.Stretches.{HasPut, IsOnTheWay}
+use Rattle.offset_allocator.specs.{Room.IsStretch, Store.unused_of}
 use Rattle.offset_allocator.proofs.gathering.slide_to.Given as goal
 
 abbrev pub invariant-loop-next : goal.invariant-loop-next
 invariant-loop-next g l = record {
   callable : goal.F-IsAlwaysCallable g l.moved;
   binned : IsBinned g.T.Index.NodeIndex.MAX (g.T.Tables.cells l.store.tables).bins l.store.top_mask;
+  name : l.gap.name ≡ l.name;
   grows : l.initial.store.accesses ≤ l.store.accesses;
   at : (m : ℕ) (p : Place) (run back : List Block) → HasPlace (g.T.Tables.cells l.initial.store.tables).chain m l.initial.store.last l.initial.store.spare_count l.name p
       → IsStretch p run back l.end → AreInBins (p.before ++ p.after) (bins_in g.T.Index.NodeIndex.MAX (g.T.Tables.cells l.initial.store.tables).bins)
@@ -15,7 +16,8 @@ invariant-loop-next g l = record {
       (link_of g.T.Index.NodeIndex.MAX (g.T.Index.NodeIndex.number l.at)) l.moved l.store.accesses)
       × (bins_in g.T.Index.NodeIndex.MAX (g.T.Tables.cells l.store.tables).bins ≡ remove_all s.done (bins_in g.T.Index.NodeIndex.MAX (g.T.Tables.cells l.initial.store.tables).bins))
       × AreInBins ((p.before ++ live s.done) ++ (s.rest ++ back)) (bins_in g.T.Index.NodeIndex.MAX (g.T.Tables.cells l.store.tables).bins)
-      × (s.rest ≡ [] → ⊥);
+      × (s.rest ≡ [] → ⊥)
+      × HasPut (unused_of g.T.Tables.cells l.initial.store) s.done (unused_of g.T.Tables.cells l.store);
 }
 
 abbrev pub decreases-loop-next : goal.decreases-loop-next

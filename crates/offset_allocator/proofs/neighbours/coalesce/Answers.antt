@@ -1,6 +1,8 @@
-use Rattle.offset_allocator.proofs.Common.{◌≡◌, ◌+◌, refl, sym, ap, arith, ◌∙◌, Node, node, push}
+use Rattle.offset_allocator.proofs.Common.{ap₂, ◌++◌, ℕ, List, append-nil, append_assoc, free_end, free_start, ◌≡◌, ◌+◌, refl, sym, ap, arith, ◌∙◌, Node, node, push}
 use Rattle.offset_allocator.proofs.Places.{at_place, next_place, previous_place, kept_before, kept_after, kept_place, free_before, free_after, before_fits, after_fits}
 use Rattle.offset_allocator.proofs.{Classes.down_small, Filed.unlisted, Filed.previous_filed, Filed.next_filed, Filed.filed_before, Filed.next_same}
+use Rattle.offset_allocator.proofs.Names.{kept_unused, name_after, name_before, names-append}
+use Rattle.offset_allocator.specs.{Names.names_of, Store.unused_of}
 use Rattle.offset_allocator.proofs.neighbours.coalesce.Goals as goal
 use Rattle.offset_allocator.proofs.neighbours.coalesce.Goals.{in-Some, in_default+in-Some-free_before}
 
@@ -148,3 +150,21 @@ returns-clause-binned g c = c.exchange.ensures.binned
 
 pub exchange-requires-clause-binned : goal.exchange-requires-clause-binned
 exchange-requires-clause-binned g c = grind (arith, in-Some, in_default+in-Some-free_before)
+
+pub returns-in_default-free_before-clause-unused : goal.returns-in_default-free_before-clause-unused
+returns-in_default-free_before-clause-unused g c m p h =
+    rw (c.in_default-free_before.ensures.free _ _ _ _ h, c.in_default.ensures.free _ _ _ _ h) (kept_unused c.push.ensures.chain ∙ sym (append-nil _))
+
+pub returns-clause-unused : goal.returns-clause-unused
+returns-clause-unused g c m p h = kept_unused c.exchange.ensures.chain ∙ elim c.match-next.branch [
+  | in-Some w ↦
+      let merged = w.with_before-size.ensures.place _ _ h in
+      let same = next_same h merged refl w.in-Some.ensures.free.0 in
+      rw w.store-is (w.coalesce_after.ensures.unused
+      ∙ ap₂ (λ (u xs : List ℕ). u ++ xs) (w.with_before-size.ensures.unused _ _ h) (sym (name_after merged same.0 (same.1 ∙ w.in-Some.ensures.free.1)))
+      ∙ append_assoc _ (names_of (free_end p.before)) (names_of (free_start p.after)) ∙ ap (λ (xs : List ℕ). unused_of g.T.Tables.cells c.args.store.now ++ xs) (sym (names-append (free_end p.before) (free_start p.after))))
+  | in_default+in-Some-free_before w ↦
+      let before = w.in-Some-free_before.ensures.free in
+      rw (w.store-is, w.in_default.ensures.free _ _ _ _ h, append-nil) (w.coalesce_before.ensures.unused
+      ∙ ap (λ (xs : List ℕ). unused_of g.T.Tables.cells c.args.store.now ++ xs) (sym (name_before h before.0 before.1)))
+]

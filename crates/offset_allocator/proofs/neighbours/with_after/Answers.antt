@@ -1,5 +1,6 @@
-use Rattle.offset_allocator.proofs.Common.{refl, sym, ap, arith, Node}
+use Rattle.offset_allocator.proofs.Common.{refl, sym, ap₂, ◌∙◌, ◌++◌, ℕ, List, append-nil, ap, arith, Node}
 use Rattle.offset_allocator.proofs.{Places.at_place, Places.next_place, Places.kept_after, Places.free_after, Places.after_fits, Places.kept_place, Filed.next_filed}
+use Rattle.offset_allocator.proofs.Names.{kept_unused, name_after}
 use Rattle.offset_allocator.proofs.neighbours.with_after.Goals as goal
 
 pub returns-in-None-clause-place : goal.returns-in-None-clause-place
@@ -36,3 +37,11 @@ returns-in-Some-clause-size g c =
 
 pub returns-in-Some-clause-accesses_min : goal.returns-in-Some-clause-accesses_min
 returns-in-Some-clause-accesses_min g c some = omega (arith, c.size-more.ensures.accesses, c.remove.ensures.accesses.0, c.coalesce_after.ensures.accesses.0)
+
+pub returns-in-Some-clause-unused : goal.returns-in-Some-clause-unused
+returns-in-Some-clause-unused g c m p h =
+    let next = rw c.in-Some.is at c.requires.next in
+    c.coalesce_after.ensures.unused ∙ ap₂ (λ (u xs : List ℕ). u ++ xs) (kept_unused c.remove.ensures.chain) (sym (name_after h next.0 next.1))
+
+pub returns-in-None-clause-unused : goal.returns-in-None-clause-unused
+returns-in-None-clause-unused g c m p h = rw ((rw c.in-None.is at c.requires.next) _ _ _ _ h) (sym (append-nil _))

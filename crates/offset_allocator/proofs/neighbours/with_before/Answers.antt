@@ -1,5 +1,6 @@
-use Rattle.offset_allocator.proofs.Common.{refl, sym, ap, arith, Node}
+use Rattle.offset_allocator.proofs.Common.{refl, sym, ap₂, ◌∙◌, ◌++◌, ℕ, List, append-nil, ap, arith, Node}
 use Rattle.offset_allocator.proofs.{Places.at_place, Places.previous_place, Places.kept_before, Places.free_before, Places.before_fits, Places.kept_place, Filed.previous_filed}
+use Rattle.offset_allocator.proofs.Names.{kept_unused, name_before}
 use Rattle.offset_allocator.proofs.neighbours.with_before.Goals as goal
 
 pub size-more-requires : goal.size-more-requires
@@ -36,3 +37,11 @@ returns-clause-place g c m p h = kept_before h (c.in_default.ensures.free _ _ _ 
 
 pub returns-clause-lists : goal.returns-clause-lists
 returns-clause-lists g c m p h = rw (c.in_default.ensures.free _ _ _ _ h) refl
+
+pub returns-in-Some-clause-unused : goal.returns-in-Some-clause-unused
+returns-in-Some-clause-unused g c m p h =
+    c.coalesce_before.ensures.unused
+    ∙ ap₂ (λ (u xs : List ℕ). u ++ xs) (kept_unused c.remove.ensures.chain) (sym (name_before h c.in-Some.ensures.free.0 c.in-Some.ensures.free.1))
+
+pub returns-clause-unused : goal.returns-clause-unused
+returns-clause-unused g c m p h = rw (c.in_default.ensures.free _ _ _ _ h) (sym (append-nil _))

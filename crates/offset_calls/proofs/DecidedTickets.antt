@@ -1,0 +1,161 @@
+-- The same call in the same guarded allocator, with the same tickets, has the same reply, and leaves the same tickets.
+use Rattle.offset_calls.proofs.Common.{◌≡◌, ℕ, ◌+◌, ◌-◌, Bool, true, false, ◌⊎◌, List, [], ◌∷◌, ◌++◌, length, Option, Some, None, refl, sym, ap, ap₂, subst, subst₂, ◌∙◌, inl, inr, arith, length-append}
+use Rattle.offset_calls.proofs.Common.{length-map, map-append, if◌then◌else◌, View, Handle, IsWellFormed, kept_name, IfNamed, IsKept, Call, Command, Reply, Answer, Takes, Guard, Ticket, handle_in, handle_of, handles_of}
+use Rattle.offset_calls.proofs.Common.{meant, AreInOrder, IsGrown, IsLedger, Serves}
+use Rattle.std.proofs.lemmas.List.{length-set}
+use Rattle.offset_allocator.specs.Relations.{SameState}
+use Rattle.offset_allocator.proofs.Decided.{last_same}
+use Rattle.offset_script.specs.Steps.{AreNamedApart}
+use Rattle.offset_script.specs.Steps as script
+use Rattle.offset_script.specs.Machine as machine
+use Rattle.offset_script.specs.declared.scripts.Command.TheVariants as command
+use Rattle.offset_calls.specs.declared.calls.Call.TheVariants as call
+use Rattle.offset_calls.specs.declared.guarded.TicketCall.{TicketCall}
+use Rattle.offset_calls.specs.Tickets.{AreServed}
+use Rattle.offset_guarded.specs.State.{SameGuard}
+use Rattle.offset_calls.proofs.{Decided.takes_decided, Tickets.kept_serial}
+
+-- ---- handles
+-- as many handles as before, or the one of a grant after them
+abbrev AreMore : List (Option Handle) → List (Option Handle) → Type 0
+AreMore hs left = (length left ≡ length hs) ⊎ ((a : Handle) × (left ≡ hs ++ Some a ∷ []))
+
+module _ (v w : View) (hs left : List (Option Handle)) where
+  either : (o : Option ℕ) (P : ℕ → Type 0) (Q A : Type 0) → ((x : ℕ) → P x → A) → (Q → A) → IfNamed o P Q → A
+  either None P Q A f g t = g t
+  either (Some x) P Q A f g t = f x t
+
+  same : left ≡ hs → AreMore hs left
+  same e = inl (ap length e)
+
+  more : (r : Option Handle) (a : machine.Answer) → IsKept r hs left a → AreMore hs left
+  more None a k = same k.0
+  more (Some h) a k = inr (h, k.0)
+
+  more_command : (c : Command) (a : machine.Answer) → script.Takes c v hs w left a → AreMore hs left
+  more_command (command.Alloc n) a t = more t.0 a t.2
+  more_command (command.Free i) a t = either (kept_name hs i) _ _ _ (λ x u. inl (ap length u.1 ∙ length-set hs (i - 1) None)) (λ u. same u.0.1) t
+  more_command (command.Size i) a t = same t.0.1
+  more_command command.Report a t = same t.0.1
+  more_command command.Full a t = same t.0.1
+  more_command command.Reset a t = inl t.1
+  more_command (command.Align n align) a t = more t.0 a t.2
+  more_command (command.Extend more) a t = same t.2
+
+  more_call : (c : Call) (r : Reply) → Takes c v hs w left r → AreMore hs left
+  more_call (call.Command c) r t = more_command c t.0 t.1
+  more_call (call.Shrink i n) r t = either (kept_name hs i) _ _ _ (λ x u. same u.2) (λ u. same u.0.1) t
+  more_call (call.Grow i n) r t = either (kept_name hs i) _ _ _ (λ x u. same u.2) (λ u. same u.0.1) t
+  more_call call.Compact r t = same t.1
+  more_call (call.Offset i) r t = same t.0.1
+  more_call (call.Refusal n) r t = same t.0.1
+  more_call (call.RefusalAligned n align) r t = same t.0.1
+  more_call (call.Tight n) r t = more t.0 t.1 t.3
+  more_call (call.TightAligned n align) r t = more t.0 t.1 t.3
+  more_call (call.RefusalTight n) r t = same t.0.1
+  more_call (call.RefusalTightAligned n align) r t = same t.0.1
+  more_call (call.MakeRoom n) r t = same t.1
+  more_call (call.RoomCost n) r t = same t.0.1
+  more_call (call.Relocate i) r t = either (kept_name hs i) _ _ _ (λ x u. more u.0 u.1 u.3) (λ u. same u.0.1) t
+  more_call (call.Retract n) r t = same t.2
+  more_call call.First r t = same t.0.1
+  more_call call.Last r t = same t.0.1
+  more_call (call.Before i) r t = same t.0.1
+  more_call (call.After i) r t = same t.0.1
+
+-- ---- tickets
+last_realm : (realm n : ℕ) (ts : List Ticket) (t : Ticket) → AreInOrder realm n (ts ++ t ∷ []) → t.realm ≡ realm
+last_realm realm n [] t o = o.1
+last_realm realm n (x ∷ ts) t o = last_realm realm (n + 1) ts t o.2
+
+-- the handle of a live ticket has its name
+handle_name : (h : Guard) (t : Ticket) (a : Handle) → handle_of h t ≡ Some a → t.name ≡ a.name
+handle_name h t a e = go _ e
+  where
+    go : (b : Bool) → (if b then Some (handle_in t) else None) ≡ Some a → t.name ≡ a.name
+    go true e = let q : handle_in t ≡ a = cc in ap (λ (x : Handle). x.name) q
+    go false e = absurd (cc)
+
+-- of the last ticket, after one more handle
+last_name : (h : Guard) (ts : List Ticket) (t : Ticket) (hs : List (Option Handle)) (a : Handle) → handles_of h (ts ++ t ∷ []) ≡ hs ++ Some a ∷ [] → t.name ≡ a.name
+last_name h ts t hs a e = handle_name h t a (last_same (handles_of h ts) hs (handle_of h t) (Some a) (sym (map-append (handle_of h) ts (t ∷ [])) ∙ e)).0
+
+named_apart : (g : Guard) (ts : List Ticket) → IsLedger g ts → AreNamedApart (handles_of g ts)
+named_apart g ts is j k x d e = sym (kept_serial g ts j x is d) ∙ kept_serial g ts k x is e
+
+-- one step
+record AreTwins (g g' : Guard) (ts : List Ticket) : Type 0 where
+  state : SameState g.space g'.space
+  handles : handles_of g ts ≡ handles_of g' ts
+  realm : g.realm ≡ g'.realm
+  ledger : IsLedger g ts
+
+module _ (c : Call) (g g' h h' : Guard) (ts us us' : List Ticket) (r r' : Reply) (known : IsWellFormed g.space) (twins : AreTwins g g' ts) (s : Serves c g ts h us r) (t : Serves c g' ts h' us' r') where
+  step : (r ≡ r') × SameState h.space h'.space × (handles_of h us ≡ handles_of h' us')
+  step = takes_decided c g.space g'.space h.space h'.space known twins.state (handles_of g ts) (handles_of h us) (handles_of h' us') (named_apart g ts twins.ledger) r r' s.takes
+      (subst (λ l. Takes c g'.space l h'.space (handles_of h' us') r') (sym twins.handles) t.takes)
+
+  lengths : length us ≡ length us'
+  lengths = sym (length-map us (handle_of h)) ∙ ap length step.2 ∙ length-map us' (handle_of h')
+
+  -- the tickets of two grants
+  same_ticket : (a b : Ticket) → us ≡ ts ++ a ∷ [] → us' ≡ ts ++ b ∷ [] → r ≡ Answer (machine.Grant a.serial a.offset) → r' ≡ Answer (machine.Grant b.serial b.offset) → a ≡ b
+  same_ticket a b e f k l = elim (more_call g.space h.space (handles_of g ts) (handles_of h us) c r s.takes) [
+    | inl n ↦ absurd (omega (arith, sym (length-map us (handle_of h)) ∙ n ∙ length-map ts (handle_of g), ap length e, length-append ts (a ∷ [])))
+    | inr n ↦
+        let q : Answer (machine.Grant a.serial a.offset) ≡ Answer (machine.Grant b.serial b.offset) = sym k ∙ step.0 ∙ l in
+        let serial : a.serial ≡ b.serial = cc in
+        let offset : a.offset ≡ b.offset = cc in
+        let one : a.realm ≡ h.realm = last_realm h.realm 0 ts a (subst (AreInOrder h.realm 0) e s.ledger.order) in
+        let other : b.realm ≡ h'.realm = last_realm h'.realm 0 ts b (subst (AreInOrder h'.realm 0) f t.ledger.order) in
+        let realm : a.realm ≡ b.realm = one ∙ s.realm ∙ twins.realm ∙ sym t.realm ∙ sym other in
+        let first = last_name h ts a (handles_of g ts) n.0 (ap (handles_of h) (sym e) ∙ n.1) in
+        let second = last_name h' ts b (handles_of g ts) n.0 (ap (handles_of h') (sym f) ∙ sym step.2 ∙ n.1) in
+        let name : a.name ≡ b.name = first ∙ sym second in
+        ap₂ (λ (o x : ℕ). let u : Ticket = record a { offset = o; name = x } in u) offset name
+        ∙ ap₂ (λ (n m : ℕ). let u : Ticket = record b { serial = n; realm = m } in u) serial realm
+  ]
+
+  same_tickets : IsGrown ts us r → IsGrown ts us' r' → us ≡ us'
+  same_tickets (inl a) (inl b) = a ∙ sym b
+  same_tickets (inl a) (inr b) = absurd (omega (arith, ap length (sym a) ∙ lengths ∙ ap length b.1, length-append ts (b.0 ∷ [])))
+  same_tickets (inr a) (inl b) = absurd (omega (arith, ap length (sym a.1) ∙ lengths ∙ ap length b, length-append ts (a.0 ∷ [])))
+  same_tickets (inr a) (inr b) = a.1 ∙ ap (λ (u : Ticket). ts ++ u ∷ []) (same_ticket a.0 b.0 a.1 b.1 a.2 b.2) ∙ sym b.1
+
+  served : (r ≡ r') × (us ≡ us') × AreTwins h h' us
+  served =
+      let same = same_tickets s.grown t.grown in (
+        step.0,
+        same,
+        record {
+          state = step.1;
+          handles = step.2 ∙ ap (handles_of h') (sym same);
+          realm = s.realm ∙ twins.realm ∙ sym t.realm;
+          ledger = s.ledger;
+        },
+      )
+
+-- ---- runs
+served_alike : (cs : List TicketCall) (g g' h h' : Guard) (ts us us' : List Ticket) (rs rs' : List Reply) → IsWellFormed g.space → AreTwins g g' ts → AreServed g ts cs rs h us → AreServed g' ts cs rs' h' us'
+    → (rs ≡ rs') × SameState h.space h'.space × (us ≡ us')
+served_alike [] g g' h h' ts us us' [] [] known twins s t =
+    (refl, subst₂ (λ (x y : Guard). SameState x.space y.space) (sym s.0) (sym t.0) twins.state, s.1 ∙ sym t.1)
+served_alike [] g g' h h' ts us us' [] (r ∷ rs') known twins s t = absurd t
+served_alike [] g g' h h' ts us us' (r ∷ rs) rs' known twins s t = absurd s
+served_alike (c ∷ cs) g g' h h' ts us us' [] rs' known twins s t = absurd s
+served_alike (c ∷ cs) g g' h h' ts us us' (r ∷ rs) [] known twins s t = absurd t
+served_alike (c ∷ cs) g g' h h' ts us us' (r ∷ rs) (r' ∷ rs') known twins s t =
+    let e = served (meant ts c) g g' s.0 t.0 ts s.1 t.1 r r' known twins s.2 t.2 in
+    let later = served_alike cs s.0 t.0 h h' s.1 us us' rs rs' s.3 e.2 s.4 (subst (λ now. AreServed t.0 now cs rs' h' us') (sym e.1) t.4) in
+    (ap₂ (λ (a : Reply) (l : List Reply). a ∷ l) e.0 later.0, later.1, later.2)
+
+pub guarded_decided : (g g' h h' : Guard) (ts us us' : List Ticket) (cs : List TicketCall) (rs rs' : List Reply) → IsWellFormed g.space → SameGuard g g' → IsLedger g ts → AreServed g ts cs rs h us
+    → AreServed g' ts cs rs' h' us' → (rs ≡ rs') × SameState h.space h'.space × (us ≡ us')
+guarded_decided g g' h h' ts us us' cs rs rs' known same is s t = served_alike cs g g' h h' ts us us' rs rs' known
+    (record {
+      state = ap (λ (z : Guard). z.space) same;
+      handles = sym (ap (λ (z : Guard). handles_of z ts) same);
+      realm = sym (ap (λ (z : Guard). z.realm) same);
+      ledger = is;
+    })
+    s t
