@@ -12,6 +12,7 @@ CRATES = [
     ("offset_guarded", "offset-allocator-guarded", {"traits"}),
     ("offset_heaps", "offset-allocator-heaps", {"traits"}),
     ("offset_script", "offset-script", set()),
+    ("offset_calls", "offset-calls", {"player"}),
     ("offset_pictures", "offset-pictures", set()),
 ]
 
@@ -59,6 +60,17 @@ pub use offset_guarded::Ticket;
 pub use offset_allocator_memory as memory;
 pub use offset_allocator_memory::{AllocError, Global};
 """,
+    "offset_calls": """#![doc = include_str!("../README.md")]
+#![forbid(unsafe_code)]
+#![warn(missing_docs)]
+#![expect(LINTS)]
+
+mod player;
+
+pub use offset_allocator_memory as memory;
+pub use offset_allocator_memory::{AllocError, Global};
+pub use player::{CallPlayer, CallPlayerOf};
+""",
     "offset_pictures": """#![doc = include_str!("../README.md")]
 #![forbid(unsafe_code)]
 #![expect(LINTS)]
@@ -95,6 +107,10 @@ LINTS = {
     "offset_script": {
         "clippy::manual_unwrap_or_default": "a `match` needs no call, whose contract a proof would need",
         "clippy::new_without_default": "one name for an empty text is enough",
+    },
+    "offset_calls": {
+        "clippy::manual_map": "a `match` needs no closure, whose calls would need a proof",
+        "clippy::needless_range_loop": "the proof speaks of the places of grants and of moves",
     },
     "offset_pictures": {
         "clippy::collapsible_match": "an arm of a `match` and a test within it have a name each in the proof",
@@ -162,6 +178,21 @@ PAIRS = [
         "Vec::collect(alloc, lives.iter().map(|life| shape_of(plot, life)))",
         "Rust's `collect` takes no allocator, and ends the program where one fails",
     ),
+    (
+        "fn reply<T: Tables>( alloc: Global, player:",
+        "pub(crate) fn reply<T: Tables>(\n    alloc: Global,\n    player:",
+        "the module `player`, by hand, plays calls one by one",
+    ),
+    (
+        "pub(crate) fn put_answer(",
+        "pub fn put_answer(",
+        "the answers of recordings have these lines too",
+    ),
+    (
+        "pub use answers::{Answer, FullRow, full_answer};",
+        "pub use answers::{Answer, FullRow, full_answer, put_answer};",
+        "the same",
+    ),
 ]
 
 # What a public function requires of its caller: the clause, the test that is made at the call, the panic's message, and
@@ -197,6 +228,8 @@ REQUIRES = [
         "!matches!(command, Command::Align(_, align) if !align.is_power_of_two())",
         "an alignment must be a power of two",
     ),
+    ("All (λ c. IsTrue (is_valid c)) calls.now", "calls.iter().all(|call| call.is_valid())", "each alignment must be a power of two"),
+    ("All (λ c. IsTrue (is_valid c.call)) calls.now", "calls.iter().all(|it| it.call.is_valid())", "each alignment must be a power of two"),
 ]
 
 
@@ -265,6 +298,7 @@ EXAMPLES = {
             "player": "let mut player = Player::<u32>::start(alloc, 1000, 16)?;",
         },
     ),
+    "offset_calls": (["use offset_calls::*;", "let alloc = Global;"], ["# Ok::<(), AllocError>(())"], {}),
     "offset_pictures": (
         ["use offset_pictures::*;", "use offset_script::*;", "let alloc = offset_script::Global;"],
         ["# Ok::<(), RunFault>(())"],

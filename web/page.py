@@ -30,7 +30,7 @@ def traces():
 def sum_of_sources():
     """The sum of all that the page is made of, except the compiler and std."""
     crates = [here / "../rust" / name for name in
-              ("offset-allocator-memory", "offset-allocator-proved", "offset-allocator-guarded", "offset-script", "offset-pictures", "offset-allocator-recorded")]
+              ("offset-allocator-memory", "offset-allocator-proved", "offset-allocator-guarded", "offset-script", "offset-calls", "offset-pictures", "offset-allocator-recorded")]
     files = [here / "source.html", here / "page.py", *PARTS, *sorted((here / "module").glob("*.*")), *traces()]
     for crate in crates:
         files += [crate / "Cargo.toml", *sorted(crate.glob("src/*.rs"))]

@@ -4,9 +4,11 @@
 //! the page asks for. No pointer is followed here: the page reads and writes the module's memory.
 
 use offset_allocator::{AllocatorOf, ByNode, NodeIndex, Refusal};
-use offset_allocator_recorded::{Answer, Call, Command, Header, IndexWidth, Line, Play, Reader, RunFault};
-use std::fmt::Write;
+use offset_allocator_recorded::{put_reply, Call, CallPlayer, Command, Global, Header, IndexWidth, Line, Reader, Reply, RunFault};
+use offset_script::ScriptFault;
 use std::sync::Mutex;
+
+type Text = offset_script::memory::Vec<u8>;
 
 // The numbers of a call that was played: the kind of its answer, the number of the grant, its offset and its units, the
 // free units and the largest request of the report, the number of blocks, and why it was refused.
@@ -14,7 +16,7 @@ type Row = [u32; 8];
 
 /// A space, and the number of the grant that had a node last, by the node.
 struct Space<NI: NodeIndex> {
-    play: Play<NI>,
+    player: CallPlayer<NI>,
     grants: Vec<u32>,
 }
 
@@ -82,32 +84,34 @@ pub extern "C" fn words_len() -> usize {
     with(|s| s.words.len())
 }
 
-fn numbers(call: Call) -> [u32; 3] {
-    match call {
-        Call::Script(Command::Alloc(n)) => [0, n, 0],
-        Call::Script(Command::Align(n, a)) => [1, n, a],
-        Call::Script(Command::Free(k)) => [2, k, 0],
-        Call::Script(Command::Size(k)) => [3, k, 0],
-        Call::Script(Command::Report) => [4, 0, 0],
-        Call::Script(Command::Full) => [5, 0, 0],
-        Call::Script(Command::Reset) => [6, 0, 0],
-        Call::Script(Command::Extend(n)) => [7, n, 0],
+// A call as numbers, if the page has it.
+fn numbers(call: Call) -> Option<[u32; 3]> {
+    Some(match call {
+        Call::Command(Command::Alloc(n)) => [0, n, 0],
+        Call::Command(Command::Align(n, a)) => [1, n, a],
+        Call::Command(Command::Free(k)) => [2, k, 0],
+        Call::Command(Command::Size(k)) => [3, k, 0],
+        Call::Command(Command::Report) => [4, 0, 0],
+        Call::Command(Command::Full) => [5, 0, 0],
+        Call::Command(Command::Reset) => [6, 0, 0],
+        Call::Command(Command::Extend(n)) => [7, n, 0],
         Call::Shrink(k, n) => [8, k, n],
         Call::Grow(k, n) => [9, k, n],
         Call::Compact => [10, 0, 0],
-    }
+        _ => return None,
+    })
 }
 
 fn call_of([kind, a, b]: [u32; 3]) -> Call {
     match kind {
-        0 => Call::Script(Command::Alloc(a)),
-        1 => Call::Script(Command::Align(a, b)),
-        2 => Call::Script(Command::Free(a)),
-        3 => Call::Script(Command::Size(a)),
-        4 => Call::Script(Command::Report),
-        5 => Call::Script(Command::Full),
-        6 => Call::Script(Command::Reset),
-        7 => Call::Script(Command::Extend(a)),
+        0 => Call::Command(Command::Alloc(a)),
+        1 => Call::Command(Command::Align(a, b)),
+        2 => Call::Command(Command::Free(a)),
+        3 => Call::Command(Command::Size(a)),
+        4 => Call::Command(Command::Report),
+        5 => Call::Command(Command::Full),
+        6 => Call::Command(Command::Reset),
+        7 => Call::Command(Command::Extend(a)),
         8 => Call::Shrink(a, b),
         9 => Call::Grow(a, b),
         _ => Call::Compact,
@@ -151,10 +155,10 @@ pub extern "C" fn read(part: u32, last: u32) -> u32 {
                     let bits = if index == IndexWidth::Bits16 { 16 } else { 32 };
                     Some([11, size, max_allocs, bits])
                 }
-                Ok(Line::Call(call)) => {
-                    let [kind, a, b] = numbers(call);
-                    Some([kind, a, b, 0])
-                }
+                Ok(Line::Call(call)) => match numbers(call) {
+                    Some([kind, a, b]) => Some([kind, a, b, 0]),
+                    None => return s.fault(RunFault::Script(ScriptFault::BadCommand(s.reader.line())), at, end),
+                },
             };
             if let Some(row) = row {
                 s.words.extend_from_slice(&row);
@@ -200,27 +204,27 @@ pub extern "C" fn start(size: u32, max_allocs: u32, bits: u32) -> u32 {
 
 fn why<NI: NodeIndex>(space: &AllocatorOf<ByNode<NI>>, call: Call) -> Option<Refusal> {
     match call {
-        Call::Script(Command::Alloc(n)) => space.refusal(n),
-        Call::Script(Command::Align(n, a)) => space.refusal_aligned(n, a),
+        Call::Command(Command::Alloc(n)) => space.refusal(n),
+        Call::Command(Command::Align(n, a)) => space.refusal_aligned(n, a),
         _ => None,
     }
 }
 
 impl<NI: NodeIndex> Space<NI> {
     fn start(size: u32, max_allocs: u32) -> Option<Self> {
-        Some(Space { play: Play::start(size, max_allocs).ok()?, grants: Vec::new() })
+        Some(Space { player: CallPlayer::start(Global, size, max_allocs).ok()?, grants: Vec::new() })
     }
 
     // Plays a call; `None` where an allocation fails.
-    fn play(&mut self, call: Call, text: Option<&mut String>) -> Option<Row> {
+    fn play(&mut self, call: Call, text: Option<&mut Text>) -> Option<Row> {
         use offset_script::Answer as A;
-        let refusal = why(&self.play.player.space, call);
-        let answer = self.play.call(call).ok()?;
-        let space = &self.play.player.space;
-        let resized = |k| self.play.player.handle(k).and_then(|h| space.allocation_offset(h)).unwrap_or(0);
-        let [kind, number, offset, units] = match (&answer, call) {
-            (Answer::Script(A::Grant { number, offset }), _) => {
-                let handle = self.play.player.handle(*number as u32)?;
+        let refusal = why(self.player.space(), call);
+        let reply = self.player.call(Global, call).ok()?;
+        let space = self.player.space();
+        let resized = |k| self.player.handle(k).and_then(|h| space.allocation_offset(h)).unwrap_or(0);
+        let [kind, number, offset, units] = match (&reply, call) {
+            (Reply::Answer(A::Grant { number, offset }), _) => {
+                let handle = self.player.handle(*number as u32)?;
                 let name = handle.to_parts().1 as usize;
                 if name >= self.grants.len() {
                     self.grants.resize(name + 1, 0);
@@ -228,19 +232,19 @@ impl<NI: NodeIndex> Space<NI> {
                 self.grants[name] = *number as u32;
                 [1, *number as u32, *offset, space.allocation_size(handle)]
             }
-            (Answer::Script(A::Refused), _) => [2, 0, 0, 0],
-            (Answer::Script(A::Freed), Call::Script(Command::Free(k))) => [3, k, 0, 0],
-            (Answer::Shrunk, Call::Shrink(k, n)) | (Answer::Grown, Call::Grow(k, n)) => [4, k, resized(k), n],
-            (Answer::Compacted, _) => [5, 0, 0, 0],
-            (Answer::Script(A::Gone), _) => [6, 0, 0, 0],
-            (Answer::Script(A::Reset), _) => [7, 0, 0, 0],
-            (Answer::Script(A::Extended), _) => [8, 0, 0, 0],
-            (Answer::Script(A::Full(rows)), _) => [9, 0, 0, word(rows.len())],
-            (Answer::Script(A::Size(n)), _) => [10, 0, 0, *n],
+            (Reply::Answer(A::Refused), _) => [2, 0, 0, 0],
+            (Reply::Answer(A::Freed), Call::Command(Command::Free(k))) => [3, k, 0, 0],
+            (Reply::Resized, Call::Shrink(k, n) | Call::Grow(k, n)) => [4, k, resized(k), n],
+            (Reply::Compacted(_), _) => [5, 0, 0, 0],
+            (Reply::Answer(A::Gone), _) => [6, 0, 0, 0],
+            (Reply::Answer(A::Reset), _) => [7, 0, 0, 0],
+            (Reply::Answer(A::Extended), _) => [8, 0, 0, 0],
+            (Reply::Answer(A::Full(rows)), _) => [9, 0, 0, word(rows.len())],
+            (Reply::Answer(A::Size(n)), _) => [10, 0, 0, *n],
             _ => [11, 0, 0, 0],
         };
         if let Some(text) = text {
-            writeln!(text, "{answer}").ok()?;
+            put_reply(text, call, &reply).ok()?;
         }
         let report = space.storage_report();
         let why = refusal.map_or(0, |w| w as u32 + 1);
@@ -249,7 +253,7 @@ impl<NI: NodeIndex> Space<NI> {
 
     // Three numbers for each block, from the end of the space: its offset, its units, and its grant's number, or 0.
     fn blocks(&self, words: &mut Vec<u32>) {
-        for block in self.play.player.space.blocks() {
+        for block in self.player.space().blocks() {
             let number = block.allocation.and_then(|a| self.grants.get(a.to_parts().1 as usize).copied());
             words.extend_from_slice(&[block.offset, block.size, number.unwrap_or(0)]);
         }
@@ -257,7 +261,7 @@ impl<NI: NodeIndex> Space<NI> {
 
     // The number of the free blocks of each class.
     fn bins(&self, words: &mut Vec<u32>) {
-        words.extend(self.play.player.space.storage_report_full().free_regions.iter().map(|r| r.count));
+        words.extend(self.player.space().storage_report_full().free_regions.iter().map(|r| r.count));
     }
 }
 
@@ -269,7 +273,7 @@ pub extern "C" fn play(text: u32) -> u32 {
     with(|s| {
         let given = std::mem::take(&mut s.bytes);
         s.words.clear();
-        let mut lines = String::new();
+        let mut lines = Text::new(Global);
         let mut count = 0;
         for call in given.chunks_exact(12) {
             let at = |i: usize| u32::from_le_bytes([call[i], call[i + 1], call[i + 2], call[i + 3]]);
@@ -287,7 +291,7 @@ pub extern "C" fn play(text: u32) -> u32 {
                 break;
             }
         }
-        s.bytes = lines.into_bytes();
+        s.bytes = lines.to_vec();
         count
     })
 }

@@ -57,6 +57,10 @@ pub enum Call {
 
 impl Call {
     /// Whether its alignment is a power of two, where it has one.
+    ///
+    /// ```
+    /// assert!(!Call::TightAligned(300, 3).is_valid());
+    /// ```
     pub fn is_valid(&self) -> bool
         ensures { result ≡ is_valid self.now }
     {
@@ -71,6 +75,10 @@ impl Call {
 }
 
 /// Whether each alignment in these calls is a power of two.
+///
+/// ```
+/// assert!(are_valid(&[Call::TightAligned(300, 4), Call::Compact]));
+/// ```
 pub fn are_valid(calls: &[Call]) -> bool
     ensures { IsTrue result ↔ All (λ c. IsTrue (is_valid c)) calls.now }
 {

@@ -8,8 +8,8 @@ ghost use Rattle.offset_calls.specs.Tickets.{AreInOrder, IsGrantOf, meant, numbe
 
 use crate::calls::{Call, Reply};
 use crate::desk::{Desk, reply};
-use offset_allocator::Tables;
 use offset_allocator::laws::is_well_formed;
+use offset_allocator::{NodeIndex, Tables};
 use offset_guarded::{GuardedOf, Ticket};
 use offset_script::Command;
 use std::alloc::{AllocError, Global};
@@ -82,6 +82,12 @@ fn passed(tickets: &[Ticket], call: &TicketCall) -> Option<Ticket>
 /// # Errors
 ///
 /// It fails only where an allocation fails.
+///
+/// ```
+/// let call = TicketCall { call: Call::Tight(300), ticket: None };
+/// let played = play_guarded::<offset_allocator::ByNode<u32>>(alloc, 1000, 16, 7, &[call])?;
+/// assert_eq!((played.tickets[0].realm, played.tickets[0].serial), (7, 1));
+/// ```
 pub fn play_guarded<T: Tables>(
     alloc: Global,
     size: u32,

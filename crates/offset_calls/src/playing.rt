@@ -240,6 +240,12 @@ fn reply<T: Tables>(
 /// # Errors
 ///
 /// It fails only where an allocation fails.
+///
+/// ```
+/// let calls = [Call::Tight(300), Call::MakeRoom(600), Call::Last];
+/// let replies = play_calls_of::<offset_allocator::ByField<u16>>(alloc, 1000, 16, &calls)?;
+/// assert!(matches!(replies[2], Reply::Beside(Some(LiveRange { number: 1, offset: 0 }))));
+/// ```
 pub fn play_calls_of<T: Tables>(
     alloc: Global,
     size: u32,
@@ -270,6 +276,11 @@ pub fn play_calls_of<T: Tables>(
 }
 
 /// `play_calls_of` by node, as `Allocator` is. The limit has to be 2 to `NI::MAX - 2`.
+///
+/// ```
+/// let replies = play_calls::<u32>(alloc, 1000, 16, &[Call::Tight(300), Call::Shrink(1, 200)])?;
+/// assert!(matches!(replies[1], Reply::Resized));
+/// ```
 pub fn play_calls<NI: NodeIndex>(
     alloc: Global,
     size: u32,

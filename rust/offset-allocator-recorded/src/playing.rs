@@ -1,126 +1,64 @@
 //! Plays recordings on the proved allocator, call by call.
 
-use crate::reading::{Call, Header, Line, Lines};
-use offset_allocator_proved::{AllocError, Global, NodeIndex};
-use offset_script::{IndexWidth, Player, RunFault, ScriptFault};
-use std::fmt;
+use crate::reading::{Header, Lines};
+use offset_allocator_memory::{AllocError, Global, String, Vec};
+use offset_allocator_proved::NodeIndex;
+use offset_calls::{Call, CallPlayer, Reply};
+use offset_script::{IndexWidth, RunFault};
 use std::io::{BufRead, Write};
 
-/// The answer to a call.
-#[derive(Debug)]
-pub enum Answer {
-    /// To a command that scripts have too.
-    Script(offset_script::Answer),
-    /// The range is smaller in place.
-    Shrunk,
-    /// The range is larger in place.
-    Grown,
-    /// All live ranges are at the front of the space.
-    Compacted,
-}
-
-/// The lines of the answer, without the last line end: those of the proved program, and `shrunk`, `grown`, `none`, `gone`
-/// and `compacted`.
-impl fmt::Display for Answer {
-    fn fmt(&self, f: &mut fmt::Formatter<'_>) -> fmt::Result {
-        use offset_script::Answer as A;
-        match self {
-            Answer::Script(A::Grant { number, offset }) => write!(f, "grant {number} at {offset}"),
-            Answer::Script(A::Refused) => f.write_str("none"),
-            Answer::Script(A::Freed) => f.write_str("freed"),
-            Answer::Script(A::Gone) => f.write_str("gone"),
-            Answer::Script(A::Size(size)) => write!(f, "size {size}"),
-            Answer::Script(A::Report(r)) => write!(f, "free {} largest {}", r.total_free_space, r.largest_free_region),
-            Answer::Script(A::Full(rows)) => {
-                write!(f, "full {}", rows.len())?;
-                rows.iter().try_for_each(|r| write!(f, "\nclass {} size {} count {}", r.class, r.size, r.count))
-            }
-            Answer::Script(A::Reset) => f.write_str("reset"),
-            Answer::Script(A::Extended) => f.write_str("extended"),
-            Answer::Shrunk => f.write_str("shrunk"),
-            Answer::Grown => f.write_str("grown"),
-            Answer::Compacted => f.write_str("compacted"),
+/// Appends the lines of the reply to a call. For a command of scripts they are those of the proved program.
+pub fn put_reply(out: &mut Vec<u8>, call: Call, reply: &Reply) -> Result<(), AllocError> {
+    let mut line = String::new(Global);
+    let words = match reply {
+        Reply::Answer(answer) => return offset_script::put_answer(out, answer),
+        Reply::Resized => match call {
+            Call::Shrink(..) => "shrunk",
+            Call::Grow(..) => "grown",
+            _ => "retracted",
+        },
+        Reply::Compacted(_) => "compacted",
+        Reply::Refusal(None) => "granted",
+        Reply::RoomMade(None, _) | Reply::RoomCost(None) | Reply::Beside(None) => "none",
+        Reply::Refusal(Some(why)) => {
+            write!(line, "{why}")?;
+            &line
         }
-    }
-}
-
-/// A space in which calls are played.
-pub struct Play<NI: NodeIndex> {
-    /// The allocator, and the handles of its grants.
-    pub player: Player<NI>,
-}
-
-impl<NI: NodeIndex> Play<NI> {
-    /// A fresh space. The limit has to be 2 to `NI::MAX - 2`. It fails only where an allocation fails.
-    pub fn start(size: u32, max_allocs: u32) -> Result<Self, AllocError> {
-        Ok(Play { player: Player::start(Global, size, max_allocs)? })
-    }
-
-    /// The answer to a call. It fails only where an allocation fails.
-    pub fn call(&mut self, call: Call) -> Result<Answer, AllocError> {
-        use offset_script::Answer as A;
-        let (number, size, is_growth) = match call {
-            Call::Script(command) => return self.player.call(Global, command).map(Answer::Script),
-            Call::Compact => {
-                self.player.space.compact(&mut |_| ());
-                return Ok(Answer::Compacted);
-            }
-            Call::Shrink(number, size) => (number, size, false),
-            Call::Grow(number, size) => (number, size, true),
-        };
-        let Some(handle) = self.player.handle(number) else {
-            return Ok(Answer::Script(A::Gone));
-        };
-        let space = &mut self.player.space;
-        let is_done = if is_growth { space.grow_in_place(handle, size) } else { space.shrink(handle, size) };
-        Ok(match (is_done, is_growth) {
-            (false, _) => Answer::Script(A::Refused),
-            (true, false) => Answer::Shrunk,
-            (true, true) => Answer::Grown,
-        })
-    }
-}
-
-/// A space of either index width.
-pub enum Playing {
-    /// `u16`.
-    Narrow(Play<u16>),
-    /// `u32`.
-    Wide(Play<u32>),
-}
-
-impl Playing {
-    /// A fresh space, of an admitted header. It fails only where an allocation fails.
-    pub fn start(header: Header) -> Result<Self, AllocError> {
-        Ok(match header.index {
-            IndexWidth::Bits16 => Playing::Narrow(Play::start(header.size, header.max_allocs)?),
-            IndexWidth::Bits32 => Playing::Wide(Play::start(header.size, header.max_allocs)?),
-        })
-    }
-
-    /// The answer to a call. It fails only where an allocation fails.
-    pub fn call(&mut self, call: Call) -> Result<Answer, AllocError> {
-        match self {
-            Playing::Narrow(play) => play.call(call),
-            Playing::Wide(play) => play.call(call),
+        Reply::Offset(offset) => {
+            write!(line, "offset {offset}")?;
+            &line
         }
+        Reply::RoomMade(Some(cost), _) | Reply::RoomCost(Some(cost)) => {
+            write!(line, "ranges {} units {}", cost.ranges, cost.units)?;
+            &line
+        }
+        Reply::Beside(Some(range)) => {
+            write!(line, "range {} at {}", range.number, range.offset)?;
+            &line
+        }
+    };
+    out.extend_from_slice(words.as_bytes())?;
+    out.push(b'\n')
+}
+
+fn play_on<NI: NodeIndex>(header: Header, mut lines: Lines<impl BufRead>, to: &mut impl Write) -> Result<(), RunFault> {
+    let mut player = CallPlayer::<NI>::start(Global, header.size, header.max_allocs)?;
+    let mut text = Vec::new(Global);
+    while let Some(call) = lines.next_call()? {
+        let reply = player.call(Global, call)?;
+        text.clear();
+        put_reply(&mut text, call, &reply)?;
+        to.write_all(&text).map_err(|_| RunFault::Write)?;
     }
+    to.flush().map_err(|_| RunFault::Write)
 }
 
 /// Plays a recording, and writes each answer as it comes. Memory is needed for the tables, the handles of grants, and one
-/// line.
+/// line; and for 8 bytes a node, and one moved range after the other, once a call moves ranges or asks for one beside.
 pub fn play(from: impl BufRead, to: &mut impl Write) -> Result<(), RunFault> {
-    let mut lines = Lines::new(from);
-    let mut space = None;
-    while let Some(line) = lines.next_line()? {
-        match (line, &mut space) {
-            (Line::Header(header), _) => space = Some(Playing::start(header)?),
-            (Line::Call(call), Some(space)) => {
-                let answer = space.call(call)?;
-                writeln!(to, "{answer}").map_err(|_| RunFault::Write)?;
-            }
-            (Line::Call(_) | Line::Other, _) => return Err(RunFault::from(ScriptFault::BadHeader(1))),
-        }
+    let (header, lines) = Lines::begin(from)?;
+    match header.index {
+        IndexWidth::Bits16 => play_on::<u16>(header, lines, to),
+        IndexWidth::Bits32 => play_on::<u32>(header, lines, to),
     }
-    to.flush().map_err(|_| RunFault::Write)
 }

@@ -1,6 +1,8 @@
-//! Reads recordings: scripts of any length, with three commands more.
+//! Reads recordings: scripts of any length, with a line for each call that scripts lack.
 
-use offset_script::{Command, IndexWidth, RunFault, ScriptFault};
+use offset_allocator_memory::Global;
+use offset_calls::Call;
+use offset_script::{parse, Command, IndexWidth, RunFault, ScriptFault};
 use std::io::BufRead;
 
 /// The first line of a recording that is neither empty nor a comment.
@@ -14,19 +16,6 @@ pub struct Header {
     pub index: IndexWidth,
 }
 
-/// A later line.
-#[derive(Clone, Copy, PartialEq, Debug)]
-pub enum Call {
-    /// A command that scripts have too.
-    Script(Command),
-    /// `shrink K N`: makes the range of grant K one of N units, and frees those after them.
-    Shrink(u32, u32),
-    /// `grow K N`: makes the range of grant K one of N units, with the free units directly after it.
-    Grow(u32, u32),
-    /// `compact`: slides all live ranges to the front of the space.
-    Compact,
-}
-
 fn number(word: &[u8]) -> Option<u32> {
     if word.is_empty() || word.len() > 10 || !word.iter().all(u8::is_ascii_digit) {
         return None;
@@ -34,60 +23,43 @@ fn number(word: &[u8]) -> Option<u32> {
     u32::try_from(word.iter().fold(0u64, |n, b| n * 10 + u64::from(b - b'0'))).ok()
 }
 
-/// The header that a line spells, if it does, whatever its limit.
-pub fn header(line: &[u8]) -> Option<Header> {
-    let mut words = line.split(|b| *b == b' ');
-    let mut word = || words.next();
-    let found = match (word()?, word()?, word()?, word()?, word()?, word()?) {
-        (b"space", size, b"nodes", limit, b"index", bits) => Header {
-            size: number(size)?,
-            max_allocs: number(limit)?,
-            index: match bits {
-                b"16" => IndexWidth::Bits16,
-                b"32" => IndexWidth::Bits32,
-                _ => return None,
-            },
-        },
-        _ => return None,
-    };
-    word().is_none().then_some(found)
-}
-
-impl Header {
-    /// Whether the limit is at least 2, and admitted for the width.
-    pub fn is_admitted(&self) -> bool {
-        let largest = match self.index {
-            IndexWidth::Bits16 => 65533,
-            IndexWidth::Bits32 => 4_294_967_293,
-        };
-        (2..=largest).contains(&self.max_allocs)
-    }
-}
-
 /// The call that a line spells, if it does.
 pub fn call(line: &[u8]) -> Option<Call> {
-    let mut words = line.split(|b| *b == b' ');
-    let name = words.next()?;
-    let (first, second) = (words.next(), words.next());
-    if words.next().is_some() {
-        return None;
+    let (mut words, mut count) = ([&[][..]; 4], 0);
+    for word in line.split(|b| *b == b' ') {
+        *words.get_mut(count)? = word;
+        count += 1;
     }
-    Some(match (name, first, second) {
-        (b"alloc", Some(n), None) => Call::Script(Command::Alloc(number(n)?)),
-        (b"free", Some(k), None) => Call::Script(Command::Free(number(k)?)),
-        (b"align", Some(n), Some(a)) => {
-            Call::Script(Command::Align(number(n)?, number(a).filter(|a| a.is_power_of_two())?))
-        }
-        (b"size", Some(k), None) => Call::Script(Command::Size(number(k)?)),
-        (b"extend", Some(n), None) => Call::Script(Command::Extend(number(n)?)),
-        (b"report", None, None) => Call::Script(Command::Report),
-        (b"full", None, None) => Call::Script(Command::Full),
-        (b"reset", None, None) => Call::Script(Command::Reset),
-        (b"shrink", Some(k), Some(n)) => Call::Shrink(number(k)?, number(n)?),
-        (b"grow", Some(k), Some(n)) => Call::Grow(number(k)?, number(n)?),
-        (b"compact", None, None) => Call::Compact,
+    let found = match words[..count] {
+        [b"alloc", n] => Call::Command(Command::Alloc(number(n)?)),
+        [b"align", n, a] => Call::Command(Command::Align(number(n)?, number(a)?)),
+        [b"free", k] => Call::Command(Command::Free(number(k)?)),
+        [b"size", k] => Call::Command(Command::Size(number(k)?)),
+        [b"report"] => Call::Command(Command::Report),
+        [b"full"] => Call::Command(Command::Full),
+        [b"reset"] => Call::Command(Command::Reset),
+        [b"extend", n] => Call::Command(Command::Extend(number(n)?)),
+        [b"shrink", k, n] => Call::Shrink(number(k)?, number(n)?),
+        [b"grow", k, n] => Call::Grow(number(k)?, number(n)?),
+        [b"compact"] => Call::Compact,
+        [b"tight", n] => Call::Tight(number(n)?),
+        [b"tight", n, a] => Call::TightAligned(number(n)?, number(a)?),
+        [b"room", n] => Call::MakeRoom(number(n)?),
+        [b"relocate", k] => Call::Relocate(number(k)?),
+        [b"retract", n] => Call::Retract(number(n)?),
+        [b"offset", k] => Call::Offset(number(k)?),
+        [b"first"] => Call::First,
+        [b"last"] => Call::Last,
+        [b"before", k] => Call::Before(number(k)?),
+        [b"after", k] => Call::After(number(k)?),
+        [b"cost", n] => Call::RoomCost(number(n)?),
+        [b"why", b"alloc", n] => Call::Refusal(number(n)?),
+        [b"why", b"align", n, a] => Call::RefusalAligned(number(n)?, number(a)?),
+        [b"why", b"tight", n] => Call::RefusalTight(number(n)?),
+        [b"why", b"tight", n, a] => Call::RefusalTightAligned(number(n)?, number(a)?),
         _ => return None,
-    })
+    };
+    found.is_valid().then_some(found)
 }
 
 /// What a line of a recording is.
@@ -123,12 +95,13 @@ impl Reader {
         if self.is_begun {
             return call(line).map(Line::Call).ok_or(ScriptFault::BadCommand(self.line));
         }
-        let found = header(line).ok_or(ScriptFault::BadHeader(self.line))?;
-        if !found.is_admitted() {
-            return Err(ScriptFault::BadLimit(self.line));
-        }
+        // a script of this line alone
+        let found = parse(Global, line).map_err(|fault| match fault {
+            ScriptFault::BadLimit(_) => ScriptFault::BadLimit(self.line),
+            _ => ScriptFault::BadHeader(self.line),
+        })?;
         self.is_begun = true;
-        Ok(Line::Header(found))
+        Ok(Line::Header(Header { size: found.size, max_allocs: found.max_allocs, index: found.index }))
     }
 
     /// The number of the last line, or 0.
@@ -154,13 +127,25 @@ pub struct Lines<R: BufRead> {
 }
 
 impl<R: BufRead> Lines<R> {
-    /// The lines from here on.
-    pub fn new(from: R) -> Self {
-        Lines { from, line: Vec::new(), reader: Reader::new(), is_whole: true }
+    /// The header, and the lines after it.
+    pub fn begin(from: R) -> Result<(Header, Self), RunFault> {
+        let mut lines = Lines { from, line: Vec::new(), reader: Reader::new(), is_whole: true };
+        match lines.next_line()? {
+            Some(Line::Header(header)) => Ok((header, lines)),
+            // the first line is a header, or a fault
+            _ => Err(RunFault::from(ScriptFault::BadHeader(1))),
+        }
     }
 
-    /// The next header or call, or `None` at the end.
-    pub fn next_line(&mut self) -> Result<Option<Line>, RunFault> {
+    /// The next call, or `None` at the end.
+    pub fn next_call(&mut self) -> Result<Option<Call>, RunFault> {
+        Ok(match self.next_line()? {
+            Some(Line::Call(call)) => Some(call),
+            _ => None,
+        })
+    }
+
+    fn next_line(&mut self) -> Result<Option<Line>, RunFault> {
         loop {
             self.line.clear();
             match self.from.read_until(b'\n', &mut self.line) {

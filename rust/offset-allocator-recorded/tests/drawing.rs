@@ -107,6 +107,30 @@ fn only_what_moves_is_drawn_again() {
 }
 
 #[test]
+fn calls_that_scripts_lack() {
+    // 44 units make room where grants 2 and 3 slide to the front; then grant 4 has as many units as grant 3, before it
+    let (lives, refused) = rows(
+        "space 100 nodes 16 index 32\ntight 10\nalloc 20\nalloc 30\nfree 1\nroom 44\nrelocate 3\nfree 2\nshrink 3 20\nrelocate 3\n\
+         tight 99\nwhy alloc 1\nretract 10\n",
+    );
+    assert_eq!(
+        lives,
+        [
+            (1, 0, 10, 0, 3, 3),
+            (2, 10, 20, 1, 4, 5),
+            (3, 30, 30, 2, 4, 10),
+            (2, 0, 20, 4, 6, 5),
+            (3, 20, 30, 4, 7, 10),
+            (3, 20, 20, 7, 12, 10),
+            (4, 0, 20, 8, 12, 4),
+        ]
+    );
+    // no words of a picture say why these are refused
+    assert_eq!(refused, []);
+    assert_eq!(course(&b"space 100 nodes 16 index 32\nretract 10\n"[..]).unwrap().sizes[..], [100, 90]);
+}
+
+#[test]
 fn refused_for_lack_of_nodes() {
     // used 20, used 5, free 15, used 20: as many blocks as there may be
     let text = "space 60 nodes 5 index 16\nalloc 20\nalloc 20\nalloc 20\nfree 2\nalloc 5\nextend 5\nshrink 3 10\n\

@@ -1,4 +1,5 @@
-//! That recordings without the three commands more are read and played as the proved program does with scripts.
+//! That recordings of the commands of scripts are read and played as the proved program does, and the other lines as what
+//! they say.
 
 use offset_allocator_recorded::{play, Global, RunFault};
 use offset_script::{run, FromRead, IntoWrite};
@@ -99,8 +100,83 @@ fn the_commands_that_scripts_lack() {
     let text = b"space 100 nodes 16 index 32\nalloc 10\nalloc 20\nshrink 1 5\nshrink 1 6\ngrow 1 10\ngrow 1 11\nfree 1\ncompact\ngrow 2 100\nshrink 9 1\ngrow 1 1\n";
     let expected = "grant 1 at 0\ngrant 2 at 10\nshrunk\nnone\ngrown\nnone\nfreed\ncompacted\ngrown\ngone\ngone\n";
     assert_eq!(String::from_utf8(ours(text).unwrap()).unwrap(), expected);
-    for line in ["shrink 1", "grow 1", "compact 1", "shrink 1 2 3", "grow x 1", "shrink 1 4294967296", "shrink  1 2"] {
+    for line in ["shrink 1", "grow 1", "compact 1", "shrink 1 2 3", "grow x 1", "shrink 1 4294967296", "shrink  1 2", "tight", "tight 1 3",
+        "tight 1 2 4", "room", "room 1 2", "relocate", "relocate -1", "retract x", "first 1", "last 1", "before", "after 1 2", "offset",
+        "cost", "why", "why 1", "why alloc", "why align 1", "why align 1 3", "why tight 1 0", "why tight 1 2 4", "why free 1"] {
         let text = format!("space 100 nodes 16 index 32\n{line}\n");
         assert_eq!(ours(text.as_bytes()).unwrap_err().to_string(), "line 2: bad command", "{line}");
+    }
+}
+
+// Each line with its answer.
+const ROWS: &[(&str, &str)] = &[
+    ("alloc 10", "grant 1 at 0"),
+    ("alloc 20", "grant 2 at 10"),
+    ("alloc 30", "grant 3 at 30"),
+    ("free 1", "freed"),
+    // free: 10 at 0, 40 at 60
+    ("offset 2", "offset 10"),
+    ("offset 1", "gone"),
+    ("first", "range 2 at 10"),
+    ("last", "range 3 at 30"),
+    ("before 3", "range 2 at 10"),
+    ("before 2", "none"),
+    ("after 2", "range 3 at 30"),
+    ("after 3", "none"),
+    ("after 1", "gone"),
+    ("before 0", "gone"),
+    ("why alloc 40", "granted"),
+    // rounded up to 44
+    ("why alloc 41", "no free block is large enough until the space is compacted"),
+    // rounded up to 52, and 50 units in one block are rounded down to 48
+    ("why alloc 50", "too few units are free"),
+    // rounded up to 104
+    ("why alloc 97", "the request is too large for the space"),
+    // 73 units hold it wherever they begin
+    ("why align 10 64", "too few units are free"),
+    ("why align 10 16", "granted"),
+    ("why tight 40", "granted"),
+    ("why tight 41", "no free block is large enough until the space is compacted"),
+    ("why tight 8 8", "granted"),
+    ("extend 2", "extended"),
+    // 42 units at the end
+    ("alloc 41", "none"),
+    ("tight 41", "grant 4 at 60"),
+    ("retract 1", "retracted"),
+    ("retract 1", "none"),
+    ("align 8 8", "none"),
+    ("tight 8 8", "grant 5 at 0"),
+    ("free 5", "freed"),
+    ("free 3", "freed"),
+    // free: 10 at 0, 30 at 30; grant 2 between them
+    ("cost 30", "ranges 0 units 0"),
+    ("cost 40", "ranges 1 units 20"),
+    ("cost 41", "none"),
+    ("room 41", "none"),
+    ("offset 2", "offset 10"),
+    ("room 40", "ranges 1 units 20"),
+    ("offset 2", "offset 0"),
+    // 41 units do not fit into the 40 before it
+    ("relocate 4", "none"),
+    ("relocate 9", "gone"),
+    ("shrink 4 30", "shrunk"),
+    ("relocate 4", "grant 6 at 20"),
+    ("free 4", "freed"),
+    ("last", "range 6 at 20"),
+    ("retract 52", "none"),
+    ("retract 51", "retracted"),
+    ("report", "free 0 largest 0"),
+    ("free 2", "freed"),
+    ("free 6", "freed"),
+    ("first", "none"),
+    ("report", "free 50 largest 48"),
+];
+
+#[test]
+fn each_call_has_a_line() {
+    let column = |of: fn(&(&'static str, &'static str)) -> &'static str| ROWS.iter().map(|row| of(row).to_owned() + "\n").collect::<String>();
+    for bits in [16, 32] {
+        let text = format!("space 100 nodes 16 index {bits}\n{}", column(|row| row.0));
+        assert_eq!(String::from_utf8(ours(text.as_bytes()).unwrap()).unwrap(), column(|row| row.1));
     }
 }

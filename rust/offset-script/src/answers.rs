@@ -139,7 +139,7 @@ fn put_rows(out: &mut Vec<u8>, rows: &[FullRow]) -> Result<(), AllocError> {
 }
 
 /// Appends the lines of an answer: one, and for a full report one more for each of its rows.
-pub(crate) fn put_answer(out: &mut Vec<u8>, answer: &Answer) -> Result<(), AllocError> {
+pub fn put_answer(out: &mut Vec<u8>, answer: &Answer) -> Result<(), AllocError> {
     match answer {
         Answer::Grant { number, offset } => put_grant(out, *number, *offset),
         Answer::Refused => out.extend_from_slice(b"none\n"),

@@ -28,7 +28,7 @@ mod scripts;
 mod sending;
 mod tokens;
 
-pub use answers::{Answer, FullRow, full_answer};
+pub use answers::{Answer, FullRow, full_answer, put_answer};
 pub use buffer::TextBuffer;
 pub use devices::{FromRead, IntoWrite, Sink, Source};
 pub use dumping::{json_of, vma_json_of};

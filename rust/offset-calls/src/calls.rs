@@ -1,0 +1,135 @@
+// Printed by rust/erase from crates/offset_calls/src/calls.rt: change it there.
+
+//! Calls, and the replies to them. It touches no space.
+
+use crate::memory::Vec;
+
+use offset_allocator::{Refusal, RoomCost};
+use offset_script::{Answer, Command};
+
+/// A call to an allocator. Sizes are in units of the space. A range is named by the number of its grant:
+/// grants are numbered from 1 in their order, as in a script.
+#[derive(Clone, Copy, PartialEq, Debug)]
+pub enum Call {
+    /// A command of a script.
+    Command(Command),
+    /// Shrinks the range of this number to this many units.
+    Shrink(u32, u32),
+    /// Grows the range of this number in place, to this many units.
+    Grow(u32, u32),
+    /// Slides every live range to the front of the space.
+    Compact,
+    /// Asks where the range of this number begins.
+    Offset(u32),
+    /// Asks why a request for this many units would be refused now.
+    Refusal(u32),
+    /// Asks the same of a request for this many units from a multiple of the second number on, which is a
+    /// power of two.
+    RefusalAligned(u32, u32),
+    /// Requests this many units of any free block that has them.
+    Tight(u32),
+    /// Requests this many units from a multiple of the second number on, which is a power of two, of any free
+    /// block that holds them.
+    TightAligned(u32, u32),
+    /// Asks why `Tight` of this many units would be refused now.
+    RefusalTight(u32),
+    /// Asks why `TightAligned` of these numbers would be refused now.
+    RefusalTightAligned(u32, u32),
+    /// Slides the live ranges with the fewest units so that a request for this many units finds its block.
+    MakeRoom(u32),
+    /// Asks what `MakeRoom` of this many units would have to move now.
+    RoomCost(u32),
+    /// Requests a second range of as many units as that of this number, which begins before it, as
+    /// `relocate` does. The old one stays live.
+    Relocate(u32),
+    /// Takes this many free units off the end of the space. Where `Extend` has just added as many, the
+    /// blocks are as they were before both, but that a free one at the end is the newest of its bin, or
+    /// gone where it has no units and is not the only one.
+    Retract(u32),
+    /// Asks which live range is the first one in space.
+    First,
+    /// Asks which live range is the last one in space.
+    Last,
+    /// Asks which live range is directly before that of this number.
+    Before(u32),
+    /// Asks which live range is directly after that of this number.
+    After(u32),
+}
+
+impl Call {
+    /// Whether its alignment is a power of two, where it has one.
+    ///
+    /// ```
+    /// # use offset_calls::*;
+    /// # let alloc = Global;
+    /// assert!(!Call::TightAligned(300, 3).is_valid());
+    /// # Ok::<(), AllocError>(())
+    /// ```
+    pub fn is_valid(&self) -> bool {
+        match self {
+            Call::Command(Command::Align(_, align)) => align.is_power_of_two(),
+            Call::RefusalAligned(_, align) => align.is_power_of_two(),
+            Call::TightAligned(_, align) => align.is_power_of_two(),
+            Call::RefusalTightAligned(_, align) => align.is_power_of_two(),
+            _ => true,
+        }
+    }
+}
+
+/// Whether each alignment in these calls is a power of two.
+///
+/// ```
+/// # use offset_calls::*;
+/// # let alloc = Global;
+/// assert!(are_valid(&[Call::TightAligned(300, 4), Call::Compact]));
+/// # Ok::<(), AllocError>(())
+/// ```
+pub fn are_valid(calls: &[Call]) -> bool {
+    calls.iter().all(|call| call.is_valid())
+}
+
+/// A range that `Call::Compact` or `Call::MakeRoom` moves to another offset.
+#[derive(Clone, Copy, PartialEq, Debug)]
+pub struct Moved {
+    /// The number of its grant.
+    pub number: u64,
+    /// The offset that it had.
+    pub from: u32,
+    /// The offset that it has after the move.
+    pub to: u32,
+    /// Its units.
+    pub size: u32,
+}
+
+/// A live range: the number of its grant, and where it begins.
+#[derive(Clone, Copy, PartialEq, Debug)]
+pub struct LiveRange {
+    /// The number of its grant.
+    pub number: u64,
+    /// Its offset.
+    pub offset: u32,
+}
+
+/// The reply to one call.
+#[derive(Debug)]
+pub enum Reply {
+    /// The answer to a command. Of another call, `Grant`: the range that was requested; `Gone`: no grant of
+    /// that number is live; or `Refused`: no such range is granted, the range cannot shrink or grow to that
+    /// size, or the end has not that many free units. After `Gone` and `Refused` the space is as it was.
+    Answer(Answer),
+    /// The range, or the space, has the new size.
+    Resized,
+    /// The ranges that the compaction moved, in space order.
+    Compacted(Vec<Moved>),
+    /// Where the range begins.
+    Offset(u32),
+    /// Why the request would be refused, or `None` where it would be granted.
+    Refusal(Option<Refusal>),
+    /// What was moved to make room, or `None` where all free units together are not enough; and the ranges
+    /// that were moved, in space order.
+    RoomMade(Option<RoomCost>, Vec<Moved>),
+    /// What would have to be moved, or `None` where all free units together are not enough.
+    RoomCost(Option<RoomCost>),
+    /// The live range that was asked for, or `None` where there is none.
+    Beside(Option<LiveRange>),
+}

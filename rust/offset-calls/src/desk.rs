@@ -1,0 +1,225 @@
+// Printed by rust/erase from crates/offset_calls/src/desk.rt: change it there.
+
+//! The reply of a guarded allocator to one call, with the ticket that the call passes.
+
+use crate::calls::{Call, Reply};
+use crate::ending_desk;
+use crate::playing::{Moves, numbered, resized};
+use crate::room::make_room_guarded;
+use offset_allocator::{Move, NodeIndex, Tables};
+use offset_guarded::{GuardedOf, Ticket};
+use offset_script::{Answer, Command, full_answer};
+use crate::memory::Vec;
+use crate::memory::{AllocError, Global};
+
+// A guarded allocator, with the tickets of all grants so far.
+pub(crate) struct Desk<T: Tables> {
+    pub(crate) space: GuardedOf<T>,
+    pub(crate) tickets: Vec<Ticket>,
+}
+
+// The answer to a request with this result. The ticket of a grant is kept.
+pub(crate) fn keep(tickets: &mut Vec<Ticket>, granted: Option<Ticket>) -> Result<Answer, AllocError> {
+    match granted {
+        None => Ok(Answer::Refused),
+        Some(ticket) => {
+            tickets.push(ticket)?;
+            Ok(Answer::Grant {
+                number: tickets.len() as u64,
+                offset: ticket.offset,
+            })
+        }
+    }
+}
+
+// The answer to `alloc`.
+fn allocate<T: Tables>(desk: &mut Desk<T>, size: u32) -> Result<Answer, AllocError> {
+    let granted = desk.space.allocate(size);
+    keep(&mut desk.tickets, granted)
+}
+
+// The answer to `align`.
+fn allocate_aligned<T: Tables>(
+    desk: &mut Desk<T>,
+    size: u32,
+    align: u32,
+) -> Result<Answer, AllocError> {
+    let granted = desk.space.allocate_aligned(size, align);
+    keep(&mut desk.tickets, granted)
+}
+
+// The reply to `Tight`.
+fn allocate_tight<T: Tables>(desk: &mut Desk<T>, size: u32) -> Result<Reply, AllocError> {
+    let granted = desk.space.allocate_tight(size);
+    Ok(Reply::Answer(keep(&mut desk.tickets, granted)?))
+}
+
+// The reply to `TightAligned`.
+fn allocate_tight_aligned<T: Tables>(
+    desk: &mut Desk<T>,
+    size: u32,
+    align: u32,
+) -> Result<Reply, AllocError> {
+    let granted = desk.space.allocate_tight_aligned(size, align);
+    Ok(Reply::Answer(keep(&mut desk.tickets, granted)?))
+}
+
+// The answer to `free`.
+fn release<T: Tables>(space: &mut GuardedOf<T>, ticket: Option<Ticket>) -> Answer {
+    let Some(ticket) = ticket else {
+        return Answer::Gone;
+    };
+    if space.free(ticket) {
+        Answer::Freed
+    } else {
+        Answer::Gone
+    }
+}
+
+// The answer to `size`.
+fn size_of<T: Tables>(space: &GuardedOf<T>, ticket: Option<Ticket>) -> Answer {
+    let Some(ticket) = ticket else {
+        return Answer::Gone;
+    };
+    match space.size_of(ticket) {
+        None => Answer::Gone,
+        Some(size) => Answer::Size(size),
+    }
+}
+
+// The reply to `Offset`.
+fn offset_of<T: Tables>(space: &GuardedOf<T>, ticket: Option<Ticket>) -> Reply {
+    let Some(ticket) = ticket else {
+        return Reply::Answer(Answer::Gone);
+    };
+    match space.offset_of(ticket) {
+        None => Reply::Answer(Answer::Gone),
+        Some(offset) => Reply::Offset(offset),
+    }
+}
+
+// The answer to `reset`.
+fn reset<T: Tables>(space: &mut GuardedOf<T>) -> Answer {
+    space.reset();
+    Answer::Reset
+}
+
+// The answer to `extend`.
+fn extend<T: Tables>(space: &mut GuardedOf<T>, more: u32) -> Answer {
+    if space.extend(more) {
+        Answer::Extended
+    } else {
+        Answer::Refused
+    }
+}
+
+// The reply to `Shrink`.
+fn shrink<T: Tables>(space: &mut GuardedOf<T>, ticket: Option<Ticket>, size: u32) -> Reply {
+    let Some(ticket) = ticket else {
+        return Reply::Answer(Answer::Gone);
+    };
+    match space.shrink(ticket, size) {
+        None => Reply::Answer(Answer::Gone),
+        Some(done) => resized(done),
+    }
+}
+
+// The reply to `Grow`.
+fn grow<T: Tables>(space: &mut GuardedOf<T>, ticket: Option<Ticket>, size: u32) -> Reply {
+    let Some(ticket) = ticket else {
+        return Reply::Answer(Answer::Gone);
+    };
+    match space.grow_in_place(ticket, size) {
+        None => Reply::Answer(Answer::Gone),
+        Some(done) => resized(done),
+    }
+}
+
+// The numbers of the live ranges, which are their serials, in space order.
+fn numbers_of_live<T: Tables>(alloc: Global, desk: &Desk<T>) -> Result<Vec<u64>, AllocError> {
+    let mut numbers = Vec::new(alloc);
+    for block in desk.space.allocator().blocks() {
+        if let Some(handle) = block.allocation {
+            // it is live, so it has a ticket
+            let serial = match desk.space.ticket(handle) {
+                None => 0,
+                Some(ticket) => ticket.serial,
+            };
+            numbers.push(serial)?;
+        }
+    }
+    numbers.reverse();
+    Ok(numbers)
+}
+
+// Compacts a space, and collects the moves. Its index type is a parameter too, which keeps the proof short.
+fn collect<NI: NodeIndex, T: Tables<Index = NI>>(space: &mut GuardedOf<T>, seen: &mut Moves) {
+    space.compact(&mut |range: Move<NI>| seen.add(range.from, range.to, range.size));
+}
+
+// The reply to `Compact`. All ranges after the first one that moves are moved too.
+fn compact<T: Tables>(alloc: Global, desk: &mut Desk<T>) -> Result<Reply, AllocError> {
+    let numbers = numbers_of_live(alloc, desk)?;
+    let mut moves = Moves {
+        found: Vec::new(alloc),
+        is_refused: false,
+    };
+    collect(&mut desk.space, &mut moves);
+    if moves.is_refused {
+        return Err(AllocError);
+    }
+    Ok(Reply::Compacted(numbered(alloc, &numbers, &moves.found)?))
+}
+
+// The answer to a command that passes this ticket.
+fn answer<T: Tables>(
+    alloc: Global,
+    desk: &mut Desk<T>,
+    command: Command,
+    ticket: Option<Ticket>,
+) -> Result<Answer, AllocError> {
+    match command {
+        Command::Alloc(size) => allocate(desk, size),
+        Command::Free(_) => Ok(release(&mut desk.space, ticket)),
+        Command::Size(_) => Ok(size_of(&desk.space, ticket)),
+        Command::Report => Ok(Answer::Report(desk.space.allocator().storage_report())),
+        Command::Full => full_answer(alloc, desk.space.allocator()),
+        Command::Reset => Ok(reset(&mut desk.space)),
+        Command::Align(size, align) => allocate_aligned(desk, size, align),
+        Command::Extend(more) => Ok(extend(&mut desk.space, more)),
+    }
+}
+
+// The reply to a call that passes this ticket.
+pub(crate) fn reply<T: Tables>(
+    alloc: Global,
+    desk: &mut Desk<T>,
+    call: Call,
+    ticket: Option<Ticket>,
+) -> Result<Reply, AllocError> {
+    match call {
+        Call::Command(command) => Ok(Reply::Answer(answer(alloc, desk, command, ticket)?)),
+        Call::Shrink(_, size) => Ok(shrink(&mut desk.space, ticket, size)),
+        Call::Grow(_, size) => Ok(grow(&mut desk.space, ticket, size)),
+        Call::Compact => compact(alloc, desk),
+        Call::Offset(_) => Ok(offset_of(&desk.space, ticket)),
+        Call::Refusal(size) => Ok(Reply::Refusal(desk.space.allocator().refusal(size))),
+        Call::RefusalAligned(size, align) => Ok(Reply::Refusal(
+            desk.space.allocator().refusal_aligned(size, align),
+        )),
+        Call::Tight(size) => allocate_tight(desk, size),
+        Call::TightAligned(size, align) => allocate_tight_aligned(desk, size, align),
+        Call::RefusalTight(size) => Ok(Reply::Refusal(desk.space.allocator().refusal_tight(size))),
+        Call::RefusalTightAligned(size, align) => Ok(Reply::Refusal(
+            desk.space.allocator().refusal_tight_aligned(size, align),
+        )),
+        Call::MakeRoom(size) => make_room_guarded(alloc, desk, size),
+        Call::RoomCost(size) => Ok(Reply::RoomCost(desk.space.allocator().room_cost(size))),
+        Call::Relocate(_) => ending_desk::relocate(desk, ticket),
+        Call::Retract(less) => Ok(ending_desk::retract(&mut desk.space, less)),
+        Call::First => Ok(ending_desk::first(desk)),
+        Call::Last => Ok(ending_desk::last(desk)),
+        Call::Before(_) => Ok(ending_desk::before(desk, ticket)),
+        Call::After(_) => Ok(ending_desk::after(desk, ticket)),
+    }
+}

@@ -1,0 +1,91 @@
+// Printed by rust/erase from crates/offset_calls/src/ending.rt: change it there.
+
+//! The replies of a player to calls at the end of a space.
+
+use crate::calls::{LiveRange, Reply};
+use crate::numbers::Numbers;
+use crate::playing::resized;
+use offset_allocator::{Allocation, NodeIndex, Tables};
+use offset_script::{Answer, PlayerOf};
+use crate::memory::AllocError;
+
+// The reply to `Relocate`. The handle of a grant is kept.
+pub(crate) fn relocate<T: Tables>(
+    player: &mut PlayerOf<T>,
+    number: u32,
+) -> Result<Reply, AllocError> {
+    let Some(handle) = player.handle(number) else {
+        return Ok(Reply::Answer(Answer::Gone));
+    };
+    let granted = player.space.relocate(handle);
+    Ok(Reply::Answer(player.keep(granted)?))
+}
+
+// The reply to `Retract`.
+pub(crate) fn retract<T: Tables>(player: &mut PlayerOf<T>, less: u32) -> Reply {
+    resized(player.space.retract(less))
+}
+
+// The reply to a question for this live range, or for none: with the number at its name.
+fn find<NI: NodeIndex>(
+    handles: &[Option<Allocation<NI>>],
+    names: u32,
+    numbers: &mut Numbers,
+    found: Option<Allocation<NI>>,
+) -> Result<Reply, AllocError> {
+    numbers.read(handles, names)?;
+    match found {
+        None => Ok(Reply::Beside(None)),
+        Some(handle) => {
+            let (offset, name) = handle.to_parts();
+            Ok(Reply::Beside(Some(LiveRange {
+                number: numbers.of(name),
+                offset,
+            })))
+        }
+    }
+}
+
+// The reply to `First`.
+pub(crate) fn first<T: Tables>(
+    player: &PlayerOf<T>,
+    numbers: &mut Numbers,
+) -> Result<Reply, AllocError> {
+    let found = player.space.first_live();
+    find(&player.handles, player.space.node_count(), numbers, found)
+}
+
+// The reply to `Last`.
+pub(crate) fn last<T: Tables>(
+    player: &PlayerOf<T>,
+    numbers: &mut Numbers,
+) -> Result<Reply, AllocError> {
+    let found = player.space.last_live();
+    find(&player.handles, player.space.node_count(), numbers, found)
+}
+
+// The reply to `Before`.
+pub(crate) fn before<T: Tables>(
+    player: &PlayerOf<T>,
+    numbers: &mut Numbers,
+    number: u32,
+) -> Result<Reply, AllocError> {
+    let Some(handle) = player.handle(number) else {
+        return Ok(Reply::Answer(Answer::Gone));
+    };
+    let found = player.space.live_before(handle);
+    find(&player.handles, player.space.node_count(), numbers, found)
+}
+
+// The reply to `After`.
+pub(crate) fn after<T: Tables>(
+    player: &PlayerOf<T>,
+    numbers: &mut Numbers,
+    number: u32,
+) -> Result<Reply, AllocError> {
+    let Some(handle) = player.handle(number) else {
+        return Ok(Reply::Answer(Answer::Gone));
+    };
+    let found = player.space.live_after(handle);
+    find(&player.handles, player.space.node_count(), numbers, found)
+}

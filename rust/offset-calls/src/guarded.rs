@@ -1,0 +1,114 @@
+// Printed by rust/erase from crates/offset_calls/src/guarded.rt: change it there.
+
+//! Plays calls on a guarded allocator. Each call may pass any ticket.
+
+use crate::calls::{Call, Reply};
+use crate::desk::{Desk, reply};
+use offset_allocator::{NodeIndex, Tables};
+use offset_guarded::{GuardedOf, Ticket};
+use offset_script::Command;
+use crate::memory::Vec;
+use crate::memory::{AllocError, Global};
+
+/// A call to a guarded allocator.
+#[derive(Clone, Copy, PartialEq, Debug)]
+pub struct TicketCall {
+    /// The call. Without a ticket it passes the one that the grant of its number gave, whether it is live or
+    /// not.
+    pub call: Call,
+    /// The ticket that the call passes instead: any numbers.
+    pub ticket: Option<Ticket>,
+}
+
+/// The replies to calls on a guarded allocator, and the tickets of its grants.
+#[derive(Debug)]
+pub struct Played {
+    /// The replies, in order, one for each call.
+    pub replies: Vec<Reply>,
+    /// The ticket of grant k is at k - 1.
+    pub tickets: Vec<Ticket>,
+}
+
+// The number in a call, or 0 where it has none.
+fn number_in(call: &Call) -> u32 {
+    match call {
+        Call::Command(Command::Free(number)) => *number,
+        Call::Command(Command::Size(number)) => *number,
+        Call::Shrink(number, _) => *number,
+        Call::Grow(number, _) => *number,
+        Call::Offset(number) => *number,
+        Call::Relocate(number) => *number,
+        Call::Before(number) => *number,
+        Call::After(number) => *number,
+        _ => 0,
+    }
+}
+
+// The ticket of the grant of this number.
+fn ticket_of(tickets: &[Ticket], number: u32) -> Option<Ticket> {
+    if number == 0 {
+        return None;
+    }
+    match tickets.get(number as usize - 1) {
+        None => None,
+        Some(ticket) => Some(*ticket),
+    }
+}
+
+// The ticket that a call passes, if there is one.
+fn passed(tickets: &[Ticket], call: &TicketCall) -> Option<Ticket> {
+    match call.ticket {
+        None => ticket_of(tickets, number_in(&call.call)),
+        Some(ticket) => Some(ticket),
+    }
+}
+
+/// Plays calls on a guarded allocator of `size` units with the node limit `max_allocs` and a realm, and
+/// returns the replies in order, one for each, and the tickets of the grants.
+///
+/// The calls may pass any tickets: live ones, those of ranges that were freed or reset, altered ones, random
+/// numbers. The limit has to be 2 to `T::Index::MAX - 2`, and each alignment a power of two.
+///
+/// # Errors
+///
+/// It fails only where an allocation fails.
+///
+/// # Panics
+///
+/// It panics unless `max_allocs` is at least 2, and `max_allocs` is at most `NI::MAX - 2`, and each
+/// alignment is a power of two.
+///
+/// ```
+/// # use offset_calls::*;
+/// # let alloc = Global;
+/// let call = TicketCall { call: Call::Tight(300), ticket: None };
+/// let played = play_guarded::<offset_allocator::ByNode<u32>>(alloc, 1000, 16, 7, &[call])?;
+/// assert_eq!((played.tickets[0].realm, played.tickets[0].serial), (7, 1));
+/// # Ok::<(), AllocError>(())
+/// ```
+#[track_caller]
+pub fn play_guarded<T: Tables>(
+    alloc: Global,
+    size: u32,
+    max_allocs: u32,
+    realm: u32,
+    calls: &[TicketCall],
+) -> Result<Played, AllocError> {
+    assert!(2 <= max_allocs, "max_allocs must be at least 2");
+    assert!(max_allocs < T::Index::MAX - 1, "max_allocs must be at most NI::MAX - 2");
+    assert!(calls.iter().all(|it| it.call.is_valid()), "each alignment must be a power of two");
+    let mut desk: Desk<T> = Desk {
+        space: GuardedOf::with_max_allocs(alloc, size, max_allocs, realm)?,
+        tickets: Vec::new(alloc),
+    };
+    let mut replies = Vec::with_capacity(alloc, calls.len())?;
+    for call in calls {
+        let ticket = passed(&desk.tickets, call);
+        let reply = reply(alloc, &mut desk, call.call, ticket)?;
+        replies.push(reply)?;
+    }
+    Ok(Played {
+        replies,
+        tickets: desk.tickets,
+    })
+}

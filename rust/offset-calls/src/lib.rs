@@ -1,0 +1,34 @@
+// Printed by rust/erase from crates/offset_calls/src/lib.rt: change it there.
+
+//! Lists of calls to an allocator, played on it: every call that changes a space, and the questions beside
+//! them.
+//!
+//! `offset_script` plays the commands of a script. Here `shrink`, `grow_in_place`, `compact`, `make_room`,
+//! `relocate`, `retract` and the tight requests, and the questions for an offset, for the reason of a
+//! refusal, for the cost of room and for the ranges beside one, are calls too. The replies are proved to be
+//! those of the plain stamped list of blocks, which `specs/Calls.antt` extends by these calls, for every
+//! lawful layout and index type.
+#![doc = include_str!("../README.md")]
+#![forbid(unsafe_code)]
+#![warn(missing_docs)]
+#![expect(clippy::manual_map)] // a `match` needs no closure, whose calls would need a proof
+#![expect(clippy::needless_range_loop)] // the proof speaks of the places of grants and of moves
+
+mod player;
+
+pub use offset_allocator_memory as memory;
+pub use offset_allocator_memory::{AllocError, Global};
+pub use player::{CallPlayer, CallPlayerOf};
+
+mod calls;
+mod desk;
+mod ending;
+mod ending_desk;
+mod guarded;
+mod numbers;
+mod playing;
+mod room;
+
+pub use calls::{Call, LiveRange, Moved, Reply, are_valid};
+pub use guarded::{Played, TicketCall, play_guarded};
+pub use playing::{play_calls, play_calls_of};

@@ -1,0 +1,239 @@
+// Printed by rust/erase from crates/offset_calls/src/playing.rt: change it there.
+
+//! Plays calls on an allocator.
+
+use crate::calls::{Call, Moved, Reply};
+use crate::ending;
+use crate::numbers::Numbers;
+use crate::room::make_room;
+use offset_allocator::{AllocatorOf, ByNode, Move, NodeIndex, Tables};
+use offset_script::{Answer, PlayerOf};
+use crate::memory::Vec;
+use crate::memory::{AllocError, Global};
+
+// The reply to a call that was to resize a range.
+pub(crate) fn resized(done: bool) -> Reply {
+    if done {
+        Reply::Resized
+    } else {
+        Reply::Answer(Answer::Refused)
+    }
+}
+
+// The reply to `Shrink`.
+fn shrink<T: Tables>(player: &mut PlayerOf<T>, number: u32, size: u32) -> Reply {
+    match player.handle(number) {
+        None => Reply::Answer(Answer::Gone),
+        Some(handle) => resized(player.space.shrink(handle, size)),
+    }
+}
+
+// The reply to `Grow`.
+fn grow<T: Tables>(player: &mut PlayerOf<T>, number: u32, size: u32) -> Reply {
+    match player.handle(number) {
+        None => Reply::Answer(Answer::Gone),
+        Some(handle) => resized(player.space.grow_in_place(handle, size)),
+    }
+}
+
+// The numbers of the live ranges, in space order.
+fn numbers_of_live<T: Tables>(
+    alloc: Global,
+    player: &PlayerOf<T>,
+    numbers: &Numbers,
+) -> Result<Vec<u64>, AllocError> {
+    let mut found = Vec::new(alloc);
+    for block in player.space.blocks() {
+        if let Some(handle) = block.allocation {
+            found.push(numbers.of(handle.to_parts().1))?;
+        }
+    }
+    found.reverse();
+    Ok(found)
+}
+
+// The moves of a compaction so far, without numbers, unless memory for one was refused.
+pub(crate) struct Moves {
+    pub(crate) found: Vec<Moved>,
+    pub(crate) is_refused: bool,
+}
+
+impl Moves {
+    // One more move.
+    pub(crate) fn add(&mut self, from: u32, to: u32, size: u32) {
+        let moved = Moved {
+            number: 0,
+            from,
+            to,
+            size,
+        };
+        if self.found.push(moved).is_err() {
+            self.is_refused = true;
+        }
+    }
+}
+
+// Compacts a space, and collects the moves. Its index type is a parameter too, which keeps the proof short.
+fn collect<NI: NodeIndex, T: Tables<Index = NI>>(space: &mut AllocatorOf<T>, seen: &mut Moves) {
+    space.compact(&mut |range: Move<NI>| seen.add(range.from, range.to, range.size));
+}
+
+// The moves with these numbers, the last of which are those of the ranges that are moved.
+pub(crate) fn numbered(
+    alloc: Global,
+    numbers: &[u64],
+    moves: &[Moved],
+) -> Result<Vec<Moved>, AllocError> {
+    let first = numbers.len() - moves.len();
+    let mut found = Vec::new(alloc);
+    for i in 0..moves.len() {
+        let range = moves[i];
+        found.push(Moved {
+            number: numbers[first + i],
+            from: range.from,
+            to: range.to,
+            size: range.size,
+        })?;
+    }
+    Ok(found)
+}
+
+// The reply to `Compact`. All ranges after the first one that moves are moved too.
+fn compact<T: Tables>(
+    alloc: Global,
+    player: &mut PlayerOf<T>,
+    numbers: &mut Numbers,
+) -> Result<Reply, AllocError> {
+    numbers.read(&player.handles, player.space.node_count())?;
+    let live_numbers = numbers_of_live(alloc, player, numbers)?;
+    let mut moves = Moves {
+        found: Vec::new(alloc),
+        is_refused: false,
+    };
+    collect(&mut player.space, &mut moves);
+    if moves.is_refused {
+        return Err(AllocError);
+    }
+    Ok(Reply::Compacted(numbered(alloc, &live_numbers, &moves.found)?))
+}
+
+// The reply to `Offset`.
+fn offset<T: Tables>(player: &PlayerOf<T>, number: u32) -> Reply {
+    match player.handle(number) {
+        None => Reply::Answer(Answer::Gone),
+        // it is live, so it has an offset
+        Some(handle) => Reply::Offset(player.space.allocation_offset(handle).unwrap_or(0)),
+    }
+}
+
+// The reply to one call.
+pub(crate) fn reply<T: Tables>(
+    alloc: Global,
+    player: &mut PlayerOf<T>,
+    numbers: &mut Numbers,
+    call: Call,
+) -> Result<Reply, AllocError> {
+    match call {
+        Call::Command(command) => Ok(Reply::Answer(player.call(alloc, command)?)),
+        Call::Shrink(number, size) => Ok(shrink(player, number, size)),
+        Call::Grow(number, size) => Ok(grow(player, number, size)),
+        Call::Compact => compact(alloc, player, numbers),
+        Call::Offset(number) => Ok(offset(player, number)),
+        Call::Refusal(size) => Ok(Reply::Refusal(player.space.refusal(size))),
+        Call::RefusalAligned(size, align) => Ok(Reply::Refusal(
+            player.space.refusal_aligned(size, align),
+        )),
+        Call::Tight(size) => {
+            let granted = player.space.allocate_tight(size);
+            Ok(Reply::Answer(player.keep(granted)?))
+        }
+        Call::TightAligned(size, align) => {
+            let granted = player.space.allocate_tight_aligned(size, align);
+            Ok(Reply::Answer(player.keep(granted)?))
+        }
+        Call::RefusalTight(size) => Ok(Reply::Refusal(player.space.refusal_tight(size))),
+        Call::RefusalTightAligned(size, align) => Ok(Reply::Refusal(
+            player.space.refusal_tight_aligned(size, align),
+        )),
+        Call::MakeRoom(size) => make_room(alloc, player, numbers, size),
+        Call::RoomCost(size) => Ok(Reply::RoomCost(player.space.room_cost(size))),
+        Call::Relocate(number) => ending::relocate(player, number),
+        Call::Retract(less) => Ok(ending::retract(player, less)),
+        Call::First => ending::first(player, numbers),
+        Call::Last => ending::last(player, numbers),
+        Call::Before(number) => ending::before(player, numbers, number),
+        Call::After(number) => ending::after(player, numbers, number),
+    }
+}
+
+/// Plays calls on an allocator of `size` units with the node limit `max_allocs`, and returns the replies in
+/// order, one for each.
+///
+/// The limit has to be 2 to `T::Index::MAX - 2`, and each alignment a power of two. All replies are kept in
+/// memory, and from the first `Compact`, `MakeRoom`, `First`, `Last`, `Before` or `After` on 8 bytes for each
+/// node that was made, twice that while a later one finds that there are more nodes. Each call costs what it
+/// costs in the allocator; these also read the grants since the last one of them.
+///
+/// # Errors
+///
+/// It fails only where an allocation fails.
+///
+/// # Panics
+///
+/// It panics unless `max_allocs` is at least 2, and `max_allocs` is at most `NI::MAX - 2`, and each
+/// alignment is a power of two.
+///
+/// ```
+/// # use offset_calls::*;
+/// # let alloc = Global;
+/// let calls = [Call::Tight(300), Call::MakeRoom(600), Call::Last];
+/// let replies = play_calls_of::<offset_allocator::ByField<u16>>(alloc, 1000, 16, &calls)?;
+/// assert!(matches!(replies[2], Reply::Beside(Some(LiveRange { number: 1, offset: 0 }))));
+/// # Ok::<(), AllocError>(())
+/// ```
+#[track_caller]
+pub fn play_calls_of<T: Tables>(
+    alloc: Global,
+    size: u32,
+    max_allocs: u32,
+    calls: &[Call],
+) -> Result<Vec<Reply>, AllocError> {
+    assert!(2 <= max_allocs, "max_allocs must be at least 2");
+    assert!(max_allocs < T::Index::MAX - 1, "max_allocs must be at most NI::MAX - 2");
+    assert!(calls.iter().all(|call| call.is_valid()), "each alignment must be a power of two");
+    let mut player: PlayerOf<T> = PlayerOf::start(alloc, size, max_allocs)?;
+    let mut numbers = Numbers::new(alloc);
+    let mut found = Vec::with_capacity(alloc, calls.len())?;
+    for call in calls {
+        let reply = reply(alloc, &mut player, &mut numbers, *call)?;
+        found.push(reply)?;
+    }
+    Ok(found)
+}
+
+/// `play_calls_of` by node, as `Allocator` is. The limit has to be 2 to `NI::MAX - 2`.
+///
+/// # Panics
+///
+/// It panics unless `max_allocs` is at least 2, and `max_allocs` is at most `NI::MAX - 2`, and each
+/// alignment is a power of two.
+///
+/// ```
+/// # use offset_calls::*;
+/// # let alloc = Global;
+/// let replies = play_calls::<u32>(alloc, 1000, 16, &[Call::Tight(300), Call::Shrink(1, 200)])?;
+/// assert!(matches!(replies[1], Reply::Resized));
+/// # Ok::<(), AllocError>(())
+/// ```
+#[track_caller]
+pub fn play_calls<NI: NodeIndex>(
+    alloc: Global,
+    size: u32,
+    max_allocs: u32,
+    calls: &[Call],
+) -> Result<Vec<Reply>, AllocError> {
+    assert!(2 <= max_allocs, "max_allocs must be at least 2");
+    assert!(max_allocs < NI::MAX - 1, "max_allocs must be at most NI::MAX - 2");
+    assert!(calls.iter().all(|call| call.is_valid()), "each alignment must be a power of two");
+    play_calls_of::<ByNode<NI>>(alloc, size, max_allocs, calls)
+}
