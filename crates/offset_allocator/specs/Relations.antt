@@ -22,6 +22,7 @@ IsCopy v w = w ≡ record v { accesses = 0 }
 -- one free block of size units, alone in its bin, under the name of the only node that was made
 pub record IsFresh (size max_allocs : ℕ) (w : View) : Type 0 where
   pub name : ℕ
+  pub first : name ≡ 0
   pub below : name < max_allocs
   pub view : w ≡ record { size = size; max_allocs = max_allocs; blocks = free_block name size ∷ []; bins = push_all (free_block name size ∷ []) (replicate 256 []); unused = []; accesses = 0 }
 

@@ -30,7 +30,7 @@ granted_at slots now limits made realm before after number size align ticket the
       before = by.before;
       after = by.after;
       heap = inl (refl, by.was);
-      step = inl (by.step, by.accesses);
+      step = inl (λ new. absurd (cc), by.step, by.accesses);
       grants = by.grants;
       realm = refl;
       number = there;
@@ -49,7 +49,7 @@ module _ (hs ks : Heaps) (number size align : ℕ) (o : Option Guard) (ticket : 
         before = by.before;
         after = by.after;
         heap = inr (refl, spare.1, inl (usual, subst (IsNew hs.limits.size hs.limits.max_allocs (hs.made + 1)) (some_same g by.before by.was) new));
-        step = inl (by.step, by.accesses);
+        step = inl (λ new. usual, by.step, by.accesses);
         grants = by.grants;
         realm = refl;
         number = there;
@@ -63,7 +63,7 @@ module _ (hs ks : Heaps) (number size align : ℕ) (o : Option Guard) (ticket : 
         before = by.before;
         after = by.after;
         heap = inr (refl, spare.2, inr (unusual, subst (IsNew size larger_limit (hs.made + 1)) (some_same g by.before by.was) new));
-        step = inr (refl, by.step, by.accesses);
+        step = inr (refl, unusual, by.step, by.accesses);
         grants = by.grants;
         realm = refl;
         number = there;
@@ -79,6 +79,15 @@ granted_since size align hs ks ls grant same g =
 pub granted_if_since : (size align : ℕ) (hs ks ls : Heaps) (r : Result Granted Refusal) → IsSame hs ks → IfOk r (Grants size align ks ls) → IfOk r (Grants size align hs ls)
 granted_if_since size align hs ks ls (Ok grant) same g = granted_since size align hs ks ls grant same g
 granted_if_since size align hs ks ls (Err why) same g = g
+
+-- the first spare number for a heap of the usual size is the next one for a request that is usual
+pub next_usual : (units k : ℕ) (hs ks : Heaps) (r : Result Granted Refusal) → IsSame hs ks → IsUsual units hs → IsSpareUsual k hs → ((j : ℕ) → j < k → IsSpareUsual j hs → ⊥)
+    → IfOk r (λ g. (g.is_new ≡ true) × (g.place.heap ≡ k) × (ks.made < last_realm)) → IfOk r (λ g. (g.is_new ≡ true) × IsNext units g.place.heap hs)
+next_usual units k hs ks (Ok g) same usual spare first made =
+    let now = ap (λ (h : Heaps). h.made) same in
+    let left : hs.made < last_realm = subst (λ n. n < last_realm) now made.2 in
+    (made.0, subst (λ n. IsNext units n hs) (sym made.1) (left, inl (usual, spare, first)))
+next_usual units k hs ks (Err why) same usual spare first made = made
 
 -- the first spare number for a larger heap is the next one for a request that is not usual
 pub next_larger : (units k : ℕ) (hs ks : Heaps) (r : Result Granted Refusal) → IsSame hs ks → (IsUsual units hs → ⊥) → IsSpareLarger k hs → ((j : ℕ) → j < k → IsSpareLarger j hs → ⊥)

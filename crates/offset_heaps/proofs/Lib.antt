@@ -1,3 +1,6 @@
+pub mod Decided
+pub mod DecidedCalls
+pub mod DecidedWalks
 pub mod Emptiest
 pub mod Empties
 pub mod FaultPlaces
@@ -13,4 +16,5 @@ pub mod States
 pub mod Sums
 pub mod Takers
 pub mod Trees
+pub mod Twins
 pub mod Walks

@@ -137,9 +137,12 @@ pub record Grants (size align : ℕ) (hs ks : Heaps) (grant : Granted) : Type 0 
   pub before : Guard
   pub after : Guard
   pub heap : IsBefore size align hs grant before
-  pub step : (Aligns size align before.space after.space (Some (handle_in grant.place.ticket))
+  -- one of the request's own size grants all of it
+  pub step : ((grant.is_new ≡ true → IsUsual (units_needed size align) hs)
+      × Aligns size align before.space after.space (Some (handle_in grant.place.ticket))
       × (after.space.accesses ≤ before.space.accesses + 128))
-      ⊎ ((grant.is_new ≡ true) × AlignsTight size 1 before.space after.space (Some (handle_in grant.place.ticket))
+      ⊎ ((grant.is_new ≡ true) × (IsUsual (units_needed size align) hs → ⊥)
+      × AlignsTight size 1 before.space after.space (Some (handle_in grant.place.ticket))
       × (after.space.accesses ≤ before.space.accesses + 140 + 6 * length (bin_at before.space.bins (down size))))
   pub grants : guarded.Grants size before after grant.place.ticket
   pub realm : grant.place.realm ≡ hs.realm

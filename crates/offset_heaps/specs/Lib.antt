@@ -1,3 +1,4 @@
+pub mod Calls
 pub mod Heaps
 pub mod Histories
 pub mod Maxima
@@ -6,3 +7,4 @@ pub mod Slots
 pub mod Soundness
 pub mod State
 pub mod StateFaults
+pub mod Twins

@@ -1,17 +1,24 @@
 //! Laws: what holds of all heaps. Its functions do nothing.
 ghost use Rattle.std.specs.Prelude.{ℕ, List, ◌≡◌, ◌↔◌, ◌+◌, ◌<◌, ◌≤◌, ◌∷◌, None, Some, IfSome, length};
+ghost use Rattle.std.specs.Prelude.{Bool, Err, MatchOption, Option, Result};
 ghost use Rattle.std.specs.List.{AllByRecursion};
 ghost use Rattle.offset_allocator.specs.Ranges.{AreDisjoint, Range};
 ghost use Rattle.offset_allocator.specs.Reports.{IsReport};
 ghost use Rattle.offset_allocator.specs.Requests.{CanGrant, blocks_needed, units_needed};
 ghost use Rattle.offset_allocator.specs.declared.reports.StorageReport.{StorageReport};
 ghost use Rattle.offset_guarded.specs.Guard.{Guard, HasSerialLeft};
-ghost use Rattle.offset_heaps.specs.Heaps.{Heaps, room, AreAlike, heap_at, numbers, range_of};
+ghost use Rattle.offset_heaps.specs.Heaps.{Heaps, room, AreAlike, AreTotals, heap_at, numbers, range_of};
 ghost use Rattle.offset_heaps.specs.Heaps.{IsFirstFit, IsLive, IsNext, IsWhy, Puts};
-ghost use Rattle.offset_heaps.specs.Histories.{AreSteps, IsGone, IsStep};
-ghost use Rattle.offset_heaps.specs.State.{IsStateOf, IsWellFormed, SameHeaps};
+ghost use Rattle.offset_heaps.specs.Histories.{AreSteps, IsGone, IsStep, ResetsAll};
+ghost use Rattle.offset_heaps.specs.State.{IsCopy, IsStateOf, IsWellFormed, SameHeaps};
+ghost use Rattle.offset_heaps.specs.Relocating.{IsEmptiest, NoneLive, last_place, place_before};
+ghost use Rattle.offset_heaps.specs.Twins.{AreTwins};
+ghost use Rattle.offset_heaps.specs.Calls.{Allocates, AreTaken, Call, Drops, DropsEmpty, Frees, GivesUp, Relocates};
+ghost use Rattle.offset_heaps.specs.Calls.{Reply};
+ghost use Rattle.offset_heaps.specs.declared.place.Granted.{Granted};
 ghost use Rattle.offset_heaps.specs.declared.place.Place.{Place};
 ghost use Rattle.offset_heaps.specs.declared.refusal.Refusal.{Refusal};
+ghost use Rattle.offset_heaps.specs.declared.totals.Totals.{Totals};
 ghost use Rattle.offset_heaps.specs.declared.refusal.Refusal.TheVariants.{Memory};
 
 use crate::HeapsOf;
@@ -108,3 +115,48 @@ pub fn a_state_is_read_back<T: Tables>(heaps: &HeapsOf<T>)
         }
     }
 }
+
+/// Heaps and a call decide the result, and the heaps that are left. Heaps are twins where their spaces are in
+/// the same state, and live names have the same serials, however many accesses were counted: of twins a call
+/// returns the same, places and tickets included, and leaves twins. Only where memory is refused to a request
+/// of one of them, the other may have a heap more.
+pub fn a_state_decides_each_step()
+    ensures allocate { (size align : ℕ) (hs hs' ks ks' : Heaps) → size ≤ 4294967295 → IsWellFormed hs
+        → AreTwins hs hs' → (r r' : Result Granted Refusal) → Allocates size align hs ks r
+        → Allocates size align hs' ks' r' → (r ≡ Err Memory → ⊥) → (r' ≡ Err Memory → ⊥)
+        → (r ≡ r') × AreTwins ks ks' }
+    ensures free { (p : Place) (hs hs' ks ks' : Heaps) → IsWellFormed hs → AreTwins hs hs' → (r r' : Bool)
+        → Frees p hs ks r → Frees p hs' ks' r' → (r ≡ r') × AreTwins ks ks' }
+    ensures relocate { (p : Place) (hs hs' ks ks' : Heaps) → IsWellFormed hs → AreTwins hs hs'
+        → (r r' : Option Place) → Relocates p hs ks r → Relocates p hs' ks' r' → (r ≡ r') × AreTwins ks ks' }
+    ensures drop_empty { (keep : ℕ) (hs hs' ks ks' : Heaps) → AreTwins hs hs' → (r r' : Option ℕ)
+        → DropsEmpty keep hs ks r → DropsEmpty keep hs' ks' r' → (r ≡ r') × AreTwins ks ks' }
+    ensures drop_heap { (k : ℕ) (hs hs' ks ks' : Heaps) → AreTwins hs hs' → (r r' : Bool)
+        → Drops k hs ks r → Drops k hs' ks' r' → (r ≡ r') × AreTwins ks ks' }
+    ensures give_up { (k : ℕ) (hs hs' ks ks' : Heaps) → AreTwins hs hs' → (r r' : Bool)
+        → GivesUp k hs ks r → GivesUp k hs' ks' r' → (r ≡ r') × AreTwins ks ks' }
+    ensures reset { (hs hs' ks ks' : Heaps) → IsWellFormed hs → AreTwins hs hs' → ResetsAll hs ks
+        → ResetsAll hs' ks' → AreTwins ks ks' }
+    ensures range { (hs hs' : Heaps) (p : Place) → AreTwins hs hs' → range_of p hs' ≡ range_of p hs }
+    ensures emptiest { (hs hs' : Heaps) → AreTwins hs hs' → (r r' : Option ℕ)
+        → MatchOption r (NoneLive (numbers hs) hs.slots) (IsEmptiest (numbers hs) hs.slots)
+        → MatchOption r' (NoneLive (numbers hs') hs'.slots) (IsEmptiest (numbers hs') hs'.slots) → r ≡ r' }
+    ensures totals { (hs hs' : Heaps) → AreTwins hs hs' → (r r' : Totals) → AreTotals r hs.slots
+        → AreTotals r' hs'.slots → r ≡ r' }
+    ensures last_live { (k : ℕ) (hs hs' : Heaps) → IsWellFormed hs → AreTwins hs hs'
+        → last_place k hs'.realm (heap_at k hs') ≡ last_place k hs.realm (heap_at k hs) }
+    ensures live_before { (p : Place) (hs hs' : Heaps) → IsWellFormed hs → AreTwins hs hs' → IsLive p hs
+        → place_before p.heap hs'.realm p.ticket (heap_at p.heap hs')
+        ≡ place_before p.heap hs.realm p.ticket (heap_at p.heap hs) }
+{}
+
+/// A copy and the heaps that it was made of answer each list of calls alike, and so do heaps that differ in
+/// the counts of accesses alone, as those that were read from the bytes of a state and those that it was
+/// written of; while no request is refused because its memory was.
+pub fn a_copy_continues_alike()
+    ensures copy { (hs ks : Heaps) → IsCopy hs ks → AreTwins hs ks }
+    ensures read { (hs ks : Heaps) → SameHeaps hs ks → AreTwins hs ks }
+    ensures calls { (cs : List Call) (hs hs' ks ks' : Heaps) → IsWellFormed hs → AreTwins hs hs'
+        → (rs rs' : List Reply) → AreTaken hs cs rs ks → AreTaken hs' cs rs' ks'
+        → (rs ≡ rs') × AreTwins ks ks' }
+{}

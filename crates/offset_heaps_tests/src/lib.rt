@@ -10,3 +10,4 @@ mod histories;
 mod relocating;
 #[cfg(test)]
 mod states;
+mod taking;

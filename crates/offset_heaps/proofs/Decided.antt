@@ -1,0 +1,211 @@
+-- The same call on heaps that no answer tells apart has the same result, and leaves such heaps.
+use Rattle.std.proofs.Common.{[], ◌∷◌, replicate, if◌then◌else◌}
+use Rattle.std.proofs.Common.{◌≡◌, ℕ, ◌+◌, ◌<◌, ◌≤◌, ◌⊎◌, Bool, true, length, List, Option, Some, None, IfSome, slice_set, refl, sym, ap, ap₂, subst, subst₂, ◌∙◌, inl, inr, arith}
+use Rattle.std.proofs.lemmas.Bool.{cases_lt}
+use Rattle.offset_allocator.specs.Relations.{SameState}
+use Rattle.offset_allocator.specs.Requests.{blocks_needed, units_needed}
+use Rattle.offset_allocator.specs.View.{View, IsWellFormed, free_block, push_all}
+use Rattle.offset_allocator.proofs.Decided.{aligns_decided, tight_decided}
+use Rattle.offset_allocator.proofs.ViewTaken.{well_alone}
+use Rattle.offset_guarded.specs.Guard.{Guard, handle_in}
+use Rattle.offset_guarded.specs.declared.ticket.Ticket.{Ticket}
+use Rattle.offset_heaps.specs.declared.limits.Limits.{Limits}
+use Rattle.offset_heaps.specs.declared.place.Granted.{Granted}
+use Rattle.offset_heaps.specs.declared.place.Place.{Place}
+use Rattle.offset_heaps.specs.declared.refusal.Refusal.{Refusal}
+use Rattle.offset_heaps.specs.declared.refusal.Refusal.TheVariants.{Empty, TooLarge, Full, Memory}
+use Rattle.offset_heaps.specs.Heaps.{Heaps, Grants, IsBefore, IsFirstFit, IsNew, IsNext, IsSpareLarger, IsSpareUsual, IsUsual, IsWhy, MayEverFit, NoneFits, heap_at, larger_limit}
+use Rattle.offset_heaps.specs.Heaps.{room_of, slot}
+use Rattle.offset_heaps.specs.State as state
+use Rattle.offset_heaps.specs.Twins.{AreTwins, IsTwin, IsTwinIn}
+use Rattle.offset_heaps.proofs.Twins.{grant_twins, none_twins, own_twin, put_twins, room_twins, same_ticket, some_twin, twins_sym}
+
+-- ---- what a request finds
+module _ (hs ks : Heaps) (t : AreTwins hs ks) where
+  usual_twins : (units : ℕ) → IsUsual units hs → IsUsual units ks
+  usual_twins units u = subst (λ (l : Limits). IsUsual units (record hs { limits = l })) (sym t.limits) u
+
+  may_twins : (units : ℕ) → MayEverFit units hs → MayEverFit units ks
+  may_twins units m = subst (λ (l : Limits). MayEverFit units (record hs { limits = l })) (sym t.limits) m
+
+  spare_usual_twins : (k : ℕ) → IsSpareUsual k hs → IsSpareUsual k ks
+  spare_usual_twins k s = (subst (λ (l : Limits). k < l.most) (sym t.limits) s.0, none_twins hs ks t k s.1)
+
+  spare_larger_twins : (k : ℕ) → IsSpareLarger k hs → IsSpareLarger k ks
+  spare_larger_twins k s = (
+    subst (λ (l : Limits). l.most ≤ k) (sym t.limits) s.0,
+    subst (λ (l : Limits). k < l.most + l.most_larger) (sym t.limits) s.1,
+    none_twins hs ks t k s.2,
+  )
+
+  pub none_fit_twins : (blocks units : ℕ) → NoneFits blocks units hs → NoneFits blocks units ks
+  none_fit_twins blocks units none k = subst (λ n. n < units) (sym (room_twins hs ks t blocks k)) (none k)
+
+  pub first_twins : (blocks units k : ℕ) → IsFirstFit blocks units k hs → IsFirstFit blocks units k ks
+  first_twins blocks units k f = (
+    subst (λ n. units ≤ n) (sym (room_twins hs ks t blocks k)) f.0,
+    λ j l. subst (λ n. n < units) (sym (room_twins hs ks t blocks j)) (f.1 j l),
+  )
+
+pub next_twins : (hs ks : Heaps) → AreTwins hs ks → (units k : ℕ) → IsNext units k hs → IsNext units k ks
+next_twins hs ks t units k n =
+    let s = twins_sym hs ks t in (
+      omega (arith, n.0, t.made),
+      elim n.1 [
+        | inl u ↦ inl (usual_twins hs ks t units u.0, spare_usual_twins hs ks t k u.1, λ j l a. u.2 j l (spare_usual_twins ks hs s j a))
+        | inr u ↦ inr (λ a. u.0 (usual_twins ks hs s units a), spare_larger_twins hs ks t k u.1, λ j l a. u.2 j l (spare_larger_twins ks hs s j a))
+      ],
+    )
+
+pub why_twins : (hs ks : Heaps) → AreTwins hs ks → (size align : ℕ) (r : Refusal) → IsWhy size align hs r → IsWhy size align ks r
+why_twins hs ks t size align Empty w = w
+why_twins hs ks t size align TooLarge w =
+    ((w.0.0, none_fit_twins hs ks t (blocks_needed align) (units_needed size align) w.0.1), λ m. w.1 (may_twins ks hs (twins_sym hs ks t) (units_needed size align) m))
+why_twins hs ks t size align Full w = (
+  (w.0.0, none_fit_twins hs ks t (blocks_needed align) (units_needed size align) w.0.1),
+  may_twins hs ks t (units_needed size align) w.1,
+  λ k n. w.2 k (next_twins ks hs (twins_sym hs ks t) (units_needed size align) k n),
+)
+why_twins hs ks t size align Memory w = (
+  (w.0.0, none_fit_twins hs ks t (blocks_needed align) (units_needed size align) w.0.1),
+  (w.1.0, next_twins hs ks t (units_needed size align) w.1.0 w.1.1),
+)
+
+-- of the first numbers there is one
+pub one_first : (P : ℕ → Type 0) (k j : ℕ) → P k → ((i : ℕ) → i < k → P i → ⊥) → P j → ((i : ℕ) → i < j → P i → ⊥) → k ≡ j
+one_first P k j a first b least = elim (cases_lt k j) [
+  | inl l ↦ absurd (least k l a)
+  | inr m ↦ elim (cases_lt j k) [
+    | inl l ↦ absurd (first j l b)
+    | inr n ↦ omega (arith, m, n)
+  ]
+]
+
+pub one_fit : (blocks units k j : ℕ) (hs : Heaps) → IsFirstFit blocks units k hs → IsFirstFit blocks units j hs → k ≡ j
+one_fit blocks units k j hs a b = one_first (λ i. units ≤ room_of blocks (heap_at i hs)) k j a.0 (λ i l u. let less = a.1 i l in omega (arith, less, u)) b.0
+    (λ i l u. let less = b.1 i l in omega (arith, less, u))
+
+pub one_next : (units k j : ℕ) (hs : Heaps) → IsNext units k hs → IsNext units j hs → k ≡ j
+one_next units k j hs a b = go a.1 b.1
+  where
+    go : ((IsUsual units hs × IsSpareUsual k hs × ((i : ℕ) → i < k → IsSpareUsual i hs → ⊥)) ⊎ ((IsUsual units hs → ⊥) × IsSpareLarger k hs × ((i : ℕ) → i < k → IsSpareLarger i hs → ⊥)))
+        → ((IsUsual units hs × IsSpareUsual j hs × ((i : ℕ) → i < j → IsSpareUsual i hs → ⊥)) ⊎ ((IsUsual units hs → ⊥) × IsSpareLarger j hs × ((i : ℕ) → i < j → IsSpareLarger i hs → ⊥)))
+        → k ≡ j
+    go (inl a) (inl b) = one_first (λ i. IsSpareUsual i hs) k j a.1 a.2 b.1 b.2
+    go (inl a) (inr b) = absurd (b.0 a.0)
+    go (inr a) (inl b) = absurd (a.0 b.0)
+    go (inr a) (inr b) = one_first (λ i. IsSpareLarger i hs) k j a.1 a.2 b.1 b.2
+
+-- ---- new heaps
+one_new : (size max number : ℕ) (g h : Guard) → IsNew size max number g → IsNew size max number h → g ≡ h
+one_new size max number g h a b =
+    let space : g.space ≡ h.space =
+    a.space.view
+    ∙ ap (λ x. let v : View = record h.space { size = size; max_allocs = max; blocks = free_block x size ∷ []; bins = push_all (free_block x size ∷ []) (replicate 256 []); unused = []; accesses = 0 } in v) (a.space.first ∙ sym b.space.first)
+    ∙ sym b.space.view in
+    ap₂ (λ (v : View) (l : List ℕ). record g { space = v; serials = l }) space (a.serials.1 ∙ sym b.serials.1)
+    ∙ ap₂ (λ (n r : ℕ). record h { given = n; realm = r }) (a.serials.0 ∙ sym b.serials.0) (a.realm ∙ sym b.realm)
+
+new_formed : (size max number : ℕ) (g : Guard) → IsNew size max number g → 2 ≤ max → size ≤ 4294967295 → IsWellFormed g.space
+new_formed size max number g new limit small = subst IsWellFormed (sym new.space.view) (well_alone (record g.space { max_allocs = max }) new.space.name size 0 [] limit new.space.below small)
+
+-- what is true of the heaps before a call
+pub record IsKnown (hs : Heaps) : Type 0 where
+  pub heaps : (k : ℕ) → IfSome (heap_at k hs) (λ g. IsWellFormed g.space)
+  pub size : hs.limits.size ≤ 4294967295
+  pub limit : 2 ≤ hs.limits.max_allocs
+
+pub known : (hs : Heaps) → state.IsWellFormed hs → IsKnown hs
+known hs w = record { heaps = λ k. go hs.limits hs.made k (heap_at k hs) (w.heaps k); size = w.size; limit = let l = w.limit in omega (arith, l) }
+  where
+    go : (limits : Limits) (made k : ℕ) (o : Option Guard) → state.IsHeapFormed limits made k o → IfSome o (λ g. IsWellFormed g.space)
+    go limits made k None f = tt
+    go limits made k (Some g) f = f.0.space
+
+pub known_at : (hs : Heaps) → IsKnown hs → (k : ℕ) (g : Guard) → heap_at k hs ≡ Some g → IsWellFormed g.space
+known_at hs is k g e = subst (λ o. IfSome o (λ (g : Guard). IsWellFormed g.space)) e (is.heaps k)
+
+-- ---- grants
+module _ (size align : ℕ) (hs hs' ks ks' : Heaps) (grant grant' : Granted) (small : grant.is_new ≡ true → size ≤ 4294967295) (is : IsKnown hs) (t : AreTwins hs hs') (number : grant.place.heap ≡ grant'.place.heap)
+    (new : grant.is_new ≡ grant'.is_new) (s : Grants size align hs ks grant) (s' : Grants size align hs' ks' grant') where
+  units : ℕ
+  units = units_needed size align
+
+  -- the two kinds of new heaps
+  abbrev New : Heaps → Guard → Type 0
+  New hs g = (IsUsual (units_needed size align) hs × IsNew hs.limits.size hs.limits.max_allocs (hs.made + 1) g)
+      ⊎ ((IsUsual (units_needed size align) hs → ⊥) × IsNew size larger_limit (hs.made + 1) g)
+
+  new_back : (g : Guard) → New hs' g → New hs g
+  new_back g (inl n) =
+      inl (
+        usual_twins hs' hs (twins_sym hs hs' t) (units_needed size align) n.0,
+        subst₂ (λ (l : Limits) (m : ℕ). IsNew l.size l.max_allocs (m + 1) g) t.limits t.made n.1,
+      )
+  new_back g (inr n) = inr (λ u. n.0 (usual_twins hs hs' t (units_needed size align) u), subst (λ (m : ℕ). IsNew size larger_limit (m + 1) g) t.made n.1)
+
+  one_kind : (g h : Guard) → size ≤ 4294967295 → New hs g → New hs h → (g ≡ h) × IsWellFormed g.space
+  one_kind g h fits (inl a) (inl b) = (one_new hs.limits.size hs.limits.max_allocs (hs.made + 1) g h a.1 b.1, new_formed hs.limits.size hs.limits.max_allocs (hs.made + 1) g a.1 is.limit is.size)
+  one_kind g h fits (inl a) (inr b) = absurd (b.0 a.0)
+  one_kind g h fits (inr a) (inl b) = absurd (a.0 b.0)
+  one_kind g h fits (inr a) (inr b) = (one_new size larger_limit (hs.made + 1) g h a.1 b.1, new_formed size larger_limit (hs.made + 1) g a.1 (omega arith) fits)
+
+  befores : (g h : Guard) → IsBefore size align hs grant g → IsBefore size align hs' grant' h → IsTwin g h × IsWellFormed g.space
+  befores g h (inl a) (inl b) = (
+    some_twin g h (heap_at grant.place.heap hs) (heap_at grant.place.heap hs') a.1 (ap (λ k. heap_at k hs') number ∙ b.1) (t.heaps grant.place.heap),
+    known_at hs is grant.place.heap g a.1,
+  )
+  befores g h (inl a) (inr b) = absurd (let e = sym a.0 ∙ new ∙ b.0 in cc)
+  befores g h (inr a) (inl b) = absurd (let e = sym b.0 ∙ sym new ∙ a.0 in cc)
+  befores g h (inr a) (inr b) =
+      let one = one_kind g h (small a.0) a.2 (new_back h b.2) in
+      (subst (IsTwin g) one.0 (own_twin g), one.1)
+
+  before : IsTwin s.before s'.before × IsWellFormed s.before.space
+  before = befores s.before s'.before s.heap s'.heap
+
+  step : (Some (handle_in grant.place.ticket) ≡ Some (handle_in grant'.place.ticket)) × SameState s.after.space s'.after.space
+  step = elim s.step [
+    | inl a ↦ elim s'.step [
+      | inl b ↦ aligns_decided size align s.before.space s'.before.space s.after.space s'.after.space before.1 before.0.space (Some (handle_in grant.place.ticket))
+          (Some (handle_in grant'.place.ticket)) a.1 b.1
+      | inr b ↦ absurd (b.1 (usual_twins hs hs' t (units_needed size align) (a.0 (new ∙ b.0))))
+    ]
+    | inr a ↦ elim s'.step [
+      | inl b ↦ absurd (a.1 (usual_twins hs' hs (twins_sym hs hs' t) (units_needed size align) (b.0 (sym new ∙ a.0))))
+      | inr b ↦ tight_decided size 1 s.before.space s'.before.space s.after.space s'.after.space before.1 before.0.space (Some (handle_in grant.place.ticket))
+          (Some (handle_in grant'.place.ticket)) a.2 b.2
+    ]
+  ]
+
+  ticket : grant.place.ticket ≡ grant'.place.ticket
+  ticket = same_ticket size s.before s'.before s.after s'.after grant.place.ticket grant'.place.ticket before.0 s.grants s'.grants step
+
+  after : IsTwin s.after s'.after
+  after = grant_twins size s.before s'.before s.after s'.after grant.place.ticket grant'.place.ticket before.0 s.grants s'.grants step
+
+  same_place : grant.place ≡ grant'.place
+  same_place =
+      ap₂ (λ (k : ℕ) (u : Ticket). let p : Place = record grant.place { heap = k; ticket = u } in p) number ticket
+      ∙ ap (λ (r : ℕ). let p : Place = record grant'.place { realm = r } in p) (s.realm ∙ sym t.realm ∙ sym s'.realm)
+
+  same_grant : grant ≡ grant'
+  same_grant = ap₂ (λ (p : Place) (b : Bool). let g : Granted = record { place = p; is_new = b } in g) same_place new
+
+  there : grant.place.heap < length hs'.slots
+  there = subst (λ k. k < length hs'.slots) (sym number) s'.number
+
+  slots' : ks'.slots ≡ slice_set hs'.slots grant.place.heap (Some s'.after)
+  slots' = ap (λ (h : Heaps). h.slots) s'.heaps ∙ ap (λ k. slice_set hs'.slots k (Some s'.after)) (sym number)
+
+  pub grants_decided : (grant ≡ grant') × AreTwins ks ks'
+  grants_decided = (
+    same_grant,
+    record {
+      limits = ap (λ (h : Heaps). h.limits) s'.heaps ∙ t.limits ∙ sym (ap (λ (h : Heaps). h.limits) s.heaps);
+      made = ap (λ (h : Heaps). h.made) s'.heaps ∙ ap₂ (λ (b : Bool) (m : ℕ). if b then m + 1 else m) (sym new) t.made ∙ sym (ap (λ (h : Heaps). h.made) s.heaps);
+      realm = ap (λ (h : Heaps). h.realm) s'.heaps ∙ t.realm ∙ sym (ap (λ (h : Heaps). h.realm) s.heaps);
+      heaps = λ j. subst₂ (λ (a b : List (Option Guard)). IsTwinIn (slot j a) (slot j b)) (sym (ap (λ (h : Heaps). h.slots) s.heaps)) (sym slots')
+          (put_twins grant.place.heap hs.slots hs'.slots (Some s.after) (Some s'.after) s.number there (s'.after, refl, after) t.heaps j);
+    },
+  )

@@ -1,0 +1,300 @@
+-- Each call on heaps that no answer tells apart has the same result, and leaves such heaps.
+use Rattle.std.proofs.Common.{[], ◌∷◌, map, suc}
+use Rattle.std.proofs.Common.{◌≡◌, ℕ, ◌+◌, ◌<◌, ◌≤◌, Bool, true, false, length, List, Option, Some, None, MatchOption, Result, Ok, Err, is_some, if◌then◌else◌, nat_eq, refl, sym, ap, ap₂, subst, subst₂, ◌∙◌, inl, inr, arith}
+use Rattle.std.proofs.lemmas.Bool.{cases_Bool, cases_eq, cases_lt}
+use Rattle.offset_allocator.specs.Requests.{blocks_needed, units_needed}
+use Rattle.offset_allocator.specs.View.{used_of}
+use Rattle.offset_guarded.specs.Guard.{Guard, serial_of}
+use Rattle.offset_heaps.specs.declared.place.Granted.{Granted}
+use Rattle.offset_heaps.specs.declared.place.Place.{Place}
+use Rattle.offset_heaps.specs.declared.refusal.Refusal.{Refusal}
+use Rattle.offset_heaps.specs.declared.refusal.Refusal.TheVariants.{Memory}
+use Rattle.offset_heaps.specs.Heaps.{Heaps, Grants, IsFirstFit, IsNext, IsSame, IsWhy, NoneFits, Puts, heap_at}
+use Rattle.offset_heaps.specs.Heaps.{is_empty, empties, live_of, numbers, part, slot}
+use Rattle.offset_heaps.specs.Heaps.{AreTotals, free_of, largest_room, room_of, size_of, total}
+use Rattle.offset_heaps.specs.declared.totals.Totals.{Totals}
+use Rattle.offset_heaps.specs.Histories.{ResetsAll}
+use Rattle.offset_heaps.specs.Relocating.{HasLive, IsEmptiest, NoneLive, TakesRange, granted, live_at, units_in, units_of}
+use Rattle.offset_heaps.specs.State as state
+use Rattle.offset_heaps.specs.State.{quiet}
+use Rattle.offset_heaps.proofs.States.{slot_quiet}
+use Rattle.offset_heaps.specs.Calls.{Allocates, AreTaken, Call, Allocate, Free, Relocate, Drop_empty, Drop_heap, Give_up, Reset, Drops, DropsEmpty, Frees, GivesUp, IsStarved, Relocates, Reply, Requested, Second, Dropped, Was_done, Takes}
+use Rattle.offset_heaps.specs.Twins.{AreTwins, IsTwin, IsTwinIn}
+use Rattle.offset_heaps.proofs.Decided.{first_twins, grants_decided, known, known_at, next_twins, none_fit_twins, one_first, one_fit, one_next, why_twins}
+use Rattle.offset_heaps.proofs.Empties.{empty_there}
+use Rattle.offset_heaps.proofs.Grants.{memory_alone, none_found, one_reason}
+use Rattle.offset_heaps.proofs.Numbers.{slot_there}
+use Rattle.offset_heaps.proofs.Twins.{as_twin, free_twins, option_twin, put_twins, range_twins, reset_twins, room_twins, some_twin, total_twins, twins_sym}
+
+-- ---- what calls leave
+same_twins : (hs hs' ks ks' : Heaps) → AreTwins hs hs' → IsSame hs ks → IsSame hs' ks' → AreTwins ks ks'
+same_twins hs hs' ks ks' t e f = subst₂ AreTwins (sym e) (sym f) (record { limits = t.limits; made = t.made; realm = t.realm; heaps = t.heaps })
+
+puts_twins : (k : ℕ) (o o' : Option Guard) (hs hs' ks ks' : Heaps) → AreTwins hs hs' → k < length hs.slots → k < length hs'.slots → IsTwinIn o o' → Puts k o hs ks → Puts k o' hs' ks' → AreTwins ks ks'
+puts_twins k o o' hs hs' ks ks' t there there' now e f = subst₂ AreTwins (sym e) (sym f) (record {
+  limits = t.limits;
+  made = t.made;
+  realm = t.realm;
+  heaps = put_twins k hs.slots hs'.slots o o' there there' now t.heaps;
+})
+
+-- ---- requests
+refused : (size align : ℕ) (hs : Heaps) (why : Refusal) (g : Granted) → (size ≡ 0 → ⊥) → IsWhy size align hs why → (why ≡ Memory → ⊥)
+    → (g.is_new ≡ false → IsFirstFit (blocks_needed align) (units_needed size align) g.place.heap hs) → (g.is_new ≡ true → IsNext (units_needed size align) g.place.heap hs) → ⊥
+refused size align hs why g some w other found made =
+    let one : 1 ≤ size = elim (cases_eq size 0) [ inl e ↦ absurd (some e) | inr d ↦ omega (arith, d) ] in
+    elim (cases_Bool g.is_new) [
+      | inl e ↦ other (memory_alone size align g.place.heap hs why one (made e) w)
+      | inr e ↦ none_found size align g.place.heap hs why one (found e).0 w
+    ]
+
+both_granted : (size align : ℕ) (hs hs' : Heaps) (g h : Granted) → AreTwins hs hs'
+    → (g.is_new ≡ false → IsFirstFit (blocks_needed align) (units_needed size align) g.place.heap hs)
+    → (g.is_new ≡ true → NoneFits (blocks_needed align) (units_needed size align) hs × IsNext (units_needed size align) g.place.heap hs)
+    → (h.is_new ≡ false → IsFirstFit (blocks_needed align) (units_needed size align) h.place.heap hs')
+    → (h.is_new ≡ true → NoneFits (blocks_needed align) (units_needed size align) hs' × IsNext (units_needed size align) h.place.heap hs')
+    → (g.place.heap ≡ h.place.heap) × (g.is_new ≡ h.is_new)
+both_granted size align hs hs' g h t found made found' made' =
+    let s = twins_sym hs hs' t in
+    let blocks = blocks_needed align in
+    let units = units_needed size align in
+    elim (cases_Bool g.is_new) [
+      | inl e ↦ elim (cases_Bool h.is_new) [
+        | inl f ↦ (one_next units g.place.heap h.place.heap hs (made e).1 (next_twins hs' hs s units h.place.heap (made' f).1), e ∙ sym f)
+        | inr f ↦ absurd (let fit = (first_twins hs' hs s blocks units h.place.heap (found' f)).0 in let less = (made e).0 h.place.heap in omega (arith, fit, less))
+      ]
+      | inr e ↦ elim (cases_Bool h.is_new) [
+        | inl f ↦ absurd (let fit = (found e).0 in let less = none_fit_twins hs' hs s blocks units (made' f).0 g.place.heap in omega (arith, fit, less))
+        | inr f ↦ (one_fit blocks units g.place.heap h.place.heap hs (found e) (first_twins hs' hs s blocks units h.place.heap (found' f)), e ∙ sym f)
+      ]
+    ]
+
+pub allocates_decided : (size align : ℕ) (hs hs' ks ks' : Heaps) → size ≤ 4294967295 → state.IsWellFormed hs → AreTwins hs hs' → (r r' : Result Granted Refusal)
+    → Allocates size align hs ks r → Allocates size align hs' ks' r' → (r ≡ Err Memory → ⊥) → (r' ≡ Err Memory → ⊥) → (r ≡ r') × AreTwins ks ks'
+allocates_decided size align hs hs' ks ks' small is t (Err a) (Err b) x y m n = (
+  ap Err (one_reason size align hs a b x.why (why_twins hs' hs (twins_sym hs hs' t) size align b y.why)),
+  same_twins hs hs' ks ks' t x.same y.same,
+)
+allocates_decided size align hs hs' ks ks' small is t (Err a) (Ok h) x y m n = absurd (refused size align hs' a h (λ e. let q = y.empty e in cc) (why_twins hs hs' t size align a x.why)
+    (λ e. m (ap Err e)) y.found (λ e. (y.made e).1))
+allocates_decided size align hs hs' ks ks' small is t (Ok g) (Err b) x y m n =
+    absurd (refused size align hs b g (λ e. let q = x.empty e in cc) (why_twins hs' hs (twins_sym hs hs' t) size align b y.why)
+    (λ e. n (ap Err e)) x.found (λ e. (x.made e).1))
+allocates_decided size align hs hs' ks ks' small is t (Ok g) (Ok h) x y m n =
+    let one = both_granted size align hs hs' g h t x.found x.made y.found y.made in
+    let all = grants_decided size align hs hs' ks ks' g h (λ e. small) (known hs is) t one.0 one.1 x.grants y.grants in
+    (ap Ok all.0, all.1)
+
+-- ---- releases
+pub free_decided : (p : Place) (hs hs' ks ks' : Heaps) → state.IsWellFormed hs → AreTwins hs hs' → (r r' : Bool) → Frees p hs ks r → Frees p hs' ks' r' → (r ≡ r') × AreTwins ks ks'
+free_decided p hs hs' ks ks' is t false false x y = (refl, same_twins hs hs' ks ks' t (x.same refl) (y.same refl))
+free_decided p hs hs' ks ks' is t true false x y = absurd (let e : false ≡ true = y.done.1 (subst (λ o. is_some o ≡ true) (sym (range_twins hs hs' t p)) (x.done.0 refl)) in cc)
+free_decided p hs hs' ks ks' is t false true x y = absurd (let e : false ≡ true = x.done.1 (subst (λ o. is_some o ≡ true) (range_twins hs hs' t p) (y.done.0 refl)) in cc)
+free_decided p hs hs' ks ks' is t true true x y =
+    let f = x.step refl in
+    let k = y.step refl in
+    let before = some_twin f.before k.before (heap_at p.heap hs) (heap_at p.heap hs') f.heap k.heap (t.heaps p.heap) in
+    let after = free_twins p.ticket.name f.before k.before f.after k.after (known_at hs (known hs is) p.heap f.before f.heap) before f.step k.step f.serials k.serials in (
+      refl,
+      puts_twins p.heap (Some f.after) (Some k.after) hs hs' ks ks' t (slot_there hs.slots p.heap (ap is_some f.heap)) (slot_there hs'.slots p.heap (ap is_some k.heap))
+          (k.after, refl, after) f.heaps k.heaps,
+    )
+
+-- ---- second ranges
+module _ (p : Place) (hs ks : Heaps) (t : AreTwins hs ks) where
+  units_twins : units_of p ks ≡ units_of p hs
+  units_twins = ap units_in (range_twins hs ks t p)
+
+  live_twins : (k : ℕ) → live_at k ks ≡ live_at k hs
+  live_twins k = option_twin (part live_of) (heap_at k hs) (heap_at k ks) (λ g h u. ap live_of (as_twin g h u)) (t.heaps k)
+
+  takes_twins : (k : ℕ) → TakesRange p hs k → TakesRange p ks k
+  takes_twins k takes = (
+    subst (λ n. 1 ≤ n) (sym units_twins) takes.0,
+    record {
+      other = takes.1.other;
+      room = subst₂ (λ n m. n ≤ m) (sym units_twins) (sym (room_twins hs ks t 1 k)) takes.1.room;
+      full = subst₂ (λ n m. n ≤ m) (sym (live_twins p.heap)) (sym (live_twins k)) takes.1.full;
+    },
+  )
+
+pub relocates_decided : (p : Place) (hs hs' ks ks' : Heaps) → state.IsWellFormed hs → AreTwins hs hs' → (r r' : Option Place) → Relocates p hs ks r → Relocates p hs' ks' r' → (r ≡ r') × AreTwins ks ks'
+relocates_decided p hs hs' ks ks' is t None None x y = (refl, same_twins hs hs' ks ks' t (x.same refl) (y.same refl))
+relocates_decided p hs hs' ks ks' is t None (Some q) x y = absurd (x.none.0 refl q.heap (takes_twins p hs' hs (twins_sym hs hs' t) q.heap y.first.0))
+relocates_decided p hs hs' ks ks' is t (Some q) None x y = absurd (y.none.0 refl q.heap (takes_twins p hs hs' t q.heap x.first.0))
+relocates_decided p hs hs' ks ks' is t (Some q) (Some q') x y =
+    let s = twins_sym hs hs' t in
+    let number = one_first (TakesRange p hs) q.heap q'.heap x.first.0 x.first.1 (takes_twins p hs' hs s q'.heap y.first.0) (λ i l u. y.first.1 i l (takes_twins p hs hs' t i u)) in
+    let all = grants_decided (units_of p hs) 1 hs hs' ks ks' (granted q) (granted q') (λ e. absurd (cc)) (known hs is) t number refl x.grants
+    (subst (λ n. Grants n 1 hs' ks' (granted q')) (units_twins p hs hs' t) y.grants) in
+    (ap Some (ap (λ (g : Granted). g.place) all.0), all.1)
+
+-- ---- heaps that are dropped
+empty_twins : (hs ks : Heaps) → AreTwins hs ks → (k : ℕ) → is_empty (heap_at k ks) ≡ is_empty (heap_at k hs)
+empty_twins hs ks t k = option_twin is_empty (heap_at k hs) (heap_at k ks) (λ g h u. ap (λ (z : Guard). is_empty (Some z)) (as_twin g h u)) (t.heaps k)
+
+empties_twins : (hs ks : Heaps) → AreTwins hs ks → empties ks.slots ≡ empties hs.slots
+empties_twins hs ks t =
+    let one : Guard → ℕ = λ g. if nat_eq (used_of g.space.blocks) 0 then 1 else 0 in
+    total_twins one ks.slots hs.slots (λ k. option_twin (part one) (heap_at k hs) (heap_at k ks) (λ g h u. ap one (as_twin g h u)) (t.heaps k))
+
+gone_twins : (k : ℕ) (hs hs' ks ks' : Heaps) → AreTwins hs hs' → is_some (heap_at k hs) ≡ true → is_some (heap_at k hs') ≡ true → Puts k None hs ks → Puts k None hs' ks' → AreTwins ks ks'
+gone_twins k hs hs' ks ks' t there there' e f = puts_twins k None None hs hs' ks ks' t (slot_there hs.slots k there) (slot_there hs'.slots k there') refl e f
+
+some_twins : (hs ks : Heaps) → AreTwins hs ks → (k : ℕ) → is_some (heap_at k ks) ≡ is_some (heap_at k hs)
+some_twins hs ks t k = option_twin is_some (heap_at k hs) (heap_at k ks) (λ g h u. refl) (t.heaps k)
+
+pub drops_decided : (k : ℕ) (hs hs' ks ks' : Heaps) → AreTwins hs hs' → (r r' : Bool) → Drops k hs ks r → Drops k hs' ks' r' → (r ≡ r') × AreTwins ks ks'
+drops_decided k hs hs' ks ks' t false false x y = (refl, same_twins hs hs' ks ks' t (x.same refl) (y.same refl))
+drops_decided k hs hs' ks ks' t true false x y = absurd (let e : false ≡ true = y.done.1 (empty_twins hs hs' t k ∙ x.done.0 refl) in cc)
+drops_decided k hs hs' ks ks' t false true x y = absurd (let e : false ≡ true = x.done.1 (sym (empty_twins hs hs' t k) ∙ y.done.0 refl) in cc)
+drops_decided k hs hs' ks ks' t true true x y = (
+  refl,
+  gone_twins k hs hs' ks ks' t (empty_there (heap_at k hs) (x.done.0 refl)) (empty_there (heap_at k hs') (y.done.0 refl)) (x.heaps refl) (y.heaps refl),
+)
+
+pub gives_up_decided : (k : ℕ) (hs hs' ks ks' : Heaps) → AreTwins hs hs' → (r r' : Bool) → GivesUp k hs ks r → GivesUp k hs' ks' r' → (r ≡ r') × AreTwins ks ks'
+gives_up_decided k hs hs' ks ks' t false false x y = (refl, same_twins hs hs' ks ks' t (x.same refl) (y.same refl))
+gives_up_decided k hs hs' ks ks' t true false x y = absurd (let e : false ≡ true = y.done.1 (some_twins hs hs' t k ∙ x.done.0 refl) in cc)
+gives_up_decided k hs hs' ks ks' t false true x y = absurd (let e : false ≡ true = x.done.1 (sym (some_twins hs hs' t k) ∙ y.done.0 refl) in cc)
+gives_up_decided k hs hs' ks ks' t true true x y = (refl, gone_twins k hs hs' ks ks' t (x.done.0 refl) (y.done.0 refl) (x.heaps refl) (y.heaps refl))
+
+-- of the last empty ones there is one
+no_later : (hs hs' : Heaps) (k j : ℕ) → AreTwins hs hs' → ((i : ℕ) → k < i → is_empty (heap_at i hs) ≡ false) → is_empty (heap_at j hs') ≡ true → k < j → ⊥
+no_later hs hs' k j t last empty l = let e : true ≡ false = sym empty ∙ empty_twins hs hs' t j ∙ last j l in cc
+
+pub drops_empty_decided : (keep : ℕ) (hs hs' ks ks' : Heaps) → AreTwins hs hs' → (r r' : Option ℕ) → DropsEmpty keep hs ks r → DropsEmpty keep hs' ks' r' → (r ≡ r') × AreTwins ks ks'
+drops_empty_decided keep hs hs' ks ks' t None None x y = (refl, same_twins hs hs' ks ks' t (x.same refl) (y.same refl))
+drops_empty_decided keep hs hs' ks ks' t (Some k) None x y = absurd (let e = x.kept.1 (subst (λ n. n ≤ keep) (empties_twins hs hs' t) (y.kept.0 refl)) in cc)
+drops_empty_decided keep hs hs' ks ks' t None (Some k) x y = absurd (let e = y.kept.1 (subst (λ n. n ≤ keep) (sym (empties_twins hs hs' t)) (x.kept.0 refl)) in cc)
+drops_empty_decided keep hs hs' ks ks' t (Some k) (Some j) x y =
+    let one : k ≡ j = elim (cases_lt k j) [
+      | inl l ↦ absurd (no_later hs hs' k j t x.last y.empty l)
+      | inr m ↦ elim (cases_lt j k) [ inl l ↦ absurd (no_later hs' hs j k (twins_sym hs hs' t) y.last x.empty l) | inr n ↦ omega (arith, m, n) ]
+    ] in (
+      ap Some one,
+      gone_twins k hs hs' ks ks' t (empty_there (heap_at k hs) x.empty) (empty_there (heap_at k hs') (ap (λ i. is_empty (heap_at i hs')) one ∙ y.empty)) x.heaps
+          (subst (λ i. Puts i None hs' ks') (sym one) y.heaps),
+    )
+
+-- ---- resets
+pub resets_decided : (hs hs' ks ks' : Heaps) → state.IsWellFormed hs → AreTwins hs hs' → ResetsAll hs ks → ResetsAll hs' ks' → AreTwins ks ks'
+resets_decided hs hs' ks ks' is t x y = record {
+  limits = ap (λ (h : Heaps). h.limits) y.rest ∙ t.limits ∙ sym (ap (λ (h : Heaps). h.limits) x.rest);
+  made = ap (λ (h : Heaps). h.made) y.rest ∙ t.made ∙ sym (ap (λ (h : Heaps). h.made) x.rest);
+  realm = ap (λ (h : Heaps). h.realm) y.rest ∙ t.realm ∙ sym (ap (λ (h : Heaps). h.realm) x.rest);
+  heaps = λ k. reset_twins (heap_at k hs) (heap_at k hs') (heap_at k ks) (heap_at k ks') ((known hs is).heaps k) (t.heaps k) (x.heaps k) (y.heaps k);
+}
+
+-- ---- the emptiest heap
+lives_twins : (hs ks : Heaps) → AreTwins hs ks → (k : ℕ) → HasLive (heap_at k hs) → HasLive (heap_at k ks)
+lives_twins hs ks t k = go (heap_at k hs) (heap_at k ks) (t.heaps k)
+  where
+    go : (o p : Option Guard) → IsTwinIn o p → HasLive o → HasLive p
+    go None p u live = absurd live
+    go (Some g) p u live = subst HasLive (sym u.1) (subst (λ n. 1 ≤ n) (sym (ap (λ (z : Guard). used_of z.space.blocks) (as_twin g u.0 u.2))) live)
+
+not_fewer : (hs hs' : Heaps) (n k j : ℕ) → AreTwins hs hs' → IsEmptiest n hs.slots k → IsEmptiest n hs'.slots j → k < j → ⊥
+not_fewer hs hs' n k j t x y l =
+    let s = twins_sym hs hs' t in
+    let later = x.last j l y.before (lives_twins hs' hs s j y.live) in
+    let fewest = y.fewest k x.before (lives_twins hs hs' t k x.live) in
+    let p : Place = record { heap = 0; realm = 0; ticket = record { offset = 0; name = 0; serial = 0; realm = 0 } } in
+    omega (arith, later, fewest, live_twins p hs hs' t k, live_twins p hs hs' t j)
+
+pub emptiest_decided : (hs hs' : Heaps) → AreTwins hs hs' → (r r' : Option ℕ) → MatchOption r (NoneLive (numbers hs) hs.slots) (IsEmptiest (numbers hs) hs.slots)
+    → MatchOption r' (NoneLive (numbers hs') hs'.slots) (IsEmptiest (numbers hs') hs'.slots) → r ≡ r'
+emptiest_decided hs hs' t r r' x y' = go r r' x y
+  where
+    n : ℕ
+    n = numbers hs
+
+    y : MatchOption r' (NoneLive n hs'.slots) (IsEmptiest n hs'.slots)
+    y = subst (λ l. MatchOption r' (NoneLive (l.most + l.most_larger) hs'.slots) (IsEmptiest (l.most + l.most_larger) hs'.slots)) t.limits y'
+
+    go : (r r' : Option ℕ) → MatchOption r (NoneLive n hs.slots) (IsEmptiest n hs.slots) → MatchOption r' (NoneLive n hs'.slots) (IsEmptiest n hs'.slots) → r ≡ r'
+    go None None x y = refl
+    go None (Some j) x y = absurd (x j y.before (lives_twins hs' hs (twins_sym hs hs' t) j y.live))
+    go (Some k) None x y = absurd (y k x.before (lives_twins hs hs' t k x.live))
+    go (Some k) (Some j) x y = elim (cases_lt k j) [
+      | inl l ↦ absurd (not_fewer hs hs' n k j t x y l)
+      | inr m ↦ elim (cases_lt j k) [ inl l ↦ absurd (not_fewer hs' hs n j k (twins_sym hs hs' t) y x l) | inr q ↦ ap Some (omega (arith, m, q)) ]
+    ]
+
+-- ---- the numbers of all heaps
+largest_twins : (xs ys : List (Option Guard)) → ((k : ℕ) → room_of 1 (slot k xs) ≡ room_of 1 (slot k ys)) → largest_room xs ≡ largest_room ys
+largest_twins [] [] e = refl
+largest_twins [] (y ∷ ys) e = let here = e 0 in let rest = largest_twins [] ys (λ k. e (suc k)) in omega arith
+largest_twins (x ∷ xs) [] e = let here = e 0 in let rest = largest_twins xs [] (λ k. e (suc k)) in omega arith
+largest_twins (x ∷ xs) (y ∷ ys) e = let here = e 0 in let rest = largest_twins xs ys (λ k. e (suc k)) in omega arith
+
+pub totals_decided : (hs hs' : Heaps) → AreTwins hs hs' → (r r' : Totals) → AreTotals r hs.slots → AreTotals r' hs'.slots → r ≡ r'
+totals_decided hs hs' t r r' x y =
+    let same : (f : Guard → ℕ) → ((g h : Guard) → IsTwin g h → f h ≡ f g) → total f hs.slots ≡ total f hs'.slots = λ f each.
+    sym (total_twins f hs'.slots hs.slots (λ k. option_twin (part f) (heap_at k hs) (heap_at k hs') each (t.heaps k))) in
+    let heaps : r.heaps ≡ r'.heaps = x.heaps ∙ same (λ g. 1) (λ g h u. refl) ∙ sym y.heaps in
+    let units : r.units ≡ r'.units = x.units ∙ same size_of (λ g h u. ap size_of (as_twin g h u)) ∙ sym y.units in
+    let live : r.live_units ≡ r'.live_units = x.live_units ∙ same live_of (λ g h u. ap live_of (as_twin g h u)) ∙ sym y.live_units in
+    let free : r.free_units ≡ r'.free_units = x.free_units ∙ same free_of (λ g h u. ap free_of (as_twin g h u)) ∙ sym y.free_units in
+    let largest : r.largest_free_region ≡ r'.largest_free_region = x.largest ∙ sym (largest_twins hs'.slots hs.slots (room_twins hs hs' t 1)) ∙ sym y.largest in
+    ap₂ (λ (a b : ℕ). let z : Totals = record r { heaps = a; units = b } in z) heaps units
+    ∙ ap₂ (λ (a b : ℕ). let z : Totals = record r { heaps = r'.heaps; units = r'.units; live_units = a; free_units = b } in z) live free
+    ∙ ap (λ (a : ℕ). let z : Totals = record r' { largest_free_region = a } in z) largest
+
+-- ---- lists of calls
+takes_decided : (c : Call) (hs hs' ks ks' : Heaps) → state.IsWellFormed hs → AreTwins hs hs' → (r r' : Reply) → Takes c hs ks r → Takes c hs' ks' r' → (IsStarved r → ⊥) → (IsStarved r' → ⊥)
+    → (r ≡ r') × AreTwins ks ks'
+takes_decided (Allocate size align) hs hs' ks ks' is t r r' x y m n =
+    let e = allocates_decided size align hs hs' ks ks' x.2 is t x.0 y.0 x.3 y.3 (λ q. m (x.1 ∙ ap Requested q)) (λ q. n (y.1 ∙ ap Requested q)) in
+    (x.1 ∙ ap Requested e.0 ∙ sym y.1, e.1)
+takes_decided (Free p) hs hs' ks ks' is t r r' x y m n = let e = free_decided p hs hs' ks ks' is t x.0 y.0 x.2 y.2 in (x.1 ∙ ap Was_done e.0 ∙ sym y.1, e.1)
+takes_decided (Relocate p) hs hs' ks ks' is t r r' x y m n = let e = relocates_decided p hs hs' ks ks' is t x.0 y.0 x.2 y.2 in (x.1 ∙ ap Second e.0 ∙ sym y.1, e.1)
+takes_decided (Drop_empty keep) hs hs' ks ks' is t r r' x y m n = let e = drops_empty_decided keep hs hs' ks ks' t x.0 y.0 x.2 y.2 in (x.1 ∙ ap Dropped e.0 ∙ sym y.1, e.1)
+takes_decided (Drop_heap k) hs hs' ks ks' is t r r' x y m n = let e = drops_decided k hs hs' ks ks' t x.0 y.0 x.2 y.2 in (x.1 ∙ ap Was_done e.0 ∙ sym y.1, e.1)
+takes_decided (Give_up k) hs hs' ks ks' is t r r' x y m n = let e = gives_up_decided k hs hs' ks ks' t x.0 y.0 x.2 y.2 in (x.1 ∙ ap Was_done e.0 ∙ sym y.1, e.1)
+takes_decided Reset hs hs' ks ks' is t r r' x y m n = (x.0 ∙ sym y.0, resets_decided hs hs' ks ks' is t x.1 y.1)
+
+pub taken_decided : (cs : List Call) (hs hs' ks ks' : Heaps) → state.IsWellFormed hs → AreTwins hs hs' → (rs rs' : List Reply) → AreTaken hs cs rs ks → AreTaken hs' cs rs' ks' → (rs ≡ rs') × AreTwins ks ks'
+taken_decided [] hs hs' ks ks' is t [] [] x y = (refl, subst₂ AreTwins (sym x) (sym y) t)
+taken_decided [] hs hs' ks ks' is t [] (r ∷ rs') x y = absurd y
+taken_decided [] hs hs' ks ks' is t (r ∷ rs) rs' x y = absurd x
+taken_decided (c ∷ cs) hs hs' ks ks' is t [] rs' x y = absurd x
+taken_decided (c ∷ cs) hs hs' ks ks' is t (r ∷ rs) [] x y = absurd y
+taken_decided (c ∷ cs) hs hs' ks ks' is t (r ∷ rs) (s ∷ rs') x y =
+    let e = takes_decided c hs hs' x.0 y.0 is t r s x.1 y.1 x.2 y.2 in
+    let later = taken_decided cs x.0 y.0 ks ks' x.3 e.1 rs rs' x.4 y.4 in
+    (ap₂ (λ (a : Reply) (l : List Reply). a ∷ l) e.0 later.0, later.1)
+
+-- ---- copies
+quiet_twin : (g h : Guard) → record h { space = record h.space { accesses = 0 } } ≡ record g { space = record g.space { accesses = 0 } } → IsTwin g h
+quiet_twin g h e = record {
+  space = ap (λ (z : Guard). record z.space { accesses = h.space.accesses }) e;
+  serials = λ x l. ap (λ (z : Guard). serial_of x z) e;
+  given = ap (λ (z : Guard). z.given) e;
+  realm = ap (λ (z : Guard). z.realm) e;
+}
+
+quiet_twins : (o p : Option Guard) → quiet p ≡ quiet o → IsTwinIn o p
+quiet_twins None None e = refl
+quiet_twins None (Some h) e = absurd (cc)
+quiet_twins (Some g) None e = absurd (cc)
+quiet_twins (Some g) (Some h) e = (h, refl, quiet_twin g h (cc))
+
+pub same_are_twins : (hs ks : Heaps) → state.SameHeaps hs ks → AreTwins hs ks
+same_are_twins hs ks e = record {
+  limits = ap (λ (h : Heaps). h.limits) e;
+  made = ap (λ (h : Heaps). h.made) e;
+  realm = ap (λ (h : Heaps). h.realm) e;
+  heaps = λ k. quiet_twins (heap_at k hs) (heap_at k ks) (sym (slot_quiet k ks.slots) ∙ ap (λ (h : Heaps). slot k h.slots) e ∙ slot_quiet k hs.slots);
+}
+
+pub copies_are_twins : (hs ks : Heaps) → state.IsCopy hs ks → AreTwins hs ks
+copies_are_twins hs ks e = same_are_twins hs ks (ap state.uncounted e ∙ rested)
+  where
+    twice : (slots : List (Option Guard)) → map quiet (map quiet slots) ≡ map quiet slots
+    twice [] = refl
+    twice (None ∷ slots) = ap (λ (l : List (Option Guard)). None ∷ l) (twice slots)
+    twice (Some g ∷ slots) = ap (λ (l : List (Option Guard)). quiet (Some g) ∷ l) (twice slots)
+
+    rested : state.uncounted (state.uncounted hs) ≡ state.uncounted hs
+    rested = ap (λ (l : List (Option Guard)). record hs { slots = l; accesses = 0 }) (twice hs.slots)

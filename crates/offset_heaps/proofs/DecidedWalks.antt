@@ -1,0 +1,107 @@
+-- The places that walks of live ranges meet, of heaps that no answer tells apart.
+use Rattle.std.proofs.Common.{◌≡◌, ℕ, ◌+◌, ◌≤◌, ◌++◌, Bool, true, false, List, [], ◌∷◌, Option, Some, None, IfSome, IsSome, is_some, if◌then◌else◌, nat_eq, option_map, reverse, refl, sym, ap, ap₂, subst, ◌∙◌, inl, inr, arith}
+use Rattle.std.proofs.lemmas.List.{reverse-append}
+use Rattle.std.specs.List.{AllByRecursion}
+use Rattle.offset_allocator.specs.Beside.{HasOffset, IsWalk, last_live, live_before, live_handles}
+use Rattle.offset_allocator.specs.Ranges.{Range}
+use Rattle.offset_allocator.specs.Ranges as named
+use Rattle.offset_allocator.specs.View.{Handle, IsWellFormed, View, one, tally}
+use Rattle.offset_allocator.proofs.AlongLive.{all_met, backward}
+use Rattle.offset_allocator.proofs.Tallies.{hit_cases, tally_append}
+use Rattle.offset_guarded.proofs.Guards.{live_name}
+use Rattle.offset_guarded.specs.Guard.{Guard}
+use Rattle.offset_guarded.specs.declared.ticket.Ticket.{Ticket}
+use Rattle.offset_heaps.specs.declared.place.Place.{Place}
+use Rattle.offset_heaps.specs.Heaps.{Heaps, IsLive, heap_at, range_in}
+use Rattle.offset_heaps.specs.Relocating.{last_place, place_before, place_in}
+use Rattle.offset_heaps.specs.State as state
+use Rattle.offset_heaps.specs.Twins.{AreTwins, IsTwin, IsTwinIn}
+use Rattle.offset_heaps.proofs.Decided.{known}
+
+-- ---- walks
+module _ (P : Handle → Type 0) (next : ℕ → Option Handle) where
+  walk_at : (at : Option Handle) (hs : List Handle) → IsWalk next at hs → AllByRecursion P hs → IfSome at P
+  walk_at at [] w all = subst (λ o. IfSome o P) (sym w) tt
+  walk_at at (h ∷ hs) w all = subst (λ o. IfSome o P) (sym w.0) all.0
+
+  walk_next : (at : Option Handle) (hs : List Handle) → IsWalk next at hs → AllByRecursion P hs → (x : ℕ) → 1 ≤ tally (λ (h : Handle). one (nat_eq x h.name)) hs → IfSome (next x) P
+  walk_next at [] w all x l = absurd (omega (arith, l))
+  walk_next at (h ∷ hs) w all x l = elim (hit_cases x h.name) [
+    | inl e ↦ subst (λ y. IfSome (next y) P) (sym e.0) (walk_at (next h.name) hs w.1 all.1)
+    | inr n ↦ walk_next (next h.name) hs w.1 all.1 x (omega (arith, l, n.1))
+  ]
+
+  all_append : (hs ks : List Handle) → AllByRecursion P hs → AllByRecursion P ks → AllByRecursion P (hs ++ ks)
+  all_append [] ks a b = b
+  all_append (h ∷ hs) ks a b = (a.0, all_append hs ks a.1 b)
+
+  all_back : (hs : List Handle) → AllByRecursion P hs → AllByRecursion P (reverse hs)
+  all_back [] a = tt
+  all_back (h ∷ hs) a = subst (AllByRecursion P) (sym (reverse-append (h ∷ []) hs)) (all_append (reverse hs) (h ∷ []) (all_back hs a.1) (a.0, tt))
+
+count_back : (f : Handle → ℕ) (hs : List Handle) → tally f (reverse hs) ≡ tally f hs
+count_back f [] = refl
+count_back f (h ∷ hs) =
+    let rest = count_back f hs in
+    let split = tally_append f (reverse hs) (h ∷ []) in
+    ap (tally f) (reverse-append (h ∷ []) hs) ∙ omega (arith, rest, split)
+
+abbrev IsLiveHandle : View → Handle → Type 0
+IsLiveHandle v h = named.IsLive h.name v
+
+all_live : (v : View) (hs : List Handle) → AllByRecursion (HasOffset v) hs → AllByRecursion (IsLiveHandle v) hs
+all_live v [] a = tt
+all_live v (h ∷ hs) a = (some (named.range_of h.name v) a.0, all_live v hs a.1)
+  where
+    some : (o : Option Range) → option_map (λ (r : Range). r.offset) o ≡ Some h.offset → IsSome o
+    some None e = absurd (cc)
+    some (Some r) e = refl
+
+module _ (v : View) (w : IsWellFormed v) where
+  met : AllByRecursion (IsLiveHandle v) (reverse (live_handles v))
+  met = all_back (IsLiveHandle v) (λ x. None) (live_handles v) (all_live v (live_handles v) (all_met v w).offsets)
+
+  last_is_live : IfSome (last_live v) (IsLiveHandle v)
+  last_is_live = walk_at (IsLiveHandle v) (λ x. live_before x v) (last_live v) (reverse (live_handles v)) (backward v w) met
+
+  before_is_live : (x : ℕ) → named.IsLive x v → IfSome (live_before x v) (IsLiveHandle v)
+  before_is_live x live =
+      let once = (all_met v w).once x in
+      let here : one (is_some (named.range_of x v)) ≡ 1 = ap one live in
+      walk_next (IsLiveHandle v) (λ x. live_before x v) (last_live v) (reverse (live_handles v)) (backward v w) met x
+      (omega (arith, count_back (λ (h : Handle). one (nat_eq x h.name)) (live_handles v), once, here))
+
+-- ---- places
+placed_twin : (k realm : ℕ) (g h : Guard) → IsTwin g h → (o : Option Handle) → IfSome o (IsLiveHandle g.space) → option_map (place_in k realm h) o ≡ option_map (place_in k realm g) o
+placed_twin k realm g h t None live = refl
+placed_twin k realm g h t (Some a) live =
+    ap₂ (λ (s m : ℕ). let p : Option Place = Some (record { heap = k; realm = realm; ticket = record { offset = a.offset; name = a.name; serial = s; realm = m } }) in p)
+    (t.serials a.name live) t.realm
+
+last_in : (k realm : ℕ) (o p : Option Guard) → IfSome o (λ g. IsWellFormed g.space) → IsTwinIn o p → last_place k realm p ≡ last_place k realm o
+last_in k realm None p w t = ap (last_place k realm) t
+last_in k realm (Some g) p w t =
+    ap (last_place k realm) t.1
+    ∙ ap (λ (v : View). option_map (place_in k realm t.0) (last_live v)) t.2.space
+    ∙ placed_twin k realm g t.0 t.2 (last_live g.space) (last_is_live g.space w)
+
+before_in : (k realm : ℕ) (u : Ticket) (o p : Option Guard) → IfSome o (λ g. IsWellFormed g.space) → IsSome (range_in u o) → IsTwinIn o p → place_before k realm u p ≡ place_before k realm u o
+before_in k realm u None p w live t = ap (place_before k realm u) t
+before_in k realm u (Some g) p w live t =
+    ap (place_before k realm u) t.1
+    ∙ ap (λ (v : View). option_map (place_in k realm t.0) (live_before u.name v)) t.2.space
+    ∙ placed_twin k realm g t.0 t.2 (live_before u.name g.space) (before_is_live g.space w u.name (live_name u g live))
+
+pub last_decided : (k : ℕ) (hs hs' : Heaps) → state.IsWellFormed hs → AreTwins hs hs' → last_place k hs'.realm (heap_at k hs') ≡ last_place k hs.realm (heap_at k hs)
+last_decided k hs hs' is t = ap (λ r. last_place k r (heap_at k hs')) t.realm ∙ last_in k hs.realm (heap_at k hs) (heap_at k hs') ((known hs is).heaps k) (t.heaps k)
+
+only_if : (b : Bool) (o : Option Range) → IsSome (if b then o else None) → IsSome o
+only_if true o h = h
+only_if false o h = cc
+
+pub before_decided : (p : Place) (hs hs' : Heaps) → state.IsWellFormed hs → AreTwins hs hs' → IsLive p hs
+    → place_before p.heap hs'.realm p.ticket (heap_at p.heap hs') ≡ place_before p.heap hs.realm p.ticket (heap_at p.heap hs)
+before_decided p hs hs' is t live =
+    ap (λ r. place_before p.heap r p.ticket (heap_at p.heap hs')) t.realm
+    ∙ before_in p.heap hs.realm p.ticket (heap_at p.heap hs) (heap_at p.heap hs') ((known hs is).heaps p.heap)
+    (only_if (nat_eq p.realm hs.realm) (range_in p.ticket (heap_at p.heap hs)) live) (t.heaps p.heap)

@@ -1,0 +1,6 @@
+use Rattle.offset_heaps.proofs.Grants.{granted_if_since}
+use Rattle.offset_heaps.proofs.HeapsOf.request.Goals as goal
+
+pub returns-in-None-clause-grants : goal.returns-in-None-clause-grants
+returns-in-None-clause-grants g c =
+    granted_if_since c.args.size c.args.align c.args.self.now c.first_fit.new.self c.grant_new.new.self c.grant_new.result c.first_fit.ensures.same c.grant_new.ensures.grants

@@ -1,0 +1,198 @@
+-- Heaps that no answer tells apart: what calls read of them is the same, and so is what a change of one heap leaves.
+use Rattle.std.proofs.Common.{◌≡◌, ◌≢◌, ℕ, suc, ◌+◌, ◌<◌, ◌⊎◌, Bool, true, false, ◌&&◌, length, List, [], ◌∷◌, Option, Some, None, IfSome, IsSome, slice_set, if◌then◌else◌, nat_eq, refl, sym, ap, ap₂, subst, ◌∙◌, inl, inr, arith}
+use Rattle.std.proofs.Common.{eq-eqb}
+use Rattle.std.proofs.lemmas.Bool.{cases_eq}
+use Rattle.offset_allocator.specs.Ranges.{Range}
+use Rattle.offset_allocator.specs.Ranges as named
+use Rattle.offset_allocator.specs.Relations.{SameState}
+use Rattle.offset_allocator.specs.Relations as space
+use Rattle.offset_allocator.specs.View.{View, Handle, IsWellFormed}
+use Rattle.offset_allocator.proofs.DecidedChanges.{frees_decided, resets_decided}
+use Rattle.offset_allocator.proofs.Ranges.{frees_gone, frees_others}
+use Rattle.offset_allocator.proofs.ViewTaken.{well_frees}
+use Rattle.offset_guarded.specs.Guard.{Guard, handle_in, serial_of}
+use Rattle.offset_guarded.specs.Guard as guarded
+use Rattle.offset_guarded.proofs.Guards.{live_fits}
+use Rattle.offset_guarded.specs.declared.ticket.Ticket.{Ticket}
+use Rattle.offset_heaps.specs.declared.place.Place.{Place}
+use Rattle.offset_heaps.specs.Heaps.{Heaps, heap_at, part, range_in, range_of, room, room_of, slot, total}
+use Rattle.offset_heaps.specs.Slots.{ResetsIn}
+use Rattle.offset_heaps.specs.Twins.{AreTwins, IsTwin, IsTwinIn}
+use Rattle.offset_heaps.proofs.Numbers.{slot_other, slot_same}
+
+range_if : Bool → Option Range → Option Range
+range_if b o = if b then o else None
+
+none_if : (b : Bool) (o : Option Range) → o ≡ None → (if b then o else None) ≡ None
+none_if true o e = e
+none_if false o e = refl
+
+some_or : (o : Option Range) → (o ≡ None) ⊎ IsSome o
+some_or None = inl refl
+some_or (Some r) = inr refl
+
+-- ---- one heap
+pub as_twin : (g h : Guard) → IsTwin g h → h ≡ record g { space = record g.space { accesses = h.space.accesses }; serials = h.serials }
+as_twin g h t =
+    ap (λ (v : View). record h { space = v }) t.space
+    ∙ ap₂ (λ (n r : ℕ). record h { space = record g.space { accesses = h.space.accesses }; given = n; realm = r }) t.given t.realm
+
+pub own_twin : (g : Guard) → IsTwin g g
+own_twin g = record { space = refl; serials = λ x l. refl; given = refl; realm = refl }
+
+-- the ticket that a name has now
+abbrev ticket_of : ℕ → Guard → Ticket
+ticket_of x g = record { offset = 0; name = x; serial = serial_of x g; realm = g.realm }
+
+own_range : (x : ℕ) (g : Guard) → guarded.range_of (ticket_of x g) g ≡ named.range_of x g.space
+own_range x g = ap (λ (b : Bool). if b then named.range_of x g.space else None) (ap₂ (λ (a b : Bool). a && b) (eq-eqb g.realm g.realm refl) (eq-eqb (serial_of x g) (serial_of x g) refl))
+
+live_state : (x : ℕ) (v w : View) → SameState v w → named.IsLive x w → named.IsLive x v
+live_state x v w same l = subst IsSome (ap (λ (z : View). named.range_of x z) same) l
+
+pub twin_sym : (g h : Guard) → IsTwin g h → IsTwin h g
+twin_sym g h t = record {
+  space = sym (ap (λ (v : View). record v { accesses = g.space.accesses }) t.space);
+  serials = λ x l. sym (t.serials x (live_state x g.space h.space t.space l));
+  given = sym t.given;
+  realm = sym t.realm;
+}
+
+pub range_twin : (u : Ticket) (g h : Guard) → IsTwin g h → guarded.range_of u h ≡ guarded.range_of u g
+range_twin u g h t = elim (some_or (named.range_of u.name g.space)) [
+  | inl none ↦
+      none_if (guarded.fits u h) (named.range_of u.name h.space) (ap (λ (z : View). named.range_of u.name z) t.space ∙ none)
+      ∙ sym (none_if (guarded.fits u g) (named.range_of u.name g.space) none)
+  | inr live ↦
+      ap₂ (λ (r s : ℕ). if nat_eq u.realm r && nat_eq u.serial s then named.range_of u.name h.space else None) t.realm (t.serials u.name live)
+      ∙ ap (λ (z : View). if guarded.fits u g then named.range_of u.name z else None) t.space
+]
+
+-- ---- a grant
+module _ (n : ℕ) (g h : Guard) (t : Ticket) (s : guarded.Grants n g h t) where
+  serial_kept : (x : ℕ) → x ≢ t.name → named.IsLive x h.space → serial_of x h ≡ serial_of x g
+  serial_kept x d live =
+      let u : Ticket = ticket_of x g in
+      let was : named.IsLive x g.space = subst IsSome (s.space.others x d) live in
+      sym (live_fits u h (subst IsSome (sym (s.others u (λ alike. d alike.0) ∙ own_range x g)) was)).1
+
+  was_live : (x : ℕ) → x ≢ t.name → named.IsLive x h.space → named.IsLive x g.space
+  was_live x d live = subst IsSome (s.space.others x d) live
+
+  own_serial : serial_of t.name h ≡ t.serial
+  own_serial = let o : Option Range = Some (record { offset = t.offset; size = n }) in let some : IsSome o = refl in sym (live_fits t h (subst IsSome (sym s.range) some)).1
+
+module _ (n : ℕ) (g g' h h' : Guard) (t t' : Ticket) (twin : IsTwin g g') (s : guarded.Grants n g h t) (s' : guarded.Grants n g' h' t')
+    (same : (Some (handle_in t) ≡ Some (handle_in t')) × SameState h.space h'.space) where
+  handle : handle_in t ≡ handle_in t'
+  handle = let e = same.0 in cc
+
+  name : t.name ≡ t'.name
+  name = ap (λ (a : Handle). a.name) handle
+
+  serial : t.serial ≡ t'.serial
+  serial = s.serial ∙ sym (ap (λ (k : ℕ). k + 1) twin.given) ∙ sym s'.serial
+
+  pub same_ticket : t ≡ t'
+  same_ticket =
+      ap₂ (λ (o x : ℕ). let u : Ticket = record t { offset = o; name = x } in u) (ap (λ (a : Handle). a.offset) handle) name
+      ∙ ap₂ (λ (n m : ℕ). let u : Ticket = record t' { serial = n; realm = m } in u) serial (s.realm.0 ∙ sym twin.realm ∙ sym s'.realm.0)
+
+  serials : (x : ℕ) → named.IsLive x h.space → serial_of x h' ≡ serial_of x h
+  serials x live =
+      let live' : named.IsLive x h'.space = subst IsSome (sym (ap (λ (z : View). named.range_of x z) same.1)) live in
+      elim (cases_eq x t.name) [
+        | inl e ↦ ap (λ y. serial_of y h') (e ∙ name) ∙ own_serial n g' h' t' s' ∙ sym serial ∙ sym (own_serial n g h t s) ∙ sym (ap (λ y. serial_of y h) e)
+        | inr d ↦
+            serial_kept n g' h' t' s' x (λ e. d (e ∙ sym name)) live' ∙ twin.serials x (was_live n g h t s x d live)
+            ∙ sym (serial_kept n g h t s x d live)
+      ]
+
+  pub grant_twins : IsTwin h h'
+  grant_twins = record {
+    space = same.1;
+    serials = serials;
+    given = s'.given ∙ sym serial ∙ sym s.given;
+    realm = s'.realm.1 ∙ twin.realm ∙ sym s.realm.1;
+  }
+
+-- ---- a release, and a reset
+pub free_twins : (x : ℕ) (g g' h h' : Guard) → IsWellFormed g.space → IsTwin g g' → space.Frees x g.space h.space → space.Frees x g'.space h'.space → h ≡ record g { space = h.space }
+    → h' ≡ record g' { space = h'.space } → IsTwin h h'
+free_twins x g g' h h' known twin f f' e e' =
+    let after = well_frees x g.space h.space known f in
+    record {
+      space = frees_decided x g.space g'.space h.space h'.space known twin.space f f';
+      serials = λ y live. elim (cases_eq y x) [
+        | inl here ↦ absurd (let o : Option Range = None in let none : IsSome o = subst IsSome (ap (λ z. named.range_of z h.space) here ∙ frees_gone x g.space h.space known after f) live in cc)
+        | inr d ↦
+            ap (λ (z : Guard). serial_of y z) e' ∙ twin.serials y (subst IsSome (frees_others x g.space h.space known after f y d) live)
+            ∙ sym (ap (λ (z : Guard). serial_of y z) e)
+      ];
+      given = ap (λ (z : Guard). z.given) e' ∙ twin.given ∙ sym (ap (λ (z : Guard). z.given) e);
+      realm = ap (λ (z : Guard). z.realm) e' ∙ twin.realm ∙ sym (ap (λ (z : Guard). z.realm) e);
+    }
+
+reset_one : (g g' h h' : Guard) → IsWellFormed g.space → IsTwin g g' → space.Resets g.space h.space → space.Resets g'.space h'.space → h ≡ record g { space = h.space }
+    → h' ≡ record g' { space = h'.space } → ((t : Ticket) → guarded.range_of t h ≡ None) → IsTwin h h'
+reset_one g g' h h' known twin f f' e e' none = record {
+  space = resets_decided g.space g'.space h.space h'.space known twin.space f f';
+  serials = λ y live. absurd (let o : Option Range = None in let gone : IsSome o = subst IsSome (sym (own_range y h) ∙ none (ticket_of y h)) live in cc);
+  given = ap (λ (z : Guard). z.given) e' ∙ twin.given ∙ sym (ap (λ (z : Guard). z.given) e);
+  realm = ap (λ (z : Guard). z.realm) e' ∙ twin.realm ∙ sym (ap (λ (z : Guard). z.realm) e);
+}
+
+pub some_twin : (g h : Guard) (o p : Option Guard) → o ≡ Some g → p ≡ Some h → IsTwinIn o p → IsTwin g h
+some_twin g h o p e f t =
+    let u : IsTwinIn (Some g) p = subst (λ o. IsTwinIn o p) e t in
+    let same : u.0 ≡ h = let q = sym u.1 ∙ f in cc in
+    subst (IsTwin g) same u.2
+
+pub twin_some : (g h : Guard) (o p : Option Guard) → o ≡ Some g → p ≡ Some h → IsTwin g h → IsTwinIn o p
+twin_some g h o p e f t = subst (λ o. IsTwinIn o p) (sym e) (h, f, t)
+
+pub reset_twins : (o o' p p' : Option Guard) → IfSome o (λ g. IsWellFormed g.space) → IsTwinIn o o' → ResetsIn o p → ResetsIn o' p' → IsTwinIn p p'
+reset_twins None o' p p' known twin f f' =
+    let none : p' ≡ None = subst (λ o. ResetsIn o p') twin f' in
+    subst (λ p. IsTwinIn p p') (sym f) none
+reset_twins (Some g) o' p p' known twin f f' =
+    let k : ResetsIn (Some twin.0) p' = subst (λ o. ResetsIn o p') twin.1 f' in
+    twin_some f.0 k.0 p p' f.1 k.1 (reset_one g twin.0 f.0 k.0 known twin.2 f.2 k.2 f.3 k.3 f.4)
+
+-- ---- the heap of a number
+pub option_twin : {A : Type 0} (f : Option Guard → A) (o p : Option Guard) → ((g h : Guard) → IsTwin g h → f (Some h) ≡ f (Some g)) → IsTwinIn o p → f p ≡ f o
+option_twin f None p s t = ap f t
+option_twin f (Some g) p s t = ap f t.1 ∙ s g t.0 t.2
+
+twin_in_sym : (o p : Option Guard) → IsTwinIn o p → IsTwinIn p o
+twin_in_sym None p t = subst (λ p. IsTwinIn p None) (sym t) refl
+twin_in_sym (Some g) p t = subst (λ p. IsTwinIn p (Some g)) (sym t.1) (g, refl, twin_sym g t.0 t.2)
+
+pub twins_sym : (hs ks : Heaps) → AreTwins hs ks → AreTwins ks hs
+twins_sym hs ks t = record { limits = sym t.limits; made = sym t.made; realm = sym t.realm; heaps = λ k. twin_in_sym (heap_at k hs) (heap_at k ks) (t.heaps k) }
+
+module _ (hs ks : Heaps) (t : AreTwins hs ks) where
+  pub room_twins : (blocks k : ℕ) → room_of blocks (heap_at k ks) ≡ room_of blocks (heap_at k hs)
+  room_twins blocks k = option_twin (room_of blocks) (heap_at k hs) (heap_at k ks) (λ g h u. ap (room blocks) (as_twin g h u)) (t.heaps k)
+
+  pub none_twins : (k : ℕ) → heap_at k hs ≡ None → heap_at k ks ≡ None
+  none_twins k e = subst (λ o. IsTwinIn o (heap_at k ks)) e (t.heaps k)
+
+  pub range_twins : (p : Place) → range_of p ks ≡ range_of p hs
+  range_twins p = ap₂ (λ (r : ℕ) (o : Option Range). if nat_eq p.realm r then o else None) t.realm
+      (option_twin (range_in p.ticket) (heap_at p.heap hs) (heap_at p.heap ks) (range_twin p.ticket) (t.heaps p.heap))
+
+-- sums over heaps
+pub total_twins : (f : Guard → ℕ) (xs bs : List (Option Guard)) → ((k : ℕ) → part f (slot k xs) ≡ part f (slot k bs)) → total f xs ≡ total f bs
+total_twins f [] [] e = refl
+total_twins f [] (b ∷ bs) e = let here = e 0 in let rest = total_twins f [] bs (λ k. e (suc k)) in omega arith
+total_twins f (a ∷ xs) [] e = let here = e 0 in let rest = total_twins f xs [] (λ k. e (suc k)) in omega arith
+total_twins f (a ∷ xs) (b ∷ bs) e = let here = e 0 in let rest = total_twins f xs bs (λ k. e (suc k)) in omega arith
+
+-- ---- one number has another heap
+pub put_twins : (k : ℕ) (xs bs : List (Option Guard)) (o p : Option Guard) → k < length xs → k < length bs → IsTwinIn o p → ((j : ℕ) → IsTwinIn (slot j xs) (slot j bs))
+    → (j : ℕ) → IsTwinIn (slot j (slice_set xs k o)) (slot j (slice_set bs k p))
+put_twins k xs bs o p there there' now was j = elim (cases_eq j k) [
+  | inl e ↦ rw (e, slot_same xs k o there, slot_same bs k p there') now
+  | inr d ↦ rw (slot_other xs k j o d, slot_other bs k j p d) (was j)
+]

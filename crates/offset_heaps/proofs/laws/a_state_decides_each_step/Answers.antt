@@ -1,0 +1,40 @@
+use Rattle.offset_heaps.proofs.DecidedCalls.{allocates_decided, drops_decided, drops_empty_decided, emptiest_decided, free_decided, gives_up_decided, relocates_decided, resets_decided, totals_decided}
+use Rattle.offset_heaps.proofs.DecidedWalks.{before_decided, last_decided}
+use Rattle.offset_heaps.proofs.Twins.{range_twins}
+use Rattle.offset_heaps.proofs.laws.a_state_decides_each_step.Goals as goal
+
+pub returns-clause-allocate : goal.returns-clause-allocate
+returns-clause-allocate c = allocates_decided
+
+pub returns-clause-free : goal.returns-clause-free
+returns-clause-free c = free_decided
+
+pub returns-clause-relocate : goal.returns-clause-relocate
+returns-clause-relocate c = relocates_decided
+
+pub returns-clause-drop_empty : goal.returns-clause-drop_empty
+returns-clause-drop_empty c = drops_empty_decided
+
+pub returns-clause-drop_heap : goal.returns-clause-drop_heap
+returns-clause-drop_heap c = drops_decided
+
+pub returns-clause-give_up : goal.returns-clause-give_up
+returns-clause-give_up c = gives_up_decided
+
+pub returns-clause-reset : goal.returns-clause-reset
+returns-clause-reset c = resets_decided
+
+pub returns-clause-range : goal.returns-clause-range
+returns-clause-range c hs ks p t = range_twins hs ks t p
+
+pub returns-clause-emptiest : goal.returns-clause-emptiest
+returns-clause-emptiest c = emptiest_decided
+
+pub returns-clause-totals : goal.returns-clause-totals
+returns-clause-totals c = totals_decided
+
+pub returns-clause-last_live : goal.returns-clause-last_live
+returns-clause-last_live c = last_decided
+
+pub returns-clause-live_before : goal.returns-clause-live_before
+returns-clause-live_before c = before_decided

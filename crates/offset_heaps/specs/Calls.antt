@@ -1,0 +1,93 @@
+-- Calls, their results and what they leave: of the contract of each call the clauses of the same names.
+use Rattle.std.specs.Prelude.{◌≡◌, ◌↔◌, ℕ, ◌<◌, ◌≤◌, Bool, true, false, List, [], ◌∷◌, Option, None, IfSome, IsSome, IsTrue, Result, Err, IfOk, IfErr, OnErr}
+use Rattle.offset_allocator.specs.Requests.{blocks_needed, units_needed}
+use Rattle.offset_heaps.specs.declared.place.Granted.{Granted}
+use Rattle.offset_heaps.specs.declared.place.Place.{Place}
+use Rattle.offset_heaps.specs.declared.refusal.Refusal.{Refusal}
+use Rattle.offset_heaps.specs.declared.refusal.Refusal.TheVariants.{Empty, Memory}
+use Rattle.offset_heaps.specs.Heaps.{Heaps, FreesIn, Grants, IsFirstFit, IsLive, IsNext, IsSame, IsWhy, NoneFits, Puts, empties, heap_at, is_empty}
+use Rattle.offset_heaps.specs.Histories.{ResetsAll}
+use Rattle.offset_heaps.specs.Relocating.{IsTaker, NoneTakes, granted, units_of}
+use Rattle.offset_heaps.specs.State.{IsWellFormed}
+
+-- `allocate_aligned`, and with the alignment 1 `allocate`
+pub record Allocates (size align : ℕ) (hs ks : Heaps) (r : Result Granted Refusal) : Type 0 where
+  pub empty : size ≡ 0 → r ≡ Err Empty
+  pub why : IfErr r (IsWhy size align hs)
+  pub same : OnErr r (IsSame hs ks)
+  pub found : IfOk r (λ g. g.is_new ≡ false → IsFirstFit (blocks_needed align) (units_needed size align) g.place.heap hs)
+  pub made : IfOk r (λ g. g.is_new ≡ true
+      → NoneFits (blocks_needed align) (units_needed size align) hs × IsNext (units_needed size align) g.place.heap hs)
+  pub grants : IfOk r (Grants size align hs ks)
+
+-- `free`
+pub record Frees (p : Place) (hs ks : Heaps) (r : Bool) : Type 0 where
+  pub done : IsTrue r ↔ IsLive p hs
+  pub same : r ≡ false → IsSame hs ks
+  pub step : r ≡ true → FreesIn p hs ks
+
+-- `relocate`
+pub record Relocates (p : Place) (hs ks : Heaps) (r : Option Place) : Type 0 where
+  pub none : r ≡ None ↔ NoneTakes p hs
+  pub same : r ≡ None → IsSame hs ks
+  pub first : IfSome r (λ q. IsTaker p hs q.heap)
+  pub grants : IfSome r (λ q. Grants (units_of p hs) 1 hs ks (granted q))
+
+-- `drop_empty`
+pub record DropsEmpty (keep : ℕ) (hs ks : Heaps) (r : Option ℕ) : Type 0 where
+  pub kept : r ≡ None ↔ (empties hs.slots ≤ keep)
+  pub same : r ≡ None → IsSame hs ks
+  pub empty : IfSome r (λ k. is_empty (heap_at k hs) ≡ true)
+  pub last : IfSome r (λ k. (j : ℕ) → k < j → is_empty (heap_at j hs) ≡ false)
+  pub heaps : IfSome r (λ k. Puts k None hs ks)
+
+-- `drop_heap`
+pub record Drops (k : ℕ) (hs ks : Heaps) (r : Bool) : Type 0 where
+  pub done : IsTrue r ↔ (is_empty (heap_at k hs) ≡ true)
+  pub same : r ≡ false → IsSame hs ks
+  pub heaps : r ≡ true → Puts k None hs ks
+
+-- `give_up`
+pub record GivesUp (k : ℕ) (hs ks : Heaps) (r : Bool) : Type 0 where
+  pub done : IsTrue r ↔ IsSome (heap_at k hs)
+  pub same : r ≡ false → IsSame hs ks
+  pub heaps : r ≡ true → Puts k None hs ks
+
+-- a call that may change heaps
+pub data Call : Type 0 where
+  -- a request, by its size and alignment
+  Allocate : ℕ → ℕ → Call
+  Free : Place → Call
+  Relocate : Place → Call
+  Drop_empty : ℕ → Call
+  Drop_heap : ℕ → Call
+  Give_up : ℕ → Call
+  Reset : Call
+
+-- the result of a call
+pub data Reply : Type 0 where
+  Requested : Result Granted Refusal → Reply
+  Second : Option Place → Reply
+  Dropped : Option ℕ → Reply
+  Was_done : Bool → Reply
+  Nothing : Reply
+
+-- a call is taken: what it leaves, and its result. The units of a request have 32 bits
+abbrev pub Takes : Call → Heaps → Heaps → Reply → Type 0
+Takes (Allocate size align) hs ks reply = (r : Result Granted Refusal) × (reply ≡ Requested r) × (size ≤ 4294967295) × Allocates size align hs ks r
+Takes (Free p) hs ks reply = (r : Bool) × (reply ≡ Was_done r) × Frees p hs ks r
+Takes (Relocate p) hs ks reply = (r : Option Place) × (reply ≡ Second r) × Relocates p hs ks r
+Takes (Drop_empty keep) hs ks reply = (r : Option ℕ) × (reply ≡ Dropped r) × DropsEmpty keep hs ks r
+Takes (Drop_heap k) hs ks reply = (r : Bool) × (reply ≡ Was_done r) × Drops k hs ks r
+Takes (Give_up k) hs ks reply = (r : Bool) × (reply ≡ Was_done r) × GivesUp k hs ks r
+Takes Reset hs ks reply = (reply ≡ Nothing) × ResetsAll hs ks
+
+-- a request was refused for want of memory
+abbrev pub IsStarved : Reply → Type 0
+IsStarved reply = reply ≡ Requested (Err Memory)
+
+-- calls are taken, one after another, none of which is refused for want of memory
+abbrev pub AreTaken : Heaps → List Call → List Reply → Heaps → Type 0
+AreTaken hs [] [] ks = ks ≡ hs
+AreTaken hs (c ∷ cs) (r ∷ rs) ks = (now : Heaps) × Takes c hs now r × (IsStarved r → ⊥) × IsWellFormed now × AreTaken now cs rs ks
+AreTaken hs cs rs ks = ⊥

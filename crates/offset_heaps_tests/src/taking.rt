@@ -1,0 +1,65 @@
+//! Each call is taken as the laws say it: so in the same state it has the same result. Nothing calls these
+//! functions: they are proved.
+
+ghost use Rattle.offset_heaps.specs.Calls.{Allocates, Drops, DropsEmpty, Frees, GivesUp, Relocates};
+ghost use Rattle.offset_allocator.specs.Requests.{IsAlignment};
+ghost use Rattle.offset_heaps.specs.Histories.{ResetsAll};
+
+use offset_heaps::{Granted, Heaps, Place, Refusal};
+
+/// Makes a request.
+pub fn allocate(heaps: &mut Heaps, size: u32) -> Result<Granted, Refusal>
+    ensures { Allocates size 1 heaps.old heaps.new result }
+{
+    heaps.allocate(size)
+}
+
+/// Makes a request with an alignment.
+pub fn allocate_aligned(heaps: &mut Heaps, size: u32, align: u32) -> Result<Granted, Refusal>
+    requires { IsAlignment align }
+    ensures { Allocates size align heaps.old heaps.new result }
+{
+    heaps.allocate_aligned(size, align)
+}
+
+/// Frees a range.
+pub fn free(heaps: &mut Heaps, place: Place) -> bool
+    ensures { Frees place heaps.old heaps.new result }
+{
+    heaps.free(place)
+}
+
+/// Grants a second range in another heap.
+pub fn relocate(heaps: &mut Heaps, place: Place) -> Option<Place>
+    ensures { Relocates place heaps.old heaps.new result }
+{
+    heaps.relocate(place)
+}
+
+/// Drops the last empty heap, if more than `keep` are empty.
+pub fn drop_empty(heaps: &mut Heaps, keep: u32) -> Option<u32>
+    ensures { DropsEmpty keep heaps.old heaps.new result }
+{
+    heaps.drop_empty(keep)
+}
+
+/// Drops a heap, if it is empty.
+pub fn drop_heap(heaps: &mut Heaps, number: u32) -> bool
+    ensures { Drops number heaps.old heaps.new result }
+{
+    heaps.drop_heap(number)
+}
+
+/// Takes back a heap.
+pub fn give_up(heaps: &mut Heaps, number: u32) -> bool
+    ensures { GivesUp number heaps.old heaps.new result }
+{
+    heaps.give_up(number)
+}
+
+/// Resets all heaps.
+pub fn reset(heaps: &mut Heaps)
+    ensures { ResetsAll heaps.old heaps.new }
+{
+    heaps.reset();
+}
