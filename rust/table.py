@@ -12,7 +12,7 @@ CRATES = [
     ("offset_guarded", "offset-allocator-guarded", {"traits"}),
     ("offset_heaps", "offset-allocator-heaps", {"traits"}),
     ("offset_script", "offset-script", set()),
-    ("offset_calls", "offset-calls", {"player"}),
+    ("offset_calls", "offset-calls", set()),
     ("offset_pictures", "offset-pictures", set()),
 ]
 
@@ -65,11 +65,8 @@ pub use offset_allocator_memory::{AllocError, Global};
 #![warn(missing_docs)]
 #![expect(LINTS)]
 
-mod player;
-
 pub use offset_allocator_memory as memory;
 pub use offset_allocator_memory::{AllocError, Global};
-pub use player::{CallPlayer, CallPlayerOf};
 """,
     "offset_pictures": """#![doc = include_str!("../README.md")]
 #![forbid(unsafe_code)]
@@ -109,6 +106,7 @@ LINTS = {
         "clippy::new_without_default": "one name for an empty text is enough",
     },
     "offset_calls": {
+        "clippy::let_and_return": "a step of a proof stands before the return, and is left out here",
         "clippy::manual_map": "a `match` needs no closure, whose calls would need a proof",
         "clippy::needless_range_loop": "the proof speaks of the places of grants and of moves",
     },
@@ -179,11 +177,6 @@ PAIRS = [
         "Rust's `collect` takes no allocator, and ends the program where one fails",
     ),
     (
-        "fn reply<T: Tables>( alloc: Global, player:",
-        "pub(crate) fn reply<T: Tables>(\n    alloc: Global,\n    player:",
-        "the module `player`, by hand, plays calls one by one",
-    ),
-    (
         "pub(crate) fn put_answer(",
         "pub fn put_answer(",
         "the answers of recordings have these lines too",
@@ -228,6 +221,7 @@ REQUIRES = [
         "!matches!(command, Command::Align(_, align) if !align.is_power_of_two())",
         "an alignment must be a power of two",
     ),
+    ("IsTrue (is_valid call)", "call.is_valid()", "an alignment must be a power of two"),
     ("All (λ c. IsTrue (is_valid c)) calls.now", "calls.iter().all(|call| call.is_valid())", "each alignment must be a power of two"),
     ("All (λ c. IsTrue (is_valid c.call)) calls.now", "calls.iter().all(|it| it.call.is_valid())", "each alignment must be a power of two"),
 ]
@@ -252,6 +246,8 @@ ALWAYS = {
     "3 ≤ lines": "",
     "3 ≤ marks": "",
     "length values.now ≤ length xs.now": "",
+    "8 * place + 8 ≤ length bytes.now": "",
+    "8 * count ≤ length bytes.now": "",
     "AreXs plot.now.calls xs.now": "",
     "length answers.now ≡ length commands.now": "",
     "(i k offset : ℕ) → i < length commands.now → get_or (map answer_view answers.now) i machine.Refused ≡ machine.Grant k offset → k ≤ length commands.now": "",
@@ -310,5 +306,5 @@ EXAMPLES = {
 IN_STEPS = {"made"}
 
 # Attributes and macros that are printed as they are. Any other stops `erase`.
-ATTRIBUTES = {"cold", "inline", "track_caller"}
+ATTRIBUTES = {"cold", "doc", "inline", "track_caller"}
 MACROS = {"matches", "unreachable", "write", "writeln"}

@@ -33,7 +33,7 @@ def sum_of_sources():
               ("offset-allocator-memory", "offset-allocator-proved", "offset-allocator-guarded", "offset-script", "offset-calls", "offset-pictures", "offset-allocator-recorded")]
     files = [here / "source.html", here / "page.py", *PARTS, *sorted((here / "module").glob("*.*")), *traces()]
     for crate in crates:
-        files += [crate / "Cargo.toml", *sorted(crate.glob("src/*.rs"))]
+        files += [crate / "Cargo.toml", *sorted(crate.glob("src/**/*.rs"))]
     found = hashlib.sha256()
     for path in files:
         found.update(f"{path.name} {path.stat().st_size}\n".encode())

@@ -2,8 +2,8 @@
 use Rattle.offset_allocator.proofs.Common.{◌≡◌, ◌≢◌, ◌↔◌, ℕ, ◌+◌, ◌*◌, ◌^◌, ◌<◌, ◌≤◌, List, [], ◌∷◌, ◌++◌, length, sum, replicate, refl, sym, ap, subst, ◌∙◌, inl, inr, arith, length-append}
 use Rattle.offset_allocator.proofs.Common.{AllByRecursion, cases_lt, cases_eq, length-replicate, sum_by-cons, value, up, down, Block, View, free_sizes, bin_at, push, push_all, IsWellFormed, IsFresh}
 use Rattle.offset_allocator.proofs.Common.{Compacts, live, gathered, CanGrant, HasRoomFor, IsWhy, size_needed, common_steps}
-use Rattle.offset_allocator.proofs.Classes.{down_law, down_small, value_down, value_grows, up_reached}
-use Rattle.offset_allocator.proofs.{Always.adds_up, Counting.value_within_free, Emptied.none_at, Taken.HasFit, ViewFits.good_refusal, ViewBins.names_same, ViewBins.names_other}
+use Rattle.offset_allocator.proofs.{Classes.down_law, Classes.down_small, Classes.value_down, Classes.value_grows, Classes.up_reached, Always.adds_up, Reporting.Counting.value_within_free}
+use Rattle.offset_allocator.proofs.{Emptied.none_at, Taken.HasFit, Views.ViewFits.good_refusal, Views.ViewBins.names_same, Views.ViewBins.names_other}
 use Rattle.offset_allocator.specs.declared.reports.Refusal.{Refusal}
 use Rattle.offset_allocator.specs.declared.reports.Refusal.TheVariants.{Nodes, TooLarge, Space, Fragmented}
 

@@ -1,10 +1,9 @@
 -- Sums and bounds of a well formed view.
+use Rattle.offset_allocator.proofs.{Taken.fitting, Classes.down_law, Views.ViewTaken.well_alone}
 use Rattle.offset_allocator.proofs.Common.{◌≡◌, ℕ, ◌+◌, ◌*◌, ◌<◌, ◌≤◌, Bool, false, not, ◌&&◌, ◌↔◌, List, [], ◌∷◌, ◌++◌, length, sum, sym, ap, ap₂, subst, ◌∙◌, arith, le-leb, true≢false}
-use Rattle.offset_allocator.proofs.Common.{AllByRecursion, sum_by-cons, value, up, down, Block, View, used_units, used_of, one, starts_free, reported_free, reported_largest, units, free_sizes, free_block}
-use Rattle.offset_allocator.proofs.Common.{AreCoalesced, IsWellFormed, max_size, IsFresh, CanGrant, common_steps}
-use Rattle.offset_allocator.proofs.Common.{None, Some, last_or, is_used_at, place_of, eq-eqb, ◌≢◌}
+use Rattle.offset_allocator.proofs.Common.{AllByRecursion, sum_by-cons, value, up, down, Block, View, used_units, used_of, one, starts_free, reported_free, reported_largest, units, free_sizes}
+use Rattle.offset_allocator.proofs.Common.{free_block, AreCoalesced, IsWellFormed, max_size, IsFresh, CanGrant, common_steps, None, Some, last_or, is_used_at, place_of, eq-eqb, ◌≢◌}
 use Rattle.std.specs.Prelude.{IsTrue}
-use Rattle.offset_allocator.proofs.{Taken.fitting, Classes.down_law, ViewTaken.well_alone}
 
 -- used and free units
 pub parted : (bs : List Block) → used_units bs + sum (free_sizes bs) ≡ units bs

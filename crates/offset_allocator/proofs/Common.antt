@@ -27,20 +27,17 @@ pub use Rattle.offset_allocator.specs.Chain.{HasPlace, last_or, IsChain, first_o
 unfoldable pub use Rattle.offset_allocator.specs.Chain.{blocks}
 pub use Rattle.offset_allocator.specs.Classes.{IsExponent}
 unfoldable pub use Rattle.offset_allocator.specs.Classes.{down, value, up}
-pub use Rattle.offset_allocator.specs.Compacting.{live, Compacts, moves, first_free, gathered, move_of, Move, KeepsSizes, IsCalledWith, AreSafe}
+pub use Rattle.offset_allocator.specs.Moving.Compacting.{live, Compacts, moves, first_free, gathered, move_of, Move, KeepsSizes, IsCalledWith, AreSafe}
 pub use Rattle.offset_allocator.specs.Layouts.{field_tables, FieldTables, node_in, node_of, cells_of, cells_by_node, AreEven, values, cells_by_field, AreLevel}
 unfoldable pub use Rattle.offset_allocator.specs.Layouts.{nodes_of, nodes_in}
-pub use Rattle.offset_allocator.specs.Listing.{Placed, placed_at, placed}
+pub use Rattle.offset_allocator.specs.Reporting.Listing.{Placed, placed_at, placed}
 pub use Rattle.offset_allocator.specs.Ranges.{size_of, range_of, Range, IsLive, KeepsAll, Grants, KeepsOthers, AreDisjoint, KeepsRanges}
 pub use Rattle.offset_allocator.specs.Relations.{SameSpace, Splits, Frees, Resets, IsFresh, Extends, Aligns, Adds, Allocates, CanExtend}
-pub use Rattle.offset_allocator.specs.Requests.{IsAlignment, IsSplitNearBest}
-pub use Rattle.offset_allocator.specs.FreeSizes.{largest, count_of}
-pub use Rattle.offset_allocator.specs.Requests.{IsGoodRefusal}
-pub use Rattle.offset_allocator.specs.Requests.{HasRoomFor, CanGrant, units_needed, blocks_needed, size_needed, IsWhy}
+pub use Rattle.offset_allocator.specs.Requests.{IsAlignment, IsSplitNearBest, IsGoodRefusal, HasRoomFor, CanGrant, units_needed, blocks_needed, size_needed, IsWhy}
+pub use Rattle.offset_allocator.specs.Reporting.FreeSizes.{largest, count_of}
 pub use Rattle.offset_allocator.specs.Resizing.{ResizesTo, Resizes, HasUnits, Shrinks, Grows, CanShrink, CanGrow, free_after}
 pub use Rattle.offset_allocator.specs.Bins.{ListsOnly}
 pub use Rattle.offset_allocator.specs.Soundness.{view_of, IsSound}
-pub use Rattle.offset_allocator.specs.View.{AreInBins}
-pub use Rattle.offset_allocator.specs.View.{Block, View, units, IsWellFormed, count_named, bin_at, one, Place, times, free_block, push, free_sizes, AreCoalesced, count_in_bin, free_start, place_of}
-pub use Rattle.offset_allocator.specs.View.{used_of, remove_all, free_part, remove, push_all, free_end, without_start, replace, without_end, used_block, IsNew, Handle, padding_to}
-pub use Rattle.offset_allocator.specs.View.{max_size, starts_free, is_used_at, ends_used, reported_largest, used_units, reported_free, tally}
+pub use Rattle.offset_allocator.specs.View.{AreInBins, Block, View, units, IsWellFormed, count_named, bin_at, one, Place, times, free_block, push, free_sizes, AreCoalesced, count_in_bin, free_start}
+pub use Rattle.offset_allocator.specs.View.{place_of, used_of, remove_all, free_part, remove, push_all, free_end, without_start, replace, without_end, used_block, IsNew, Handle, padding_to, max_size}
+pub use Rattle.offset_allocator.specs.View.{starts_free, is_used_at, ends_used, reported_largest, used_units, reported_free, tally}

@@ -1,14 +1,12 @@
 -- The same request in the same state has the same result, and leaves the same state.
 use Rattle.std.proofs.Common.{subst₂}
-use Rattle.offset_allocator.proofs.Common.{◌≡◌, true, ℕ, zero, suc, ◌+◌, ◌≤◌, List, [], ◌∷◌, ◌++◌, length, Option, Some, None, refl, sym, ap, ap₂, subst, ◌∙◌, inl, inr, arith, length-append}
-use Rattle.offset_allocator.proofs.Common.{cases_lt, value, down, Block, View, Handle, units, times, bin_at, remove, push_all, free_part, padding_to, IsWellFormed, SameSpace, Splits, Allocates, Aligns}
-use Rattle.offset_allocator.proofs.Common.{blocks_needed, units_needed, size_of, Grants}
-use Rattle.offset_allocator.specs.Names.{AreTaken, IsTaken, Renames, names_of}
-use Rattle.offset_allocator.specs.Relations.{SameState}
-use Rattle.offset_allocator.specs.Relocating.{Relocates}
+use Rattle.offset_allocator.proofs.{Moving.Begins.begins_still, Moving.Begins.grant_begins, Holding.at_first, Holding.well_first, Holding.block_listed, Holding.fills_counted, Holding.holder}
+use Rattle.offset_allocator.proofs.{Linking.Names.names-length, Ranges.split_grants, Served.Serves, Served.plain_serves, Served.aligned_serves, Served.can_grant, Served.split_as}
+use Rattle.offset_allocator.proofs.{Served.aligns_counted, Views.ViewUndo.one_place, Common.blocks_needed, Common.units_needed, Common.size_of, Common.Grants}
+use Rattle.offset_allocator.proofs.Common.{◌≡◌, true, ℕ, zero, suc, ◌+◌, ◌≤◌, List, [], ◌∷◌, ◌++◌, length, Option, Some, None, refl, sym, ap, ap₂, subst, ◌∙◌, inl, inr, arith, length-append, cases_lt}
+use Rattle.offset_allocator.proofs.Common.{value, down, Block, View, Handle, units, times, bin_at, remove, push_all, free_part, padding_to, IsWellFormed, SameSpace, Splits, Allocates, Aligns}
+use Rattle.offset_allocator.specs.{Names.AreTaken, Names.IsTaken, Names.Renames, Names.names_of, Relations.SameState, Moving.Relocating.Relocates}
 use Rattle.offset_allocator.specs.Tight.{AlignsTight, FillsFirst, CanHold, with_first}
-use Rattle.offset_allocator.proofs.{Begins.begins_still, Begins.grant_begins, Holding.at_first, Holding.well_first, Holding.block_listed, Holding.fills_counted, Holding.holder, Names.names-length, Ranges.split_grants}
-use Rattle.offset_allocator.proofs.{Served.Serves, Served.plain_serves, Served.aligned_serves, Served.can_grant, Served.split_as, Served.aligns_counted, ViewUndo.one_place}
 
 -- ---- views
 -- where both calls leave the state as it was

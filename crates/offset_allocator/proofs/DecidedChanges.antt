@@ -1,15 +1,13 @@
 -- A release, a reset, a change of a size or of the end, and a compaction: in the same state each leaves the same state.
-use Rattle.offset_allocator.proofs.Common.{◌≡◌, ◌≢◌, ℕ, zero, suc, ◌+◌, ◌-◌, Bool, true, false, not, List, [], ◌∷◌, ◌++◌, length, Some, IfSome, refl, sym, ap}
-use Rattle.offset_allocator.proofs.Common.{ap₂, subst, ◌∙◌, inl, inr, arith, append_assoc, if◌then◌else◌, drop, replicate, cases_lt, AllByRecursion, Block, View, units, used_of, free_block, free_part}
-use Rattle.offset_allocator.proofs.Common.{used_block, starts_free, AreCoalesced, IsWellFormed, replace, free_start, without_start, free_end, without_end, free_sizes, push_all, size_of, live, gathered}
-use Rattle.offset_allocator.proofs.Common.{first_free, Frees, Resets, Adds, Extends, Resizes, Shrinks, Grows, Compacts}
-use Rattle.offset_allocator.specs.Names.{Renames, names_of, free_blocks}
-use Rattle.offset_allocator.specs.Relations.{SameState, FreesLast}
-use Rattle.offset_allocator.specs.Retracting.{Cuts, Retracts, end_part}
-use Rattle.offset_allocator.proofs.{Decided.both_leave, Decided.both_stay, Decided.last_same, Decided.same_renamed, ViewUndo.one_place, ViewTaken.well_frees, Sound.well_counted, Holding.place_there}
-use Rattle.offset_allocator.proofs.{Reading.size_is, Reading.size_at, Released.end_is, Released.start_is, Released.idle_parts, Released.two_free}
-use Rattle.offset_allocator.proofs.ViewApart.{ends_free, apart_parts, left_false, right_false, no_start}
-use Rattle.offset_allocator.specs.View.{last_used}
+use Rattle.offset_allocator.proofs.{Decided.both_leave, Decided.both_stay, Decided.last_same, Decided.same_renamed, Views.ViewUndo.one_place, Views.ViewTaken.well_frees, Sound.well_counted}
+use Rattle.offset_allocator.proofs.{Holding.place_there, Reading.size_is, Reading.size_at, Released.end_is, Released.start_is, Released.idle_parts, Released.two_free}
+use Rattle.offset_allocator.proofs.Common.{◌≡◌, ◌≢◌, ℕ, zero, suc, ◌+◌, ◌-◌, Bool, true, false, not, List, [], ◌∷◌, ◌++◌, length, Some, IfSome, refl, sym, ap, ap₂, subst, ◌∙◌, inl, inr, arith}
+use Rattle.offset_allocator.proofs.Common.{append_assoc, if◌then◌else◌, drop, replicate, cases_lt, AllByRecursion, Block, View, units, used_of, free_block, free_part, used_block, starts_free}
+use Rattle.offset_allocator.proofs.Common.{AreCoalesced, IsWellFormed, replace, free_start, without_start, free_end, without_end, free_sizes, push_all, size_of, live, gathered, first_free, Frees}
+use Rattle.offset_allocator.proofs.Common.{Resets, Adds, Extends, Resizes, Shrinks, Grows, Compacts}
+use Rattle.offset_allocator.proofs.Views.ViewApart.{ends_free, apart_parts, left_false, right_false, no_start}
+use Rattle.offset_allocator.specs.{Names.Renames, Names.names_of, Names.free_blocks, Relations.SameState, Relations.FreesLast, View.last_used}
+use Rattle.offset_allocator.specs.Moving.Retracting.{Cuts, Retracts, end_part}
 
 -- ---- releases
 -- a release, whose block goes with the free blocks at the ends of the lists around it

@@ -1,13 +1,14 @@
 -- A space whose used blocks are freed one after the other, from its end on: each is the last block or the one before
 -- it, and where none is left the space is one free block.
-use Rattle.offset_allocator.proofs.Common.{zero, suc, if◌then◌else◌, ◌≡◌, ℕ, ◌+◌, ◌*◌, append_assoc, ◌<◌, ◌≤◌, Bool, true, false, not, List, [], ◌∷◌, ◌++◌, length, replicate, Option, Some, None, IfSome, nat_eq, refl, sym, ap}
+use Rattle.offset_allocator.proofs.Common.{zero, suc, if◌then◌else◌, ◌≡◌, ℕ, ◌+◌, ◌*◌, append_assoc, ◌<◌, ◌≤◌, Bool, true, false, not, List, [], ◌∷◌, ◌++◌, length, replicate, Option, Some, None}
+use Rattle.offset_allocator.proofs.Common.{IfSome, nat_eq, refl, sym, ap}
 use Rattle.offset_allocator.proofs.Common.{ap₂, subst, ◌∙◌, arith, inl, inr, length-replicate, ext_get_or, cases_lt, false≢true, not-false, down, Block, View, one, free_block, units}
 use Rattle.offset_allocator.proofs.Common.{count_named, used_of, times, count_in_bin, bin_at, push, AreCoalesced, IsWellFormed, place_of, is_used_at, Frees, Resets, push_all, last_or, IsLive}
 use Rattle.std.specs.{List.AllByRecursion, Option.option_or}
 use Rattle.offset_allocator.specs.{Relations.FreesLast, Relations.IsEmpty, Relations.SameState, View.last_used}
-use Rattle.offset_allocator.proofs.ViewBins.{hit_at, hit_other, names_same, names_other, length_put}
-use Rattle.offset_allocator.proofs.{Ends.Ended, Ends.ended, Ends.last_none, Classes.down_small, Reading.used_live, ViewApart.apart_parts, ViewApart.left_false, Tallies.hit_cases, Tallies.tally_append}
-use Rattle.offset_allocator.proofs.{Tallies.one-same, Tallies.one-eq, ViewSteps.place_here, ViewTaken.replicate_none}
+use Rattle.offset_allocator.proofs.Views.ViewBins.{hit_at, hit_other, names_same, names_other, length_put}
+use Rattle.offset_allocator.proofs.{Linking.Ends.Ended, Linking.Ends.ended, Linking.Ends.last_none, Classes.down_small, Reading.used_live, Views.ViewApart.apart_parts, Views.ViewApart.left_false}
+use Rattle.offset_allocator.proofs.{Tallies.hit_cases, Tallies.tally_append, Tallies.one-same, Tallies.one-eq, Views.ViewSteps.place_here, Views.ViewTaken.replicate_none}
 
 -- lists of names
 pub no_name : (l : List ℕ) → ((y : ℕ) → times y l ≡ 0) → l ≡ []

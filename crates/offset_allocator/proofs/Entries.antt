@@ -4,8 +4,8 @@ use Rattle.offset_allocator.proofs.Common.{length-map, length-set, map-set, map-
 use Rattle.offset_allocator.proofs.Common.{cells_by_node, cells_of, AreEven, common_steps}
 use Rattle.std.specs.Vec.{with_item}
 use Rattle.std.proofs.Math.Seq.{map-set_same}
-use Rattle.offset_allocator.specs.declared.by_node.Node.{Node as Entry}
-use Rattle.offset_allocator.specs.declared.by_node.ByNode.TheInside.{Inside}
+use Rattle.offset_allocator.specs.declared.layouts.by_node.Node.{Node as Entry}
+use Rattle.offset_allocator.specs.declared.layouts.by_node.ByNode.TheInside.{Inside}
 
 pub marked : (max : ℕ) (used : Bool) → 1 ≤ max → eqb (mark_of max used) (max - 1) ≡ used
 marked max true l = eq-eqb (max - 1) (max - 1) refl
@@ -126,12 +126,6 @@ module _ {A B : Type 0} (max : ℕ) (number : A → ℕ) (t : Inside A B) {c : C
   within-older x l = below-older max number ns e x l
 
   -- the same as bounds of a read or a write
-  pub bound : (x : ℕ) → x < length c.chain.nodes → x < vec_len t.nodes
-  bound x l = omega (arith, within x l, t.nodes.ok.0)
-
-  pub bound-links : (x : ℕ) → x < length c.bins.newer → x < vec_len t.nodes
-  bound-links x l = omega (arith, within-links x l, t.nodes.ok.0)
-
   pub bound-older : (x : ℕ) → x < length c.bins.older → x < vec_len t.nodes
   bound-older x l = omega (arith, within-older x l, t.nodes.ok.0)
 
@@ -161,14 +155,9 @@ shaped max number t h w =
       flags = λ x l. flag_at max number t.nodes.items x (omega (arith, l, n));
     }
 
--- a name below the number of nodes is below the table's length
-pub ruleset cells = (length-nodes_of, within, within-links)
-
 -- an entry written keeps the lengths
 pub even_set : {A B : Type 0} (max : ℕ) (t : Inside A B) → AreEven max t → (x : ℕ) (m : Entry A) → AreEven max (record t { nodes = with_item t.nodes x m })
 even_set max t h x m = grind (arith, length-set)
 
--- other tables of the same lengths and memory
-pub even_kept : {A B : Type 0} (max : ℕ) (t u : Inside A B) → AreEven max t → length u.nodes.items ≡ length t.nodes.items → length u.spare.items ≡ length t.spare.items
-    → vec_capacity u.nodes ≡ vec_capacity t.nodes → vec_capacity u.spare ≡ vec_capacity t.spare → length u.heads ≡ length t.heads → length u.masks ≡ length t.masks → AreEven max u
-even_kept max t u h n s cn cs hs ms = grind arith
+-- what the functions of a table of nodes cite
+pub ruleset cells = (length-nodes_of, within, within-links, bound-older, bound-spare, even_set, room_left, spare_left, length-set, shaped, first_node)

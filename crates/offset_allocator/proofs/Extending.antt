@@ -1,17 +1,14 @@
 -- What more units at the end leave of the whole allocator.
-use Rattle.offset_allocator.proofs.Common.{ap₂, take}
-use Rattle.offset_allocator.proofs.Sound.{well_unused}
-use Rattle.offset_allocator.specs.Names.{AreTaken, IsTaken, names_of}
-use Rattle.offset_allocator.proofs.Common.{◌≡◌, ◌↔◌, ℕ, ◌+◌, ◌-◌, ◌<◌, ◌≤◌, ◌^◌, Bool, true, false, not, ◌⊎◌, List, [], ◌∷◌, ◌++◌, length, refl, sym, ap, subst, ◌∙◌, inl, inr, arith, slice_set}
-use Rattle.offset_allocator.proofs.Common.{append-nil, true≢false, false≢true, AllByRecursion, down, Cells, ChainCells, Node, node, Block, View, count_named, bin_at, count_in_bin, AreCoalesced}
-use Rattle.offset_allocator.proofs.Common.{IsWellFormed, IsNew, free_block, units, replace, remove_all, push, remove, times, ends_used, HasRoomFor, KeepsAll, Adds, CanExtend, Extends}
-use Rattle.offset_allocator.proofs.Common.{IsChain, HasPlace, blocks, IsAmong, IsUnlisted, bins_in, IsBinned, common_steps}
-use Rattle.offset_allocator.proofs.Tallies.{listed_named, tally_append, units-append, times-append, one-eq}
+use Rattle.offset_allocator.proofs.{Sound.well_unused, Sound.Fields, Sound.AreSound, Sound.shown, Sound.well_counted, Sound.well_same, Linking.Ends.Ended, Linking.Ends.ended, Linking.Places.at_place}
+use Rattle.offset_allocator.proofs.{Linking.Places.end_place, Filing.Filed.share, Filing.Filed.counts_once, Views.ViewApart.ends_free, Views.ViewApart.apart_parts, Views.ViewApart.left_false}
+use Rattle.offset_allocator.proofs.{Views.ViewBins.times_remove_all, Views.ViewTaken.well_added, Ranges.adds_keep}
+use Rattle.offset_allocator.proofs.Common.{ap₂, take, ◌≡◌, ◌↔◌, ℕ, ◌+◌, ◌-◌, ◌<◌, ◌≤◌, ◌^◌, Bool, true, false, not, ◌⊎◌, List, [], ◌∷◌, ◌++◌, length, refl, sym, ap, subst, ◌∙◌, inl, inr, arith}
+use Rattle.offset_allocator.proofs.Common.{slice_set, append-nil, true≢false, false≢true, AllByRecursion, down, Cells, ChainCells, Node, node, Block, View, count_named, bin_at, count_in_bin}
+use Rattle.offset_allocator.proofs.Common.{AreCoalesced, IsWellFormed, IsNew, free_block, units, replace, remove_all, push, remove, times, ends_used, HasRoomFor, KeepsAll, Adds, CanExtend, Extends}
+use Rattle.offset_allocator.proofs.Common.{IsChain, HasPlace, blocks, IsAmong, IsUnlisted, bins_in, IsBinned}
+use Rattle.offset_allocator.proofs.Tallies.{listed_named, tally_append, units-append, times-append, one-eq, without, counted_none, free_units, free_sum}
 use Rattle.offset_allocator.proofs.Joints.{stepped, free_most, unused_unlisted, remove_free, free_units-append, free_units-free}
-use Rattle.offset_allocator.proofs.{Sound.Fields, Sound.AreSound, Sound.shown, Sound.well_counted, Sound.well_same, Ends.Ended, Ends.ended, Places.at_place, Places.end_place, Filed.share}
-use Rattle.offset_allocator.proofs.{Filed.counts_once, ViewApart.ends_free, ViewApart.apart_parts, ViewApart.left_false, ViewBins.times_remove_all, ViewTaken.well_added, Ranges.adds_keep}
-use Rattle.offset_allocator.proofs.Tallies.{without, counted_none}
-use Rattle.offset_allocator.proofs.Tallies.{free_units, free_sum}
+use Rattle.offset_allocator.specs.Names.{AreTaken, IsTaken, names_of}
 
 pub ends_last : (fs : List Block) (b : Block) → ends_used (fs ++ b ∷ []) ≡ b.used
 ends_last [] b = refl

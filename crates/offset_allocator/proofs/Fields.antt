@@ -1,9 +1,9 @@
 -- A table for each field as a list of nodes.
 use Rattle.offset_allocator.proofs.Common.{◌≡◌, ◌≢◌, ℕ, zero, suc, ◌+◌, ◌-◌, [], ◌∷◌, ◌++◌, ◌<◌, ◌≤◌, List, length, map, set, get_or, refl, sym, ◌∙◌, ap, ap₂, arith, Bool, false, eqb, eq-eqb, ne_eqb}
 use Rattle.offset_allocator.proofs.Common.{get_or-set_same, get_or-set_other, length-map, length-append, map-append, map-set, set-get_or, vec_len, vec_capacity, Cells, Node, blank, mark_of, node, put}
-use Rattle.offset_allocator.proofs.Common.{AreShaped, FieldTables, node_in, nodes_in, values, field_tables, cells_by_field, AreLevel, common_steps}
+use Rattle.offset_allocator.proofs.Common.{length-set, AreShaped, FieldTables, node_in, nodes_in, values, field_tables, cells_by_field, AreLevel, common_steps}
 use Rattle.offset_allocator.proofs.Entries.{marked}
-use Rattle.offset_allocator.specs.declared.by_field.ByField.TheInside.{Inside}
+use Rattle.offset_allocator.specs.declared.layouts.by_field.ByField.TheInside.{Inside}
 
 module _ {X : Type 0} where
   pub length-values : (f : ℕ → X) (n : ℕ) → length (values f n) ≡ n
@@ -117,21 +117,6 @@ module _ {A B : Type 0} (max : ℕ) (number : A → ℕ) (t : Inside A B) {c : C
   within x l = omega (arith, l, ap (λ (v : Cells). length v.chain.nodes) e, length-nodes_in max fs)
 
   -- the same as bounds of a read or a write of each table
-  pub bound-offset : (x : ℕ) → x < length c.chain.nodes → x < vec_len t.offset
-  bound-offset x l = omega (arith, within x l, t.offset.ok.0)
-
-  pub bound-size : AreLevel max t → (x : ℕ) → x < length c.chain.nodes → x < vec_len t.size
-  bound-size h x l = omega (arith, within x l, h.size, t.size.ok.0)
-
-  pub bound-before : AreLevel max t → (x : ℕ) → x < length c.chain.nodes → x < vec_len t.before
-  bound-before h x l = omega (arith, within x l, h.before, t.before.ok.0)
-
-  pub bound-after : AreLevel max t → (x : ℕ) → x < length c.chain.nodes → x < vec_len t.after
-  bound-after h x l = omega (arith, within x l, h.after, t.after.ok.0)
-
-  pub bound-used : AreLevel max t → (x : ℕ) → x < length c.chain.nodes → x < vec_len t.newer
-  bound-used h x l = omega (arith, within x l, h.newer, t.newer.ok.0)
-
   pub bound-newer : (x : ℕ) → x < length c.bins.newer → x < vec_len t.newer
   bound-newer x l = omega (arith, l, ap (λ (v : Cells). length v.bins.newer) e, length-map t.newer.items number, t.newer.ok.0)
 
@@ -215,5 +200,5 @@ shaped max number t h w =
       flags = λ x l. ap (λ (v : Node). v.used) (node_at max (field_tables number t) x (omega (arith, l, n)));
     }
 
--- a name below the number of nodes is below the tables' length
-pub ruleset cells = (length-nodes_in, within)
+-- what the functions of these tables cite
+pub ruleset cells = (length-nodes_in, within, bound-newer, bound-older, bound-spare, room_left, level_kept, longer, shaped, first_node, alone, length-set)

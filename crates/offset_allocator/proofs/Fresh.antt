@@ -1,10 +1,9 @@
 -- A fresh space.
+use Rattle.offset_allocator.proofs.{Filing.Binned.binned, Views.ViewTaken.well_alone, Tallies.one-eq, Tallies.one-other, Tallies.free_units, Tallies.free_sum}
 use Rattle.offset_allocator.proofs.Common.{◌≡◌, ℕ, zero, suc, ◌+◌, ◌/◌, ◌%◌, ◌<◌, ◌≤◌, ◌^◌, false, None, List, [], ◌∷◌, length, get_or, replicate, refl, sym, ◌∙◌, ap, ap₂, subst, arith, slice_index}
-use Rattle.offset_allocator.proofs.Common.{length-replicate, get_or-replicate, bit_at-zero, cases_eq, nat_tests, down, Cells, BinCells, ChainCells, Node, blank, node, put, AreEmpty, IsBare}
-use Rattle.offset_allocator.proofs.Common.{AreShaped, Block}
-use Rattle.offset_allocator.proofs.Common.{View, IsWellFormed, free_block, push, bin_at, IsChain, IsSpace, blocks, HasBins, AreMasks, IsBinned, bins_in, IsAmong, IsUnlisted, IsSound, view_of}
-use Rattle.offset_allocator.proofs.{Nodes.node-put, Nodes.node-put_other, Nodes.length-put, Nodes.spare-put, Nodes.reserved-put, Binned.binned, ViewTaken.well_alone, Tallies.one-eq, Tallies.one-other}
-use Rattle.offset_allocator.proofs.Tallies.{free_units, free_sum}
+use Rattle.offset_allocator.proofs.Common.{length-replicate, get_or-replicate, bit_at-zero, cases_eq, nat_tests, down, Cells, BinCells, ChainCells, Node, blank, node, put, AreEmpty, IsBare, AreShaped}
+use Rattle.offset_allocator.proofs.Common.{Block, View, IsWellFormed, free_block, push, bin_at, IsChain, IsSpace, blocks, HasBins, AreMasks, IsBinned, bins_in, IsAmong, IsUnlisted, IsSound, view_of}
+use Rattle.offset_allocator.proofs.Linking.Nodes.{node-put, node-put_other, length-put, spare-put, reserved-put}
 
 -- one free block of the whole size
 abbrev pub fresh : ℕ → ℕ → View

@@ -1,19 +1,13 @@
 -- What a grant leaves of the whole allocator.
+use Rattle.offset_allocator.proofs.{Sound.Fields, Sound.AreSound, Sound.shown, Sound.well_counted, Linking.Exchange.each-le, Linking.Exchange.there-below, Linking.Places.placed}
+use Rattle.offset_allocator.proofs.{Linking.Places.end_fits, Classes.fits_size, Classes.value_clauses, Views.Split.well_split, Views.Split.part_room, Taken.Taken, Taken.taken, Taken.listed_block}
+use Rattle.offset_allocator.proofs.{Views.ViewBins.unlisted_removed, Common.common_steps, Common.append-nil, Common.take}
 use Rattle.offset_allocator.proofs.Common.{◌≡◌, ℕ, zero, suc, ◌+◌, ◌-◌, ◌<◌, ◌≤◌, ◌^◌, List, [], ◌∷◌, ◌++◌, length, refl, sym, ap, ap₂, ◌∙◌, arith, slice_set, append_assoc, le-leb, padding_to}
-use Rattle.offset_allocator.proofs.Common.{units_needed, times, count_in_bin, nat_eq, value, up, down, ◌%◌}
-use Rattle.offset_allocator.proofs.Common.{Cells, ChainCells, Block, View, Place, Handle, one, count_named, bin_at, IsWellFormed, IsNew, free_part, used_block, units, replace, remove_all, push_all}
-use Rattle.offset_allocator.proofs.Common.{remove}
-use Rattle.offset_allocator.proofs.Common.{HasPlace, IsFoundFrom, Some, bins_in, IsBinned, ListsOnly, SameSpace, Splits, common_steps}
+use Rattle.offset_allocator.proofs.Common.{units_needed, times, count_in_bin, nat_eq, value, up, down, ◌%◌, Cells, ChainCells, Block, View, Place, Handle, one, count_named, bin_at, IsWellFormed}
+use Rattle.offset_allocator.proofs.Common.{IsNew, free_part, used_block, units, replace, remove_all, push_all, remove, HasPlace, IsFoundFrom, Some, bins_in, IsBinned, ListsOnly, SameSpace, Splits}
 use Rattle.offset_allocator.proofs.Joints.{stepped, unused_unlisted, free_part_units, remove_free, free_units-append, free_units-free, free_units-used}
-use Rattle.offset_allocator.proofs.{Sound.Fields, Sound.AreSound, Sound.shown, Sound.well_counted, Exchange.each-le, Exchange.there-below, Places.placed, Places.end_fits, Classes.fits_size}
-use Rattle.offset_allocator.proofs.{Classes.value_clauses}
-use Rattle.offset_allocator.proofs.{Split.well_split, Split.part_room, Taken.Taken, Taken.taken, Taken.listed_block, ViewBins.unlisted_removed, Tallies.one-same, Tallies.one-eq}
-use Rattle.offset_allocator.proofs.{Tallies.times-append}
-use Rattle.offset_allocator.specs.Requests.{NewestHolds}
-use Rattle.offset_allocator.proofs.Tallies.{without, counted_none}
-use Rattle.offset_allocator.proofs.Tallies.{free_units, free_sum}
-use Rattle.offset_allocator.proofs.Common.{append-nil, take}
-use Rattle.offset_allocator.specs.Names.{AreTaken, names_of}
+use Rattle.offset_allocator.proofs.Tallies.{one-same, one-eq, times-append, without, counted_none, free_units, free_sum}
+use Rattle.offset_allocator.specs.{Requests.NewestHolds, Names.AreTaken, Names.names_of}
 
 -- a grant: sound fields, a class that has a block, and the first name there
 pub record Call (f : Fields) (class x : ℕ) : Type 0 where

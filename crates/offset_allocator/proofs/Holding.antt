@@ -1,25 +1,17 @@
 -- Requests for any free block that is large enough.
-use Rattle.offset_allocator.specs.Relations.{SameState}
-use Rattle.offset_allocator.proofs.Common.{◌≡◌, ℕ, zero, suc, ◌+◌, ◌-◌, ◌%◌, ◌<◌, ◌≤◌, ◌^◌, ◌↔◌, Bool, true, false, List, [], ◌∷◌, ◌++◌, length, Option, Some, None, IsSome, IfSome, is_some}
-use Rattle.offset_allocator.proofs.Common.{nat_eq, nat_le, cond, refl, sym, ap, ap₂, subst, ◌∙◌, inl, inr, arith, append-nil, get_or_past, cases_lt, le-leb, leb-true, false≢true}
-use Rattle.offset_allocator.proofs.Common.{if◌then◌else◌, value, up, down, Block, View, Place, Handle, one, units, times, count_named, count_in_bin, bin_at, push, remove, place_of, padding_to}
-use Rattle.offset_allocator.proofs.Common.{free_sizes}
-use Rattle.offset_allocator.proofs.Common.{IsWellFormed, Cells, Node, bins_in, IsBinned, IsFoundFrom, HasRoomFor, CanGrant, blocks_needed, units_needed, SameSpace, Splits}
-use Rattle.offset_allocator.proofs.Common.{Aligns, Grants, blocks}
-use Rattle.offset_allocator.proofs.{Sound.Fields, Sound.AreSound, Sound.shown, Sound.known_sound, Joints.stepped, Places.placed, Places.at_place, Taken.taken_among, Taken.fitting, Ranges.beside}
-use Rattle.offset_allocator.proofs.{Classes.down_law, Classes.down_small, Classes.value_down, Classes.fits_size, Classes.value_clauses, ViewSteps.place_here, Tallies.hit_cases, Tallies.one-same}
-use Rattle.offset_allocator.proofs.{Tallies.one-eq, Tallies.times-join}
-use Rattle.offset_allocator.proofs.{ViewBins.times_put, ViewBins.times_remove, ViewBins.length_put, ViewBins.length_remove, ViewBins.names_same, Tallies.free_sum, Tallies.tally_append}
-use Rattle.offset_allocator.proofs.{Tallies.units-append, Tallies.listed_named}
-use Rattle.offset_allocator.proofs.{Granting.within, Split.well_split, Split.part_room, Ranges.split_grants, Served.split_as, Served.can_grant, Served.grants, Served.multiple, Padding.reaches}
-use Rattle.offset_allocator.proofs.{Largest.free_most}
-use Rattle.offset_allocator.proofs.{Classes.up_after, Classes.up_itself, Classes.up_reached, Classes.value_rises}
-use Rattle.offset_allocator.specs.Statistics.{greatest}
-use Rattle.offset_allocator.specs.Requests.{Holds}
-use Rattle.offset_allocator.specs.Tight.{CanHold, holds, holds_in, listed_from, first_holding, with_first, AlignsTight, FillsFirst}
-use Rattle.offset_allocator.specs.Tight.{IsWhyTight}
-use Rattle.offset_allocator.proofs.Common.{live, gathered, Compacts, IsFresh, free_block, common_steps, max, sum, sum_by-cons}
-use Rattle.offset_allocator.proofs.Advice.{free_within, open_still}
+use Rattle.offset_allocator.proofs.{Sound.Fields, Sound.AreSound, Sound.shown, Sound.known_sound, Joints.stepped, Linking.Places.placed, Linking.Places.at_place, Taken.taken_among, Taken.fitting}
+use Rattle.offset_allocator.proofs.{Ranges.beside, Ranges.split_grants, Views.ViewSteps.place_here, Granting.within, Views.Split.well_split, Views.Split.part_room, Served.split_as, Served.can_grant}
+use Rattle.offset_allocator.proofs.{Served.grants, Served.multiple, Padding.reaches, Reporting.Largest.free_most, Advice.free_within, Advice.open_still}
+use Rattle.offset_allocator.proofs.Common.{◌≡◌, ℕ, zero, suc, ◌+◌, ◌-◌, ◌%◌, ◌<◌, ◌≤◌, ◌^◌, ◌↔◌, Bool, true, false, List, [], ◌∷◌, ◌++◌, length, Option, Some, None, IsSome, IfSome, is_some, nat_eq}
+use Rattle.offset_allocator.proofs.Common.{nat_le, cond, refl, sym, ap, ap₂, subst, ◌∙◌, inl, inr, arith, append-nil, get_or_past, cases_lt, le-leb, leb-true, false≢true, if◌then◌else◌, value, up}
+use Rattle.offset_allocator.proofs.Common.{down, Block, View, Place, Handle, one, units, times, count_named, count_in_bin, bin_at, push, remove, place_of, padding_to, free_sizes, IsWellFormed, Cells}
+use Rattle.offset_allocator.proofs.Common.{Node, bins_in, IsBinned, IsFoundFrom, HasRoomFor, CanGrant, blocks_needed, units_needed, Splits, Aligns, Grants, blocks, live, gathered, Compacts}
+use Rattle.offset_allocator.proofs.Common.{IsFresh, free_block, common_steps, max, sum, sum_by-cons}
+use Rattle.offset_allocator.proofs.Classes.{down_law, down_small, value_down, fits_size, value_clauses, up_after, up_itself, up_reached, value_rises}
+use Rattle.offset_allocator.proofs.Tallies.{hit_cases, one-same, one-eq, times-join, free_sum, tally_append, units-append, listed_named}
+use Rattle.offset_allocator.proofs.Views.ViewBins.{times_put, times_remove, length_put, length_remove, names_same}
+use Rattle.offset_allocator.specs.{Relations.SameState, Reporting.Statistics.greatest, Requests.Holds}
+use Rattle.offset_allocator.specs.Tight.{CanHold, holds, holds_in, listed_from, first_holding, with_first, AlignsTight, FillsFirst, IsWhyTight}
 use Rattle.offset_allocator.specs.declared.reports.Refusal.{Refusal}
 use Rattle.offset_allocator.specs.declared.reports.Refusal.TheVariants.{Nodes, TooLarge, Space, Fragmented}
 use Rattle.std.specs.List.{concat, find}
@@ -262,10 +254,6 @@ module _ (n align : ℕ) (v w : View) (known : IsWellFormed v) (some : 1 ≤ ali
   plain None a c = absurd (a.0 (grant_holds v known n align some c))
   plain (Some g) (inl a) c = a
   plain (Some g) (inr a) c = absurd (a.0 c)
-
-  pub same_space : (r : Option Handle) → AlignsTight n align v w r → r ≡ None → SameState v w
-  same_space None a e = a.1
-  same_space (Some g) a e = absurd (cc)
 
   pub grants_tight : (r : Option Handle) → AlignsTight n align v w r → IfSome r (Grants n v w)
   grants_tight None a = tt

@@ -1,12 +1,10 @@
 -- What each call leaves of the ranges of live handles.
-use Rattle.offset_allocator.proofs.Common.{◌-◌, ◌≡◌, ◌≢◌, ℕ, IfSome, zero, suc, ◌+◌, ◌≤◌, Bool, true, false, ◌&&◌, List, [], ◌∷◌, ◌++◌, Option, Some, None, nat_eq, if◌then◌else◌, refl, sym, ap}
-use Rattle.offset_allocator.proofs.Common.{subst, ◌∙◌}
-use Rattle.offset_allocator.proofs.Common.{inl, inr, arith, append_assoc, add-zero, add_assoc, eq-eqb, ne_eqb, false≢true, and_right, AllByRecursion, Block, View, Place, Handle, one, units}
+use Rattle.offset_allocator.proofs.{Views.ViewSteps.place_at, Views.ViewSteps.no_place, Released.idle_parts, Reading.range_at, Views.Split.split_view, Common.HasUnits, Common.SameSpace}
+use Rattle.offset_allocator.proofs.{Common.Splits, Common.Frees, Common.Adds, Common.common_steps, Tallies.part_sums, Tallies.tally_append, Tallies.hit_cases, Tallies.units-append}
+use Rattle.offset_allocator.proofs.Common.{◌-◌, ◌≡◌, ◌≢◌, ℕ, IfSome, zero, suc, ◌+◌, ◌≤◌, Bool, true, false, ◌&&◌, List, [], ◌∷◌, ◌++◌, Option, Some, None, nat_eq, if◌then◌else◌, refl, sym, ap, subst}
+use Rattle.offset_allocator.proofs.Common.{◌∙◌, inl, inr, arith, append_assoc, add-zero, add_assoc, eq-eqb, ne_eqb, false≢true, and_right, AllByRecursion, Block, View, Place, Handle, one, units}
 use Rattle.offset_allocator.proofs.Common.{count_named, used_block, free_block, free_part, IsWellFormed, place_of, Range, range_of, AreDisjoint, Grants, KeepsAll, KeepsOthers, KeepsRanges, Resizes}
-use Rattle.offset_allocator.proofs.Common.{HasUnits, SameSpace, Splits, Frees, Adds, common_steps}
-use Rattle.offset_allocator.proofs.{ViewSteps.place_at, ViewSteps.no_place, Released.idle_parts, Reading.range_at, Tallies.part_sums, Tallies.tally_append, Tallies.hit_cases, Tallies.units-append}
-use Rattle.offset_allocator.proofs.{Split.split_view}
-use Rattle.offset_allocator.specs.Retracting.{Cuts, end_part}
+use Rattle.offset_allocator.specs.Moving.Retracting.{Cuts, end_part}
 
 -- the range of the used block named x, where the first of the blocks has this offset
 abbrev range_from : ℕ → ℕ → List Block → Option Range

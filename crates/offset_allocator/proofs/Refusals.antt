@@ -1,8 +1,6 @@
 -- Why a request is refused.
-use Rattle.offset_allocator.proofs.Common.{◌≡◌, ℕ, ◌+◌, ◌<◌, ◌≤◌, length, sum, sym, ap, arith, View, free_sizes, IsWellFormed}
-use Rattle.offset_allocator.proofs.Common.{HasRoomFor}
-use Rattle.offset_allocator.proofs.{Sound.Fields, Sound.AreSound, Sound.shown, Counting.class_within, Taken.HasFit}
-use Rattle.offset_allocator.proofs.{Joints.free_most, Tallies.free_sum}
+use Rattle.offset_allocator.proofs.{Sound.Fields, Sound.AreSound, Sound.shown, Reporting.Counting.class_within, Taken.HasFit, Joints.free_most, Tallies.free_sum}
+use Rattle.offset_allocator.proofs.Common.{◌≡◌, ℕ, ◌+◌, ◌<◌, ◌≤◌, length, sum, sym, ap, arith, View, free_sizes, IsWellFormed, HasRoomFor}
 
 -- where a class fits, a free block has the units, which are no more than those of the space
 pub fit_small : (n : ℕ) (v : View) → IsWellFormed v → HasFit n v → n ≤ v.size

@@ -1,7 +1,7 @@
 -- Free blocks at the ends of lists.
 use Rattle.offset_allocator.proofs.Common.{◌≡◌, Bool, true, false, not, ◌&&◌, List, [], ◌∷◌, ◌++◌, if◌then◌else◌, refl, sym, ap, ap₂, ◌∙◌, append-nil, true≢false, AllByRecursion, Block, AreCoalesced}
 use Rattle.offset_allocator.proofs.Common.{free_start, without_start, free_end, without_end, starts_free}
-use Rattle.offset_allocator.proofs.{Ends.end_free, ViewApart.ends_free, ViewApart.apart_parts, ViewApart.no_end, ViewApart.no_start}
+use Rattle.offset_allocator.proofs.{Linking.Ends.end_free, Views.ViewApart.ends_free, Views.ViewApart.apart_parts, Views.ViewApart.no_end, Views.ViewApart.no_start}
 
 pub idle_append : (bs cs : List Block) → AllByRecursion (λ b. b.used ≡ false) bs → AllByRecursion (λ b. b.used ≡ false) cs → AllByRecursion (λ b. b.used ≡ false) (bs ++ cs)
 idle_append [] cs h k = k

@@ -1,18 +1,16 @@
 -- A block that is resized with the free block after it: what that leaves of a view, and of the whole allocator.
-use Rattle.offset_allocator.proofs.Common.{take}
-use Rattle.offset_allocator.specs.{Names.AreTaken, Names.names_of, Relations.SameState}
-use Rattle.offset_allocator.proofs.Common.{IsSome, ◌≡◌, ◌≢◌, ◌↔◌, ℕ, zero, suc, ◌+◌, ◌-◌, ◌<◌, ◌≤◌, Bool, true, false, ◌⊎◌, List, [], ◌∷◌, ◌++◌, length, Option, Some, None, is_some, nat_eq, refl, sym}
-use Rattle.offset_allocator.proofs.Common.{ap, ap₂, subst, ◌∙◌, inl, inr, arith, length-append, eq-zero-or-pos, if◌then◌else◌, false≢true, true≢false, and_right, Cells, Node, Block, View, Place, one}
-use Rattle.offset_allocator.proofs.Common.{units, count_named, used_of, used_block, AreCoalesced, IsWellFormed, IsNew, free_start, without_start, free_part, remove_all, push_all, replace, HasRoomFor}
-use Rattle.offset_allocator.proofs.Common.{range_of, size_of, KeepsOthers, SameSpace, Resizes, ResizesTo, Shrinks, Grows, CanShrink, CanGrow, HasUnits, free_after, HasPlace, IsFreeAfter}
+use Rattle.offset_allocator.proofs.{Freeing.Release, Freeing.at, Freeing.used, Freeing.w, Freeing.remove_used, Freeing.units_start, Views.ViewApart.ends_free, Views.ViewApart.apart_parts}
+use Rattle.offset_allocator.proofs.{Views.ViewApart.apart_append, Views.ViewApart.apart_without_start, Views.ViewApart.apart_free_part, Views.ViewApart.start_parts, Linking.Exchange.each-le}
+use Rattle.offset_allocator.proofs.{Linking.Exchange.there-below, Granting.part_names, Joints.stepped, Joints.free_part_units, Joints.free_units-append, Joints.free_units-used}
+use Rattle.offset_allocator.proofs.{Linking.Places.at_place, Linking.Places.next_place, Ranges.resizes_units, Ranges.resizes_others, Reading.size_is, Reading.size_at, Released.idle_start}
+use Rattle.offset_allocator.proofs.{Sound.Fields, Sound.AreSound, Sound.shown, Sound.well_same, Views.ViewReplaced.well_replaced}
+use Rattle.offset_allocator.proofs.Common.{take, IsSome, ◌≡◌, ◌≢◌, ◌↔◌, ℕ, zero, suc, ◌+◌, ◌-◌, ◌<◌, ◌≤◌, Bool, true, false, ◌⊎◌, List, [], ◌∷◌, ◌++◌, length, Option, Some, None, is_some, nat_eq}
+use Rattle.offset_allocator.proofs.Common.{refl, sym, ap, ap₂, subst, ◌∙◌, inl, inr, arith, length-append, eq-zero-or-pos, if◌then◌else◌, false≢true, true≢false, and_right, Cells, Node, Block, View}
+use Rattle.offset_allocator.proofs.Common.{Place, one, units, count_named, used_of, used_block, AreCoalesced, IsWellFormed, IsNew, free_start, without_start, free_part, remove_all, push_all, replace}
+use Rattle.offset_allocator.proofs.Common.{HasRoomFor, range_of, size_of, KeepsOthers, SameSpace, Resizes, ResizesTo, Shrinks, Grows, CanShrink, CanGrow, HasUnits, free_after, HasPlace, IsFreeAfter}
 use Rattle.offset_allocator.proofs.Common.{bins_in, IsBinned, option_map, unwrap_or, common_steps}
-use Rattle.offset_allocator.proofs.Freeing.{Release, at, used, w, remove_used, units_start}
-use Rattle.offset_allocator.proofs.ViewApart.{ends_free, apart_parts, apart_append, apart_without_start, apart_free_part, start_parts}
-use Rattle.offset_allocator.proofs.{Exchange.each-le, Exchange.there-below, Granting.part_names, Joints.stepped, Joints.free_part_units, Joints.free_units-append, Joints.free_units-used}
-use Rattle.offset_allocator.proofs.{Places.at_place, Places.next_place, Ranges.resizes_units, Ranges.resizes_others, Reading.size_is, Reading.size_at, Released.idle_start}
-use Rattle.offset_allocator.proofs.{Sound.Fields, Sound.AreSound, Sound.shown, Sound.well_same, Tallies.tally_three, Tallies.part_sums, Tallies.counted_none, Tallies.new_absent, Tallies.hit_cases}
-use Rattle.offset_allocator.proofs.{Tallies.one-same, ViewReplaced.well_replaced}
-use Rattle.offset_allocator.proofs.Tallies.{free_units, free_sum}
+use Rattle.offset_allocator.proofs.Tallies.{tally_three, part_sums, counted_none, new_absent, hit_cases, one-same, free_units, free_sum}
+use Rattle.offset_allocator.specs.{Names.AreTaken, Names.names_of, Relations.SameState}
 
 -- the name of a free part, where it has units
 part_named : (z m y : ℕ) → (count_named y (free_part z m) ≡ 0) ⊎ ((y ≡ z) × (1 ≤ m) × (count_named y (free_part z m) ≡ 1))

@@ -1,7 +1,6 @@
 -- The fields of an allocator, and what their invariant says of the view.
 use Rattle.offset_allocator.proofs.Common.{◌≡◌, ℕ, ◌+◌, ◌≤◌, ◌∙◌, List, length, length-take-le, nat_lt, if◌then◌else◌, take, ap, sym, subst, arith, blocks, View, IsWellFormed, Cells, view_of, IsSound, SameSpace}
-use Rattle.offset_allocator.specs.Relations.{SameState}
-use Rattle.offset_allocator.specs.View.{AreNames}
+use Rattle.offset_allocator.specs.{Relations.SameState, View.AreNames}
 use Rattle.offset_allocator.specs.declared.AllocatorOf.TheInside.{Inside}
 
 -- the fields, with the largest number of the index type

@@ -1,8 +1,7 @@
 -- The block that a request takes, and when there is one.
+use Rattle.offset_allocator.proofs.{Views.ViewSteps.place_at, Views.ViewSteps.no_place, Tallies.listed_named, Tallies.tally_append, Tallies.hit_cases, Tallies.one-same}
 use Rattle.offset_allocator.proofs.Common.{not, ◌≡◌, ◌≢◌, ℕ, ◌≤◌, Bool, true, false, ◌&&◌, List, [], ◌∷◌, ◌++◌, Option, Some, None, nat_eq, refl, sym, ap, arith, not-true, up, down, Block, View}
-use Rattle.offset_allocator.proofs.Common.{Place}
-use Rattle.offset_allocator.proofs.Common.{one, times, count_named, count_in_bin, bin_at, place_of, IsWellFormed}
-use Rattle.offset_allocator.proofs.{ViewSteps.place_at, ViewSteps.no_place, Tallies.listed_named, Tallies.tally_append, Tallies.hit_cases, Tallies.one-same}
+use Rattle.offset_allocator.proofs.Common.{Place, one, times, count_named, count_in_bin, bin_at, place_of, IsWellFormed}
 
 -- the free block of class c that is named x
 pub record Taken (v : View) (c x : ℕ) : Type 0 where

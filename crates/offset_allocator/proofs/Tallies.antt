@@ -1,7 +1,6 @@
 -- Sums over lists, and a test of names as a number.
 use Rattle.offset_allocator.proofs.Common.{◌≡◌, ◌≢◌, ℕ, zero, suc, ◌+◌, ◌≤◌, length, ◌⊎◌, List, [], ◌∷◌, ◌++◌, nat_eq, not, refl, sym, ap, ◌∙◌, arith, eq-eqb, ne_eqb, cases_eq, Block, tally, one}
-use Rattle.offset_allocator.proofs.Common.{units, times}
-use Rattle.offset_allocator.proofs.Common.{count_named, count_in_bin, used_of, free_part, View, IsNew, free_sizes, sum, sum_by-cons, if◌then◌else◌, AllByRecursion, filter}
+use Rattle.offset_allocator.proofs.Common.{units, times, count_named, count_in_bin, used_of, free_part, View, IsNew, free_sizes, sum, sum_by-cons, if◌then◌else◌, AllByRecursion, filter}
 
 -- a list of names without x
 abbrev pub without : ℕ → List ℕ → List ℕ

@@ -2,9 +2,9 @@
 use Rattle.std.specs.Prelude.{ℕ, zero, suc, List, [], ◌∷◌, ◌≡◌, ◌-◌, ◌<◌, ◌≤◌, eqb, map, length, slice_index}
 use Rattle.std.specs.Vec.{vec_capacity}
 use Rattle.offset_allocator.specs.Cells.{Cells, Node, link_of}
-use Rattle.offset_allocator.specs.declared.by_node.Node.{Node as Entry}
-use Rattle.offset_allocator.specs.declared.by_node.ByNode.TheInside.{Inside as NodesInside}
-use Rattle.offset_allocator.specs.declared.by_field.ByField.TheInside.{Inside as FieldsInside}
+use Rattle.offset_allocator.specs.declared.layouts.by_node.Node.{Node as Entry}
+use Rattle.offset_allocator.specs.declared.layouts.by_node.ByNode.TheInside.{Inside as NodesInside}
+use Rattle.offset_allocator.specs.declared.layouts.by_field.ByField.TheInside.{Inside as FieldsInside}
 
 -- what the chain of blocks sees of an entry
 abbrev pub node_of : {A : Type 0} → ℕ → (A → ℕ) → Entry A → Node

@@ -2,8 +2,7 @@
 //! two-level mask. It touches these links, the heads of the bins and the masks, and leaves the chain as it
 //! is.
 ghost use Rattle.std.specs.Prelude.{◌≡◌, ◌+◌, ◌-◌, ◌<◌, ◌≤◌, ◌≢◌, ℕ, false, List, [], ◌∷◌, slice_index};
-ghost use Rattle.std.specs.Prelude.{slice_set};
-ghost use Rattle.std.specs.Prelude.{length, replicate, MatchOption};
+ghost use Rattle.std.specs.Prelude.{slice_set, length, replicate, MatchOption};
 ghost use Rattle.offset_allocator.specs.Accesses.{Costs};
 ghost use Rattle.offset_allocator.specs.Cells.{AreEmpty, node};
 ghost use Rattle.offset_allocator.specs.Classes.{down};

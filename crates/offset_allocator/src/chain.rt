@@ -2,8 +2,7 @@
 //! leaves the lists in the bins as they are: one cell says of a node in no bin whether its block is used.
 
 ghost use Rattle.std.specs.Prelude.{ℕ, ◌≡◌, ◌+◌, ◌-◌, ◌<◌, ◌≤◌, ◌^◌, List, [], ◌∷◌, ◌++◌, length, false};
-ghost use Rattle.std.specs.Prelude.{Some, IfSome};
-ghost use Rattle.std.specs.Prelude.{MatchOption};
+ghost use Rattle.std.specs.Prelude.{Some, IfSome, MatchOption};
 ghost use Rattle.offset_allocator.specs.View.{Block, Place, free_block, is_used_at, count_named, place_of};
 ghost use Rattle.offset_allocator.specs.View.{units};
 ghost use Rattle.offset_allocator.specs.Accesses.{Costs};
@@ -77,7 +76,7 @@ pub(crate) fn after<T: Tables>(tables: &T, name: u32, count: &mut Accesses) -> O
 }
 
 // Sets the link back of the node that `link` names; without one, `name` is the last block.
-#[tactic(auto, using(crate::proofs::Nodes::lengths))]
+#[tactic(auto, using(crate::proofs::Linking::Nodes::lengths))]
 pub(crate) fn point_back<T: Tables>(
     tables: &mut T,
     last: &mut u32,
@@ -108,7 +107,7 @@ pub(crate) fn point_back<T: Tables>(
 }
 
 // Makes `name` the block after the one that `link` names, if any.
-#[tactic(auto, using(crate::proofs::Nodes::lengths))]
+#[tactic(auto, using(crate::proofs::Linking::Nodes::lengths))]
 pub(crate) fn point_on<T: Tables>(tables: &mut T, link: T::Index, name: u32, count: &mut Accesses)
     requires link { IfSome (link_of T.Index.MAX (T.Index.number link))
         (λ before. before < length (T.cells tables.old).chain.nodes) }
@@ -129,7 +128,7 @@ pub(crate) fn point_on<T: Tables>(tables: &mut T, link: T::Index, name: u32, cou
 
 /// Splits a block, which has this offset and `whole` units, after `size` units. The remainder becomes a free
 /// block directly after it, under the name that is returned. The caller has read the offset and the units.
-#[tactic(auto, using(crate::proofs::Nodes::lengths))]
+#[tactic(auto, using(crate::proofs::Linking::Nodes::lengths))]
 pub(crate) fn split<T: Tables>(
     store: &mut Store<T>,
     name: u32,
@@ -172,7 +171,7 @@ pub(crate) fn split<T: Tables>(
 
 /// Coalesces the free block `following` into the block directly before it; `whole` is the size of both. The
 /// name `following` is unused again.
-#[tactic(auto, using(crate::proofs::Nodes::lengths))]
+#[tactic(auto, using(crate::proofs::Linking::Nodes::lengths))]
 pub(crate) fn coalesce_after<T: Tables>(store: &mut Store<T>, name: u32, following: u32, whole: u32)
     requires place { (limit : ℕ) × (p : Place) × IsPlaceIn T.cells store.old limit name p }
     requires next { Some following ≡ (node (T.cells store.old.tables).chain name).after }
@@ -200,7 +199,7 @@ pub(crate) fn coalesce_after<T: Tables>(store: &mut Store<T>, name: u32, followi
 
 /// Coalesces the free block `previous` into the block directly after it; `whole` is the size of both. The
 /// name `previous` is unused again.
-#[tactic(auto, using(crate::proofs::Nodes::lengths))]
+#[tactic(auto, using(crate::proofs::Linking::Nodes::lengths))]
 pub(crate) fn coalesce_before<T: Tables>(store: &mut Store<T>, previous: u32, name: u32, whole: u32)
     requires place { (limit : ℕ) × (p : Place) × IsPlaceIn T.cells store.old limit name p }
     requires previous { Some previous ≡ (node (T.cells store.old.tables).chain name).before }
@@ -228,7 +227,7 @@ pub(crate) fn coalesce_before<T: Tables>(store: &mut Store<T>, previous: u32, na
 }
 
 /// Makes a block, which is in no bin, used or free.
-#[tactic(auto, using(crate::proofs::Nodes::lengths))]
+#[tactic(auto, using(crate::proofs::Linking::Nodes::lengths))]
 pub(crate) fn set_used<T: Tables>(tables: &mut T, name: u32, used: bool, count: &mut Accesses)
     requires { name < length (T.cells tables.old).chain.nodes }
     ensures place { (limit last spare_count : ℕ) (p : Place)
@@ -246,7 +245,7 @@ pub(crate) fn set_used<T: Tables>(tables: &mut T, name: u32, used: bool, count: 
 
 /// Splits the first `cut` units off a block. They become a free block directly before it, under the name that
 /// is returned.
-#[tactic(auto, using(crate::proofs::Nodes::lengths))]
+#[tactic(auto, using(crate::proofs::Linking::Nodes::lengths))]
 pub(crate) fn split_before<T: Tables>(store: &mut Store<T>, name: u32, cut: u32) -> u32
     requires place { (limit : ℕ) × (p : Place) × IsPlaceIn T.cells store.old limit name p }
     requires spare { 0 < store.old.spare_count }
@@ -283,7 +282,7 @@ pub(crate) fn split_before<T: Tables>(store: &mut Store<T>, name: u32, cut: u32)
 }
 
 /// Adds units to the last block.
-#[tactic(auto, using(crate::proofs::Nodes::lengths))]
+#[tactic(auto, using(crate::proofs::Linking::Nodes::lengths))]
 pub(crate) fn grow<T: Tables>(tables: &mut T, last: u32, more: u32, count: &mut Accesses)
     requires place { (limit spare_count : ℕ) × (before : List Block) × (b : Block)
         × HasPlace (T.cells tables.old).chain limit last spare_count last
@@ -307,7 +306,7 @@ pub(crate) fn grow<T: Tables>(tables: &mut T, last: u32, more: u32, count: &mut 
 }
 
 /// Leaves the last block fewer units.
-#[tactic(auto, using(crate::proofs::Nodes::lengths))]
+#[tactic(auto, using(crate::proofs::Linking::Nodes::lengths))]
 pub(crate) fn trim<T: Tables>(tables: &mut T, last: u32, size: u32, count: &mut Accesses)
     requires place { (limit spare_count : ℕ) × (before : List Block) × (b : Block)
         × HasPlace (T.cells tables.old).chain limit last spare_count last

@@ -1,51 +1,49 @@
-//! Laws: that a grant can be undone, and what holds of every allocator. Except `undo` and `unused_names`,
+//! Laws: that a grant can be undone, and what holds of every allocator. Except `undo` and `unused_nodes`,
 //! their functions do nothing. With them are the calls that leave an allocator as it is, with a count of
 //! their accesses.
-ghost use Rattle.std.specs.Prelude.{◌≡◌, ◌≢◌, ◌<◌, ◌≤◌, ◌+◌, ◌-◌, ◌*◌, ◌%◌, ◌↔◌, ℕ, List, ◌++◌, false};
-ghost use Rattle.std.specs.Prelude.{◌∷◌, []};
-ghost use Rattle.std.specs.Prelude.{Bool, IsTrue, None, Option, Some, length, min, reverse, sum};
+ghost use Rattle.std.specs.Prelude.{◌≡◌, ◌≢◌, ◌<◌, ◌≤◌, ◌+◌, ◌-◌, ◌*◌, ◌%◌, ◌↔◌, ℕ, List, ◌++◌, false, ◌∷◌};
+ghost use Rattle.std.specs.Prelude.{[], Bool, IsTrue, None, Option, Some, length, min, reverse, sum};
 ghost use Rattle.std.specs.Int.{IsPowerOfTwo};
 ghost use Rattle.std.specs.List.{AllByRecursion};
 ghost use Rattle.offset_allocator.specs.Accesses.{Costs};
-ghost use Rattle.offset_allocator.specs.Beside.{AreOfLive, IsWalk, first_live, last_live, live_after};
-ghost use Rattle.offset_allocator.specs.Beside.{live_before, live_handles};
+ghost use Rattle.offset_allocator.specs.Reporting.Beside.{AreOfLive, IsWalk, first_live, last_live};
+ghost use Rattle.offset_allocator.specs.Reporting.Beside.{live_after, live_before, live_handles};
 ghost use Rattle.offset_allocator.specs.Classes.{value, up, down};
 ghost use Rattle.offset_allocator.specs.View.{View, AreNames, Block, Handle, IsWellFormed, free_sizes};
 ghost use Rattle.offset_allocator.specs.View.{reported_free};
 ghost use Rattle.offset_allocator.specs.View.{reported_largest, padding_to, used_of, used_units};
 ghost use Rattle.offset_allocator.specs.Ranges.{Range, range_of, AreDisjoint};
-ghost use Rattle.offset_allocator.specs.Relations.{SameSpace, SameState, Aligns, Allocates, Extends, Frees, IsFresh};
-ghost use Rattle.offset_allocator.specs.Relations.{Resets};
-ghost use Rattle.offset_allocator.specs.Relocating.{Relocates};
-ghost use Rattle.offset_allocator.specs.Requests.{IsAlignment};
-ghost use Rattle.offset_allocator.specs.Reports.{IsReport};
+ghost use Rattle.offset_allocator.specs.Relations.{SameSpace, SameState, Aligns, Allocates, Extends, Frees};
+ghost use Rattle.offset_allocator.specs.Relations.{IsFresh, Resets};
+ghost use Rattle.offset_allocator.specs.Moving.Relocating.{Relocates};
+ghost use Rattle.offset_allocator.specs.Requests.{IsAlignment, CanGrant, HasRoomFor, IsWhy};
+ghost use Rattle.offset_allocator.specs.Reporting.Reports.{IsReport};
 ghost use Rattle.offset_allocator.specs.Resizing.{Grows, Shrinks};
-ghost use Rattle.offset_allocator.specs.Retracting.{Retracts};
-ghost use Rattle.offset_allocator.specs.Requests.{CanGrant, HasRoomFor, IsWhy};
-ghost use Rattle.offset_allocator.specs.State.{IsStateOf};
-ghost use Rattle.offset_allocator.specs.Statistics.{AreStatistics};
+ghost use Rattle.offset_allocator.specs.Moving.Retracting.{Retracts};
+ghost use Rattle.offset_allocator.specs.Saving.State.{IsStateOf};
+ghost use Rattle.offset_allocator.specs.Reporting.Statistics.{AreStatistics};
 ghost use Rattle.offset_allocator.specs.Tight.{AlignsTight, CanHold, IsWhyTight};
 ghost use Rattle.offset_allocator.specs.declared.reports.StorageReport.{StorageReport};
-ghost use Rattle.offset_allocator.specs.declared.statistics.Statistics.{Statistics};
+ghost use Rattle.offset_allocator.specs.declared.reports.statistics.Statistics.{Statistics};
 ghost use Rattle.offset_allocator.specs.declared.reports.Refusal.{Refusal};
 ghost use Rattle.offset_allocator.specs.declared.reports.Refusal.TheVariants.{TooLarge, Space, Fragmented};
-ghost use Rattle.offset_allocator.specs.declared.room.RoomCost.{RoomCost};
-ghost use Rattle.offset_allocator.specs.Room.{IsLeastCost, MakesRoom, ranges_of};
-ghost use Rattle.offset_allocator.specs.Compacting.{moves, AreSafe, Compacts, Move};
-ghost use Rattle.offset_allocator.specs.Copies.{pieces, copied, all_copied, ArePieces};
+ghost use Rattle.offset_allocator.specs.declared.moves.room.RoomCost.{RoomCost};
+ghost use Rattle.offset_allocator.specs.Moving.Room.{IsLeastCost, MakesRoom, ranges_of};
+ghost use Rattle.offset_allocator.specs.Moving.Compacting.{moves, AreSafe, Compacts, Move};
+ghost use Rattle.offset_allocator.specs.Moving.Pieces.{pieces, copied, all_copied, ArePieces};
 
 use crate::AllocatorOf;
 use crate::accesses::Accesses;
-pub use crate::beside::{
+pub use crate::moves::room::room_cost_counted;
+pub use crate::reports::beside::{
     first_live_counted, last_live_counted, live_after_counted, live_before_counted,
 };
-pub use crate::blocks::next_block_counted;
+pub use crate::reports::blocks::next_block_counted;
+pub use crate::reports::statistics::{is_empty_counted, statistics_counted};
 pub use crate::reports::{
     allocation_offset_counted, allocation_size_counted, is_live_counted, refusal_aligned_counted,
     refusal_counted, storage_report_counted, storage_report_full_counted,
 };
-pub use crate::room::room_cost_counted;
-pub use crate::statistics::{is_empty_counted, statistics_counted};
 use crate::store::Store;
 use crate::tables::Tables;
 pub use crate::tight::{refusal_tight_aligned_counted, refusal_tight_counted};
@@ -75,18 +73,18 @@ pub fn undo<T: Tables>(allocator: &mut AllocatorOf<T>, n: u32) -> bool
 
 /// The blocks fill the space, no two free ones side by side, and each bin holds the free blocks of its class.
 ///
-/// Lemmas over the definitions ask for this, such as `taken_back` of `proofs/ViewUndo.antt`.
+/// Lemmas over the definitions ask for this, such as `taken_back` of `proofs/Views/ViewUndo.antt`.
 pub fn is_well_formed<T: Tables>(allocator: &AllocatorOf<T>)
     ensures { IsWellFormed allocator.now }
 {
     allocator.formed();
 }
 
-/// The number of names that no block has: one more than the number of blocks that may still be added.
+/// The number of unused nodes: one more than the number of blocks that may still be added.
 ///
 /// An allocator has no other fields than these: one set of tables, and numbers. The patterns name each with
 /// its type, so a second list of blocks would not compile.
-pub fn unused_names<T: Tables>(allocator: &AllocatorOf<T>) -> u32
+pub fn unused_nodes<T: Tables>(allocator: &AllocatorOf<T>) -> u32
     ensures { result + length allocator.now.blocks ≡ allocator.now.max_allocs }
 {
     let AllocatorOf {
@@ -110,7 +108,7 @@ pub fn unused_names<T: Tables>(allocator: &AllocatorOf<T>) -> u32
     let _spare_count: &u32 = spare_count;
     let _tables: &T = tables;
     let _accesses: &Accesses = accesses;
-    allocator.names_left()
+    allocator.unused_nodes()
 }
 
 /// The units of the used and of the free blocks add up to the size of the space.

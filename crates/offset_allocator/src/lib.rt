@@ -19,72 +19,51 @@
 #![tactic(auto)]
 
 ghost use Rattle.std.specs.Prelude.{ℕ, ◌≡◌, ◌↔◌, ◌+◌, ◌-◌, ◌*◌, ◌/◌, ◌%◌, ◌<◌, ◌≤◌, nat_lt, if◌then◌else◌};
-ghost use Rattle.std.specs.Prelude.{min, None};
-ghost use Rattle.std.specs.Prelude.{false, true, IsTrue, IsSome, IfSome, IfOk, length, option_map};
+ghost use Rattle.std.specs.Prelude.{min, None, false, true, IsTrue, IsSome, IfSome, IfOk, length, option_map};
 ghost use Rattle.offset_allocator.specs.Accesses.{Costs};
 ghost use Rattle.offset_allocator.specs.Ranges.{Range, range_of, size_of, Grants, IsLive, KeepsAll};
 ghost use Rattle.offset_allocator.specs.Ranges.{KeepsOthers};
-ghost use Rattle.offset_allocator.specs.Requests.{IsGoodRefusal};
+ghost use Rattle.offset_allocator.specs.Requests.{IsGoodRefusal, IsAlignment, IsSplitNearBest, CanGrant};
+ghost use Rattle.offset_allocator.specs.Requests.{IsWhy, HasRoomFor, blocks_needed, units_needed};
 ghost use Rattle.offset_allocator.specs.View.{count_named, is_full, free_sizes, reported_largest, used_of};
 ghost use Rattle.offset_allocator.specs.Relations.{Allocates, Aligns, Frees, Extends, CanExtend};
-ghost use Rattle.offset_allocator.specs.Requests.{IsAlignment};
 ghost use Rattle.offset_allocator.specs.Relations.{SameState, IsFresh, Resets};
-ghost use Rattle.offset_allocator.specs.Requests.{IsSplitNearBest};
-ghost use Rattle.offset_allocator.specs.Reports.{IsReport, IsFullReport};
-ghost use Rattle.offset_allocator.specs.Requests.{CanGrant, IsWhy, HasRoomFor};
-ghost use Rattle.offset_allocator.specs.Requests.{blocks_needed};
-ghost use Rattle.offset_allocator.specs.Requests.{units_needed};
-ghost use Rattle.offset_allocator.specs.Listing.{listing};
+ghost use Rattle.offset_allocator.specs.Reporting.Reports.{IsReport, IsFullReport};
+ghost use Rattle.offset_allocator.specs.Reporting.Listing.{listing};
 
 mod accesses;
-mod beside;
 mod bins;
-mod blocks;
-mod building;
-mod by_field;
-mod by_node;
 mod chain;
-mod compact;
-mod copies;
-mod copying;
 pub mod ext;
-mod fills;
-mod gap;
-mod gathering;
 mod handle;
 mod index;
 pub mod laws;
-mod lengths;
+mod layouts;
+mod moves;
 mod neighbours;
 mod nonmax;
-mod relocate;
 mod reports;
 mod resize;
-mod restoring;
-mod retract;
-mod room;
-mod saving;
 pub mod small_float;
-mod state;
-mod statistics;
+mod states;
 mod steps;
 mod store;
 mod tables;
 mod tight;
 
 pub use accesses::Accesses;
-pub use blocks::{Block, BlocksOf};
-pub use by_field::ByField;
-pub use by_node::ByNode;
-pub use compact::Move;
-pub use copies::{MovePieces, Piece};
 pub use handle::Allocation;
 pub use index::{NodeIndex, NodeIndexNonMax};
+pub use layouts::by_field::ByField;
+pub use layouts::by_node::ByNode;
+pub use moves::compact::Move;
+pub use moves::pieces::{MovePieces, Piece};
+pub use moves::room::RoomCost;
 pub use nonmax::{NonMaxU16, NonMaxU32};
+pub use reports::blocks::{Block, BlocksOf};
+pub use reports::statistics::Statistics;
 pub use reports::{Refusal, StorageReport, StorageReportFull, StorageReportFullRegion};
-pub use room::RoomCost;
-pub use state::{StateFault, StateFaultKind};
-pub use statistics::Statistics;
+pub use states::state::{StateFault, StateFaultKind};
 use std::alloc::{AllocError, Global};
 use std::fmt;
 use std::marker::Model;
@@ -554,7 +533,7 @@ impl<T: Tables> AllocatorOf<T> {
         // The step as a whole: whether it is done, and what the last block is then.
         ensures step { Extends more self.old self.new result }
     {
-        let left = self.names_left();
+        let left = self.unused_nodes();
         if more == 0 {
             return true;
         }

@@ -5,14 +5,12 @@ ghost use Rattle.offset_allocator.specs.Accesses.{Costs};
 ghost use Rattle.offset_allocator.specs.Classes.{down};
 ghost use Rattle.offset_allocator.specs.Cells.{node};
 ghost use Rattle.offset_allocator.specs.View.{Place, free_end, free_start, push, remove_all, free_part};
-ghost use Rattle.offset_allocator.specs.View.{without_start, used_block, units, push_all};
+ghost use Rattle.offset_allocator.specs.View.{without_start, used_block, units, push_all, AreInBins};
 ghost use Rattle.offset_allocator.specs.Chain.{HasPlace, IsFreeAfter, IsFreeBefore, coalesced_before};
 ghost use Rattle.offset_allocator.specs.Chain.{coalesced_after};
-ghost use Rattle.offset_allocator.specs.Bins.{ListsOnly};
-ghost use Rattle.offset_allocator.specs.View.{AreInBins};
+ghost use Rattle.offset_allocator.specs.Bins.{ListsOnly, IsUnlisted};
 ghost use Rattle.offset_allocator.specs.Store.{IsPlaceIn, AreBinned, bins_of, unused_of};
 ghost use Rattle.offset_allocator.specs.Names.{AreTaken, names_of};
-ghost use Rattle.offset_allocator.specs.Bins.{IsUnlisted};
 
 use crate::accesses::Accesses;
 use crate::small_float::uint_to_float_round_down;

@@ -6,14 +6,17 @@ ghost use Rattle.offset_allocator.specs.Accesses.{Costs};
 ghost use Rattle.offset_allocator.specs.Classes.{value};
 ghost use Rattle.offset_allocator.specs.View.{free_sizes, reported_largest};
 ghost use Rattle.offset_allocator.specs.Ranges.{Range, range_of, size_of, IsLive};
-ghost use Rattle.offset_allocator.specs.Requests.{IsAlignment};
-ghost use Rattle.offset_allocator.specs.Reports.{IsReport, IsFullReport};
-ghost use Rattle.offset_allocator.specs.Requests.{CanGrant, IsWhy, blocks_needed};
-ghost use Rattle.offset_allocator.specs.Requests.{units_needed};
+ghost use Rattle.offset_allocator.specs.Requests.{IsAlignment, CanGrant, IsWhy, blocks_needed, units_needed};
+ghost use Rattle.offset_allocator.specs.Reporting.Reports.{IsReport, IsFullReport};
+
+pub(crate) mod beside;
+pub(crate) mod blocks;
+pub(crate) mod lengths;
+pub(crate) mod statistics;
 
 use crate::accesses::Accesses;
 use crate::handle::Allocation;
-use crate::lengths::lengths_of;
+use crate::reports::lengths::lengths_of;
 use crate::small_float::{float_to_uint, uint_to_float_round_down, uint_to_float_round_up};
 use crate::tables::Tables;
 use crate::{AllocatorOf, bins};
@@ -162,7 +165,7 @@ pub fn storage_report_counted<T: Tables>(
     ensures accesses { Costs 0 8 count.old count.new }
     ensures accesses_min { 1 ≤ reported_largest allocator.now → count.old + 1 ≤ count.new }
 {
-    if allocator.names_left() < 2 {
+    if allocator.unused_nodes() < 2 {
         return StorageReport {
             total_free_space: 0,
             largest_free_region: 0,
@@ -245,7 +248,7 @@ pub fn refusal_aligned_counted<T: Tables>(
     let blocks = align.min(2);
     let units = size as u64 + (align - 1) as u64;
     let largest = uint_to_float_round_down(allocator.size);
-    if allocator.names_left() <= blocks {
+    if allocator.unused_nodes() <= blocks {
         return Some(Refusal::Nodes);
     }
     if units > u32::MAX as u64 {

@@ -2,21 +2,19 @@
 //! here too. Each leaves an allocator whose blocks and bins agree, and whose `free_total` is the sum of its
 //! free units.
 ghost use Rattle.std.specs.Prelude.{◌≡◌, ◌↔◌, ◌+◌, ◌-◌, ◌*◌, ◌<◌, ◌≤◌, ◌≢◌, ℕ, [], ◌∷◌, length, replicate};
-ghost use Rattle.std.specs.Prelude.{None, false, true};
-ghost use Rattle.std.specs.Prelude.{IsTrue, IsSome, IfSome, Some};
+ghost use Rattle.std.specs.Prelude.{None, false, true, IsTrue, IsSome, IfSome, Some};
 ghost use Rattle.offset_allocator.specs.Accesses.{Costs};
 ghost use Rattle.offset_allocator.specs.Classes.{up, down};
 ghost use Rattle.offset_allocator.specs.Cells.{IsBare};
 ghost use Rattle.offset_allocator.specs.Bins.{IsFoundFrom};
 ghost use Rattle.offset_allocator.specs.Store.{AreBinned, bins_of};
 ghost use Rattle.offset_allocator.specs.Ranges.{range_of, IsLive, KeepsAll, KeepsOthers};
-ghost use Rattle.offset_allocator.specs.Requests.{NewestHolds};
+ghost use Rattle.offset_allocator.specs.Requests.{NewestHolds, HasRoomFor, blocks_needed, units_needed};
 ghost use Rattle.offset_allocator.specs.View.{IsWellFormed, bin_at, ends_used, padding_to, free_block, push};
 ghost use Rattle.offset_allocator.specs.View.{last_used, used_of};
 ghost use Rattle.offset_allocator.specs.Relations.{Splits, Aligns, Frees, Adds, SameState, Resets};
 ghost use Rattle.offset_allocator.specs.Relations.{FreesLast, IsEmpty};
 ghost use Rattle.offset_allocator.specs.Soundness.{IsSound, view_of};
-ghost use Rattle.offset_allocator.specs.Requests.{HasRoomFor, blocks_needed, units_needed};
 
 use crate::accesses::Accesses;
 use crate::handle::Allocation;
@@ -106,8 +104,8 @@ impl<T: Tables> AllocatorOf<T> {
         self.store.last = 0;
     }
 
-    /// How many names no block has: of nodes that were made, and of those that may still be.
-    pub(crate) fn names_left(&self) -> u32
+    /// How many nodes no block has: of those that were made, and of those that may still be.
+    pub(crate) fn unused_nodes(&self) -> u32
         ensures { result + length self.now.blocks ≡ self.now.max_allocs }
     {
         self.max_allocs - self.block_count()
@@ -119,7 +117,7 @@ impl<T: Tables> AllocatorOf<T> {
     pub(crate) fn has_room_for(&self, blocks: u32) -> bool
         ensures { IsTrue result ↔ HasRoomFor blocks self.now }
     {
-        self.store.spare_count > blocks || self.names_left() > blocks
+        self.store.spare_count > blocks || self.unused_nodes() > blocks
     }
 
     /// Grants `size` units of the newest block of a class, beginning at the first multiple of `align` in that

@@ -3,11 +3,9 @@
 //! neither counts.
 
 ghost use Rattle.std.specs.Prelude.{◌≡◌, ◌≢◌, ◌+◌, ◌-◌, ◌<◌, ◌≤◌, false, Some, [], ◌∷◌, ◌++◌, length};
-ghost use Rattle.std.specs.Prelude.{slice_set};
-ghost use Rattle.std.specs.Prelude.{slice_index, IfOk};
+ghost use Rattle.std.specs.Prelude.{slice_set, slice_index, IfOk};
 ghost use Rattle.offset_allocator.specs.Cells.{Cells, AreEmpty, AreShaped, IsBare, link_of, mark_of, node};
-ghost use Rattle.offset_allocator.specs.Cells.{put};
-ghost use Rattle.offset_allocator.specs.Cells.{with_node, with_spare};
+ghost use Rattle.offset_allocator.specs.Cells.{put, with_node, with_spare};
 
 use crate::accesses::Accesses;
 use crate::index::NodeIndex;

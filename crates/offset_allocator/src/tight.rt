@@ -2,8 +2,7 @@
 //! bins from the class of the request on are walked. It changes the order of one bin, then grants as
 //! `allocate`.
 ghost use Rattle.std.specs.Prelude.{◌≡◌, ◌↔◌, ◌+◌, ◌*◌, ◌<◌, ◌≤◌, ◌%◌, ◌⊎◌, ◌++◌, ◌∷◌, ℕ, None, Some, false};
-ghost use Rattle.std.specs.Prelude.{length};
-ghost use Rattle.std.specs.Prelude.{nat_le, IsSome, IfSome};
+ghost use Rattle.std.specs.Prelude.{length, nat_le, IsSome, IfSome};
 ghost use Rattle.std.specs.List.{find};
 ghost use Rattle.offset_allocator.specs.Accesses.{Costs};
 ghost use Rattle.offset_allocator.specs.Bins.{HasBins, IsBinned, bins_in};
@@ -12,10 +11,9 @@ ghost use Rattle.offset_allocator.specs.Ranges.{Grants};
 ghost use Rattle.offset_allocator.specs.Relations.{Aligns, Allocates, SameState, Splits};
 ghost use Rattle.offset_allocator.specs.Requests.{IsAlignment};
 ghost use Rattle.offset_allocator.specs.Requests.{CanGrant, HasRoomFor, blocks_needed, units_needed};
-ghost use Rattle.offset_allocator.specs.Statistics.{greatest};
+ghost use Rattle.offset_allocator.specs.Reporting.Statistics.{greatest};
 ghost use Rattle.offset_allocator.specs.Tight.{AlignsTight, CanHold, FillsFirst, IsWhyTight, first_holding};
-ghost use Rattle.offset_allocator.specs.Tight.{holds_in};
-ghost use Rattle.offset_allocator.specs.Tight.{listed_from, with_first};
+ghost use Rattle.offset_allocator.specs.Tight.{holds_in, listed_from, with_first};
 ghost use Rattle.offset_allocator.specs.View.{IsWellFormed, Place, bin_at, free_sizes, padding_to};
 
 use crate::accesses::Accesses;
@@ -112,7 +110,7 @@ pub fn refusal_tight_aligned_counted<T: Tables>(
         + 6 * length (listed_from (down size) allocator.now.bins)) count.old count.new }
 {
     allocator.formed();
-    if allocator.names_left() <= align.min(2) {
+    if allocator.unused_nodes() <= align.min(2) {
         return Some(Refusal::Nodes);
     }
     if size > allocator.size {

@@ -3,32 +3,20 @@ use Rattle.offset_calls.proofs.Common.{◌≡◌, ℕ, ◌+◌, ◌-◌, ◌*◌
 use Rattle.offset_calls.proofs.Common.{ap, ap₂, subst, subst₂, ◌∙◌, inl, inr, arith, eq-eqb, ne_eqb, le-leb, cases_eq, cases_lt, true≢false, false≢true, lt-leb, map-append, number_without, State}
 use Rattle.offset_calls.proofs.Common.{is_free, has_number, free_sizes, place_of, chosen_place, units_at_start, without_start, free_part, stamp_of_call, fits, Call, Reply, Answer, Compacted, Offset}
 use Rattle.offset_calls.proofs.Common.{Refused_for, Outcome, starts_free, resize, resized, replies_only, number, move_of, moves, gathered, compact, offset_at, reason, step, replies, renumber}
-use Rattle.offset_calls.proofs.Common.{number_with, raise_move, raise}
-use Rattle.offset_script.specs.Totals.{live}
+use Rattle.offset_calls.proofs.Common.{number_with, raise_move, raise, option_map, Some, Nodes, and_parts, is_short_of, total}
+use Rattle.offset_script.specs.{Totals.live, Machine.is_taken_before}
 use Rattle.offset_script.proofs.Alike.{IsAlike, IsMatched, IsFreshKind, alike_step, same_placed, same_quiet, same_leaves, fresh_kinds, matched_in_new, agree_in_new, either}
+use Rattle.offset_script.proofs.{Alike.IsSameOutcome, Alike.same_granted, Members.IsIn, Members.in_append, Members.in_left, Members.in_right, Tests.if_same, Found.found_at, Labels.map_three}
+use Rattle.offset_script.proofs.{Pairs.same_sizes, Tests.same_and, Members.in_parts}
 use Rattle.offset_script.proofs.Pairs.{Kind, Lives, Frees, Pair, pair, left_tag, right_tag, left, right, lefts, rights, AreAgreed, IsSameOrder, IsSamePlace, neither, both, same_free, same_total}
-use Rattle.offset_script.proofs.Pairs.{same_units, same_short, same_free_sizes, same_chosen, pair_free_part, lefts_free_part, rights_free_part, in_free_part}
-use Rattle.offset_script.proofs.{Members.IsIn, Members.in_append, Members.in_left, Members.in_right, Tests.if_same, Found.found_at}
+use Rattle.offset_script.proofs.Pairs.{same_units, same_short, same_free_sizes, same_chosen, pair_free_part, lefts_free_part, rights_free_part, in_free_part, AreAllAgreed, same_tests}
 use Rattle.std.specs.Option.{option_or}
-use Rattle.offset_allocator.specs.{Classes.down, View.padding_to}
-use Rattle.offset_script.proofs.Alike.{IsSameOutcome, same_granted}
-use Rattle.offset_script.proofs.Pairs.{AreAllAgreed, same_tests}
-use Rattle.offset_script.proofs.Tests.{same_and}
-use Rattle.offset_script.specs.Machine.{is_taken_before}
-use Rattle.offset_calls.specs.Calls.{answered}
-use Rattle.offset_script.proofs.Members.{in_parts}
+use Rattle.offset_allocator.specs.{Classes.down, View.padding_to, Classes.value, Classes.up, declared.moves.room.RoomCost.RoomCost}
+use Rattle.offset_calls.specs.Calls.{answered, Beside, beside, make_room, remakes, Made_room, Room_costs}
 use Rattle.offset_calls.specs.declared.calls.LiveRange.{LiveRange}
-use Rattle.offset_calls.specs.Calls.{Beside, beside}
-use Rattle.offset_calls.specs.Ending.{first_live, last_live, live_before, live_after}
-use Rattle.offset_calls.specs.Histories.{raise_range}
+use Rattle.offset_calls.specs.{Ending.first_live, Ending.last_live, Ending.live_before, Ending.live_after, Histories.raise_range, Room.Split, Room.cheapest, Room.slid}
 use Rattle.offset_calls.proofs.EndPairs.{same_can, retracted_alike, same_relocated, IsSent, AreSent, sent_first, sent_last}
-use Rattle.offset_calls.proofs.Common.{option_map}
 use Rattle.offset_calls.specs.Tight.{holds, better, holding_place, request_tight, allocate_tight, lack, reason_held}
-use Rattle.offset_calls.proofs.Common.{Some, Nodes, and_parts, is_short_of, total}
-use Rattle.offset_allocator.specs.{Classes.value, Classes.up, declared.room.RoomCost.RoomCost}
-use Rattle.offset_script.proofs.{Labels.map_three, Pairs.same_sizes}
-use Rattle.offset_calls.specs.Calls.{make_room, remakes, Made_room, Room_costs}
-use Rattle.offset_calls.specs.Room.{Split, cheapest, slid}
 use Rattle.offset_calls.specs.Room as room
 use Rattle.offset_calls.proofs.Splits.{IsSameSplit, no_split, same_split, same_cost, same_cheapest, same_room_cost}
 use Rattle.offset_script.specs.Machine as machine

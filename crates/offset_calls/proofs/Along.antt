@@ -101,7 +101,7 @@ all_kept_played size limit g ts calls found low p =
     let r = p.represents [] in
     all_kept _ _ _ r.formed (well_calls (map (meant (ts ++ [])) calls) _ (well_start size limit low)) r.agrees
 
-after-append : (xs ys : List Call) (s : State) → after (xs ++ ys) s ≡ after ys (after xs s)
+pub after-append : (xs ys : List Call) (s : State) → after (xs ++ ys) s ≡ after ys (after xs s)
 after-append [] ys s = refl
 after-append (c ∷ xs) ys s = after-append xs ys (step c s).state
 

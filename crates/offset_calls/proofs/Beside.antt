@@ -1,23 +1,50 @@
 -- The live ranges beside one another: their numbers, and those of the plain machine.
-use Rattle.offset_calls.proofs.Common.{◌≡◌, ℕ, ◌+◌, Bool, true, false, not, List, [], ◌∷◌, ◌++◌, length, reverse, Option, Some, None, option_map, option_and_then, if◌then◌else◌}
-use Rattle.offset_calls.proofs.Common.{refl, sym, ap, ap₂, subst, subst₂, ◌∙◌, inl, inr, AllByRecursion}
-use Rattle.offset_calls.proofs.Common.{reverse-append, Block, View, Handle, Place, IsWellFormed, units, Placed, placed, listing, kept_name}
+use Rattle.offset_calls.proofs.Common.{◌≡◌, ℕ, ◌+◌, Bool, true, false, not, List, [], ◌∷◌, ◌++◌, length, reverse, Option, Some, None, option_map, option_and_then, if◌then◌else◌, refl, sym, ap, ap₂}
+use Rattle.offset_calls.proofs.Common.{subst, subst₂, ◌∙◌, inl, inr, arith, AllByRecursion, reverse-append, Block, View, Handle, Place, IsWellFormed, units, Placed, placed, listing, kept_name}
 use Rattle.offset_calls.proofs.Common.{AreKept, Tag, Live, Free, State, is_free, Ticket, Guard, IsLedger, handles_of}
-use Rattle.std.specs.List.{slice_index}
-use Rattle.std.specs.Option.{option_or}
-use Rattle.offset_allocator.specs.View.{place_of}
-use Rattle.offset_allocator.specs.Beside.{first_handle, first_live, last_live, live_before, live_after}
-use Rattle.offset_allocator.specs.Listing.{placed_at}
-use Rattle.offset_allocator.proofs.ViewSteps.{place_at}
+use Rattle.std.specs.{List.slice_index, Option.option_or}
+use Rattle.offset_allocator.specs.{View.place_of, Reporting.Listing.placed_at}
+use Rattle.offset_allocator.specs.Reporting.Beside.{first_handle, first_live, last_live, live_before, live_after}
+use Rattle.offset_allocator.proofs.Views.ViewSteps.{place_at}
 use Rattle.offset_guarded.specs.Guard.{ticket_at}
 use Rattle.offset_script.proofs.{Agreement.Label, Agreement.by_name, Agreement.HasBlocksOf, Chosen.Spot, Chosen.named_place, Chosen.plain_place}
 use Rattle.offset_script.proofs.{Ends.total_units, Labels.names, Labels.tags, Members.IsIn, Members.in_left, Members.in_right, Well.IsWell}
 use Rattle.offset_calls.specs.declared.calls.LiveRange.{LiveRange}
-use Rattle.offset_calls.specs.Calls.{Beside}
-use Rattle.offset_calls.specs.Steps.{AreNumbers, Finds, IsKeptSome, IsNumbered}
+use Rattle.offset_calls.specs.{Calls.Beside, Steps.AreNumbers, Steps.Finds, Steps.IsKeptSome, Steps.IsNumbered}
 use Rattle.offset_calls.specs.Ending as plain
 use Rattle.offset_calls.proofs.{Compacted.one_number, Kept.number_kept, Resized.found, Resized.spot, Tickets.kept_serial}
-use Rattle.offset_calls.proofs.Numbering.{AreAllKept, kept-listing, kept-placed, kept-reverse}
+
+-- ---- grants that are kept
+
+abbrev AreUsedKept : List (Option Handle) → List Block → Type 0
+AreUsedKept handles bs = AllByRecursion (λ (b : Block). b.used ≡ true → (k : ℕ) × (kept_name handles k ≡ Some b.name)) bs
+
+-- the grants of placed blocks are kept
+abbrev AreAllKept : List (Option Handle) → List Placed → Type 0
+AreAllKept handles ps = AllByRecursion (λ (p : Placed). (g : Handle) → p.handle ≡ Some g → (k : ℕ) × (kept_name handles k ≡ Some g.name)) ps
+
+kept-append : (handles : List (Option Handle)) (ps qs : List Placed) → AreAllKept handles ps → AreAllKept handles qs → AreAllKept handles (ps ++ qs)
+kept-append handles [] qs a b = b
+kept-append handles (p ∷ ps) qs a b = (a.0, kept-append handles ps qs a.1 b)
+
+kept-reverse : (handles : List (Option Handle)) (ps : List Placed) → AreAllKept handles ps → AreAllKept handles (reverse ps)
+kept-reverse handles [] a = tt
+kept-reverse handles (p ∷ ps) a = subst (AreAllKept handles) (sym (reverse-append (p ∷ []) ps)) (kept-append handles (reverse ps) (p ∷ []) (kept-reverse handles ps a.1) (a.0, tt))
+
+-- the grant of a block
+abbrev grant_if : Bool → ℕ → ℕ → Option Handle
+grant_if u x o = if u then Some (record { name = x; offset = o }) else None
+
+kept-placed : (handles : List (Option Handle)) (o : ℕ) (bs : List Block) → AreUsedKept handles bs → AreAllKept handles (placed o bs)
+kept-placed handles o [] a = tt
+kept-placed handles o (b ∷ bs) a = (go b.used refl, kept-placed handles (o + b.size) bs a.1)
+  where
+    go : (u : Bool) → b.used ≡ u → (g : Handle) → grant_if b.used b.name o ≡ Some g → (k : ℕ) × (kept_name handles k ≡ Some g.name)
+    go true u g e = search (arith, option_map)
+    go false u g e = absurd (let f : grant_if false b.name o ≡ Some g = sym (ap (λ v. grant_if v b.name o) u) ∙ e in cc)
+
+kept-listing : (v : View) (handles : List (Option Handle)) → AreKept v handles → AreAllKept handles (listing v)
+kept-listing v handles a = kept-reverse handles (placed 0 v.blocks) (kept-placed handles 0 v.blocks a)
 
 -- ---- the first grant of placed blocks
 
@@ -35,9 +62,6 @@ front_kept v handles a = first_kept handles (placed 0 v.blocks) (kept-placed han
 
 pub last_kept : (v : View) (handles : List (Option Handle)) → AreKept v handles → IsKeptSome handles (last_live v)
 last_kept v handles a = first_kept handles (listing v) (kept-listing v handles a)
-
-abbrev AreUsedKept : List (Option Handle) → List Block → Type 0
-AreUsedKept handles bs = AllByRecursion (λ (b : Block). b.used ≡ true → (k : ℕ) × (kept_name handles k ≡ Some b.name)) bs
 
 kept_parts : (handles : List (Option Handle)) (xs ys : List Block) → AreUsedKept handles (xs ++ ys) → AreUsedKept handles xs × AreUsedKept handles ys
 kept_parts handles [] ys a = (tt, a)

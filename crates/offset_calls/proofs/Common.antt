@@ -6,8 +6,8 @@ pub use Rattle.std.proofs.Common.{unwrap_or, leb-false, slice_set, rules, take_a
 pub use Rattle.std.proofs.lemmas.Bool.{cases_eq, cases_lt, false≢true, lt-leb, and_parts, and_right}
 pub use Rattle.std.proofs.lemmas.List.{map-append, length-map, take_more, get_or_past, length-replicate, reverse-append, drop_all}
 pub use Rattle.std.specs.List.{AllByRecursion, FoldsTo}
-pub use Rattle.offset_allocator.specs.Compacting.{live, Compacts}
-pub use Rattle.offset_allocator.specs.Listing.{Placed, placed, listing, as_placed}
+pub use Rattle.offset_allocator.specs.Moving.Compacting.{live, Compacts}
+pub use Rattle.offset_allocator.specs.Reporting.Listing.{Placed, placed, listing, as_placed}
 pub use Rattle.offset_allocator.specs.Ranges.{Range, size_of}
 pub use Rattle.offset_allocator.specs.Relations.{IsFresh, SameSpace, Extends, Frees, Resets}
 pub use Rattle.offset_allocator.specs.Requests.{HasRoomFor, IsWhy, size_needed, blocks_needed, units_needed}
@@ -16,15 +16,14 @@ pub use Rattle.offset_allocator.specs.declared.reports.Refusal.TheVariants.{Node
 pub use Rattle.offset_calls.specs.Calls.{Reply, Answer, Compacted, Offset, Refused_for, Outcome, starts_free, resize, resized, replies_only, number, move_of, moves, gathered, compact, offset_at}
 pub use Rattle.offset_calls.specs.Calls.{shortage, reason, step, replies, after, is_valid, reply_view, Move, Resized, can_shrink, can_grow, move_view}
 pub use Rattle.offset_calls.specs.Histories.{renumber, number_with, raise_move, raise, IsQuestion, replies_renumbered, without_offset}
-pub use Rattle.offset_calls.specs.Steps.{AreKept, AreNumbered, Takes, IsReason, AreMoves, joined}
+pub use Rattle.offset_calls.specs.Steps.{AreKept, AreNumbered, Takes, IsReason}
 pub use Rattle.offset_calls.specs.Tickets.{IsGrantOf, IsGrown, IsLedger, Serves, IsNumberOf, handle_of, handles_of, is_that, live_name, meant, number_in, number_of, passed, ticket_of, AreInOrder}
 pub use Rattle.offset_calls.specs.Tickets.{IsStored}
 pub use Rattle.offset_calls.specs.declared.calls.Call.{Call}
 pub use Rattle.offset_guarded.specs.Guard.{Guard, AreAlike, IsLive, range_of, Grants, IsSame, KeepsAll, KeepsLive, KeepsOthers, KeepsSerials, KeepsSizes, handle_in, serial_of}
 pub use Rattle.offset_guarded.specs.declared.ticket.Ticket.{Ticket}
 pub use Rattle.offset_script.specs.Histories.{number_without, HasNoLive, IsNest, IsCollapse, collapse, outline, releases}
-pub use Rattle.offset_script.specs.Machine.{State, is_free, has_number, total, free_sizes, place_of, chosen_place, is_short_of}
-pub use Rattle.offset_script.specs.Machine.{units_at_start, without_start, free_part, stamp_of_call, fits, start, Tag}
-pub use Rattle.offset_script.specs.Machine.{Live, Free, stamp_of_padding}
+pub use Rattle.offset_script.specs.Machine.{State, is_free, has_number, total, free_sizes, place_of, chosen_place, is_short_of, units_at_start, without_start, free_part, stamp_of_call, fits, start}
+pub use Rattle.offset_script.specs.Machine.{Tag, Live, Free, stamp_of_padding}
 pub use Rattle.offset_script.specs.Steps.{kept_name, IfNamed, Stays, IsKept}
 pub use Rattle.offset_script.specs.declared.scripts.Command.{Command}

@@ -1,24 +1,17 @@
 -- The same call in the same state, with the same handles kept, has the same reply, and leaves the same state and handles.
-use Rattle.offset_calls.proofs.Common.{◌≡◌, ℕ, zero, suc, Bool, true, false, List, [], ◌∷◌, length, Option, Some, None, IfSome, refl, sym, ap, ap₂, subst, ◌∙◌, inl, inr, arith}
-use Rattle.offset_calls.proofs.Common.{subst₂, is_some, option_map, if◌then◌else◌, cases_eq, cases_lt, false≢true, View, Handle, IsWellFormed, kept_name, IfNamed, Stays, IsKept, Call, Command, Reply, Answer, Move, Range, Takes, AreNumbered, IsReason, size_of}
-use Rattle.offset_calls.proofs.Common.{blocks_needed, units_needed}
-use Rattle.offset_allocator.specs.Relations.{SameState}
-use Rattle.offset_allocator.specs.Classes.{value, up}
-use Rattle.offset_allocator.specs.Ranges.{range_of, Grants, IsLive, KeepsOthers}
-use Rattle.offset_allocator.specs.Relations.{SameSpace, Splits, Allocates, Aligns, Extends}
-use Rattle.offset_allocator.specs.Relocating.{Relocates}
-use Rattle.offset_allocator.specs.Resizing.{Grows, HasUnits, Resizes, Shrinks}
-use Rattle.offset_allocator.specs.Retracting.{Retracts}
-use Rattle.offset_allocator.specs.Room.{MakesRoom}
-use Rattle.offset_allocator.specs.Tight.{AlignsTight}
-use Rattle.offset_allocator.specs.View.{padding_to}
+use Rattle.offset_calls.proofs.Common.{◌≡◌, ℕ, zero, suc, Bool, true, false, List, [], ◌∷◌, length, Option, Some, None, IfSome, refl, sym, ap, ap₂, subst, ◌∙◌, inl, inr, arith, subst₂, is_some}
+use Rattle.offset_calls.proofs.Common.{option_map, if◌then◌else◌, cases_eq, cases_lt, false≢true, View, Handle, IsWellFormed, kept_name, IfNamed, Stays, IsKept, Call, Command, Reply, Answer, Move}
+use Rattle.offset_calls.proofs.Common.{Range, Takes, AreNumbered, IsReason, size_of, blocks_needed, units_needed}
+use Rattle.offset_allocator.specs.Relations.{SameState, SameSpace, Splits, Allocates, Aligns, Extends}
+use Rattle.offset_allocator.specs.{Classes.value, Classes.up, Ranges.range_of, Ranges.Grants, Ranges.IsLive, Ranges.KeepsOthers, Moving.Relocating.Relocates, Resizing.Grows, Resizing.HasUnits}
+use Rattle.offset_allocator.specs.{Resizing.Resizes, Resizing.Shrinks, Moving.Retracting.Retracts, Moving.Room.MakesRoom, Tight.AlignsTight, View.padding_to}
 use Rattle.offset_allocator.specs.declared.reports.Refusal.{Refusal}
-use Rattle.offset_allocator.specs.declared.room.RoomCost.{RoomCost}
-use Rattle.offset_allocator.specs.Compacting as named
+use Rattle.offset_allocator.specs.declared.moves.room.RoomCost.{RoomCost}
+use Rattle.offset_allocator.specs.Moving.Compacting as named
 use Rattle.offset_allocator.proofs.Decided.{aligns_decided, allocates_decided, filled_grants, relocates_decided, tight_decided}
 use Rattle.offset_allocator.proofs.DecidedChanges.{compacts_decided, extends_decided, frees_decided, grows_decided, resets_decided, retracts_decided, shrinks_decided}
-use Rattle.offset_allocator.proofs.{DecidedRooms.least_decided, DecidedRooms.noted_decided, Advice.one_reason, Holding.tight_one_reason}
-use Rattle.offset_allocator.proofs.{Packed.compacts_sizes, Packed.live_sizes, Rooms.slides_live}
+use Rattle.offset_allocator.proofs.{Moving.DecidedRooms.least_decided, Moving.DecidedRooms.noted_decided, Advice.one_reason, Holding.tight_one_reason}
+use Rattle.offset_allocator.proofs.{Moving.Packed.compacts_sizes, Moving.Packed.live_sizes, Moving.Rooms.slides_live}
 use Rattle.offset_allocator.proofs.Ranges.{adds_keep, cuts_keep, frees_others, resizes_others, resizes_units, split_grants}
 use Rattle.offset_script.proofs.Held.{held_freed, held_granted, held_kept, held_none, held_pushed, held_stays, may_be_kept}
 use Rattle.offset_script.specs.Steps.{AreHeld, AreNamedApart}
@@ -28,9 +21,7 @@ use Rattle.offset_script.specs.declared.scripts.Command.TheVariants as command
 use Rattle.offset_calls.specs.declared.calls.Call.TheVariants as call
 use Rattle.offset_calls.specs.declared.calls.LiveRange.{LiveRange}
 use Rattle.offset_calls.specs.Calls as plain
-use Rattle.offset_calls.specs.Histories.{Runs}
-use Rattle.offset_calls.specs.Slides.{Notes}
-use Rattle.offset_calls.specs.Steps.{Finds, IsNumbered, IsReasonTight, TakesRoom, TakesTight}
+use Rattle.offset_calls.specs.{Histories.Runs, Slides.Notes, Steps.Finds, Steps.IsNumbered, Steps.IsReasonTight, Steps.TakesRoom, Steps.TakesTight}
 
 -- ---- parts of steps
 -- where a name is kept, and where none is

@@ -1,7 +1,7 @@
 -- The same call in the same guarded allocator, with the same tickets, has the same reply, and leaves the same tickets.
 use Rattle.offset_calls.proofs.Common.{◌≡◌, ℕ, ◌+◌, ◌-◌, Bool, true, false, ◌⊎◌, List, [], ◌∷◌, ◌++◌, length, Option, Some, None, refl, sym, ap, ap₂, subst, subst₂, ◌∙◌, inl, inr, arith, length-append}
-use Rattle.offset_calls.proofs.Common.{length-map, map-append, if◌then◌else◌, View, Handle, IsWellFormed, kept_name, IfNamed, IsKept, Call, Command, Reply, Answer, Takes, Guard, Ticket, handle_in, handle_of, handles_of}
-use Rattle.offset_calls.proofs.Common.{meant, AreInOrder, IsGrown, IsLedger, Serves}
+use Rattle.offset_calls.proofs.Common.{length-map, map-append, if◌then◌else◌, View, Handle, IsWellFormed, kept_name, IsKept, Call, Command, Reply, Answer, Takes, Guard, Ticket, handle_in, handle_of, handles_of}
+use Rattle.offset_calls.proofs.{Common.meant, Common.AreInOrder, Common.IsGrown, Common.IsLedger, Common.Serves, Decided.takes_decided, Kept.either, Tickets.kept_serial}
 use Rattle.std.proofs.lemmas.List.{length-set}
 use Rattle.offset_allocator.specs.Relations.{SameState}
 use Rattle.offset_allocator.proofs.Decided.{last_same}
@@ -13,7 +13,6 @@ use Rattle.offset_calls.specs.declared.calls.Call.TheVariants as call
 use Rattle.offset_calls.specs.declared.guarded.TicketCall.{TicketCall}
 use Rattle.offset_calls.specs.Tickets.{AreServed}
 use Rattle.offset_guarded.specs.State.{SameGuard}
-use Rattle.offset_calls.proofs.{Decided.takes_decided, Tickets.kept_serial}
 
 -- ---- handles
 -- as many handles as before, or the one of a grant after them
@@ -21,10 +20,6 @@ abbrev AreMore : List (Option Handle) → List (Option Handle) → Type 0
 AreMore hs left = (length left ≡ length hs) ⊎ ((a : Handle) × (left ≡ hs ++ Some a ∷ []))
 
 module _ (v w : View) (hs left : List (Option Handle)) where
-  either : (o : Option ℕ) (P : ℕ → Type 0) (Q A : Type 0) → ((x : ℕ) → P x → A) → (Q → A) → IfNamed o P Q → A
-  either None P Q A f g t = g t
-  either (Some x) P Q A f g t = f x t
-
   same : left ≡ hs → AreMore hs left
   same e = inl (ap length e)
 

@@ -4,8 +4,7 @@ use Rattle.offset_calls.proofs.Common.{inl, inr, map-append, option_map, State, 
 use Rattle.std.specs.Option.{option_or}
 use Rattle.offset_script.proofs.Alike.{IsAlike, IsSameOutcome, alike_step, same_quiet, same_leaves, fresh_kinds}
 use Rattle.offset_script.proofs.Pairs.{Kind, Lives, Frees, Pair, pair, left_tag, right_tag, left, right, lefts, rights, IsSamePlace, neither, both, same_free, same_total}
-use Rattle.offset_script.proofs.Pairs.{pair_free_part, lefts_free_part, rights_free_part, in_free_part}
-use Rattle.offset_script.proofs.{Members.IsIn, Members.in_append, Tests.if_same}
+use Rattle.offset_script.proofs.{Pairs.pair_free_part, Pairs.lefts_free_part, Pairs.rights_free_part, Pairs.in_free_part, Members.IsIn, Members.in_append, Tests.if_same}
 use Rattle.offset_script.specs.Histories.{raise_number}
 use Rattle.offset_script.specs.declared.scripts.Command.TheVariants as command
 use Rattle.offset_calls.specs.declared.calls.LiveRange.{LiveRange}

@@ -1,14 +1,14 @@
 -- Calls at the end of the space, with tickets.
 use Rattle.offset_calls.proofs.Common.{◌≡◌, ℕ, Bool, List, Option, None, Some, IfSome, is_some, option_map, if◌then◌else◌, refl, ap, ◌∙◌, inl, Handle, Ticket, Guard, AreKept, Reply, Answer, Resized}
-use Rattle.offset_calls.proofs.Common.{Grants, IsLive, IsSame, KeepsAll, handle_in, kept_name, IsLedger, IsStored, Serves, IsNumberOf, handles_of}
-use Rattle.offset_allocator.specs.{Beside.first_live, Beside.last_live, Beside.live_before, Beside.live_after, Ranges.size_of, Relocating.Relocates, Retracting.Retracts}
+use Rattle.offset_calls.proofs.Common.{Grants, IsLive, IsSame, KeepsAll, handle_in, kept_name, IfNamed, IsLedger, IsStored, Serves, IsNumberOf, handles_of}
+use Rattle.offset_allocator.specs.{Reporting.Beside.first_live, Reporting.Beside.last_live, Reporting.Beside.live_before, Reporting.Beside.live_after, Ranges.size_of, Moving.Relocating.Relocates}
+use Rattle.offset_allocator.specs.{Moving.Retracting.Retracts}
 use Rattle.offset_guarded.specs.Guard.{ticket_at}
 use Rattle.offset_script.proofs.Simulation.{if_some}
 use Rattle.offset_calls.specs.declared.calls.LiveRange.{LiveRange}
-use Rattle.offset_calls.specs.Calls.{Beside}
-use Rattle.offset_calls.specs.Steps.{Finds}
+use Rattle.offset_calls.specs.{Calls.Beside, Steps.Finds, Steps.IsKeptSome}
 use Rattle.offset_calls.proofs.{Beside.front_kept, Beside.last_kept, Beside.before_kept, Beside.after_kept, Beside.are_serials}
-use Rattle.offset_calls.proofs.Tickets.{same_handles, same_ledger, stored, live_named_by}
+use Rattle.offset_calls.proofs.Tickets.{asked_serves, same_handles, same_ledger, stored, live_named_by}
 use Rattle.offset_script.specs.Machine as machine
 use Rattle.offset_calls.specs.declared.calls.Call.TheVariants as call
 
@@ -40,44 +40,24 @@ abbrev pub range_at : Ticket → LiveRange
 range_at t = record { number = t.serial; offset = t.offset }
 
 -- questions for the live ranges beside one another
-module _ (g : Guard) (ts : List Ticket) (is : IsLedger g ts) (kept : AreKept g.space (handles_of g ts)) where
-  pub first_serves : (o : Option Ticket) (r : Reply) → o ≡ option_map (λ (h : Handle). ticket_at h g) (first_live g.space) → r ≡ Beside (option_map range_at o) → Serves call.First g ts g ts r
-  first_serves o r e f = record {
-    takes = ((refl, refl), (_, are_serials g ts (first_live g.space) is (front_kept g.space (handles_of g ts) kept), f ∙ ap (λ o. Beside (option_map range_at o)) e));
-    ledger = is;
-    grown = inl refl;
-    realm = refl;
-  }
+module _ (g : Guard) (ts : List Ticket) (is : IsLedger g ts) (kept : AreKept g.space (handles_of g ts)) (o : Option Ticket) (r : Reply) (f : r ≡ Beside (option_map range_at o)) where
+  finds : (h : Option Handle) → IsKeptSome (handles_of g ts) h → o ≡ option_map (λ (h : Handle). ticket_at h g) h → Finds (handles_of g ts) h r
+  finds h k e = (_, are_serials g ts h is k, f ∙ ap (λ o. Beside (option_map range_at o)) e)
 
-  pub last_serves : (o : Option Ticket) (r : Reply) → o ≡ option_map (λ (h : Handle). ticket_at h g) (last_live g.space) → r ≡ Beside (option_map range_at o) → Serves call.Last g ts g ts r
-  last_serves o r e f = record {
-    takes = ((refl, refl), (_, are_serials g ts (last_live g.space) is (last_kept g.space (handles_of g ts) kept), f ∙ ap (λ o. Beside (option_map range_at o)) e));
-    ledger = is;
-    grown = inl refl;
-    realm = refl;
-  }
+  pub first_serves : o ≡ option_map (λ (h : Handle). ticket_at h g) (first_live g.space) → Serves call.First g ts g ts r
+  first_serves e = asked_serves call.First g ts r is ((refl, refl), finds _ (front_kept g.space (handles_of g ts) kept) e)
 
-  module _ (t : Ticket) (k : ℕ) (live : IsLive t g) (number : IsNumberOf k (Some t) g ts) (o : Option Ticket) (r : Reply) (f : r ≡ Beside (option_map range_at o)) where
+  pub last_serves : o ≡ option_map (λ (h : Handle). ticket_at h g) (last_live g.space) → Serves call.Last g ts g ts r
+  last_serves e = asked_serves call.Last g ts r is ((refl, refl), finds _ (last_kept g.space (handles_of g ts) kept) e)
+
+  module _ (t : Ticket) (k : ℕ) (live : IsLive t g) (number : IsNumberOf k (Some t) g ts) where
+    of_live : (P : ℕ → Type 0) (Q : Type 0) → P t.name → IfNamed (kept_name (handles_of g ts) k) P Q
+    of_live P Q p = if_some (kept_name (handles_of g ts) k) t.name P Q (number ∙ live_named_by t g live) p
+
     pub before_serves : o ≡ option_map (λ (h : Handle). ticket_at h g) (live_before t.name g.space) → Serves (call.Before k) g ts g ts r
-    before_serves e = record {
-      takes = (
-        (refl, refl),
-        if_some (kept_name (handles_of g ts) k) t.name (λ x. Finds (handles_of g ts) (live_before x g.space) r) _ (number ∙ live_named_by t g live)
-            (_, are_serials g ts (live_before t.name g.space) is (before_kept t.name g.space (handles_of g ts) kept), f ∙ ap (λ o. Beside (option_map range_at o)) e),
-      );
-      ledger = is;
-      grown = inl refl;
-      realm = refl;
-    }
+    before_serves e = asked_serves (call.Before k) g ts r is
+        ((refl, refl), of_live (λ x. Finds (handles_of g ts) (live_before x g.space) r) _ (finds _ (before_kept t.name g.space (handles_of g ts) kept) e))
 
     pub after_serves : o ≡ option_map (λ (h : Handle). ticket_at h g) (live_after t.name g.space) → Serves (call.After k) g ts g ts r
-    after_serves e = record {
-      takes = (
-        (refl, refl),
-        if_some (kept_name (handles_of g ts) k) t.name (λ x. Finds (handles_of g ts) (live_after x g.space) r) _ (number ∙ live_named_by t g live)
-            (_, are_serials g ts (live_after t.name g.space) is (after_kept t.name g.space (handles_of g ts) kept), f ∙ ap (λ o. Beside (option_map range_at o)) e),
-      );
-      ledger = is;
-      grown = inl refl;
-      realm = refl;
-    }
+    after_serves e = asked_serves (call.After k) g ts r is
+        ((refl, refl), of_live (λ x. Finds (handles_of g ts) (live_after x g.space) r) _ (finds _ (after_kept t.name g.space (handles_of g ts) kept) e))

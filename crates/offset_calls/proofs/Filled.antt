@@ -5,21 +5,18 @@ use Rattle.offset_calls.proofs.Common.{nat_eq, is_some, map-append, push_all, Vi
 use Rattle.offset_calls.proofs.Common.{bin_at, units, IsWellFormed, SameSpace, State, is_free, total, chosen_place, is_short_of, replace, blocks_needed, units_needed, HasRoomFor}
 use Rattle.std.proofs.Common.{cond}
 use Rattle.std.proofs.lemmas.Bool.{not-false, or_left}
-use Rattle.std.specs.List.{concat, find, filter}
-use Rattle.std.specs.Option.{option_or}
+use Rattle.std.specs.{List.concat, List.find, List.filter, Option.option_or}
 use Rattle.offset_allocator.specs.{Classes.down, View.Place, View.place_of, View.padding_to, View.push, View.remove, View.used_block, View.free_part, Relations.Aligns}
 use Rattle.offset_allocator.specs.{Requests.CanGrant, Requests.Holds, Tight.CanHold, Tight.first_holding, Tight.listed_from, Tight.with_first, Tight.FillsFirst, Tight.AlignsTight}
 use Rattle.offset_allocator.specs.Tight as named
 use Rattle.offset_allocator.proofs.{Holding.find_met, Holding.find_none, Holding.find_past, Holding.find_here, Holding.holder, Holding.place_there, Holding.block_word, Holding.at_first}
-use Rattle.offset_allocator.proofs.{Holding.grant_holds}
-use Rattle.offset_allocator.proofs.{Classes.down_law, Classes.value_down, Taken.taken_among, Tallies.hit_cases, Split.split_view, Served.aligned_serves}
-use Rattle.offset_script.proofs.{Agreement.Label, Agreement.by_tag, Agreement.stamp_of, Agreement.IsFalling, Agreement.HasBlocksOf, Well.IsWell, Tests.same_some}
-use Rattle.offset_script.proofs.Chosen.{Spot, whole, place_at, named_spot, plain_spot, named_place, plain_place, IsLabelled, none_chosen, chosen, place_of_spot, listed_spot, spot_stamp, newer_before}
-use Rattle.offset_script.proofs.Chosen.{names_whole}
-use Rattle.offset_script.proofs.Lists as lists
+use Rattle.offset_allocator.proofs.{Holding.grant_holds, Classes.down_law, Classes.value_down, Taken.taken_among, Tallies.hit_cases, Views.Split.split_view, Served.aligned_serves}
+use Rattle.offset_script.proofs.{Agreement.Label, Agreement.by_tag, Agreement.stamp_of, Agreement.IsFalling, Agreement.HasBlocksOf, Well.IsWell, Tests.same_some, Chosen.names_whole}
 use Rattle.offset_script.proofs.{Ends.total_units, Labels.names, Labels.tags}
+use Rattle.offset_script.proofs.Chosen.{Spot, whole, place_at, named_spot, plain_spot, named_place, plain_place, IsLabelled, none_chosen, chosen, place_of_spot, listed_spot, spot_stamp, newer_before}
+use Rattle.offset_script.proofs.Lists as lists
 use Rattle.offset_script.proofs.Agreed.{IsMatch, with_name, agrees_but, agrees_quiet, grant_agrees, has_room, labelled, room_for, serve_agrees}
-use Rattle.offset_allocator.proofs.ViewBins.{length_remove, names_same}
+use Rattle.offset_allocator.proofs.Views.ViewBins.{length_remove, names_same}
 use Rattle.std.proofs.lemmas.List.{set-set}
 use Rattle.offset_script.specs.Machine.{is_taken_before}
 use Rattle.offset_script.specs.Machine as machine

@@ -1,38 +1,28 @@
 -- The steps of calls are those of the plain machine.
-use Rattle.offset_allocator.specs.Relations.{SameState}
+use Rattle.offset_allocator.specs.{Relations.SameState, declared.reports.Refusal.Refusal, Classes.value, Classes.up, Classes.down, Ranges.range_of, Resizing.Shrinks, Resizing.Grows}
+use Rattle.offset_allocator.specs.{Resizing.Resizes, View.padding_to, Tight.CanHold, Tight.IsWhyTight, Reporting.Beside.live_before, Reporting.Beside.live_after, Moving.Relocating.Relocates}
+use Rattle.offset_allocator.specs.Moving.Retracting.{Retracts, Cuts}
 use Rattle.offset_calls.proofs.Common.{◌≡◌, ◌≢◌, ◌⊎◌, ℕ, zero, suc, ◌+◌, ◌-◌, ◌<◌, ◌≤◌, leb-false, Bool, true, false, not, ◌&&◌, List, [], ◌∷◌, length, sum, Option, Some, None, is_some, IfSome}
-use Rattle.offset_calls.proofs.Common.{IsTrue, option_map}
-use Rattle.offset_calls.proofs.Common.{option_and_then, nat_eq, nat_lt, nat_le, if◌then◌else◌, refl, sym, ap, ap₂, subst, ◌∙◌, inl, inr, arith, eq-eqb, ne_eqb, le-leb, leb-true, lt-ltb, le-ltb}
-use Rattle.offset_calls.proofs.Common.{cases_eq, cases_lt, true≢false, false≢true, and_parts, lt-leb, Nodes, TooLarge, Space, Fragmented, View, Handle, times, count_in_bin, bin_at, units, IsWellFormed}
-use Rattle.offset_calls.proofs.Common.{HasRoomFor, IsWhy, size_needed, blocks_needed, units_needed, Range, size_of, SameSpace, kept_name, IfNamed, Stays, State, is_free, free_sizes, total}
+use Rattle.offset_calls.proofs.Common.{IsTrue, option_map, option_and_then, nat_eq, nat_lt, nat_le, if◌then◌else◌, refl, sym, ap, ap₂, subst, ◌∙◌, inl, inr, arith, eq-eqb, ne_eqb, le-leb, leb-true}
+use Rattle.offset_calls.proofs.Common.{lt-ltb, le-ltb, cases_eq, cases_lt, true≢false, false≢true, and_parts, lt-leb, Nodes, TooLarge, Space, Fragmented, View, Handle, times, count_in_bin, bin_at}
+use Rattle.offset_calls.proofs.Common.{units, IsWellFormed, HasRoomFor, IsWhy, size_needed, blocks_needed, units_needed, Range, size_of, kept_name, IfNamed, Stays, State, is_free, free_sizes, total}
 use Rattle.offset_calls.proofs.Common.{chosen_place, is_short_of, fits, Call, Reply, Answer, Resized, Compacted, Offset, Refused_for, Outcome, can_shrink, can_grow, resize, resized, replies_only}
 use Rattle.offset_calls.proofs.Common.{shortage, reason, offset_at, step, after, is_valid, compact, starts_free, Takes, IsReason}
 use Rattle.offset_allocator.proofs.{Advice.free_within, Powers.not_zero, Tallies.hit_cases}
-use Rattle.offset_allocator.specs.{declared.reports.Refusal.Refusal, Classes.value, Classes.up, Classes.down, Ranges.range_of, Resizing.Shrinks, Resizing.Grows, Resizing.Resizes}
 use Rattle.offset_script.proofs.Agreed.{agrees_but, agrees_quiet, has_room, labelled, none_there, same_length, same_units}
 use Rattle.offset_script.proofs.{Agreement.Label, Agreement.by_tag, Agreement.IsAtState, Chosen.none_chosen, Chosen.plain_place, Ends.free_sizes_labels, Ends.total_units, Labels.names, Members.IsIn}
 use Rattle.offset_script.proofs.{Members.in_map, Found.not_chosen, Well.IsWell, Well.well_quiet, Well.well_step}
-use Rattle.std.specs.Prelude.{max}
-use Rattle.std.proofs.lemmas.Bool.{cond_both}
-use Rattle.std.specs.Option.{option_or}
-use Rattle.offset_allocator.specs.{View.padding_to, Tight.CanHold, Tight.IsWhyTight}
 use Rattle.offset_script.proofs.{Chosen.named_place, Found.chosen_at, Lists.whole, Tests.same_some, Well.free_part_is, Well.well_grant}
-use Rattle.offset_calls.specs.Steps.{IsReasonTight, TakesTight}
+use Rattle.std.specs.{Prelude.max, Option.option_or}
+use Rattle.std.proofs.lemmas.Bool.{cond_both}
+use Rattle.offset_calls.specs.{Steps.IsReasonTight, Steps.TakesTight, Calls.answered, Calls.Beside, Calls.beside, Calls.remakes, Calls.Room_costs, Room.cheapest, Ending.begins_before}
+use Rattle.offset_calls.specs.{Ending.relocate, Ending.can_retract, Ending.retracted, Steps.Finds}
 use Rattle.offset_calls.specs.Tight.{holding_place, request_tight, allocate_tight, lack, reason_held, reason_tight}
-use Rattle.offset_calls.specs.Calls.{answered}
-use Rattle.offset_calls.proofs.{Held.held_at, Filled.held_spot, Filled.held_there, Filled.there, Filled.tight_agrees}
-use Rattle.offset_calls.specs.{Calls.Room_costs, Room.cheapest}
-use Rattle.offset_calls.proofs.Rooms.{well_room, room_cost_is, room_taken}
-use Rattle.offset_allocator.specs.{Beside.live_before, Beside.live_after, Relocating.Relocates, Retracting.Retracts, Retracting.Cuts}
-use Rattle.offset_calls.specs.Calls.{Beside, beside, remakes}
-use Rattle.offset_calls.specs.Ending.{begins_before, relocate, can_retract, retracted}
+use Rattle.offset_calls.proofs.{Held.held_at, Filled.held_spot, Filled.held_there, Filled.there, Filled.tight_agrees, Rooms.well_room, Rooms.room_cost_is, Rooms.room_taken, Common.IsKept}
+use Rattle.offset_calls.proofs.{Common.stamp_of_call, Beside.first_same, Beside.last_same, Beside.before_same, Beside.after_same, Relocated.relocated, Retracted.well_retract, Retracted.can_too}
+use Rattle.offset_calls.proofs.{Retracted.can_there, Retracted.cut_agrees, Compacted.well_compact, Compacted.compact_agrees, Compacted.moves_are}
 use Rattle.offset_calls.specs.Ending as plain
-use Rattle.offset_calls.specs.Steps.{Finds}
-use Rattle.offset_calls.proofs.Common.{IsKept, stamp_of_call}
-use Rattle.offset_calls.proofs.{Beside.first_same, Beside.last_same, Beside.before_same, Beside.after_same, Relocated.relocated, Retracted.well_retract, Retracted.can_too, Retracted.can_there}
-use Rattle.offset_calls.proofs.{Retracted.cut_agrees}
 use Rattle.offset_script.specs.declared.scripts.Command.TheVariants as command
-use Rattle.offset_calls.proofs.Compacted.{well_compact, compact_agrees, moves_are}
 use Rattle.offset_calls.proofs.Resized.{well_resized, found, spot, size_found, can_shrink_is, shrink_can, can_grow_is, grow_can, resized_agrees}
 use Rattle.offset_allocator.specs.View as named
 use Rattle.offset_script.specs.Machine as machine
@@ -56,9 +46,6 @@ resize_refused can n s p d c = ap₂ (λ b x. if b then replies_only s Resized e
 
 abbrev reason_of : Bool → Bool → Refusal → Option Refusal
 reason_of a b why = if a then Some Nodes else if b then None else Some why
-
-abbrev range_if : Bool → ℕ → ℕ → Option Range
-range_if b o n = if b then Some (record { offset = o; size = n }) else None
 
 not_true : (b : Bool) → (b ≡ true → ⊥) → b ≡ false
 not_true true f = absurd (f refl)

@@ -2,7 +2,7 @@
 use Rattle.offset_calls.proofs.Common.{◌≡◌, ℕ, ◌+◌, Bool, true, false, ◌&&◌, ◌⊎◌, List, [], ◌∷◌, ◌++◌, Option, Some, None, if◌then◌else◌, refl, sym, ap, subst, ◌∙◌, inl, inr, arith}
 use Rattle.offset_calls.proofs.Common.{and_parts, true≢false, total}
 use Rattle.std.proofs.lemmas.Bool.Decides.{nat_tests}
-use Rattle.offset_allocator.proofs.ViewApart.{right_false}
+use Rattle.offset_allocator.proofs.Views.ViewApart.{right_false}
 use Rattle.offset_script.proofs.{Found.taken_transitive, Lists.whole}
 use Rattle.offset_script.specs.Machine.{Block, Place, here, prepend, is_taken_before}
 use Rattle.offset_calls.specs.Tight.{holds, better, holding_place}

@@ -1,14 +1,12 @@
 -- The laws over whole histories of calls.
 use Rattle.offset_calls.proofs.Common.{◌≡◌, ℕ, ◌+◌, ◌-◌, ◌≤◌, List, ◌∷◌, ◌++◌, map, refl, ap, ◌∙◌, arith, le-leb, cases_lt, lt-leb, Command, HasNoLive, IsNest, number_without, Free, State, start}
 use Rattle.offset_calls.proofs.Common.{total, Call, Reply, Answer, Compacted, after, replies, step, IsQuestion, number_with, raise, raise_move, renumber, replies_renumbered}
+use Rattle.offset_calls.proofs.Common.{Option, Some, None, option_map}
 use Rattle.offset_calls.proofs.{Along.replies-append, Alike.same_replies, Alike.number_back_again, Followed.well_call, Followed.well_calls}
 use Rattle.offset_script.proofs.{Fresh.IsOneFree, Fresh.one_free, Fresh.alike_fresh, Fresh.raise_none, Fresh.renumber_same, Members.map_same, Nests.AreTraceless, Nests.traceless, Nests.alike_after}
 use Rattle.offset_script.proofs.{Nests.number_without_none, Similar.similar_refl, Lists.count, Lists.hit_self, Well.IsWell, Well.well_start, Well.well_after}
-use Rattle.offset_calls.specs.Calls.{Made_room}
-use Rattle.offset_calls.proofs.Common.{Option, Some, None, option_map}
+use Rattle.offset_calls.specs.{Calls.Made_room, Calls.Beside, Histories.raise_range}
 use Rattle.offset_calls.specs.declared.calls.LiveRange.{LiveRange}
-use Rattle.offset_calls.specs.Calls.{Beside}
-use Rattle.offset_calls.specs.Histories.{raise_range}
 use Rattle.offset_script.specs.declared.scripts.Command.TheVariants as command
 use Rattle.offset_script.specs.Machine as machine
 use Rattle.offset_calls.specs.declared.calls.Call.TheVariants as call

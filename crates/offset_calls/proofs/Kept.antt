@@ -1,13 +1,10 @@
 -- The numbers of grants by their names, from one call to the next.
 use Rattle.offset_calls.proofs.Common.{◌≡◌, ℕ, zero, suc, ◌+◌, ◌-◌, ◌<◌, ◌≤◌, ◌⊎◌, List, [], ◌∷◌, ◌++◌, length, Option, Some, None, nat_eq, if◌then◌else◌, sym, ap, subst, ◌∙◌, inl, inr, arith}
 use Rattle.offset_calls.proofs.Common.{slice_set, option_map, eq-eqb, ne_eqb, cases_eq, cases_lt, length-append, add-one, get_or, get_or_past, Handle, View, IsWellFormed, kept_name, IfNamed, IsKept}
-use Rattle.offset_calls.proofs.Common.{Call, Reply, Takes}
-use Rattle.offset_calls.proofs.Common.{Command, IsTrue, is_valid}
+use Rattle.offset_calls.proofs.Common.{Call, Reply, Takes, Command, IsTrue, is_valid}
 use Rattle.std.specs.List.{slice_index}
 use Rattle.std.proofs.lemmas.List.{get_or_default, get_or-set_other, get_or-set_same, set_past, length-set}
-use Rattle.offset_allocator.specs.{Relations.Splits, Relations.Allocates, Relations.Aligns}
-use Rattle.offset_allocator.specs.Tight.{AlignsTight}
-use Rattle.offset_allocator.specs.Relocating.{Relocates}
+use Rattle.offset_allocator.specs.{Relations.Splits, Relations.Allocates, Relations.Aligns, Tight.AlignsTight, Moving.Relocating.Relocates}
 use Rattle.offset_allocator.proofs.{Holding.grants_tight, Powers.not_zero, Ranges.split_grants}
 use Rattle.offset_script.specs.Steps.{AreLive}
 use Rattle.offset_script.proofs.Simulation.{kept_push}
@@ -40,6 +37,10 @@ numbers_begin handles read numbers none e =
       apart = λ j k x h i. absurd (nothing j x h);
       numbered = λ k x l h. absurd (nothing k x h);
     }
+
+-- so it is of fewer
+pub numbers_fewer : (handles : List (Option Handle)) (few read : ℕ) (numbers : List ℕ) → few ≤ read → AreNumbers handles read numbers → AreNumbers handles few numbers
+numbers_fewer handles few read numbers l a = record { within = omega (arith, l, a.within); apart = a.apart; numbered = λ k x m e. a.numbered k x (omega (arith, l, m)) e }
 
 module _ (handles : List (Option Handle)) (i : ℕ) (d : Option Handle) (numbers now : List ℕ) (within : i < length handles) (a : AreNumbers handles i numbers) where
   read_at : kept_name handles (i + 1) ≡ option_map (λ (h : Handle). h.name) (get_or handles i d)
@@ -95,6 +96,11 @@ kept_before hs i (suc k) x e = elim (cases_eq k i) [
 next_without : (hs left : List (Option Handle)) (i : ℕ) → left ≡ slice_set hs i None → IsNext hs left
 next_without hs left i e = inl (ap length e ∙ length-set hs i None, λ k x h. kept_before hs i k x (sym (ap (λ l. kept_name l k) e) ∙ h))
 
+-- what is so where a name is kept, and where none is
+pub either : (o : Option ℕ) (P : ℕ → Type 0) (Q A : Type 0) → ((x : ℕ) → P x → A) → (Q → A) → IfNamed o P Q → A
+either None P Q A f g t = g t
+either (Some x) P Q A f g t = f x t
+
 module _ (v w : View) (hs left : List (Option Handle)) (before : IsWellFormed v) (after : IsWellFormed w) (live : AreLive v hs) where
   -- the name of a grant was not kept
   not_kept : (needed n : ℕ) (padding_at : ℕ → ℕ) (h : Handle) → Splits needed n padding_at v w h → (k : ℕ) → kept_name hs k ≡ Some h.name → ⊥
@@ -118,11 +124,6 @@ module _ (v w : View) (hs left : List (Option Handle)) (before : IsWellFormed v)
   next_relocated : (x : ℕ) (a : machine.Answer) (r : Option Handle) → Relocates x v w r → IsKept r hs left a → IsNext hs left
   next_relocated x a None t k = next_same hs left k.0
   next_relocated x a (Some h) t k = next_granted _ _ _ h t.0.1 k.0
-
-  -- what is so where a name is kept, and where none is
-  either : (o : Option ℕ) (P : ℕ → Type 0) (Q A : Type 0) → ((x : ℕ) → P x → A) → (Q → A) → IfNamed o P Q → A
-  either None P Q A f g t = g t
-  either (Some x) P Q A f g t = f x t
 
   next_command : (c : Command) (a : machine.Answer) → script.Takes c v hs w left a → IsNext hs left
   next_command (command.Alloc n) a t = next_allocated n a t.0 t.1 t.2

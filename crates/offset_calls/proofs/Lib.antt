@@ -4,7 +4,7 @@ mod DecidedTickets
 mod EndPairs
 mod EndServed
 mod Kept
-mod Numbering
+mod Reached
 mod Relocated
 mod Retracted
 mod Undone

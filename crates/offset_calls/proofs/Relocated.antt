@@ -1,21 +1,15 @@
 -- A second grant for a live range: where one is refused or begins, on the plain machine too.
-use Rattle.offset_allocator.proofs.{Begins.begins_still, Begins.grant_begins, Sound.well_unused}
-use Rattle.offset_allocator.specs.{Names.AreTaken, Names.names_of, Relocating.WouldBegin}
-use Rattle.offset_allocator.specs.Relations.{SameState}
-use Rattle.offset_calls.proofs.Common.{◌≡◌, ◌≢◌, ℕ, zero, suc, ◌+◌, ◌-◌, ◌<◌, ◌≤◌, Bool, true, false, not, List, [], ◌∷◌, ◌++◌, length, Option, Some, None, nat_eq, nat_le}
-use Rattle.offset_calls.proofs.Common.{if◌then◌else◌, refl, sym, ap, ap₂, subst, ◌∙◌, inl, inr, arith}
-use Rattle.offset_calls.proofs.Common.{eq-eqb, ne_eqb, cases_eq, cases_lt, leb-true, lt-ltb, le-ltb, and_parts, option_map, option_and_then, unwrap_or}
-use Rattle.offset_calls.proofs.Common.{AllByRecursion, Block, View, Handle, Place, one, count_named, times, bin_at, units, IsWellFormed, HasRoomFor, Range, SameSpace, kept_name, IsKept}
-use Rattle.offset_calls.proofs.Common.{State, is_free, total, chosen_place, is_short_of, fits, Reply, Answer}
-use Rattle.offset_allocator.specs.{Classes.up, Classes.down, Relations.Allocates, Relocating.Relocates, Relocating.offset_of, View.IsNew, View.used_block, View.free_part}
-use Rattle.offset_allocator.proofs.{Classes.fits_size, Taken.taken, Tallies.hit_cases, Split.well_split, Served.plain_serves}
-use Rattle.offset_calls.proofs.Common.{le-leb}
-use Rattle.offset_script.proofs.Agreed.{agrees_but, agrees_quiet, room_for, serve_agrees}
-use Rattle.offset_script.proofs.{Agreement.HasBlocksOf, Agreement.IsAtState, Chosen.Spot, Chosen.plain_place, Chosen.plain_spot, Chosen.listed_spot}
-use Rattle.offset_script.proofs.{Ends.total_units, Labels.names, Labels.tags, Found.chosen_at, Well.IsWell, Simulation.requested}
-use Rattle.offset_calls.proofs.Resized.{found, spot, size_found}
-use Rattle.offset_calls.specs.Calls.{answered}
-use Rattle.offset_calls.specs.Ending.{begins_before, relocate}
+use Rattle.offset_allocator.proofs.{Moving.Begins.begins_still, Moving.Begins.grant_begins, Sound.well_unused}
+use Rattle.offset_allocator.proofs.{Classes.fits_size, Taken.taken, Tallies.hit_cases, Views.Split.well_split, Served.plain_serves}
+use Rattle.offset_allocator.specs.{Names.AreTaken, Names.names_of, Moving.Relocating.WouldBegin, Classes.up, Classes.down, Relations.Allocates, Moving.Relocating.Relocates}
+use Rattle.offset_allocator.specs.{Moving.Relocating.offset_of, View.IsNew, View.used_block, View.free_part, Relations.SameState}
+use Rattle.offset_calls.proofs.Common.{◌≡◌, ◌≢◌, ℕ, zero, suc, ◌+◌, ◌-◌, ◌<◌, ◌≤◌, Bool, true, false, not, List, [], ◌∷◌, ◌++◌, length, Option, Some, None, nat_eq, nat_le, if◌then◌else◌, refl, sym}
+use Rattle.offset_calls.proofs.Common.{ap, ap₂, subst, ◌∙◌, inl, inr, arith, eq-eqb, ne_eqb, cases_eq, cases_lt, leb-true, lt-ltb, le-ltb, and_parts, option_map, option_and_then, unwrap_or}
+use Rattle.offset_calls.proofs.Common.{AllByRecursion, Block, View, Handle, Place, one, count_named, times, bin_at, units, IsWellFormed, HasRoomFor, Range, kept_name, IsKept, State, is_free, total}
+use Rattle.offset_calls.proofs.{Common.chosen_place, Common.is_short_of, Common.fits, Common.Reply, Common.Answer, Common.le-leb, Resized.found, Resized.spot, Resized.size_found}
+use Rattle.offset_script.proofs.{Agreed.agrees_but, Agreed.agrees_quiet, Agreed.room_for, Agreed.serve_agrees, Agreement.HasBlocksOf, Agreement.IsAtState, Chosen.Spot, Chosen.plain_place}
+use Rattle.offset_script.proofs.{Chosen.plain_spot, Chosen.listed_spot, Ends.total_units, Labels.names, Labels.tags, Found.chosen_at, Well.IsWell, Simulation.requested}
+use Rattle.offset_calls.specs.{Calls.answered, Ending.begins_before, Ending.relocate}
 use Rattle.offset_allocator.specs.View as named
 use Rattle.offset_script.specs.Machine as machine
 

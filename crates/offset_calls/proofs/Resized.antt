@@ -5,7 +5,7 @@ use Rattle.std.specs.Prelude.{option_map, unwrap_or}
 use Rattle.offset_calls.proofs.Common.{map-append, AllByRecursion, Block, View, Place, units, IsWellFormed, AreCoalesced, replace, HasRoomFor, size_of, SameSpace, Tag, Live, Free, State, is_free}
 use Rattle.offset_calls.proofs.Common.{has_number, total, is_short_of, stamp_of_call, stamp_of_padding, without_start, units_at_start, starts_free, can_shrink, can_grow, resized}
 use Rattle.std.proofs.Math.Bool.{or-true}
-use Rattle.offset_allocator.proofs.{ViewApart.right_false, Reading.size_at, Reading.size_is}
+use Rattle.offset_allocator.proofs.{Views.ViewApart.right_false, Reading.size_at, Reading.size_is}
 use Rattle.offset_allocator.specs.{View.place_of, Resizing.CanShrink, Resizing.CanGrow, Resizing.Resizes, Resizing.free_after}
 use Rattle.offset_script.proofs.Agreed.{live_at, LiveAt, room_for, has_room, agrees_replaced, new_labels, names_new, tags_new, name_new, rises_new, name_replaced}
 use Rattle.offset_script.proofs.Lists.{AreApart, apart_parts, apart_append, count, count-append, count_free_part, ends_free, few_free, number_of, start_is, start_of}

@@ -5,14 +5,12 @@ use Rattle.offset_calls.proofs.Common.{Block, View, IsWellFormed, replace, SameS
 use Rattle.std.proofs.lemmas.Bool.{and_left, cases_Bool, cond_both, not-false}
 use Rattle.std.proofs.lemmas.List.{nil_from_length}
 use Rattle.std.specs.Option.{option_or}
-use Rattle.offset_allocator.proofs.ViewApart.{left_false}
-use Rattle.offset_allocator.specs.{View.free_part, Retracting.CanRetract, Retracting.Cuts, Retracting.end_part}
-use Rattle.offset_script.proofs.Agreed.{agrees_replaced, free_labels}
+use Rattle.offset_allocator.proofs.Views.ViewApart.{left_false}
+use Rattle.offset_allocator.specs.{View.free_part, Moving.Retracting.CanRetract, Moving.Retracting.Cuts, Moving.Retracting.end_part}
+use Rattle.offset_script.proofs.{Agreed.agrees_replaced, Agreed.free_labels, Agreement.Label, Agreement.by_name, Agreement.by_tag, Agreement.name_of, Agreement.HasBlocksOf, Ends.name_append}
+use Rattle.offset_script.proofs.{Ends.name_skip, Labels.names, Labels.tags, Labels.AreRising, Members.map_parts, Members.map_first, Well.IsWell, Well.well_leaves, Well.well_quiet, Well.free_part_is}
 use Rattle.offset_script.proofs.Lists.{AreApart, apart_parts, apart_append, count, hit, count-append, count_free_part, ends_free}
-use Rattle.offset_script.proofs.{Agreement.Label, Agreement.by_name, Agreement.by_tag, Agreement.name_of, Agreement.HasBlocksOf, Ends.name_append, Ends.name_skip}
-use Rattle.offset_script.proofs.{Labels.names, Labels.tags, Labels.AreRising, Members.map_parts, Members.map_first, Well.IsWell, Well.well_leaves, Well.well_quiet, Well.free_part_is}
-use Rattle.offset_calls.specs.Calls.{Outcome, retract}
-use Rattle.offset_calls.specs.Ending.{can_retract, end_block, with_end, retracted}
+use Rattle.offset_calls.specs.{Calls.Outcome, Calls.retract, Ending.can_retract, Ending.end_block, Ending.with_end, Ending.retracted}
 use Rattle.offset_script.specs.Machine as machine
 
 -- ---- lists that end with a free block

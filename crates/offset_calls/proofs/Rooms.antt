@@ -1,30 +1,23 @@
 -- Making room: what is left agrees with the plain machine, and the cost and the moves are the same.
-use Rattle.offset_allocator.specs.Relations.{SameState}
+use Rattle.offset_allocator.specs.{Relations.SameState, Moving.Room.SlidesRun, Moving.Room.MakesRoom, Moving.Room.IsLeastCost, Moving.Room.cost_of}
 use Rattle.offset_calls.proofs.Common.{◌≡◌, ℕ, suc, ◌+◌, ◌<◌, ◌≤◌, ◌&&◌, Bool, true, false, not, List, [], ◌∷◌, ◌++◌, map, length, sum, Option, Some, None, option_map, nat_eq, if◌then◌else◌, drop}
 use Rattle.offset_calls.proofs.Common.{refl, sym, ap, ap₂, subst, ◌∙◌, inl, inr, arith, eq-eqb, ne_eqb, length-append, append_assoc, map-append, cases_eq, cases_lt, true≢false, false≢true, Block}
-use Rattle.offset_calls.proofs.Common.{View, Handle}
-use Rattle.offset_calls.proofs.Common.{IsWellFormed, AreCoalesced, SameSpace, FoldsTo, kept_name, Tag, Live, Free, State, is_free, total, units, stamp_of_call, stamp_of_padding, replace, Move, Reply}
-use Rattle.offset_calls.proofs.Common.{Outcome}
-use Rattle.offset_calls.proofs.Common.{moves, AreNumbered, replies_only}
+use Rattle.offset_calls.proofs.Common.{View, Handle, IsWellFormed, AreCoalesced, SameSpace, FoldsTo, kept_name, Tag, Live, Free, State, is_free, total, units, stamp_of_call, stamp_of_padding, replace}
+use Rattle.offset_calls.proofs.Common.{Move, Reply, Outcome, moves, AreNumbered, replies_only}
 use Rattle.std.proofs.lemmas.Bool.{cond_both}
-use Rattle.offset_allocator.specs.declared.room.RoomCost.{RoomCost}
-use Rattle.offset_allocator.specs.Room.{SlidesRun, MakesRoom, IsLeastCost, cost_of}
-use Rattle.offset_allocator.proofs.ViewApart.{left_false, right_false}
-use Rattle.offset_allocator.proofs.ViewApart as named_apart
-use Rattle.offset_script.proofs.Agreed.{agrees_but, agrees_quiet, agrees_replaced, name_replaced}
+use Rattle.offset_allocator.specs.declared.moves.room.RoomCost.{RoomCost}
+use Rattle.offset_allocator.proofs.Views.ViewApart.{left_false, right_false}
+use Rattle.offset_allocator.proofs.Views.ViewApart as named_apart
+use Rattle.offset_script.proofs.{Agreed.agrees_but, Agreed.agrees_quiet, Agreed.agrees_replaced, Agreed.name_replaced, Ends.free_sizes_labels, Ends.total_units, Ends.name_append, Ends.or_none}
+use Rattle.offset_script.proofs.{Labels.names, Labels.tags, Labels.map_three, Labels.AreRising, Members.IsIn, Members.in_left, Members.in_right, Well.IsWell, Well.well_quiet, Well.well_leaves}
 use Rattle.offset_script.proofs.Agreement.{Label, by_name, by_tag, name_of, HasBlocksOf, IsAtState}
 use Rattle.offset_script.proofs.Lists.{AreApart, apart_append, apart_parts, count, count-append, ends_free, starts_free}
-use Rattle.offset_script.proofs.{Ends.free_sizes_labels, Ends.total_units, Ends.name_append, Ends.or_none, Labels.names, Labels.tags, Labels.map_three, Labels.AreRising}
-use Rattle.offset_script.proofs.{Members.IsIn, Members.in_left, Members.in_right, Well.IsWell, Well.well_quiet, Well.well_leaves}
 use Rattle.offset_script.specs.Totals.{live}
-use Rattle.offset_calls.specs.Calls.{make_room, remakes, Made_room}
-use Rattle.offset_calls.specs.Room.{Split, cheapest, room_cost, slid}
+use Rattle.offset_calls.specs.{Calls.make_room, Calls.remakes, Calls.Made_room, Room.Split, Room.cheapest, Room.room_cost, Room.slid, Slides.Notes, Steps.TakesRoom}
 use Rattle.offset_calls.specs.Room as plain
-use Rattle.offset_calls.specs.Slides.{Notes}
-use Rattle.offset_calls.specs.Steps.{TakesRoom}
 use Rattle.offset_calls.proofs.Compacted.{count_live, length_live, apart_live, ends_of_live, live_labels, live_names, live_tags, live_name_of, moves_agree, one_number}
 use Rattle.offset_calls.proofs.Runs.{IsChosen, IsBest, IsLabelledRun, best, chosen_is, cost_is, cost_same, ends_free_is}
-use Rattle.offset_allocator.specs.Compacting as named_moves
+use Rattle.offset_allocator.specs.Moving.Compacting as named_moves
 use Rattle.offset_allocator.specs.View as named
 use Rattle.offset_script.specs.Machine as machine
 
@@ -144,7 +137,7 @@ module _ (v : View) (hs : List (Option Handle)) (s : State) (w : IsWellFormed v)
       begins = h.begins;
       ends = h.ends;
       serves = h.serves;
-      least = λ other r m. subst (λ d. Rattle.offset_allocator.specs.Room.IsAtMost d (cost_of other)) cost (least.1 other r m);
+      least = λ other r m. subst (λ d. Rattle.offset_allocator.specs.Moving.Room.IsAtMost d (cost_of other)) cost (least.1 other r m);
       later = h.later;
     })
 

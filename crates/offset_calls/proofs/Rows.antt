@@ -1,30 +1,19 @@
 -- Releases in a row: the reply to the call after them.
 use Rattle.offset_calls.proofs.Common.{◌≡◌, ℕ, ◌+◌, ◌-◌, ◌≤◌, Bool, not, ◌&&◌, ◌||◌, List, [], ◌∷◌, sum, Option, None, nat_eq, nat_le, if◌then◌else◌, refl, sym, ap, ap₂, subst₂, ◌∙◌, inl, inr}
 use Rattle.offset_calls.proofs.Common.{IsCollapse, collapse, outline, releases, State, start, is_short_of, place_of, Call, Answer, Compacted, Offset, Refused_for, Outcome, resize, number, moves}
-use Rattle.offset_calls.proofs.Common.{offset_at, reason, step, after, without_offset, arith}
-use Rattle.offset_script.proofs.Commute.{IsSameSpace, releases_outline, releases_scalars, same_next, same_number, some_same}
+use Rattle.offset_calls.proofs.Common.{offset_at, reason, step, after, without_offset, arith, ◌⊎◌, false, option_map, subst, Some, is_some, true≢false, false≢true, Nodes, total, free_sizes}
+use Rattle.offset_calls.proofs.{Common.chosen_place, Common.◌++◌, Alike.same_starts, Alike.same_free_start, Followed.well_calls}
+use Rattle.offset_script.proofs.Commute.{IsSameSpace, releases_outline, releases_scalars, same_next, same_number, some_same, same_granted}
 use Rattle.offset_script.proofs.Pairs.{Kind, Lives, Frees, Pair, left_tag, right_tag, left, right, lefts, rights, IsSamePlace, neither, both, same_free, same_total, same_units, same_short}
-use Rattle.offset_script.proofs.Pairs.{same_free_sizes, same_place_of}
-use Rattle.offset_script.proofs.{Members.IsIn, Similar.HasSameNumber, Similar.paired, Tests.if_same, Well.well_start}
-use Rattle.offset_calls.proofs.{Alike.same_starts, Alike.same_free_start, Followed.well_calls}
-use Rattle.offset_allocator.specs.View.{padding_to}
+use Rattle.offset_script.proofs.{Pairs.same_free_sizes, Pairs.same_place_of, Members.IsIn, Similar.HasSameNumber, Similar.paired, Tests.if_same, Well.well_start, Members.in_parts, Members.in_left}
+use Rattle.offset_script.proofs.Members.{in_right}
+use Rattle.offset_allocator.specs.{View.padding_to, Classes.value, Classes.up, declared.moves.room.RoomCost.RoomCost}
 use Rattle.std.specs.Option.{option_or}
-use Rattle.offset_script.proofs.Commute.{same_granted}
-use Rattle.offset_calls.specs.Calls.{answered}
-use Rattle.offset_script.proofs.Members.{in_parts}
+use Rattle.offset_calls.specs.{Calls.answered, Calls.Beside, Calls.beside, Calls.make_room, Calls.Made_room, Calls.Room_costs, Ending.first_live, Ending.last_live, Ending.live_before}
+use Rattle.offset_calls.specs.{Ending.live_after, Histories.relocates, Room.Split, Room.cheapest}
 use Rattle.offset_calls.specs.declared.calls.LiveRange.{LiveRange}
-use Rattle.offset_calls.specs.Calls.{Beside, beside}
-use Rattle.offset_calls.specs.Ending.{first_live, last_live, live_before, live_after}
-use Rattle.offset_calls.specs.Histories.{relocates}
 use Rattle.offset_calls.proofs.EndPairs.{same_free_end, IsSent, AreSent, sent, sent_first, sent_last}
-use Rattle.offset_calls.proofs.Common.{◌⊎◌, false, option_map, subst}
 use Rattle.offset_calls.specs.Tight.{holds, better, holding_place, request_tight, allocate_tight, lack, reason_held}
-use Rattle.offset_calls.proofs.Common.{Some, is_some, true≢false, false≢true, Nodes, total, free_sizes, chosen_place}
-use Rattle.offset_calls.proofs.Common.{◌++◌, subst}
-use Rattle.offset_allocator.specs.{Classes.value, Classes.up, declared.room.RoomCost.RoomCost}
-use Rattle.offset_script.proofs.Members.{in_left, in_right}
-use Rattle.offset_calls.specs.Calls.{make_room, Made_room, Room_costs}
-use Rattle.offset_calls.specs.Room.{Split, cheapest}
 use Rattle.offset_calls.proofs.Splits.{IsSameSplit, no_split, same_split, same_cost, same_cheapest, same_room_cost}
 use Rattle.offset_script.specs.Histories as script
 use Rattle.offset_script.specs.Machine as machine

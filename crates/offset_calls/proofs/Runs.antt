@@ -1,16 +1,14 @@
 -- The run that the plain machine chooses is the cheapest one of the allocator, and of several the last.
 use Rattle.offset_calls.proofs.Common.{◌≡◌, ℕ, ◌+◌, ◌-◌, ◌<◌, ◌≤◌, ◌⊎◌, ◌&&◌, ◌||◌, Bool, true, false, not, List, [], ◌∷◌, ◌++◌, map, length, sum, Option, Some, None, option_map, nat_eq, nat_lt}
-use Rattle.offset_calls.proofs.Common.{nat_le}
-use Rattle.offset_calls.proofs.Common.{if◌then◌else◌, refl, sym, ap, ap₂, subst, ◌∙◌, inl, inr, arith, append-nil, append_assoc, length-append, cases_lt, cases_eq, true≢false, false≢true, drop}
-use Rattle.offset_calls.proofs.Common.{leb-true, leb-false, Block, one, AreCoalesced, total, is_free, Tag}
+use Rattle.offset_calls.proofs.Common.{nat_le, if◌then◌else◌, refl, sym, ap, ap₂, subst, ◌∙◌, inl, inr, arith, append-nil, append_assoc, length-append, cases_lt, cases_eq, true≢false, false≢true}
+use Rattle.offset_calls.proofs.Common.{drop, leb-true, leb-false, Block, one, AreCoalesced, total, is_free, Tag}
 use Rattle.std.proofs.lemmas.Bool.Decides.{nat_tests}
 use Rattle.std.proofs.lemmas.List.{append_cancel_left}
-use Rattle.offset_allocator.specs.declared.room.RoomCost.{RoomCost}
-use Rattle.offset_allocator.specs.Room.{IsRun, IsAtMost, IsLess, CostMore, IsLeastCost, cost_of}
+use Rattle.offset_allocator.specs.declared.moves.room.RoomCost.{RoomCost}
+use Rattle.offset_allocator.specs.Moving.Room.{IsRun, IsAtMost, IsLess, CostMore, IsLeastCost, cost_of}
 use Rattle.offset_allocator.specs.View.{starts_free, ends_used, free_sizes, used_of, used_units}
-use Rattle.offset_allocator.proofs.ViewApart.{apart_parts, ends_free, right_false}
-use Rattle.offset_allocator.proofs.Runs.{at_most_trans, less_trans, begins_cases, longer, run_cases, run_some, free_sum-append, used_of-append, used_units-append}
-use Rattle.offset_allocator.proofs.{Tallies.free_sum, Joints.free_units-free, Joints.free_units-used}
+use Rattle.offset_allocator.proofs.{Views.ViewApart.apart_parts, Views.ViewApart.ends_free, Views.ViewApart.right_false, Tallies.free_sum, Joints.free_units-free, Joints.free_units-used}
+use Rattle.offset_allocator.proofs.Moving.Runs.{at_most_trans, less_trans, begins_cases, longer, run_cases, run_some, free_sum-append, used_of-append, used_units-append}
 use Rattle.offset_script.proofs.{Agreement.Label, Agreement.by_name, Agreement.by_tag, Labels.names, Labels.tags}
 use Rattle.offset_script.specs.Totals.{live}
 use Rattle.offset_calls.specs.Room.{Split, from_first, after_first, free_units, shortest, is_less, cheaper, cheapest, room_cost}

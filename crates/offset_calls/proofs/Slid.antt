@@ -1,21 +1,17 @@
 -- The moves that make room, as a closure collects them, and the numbers of the ranges that move.
 use Rattle.offset_calls.proofs.Common.{◌≡◌, ℕ, ◌+◌, ◌<◌, Bool, true, false, List, [], ◌∷◌, ◌++◌, map, length, get_or, All, Option, Some, None, zero, suc, refl, sym, ap, subst, ◌∙◌, arith}
-use Rattle.offset_calls.proofs.Common.{inl, inr, append_assoc, append-nil, cases_eq, AllByRecursion, FoldsTo, Block, Handle, View, kept_name, AreNumbered}
-use Rattle.offset_allocator.specs.declared.room.RoomCost.{RoomCost}
-use Rattle.offset_allocator.specs.Compacting.{Move, moves, move_of}
-use Rattle.offset_allocator.specs.Room.{MakesRoom}
-use Rattle.offset_allocator.proofs.Sliding.{moves_used, moves_idle}
-use Rattle.offset_calls.specs.declared.calls.Moved.{Moved}
+use Rattle.offset_calls.proofs.Common.{inl, inr, append_assoc, append-nil, cases_eq, AllByRecursion, FoldsTo, Block, Handle, View, kept_name, AreNumbered, Takes}
 use Rattle.offset_calls.proofs.Common.{move_view, drop, drop-cons, add-one, map-append, nat_eq, if◌then◌else◌}
+use Rattle.offset_allocator.specs.declared.moves.room.RoomCost.{RoomCost}
+use Rattle.offset_allocator.specs.Moving.Compacting.{Compacts, Move, moves, move_of}
+use Rattle.offset_allocator.specs.{Moving.Room.MakesRoom, Moving.Room.IsLeastCost, Moving.Room.SlidesRun, Moving.Room.cost_of, View.units, Classes.value, Classes.up}
+use Rattle.offset_allocator.proofs.Moving.Sliding.{moves_used, moves_idle}
+use Rattle.offset_calls.specs.declared.calls.Moved.{Moved}
+use Rattle.std.specs.Prelude.{Result, Ok, Err, OnErr}
 use Rattle.std.proofs.lemmas.List.{get_or_default}
-use Rattle.offset_allocator.specs.{Room.SlidesRun, Room.cost_of, View.units}
-use Rattle.offset_allocator.specs.Room.{IsLeastCost}
-use Rattle.offset_allocator.specs.{Classes.value, Classes.up}
-use Rattle.offset_calls.proofs.Common.{Call, Guard, IsLedger, Serves, Ticket, renumber}
 use Rattle.offset_calls.specs.declared.calls.Call.TheVariants as call
-use Rattle.offset_calls.specs.Calls.{Move as Numbered, Made_room, Room_costs}
-use Rattle.offset_calls.specs.Steps.{AreKept, TakesRoom}
-use Rattle.offset_calls.specs.Slides.{IsMade, Notes, named_move, numbered_move}
+use Rattle.offset_calls.specs.Calls.{Move as Numbered, Compacted, Made_room}
+use Rattle.offset_calls.specs.{Calling.IsLost, Steps.AreKept, Steps.TakesRoom, Slides.IsMade, Slides.Notes, Slides.named_move, Slides.numbered_move}
 
 -- ---- the moves that a closure has seen
 
@@ -38,6 +34,10 @@ module _ {P S N : Type 0} (R : P → Move → P → Type 0) (see : P → S) (pla
         rest.1 ∙ one.1,
       )
 
+  -- the moves that were seen, from none on
+  pub all_seen : (xs : List Move) (p q : P) → FoldsTo R p xs q → found (see p) ≡ [] → (is_refused (see q) ≡ false → found (see q) ≡ xs) × (place q ≡ place p)
+  all_seen xs p q f none = let r = seen_all xs p q f in ((λ h. (r.0 h).1 ∙ ap (λ l. l ++ xs) none), r.1)
+
   -- room is made with the moves that were seen
   pub room_noted : (want : ℕ) (v w : View) (c : Option RoomCost) (p q : P) → MakesRoom R want v p c w q → found (see p) ≡ []
       → (is_refused (see q) ≡ false → MakesRoom Notes want v [] c w (found (see q))) × (place q ≡ place p)
@@ -55,6 +55,17 @@ module _ {P S N : Type 0} (R : P → Move → P → Type 0) (see : P → S) (pla
 
       placed : place q ≡ place p
       placed = elim (cases_eq c.ranges 0) [ inl z ↦ ap place (m.0 z).1 | inr z ↦ (seen_all _ p q (m.1 (omega (arith, z))).2).1 ]
+
+-- and whatever was seen, there are such moves
+pub room_some : {P : Type 0} (R : P → Move → P → Type 0) (want : ℕ) (v w : View) (c : Option RoomCost) (p q : P) → MakesRoom R want v p c w q → (xs : List Move) × IsMade want v c w xs
+room_some R want v w None p q m = ([], record { made = (m.0, refl) })
+room_some R want v w (Some c) p q m = elim (cases_eq c.ranges 0) [
+  | inl z ↦ ([], record { made = (λ e. ((m.0 e).0, refl), λ l. absurd (omega (arith, z, l))) })
+  | inr z ↦
+      let t = m.1 (omega (arith, z)) in
+      let ms = moves (units t.0.front) (units t.0.front) t.0.run in
+      (ms, record { made = (λ e. absurd (z e), λ l. (t.0, t.1, notes_all [] ms)) })
+]
 
 -- what follows from a fact that is long to write out
 pub given : {A B : Type 0} → A → (A → B) → B
@@ -101,13 +112,9 @@ module _ (P : ℕ → Type 0) where
         noted_named _ [] xs t.2 tt (moves_named _ _ t.0.run (all_split t.0.run t.0.back parts.1).0)
   ]
 
-  slides_named : (ss : List (Handle × Moved)) → AllByRecursion (λ (m : Move). P m.name) (map named_move ss) → AllByRecursion (λ (s : Handle × Moved). P s.0.name) ss
-  slides_named [] a = tt
-  slides_named (s ∷ ss) a = (a.0, slides_named ss a.1)
-
-  pub all_slides : (want : ℕ) (v w : View) (c : Option RoomCost) (ss : List (Handle × Moved)) → MakesRoom Notes want v [] c w (map named_move ss)
-      → AllByRecursion (λ (b : Block). b.used ≡ true → P b.name) v.blocks → AllByRecursion (λ (s : Handle × Moved). P s.0.name) ss
-  all_slides want v w c ss m a = slides_named ss (room_named want v w c (map named_move ss) m a)
+  slides_named : (ss : List (Handle × Moved)) (xs : List Move) → map named_move ss ≡ xs → AllByRecursion (λ (m : Move). P m.name) xs → AllByRecursion (λ (s : Handle × Moved). P s.0.name) ss
+  slides_named [] xs e a = tt
+  slides_named (s ∷ ss) xs e a = let n = subst (AllByRecursion (λ (m : Move). P m.name)) (sym e) a in (n.0, slides_named ss (map named_move ss) refl n.1)
 
 -- each of a list, by its place
 pub each_at : {A : Type 0} (P : A → Type 0) (xs : List A) → AllByRecursion P xs → All P xs
@@ -137,37 +144,55 @@ one_more number ss found left i d d' n l e more is =
     ap (λ k. k ++ map f (drop (i + 1) ss)) front ∙ append_assoc (map move_view found) (move_view m ∷ []) (map f (drop (i + 1) ss))
     ∙ ap (λ x. map move_view found ++ x ∷ map f (drop (i + 1) ss)) same ∙ ap (λ k. map move_view found ++ k) rest ∙ e
 
+-- some moves with numbers, where each name that moves has one
+numbered_some : (hs : List (Option Handle)) (xs : List Move) → AllByRecursion (λ (m : Move). (k : ℕ) × (kept_name hs k ≡ Some m.name)) xs → (ms : List Numbered) × AreNumbered hs xs ms
+numbered_some hs [] a = ([], tt)
+numbered_some hs (x ∷ xs) a = let r = numbered_some hs xs a.1 in (record { number = a.0.0; from = x.from; to = x.to; size = x.size } ∷ r.0, (a.0.1, refl, refl, refl, r.1))
+
 -- ---- the step
 
--- room is made, with the moves that were collected
-pub room_takes : (want : ℕ) (v w : View) (c : Option RoomCost) (hs : List (Option Handle)) (number : ℕ → ℕ) (ss : List (Handle × Moved)) (ms : List Numbered)
-    → ((k x : ℕ) → kept_name hs k ≡ Some x → number x ≡ k) → IsLeastCost want v.blocks c → IsMade want v c w (map named_move ss) → AreKept v hs
-    → ms ≡ map (numbered_move number) ss → TakesRoom want v hs w (Made_room c ms)
-room_takes want v w c hs number ss ms each least makes kept is = (
-  c,
-  least,
-  map named_move ss,
-  makes,
-  map (numbered_move number) ss,
-  all_numbered hs number each ss (all_slides (λ x. (k : ℕ) × (kept_name hs k ≡ Some x)) want v w c ss makes.made kept),
-  ap (Made_room c) is,
-)
+-- what is so anyway is so where memory is refused
+pub on_err : {A E P : Type 0} (r : Result A E) → P → OnErr r P
+on_err (Ok a) p = tt
+on_err (Err e) p = p
+
+-- ranges were slid, and the reply is lost
+pub compaction_lost : (v w : View) (hs left : List (Option Handle)) → AreKept v hs → Compacts v w → left ≡ hs → IsLost call.Compact v hs w left
+compaction_lost v w hs left kept t e =
+    let ms = numbered_some hs (moves 0 0 v.blocks) (moves_named (λ x. (k : ℕ) × (kept_name hs k ≡ Some x)) 0 0 v.blocks kept) in
+    inr (refl, Compacted ms.0, (t, e, (ms.0, ms.1, refl)))
+
+pub room_lost : (n : ℕ) (v w : View) (c : Option RoomCost) (hs left : List (Option Handle)) → AreKept v hs → IsLeastCost (value (up n)) v.blocks c
+    → (xs : List Move) × IsMade (value (up n)) v c w xs → left ≡ hs → IsLost (call.MakeRoom n) v hs w left
+room_lost n v w c hs left kept least m e =
+    let ms = numbered_some hs m.0 (room_named (λ x. (k : ℕ) × (kept_name hs k ≡ Some x)) (value (up n)) v w c m.0 m.1.made kept) in
+    inr (refl, Made_room c ms.0, ((c, least, m.0, m.1, ms.0, ms.1, refl), e))
+
+module _ (v w : View) (hs : List (Option Handle)) (ss : List (Handle × Moved)) (kept : AreKept v hs) where
+  -- each range that moves has a number
+  abbrev pub HaveNumbers : Type 0
+  HaveNumbers = AllByRecursion (λ (s : Handle × Moved). (k : ℕ) × (kept_name hs k ≡ Some s.0.name)) ss
+
+  pub compacted_numbers : map named_move ss ≡ moves 0 0 v.blocks → HaveNumbers
+  compacted_numbers e = slides_named (λ x. (k : ℕ) × (kept_name hs k ≡ Some x)) ss _ e (moves_named (λ x. (k : ℕ) × (kept_name hs k ≡ Some x)) 0 0 v.blocks kept)
+
+  pub room_numbers : (want : ℕ) (c : Option RoomCost) → IsMade want v c w (map named_move ss) → HaveNumbers
+  room_numbers want c makes = slides_named (λ x. (k : ℕ) × (kept_name hs k ≡ Some x)) ss _ refl (room_named (λ x. (k : ℕ) × (kept_name hs k ≡ Some x)) want v w c _ makes.made kept)
+
+  module _ (number : ℕ → ℕ) (ms : List Numbered) (each : (k x : ℕ) → kept_name hs k ≡ Some x → number x ≡ k) (is : ms ≡ map (numbered_move number) ss) where
+    -- the space is compacted, with the moves that were collected
+    pub compact_takes : Compacts v w → map named_move ss ≡ moves 0 0 v.blocks → Takes call.Compact v hs w hs (Compacted ms)
+    compact_takes t e = (t, refl, (_, subst (λ xs. AreNumbered hs xs (map (numbered_move number) ss)) e (all_numbered hs number each ss (compacted_numbers e)), ap Compacted is))
+
+    -- room is made, with the moves that were collected
+    pub room_takes : (want : ℕ) (c : Option RoomCost) → IsLeastCost want v.blocks c → IsMade want v c w (map named_move ss) → TakesRoom want v hs w (Made_room c ms)
+    room_takes want c least makes = (c, least, map named_move ss, makes, _, all_numbered hs number each ss (room_numbers want c makes), ap (Made_room c) is)
 
 -- each range that moves has a live name then
-pub slides_live : (want : ℕ) (v w : View) (c : Option RoomCost) (hs : List (Option Handle)) (ss : List (Handle × Moved)) (P : ℕ → Type 0) → ((k x : ℕ) → kept_name hs k ≡ Some x → P x)
-    → IsMade want v c w (map named_move ss) → AreKept v hs → All (λ (s : Handle × Moved). P s.0.name) ss
-slides_live want v w c hs ss P each makes kept = each_at (λ (s : Handle × Moved). P s.0.name) ss (also ss (all_slides (λ x. (k : ℕ) × (kept_name hs k ≡ Some x)) want v w c ss makes.made kept))
+pub slides_live : (hs : List (Option Handle)) (P : ℕ → Type 0) → ((k x : ℕ) → kept_name hs k ≡ Some x → P x)
+    → (ss : List (Handle × Moved)) → AllByRecursion (λ (s : Handle × Moved). (k : ℕ) × (kept_name hs k ≡ Some s.0.name)) ss → All (λ (s : Handle × Moved). P s.0.name) ss
+slides_live hs P each ss a = each_at (λ (s : Handle × Moved). P s.0.name) ss (also ss a)
   where
     also : (ss : List (Handle × Moved)) → AllByRecursion (λ (s : Handle × Moved). (k : ℕ) × (kept_name hs k ≡ Some s.0.name)) ss → AllByRecursion (λ (s : Handle × Moved). P s.0.name) ss
     also [] a = tt
     also (s ∷ ss) a = (each a.0.0 s.0.name a.0.1, also ss a.1)
-
--- what room costs, of a guarded allocator
-pub room_cost_serves : (g : Guard) (ts : List Ticket) (c : Call) (k n : ℕ) (v : View) (cost : Option RoomCost) → IsLedger g ts → c ≡ call.RoomCost n → v ≡ g.space
-    → IsLeastCost (value (up n)) v.blocks cost → Serves (renumber (λ j. k) c) g ts g ts (Room_costs cost)
-room_cost_serves g ts c k n v cost is e f r = subst (λ c. Serves (renumber (λ j. k) c) g ts g ts (Room_costs cost)) (sym e) (record {
-  takes = ((refl, refl), (cost, subst (λ (v : View). IsLeastCost (value (up n)) v.blocks cost) f r, refl));
-  ledger = is;
-  grown = inl refl;
-  realm = refl;
-})

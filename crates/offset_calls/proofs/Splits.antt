@@ -1,8 +1,6 @@
 -- The run that is found to make room is at the same place in two lists that differ only in numbers and stamps.
-use Rattle.offset_calls.proofs.Common.{◌≡◌, ℕ, ◌-◌, not, List, [], ◌∷◌, ◌++◌, length, Option, Some, None, option_map, nat_le, if◌then◌else◌, refl, ap, ap₂, subst₂, arith}
-use Rattle.offset_calls.proofs.Common.{total}
-use Rattle.offset_script.proofs.Pairs.{Pair, left, right, lefts, rights, same_free}
-use Rattle.offset_script.proofs.Tests.{if_same}
+use Rattle.offset_calls.proofs.Common.{◌≡◌, ℕ, ◌-◌, not, List, [], ◌∷◌, ◌++◌, length, Option, Some, None, option_map, nat_le, if◌then◌else◌, refl, ap, ap₂, subst₂, arith, total}
+use Rattle.offset_script.proofs.{Pairs.Pair, Pairs.left, Pairs.right, Pairs.lefts, Pairs.rights, Pairs.same_free, Tests.if_same}
 use Rattle.offset_script.specs.Totals.{live}
 use Rattle.offset_calls.specs.Room.{Split, from_first, free_units, shortest, cost_of, is_less, cheaper, cheapest}
 

@@ -2,15 +2,14 @@
 use Rattle.offset_calls.proofs.Common.{◌≡◌, ◌≢◌, ℕ, zero, suc, ◌+◌, ◌<◌, Bool, ◌&&◌, List, [], ◌∷◌, ◌++◌, length, Option, Some, None, IfSome, is_some, nat_eq, slice_get, slice_index_or, slice_set}
 use Rattle.offset_calls.proofs.Common.{option_map, if◌then◌else◌, refl, sym, ap, ap₂, subst, ◌∙◌, inl, inr, arith, length-append, false≢true, map-append, length-map, Handle, View, Ticket, Guard}
 use Rattle.offset_calls.proofs.Common.{AreAlike, Grants, IsLive, IsSame, KeepsAll, KeepsLive, KeepsOthers, KeepsSerials, KeepsSizes, handle_in, range_of, serial_of, Extends, Frees, Resets, Command}
-use Rattle.offset_calls.proofs.Common.{kept_name, IsKept, blocks_needed, units_needed, Call, Answer, Refused_for, renumber, IsReason, AreInOrder, IsGrown, IsLedger, IsStored, Serves, IsNumberOf}
+use Rattle.offset_calls.proofs.Common.{kept_name, IsKept, Call, Answer, Reply, Takes, renumber, AreInOrder, IsGrown, IsLedger, IsStored, Serves, IsNumberOf}
 use Rattle.offset_calls.proofs.Common.{handle_of, handles_of, live_name, ticket_of}
-use Rattle.offset_allocator.specs.{View.free_sizes, FreeSizes.rows_below, declared.reports.Refusal.Refusal}
+use Rattle.offset_allocator.specs.{View.free_sizes, Reporting.FreeSizes.rows_below}
 use Rattle.offset_guarded.proofs.Guards.{live_fits}
 use Rattle.offset_script.proofs.Simulation.{if_some}
 use Rattle.offset_allocator.specs.Ranges as named
 use Rattle.offset_script.specs.declared.scripts.Command.TheVariants as command
 use Rattle.offset_script.specs.Histories as script
-use Rattle.offset_calls.specs.Steps.{IsReasonTight}
 use Rattle.offset_script.specs.Machine as machine
 use Rattle.offset_calls.specs.declared.calls.Call.TheVariants as call
 
@@ -151,43 +150,33 @@ extended more g h ts done a is extends keeps same e = search (arith, same_handle
 pub sizes_live : (g h : Guard) → KeepsSizes g h → KeepsLive g h
 sizes_live g h same t = search (arith, is_some, option_map)
 
--- why a request is refused
-pub refusal_serves : (g : Guard) (ts : List Ticket) (c : Call) (k n : ℕ) (v : View) (why : Option Refusal) → IsLedger g ts → c ≡ call.Refusal n → v ≡ g.space → IsReason 1 n v why
-    → Serves (renumber (λ j. k) c) g ts g ts (Refused_for why)
-refusal_serves g ts c k n v why is e f r = subst (λ c. Serves (renumber (λ j. k) c) g ts g ts (Refused_for why)) (sym e) (record {
-  takes = ((refl, refl), (why, subst (λ v. IsReason 1 n v why) f r, refl));
-  ledger = is;
+-- a call that gives no ticket, and leaves serials, sizes and handles
+pub slid_serves : (c : Call) (g h : Guard) (ts : List Ticket) (r : Reply) → IsLedger g ts → KeepsSizes g h → h ≡ record g { space = h.space }
+    → Takes c g.space (handles_of g ts) h.space (handles_of g ts) r → Serves c g ts h ts r
+slid_serves c g h ts r is sizes serials t = record {
+  takes = subst (λ l. Takes c g.space (handles_of g ts) h.space l r) (sym (same_handles g h ts (sizes_live g h sizes))) t;
+  ledger = same_ledger g h ts is (ap (λ (g : Guard). g.realm) serials) (ap (λ (g : Guard). g.given) serials);
   grown = inl refl;
-  realm = refl;
-})
+  realm = ap (λ (g : Guard). g.realm) serials;
+}
 
-pub refusal_aligned_serves : (g : Guard) (ts : List Ticket) (c : Call) (k n align : ℕ) (v : View) (why : Option Refusal) → IsLedger g ts → c ≡ call.RefusalAligned n align → v ≡ g.space
-    → IsReason (blocks_needed align) (units_needed n align) v why
-    → Serves (renumber (λ j. k) c) g ts g ts (Refused_for why)
-refusal_aligned_serves g ts c k n align v why is e f r = subst (λ c. Serves (renumber (λ j. k) c) g ts g ts (Refused_for why)) (sym e) (record {
-  takes = ((refl, refl), (why, subst (λ v. IsReason (blocks_needed align) (units_needed n align) v why) f r, refl));
-  ledger = is;
-  grown = inl refl;
-  realm = refl;
-})
+-- after it the number of a name is its serial, and the name is live
+module _ (g h : Guard) (ts : List Ticket) (is : IsLedger g ts) (sizes : KeepsSizes g h) (serials : h ≡ record g { space = h.space }) (k x : ℕ) (e : kept_name (handles_of g ts) k ≡ Some x) where
+  pub slid_serial : serial_of x h ≡ k
+  slid_serial = ap (serial_of x) serials ∙ kept_serial g ts k x is e
 
-pub refusal_tight_serves : (g : Guard) (ts : List Ticket) (c : Call) (k n : ℕ) (v : View) (why : Option Refusal) → IsLedger g ts → c ≡ call.RefusalTight n → v ≡ g.space → IsReasonTight n 1 v why
-    → Serves (renumber (λ j. k) c) g ts g ts (Refused_for why)
-refusal_tight_serves g ts c k n v why is e f r = subst (λ c. Serves (renumber (λ j. k) c) g ts g ts (Refused_for why)) (sym e) (record {
-  takes = ((refl, refl), (why, subst (λ v. IsReasonTight n 1 v why) f r, refl));
-  ledger = is;
-  grown = inl refl;
-  realm = refl;
-})
+  pub slid_live : named.range_of x h.space ≡ None → ⊥
+  slid_live = kept_live h ts k x (ap (λ l. kept_name l k) (same_handles g h ts (sizes_live g h sizes)) ∙ e)
 
-pub refusal_tight_aligned_serves : (g : Guard) (ts : List Ticket) (c : Call) (k n align : ℕ) (v : View) (why : Option Refusal) → IsLedger g ts → c ≡ call.RefusalTightAligned n align → v ≡ g.space
-    → IsReasonTight n align v why → Serves (renumber (λ j. k) c) g ts g ts (Refused_for why)
-refusal_tight_aligned_serves g ts c k n align v why is e f r = subst (λ c. Serves (renumber (λ j. k) c) g ts g ts (Refused_for why)) (sym e) (record {
-  takes = ((refl, refl), (why, subst (λ v. IsReasonTight n align v why) f r, refl));
-  ledger = is;
-  grown = inl refl;
-  realm = refl;
-})
+-- a question
+pub asked_serves : (c : Call) (g : Guard) (ts : List Ticket) (r : Reply) → IsLedger g ts → Takes c g.space (handles_of g ts) g.space (handles_of g ts) r → Serves c g ts g ts r
+asked_serves c g ts r is t = slid_serves c g g ts r is (λ t. refl) refl t
+
+-- one that the allocator answers, with no ticket
+pub question_serves : (q c : Call) (g : Guard) (ts : List Ticket) (k : ℕ) (v : View) (r : Reply) → IsLedger g ts → c ≡ q → renumber (λ j. k) q ≡ q → v ≡ g.space
+    → ((hs : List (Option Handle)) → Takes q v hs v hs r) → Serves (renumber (λ j. k) c) g ts g ts r
+question_serves q c g ts k v r is e same f t = subst (λ c. Serves c g ts g ts r) (sym (ap (renumber (λ j. k)) e ∙ same))
+    (asked_serves q g ts r is (subst (λ v. Takes q v (handles_of g ts) v (handles_of g ts) r) f (t (handles_of g ts))))
 
 -- a full report
 pub full_serves : (g : Guard) (ts : List Ticket) (c : Command) (k : ℕ) (v : View) (a : machine.Answer) → IsLedger g ts → c ≡ command.Full → v ≡ g.space

@@ -1,14 +1,11 @@
 -- Units that are added at the end, and taken off again.
 use Rattle.offset_calls.proofs.Common.{◌≡◌, ℕ, zero, suc, ◌+◌, ◌-◌, ◌≤◌, Bool, true, false, not, ◌&&◌, ◌||◌, List, [], ◌∷◌, ◌++◌, nat_lt, IsTrue, if◌then◌else◌, refl, sym, ap, ap₂, subst, ◌∙◌, arith}
 use Rattle.offset_calls.proofs.Common.{append-nil, le-leb, map-append, false≢true, outline, State, is_free, is_short_of, total, stamp_of_call, start, Free, Call, Answer, after, replies, step, Resized}
-use Rattle.offset_calls.proofs.Common.{None}
+use Rattle.offset_calls.proofs.{Common.None, Followed.well_call, Followed.well_calls, Histories.traceless_replies, Histories.as_before, Retracted.end_is, Retracted.end_of}
 use Rattle.offset_allocator.specs.View.{max_size}
 use Rattle.offset_script.specs.Histories.{holder}
 use Rattle.offset_script.proofs.{Nests.AreTraceless, Similar.similar_refl, Well.IsWell, Well.well_start}
-use Rattle.offset_calls.specs.Calls.{Outcome, answered, remakes, replies_only}
-use Rattle.offset_calls.specs.Ending.{end_block, with_end, retracted}
-use Rattle.offset_calls.specs.Histories.{retract_again}
-use Rattle.offset_calls.proofs.{Followed.well_call, Followed.well_calls, Histories.traceless_replies, Histories.as_before, Retracted.end_is, Retracted.end_of}
+use Rattle.offset_calls.specs.{Calls.Outcome, Calls.answered, Calls.remakes, Calls.replies_only, Ending.end_block, Ending.with_end, Ending.retracted, Histories.retract_again}
 use Rattle.offset_script.specs.declared.scripts.Command.TheVariants as command
 use Rattle.offset_script.specs.Machine as machine
 use Rattle.offset_calls.specs.declared.calls.Call.TheVariants as call

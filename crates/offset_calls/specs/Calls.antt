@@ -14,7 +14,7 @@ use Rattle.offset_script.specs.Totals.{live}
 use Rattle.offset_calls.specs.declared.calls.Call.{Call}
 use Rattle.offset_calls.specs.declared.calls.Call.TheVariants as call
 use Rattle.offset_calls.specs.declared.calls.Moved.{Moved}
-use Rattle.offset_allocator.specs.declared.room.RoomCost.{RoomCost}
+use Rattle.offset_allocator.specs.declared.moves.room.RoomCost.{RoomCost}
 use Rattle.offset_calls.specs.Room.{Split, cost_of, cheapest, room_cost, slid}
 use Rattle.offset_calls.specs.Tight.{allocate_tight, reason_tight}
 use Rattle.offset_calls.specs.Ending.{relocate, can_retract, retracted, first_live, last_live, live_before, live_after}

@@ -1,11 +1,8 @@
 -- What is done at the end of a space, on the plain machine: a second range before a live one, units that
 -- are taken off, and the live ranges beside one another.
-use Rattle.std.specs.Prelude.{ℕ, zero, suc, ◌+◌, ◌-◌, Bool, false, List, [], ◌∷◌, ◌++◌, Option, Some, None}
-use Rattle.std.specs.Prelude.{nat_lt, nat_le, if◌then◌else◌}
+use Rattle.std.specs.Prelude.{ℕ, zero, suc, ◌+◌, ◌-◌, Bool, false, List, [], ◌∷◌, ◌++◌, Option, Some, None, nat_lt, nat_le, if◌then◌else◌}
 use Rattle.std.specs.Option.{option_or}
-use Rattle.offset_script.specs.Machine.{Tag, Live, Free, Block, block, total, free_part, units_at_end}
-use Rattle.offset_script.specs.Machine.{without_end, Place, State, Answer, Grant, Refused, Gone, Outcome}
-use Rattle.offset_script.specs.Machine.{returns_only, allocate}
+use Rattle.offset_script.specs.Machine.{Tag, Live, Free, Block, block, total, free_part, units_at_end, without_end, Place, State, Answer, Grant, Refused, Gone, Outcome, returns_only, allocate}
 use Rattle.offset_calls.specs.declared.calls.LiveRange.{LiveRange}
 
 -- whether an answer is a grant that begins before an offset

@@ -1,3 +1,4 @@
+pub mod Calling
 pub mod Calls
 pub mod Ending
 pub mod Histories

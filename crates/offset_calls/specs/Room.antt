@@ -1,6 +1,6 @@
 -- Making room on the plain machine: which run of blocks slides to its front, and what that costs.
 use Rattle.std.specs.Prelude.{ℕ, ◌-◌, Bool, ◌&&◌, ◌||◌, List, [], ◌∷◌, ◌++◌, length, sum, Option, Some, None, option_map, nat_eq, nat_lt, nat_le, if◌then◌else◌}
-use Rattle.offset_allocator.specs.declared.room.RoomCost.{RoomCost}
+use Rattle.offset_allocator.specs.declared.moves.room.RoomCost.{RoomCost}
 use Rattle.offset_script.specs.Machine.{Free, Block, block, is_free, total, free_sizes}
 use Rattle.offset_script.specs.Totals.{live}
 

@@ -1,9 +1,9 @@
 -- The ranges that slide where room is made: as the allocator reports them, and with the numbers of their grants.
 use Rattle.std.specs.Prelude.{◌≡◌, ℕ, List, [], ◌∷◌, ◌++◌, Option}
-use Rattle.offset_allocator.specs.declared.room.RoomCost.{RoomCost}
-use Rattle.offset_allocator.specs.Room.{MakesRoom}
+use Rattle.offset_allocator.specs.declared.moves.room.RoomCost.{RoomCost}
+use Rattle.offset_allocator.specs.Moving.Room.{MakesRoom}
 use Rattle.offset_allocator.specs.View.{Handle, View}
-use Rattle.offset_allocator.specs.Compacting as named
+use Rattle.offset_allocator.specs.Moving.Compacting as named
 use Rattle.offset_calls.specs.declared.calls.Moved.{Moved}
 use Rattle.offset_calls.specs.Calls.{Move}
 

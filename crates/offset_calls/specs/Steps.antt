@@ -6,35 +6,23 @@ use Rattle.offset_allocator.specs.View.{View, Block, Handle}
 use Rattle.offset_allocator.specs.Ranges.{Range, range_of}
 use Rattle.offset_allocator.specs.Requests.{CanGrant, IsWhy, blocks_needed, units_needed}
 use Rattle.offset_allocator.specs.Resizing.{Shrinks, Grows}
-use Rattle.offset_allocator.specs.Compacting.{Compacts, moves}
-use Rattle.offset_allocator.specs.Compacting as named
-use Rattle.offset_allocator.specs.declared.room.RoomCost.{RoomCost}
+use Rattle.offset_allocator.specs.Moving.Compacting.{Compacts, moves}
+use Rattle.offset_allocator.specs.Moving.Compacting as named
+use Rattle.offset_allocator.specs.declared.moves.room.RoomCost.{RoomCost}
 use Rattle.offset_allocator.specs.Classes.{value, up}
-use Rattle.offset_allocator.specs.Room.{IsLeastCost}
-use Rattle.offset_allocator.specs.Beside as named_beside
-use Rattle.offset_allocator.specs.Relocating.{Relocates}
-use Rattle.offset_allocator.specs.Retracting.{Retracts}
+use Rattle.offset_allocator.specs.Moving.Room.{IsLeastCost}
+use Rattle.offset_allocator.specs.Reporting.Beside as named_beside
+use Rattle.offset_allocator.specs.Moving.Relocating.{Relocates}
+use Rattle.offset_allocator.specs.Moving.Retracting.{Retracts}
 use Rattle.offset_allocator.specs.Tight.{AlignsTight, CanHold, IsWhyTight}
 use Rattle.offset_script.specs.Steps.{kept_name, AreNamedApart, IfNamed, IsKept, Stays}
 use Rattle.offset_script.specs.Machine as machine
 use Rattle.offset_script.specs.Steps as script
 use Rattle.offset_calls.specs.declared.calls.Call.{Call}
 use Rattle.offset_calls.specs.declared.calls.Call.TheVariants as call
-use Rattle.offset_calls.specs.declared.calls.Moved.{Moved}
 use Rattle.offset_calls.specs.Calls.{Move, Reply, Answer, Resized, Compacted, Offset, Refused_for, Made_room, Room_costs, Beside}
 use Rattle.offset_calls.specs.Slides.{IsMade}
 use Rattle.offset_calls.specs.declared.calls.LiveRange.{LiveRange}
-
--- these are the moves of a compaction, in order, whatever their numbers
-abbrev pub AreMoves : List Moved → List named.Move → Type 0
-AreMoves [] [] = Unit {0}
-AreMoves (m ∷ ms) (x ∷ xs) = (m.from ≡ x.from) × (m.to ≡ x.to) × (m.size ≡ x.size) × AreMoves ms xs
-AreMoves ms xs = ⊥
-
--- moves with other numbers, as far as there are some
-abbrev pub joined : List ℕ → List Moved → List Move
-joined (k ∷ ks) (m ∷ ms) = record { number = k; from = m.from; to = m.to; size = m.size } ∷ joined ks ms
-joined ks ms = []
 
 -- the moves of a compaction, each with the number of the grant whose handle has its name
 abbrev pub AreNumbered : List (Option Handle) → List named.Move → List Move → Type 0

@@ -1,23 +1,21 @@
 //! The reply of a guarded allocator to one call, with the ticket that the call passes.
 
-ghost use Rattle.std.specs.Prelude.{◌≡◌, [], IfOk, IsTrue, List, ℕ, Some, false, map};
-ghost use Rattle.offset_allocator.specs.Compacting.{Compacts, live, moves};
+ghost use Rattle.std.specs.Prelude.{IfOk, IsTrue, List, ℕ};
 ghost use Rattle.offset_guarded.specs.declared.ticket.Ticket.{Ticket};
-ghost use Rattle.offset_guarded.specs.Guard.{HasSerialLeft, KeepsSizes};
-ghost use Rattle.offset_script.specs.Steps.{kept_name};
+ghost use Rattle.offset_guarded.specs.Guard.{HasSerialLeft};
 ghost use Rattle.offset_script.specs.Grammar.{has_valid_alignment};
 ghost use Rattle.offset_script.specs.Machine.{answer_view};
 ghost use Rattle.offset_calls.specs.Calls.{is_valid, reply_view};
 ghost use Rattle.offset_calls.specs.Calls as plain;
 ghost use Rattle.offset_calls.specs.Histories.{renumber};
-ghost use Rattle.offset_calls.specs.Steps.{AreKept, AreMoves};
+ghost use Rattle.offset_calls.specs.Steps.{AreKept};
 ghost use Rattle.offset_calls.specs.Tickets.{IsLedger, IsStored, Serves, IsNumberOf, handles_of};
 
 use crate::calls::{Call, Reply};
 use crate::ending_desk;
-use crate::playing::{Moves, numbered, resized};
-use crate::room::make_room_guarded;
-use offset_allocator::{Move, NodeIndex, Tables};
+use crate::playing::resized;
+use crate::sliding::{compact_guarded, make_room_guarded};
+use offset_allocator::Tables;
 use offset_guarded::{GuardedOf, Ticket};
 use offset_script::{Answer, Command, full_answer};
 use std::alloc::{AllocError, Global};
@@ -196,60 +194,6 @@ fn grow<T: Tables>(space: &mut GuardedOf<T>, ticket: Option<Ticket>, size: u32) 
     }
 }
 
-// The numbers of the live ranges, which are their serials, in space order.
-fn numbers_of_live<T: Tables>(alloc: Global, desk: &Desk<T>) -> Result<Vec<u64>, AllocError>
-    requires ledger { IsLedger desk.now.space desk.now.tickets.items }
-    requires kept { AreKept desk.now.space.space (handles_of desk.now.space desk.now.tickets.items) }
-    ensures { IfOk result (λ ks.
-        map (kept_name (handles_of desk.now.space desk.now.tickets.items)) ks.items
-        ≡ map (λ b. Some b.name) (live desk.now.space.space.blocks)) }
-{
-    let mut numbers = Vec::new(alloc);
-    for block in desk.space.allocator().blocks() {
-        if let Some(handle) = block.allocation {
-            // it is live, so it has a ticket
-            let serial = match desk.space.ticket(handle) {
-                None => 0,
-                Some(ticket) => ticket.serial,
-            };
-            numbers.push(serial)?;
-        }
-    }
-    numbers.reverse();
-    Ok(numbers)
-}
-
-// Compacts a space, and collects the moves. Its index type is a parameter too, which keeps the proof short.
-fn collect<NI: NodeIndex, T: Tables<Index = NI>>(space: &mut GuardedOf<T>, seen: &mut Moves)
-    requires { seen.old.found.items ≡ [] }
-    ensures moves { seen.new.is_refused ≡ false
-        → AreMoves seen.new.found.items (moves 0 0 space.old.space.blocks) }
-    ensures step { Compacts space.old.space space.new.space }
-    ensures sizes { KeepsSizes space.old space.new }
-    ensures serials { space.new ≡ record space.old { space = space.new.space } }
-{
-    space.compact(&mut |range: Move<NI>| seen.add(range.from, range.to, range.size));
-}
-
-// The reply to `Compact`. All ranges after the first one that moves are moved too.
-fn compact<T: Tables>(alloc: Global, desk: &mut Desk<T>) -> Result<Reply, AllocError>
-    requires ledger { IsLedger desk.old.space desk.old.tickets.items }
-    requires kept { AreKept desk.old.space.space (handles_of desk.old.space desk.old.tickets.items) }
-    ensures { IfOk result (λ r. Serves Call.Compact desk.old.space desk.old.tickets.items
-        desk.new.space desk.new.tickets.items (reply_view r)) }
-{
-    let numbers = numbers_of_live(alloc, desk)?;
-    let mut moves = Moves {
-        found: Vec::new(alloc),
-        is_refused: false,
-    };
-    collect(&mut desk.space, &mut moves);
-    if moves.is_refused {
-        return Err(AllocError);
-    }
-    Ok(Reply::Compacted(numbered(alloc, &numbers, &moves.found)?))
-}
-
 // The answer to a command that passes this ticket.
 fn answer<T: Tables>(
     alloc: Global,
@@ -295,7 +239,7 @@ pub(crate) fn reply<T: Tables>(
         Call::Command(command) => Ok(Reply::Answer(answer(alloc, desk, command, ticket)?)),
         Call::Shrink(_, size) => Ok(shrink(&mut desk.space, ticket, size)),
         Call::Grow(_, size) => Ok(grow(&mut desk.space, ticket, size)),
-        Call::Compact => compact(alloc, desk),
+        Call::Compact => compact_guarded(alloc, desk),
         Call::Offset(_) => Ok(offset_of(&desk.space, ticket)),
         Call::Refusal(size) => Ok(Reply::Refusal(desk.space.allocator().refusal(size))),
         Call::RefusalAligned(size, align) => Ok(Reply::Refusal(

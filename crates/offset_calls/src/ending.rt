@@ -1,7 +1,7 @@
 //! The replies of a player to calls at the end of a space.
 
-ghost use Rattle.std.specs.Prelude.{IfOk, OnOk};
-ghost use Rattle.offset_script.specs.Steps.{AreHeld};
+ghost use Rattle.std.specs.Prelude.{IfOk, OnErr};
+ghost use Rattle.offset_script.specs.Steps.{AreHeld, Stays};
 ghost use Rattle.offset_calls.specs.declared.calls.Call.{Call};
 ghost use Rattle.offset_calls.specs.Calls.{reply_view};
 ghost use Rattle.offset_calls.specs.Steps.{AreKept, AreNumbers, Finds, IsKeptSome, Takes};
@@ -19,12 +19,15 @@ pub(crate) fn relocate<T: Tables>(
     number: u32,
 ) -> Result<Reply, AllocError>
     requires { AreHeld player.old.space player.old.handles.items }
-    ensures { IfOk result (λ r. Takes (Call.Relocate number) player.old.space player.old.handles.items
+    ensures takes { IfOk result (λ r. Takes (Call.Relocate number) player.old.space player.old.handles.items
         player.new.space player.new.handles.items (reply_view r)) }
+    ensures same { OnErr result (Stays player.old.space player.old.handles.items
+        player.new.space player.new.handles.items) }
 {
     let Some(handle) = player.handle(number) else {
         return Ok(Reply::Answer(Answer::Gone));
     };
+    player.handles.reserve(1)?;
     let granted = player.space.relocate(handle);
     Ok(Reply::Answer(player.keep(granted)?))
 }
@@ -47,8 +50,7 @@ fn find<NI: NodeIndex>(
     requires kept { IsKeptSome handles.now found }
     requires numbers { AreNumbers handles.now numbers.old.grants numbers.old.by_name.items }
     ensures finds { IfOk result (λ r. Finds handles.now found (reply_view r)) }
-    ensures numbers { OnOk result
-        (AreNumbers handles.now numbers.new.grants numbers.new.by_name.items) }
+    ensures numbers { AreNumbers handles.now numbers.new.grants numbers.new.by_name.items }
 {
     numbers.read(handles, names)?;
     match found {
@@ -72,8 +74,7 @@ pub(crate) fn first<T: Tables>(
     requires numbers { AreNumbers player.now.handles.items numbers.old.grants numbers.old.by_name.items }
     ensures takes { IfOk result (λ r. Takes Call.First player.now.space player.now.handles.items
         player.now.space player.now.handles.items (reply_view r)) }
-    ensures numbers { OnOk result
-        (AreNumbers player.now.handles.items numbers.new.grants numbers.new.by_name.items) }
+    ensures numbers { AreNumbers player.now.handles.items numbers.new.grants numbers.new.by_name.items }
 {
     let found = player.space.first_live();
     find(&player.handles, player.space.node_count(), numbers, found)
@@ -88,8 +89,7 @@ pub(crate) fn last<T: Tables>(
     requires numbers { AreNumbers player.now.handles.items numbers.old.grants numbers.old.by_name.items }
     ensures takes { IfOk result (λ r. Takes Call.Last player.now.space player.now.handles.items
         player.now.space player.now.handles.items (reply_view r)) }
-    ensures numbers { OnOk result
-        (AreNumbers player.now.handles.items numbers.new.grants numbers.new.by_name.items) }
+    ensures numbers { AreNumbers player.now.handles.items numbers.new.grants numbers.new.by_name.items }
 {
     let found = player.space.last_live();
     find(&player.handles, player.space.node_count(), numbers, found)
@@ -105,8 +105,7 @@ pub(crate) fn before<T: Tables>(
     requires numbers { AreNumbers player.now.handles.items numbers.old.grants numbers.old.by_name.items }
     ensures takes { IfOk result (λ r. Takes (Call.Before number) player.now.space player.now.handles.items
         player.now.space player.now.handles.items (reply_view r)) }
-    ensures numbers { OnOk result
-        (AreNumbers player.now.handles.items numbers.new.grants numbers.new.by_name.items) }
+    ensures numbers { AreNumbers player.now.handles.items numbers.new.grants numbers.new.by_name.items }
 {
     let Some(handle) = player.handle(number) else {
         return Ok(Reply::Answer(Answer::Gone));
@@ -125,8 +124,7 @@ pub(crate) fn after<T: Tables>(
     requires numbers { AreNumbers player.now.handles.items numbers.old.grants numbers.old.by_name.items }
     ensures takes { IfOk result (λ r. Takes (Call.After number) player.now.space player.now.handles.items
         player.now.space player.now.handles.items (reply_view r)) }
-    ensures numbers { OnOk result
-        (AreNumbers player.now.handles.items numbers.new.grants numbers.new.by_name.items) }
+    ensures numbers { AreNumbers player.now.handles.items numbers.new.grants numbers.new.by_name.items }
 {
     let Some(handle) = player.handle(number) else {
         return Ok(Reply::Answer(Answer::Gone));

@@ -1,7 +1,6 @@
 //! Laws on the replies of `play_calls`. The functions do nothing.
 
-ghost use Rattle.std.specs.Prelude.{◌≡◌, ◌≤◌, ◌+◌, ◌++◌, ◌∷◌, IsTrue, ℕ, List, false, map};
-ghost use Rattle.std.specs.Prelude.{Option};
+ghost use Rattle.std.specs.Prelude.{◌≡◌, ◌≤◌, ◌+◌, ◌++◌, ◌∷◌, IsTrue, ℕ, List, false, map, Option};
 ghost use Rattle.offset_allocator.specs.Relations.{SameState};
 ghost use Rattle.offset_allocator.specs.View.{Handle, IsWellFormed, View};
 ghost use Rattle.offset_guarded.specs.Guard.{Guard};

@@ -15,9 +15,11 @@ mod ending_desk;
 mod guarded;
 pub mod laws;
 mod numbers;
+mod player;
 mod playing;
-mod room;
+mod sliding;
 
 pub use calls::{Call, LiveRange, Moved, Reply, are_valid};
 pub use guarded::{Played, TicketCall, play_guarded};
+pub use player::{CallPlayer, CallPlayerOf};
 pub use playing::{play_calls, play_calls_of};

@@ -1,7 +1,6 @@
 //! The numbers of grants, by their names. It touches its own list alone.
 
-ghost use Rattle.std.specs.Prelude.{◌≡◌, [], IfOk, ℕ, length, nat_eq, slice_index};
-ghost use Rattle.std.specs.Prelude.{if◌then◌else◌};
+ghost use Rattle.std.specs.Prelude.{◌≡◌, [], IfOk, OnErr, ℕ, length, nat_eq, slice_index, if◌then◌else◌};
 ghost use Rattle.offset_calls.specs.Steps.{AreNumbers};
 
 use offset_allocator::{Allocation, NodeIndex};
@@ -38,7 +37,7 @@ impl Numbers {
     }
 
     // Makes room for this many names at once. Where that is refused, room is made as they come.
-    fn make_room(&mut self, names: usize)
+    fn reserve(&mut self, names: usize)
         ensures names { (x : ℕ) → slice_index self.new.by_name.items x
             ≡ slice_index self.old.by_name.items x }
         ensures grants { self.new.grants ≡ self.old.grants }
@@ -53,6 +52,7 @@ impl Numbers {
     fn set(&mut self, name: u32, number: u64) -> Result<(), AllocError>
         ensures names { IfOk result (λ _. (x : ℕ) → slice_index self.new.by_name.items x
             ≡ (if nat_eq x name then number else slice_index self.old.by_name.items x)) }
+        ensures same { OnErr result (self.new.by_name.items ≡ self.old.by_name.items) }
         ensures grants { self.new.grants ≡ self.old.grants }
     {
         let at = name as usize;
@@ -70,11 +70,10 @@ impl Numbers {
         names: u32,
     ) -> Result<(), AllocError>
         requires { AreNumbers handles.now self.old.grants self.old.by_name.items }
-        ensures numbers { IfOk result (λ _.
-            AreNumbers handles.now (length handles.now) self.new.by_name.items) }
+        ensures numbers { AreNumbers handles.now self.new.grants self.new.by_name.items }
         ensures grants { IfOk result (λ _. self.new.grants ≡ length handles.now) }
     {
-        self.make_room(names as usize);
+        self.reserve(names as usize);
         for i in self.grants..handles.len() {
             if let Some(handle) = handles[i] {
                 self.set(handle.to_parts().1, i as u64 + 1)?;

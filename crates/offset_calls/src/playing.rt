@@ -1,22 +1,21 @@
 //! Plays calls on an allocator.
 
-ghost use Rattle.std.specs.Prelude.{◌≡◌, ◌+◌, ◌-◌, ◌<◌, ◌≤◌, ◌++◌, ◌∷◌, [], All, IfOk, IsTrue, OnOk, Some};
-ghost use Rattle.std.specs.Prelude.{drop, false};
-ghost use Rattle.std.specs.Prelude.{if◌then◌else◌, length, map};
-ghost use Rattle.offset_allocator.specs.Compacting.{Compacts, live, moves};
-ghost use Rattle.offset_script.specs.Steps.{kept_name, AreHeld, AreLive};
+ghost use Rattle.std.specs.Prelude.{◌≡◌, ◌+◌, ◌<◌, ◌≤◌, All, IfOk, IsTrue, OnErr, if◌then◌else◌, map};
+ghost use Rattle.offset_script.specs.Steps.{AreHeld, AreLive};
 ghost use Rattle.offset_script.specs.Machine as machine;
-ghost use Rattle.offset_calls.specs.Calls.{is_valid, move_view, reply_view};
+ghost use Rattle.offset_calls.specs.Calling.{IsLost};
+ghost use Rattle.offset_calls.specs.Calls.{is_valid, reply_view};
 ghost use Rattle.offset_calls.specs.Calls as plain;
 ghost use Rattle.offset_calls.specs.Playing.{AreReplies};
-ghost use Rattle.offset_calls.specs.Steps.{AreKept, AreMoves, AreNumbers, Takes, joined};
+ghost use Rattle.offset_calls.specs.Steps.{AreKept, AreNumbers, Takes};
 
-use crate::calls::{Call, Moved, Reply};
+use crate::calls::{Call, Reply};
 use crate::ending;
 use crate::numbers::Numbers;
-use crate::room::make_room;
+use crate::player::CallPlayerOf;
+use crate::sliding::{compact, make_room};
 use offset_allocator::laws::is_well_formed;
-use offset_allocator::{AllocatorOf, ByNode, Move, NodeIndex, Tables};
+use offset_allocator::{ByNode, NodeIndex, Tables};
 use offset_script::{Answer, PlayerOf};
 use std::alloc::{AllocError, Global};
 
@@ -55,118 +54,6 @@ fn grow<T: Tables>(player: &mut PlayerOf<T>, number: u32, size: u32) -> Reply
     }
 }
 
-// The numbers of the live ranges, in space order.
-fn numbers_of_live<T: Tables>(
-    alloc: Global,
-    player: &PlayerOf<T>,
-    numbers: &Numbers,
-) -> Result<Vec<u64>, AllocError>
-    requires kept { AreKept player.now.space player.now.handles.items }
-    requires numbers { AreNumbers player.now.handles.items (length player.now.handles.items)
-        numbers.now.by_name.items }
-    ensures { IfOk result (λ ks. map (kept_name player.now.handles.items) ks.items
-        ≡ map (λ b. Some b.name) (live player.now.space.blocks)) }
-{
-    let mut found = Vec::new(alloc);
-    for block in player.space.blocks() {
-        if let Some(handle) = block.allocation {
-            found.push(numbers.of(handle.to_parts().1))?;
-        }
-    }
-    found.reverse();
-    Ok(found)
-}
-
-// The moves of a compaction so far, without numbers, unless memory for one was refused.
-#[derive(Drop)]
-pub(crate) struct Moves {
-    pub(crate) found: Vec<Moved>,
-    pub(crate) is_refused: bool,
-}
-
-impl Moves {
-    // One more move.
-    pub(crate) fn add(&mut self, from: u32, to: u32, size: u32)
-        ensures { self.new.is_refused ≡ false → (self.old.is_refused ≡ false)
-            × (self.new.found.items ≡ self.old.found.items ++ record {
-              number = 0;
-              from = from;
-              to = to;
-              size = size;
-            } ∷ []) }
-    {
-        let moved = Moved {
-            number: 0,
-            from,
-            to,
-            size,
-        };
-        if self.found.push(moved).is_err() {
-            self.is_refused = true;
-        }
-    }
-}
-
-// Compacts a space, and collects the moves. Its index type is a parameter too, which keeps the proof short.
-fn collect<NI: NodeIndex, T: Tables<Index = NI>>(space: &mut AllocatorOf<T>, seen: &mut Moves)
-    requires { seen.old.found.items ≡ [] }
-    ensures moves { seen.new.is_refused ≡ false
-        → AreMoves seen.new.found.items (moves 0 0 space.old.blocks) }
-    ensures step { Compacts space.old space.new }
-{
-    space.compact(&mut |range: Move<NI>| seen.add(range.from, range.to, range.size));
-}
-
-// The moves with these numbers, the last of which are those of the ranges that are moved.
-pub(crate) fn numbered(
-    alloc: Global,
-    numbers: &[u64],
-    moves: &[Moved],
-) -> Result<Vec<Moved>, AllocError>
-    requires { length moves.now ≤ length numbers.now }
-    ensures { IfOk result (λ ms. map move_view ms.items
-        ≡ joined (drop (length numbers.now - length moves.now) numbers.now) moves.now) }
-{
-    let first = numbers.len() - moves.len();
-    let mut found = Vec::new(alloc);
-    for i in 0..moves.len() {
-        let range = moves[i];
-        found.push(Moved {
-            number: numbers[first + i],
-            from: range.from,
-            to: range.to,
-            size: range.size,
-        })?;
-    }
-    Ok(found)
-}
-
-// The reply to `Compact`. All ranges after the first one that moves are moved too.
-fn compact<T: Tables>(
-    alloc: Global,
-    player: &mut PlayerOf<T>,
-    numbers: &mut Numbers,
-) -> Result<Reply, AllocError>
-    requires kept { AreKept player.old.space player.old.handles.items }
-    requires numbers { AreNumbers player.old.handles.items numbers.old.grants numbers.old.by_name.items }
-    ensures takes { IfOk result (λ r. Takes Call.Compact player.old.space player.old.handles.items
-        player.new.space player.new.handles.items (reply_view r)) }
-    ensures numbers { OnOk result
-        (AreNumbers player.old.handles.items numbers.new.grants numbers.new.by_name.items) }
-{
-    numbers.read(&player.handles, player.space.node_count())?;
-    let live_numbers = numbers_of_live(alloc, player, numbers)?;
-    let mut moves = Moves {
-        found: Vec::new(alloc),
-        is_refused: false,
-    };
-    collect(&mut player.space, &mut moves);
-    if moves.is_refused {
-        return Err(AllocError);
-    }
-    Ok(Reply::Compacted(numbered(alloc, &live_numbers, &moves.found)?))
-}
-
 // The reply to `Offset`.
 fn offset<T: Tables>(player: &PlayerOf<T>, number: u32) -> Reply
     requires { AreLive player.now.space player.now.handles.items }
@@ -181,7 +68,7 @@ fn offset<T: Tables>(player: &PlayerOf<T>, number: u32) -> Reply
 }
 
 // The reply to one call.
-fn reply<T: Tables>(
+pub(crate) fn reply<T: Tables>(
     alloc: Global,
     player: &mut PlayerOf<T>,
     numbers: &mut Numbers,
@@ -193,8 +80,9 @@ fn reply<T: Tables>(
     requires valid { IsTrue (is_valid call) }
     ensures takes { IfOk result (λ r. Takes call player.old.space player.old.handles.items
         player.new.space player.new.handles.items (reply_view r)) }
-    ensures numbers { OnOk result
-        (AreNumbers player.old.handles.items numbers.new.grants numbers.new.by_name.items) }
+    ensures lost { OnErr result (IsLost call player.old.space player.old.handles.items
+        player.new.space player.new.handles.items) }
+    ensures numbers { AreNumbers player.old.handles.items numbers.new.grants numbers.new.by_name.items }
 {
     match call {
         Call::Command(command) => Ok(Reply::Answer(player.call(alloc, command)?)),
@@ -207,10 +95,12 @@ fn reply<T: Tables>(
             player.space.refusal_aligned(size, align),
         )),
         Call::Tight(size) => {
+            player.handles.reserve(1)?;
             let granted = player.space.allocate_tight(size);
             Ok(Reply::Answer(player.keep(granted)?))
         }
         Call::TightAligned(size, align) => {
+            player.handles.reserve(1)?;
             let granted = player.space.allocate_tight_aligned(size, align);
             Ok(Reply::Answer(player.keep(granted)?))
         }
@@ -262,14 +152,13 @@ pub fn play_calls_of<T: Tables>(
     // a run of the allocator's named steps.
     ensures { IfOk result (λ found. AreReplies size max_allocs calls.now (map reply_view found.items)) }
 {
-    let mut player: PlayerOf<T> = PlayerOf::start(alloc, size, max_allocs)?;
+    let mut player: CallPlayerOf<T> = CallPlayerOf::start(alloc, size, max_allocs)?;
     // A step of the proof, which does nothing, here and below.
-    is_well_formed(&player.space);
-    let mut numbers = Numbers::new(alloc);
+    is_well_formed(player.space());
     let mut found = Vec::with_capacity(alloc, calls.len())?;
     for call in calls {
-        let reply = reply(alloc, &mut player, &mut numbers, *call)?;
-        is_well_formed(&player.space);
+        let reply = player.take(alloc, *call)?;
+        is_well_formed(player.space());
         found.push(reply)?;
     }
     Ok(found)

@@ -2,10 +2,9 @@
 use Rattle.std.proofs.Common.{◌≡◌, ◌+◌, ◌*◌, ◌≤◌, Bool, List, ap, arith, drop, inl, inr, if◌then◌else◌, length, ℕ}
 use Rattle.std.proofs.lemmas.Bool.{cases_lt, le-ltb, lt-ltb}
 use Rattle.std.proofs.lemmas.List.{length-drop}
-use Rattle.offset_allocator.proofs.FaultPlaces as allocator
-use Rattle.offset_guarded.proofs.Numbers.{length-numbers}
-use Rattle.offset_guarded.specs.State.{number_at}
-use Rattle.offset_guarded.specs.StateFaults.{IsFault, IsFaultOf, serial_place}
+use Rattle.offset_allocator.proofs.Saving.FaultPlaces as allocator
+use Rattle.offset_guarded.proofs.Bytes.{length-numbers}
+use Rattle.offset_guarded.specs.{Numbers.number_at, StateFaults.IsFault, StateFaults.IsFaultOf, StateFaults.serial_place}
 use Rattle.offset_guarded.specs.declared.state.StateFault.{StateFault}
 use Rattle.offset_guarded.specs.declared.state.StateFaultKind.{StateFaultKind}
 use Rattle.offset_guarded.specs.declared.state.StateFaultKind.TheVariants.{Length, Form, Realm, Checksum, Serial, Allocator}

@@ -1,17 +1,12 @@
 -- Which tickets are live, and what a grant leaves of them.
-use Rattle.std.proofs.Common.{◌≡◌, ◌≢◌, ℕ, ◌+◌, ◌<◌, ◌≤◌, length, Bool, true, false, ◌&&◌, List, [], ◌∷◌, Option, Some, None, IsSome, nat_eq, option_map}
-use Rattle.std.proofs.Common.{slice_set, if◌then◌else◌, refl, sym}
-use Rattle.std.proofs.Common.{ap, ap₂, subst, ◌∙◌, inl, inr, arith, eq-eqb, ne_eqb}
+use Rattle.std.proofs.Common.{◌≡◌, ◌≢◌, ℕ, ◌+◌, ◌<◌, ◌≤◌, length, Bool, true, false, ◌&&◌, List, [], ◌∷◌, Option, Some, None, IsSome, nat_eq, option_map, slice_set, if◌then◌else◌, refl, sym, ap, ap₂}
+use Rattle.std.proofs.Common.{subst, ◌∙◌, inl, inr, arith, eq-eqb, ne_eqb}
 use Rattle.std.proofs.lemmas.Bool.{cases_eq, eqb-true, and_parts}
 use Rattle.std.proofs.lemmas.List.{get_or-set_same, get_or-set_other}
 use Rattle.offset_allocator.specs.View.{Block, View, Handle, Place, AreNames, IsWellFormed, count_named, place_of}
-use Rattle.offset_allocator.specs.Ranges.{Range}
+use Rattle.offset_allocator.specs.{Ranges.Range, Relations.Aligns, Relations.Allocates, Requests.CanGrant, Tight.AlignsTight, Tight.CanHold}
 use Rattle.offset_allocator.specs.Ranges as named
-use Rattle.offset_allocator.specs.Relations.{Aligns, Allocates}
-use Rattle.offset_allocator.specs.Requests.{CanGrant}
-use Rattle.offset_allocator.specs.Tight.{AlignsTight, CanHold}
-use Rattle.offset_allocator.proofs.Reading.{range_at}
-use Rattle.offset_allocator.proofs.Tallies.{hit_cases}
+use Rattle.offset_allocator.proofs.{Reading.range_at, Tallies.hit_cases}
 use Rattle.offset_guarded.specs.declared.ticket.Ticket.{Ticket}
 use Rattle.offset_guarded.specs.State as state
 use Rattle.offset_guarded.specs.Guard.{Guard, Table, Grants, AreAlike, IsGuarded, IsLive, KeepsOthers, last_serial, cell, fits, serial_of}

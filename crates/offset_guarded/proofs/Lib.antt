@@ -1,5 +1,5 @@
+pub mod Bytes
 pub mod FaultPlaces
 pub mod Guards
 pub mod Headed
-pub mod Numbers
 pub mod States

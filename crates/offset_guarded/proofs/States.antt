@@ -2,13 +2,13 @@
 use Rattle.std.proofs.Common.{◌≡◌, ℕ, ◌+◌, ◌*◌, ◌<◌, ◌≤◌, List, [], ◌∷◌, ◌++◌, length, get_or, take, drop, sym, subst, ap, ap₂, ◌∙◌, arith, length-append}
 use Rattle.std.proofs.Math.Seq.{take-append_seam}
 use Rattle.std.proofs.lemmas.List.{get_or_push, length-drop, take-append-drop}
-use Rattle.offset_allocator.proofs.Bytes.{length-in}
-use Rattle.offset_allocator.specs.State as allocator
+use Rattle.offset_allocator.proofs.Saving.Bytes.{length-in}
+use Rattle.offset_allocator.specs.Saving.State as allocator
 use Rattle.offset_allocator.specs.Relations.{SameState}
-use Rattle.offset_guarded.specs.Guard.{Guard}
-use Rattle.offset_guarded.specs.State.{IsHeader, IsStateOf, SameGuard, checksum_from, number_at, numbers, ticket_numbers}
+use Rattle.offset_guarded.specs.{Guard.Guard, Numbers.checksum_from, Numbers.number_at, Numbers.numbers}
+use Rattle.offset_guarded.specs.State.{IsHeader, IsStateOf, SameGuard, state_form, state_version, ticket_numbers}
 use Rattle.offset_guarded.specs.declared.restoring.Header.{Header}
-use Rattle.offset_guarded.proofs.Numbers.{length-numbers, number_in, numbers-add, numbers_more, all_drop, same_front}
+use Rattle.offset_guarded.proofs.Bytes.{length-numbers, number_in, numbers-add, numbers_more, all_drop, same_front}
 use Rattle.std.specs.List.{AllByRecursion, concat}
 
 five : (bs : List ℕ) → numbers 5 bs ≡ number_at bs 0 ∷ number_at bs 1 ∷ number_at bs 2 ∷ number_at bs 3 ∷ number_at bs 4 ∷ []
@@ -42,8 +42,8 @@ tickets_read bs h g hd serials given realm =
 -- what the bytes of a state have
 pub record HasParts (g : Guard) (bs : List ℕ) : Type 0 where
   pub long : 80 + 8 * length g.serials ≤ length bs
-  pub form : number_at bs 0 ≡ 1263812943
-  pub version : number_at bs 1 ≡ 1
+  pub form : number_at bs 0 ≡ state_form
+  pub version : number_at bs 1 ≡ state_version
   pub count : number_at bs 2 ≡ length g.serials
   pub given : number_at bs 3 ≡ g.given
   pub realm : number_at bs 4 ≡ g.realm

@@ -1,6 +1,6 @@
 -- The texts of what is wrong with the bytes of a state with tickets.
 use Rattle.std.specs.Prelude.{codes, ℕ, List}
-use Rattle.offset_allocator.specs.Faults as allocator
+use Rattle.offset_allocator.specs.Saving.Faults as allocator
 use Rattle.offset_guarded.specs.declared.state.StateFaultKind.{StateFaultKind}
 use Rattle.offset_guarded.specs.declared.state.StateFaultKind.TheVariants.{Length, Form, Realm, Checksum, Serial, Allocator}
 

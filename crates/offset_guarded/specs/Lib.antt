@@ -1,4 +1,5 @@
 pub mod Faults
 pub mod Guard
+pub mod Numbers
 pub mod State
 pub mod StateFaults

@@ -1,30 +1,23 @@
 -- The bytes of a state with tickets: what is written of a guarded allocator, and what is read back.
-use Rattle.std.specs.Prelude.{◌≡◌, ℕ, zero, suc, ◌+◌, ◌*◌, ◌%◌, ◌<◌, ◌≤◌, List, [], ◌∷◌, ◌++◌, length, take, drop}
-use Rattle.std.specs.Int.{w64, from_le_bytes}
+use Rattle.std.specs.Prelude.{◌≡◌, ℕ, ◌+◌, ◌*◌, ◌<◌, ◌≤◌, List, [], ◌∷◌, ◌++◌, length, drop}
 use Rattle.offset_allocator.specs.View as view
 use Rattle.offset_allocator.specs.Ranges as named
-use Rattle.offset_allocator.specs.State as allocator
+use Rattle.offset_allocator.specs.Saving.State as allocator
 use Rattle.offset_guarded.specs.Guard.{Guard, serial_of}
+use Rattle.offset_guarded.specs.Numbers.{checksum_from, number_at, numbers}
 use Rattle.offset_guarded.specs.declared.restoring.Header.{Header}
 
--- the number of 64 bits at a place, the lowest byte first
-abbrev pub number_at : List ℕ → ℕ → ℕ
-number_at bytes i = from_le_bytes w64 (take 8 (drop (8 * i) bytes))
+-- the number that a state begins with, and the version of the form
+abbrev pub state_form : ℕ
+state_form = 1263812943
 
--- the first n numbers of 64 bits
-abbrev pub numbers : ℕ → List ℕ → List ℕ
-numbers zero bytes = []
-numbers (suc n) bytes = from_le_bytes w64 (take 8 bytes) ∷ numbers n (drop 8 bytes)
-
--- the checksum of numbers, from one of those before
-abbrev pub checksum_from : ℕ → List ℕ → ℕ
-checksum_from s [] = s
-checksum_from s (n ∷ ns) = checksum_from ((s * 1099511628211 + n) % 18446744073709551616) ns
+abbrev pub state_version : ℕ
+state_version = 1
 
 -- the numbers of tickets: the form and its version, how many serials are stored, how many were given, the realm, and the
 -- serials by name
 abbrev pub ticket_numbers : Guard → List ℕ
-ticket_numbers g = 1263812943 ∷ 1 ∷ length g.serials ∷ g.given ∷ g.realm ∷ g.serials
+ticket_numbers g = state_form ∷ state_version ∷ length g.serials ∷ g.given ∷ g.realm ∷ g.serials
 
 -- the bytes of a state of a guarded allocator
 pub record IsStateOf (g : Guard) (bytes : List ℕ) : Type 0 where
@@ -36,8 +29,8 @@ pub record IsStateOf (g : Guard) (bytes : List ℕ) : Type 0 where
 -- the numbers before the serials, where all numbers of tickets are there, and their checksum is right
 pub record IsHeader (bytes : List ℕ) (h : Header) : Type 0 where
   pub long : 48 + 8 * h.count ≤ length bytes
-  pub form : number_at bytes 0 ≡ 1263812943
-  pub version : number_at bytes 1 ≡ 1
+  pub form : number_at bytes 0 ≡ state_form
+  pub version : number_at bytes 1 ≡ state_version
   pub count : number_at bytes 2 ≡ h.count
   pub given : number_at bytes 3 ≡ h.given
   pub realm : number_at bytes 4 ≡ h.realm

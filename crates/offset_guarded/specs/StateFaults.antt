@@ -1,19 +1,20 @@
 -- What is wrong with the bytes of a state with tickets, and where.
 use Rattle.std.specs.Prelude.{◌≡◌, ℕ, ◌+◌, ◌*◌, ◌<◌, ◌≤◌, ◌⊎◌, List, drop, length, nat_lt, if◌then◌else◌}
 use Rattle.offset_allocator.specs.Ranges as named
-use Rattle.offset_allocator.specs.State as space
-use Rattle.offset_allocator.specs.StateFaults as allocator
+use Rattle.offset_allocator.specs.Saving.State as space
+use Rattle.offset_allocator.specs.Saving.StateFaults as allocator
 use Rattle.offset_allocator.specs.View as view
 use Rattle.offset_allocator.specs.View.{View}
 use Rattle.offset_guarded.specs.Guard.{cell}
-use Rattle.offset_guarded.specs.State.{checksum_from, number_at, numbers}
+use Rattle.offset_guarded.specs.Numbers.{checksum_from, number_at, numbers}
+use Rattle.offset_guarded.specs.State.{state_form, state_version}
 use Rattle.offset_guarded.specs.declared.state.StateFault.{StateFault}
 use Rattle.offset_guarded.specs.declared.state.StateFaultKind.{StateFaultKind}
 use Rattle.offset_guarded.specs.declared.state.StateFaultKind.TheVariants.{Length, Form, Realm, Checksum, Serial, Allocator}
 
 -- they begin as a state with tickets does
 abbrev pub HasForm : List ℕ → Type 0
-HasForm bytes = (48 ≤ length bytes) × (number_at bytes 0 ≡ 1263812943) × (number_at bytes 1 ≡ 1)
+HasForm bytes = (48 ≤ length bytes) × (number_at bytes 0 ≡ state_form) × (number_at bytes 1 ≡ state_version)
 
 -- all numbers of tickets are there
 abbrev pub HasLength : List ℕ → Type 0

@@ -15,20 +15,22 @@
 #![tactic(auto)]
 
 ghost use Rattle.std.specs.Prelude.{◌≡◌, ◌↔◌, ◌+◌, ◌-◌, ◌*◌, ◌<◌, ◌≤◌, min, None, Some, false, true, []};
-ghost use Rattle.std.specs.Prelude.{IsTrue};
-ghost use Rattle.std.specs.Prelude.{IsSome, IfSome, IfOk, MatchOption, option_map};
+ghost use Rattle.std.specs.Prelude.{IsSome, IsTrue, IfSome, IfOk, MatchOption, option_map};
 ghost use Rattle.offset_allocator.specs.Ranges.{Range};
 ghost use Rattle.offset_allocator.specs.Ranges as named;
-ghost use Rattle.offset_allocator.specs.View.{used_of};
 ghost use Rattle.offset_allocator.specs.Relations.{Frees, IsFresh, Resets};
+ghost use Rattle.offset_allocator.specs.View.{used_of};
 ghost use Rattle.offset_guarded.specs.Guard.{HasSerialLeft, IsCopy, IsLive, KeepsOthers, last_serial};
 ghost use Rattle.offset_guarded.specs.Guard.{range_of, serial_of};
 
-mod changing;
-mod ending;
-mod granting;
+mod allocate;
+mod beside;
+mod compact;
 pub mod laws;
+#[doc(hidden)]
+pub mod numbers;
 mod refusal;
+mod resize;
 mod restoring;
 mod saving;
 mod serials;

@@ -8,8 +8,9 @@ ghost use Rattle.offset_guarded.specs.StateFaults.{IsFault, IsFaultOf, IsSerialF
 ghost use Rattle.offset_guarded.specs.declared.state.StateFaultKind.TheVariants.{Serial};
 
 use crate::GuardedOf;
+use crate::numbers::{checksum, number};
 use crate::serials::Serials;
-use crate::state::{StateFault, StateFaultKind, checksum, number};
+use crate::state::{FORM, StateFault, StateFaultKind, VERSION};
 use offset_allocator::laws::a_state_is_read_back;
 use offset_allocator::{Allocation, AllocatorOf, Tables};
 use std::alloc::{AllocError, Global};
@@ -35,7 +36,7 @@ fn header_of(bytes: &[u8]) -> Result<Header, StateFault>
             kind: StateFaultKind::Length,
         });
     }
-    if number(bytes, 0) != 1263812943 || number(bytes, 1) != 1 {
+    if number(bytes, 0) != FORM || number(bytes, 1) != VERSION {
         return Err(StateFault {
             at: 0,
             kind: StateFaultKind::Form,

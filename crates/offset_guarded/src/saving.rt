@@ -1,38 +1,17 @@
 //! The bytes of the state of a guarded allocator. It changes nothing.
-ghost use Rattle.std.specs.Prelude.{◌≡◌, ◌+◌, ◌*◌, ◌++◌, ◌∷◌, [], ℕ, IfOk, length};
-ghost use Rattle.offset_guarded.specs.State.{IsStateOf, numbers};
+ghost use Rattle.std.specs.Prelude.{IfOk};
+ghost use Rattle.offset_guarded.specs.State.{IsStateOf};
 
 use crate::GuardedOf;
-use crate::state::checksum;
+use crate::numbers::bytes_with_checksum;
+use crate::state::{FORM, VERSION};
 use offset_allocator::Tables;
 use std::alloc::{AllocError, Global};
-
-// Adds a number at the end.
-fn push_number(bytes: &mut Vec<u8>, number: u64) -> Result<(), AllocError>
-    ensures { IfOk result (λ _. (k : ℕ) → length bytes.old.items ≡ 8 * k
-        → (numbers (k + 1) bytes.new.items ≡ numbers k bytes.old.items ++ number ∷ [])
-        × (length bytes.new.items ≡ 8 * (k + 1))) }
-{
-    bytes.extend_from_slice(&number.to_le_bytes())?;
-    Ok(())
-}
-
-// Adds numbers at the end.
-fn push_numbers(bytes: &mut Vec<u8>, more: &[u64]) -> Result<(), AllocError>
-    ensures { IfOk result (λ _. (k : ℕ) → length bytes.old.items ≡ 8 * k
-        → (numbers (k + length more.now) bytes.new.items ≡ numbers k bytes.old.items ++ more.now)
-        × (length bytes.new.items ≡ 8 * (k + length more.now))) }
-{
-    for number in more {
-        push_number(bytes, *number)?;
-    }
-    Ok(())
-}
 
 impl<T: Tables> GuardedOf<T> {
     /// The bytes of the state, which `read_state` reads: 48, 8 for each serial that is stored, one for each
     /// node that was ever made, and behind them those of `Allocator::write_state`. The first are numbers of
-    /// 64 bits, the lowest byte of each first: 1263812943 and the version 1, how many serials are stored and
+    /// 64 bits, the lowest byte of each first: the letters OATK, the version 1, how many serials are stored and
     /// how many were given, the realm, the serials by name, and a checksum.
     ///
     /// It takes time for the nodes that were made.
@@ -50,15 +29,14 @@ impl<T: Tables> GuardedOf<T> {
         ensures { IfOk result (λ bytes. IsStateOf self.now bytes.items) }
     {
         let serials = self.serials.cells();
-        let mut bytes = Vec::new(alloc);
-        push_number(&mut bytes, 1263812943)?;
-        push_number(&mut bytes, 1)?;
-        push_number(&mut bytes, serials.len() as u64)?;
-        push_number(&mut bytes, self.serials.count())?;
-        push_number(&mut bytes, self.realm as u64)?;
-        push_numbers(&mut bytes, serials)?;
-        let sum = checksum(&bytes, 5 + serials.len());
-        push_number(&mut bytes, sum)?;
+        let head = [
+            FORM,
+            VERSION,
+            serials.len() as u64,
+            self.serials.count(),
+            self.realm as u64,
+        ];
+        let mut bytes = bytes_with_checksum(alloc, &head, serials)?;
         bytes.extend_from_slice(&self.space.write_state(alloc)?)?;
         Ok(bytes)
     }

@@ -1,12 +1,11 @@
 //! The serials of grants, by name. It touches its own numbers alone.
 ghost use Rattle.std.specs.Prelude.{ℕ, ◌≡◌, ◌↔◌, ◌+◌, ◌/◌, ◌<◌, ◌≤◌, [], ◌∷◌, ◌++◌, IfOk, IfSome, IsTrue};
-ghost use Rattle.std.specs.Prelude.{None, false};
-ghost use Rattle.std.specs.Prelude.{length, slice_set, vec_capacity, vec_len};
+ghost use Rattle.std.specs.Prelude.{None, false, length, slice_set, vec_capacity, vec_len};
 ghost use Rattle.offset_guarded.specs.Guard.{cell, last_serial};
-ghost use Rattle.offset_guarded.specs.State.{numbers};
+ghost use Rattle.offset_guarded.specs.Numbers.{numbers};
 ghost use Rattle.offset_guarded.specs.StateFaults.{IsFirstAbove};
 
-use crate::state::number;
+use crate::numbers::number;
 use std::alloc::{AllocError, Global};
 use std::marker::Model;
 

@@ -2,11 +2,8 @@
 use Rattle.std.proofs.Common.{[], ◌∷◌, replicate, if◌then◌else◌}
 use Rattle.std.proofs.Common.{◌≡◌, ℕ, ◌+◌, ◌<◌, ◌≤◌, ◌⊎◌, Bool, true, length, List, Option, Some, None, IfSome, slice_set, refl, sym, ap, ap₂, subst, subst₂, ◌∙◌, inl, inr, arith}
 use Rattle.std.proofs.lemmas.Bool.{cases_lt}
-use Rattle.offset_allocator.specs.Relations.{SameState}
-use Rattle.offset_allocator.specs.Requests.{blocks_needed, units_needed}
-use Rattle.offset_allocator.specs.View.{View, IsWellFormed, free_block, push_all}
-use Rattle.offset_allocator.proofs.Decided.{aligns_decided, tight_decided}
-use Rattle.offset_allocator.proofs.ViewTaken.{well_alone}
+use Rattle.offset_allocator.specs.{Relations.SameState, Requests.blocks_needed, Requests.units_needed, View.View, View.IsWellFormed, View.free_block, View.push_all}
+use Rattle.offset_allocator.proofs.{Decided.aligns_decided, Decided.tight_decided, Views.ViewTaken.well_alone}
 use Rattle.offset_guarded.specs.Guard.{Guard, handle_in}
 use Rattle.offset_guarded.specs.declared.ticket.Ticket.{Ticket}
 use Rattle.offset_heaps.specs.declared.limits.Limits.{Limits}
@@ -14,8 +11,7 @@ use Rattle.offset_heaps.specs.declared.place.Granted.{Granted}
 use Rattle.offset_heaps.specs.declared.place.Place.{Place}
 use Rattle.offset_heaps.specs.declared.refusal.Refusal.{Refusal}
 use Rattle.offset_heaps.specs.declared.refusal.Refusal.TheVariants.{Empty, TooLarge, Full, Memory}
-use Rattle.offset_heaps.specs.Heaps.{Heaps, Grants, IsBefore, IsFirstFit, IsNew, IsNext, IsSpareLarger, IsSpareUsual, IsUsual, IsWhy, MayEverFit, NoneFits, heap_at, larger_limit}
-use Rattle.offset_heaps.specs.Heaps.{room_of, slot}
+use Rattle.offset_heaps.specs.Heaps.{Heaps, Grants, IsBefore, IsFirstFit, IsNew, IsNext, IsSpareLarger, IsSpareUsual, IsUsual, IsWhy, MayEverFit, NoneFits, heap_at, larger_limit, room_of, slot}
 use Rattle.offset_heaps.specs.State as state
 use Rattle.offset_heaps.specs.Twins.{AreTwins, IsTwin, IsTwinIn}
 use Rattle.offset_heaps.proofs.Twins.{grant_twins, none_twins, own_twin, put_twins, room_twins, same_ticket, some_twin, twins_sym}

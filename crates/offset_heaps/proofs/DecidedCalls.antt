@@ -2,28 +2,20 @@
 use Rattle.std.proofs.Common.{[], ◌∷◌, map, suc}
 use Rattle.std.proofs.Common.{◌≡◌, ℕ, ◌+◌, ◌<◌, ◌≤◌, Bool, true, false, length, List, Option, Some, None, MatchOption, Result, Ok, Err, is_some, if◌then◌else◌, nat_eq, refl, sym, ap, ap₂, subst, subst₂, ◌∙◌, inl, inr, arith}
 use Rattle.std.proofs.lemmas.Bool.{cases_Bool, cases_eq, cases_lt}
-use Rattle.offset_allocator.specs.Requests.{blocks_needed, units_needed}
-use Rattle.offset_allocator.specs.View.{used_of}
+use Rattle.offset_allocator.specs.{Requests.blocks_needed, Requests.units_needed, View.used_of}
 use Rattle.offset_guarded.specs.Guard.{Guard, serial_of}
 use Rattle.offset_heaps.specs.declared.place.Granted.{Granted}
 use Rattle.offset_heaps.specs.declared.place.Place.{Place}
 use Rattle.offset_heaps.specs.declared.refusal.Refusal.{Refusal}
 use Rattle.offset_heaps.specs.declared.refusal.Refusal.TheVariants.{Memory}
-use Rattle.offset_heaps.specs.Heaps.{Heaps, Grants, IsFirstFit, IsNext, IsSame, IsWhy, NoneFits, Puts, heap_at}
-use Rattle.offset_heaps.specs.Heaps.{is_empty, empties, live_of, numbers, part, slot}
-use Rattle.offset_heaps.specs.Heaps.{AreTotals, free_of, largest_room, room_of, size_of, total}
+use Rattle.offset_heaps.specs.Heaps.{Heaps, Grants, IsFirstFit, IsNext, IsSame, IsWhy, NoneFits, Puts, heap_at, is_empty, empties, live_of, numbers, part, slot, AreTotals, free_of, largest_room}
+use Rattle.offset_heaps.specs.{Heaps.room_of, Heaps.size_of, Heaps.total, Histories.ResetsAll, State.quiet, Twins.AreTwins, Twins.IsTwin, Twins.IsTwinIn}
 use Rattle.offset_heaps.specs.declared.totals.Totals.{Totals}
-use Rattle.offset_heaps.specs.Histories.{ResetsAll}
 use Rattle.offset_heaps.specs.Relocating.{HasLive, IsEmptiest, NoneLive, TakesRange, granted, live_at, units_in, units_of}
 use Rattle.offset_heaps.specs.State as state
-use Rattle.offset_heaps.specs.State.{quiet}
-use Rattle.offset_heaps.proofs.States.{slot_quiet}
-use Rattle.offset_heaps.specs.Calls.{Allocates, AreTaken, Call, Allocate, Free, Relocate, Drop_empty, Drop_heap, Give_up, Reset, Drops, DropsEmpty, Frees, GivesUp, IsStarved, Relocates, Reply, Requested, Second, Dropped, Was_done, Takes}
-use Rattle.offset_heaps.specs.Twins.{AreTwins, IsTwin, IsTwinIn}
+use Rattle.offset_heaps.proofs.{States.slot_quiet, Empties.empty_there, Grants.memory_alone, Grants.none_found, Grants.one_reason, Numbers.slot_there}
+use Rattle.offset_heaps.specs.Calls.{Allocates, TakesAll, Call, Allocate, Free, Relocate, Drop_empty, Drop_heap, Give_up, Reset, Drops, DropsEmpty, Frees, GivesUp, IsStarved, Relocates, Reply, Requested, Second, Dropped, Was_done, Takes}
 use Rattle.offset_heaps.proofs.Decided.{first_twins, grants_decided, known, known_at, next_twins, none_fit_twins, one_first, one_fit, one_next, why_twins}
-use Rattle.offset_heaps.proofs.Empties.{empty_there}
-use Rattle.offset_heaps.proofs.Grants.{memory_alone, none_found, one_reason}
-use Rattle.offset_heaps.proofs.Numbers.{slot_there}
 use Rattle.offset_heaps.proofs.Twins.{as_twin, free_twins, option_twin, put_twins, range_twins, reset_twins, room_twins, some_twin, total_twins, twins_sym}
 
 -- ---- what calls leave
@@ -254,7 +246,7 @@ takes_decided (Drop_heap k) hs hs' ks ks' is t r r' x y m n = let e = drops_deci
 takes_decided (Give_up k) hs hs' ks ks' is t r r' x y m n = let e = gives_up_decided k hs hs' ks ks' t x.0 y.0 x.2 y.2 in (x.1 ∙ ap Was_done e.0 ∙ sym y.1, e.1)
 takes_decided Reset hs hs' ks ks' is t r r' x y m n = (x.0 ∙ sym y.0, resets_decided hs hs' ks ks' is t x.1 y.1)
 
-pub taken_decided : (cs : List Call) (hs hs' ks ks' : Heaps) → state.IsWellFormed hs → AreTwins hs hs' → (rs rs' : List Reply) → AreTaken hs cs rs ks → AreTaken hs' cs rs' ks' → (rs ≡ rs') × AreTwins ks ks'
+pub taken_decided : (cs : List Call) (hs hs' ks ks' : Heaps) → state.IsWellFormed hs → AreTwins hs hs' → (rs rs' : List Reply) → TakesAll hs cs rs ks → TakesAll hs' cs rs' ks' → (rs ≡ rs') × AreTwins ks ks'
 taken_decided [] hs hs' ks ks' is t [] [] x y = (refl, subst₂ AreTwins (sym x) (sym y) t)
 taken_decided [] hs hs' ks ks' is t [] (r ∷ rs') x y = absurd y
 taken_decided [] hs hs' ks ks' is t (r ∷ rs) rs' x y = absurd x

@@ -1,21 +1,19 @@
 -- The places that walks of live ranges meet, of heaps that no answer tells apart.
-use Rattle.std.proofs.Common.{◌≡◌, ℕ, ◌+◌, ◌≤◌, ◌++◌, Bool, true, false, List, [], ◌∷◌, Option, Some, None, IfSome, IsSome, is_some, if◌then◌else◌, nat_eq, option_map, reverse, refl, sym, ap, ap₂, subst, ◌∙◌, inl, inr, arith}
+use Rattle.std.proofs.Common.{◌≡◌, ℕ, ◌≤◌, ◌++◌, Bool, true, false, List, [], ◌∷◌, Option, Some, None, IfSome, IsSome, is_some, if◌then◌else◌, nat_eq, option_map, reverse, refl, sym, ap, ap₂, subst}
+use Rattle.std.proofs.Common.{◌∙◌, inl, inr, arith}
 use Rattle.std.proofs.lemmas.List.{reverse-append}
 use Rattle.std.specs.List.{AllByRecursion}
-use Rattle.offset_allocator.specs.Beside.{HasOffset, IsWalk, last_live, live_before, live_handles}
-use Rattle.offset_allocator.specs.Ranges.{Range}
+use Rattle.offset_allocator.specs.Reporting.Beside.{HasOffset, IsWalk, last_live, live_before, live_handles}
+use Rattle.offset_allocator.specs.{Ranges.Range, View.Handle, View.IsWellFormed, View.View, View.one, View.tally}
 use Rattle.offset_allocator.specs.Ranges as named
-use Rattle.offset_allocator.specs.View.{Handle, IsWellFormed, View, one, tally}
-use Rattle.offset_allocator.proofs.AlongLive.{all_met, backward}
-use Rattle.offset_allocator.proofs.Tallies.{hit_cases, tally_append}
+use Rattle.offset_allocator.proofs.{Reporting.AlongLive.all_met, Reporting.AlongLive.backward, Tallies.hit_cases, Tallies.tally_append}
 use Rattle.offset_guarded.proofs.Guards.{live_name}
 use Rattle.offset_guarded.specs.Guard.{Guard}
 use Rattle.offset_guarded.specs.declared.ticket.Ticket.{Ticket}
 use Rattle.offset_heaps.specs.declared.place.Place.{Place}
-use Rattle.offset_heaps.specs.Heaps.{Heaps, IsLive, heap_at, range_in}
-use Rattle.offset_heaps.specs.Relocating.{last_place, place_before, place_in}
+use Rattle.offset_heaps.specs.{Heaps.Heaps, Heaps.IsLive, Heaps.heap_at, Heaps.range_in, Relocating.last_place, Relocating.place_before, Relocating.place_in, Twins.AreTwins, Twins.IsTwin}
+use Rattle.offset_heaps.specs.Twins.{IsTwinIn}
 use Rattle.offset_heaps.specs.State as state
-use Rattle.offset_heaps.specs.Twins.{AreTwins, IsTwin, IsTwinIn}
 use Rattle.offset_heaps.proofs.Decided.{known}
 
 -- ---- walks

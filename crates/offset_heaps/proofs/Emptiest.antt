@@ -2,9 +2,7 @@
 use Rattle.std.proofs.Common.{◌≡◌, ℕ, ◌+◌, List, Option, Some, None, MatchOption, inl, inr, arith, subst, le-ltb}
 use Rattle.std.proofs.lemmas.Bool.{cases_eq, cases_lt, lt-ltb}
 use Rattle.offset_guarded.specs.Guard.{Guard}
-use Rattle.offset_heaps.specs.Heaps.{live_of, part, slot}
-use Rattle.offset_heaps.specs.Relocating.{HasLive, IsEmptiest, NoneLive}
-use Rattle.offset_heaps.specs.Slots.{IsMore}
+use Rattle.offset_heaps.specs.{Heaps.live_of, Heaps.part, Heaps.slot, Relocating.HasLive, Relocating.IsEmptiest, Relocating.NoneLive, Slots.IsMore}
 
 -- the emptiest of the first n heaps, and its live units
 abbrev pub IsSoFar : ℕ → List (Option Guard) → Option (ℕ × ℕ) → Type 0
@@ -87,7 +85,3 @@ one_more n slots (Some f) new (Some u) live e was = elim (cases_lt f.1 u) [
         live.1,
       )
 ]
-
--- what is found at the end
-pub found_at_end : (n : ℕ) (slots : List (Option Guard)) (f : ℕ × ℕ) → IsSoFar n slots (Some f) → IsEmptiest n slots f.0
-found_at_end n slots f h = h.0

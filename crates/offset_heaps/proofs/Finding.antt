@@ -5,11 +5,8 @@ use Rattle.offset_guarded.specs.Guard.{Guard}
 use Rattle.offset_heaps.specs.declared.index.Index.{Index}
 use Rattle.offset_heaps.specs.declared.limits.Limits.{Limits}
 use Rattle.offset_heaps.specs.Heaps.{Heaps, IsFirstFit, IsSpareLarger, IsSpareUsual, NoneFits, numbers, room_of, slot}
-use Rattle.offset_heaps.specs.Maxima.{IsFirst, cell}
-use Rattle.offset_heaps.specs.Slots.{IsBelow}
-use Rattle.offset_heaps.specs.Soundness.{IsSound, spare_of}
-use Rattle.offset_heaps.proofs.Numbers.{room_there}
-use Rattle.offset_heaps.proofs.Places.{shown}
+use Rattle.offset_heaps.specs.{Maxima.IsFirst, Maxima.cell, Slots.IsBelow, Soundness.IsSound, Soundness.spare_of}
+use Rattle.offset_heaps.proofs.{Numbers.room_there, Places.shown}
 
 module _ (max : ℕ) (slots : List (Option Guard)) (limits : Limits) (made : ℕ) (index : Index) (is : IsSound max slots limits made index) (realm accesses : ℕ) where
   abbrev heaps : Heaps

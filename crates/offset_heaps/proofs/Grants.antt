@@ -11,11 +11,8 @@ use Rattle.offset_heaps.specs.declared.place.Granted.{Granted}
 use Rattle.offset_heaps.specs.declared.refusal.Refusal.{Refusal}
 use Rattle.offset_heaps.specs.declared.refusal.Refusal.TheVariants.{Empty, TooLarge, Full, Memory}
 use Rattle.offset_heaps.specs.Heaps.{Heaps, Adds, Grants, IsBefore, IsFirstFit, IsForRoom, IsNext, IsWhy, MayEverFit, NoneFits, IsNew, IsSame, IsSpareLarger, IsSpareUsual, IsUsual, KeepsOthers, heap_at}
-use Rattle.offset_heaps.specs.Heaps.{larger_limit, last_realm, range_in, range_of, room_of, slot}
-use Rattle.offset_heaps.specs.Slots.{Changes, KeepsOthersIn, Serves, ServesTight}
-use Rattle.offset_heaps.proofs.Numbers.{slot_same}
-use Rattle.offset_heaps.proofs.Places.{none_if, put_keeps, same_realm, shown}
-use Rattle.offset_heaps.proofs.Rooms.{fresh_none, some_same}
+use Rattle.offset_heaps.specs.{Heaps.larger_limit, Heaps.last_realm, Heaps.range_in, Heaps.range_of, Heaps.room_of, Heaps.slot, Slots.Changes, Slots.KeepsOthersIn, Slots.Serves, Slots.ServesTight}
+use Rattle.offset_heaps.proofs.{Numbers.slot_same, Places.none_if, Places.put_keeps, Places.same_realm, Places.shown, Rooms.fresh_none, Rooms.some_same}
 
 -- a grant at a number
 abbrev pub grant_at : ℕ → ℕ → Ticket → Granted

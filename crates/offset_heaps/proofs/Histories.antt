@@ -7,10 +7,8 @@ use Rattle.offset_guarded.specs.Guard.{Guard}
 use Rattle.offset_heaps.specs.declared.place.Granted.{Granted}
 use Rattle.offset_heaps.specs.declared.place.Place.{Place}
 use Rattle.offset_heaps.specs.Heaps.{Heaps, FreesIn, Grants, IsBefore, IsLive, IsSame, Puts, heap_at, range_in, range_of, slot}
-use Rattle.offset_heaps.specs.Histories.{AreSteps, IsGone, IsStep, ResetsAll}
-use Rattle.offset_heaps.specs.Slots.{ResetsIn}
-use Rattle.offset_heaps.proofs.Numbers.{slot_other, slot_past, slot_same, slot_set}
-use Rattle.offset_heaps.proofs.Places.{none_if}
+use Rattle.offset_heaps.specs.{Histories.AreSteps, Histories.IsGone, Histories.IsStep, Histories.ResetsAll, Slots.ResetsIn}
+use Rattle.offset_heaps.proofs.{Numbers.slot_other, Numbers.slot_past, Numbers.slot_same, Numbers.slot_set, Places.none_if}
 
 -- a number has no heap of this realm
 abbrev Lacks : ℕ → Option Guard → Type 0

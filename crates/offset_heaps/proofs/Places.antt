@@ -4,8 +4,7 @@ use Rattle.std.proofs.Common.{[], ◌∷◌, is_some, option_map, arith}
 use Rattle.std.proofs.lemmas.Bool.{cases_Bool, cases_eq, eqb-true}
 use Rattle.offset_allocator.specs.Ranges.{AreDisjoint, Range}
 use Rattle.offset_allocator.specs.Ranges as named
-use Rattle.offset_allocator.specs.View.{Block, is_used_at, place_of, used_of}
-use Rattle.offset_allocator.specs.View.{Place as Position}
+use Rattle.offset_allocator.specs.View.{Block, is_used_at, place_of, used_of, Place as Position}
 use Rattle.offset_allocator.proofs.Reading.{range_at}
 use Rattle.offset_guarded.specs.Guard as guarded
 use Rattle.offset_guarded.proofs.Guards.{live_fits}

@@ -1,23 +1,16 @@
 -- What a heap has room for.
 use Rattle.std.proofs.Common.{◌≡◌, ℕ, ◌+◌, ◌<◌, ◌≤◌, Bool, true, false, ◌&&◌, [], ◌∷◌, Option, Some, None, length, if◌then◌else◌, refl, sym, ap, subst, ◌∙◌, inl, inr, arith, eq-eqb, ne_eqb, ◌↔◌}
 use Rattle.std.proofs.lemmas.Bool.{cases_eq, cases_lt, lt-ltb, le-ltb}
-use Rattle.offset_allocator.specs.FreeSizes.{largest}
-use Rattle.offset_allocator.specs.Reports.{IsReport}
-use Rattle.offset_allocator.specs.Requests.{CanGrant, HasRoomFor}
-use Rattle.offset_allocator.specs.Relations.{IsFresh}
-use Rattle.offset_allocator.specs.View.{View, IsWellFormed, free_block, free_sizes}
+use Rattle.offset_allocator.specs.{Reporting.FreeSizes.largest, Reporting.Reports.IsReport, Requests.CanGrant, Requests.HasRoomFor, Relations.IsFresh, View.View, View.IsWellFormed, View.free_block}
+use Rattle.offset_allocator.specs.{View.free_sizes, Classes.down, Classes.up, Classes.value, Ranges.Range}
 use Rattle.offset_allocator.specs.declared.reports.StorageReport.{StorageReport}
-use Rattle.offset_allocator.specs.Classes.{down, up, value}
-use Rattle.offset_allocator.proofs.Classes.{down_small, up_reached, value_down, value_grows}
-use Rattle.offset_allocator.proofs.Taken.{HasFit, fitting}
-use Rattle.offset_allocator.proofs.ViewFits.{HasName, fits_exactly, largest_small, sized_below, there_middle}
-use Rattle.offset_allocator.specs.Ranges.{Range}
+use Rattle.offset_allocator.proofs.{Classes.down_small, Classes.up_reached, Classes.value_down, Classes.value_grows, Taken.HasFit, Taken.fitting}
+use Rattle.offset_allocator.proofs.Views.ViewFits.{HasName, fits_exactly, largest_small, sized_below, there_middle}
 use Rattle.offset_allocator.specs.Ranges as named
 use Rattle.offset_guarded.specs.Guard.{Guard, HasSerialLeft, last_serial}
 use Rattle.offset_guarded.specs.Guard as guarded
 use Rattle.offset_guarded.specs.declared.ticket.Ticket.{Ticket}
-use Rattle.offset_heaps.specs.Heaps.{IsNew, room}
-use Rattle.offset_heaps.specs.Slots.{CanHoldIn}
+use Rattle.offset_heaps.specs.{Heaps.IsNew, Heaps.room, Slots.CanHoldIn}
 
 pub room_there : (blocks : ℕ) (g : Guard) → HasSerialLeft g → HasRoomFor blocks g.space → room blocks g ≡ largest (free_sizes g.space.blocks)
 room_there blocks g left some = grind (arith, lt-ltb)

@@ -1,12 +1,10 @@
 -- A heap that was made has the size and the node limit of its kind.
 use Rattle.std.proofs.Common.{◌≡◌, ℕ, ◌<◌, ◌≤◌, Option, Some, IfSome, ap, inl, inr, arith}
-use Rattle.offset_allocator.specs.Tight.{AlignsTight}
-use Rattle.offset_allocator.specs.View.{Handle, View}
+use Rattle.offset_allocator.specs.{Tight.AlignsTight, View.Handle, View.View}
 use Rattle.offset_guarded.specs.Guard.{Guard, handle_in}
 use Rattle.offset_guarded.specs.declared.ticket.Ticket.{Ticket}
 use Rattle.offset_heaps.specs.declared.limits.Limits.{Limits}
-use Rattle.offset_heaps.specs.Heaps.{IsNew, IsOfKind, larger_limit}
-use Rattle.offset_heaps.specs.Slots.{Serves, ServesTight}
+use Rattle.offset_heaps.specs.{Heaps.IsNew, Heaps.IsOfKind, Heaps.larger_limit, Slots.Serves, Slots.ServesTight}
 use Rattle.offset_heaps.proofs.Sound.{kind_kept}
 
 size_tight : (n : ℕ) (v w : View) (h : Handle) → AlignsTight n 1 v w (Some h) → w.size ≡ v.size

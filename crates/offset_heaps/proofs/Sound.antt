@@ -6,11 +6,7 @@ use Rattle.offset_allocator.specs.View.{View}
 use Rattle.offset_guarded.specs.Guard.{Guard}
 use Rattle.offset_heaps.specs.declared.limits.Limits.{Limits}
 use Rattle.offset_heaps.specs.declared.index.Index.{Index}
-use Rattle.offset_guarded.specs.declared.ticket.Ticket.{Ticket}
-use Rattle.offset_heaps.specs.Heaps.{IsOfKind, range_in, slot, room_of}
-use Rattle.offset_heaps.specs.Slots.{Changes, ResetsIn}
-use Rattle.offset_heaps.specs.Soundness.{IsNoted, IsSound, IsWide, spare_of}
-use Rattle.offset_heaps.specs.Maxima.{cell}
+use Rattle.offset_heaps.specs.{Heaps.IsOfKind, Heaps.slot, Heaps.room_of, Slots.Changes, Slots.ResetsIn, Soundness.IsNoted, Soundness.IsSound, Soundness.IsWide, Soundness.spare_of, Maxima.cell}
 use Rattle.offset_heaps.proofs.Numbers.{slot_other, slot_same}
 
 pub wide_put : (slots : List (Option Guard)) (index : Index) (k : ℕ) (o : Option Guard) → IsWide slots index → IsWide (slice_set slots k o) index
@@ -163,8 +159,3 @@ realm_reset made (Some before) new r h = rw r.1 (let same : r.0.realm ≡ before
 pub kind_reset : (limits : Limits) (k : ℕ) (old new : Option Guard) → ResetsIn old new → IfSome old (IsOfKind limits k) → IfSome new (IsOfKind limits k)
 kind_reset limits k None new e h = rw e tt
 kind_reset limits k (Some before) new r h = kind_kept limits k (Some before) new before r.0 refl r.1 (ap (λ (v : View). v.size) r.2.view) (ap (λ (v : View). v.max_allocs) r.2.view) h
-
--- no ticket of it is live
-pub range_reset : (t : Ticket) (old new : Option Guard) → ResetsIn old new → range_in t new ≡ None
-range_reset t None new e = ap (range_in t) e
-range_reset t (Some before) new r = ap (range_in t) r.1 ∙ r.4 t

@@ -3,28 +3,22 @@ use Rattle.std.proofs.Common.{◌≡◌, ℕ, zero, suc, ◌+◌, ◌*◌, ◌-�
 use Rattle.std.proofs.Common.{ap₂, ◌∙◌, subst, inl, inr, arith, length-append, ext_get_or, le-ltb}
 use Rattle.std.proofs.lemmas.Bool.{cases_eq, cases_lt}
 use Rattle.std.proofs.Math.Seq.{drop-append_seam, take-add, take-append_seam}
-use Rattle.std.proofs.lemmas.List.{drop-drop, get_or_append_left, get_or-append-add, get_or_push, take_all, length-drop, length-map, length-replicate, take-append-le, drop-append-le, length-take-le, take-append-drop}
-use Rattle.offset_allocator.specs.State.{words_in}
-use Rattle.offset_allocator.proofs.Restored.{one_view}
-use Rattle.offset_guarded.specs.Guard.{Guard}
+use Rattle.std.proofs.lemmas.List.{drop-drop, get_or_append_left, get_or-append-add, get_or_push, take_all, length-drop, length-map, length-replicate, take-append-le, drop-append-le, length-take-le}
+use Rattle.std.proofs.lemmas.List.{take-append-drop}
+use Rattle.offset_allocator.specs.Saving.State.{words_in}
+use Rattle.offset_allocator.proofs.{Saving.Restored.one_view, Saving.Bytes.same_bytes}
+use Rattle.offset_guarded.specs.{Guard.Guard, Numbers.checksum_from, Numbers.number_at, State.SameGuard}
 use Rattle.offset_guarded.specs.State as guarded
-use Rattle.std.specs.Int.{w64, from_le_bytes}
-use Rattle.offset_guarded.specs.State.{SameGuard, checksum_from, number_at}
+use Rattle.std.specs.{Int.w64, Int.from_le_bytes, List.AllByRecursion}
+use Rattle.offset_guarded.specs.Numbers as words
 use Rattle.offset_guarded.proofs.States as guards
-use Rattle.offset_guarded.proofs.Numbers.{length-numbers, number_in, numbers-add, numbers_more, all_take, all_drop, same_front}
-use Rattle.std.specs.List.{AllByRecursion}
-use Rattle.offset_allocator.proofs.Bytes.{same_bytes}
+use Rattle.offset_guarded.proofs.Bytes.{length-numbers, number_in, numbers-add, numbers_more, all_take, all_drop, same_front}
 use Rattle.offset_heaps.specs.declared.limits.Limits.{Limits}
 use Rattle.offset_heaps.specs.declared.index.Index.{Index}
 use Rattle.offset_heaps.specs.declared.restoring.Header.{Header}
-use Rattle.offset_heaps.specs.Heaps.{Heaps, IsOfKind, slot}
-use Rattle.offset_heaps.specs.Maxima.{cell}
-use Rattle.offset_heaps.specs.Soundness.{IsNoted, IsSound, IsWide}
+use Rattle.offset_heaps.specs.{Heaps.Heaps, Heaps.IsOfKind, Heaps.slot, Maxima.cell, Soundness.IsNoted, Soundness.IsSound, Soundness.IsWide, State.quiet, State.state_form, State.state_version}
 use Rattle.offset_heaps.specs.State.{AreRead, AreStatesOf, IsAdmitted, IsHeader, IsHeapAdmitted, IsHeapAt, IsHeapFormed, IsHeapState, IsRestored, IsStateOf, IsWellFormed, SameHeaps, heaps_numbers}
-use Rattle.offset_heaps.specs.State.{quiet}
-use Rattle.offset_heaps.proofs.Numbers.{slot_other, slot_past, slot_same}
-use Rattle.offset_heaps.proofs.Places.{shown}
-use Rattle.offset_heaps.proofs.Sound.{empty_cell}
+use Rattle.offset_heaps.proofs.{Numbers.slot_other, Numbers.slot_past, Numbers.slot_same, Places.shown, Sound.empty_cell}
 
 -- before any number is noted, what is behind the last one is
 past_noted : (limits : Limits) (p k : ℕ) (slots : List (Option Guard)) (index : Index) → index.one.keys ≡ replicate p 0 → index.two.keys ≡ index.one.keys → index.spare.keys ≡ index.one.keys
@@ -155,8 +149,8 @@ all_pushed n slots places bytes long is =
 
 -- what the bytes of a state have
 pub record HasParts (hs : Heaps) (ps bs : List ℕ) : Type 0 where
-  pub form : number_at bs 0 ≡ 1397244239
-  pub version : number_at bs 1 ≡ 1
+  pub form : number_at bs 0 ≡ state_form
+  pub version : number_at bs 1 ≡ state_version
   pub size : number_at bs 2 ≡ hs.limits.size
   pub limit : number_at bs 3 ≡ hs.limits.max_allocs
   pub most : number_at bs 4 ≡ hs.limits.most
@@ -164,7 +158,7 @@ pub record HasParts (hs : Heaps) (ps bs : List ℕ) : Type 0 where
   pub made : number_at bs 6 ≡ hs.made
   pub realm : number_at bs 7 ≡ hs.realm
   pub places : (i : ℕ) → i < length hs.slots + 1 → number_at bs (8 + i) ≡ cell i ps
-  pub sum : number_at bs (9 + length hs.slots) ≡ checksum_from 0 (guarded.numbers (9 + length hs.slots) bs)
+  pub sum : number_at bs (9 + length hs.slots) ≡ checksum_from 0 (words.numbers (9 + length hs.slots) bs)
 
 pub parts : (hs : Heaps) (bs : List ℕ) (st : IsStateOf hs bs) → HasParts hs st.places bs
 parts hs bs st =
@@ -173,11 +167,11 @@ parts hs bs st =
     let s : ℕ = checksum_from 0 (heaps_numbers hs p) in
     let count : length p ≡ n + 1 = st.heaps.count in
     let at : (i : ℕ) → i < 10 + n → number_at bs i ≡ get_or (heaps_numbers hs p ++ s ∷ []) i 0 = λ i l. sym (number_in (10 + n) i bs l) ∙ ap (λ l. get_or l i 0) st.head in
-    let long : length (guarded.numbers (9 + n) bs) ≡ length (heaps_numbers hs p) = length-numbers (9 + n) bs ∙ omega (arith, count) in
-    let seam : guarded.numbers (9 + n) bs ++ number_at bs (9 + n) ∷ [] ≡ heaps_numbers hs p ++ s ∷ [] =
-    sym (numbers_more (9 + n) bs) ∙ ap (λ m. guarded.numbers m bs) {x = 9 + n + 1} {y = 10 + n} (omega arith) ∙ st.head in
-    let first : guarded.numbers (9 + n) bs ≡ heaps_numbers hs p =
-    sym (take-append_seam (guarded.numbers (9 + n) bs) (number_at bs (9 + n) ∷ [])) ∙ ap₂ (λ (k : ℕ) (l : List ℕ). take k l) long seam ∙ take-append_seam (heaps_numbers hs p) (s ∷ []) in
+    let long : length (words.numbers (9 + n) bs) ≡ length (heaps_numbers hs p) = length-numbers (9 + n) bs ∙ omega (arith, count) in
+    let seam : words.numbers (9 + n) bs ++ number_at bs (9 + n) ∷ [] ≡ heaps_numbers hs p ++ s ∷ [] =
+    sym (numbers_more (9 + n) bs) ∙ ap (λ m. words.numbers m bs) {x = 9 + n + 1} {y = 10 + n} (omega arith) ∙ st.head in
+    let first : words.numbers (9 + n) bs ≡ heaps_numbers hs p =
+    sym (take-append_seam (words.numbers (9 + n) bs) (number_at bs (9 + n) ∷ [])) ∙ ap₂ (λ (k : ℕ) (l : List ℕ). take k l) long seam ∙ take-append_seam (heaps_numbers hs p) (s ∷ []) in
     record {
       form = at 0 (omega arith);
       version = at 1 (omega arith);
@@ -189,7 +183,7 @@ parts hs bs st =
       realm = at 7 (omega arith);
       places = λ i l.
           at (8 + i) (omega (arith, l)) ∙ get_or_append_left (heaps_numbers hs p) (s ∷ []) 0 (8 + i) (omega (arith, l, count))
-          ∙ get_or-append-add (1397244239 ∷ 1 ∷ hs.limits.size ∷ hs.limits.max_allocs ∷ hs.limits.most ∷ hs.limits.most_larger ∷ hs.made ∷ hs.realm ∷ []) p i 0;
+          ∙ get_or-append-add (state_form ∷ state_version ∷ hs.limits.size ∷ hs.limits.max_allocs ∷ hs.limits.most ∷ hs.limits.most_larger ∷ hs.made ∷ hs.realm ∷ []) p i 0;
       sum = at (9 + n) (omega arith) ∙ get_or_push (heaps_numbers hs p) s 0 (9 + n) (omega (arith, count)) ∙ ap (checksum_from 0) (sym first);
     }
 
@@ -244,7 +238,7 @@ one_of_many hs ks bs w v s t =
     }
 
 -- the numbers before the places
-eight : (bs : List ℕ) → guarded.numbers 8 bs
+eight : (bs : List ℕ) → words.numbers 8 bs
     ≡ number_at bs 0 ∷ number_at bs 1 ∷ number_at bs 2 ∷ number_at bs 3 ∷ number_at bs 4 ∷ number_at bs 5 ∷ number_at bs 6 ∷ number_at bs 7 ∷ []
 eight bs =
     let a = number_in 8 0 bs (omega arith) in
@@ -272,13 +266,13 @@ module _ (max mh ma : ℕ) (bs : List ℕ) (h : Header) (slots : List (Option Gu
   v = shown slots h.limits h.made h.realm accesses
 
   abbrev pub places : List ℕ
-  places = guarded.numbers (m + 1) (drop 64 bs)
+  places = words.numbers (m + 1) (drop 64 bs)
 
   place : (k : ℕ) → k < m + 1 → cell k places ≡ number_at bs (8 + k)
   place k l = number_in (m + 1) k (drop 64 bs) l ∙ ap (λ (b : List ℕ). from_le_bytes w64 (take 8 b)) (drop-drop (8 * k) 64 bs ∙ ap (λ i. drop i bs) (omega arith))
 
   -- all numbers but the checksum
-  all : guarded.numbers (9 + m) bs ≡ heaps_numbers v places
+  all : words.numbers (9 + m) bs ≡ heaps_numbers v places
   all =
       let a = hd.form in
       let b = hd.version in
@@ -288,7 +282,7 @@ module _ (max mh ma : ℕ) (bs : List ℕ) (h : Header) (slots : List (Option Gu
       let f = hd.larger in
       let g = hd.made in
       let r = hd.realm in
-      ap (λ i. guarded.numbers i bs) {x = 9 + m} {y = 8 + (m + 1)} (omega arith) ∙ numbers-add 8 (m + 1) bs ∙ ap (λ l. l ++ places) (eight bs)
+      ap (λ i. words.numbers i bs) {x = 9 + m} {y = 8 + (m + 1)} (omega arith) ∙ numbers-add 8 (m + 1) bs ∙ ap (λ l. l ++ places) (eight bs)
       ∙ (λ i. a i ∷ b i ∷ c i ∷ d i ∷ e i ∷ f i ∷ g i ∷ r i ∷ places)
 
   pub read_state_of : IsStateOf v bs
@@ -298,7 +292,7 @@ module _ (max mh ma : ℕ) (bs : List ℕ) (h : Header) (slots : List (Option Gu
         places = places;
         count = many;
         long = omega (arith, hd.long, many);
-        head = ap (λ i. guarded.numbers i bs) {x = 10 + length slots} {y = 9 + m + 1} (omega (arith, many)) ∙ numbers_more (9 + m) bs
+        head = ap (λ i. words.numbers i bs) {x = 10 + length slots} {y = 9 + m + 1} (omega (arith, many)) ∙ numbers_more (9 + m) bs
             ∙ ap₂ (λ (l : List ℕ) (i : ℕ). l ++ i ∷ []) all (hd.sum ∙ ap (checksum_from 0) all);
         heaps = subst (λ n. AreStatesOf slots places (drop (80 + 8 * n) bs)) (sym many) record {
           count = length-numbers (m + 1) (drop 64 bs) ∙ omega (arith, many);
@@ -380,14 +374,6 @@ formed max slots limits made realm accesses index is each size few small = recor
     both k None a b c = tt
     both k (Some g) a b c = (a.0, b, c)
 
-pub within_limit : (max : ℕ) (slots : List (Option Guard)) → ((k : ℕ) → k < length slots → IfSome (slot k slots) (λ g. guarded.IsWellFormed g × (g.space.max_allocs + 1 < max)))
-    → (k : ℕ) → IfSome (slot k slots) (λ g. g.space.max_allocs + 1 < max)
-within_limit max slots each = past_too (λ k o. IfSome o (λ g. g.space.max_allocs + 1 < max)) slots (λ k. tt) (λ k l. second (slot k slots) (each k l))
-  where
-    second : (o : Option Guard) → IfSome o (λ g. guarded.IsWellFormed g × (g.space.max_allocs + 1 < max)) → IfSome o (λ g. g.space.max_allocs + 1 < max)
-    second None a = tt
-    second (Some g) a = a.1
-
 -- a heap has one list of bytes
 one_state : (o : Option Guard) (ks bs : List ℕ) → AllByRecursion (λ x. x < 256) ks → AllByRecursion (λ x. x < 256) bs → IsHeapState o ks → IsHeapState o bs → ks ≡ bs
 one_state None ks bs small few s t = s ∙ sym t
@@ -426,7 +412,7 @@ text_of_many hs ks bs small few s t =
     let rest : ls ≡ rs =
     sym (take_all (cell n s.places) ls (omega (arith, s.heaps.last))) ∙ end.3 ∙ take_all (cell n s.places) rs (omega (arith, end.0, t.heaps.last)) in
     let places : s.places ≡ t.places = ext_get_or 0 s.places t.places (s.heaps.count ∙ sym t.heaps.count) (λ k l. (all k (omega (arith, l, s.heaps.count))).0) in
-    let numbers : guarded.numbers (10 + n) ks ≡ guarded.numbers (10 + n) bs = s.head ∙ ap (λ ps. heaps_numbers hs ps ++ checksum_from 0 (heaps_numbers hs ps) ∷ []) places ∙ sym t.head in
+    let numbers : words.numbers (10 + n) ks ≡ words.numbers (10 + n) bs = s.head ∙ ap (λ ps. heaps_numbers hs ps ++ checksum_from 0 (heaps_numbers hs ps) ∷ []) places ∙ sym t.head in
     let front : take (8 * (10 + n)) ks ≡ take (8 * (10 + n)) bs = same_front (10 + n) ks bs (omega (arith, s.long)) (omega (arith, t.long)) small few numbers in
     let at : 8 * (10 + n) ≡ m = omega arith in
     sym (take-append-drop m ks) ∙ ap₂ (λ (l r : List ℕ). l ++ r) (subst (λ k. take k ks ≡ take k bs) at front) rest ∙ take-append-drop m bs

@@ -46,20 +46,6 @@ raised height place p v cells t half some small is = record {
   ];
 }
 
-pub finished : (height : ℕ) (cells : List ℕ) → IsTreeBut 1 height cells → IsTree height cells
-finished height cells t = record { wide = t.wide; low = t.low; over = λ k some small. t.over k some small (λ e. omega arith) (λ e. omega arith) }
-
-pub right_already : (height place p : ℕ) (cells : List ℕ) → IsTreeBut place height cells → p ≡ place / 2
-    → cell p cells ≡ max (cell (2 * p) cells) (cell (2 * p + 1) cells) → IsTree height cells
-right_already height place p cells t half is = record {
-  wide = t.wide;
-  low = t.low;
-  over = λ k some small. elim (cases_eq k p) [
-    | inl e ↦ rw e is
-    | inr n ↦ t.over k some small (λ e. n (omega arith)) (λ e. n (omega arith))
-  ];
-}
-
 -- the cells below a level are within the tree
 pub in_width : (height level least place : ℕ) (cells : List ℕ) → IsTree height cells → level < height → Leads least level place cells → place * 2 < length cells
 in_width height level least place cells t low is =

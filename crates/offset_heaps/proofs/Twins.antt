@@ -1,23 +1,18 @@
 -- Heaps that no answer tells apart: what calls read of them is the same, and so is what a change of one heap leaves.
-use Rattle.std.proofs.Common.{◌≡◌, ◌≢◌, ℕ, suc, ◌+◌, ◌<◌, ◌⊎◌, Bool, true, false, ◌&&◌, length, List, [], ◌∷◌, Option, Some, None, IfSome, IsSome, slice_set, if◌then◌else◌, nat_eq, refl, sym, ap, ap₂, subst, ◌∙◌, inl, inr, arith}
-use Rattle.std.proofs.Common.{eq-eqb}
+use Rattle.std.proofs.Common.{◌≡◌, ◌≢◌, ℕ, suc, ◌+◌, ◌<◌, ◌⊎◌, Bool, true, false, ◌&&◌, length, List, [], ◌∷◌, Option, Some, None, IfSome, IsSome, slice_set, if◌then◌else◌, nat_eq, refl, sym, ap, ap₂}
+use Rattle.std.proofs.Common.{subst, ◌∙◌, inl, inr, arith, eq-eqb}
 use Rattle.std.proofs.lemmas.Bool.{cases_eq}
-use Rattle.offset_allocator.specs.Ranges.{Range}
+use Rattle.offset_allocator.specs.{Ranges.Range, Relations.SameState, View.View, View.Handle, View.IsWellFormed}
 use Rattle.offset_allocator.specs.Ranges as named
-use Rattle.offset_allocator.specs.Relations.{SameState}
 use Rattle.offset_allocator.specs.Relations as space
-use Rattle.offset_allocator.specs.View.{View, Handle, IsWellFormed}
-use Rattle.offset_allocator.proofs.DecidedChanges.{frees_decided, resets_decided}
-use Rattle.offset_allocator.proofs.Ranges.{frees_gone, frees_others}
-use Rattle.offset_allocator.proofs.ViewTaken.{well_frees}
+use Rattle.offset_allocator.proofs.{DecidedChanges.frees_decided, DecidedChanges.resets_decided, Ranges.frees_gone, Ranges.frees_others, Views.ViewTaken.well_frees}
 use Rattle.offset_guarded.specs.Guard.{Guard, handle_in, serial_of}
 use Rattle.offset_guarded.specs.Guard as guarded
 use Rattle.offset_guarded.proofs.Guards.{live_fits}
 use Rattle.offset_guarded.specs.declared.ticket.Ticket.{Ticket}
 use Rattle.offset_heaps.specs.declared.place.Place.{Place}
 use Rattle.offset_heaps.specs.Heaps.{Heaps, heap_at, part, range_in, range_of, room, room_of, slot, total}
-use Rattle.offset_heaps.specs.Slots.{ResetsIn}
-use Rattle.offset_heaps.specs.Twins.{AreTwins, IsTwin, IsTwinIn}
+use Rattle.offset_heaps.specs.{Slots.ResetsIn, Twins.AreTwins, Twins.IsTwin, Twins.IsTwinIn}
 use Rattle.offset_heaps.proofs.Numbers.{slot_other, slot_same}
 
 range_if : Bool → Option Range → Option Range

@@ -87,7 +87,7 @@ abbrev pub IsStarved : Reply → Type 0
 IsStarved reply = reply ≡ Requested (Err Memory)
 
 -- calls are taken, one after another, none of which is refused for want of memory
-abbrev pub AreTaken : Heaps → List Call → List Reply → Heaps → Type 0
-AreTaken hs [] [] ks = ks ≡ hs
-AreTaken hs (c ∷ cs) (r ∷ rs) ks = (now : Heaps) × Takes c hs now r × (IsStarved r → ⊥) × IsWellFormed now × AreTaken now cs rs ks
-AreTaken hs cs rs ks = ⊥
+abbrev pub TakesAll : Heaps → List Call → List Reply → Heaps → Type 0
+TakesAll hs [] [] ks = ks ≡ hs
+TakesAll hs (c ∷ cs) (r ∷ rs) ks = (now : Heaps) × Takes c hs now r × (IsStarved r → ⊥) × IsWellFormed now × TakesAll now cs rs ks
+TakesAll hs cs rs ks = ⊥

@@ -4,7 +4,7 @@ use Rattle.std.specs.Prelude.{slice_index_or, slice_set, max, sum, if◌then◌e
 use Rattle.offset_allocator.specs.Classes.{value, down}
 use Rattle.offset_allocator.specs.Ranges.{Range}
 use Rattle.offset_allocator.specs.Relations.{Aligns, Frees, IsFresh}
-use Rattle.offset_allocator.specs.FreeSizes.{largest}
+use Rattle.offset_allocator.specs.Reporting.FreeSizes.{largest}
 use Rattle.offset_allocator.specs.Requests.{blocks_needed, units_needed}
 use Rattle.offset_allocator.specs.Tight.{AlignsTight}
 use Rattle.offset_allocator.specs.View.{bin_at, free_sizes, used_of, used_units}

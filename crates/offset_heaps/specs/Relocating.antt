@@ -1,6 +1,6 @@
 -- Which heap takes a range of another one, which one is the emptiest, and the places of the live ranges of a heap.
 use Rattle.std.specs.Prelude.{◌≢◌, ℕ, ◌<◌, ◌≤◌, List, Option, Some, None, false, option_map, unwrap_or}
-use Rattle.offset_allocator.specs.Beside.{last_live, live_before}
+use Rattle.offset_allocator.specs.Reporting.Beside.{last_live, live_before}
 use Rattle.offset_allocator.specs.Ranges.{Range}
 use Rattle.offset_allocator.specs.View.{Handle, used_of}
 use Rattle.offset_guarded.specs.Guard.{Guard, ticket_at}
@@ -22,14 +22,14 @@ abbrev pub live_at : ℕ → Heaps → ℕ
 live_at k hs = part live_of (heap_at k hs)
 
 -- a heap takes units of another one, in which so many are live: it has room for them, and as many are live in it, or more
-pub record Takes (own units live : ℕ) (slots : List (Option Guard)) (k : ℕ) : Type 0 where
+pub record TakesUnits (own units live : ℕ) (slots : List (Option Guard)) (k : ℕ) : Type 0 where
   pub other : k ≢ own
   pub room : units ≤ room_of 1 (slot k slots)
   pub full : live ≤ part live_of (slot k slots)
 
 -- a heap takes the range of a place
 abbrev pub TakesRange : Place → Heaps → ℕ → Type 0
-TakesRange p hs k = (1 ≤ units_of p hs) × Takes p.heap (units_of p hs) (live_at p.heap hs) hs.slots k
+TakesRange p hs k = (1 ≤ units_of p hs) × TakesUnits p.heap (units_of p hs) (live_at p.heap hs) hs.slots k
 
 -- it is the first one that does
 abbrev pub IsTaker : Place → Heaps → ℕ → Type 0

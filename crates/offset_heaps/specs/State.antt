@@ -2,7 +2,8 @@
 use Rattle.std.specs.Prelude.{codes, ◌≡◌, ℕ, ◌+◌, ◌-◌, ◌*◌, ◌<◌, ◌≤◌, List, [], ◌∷◌, ◌++◌, Option, None, Some, IfSome, length, map, option_map, take, drop}
 use Rattle.offset_guarded.specs.Faults as texts
 use Rattle.offset_guarded.specs.Guard.{Guard}
-use Rattle.offset_guarded.specs.State.{checksum_from, number_at}
+use Rattle.offset_guarded.specs.Numbers.{checksum_from, number_at}
+use Rattle.offset_guarded.specs.Numbers as words
 use Rattle.offset_guarded.specs.State as guarded
 use Rattle.offset_heaps.specs.Heaps.{Heaps, IsOfKind, heap_at, numbers, slot}
 use Rattle.offset_heaps.specs.declared.limits.Limits.{Limits}
@@ -29,10 +30,17 @@ pub record AreStatesOf (slots : List (Option Guard)) (places bytes : List ℕ) :
   pub heaps : (k : ℕ) → k < length slots → IsHeapAt (slot k slots) (cell k places) (cell (k + 1) places) bytes
   pub last : cell (length slots) places ≡ length bytes
 
+-- the number that a state begins with, and the version of the form
+abbrev pub state_form : ℕ
+state_form = 1397244239
+
+abbrev pub state_version : ℕ
+state_version = 1
+
 -- the numbers of many heaps: the form and its version, the limits, how many heaps were made, the realm, and the places
 abbrev pub heaps_numbers : Heaps → List ℕ → List ℕ
 heaps_numbers hs places =
-    1397244239 ∷ 1 ∷ hs.limits.size ∷ hs.limits.max_allocs ∷ hs.limits.most ∷ hs.limits.most_larger ∷ hs.made ∷ hs.realm ∷ places
+    state_form ∷ state_version ∷ hs.limits.size ∷ hs.limits.max_allocs ∷ hs.limits.most ∷ hs.limits.most_larger ∷ hs.made ∷ hs.realm ∷ places
 
 -- the bytes of a state of many heaps
 pub record IsStateOf (hs : Heaps) (bytes : List ℕ) : Type 0 where
@@ -40,7 +48,7 @@ pub record IsStateOf (hs : Heaps) (bytes : List ℕ) : Type 0 where
   pub count : length hs.slots ≡ numbers hs
   -- they begin with the numbers of many heaps, and their checksum
   pub long : 80 + 8 * length hs.slots ≤ length bytes
-  pub head : guarded.numbers (10 + length hs.slots) bytes ≡ heaps_numbers hs places ++ checksum_from 0 (heaps_numbers hs places) ∷ []
+  pub head : words.numbers (10 + length hs.slots) bytes ≡ heaps_numbers hs places ++ checksum_from 0 (heaps_numbers hs places) ∷ []
   -- what is behind these are the states of the heaps
   pub heaps : AreStatesOf hs.slots places (drop (80 + 8 * length hs.slots) bytes)
 
@@ -98,15 +106,15 @@ IsNoState max most_heaps most_allocs bytes = (hs : Heaps) → IsWellFormed hs �
 -- what the numbers before the places say, where all numbers of many heaps are there, and their checksum is right
 pub record IsHeader (max most_heaps most_allocs : ℕ) (bytes : List ℕ) (h : Header) : Type 0 where
   pub long : 80 + 8 * (h.limits.most + h.limits.most_larger) ≤ length bytes
-  pub form : number_at bytes 0 ≡ 1397244239
-  pub version : number_at bytes 1 ≡ 1
+  pub form : number_at bytes 0 ≡ state_form
+  pub version : number_at bytes 1 ≡ state_version
   pub size : number_at bytes 2 ≡ h.limits.size
   pub limit : number_at bytes 3 ≡ h.limits.max_allocs
   pub most : number_at bytes 4 ≡ h.limits.most
   pub larger : number_at bytes 5 ≡ h.limits.most_larger
   pub made : number_at bytes 6 ≡ h.made
   pub realm : number_at bytes 7 ≡ h.realm
-  pub sum : number_at bytes (9 + (h.limits.most + h.limits.most_larger)) ≡ checksum_from 0 (guarded.numbers (9 + (h.limits.most + h.limits.most_larger)) bytes)
+  pub sum : number_at bytes (9 + (h.limits.most + h.limits.most_larger)) ≡ checksum_from 0 (words.numbers (9 + (h.limits.most + h.limits.most_larger)) bytes)
   pub limit_min : 4 ≤ h.limits.max_allocs
   pub limit_max : (h.limits.max_allocs + 1 < max) × (h.limits.max_allocs ≤ most_allocs)
   pub few : h.limits.most + h.limits.most_larger ≤ most_heaps

@@ -2,10 +2,10 @@
 use Rattle.std.specs.Prelude.{◌≡◌, ℕ, ◌+◌, ◌-◌, ◌*◌, ◌<◌, ◌≤◌, ◌⊎◌, List, Option, Some, drop, length, take}
 use Rattle.offset_guarded.specs.Guard.{Guard}
 use Rattle.offset_guarded.specs.State as guarded
-use Rattle.offset_guarded.specs.State.{checksum_from, number_at}
+use Rattle.offset_guarded.specs.Numbers.{checksum_from, number_at, numbers}
 use Rattle.offset_guarded.specs.StateFaults as tickets
 use Rattle.offset_heaps.specs.Heaps.{IsOfKind}
-use Rattle.offset_heaps.specs.State.{IsHeader, IsHeapAdmitted, IsHeapReadAt}
+use Rattle.offset_heaps.specs.State.{IsHeader, IsHeapAdmitted, IsHeapReadAt, state_form, state_version}
 use Rattle.offset_heaps.specs.declared.limits.Limits.{Limits}
 use Rattle.offset_heaps.specs.declared.restoring.Header.{Header}
 use Rattle.offset_heaps.specs.declared.state.StateFault.{StateFault}
@@ -14,7 +14,7 @@ use Rattle.offset_heaps.specs.declared.state.StateFaultKind.TheVariants.{Length,
 
 -- they begin as a state of many heaps does
 abbrev pub HasForm : List ℕ → Type 0
-HasForm bytes = (80 ≤ length bytes) × (number_at bytes 0 ≡ 1397244239) × (number_at bytes 1 ≡ 1)
+HasForm bytes = (80 ≤ length bytes) × (number_at bytes 0 ≡ state_form) × (number_at bytes 1 ≡ state_version)
 
 -- the size has 32 bits
 abbrev pub HasSize : List ℕ → Type 0
@@ -54,7 +54,7 @@ HasLength bytes = 80 + 8 * (number_at bytes 4 + number_at bytes 5) ≤ length by
 -- their checksum is behind them
 abbrev pub HasChecksum : List ℕ → Type 0
 HasChecksum bytes =
-    checksum_from 0 (guarded.numbers (9 + (number_at bytes 4 + number_at bytes 5)) bytes) ≡ number_at bytes (9 + (number_at bytes 4 + number_at bytes 5))
+    checksum_from 0 (numbers (9 + (number_at bytes 4 + number_at bytes 5)) bytes) ≡ number_at bytes (9 + (number_at bytes 4 + number_at bytes 5))
 
 -- what a fault of the numbers says, by its kind: the first of these that does not hold, and its place
 abbrev pub IsNumbersFault : ℕ → ℕ → ℕ → List ℕ → ℕ → StateFaultKind → Type 0

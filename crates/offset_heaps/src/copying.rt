@@ -6,7 +6,7 @@ ghost use Rattle.offset_heaps.specs.State.{IsCopy, quiet};
 use crate::HeapsOf;
 use crate::index::Index;
 use crate::limits::Limits;
-use crate::slots::{self, Slots};
+use crate::slots::Slots;
 use offset_allocator::{Accesses, Tables};
 use offset_guarded::GuardedOf;
 use std::alloc::{AllocError, Global};
@@ -17,11 +17,11 @@ pub(crate) fn index_of<T: Tables>(
     slots: &Slots<T>,
     limits: Limits,
 ) -> Result<Index, AllocError>
-    requires numbers { length slots.now.items ≡ limits.most + limits.most_larger }
+    requires numbers { length slots.now ≡ limits.most + limits.most_larger }
     requires few { limits.most + limits.most_larger < 2 ^ 32 }
-    ensures wide { IfOk result (λ i. IsWide slots.now.items i) }
-    ensures noted { IfOk result (λ i. (k : ℕ) → IsNoted limits slots.now.items i k) }
-    ensures low { IfOk result (λ i. (bits : ℕ) → length slots.now.items ≤ 2 ^ bits → i.one.height ≤ bits) }
+    ensures wide { IfOk result (λ i. IsWide slots.now i) }
+    ensures noted { IfOk result (λ i. (k : ℕ) → IsNoted limits slots.now i k) }
+    ensures low { IfOk result (λ i. (bits : ℕ) → length slots.now ≤ 2 ^ bits → i.one.height ≤ bits) }
 {
     let count = limits.most + limits.most_larger;
     let mut index = Index::with_room(alloc, count)?;
@@ -46,13 +46,13 @@ fn copy_of<T: Tables>(
 
 // Copies of all heaps.
 fn copies_of<T: Tables>(alloc: Global, slots: &Slots<T>, count: u32) -> Result<Slots<T>, AllocError>
-    requires { length slots.now.items ≡ count }
-    ensures { IfOk result (λ s. s.items ≡ map quiet slots.now.items) }
+    requires { length slots.now ≡ count }
+    ensures { IfOk result (λ s. s ≡ map quiet slots.now) }
 {
-    let mut copies = slots::none(alloc, count)?;
+    let mut copies = Slots::with_room(alloc, count)?;
     for number in 0..count {
-        let copy = copy_of(alloc, slots::at(slots, number, &mut Accesses::new()))?;
-        slots::put(&mut copies, number, copy, &mut Accesses::new());
+        let copy = copy_of(alloc, slots.at(number, &mut Accesses::new()))?;
+        copies.put(number, copy, &mut Accesses::new());
     }
     Ok(copies)
 }

@@ -9,8 +9,8 @@ ghost use Rattle.offset_heaps.specs.Maxima.{IsFirst};
 
 use crate::limits::Limits;
 use crate::maxima::{Maxima, levels_for};
-use crate::slots::{self, Slots};
-use offset_allocator::laws::unused_names;
+use crate::slots::Slots;
+use offset_allocator::laws::unused_nodes;
 use offset_allocator::{Accesses, Tables};
 use offset_guarded::{GuardedOf, Refusal};
 use std::alloc::{AllocError, Global};
@@ -43,7 +43,7 @@ pub(crate) fn rooms<T: Tables>(heap: Option<&GuardedOf<T>>) -> (u32, u32)
 {
     let Some(heap) = heap else { return (0, 0) };
     let space = heap.allocator();
-    let left = unused_names(space);
+    let left = unused_nodes(space);
     if !has_serial_left(heap) || left <= 1 {
         return (0, 0);
     }
@@ -96,16 +96,16 @@ impl Index {
         limits: Limits,
         count: &mut Accesses,
     )
-        requires there { number < length slots.now.items }
-        requires wide { IsWide slots.now.items self.old }
-        ensures here { IsNoted limits slots.now.items self.new number }
-        ensures others { (k : ℕ) → (k ≡ number → ⊥) → IsNoted limits slots.now.items self.old k
-            → IsNoted limits slots.now.items self.new k }
-        ensures wide { IsWide slots.now.items self.new }
+        requires there { number < length slots.now }
+        requires wide { IsWide slots.now self.old }
+        ensures here { IsNoted limits slots.now self.new number }
+        ensures others { (k : ℕ) → (k ≡ number → ⊥) → IsNoted limits slots.now self.old k
+            → IsNoted limits slots.now self.new k }
+        ensures wide { IsWide slots.now self.new }
         ensures levels { self.new.one.height ≡ self.old.one.height }
         ensures accesses { Costs 4 (12 * self.old.one.height + 7) count.old count.new }
     {
-        let heap = slots::at(slots, number, count);
+        let heap = slots.at(number, count);
         let (one, two) = rooms(heap);
         self.one.set(number, one, count);
         self.two.set(number, two, count);

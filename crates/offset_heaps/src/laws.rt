@@ -3,7 +3,7 @@ ghost use Rattle.std.specs.Prelude.{ℕ, List, ◌≡◌, ◌↔◌, ◌+◌, �
 ghost use Rattle.std.specs.Prelude.{Bool, Err, MatchOption, Option, Result};
 ghost use Rattle.std.specs.List.{AllByRecursion};
 ghost use Rattle.offset_allocator.specs.Ranges.{AreDisjoint, Range};
-ghost use Rattle.offset_allocator.specs.Reports.{IsReport};
+ghost use Rattle.offset_allocator.specs.Reporting.Reports.{IsReport};
 ghost use Rattle.offset_allocator.specs.Requests.{CanGrant, blocks_needed, units_needed};
 ghost use Rattle.offset_allocator.specs.declared.reports.StorageReport.{StorageReport};
 ghost use Rattle.offset_guarded.specs.Guard.{Guard, HasSerialLeft};
@@ -13,8 +13,8 @@ ghost use Rattle.offset_heaps.specs.Histories.{AreSteps, IsGone, IsStep, ResetsA
 ghost use Rattle.offset_heaps.specs.State.{IsCopy, IsStateOf, IsWellFormed, SameHeaps};
 ghost use Rattle.offset_heaps.specs.Relocating.{IsEmptiest, NoneLive, last_place, place_before};
 ghost use Rattle.offset_heaps.specs.Twins.{AreTwins};
-ghost use Rattle.offset_heaps.specs.Calls.{Allocates, AreTaken, Call, Drops, DropsEmpty, Frees, GivesUp, Relocates};
-ghost use Rattle.offset_heaps.specs.Calls.{Reply};
+ghost use Rattle.offset_heaps.specs.Calls.{Allocates, TakesAll, Call, Drops, DropsEmpty, Frees, GivesUp};
+ghost use Rattle.offset_heaps.specs.Calls.{Relocates, Reply};
 ghost use Rattle.offset_heaps.specs.declared.place.Granted.{Granted};
 ghost use Rattle.offset_heaps.specs.declared.place.Place.{Place};
 ghost use Rattle.offset_heaps.specs.declared.refusal.Refusal.{Refusal};
@@ -22,7 +22,7 @@ ghost use Rattle.offset_heaps.specs.declared.totals.Totals.{Totals};
 ghost use Rattle.offset_heaps.specs.declared.refusal.Refusal.TheVariants.{Memory};
 
 use crate::HeapsOf;
-pub use crate::relocating::emptiest_counted;
+pub use crate::relocate::emptiest_counted;
 use offset_allocator::Tables;
 use offset_allocator::laws::{is_well_formed, ranges_are_disjoint};
 
@@ -157,6 +157,6 @@ pub fn a_copy_continues_alike()
     ensures copy { (hs ks : Heaps) → IsCopy hs ks → AreTwins hs ks }
     ensures read { (hs ks : Heaps) → SameHeaps hs ks → AreTwins hs ks }
     ensures calls { (cs : List Call) (hs hs' ks ks' : Heaps) → IsWellFormed hs → AreTwins hs hs'
-        → (rs rs' : List Reply) → AreTaken hs cs rs ks → AreTaken hs' cs rs' ks'
+        → (rs rs' : List Reply) → TakesAll hs cs rs ks → TakesAll hs' cs rs' ks'
         → (rs ≡ rs') × AreTwins ks ks' }
 {}

@@ -19,22 +19,25 @@
 //! ```
 #![tactic(auto)]
 
-ghost use Rattle.std.specs.Prelude.{◌≡◌, ◌↔◌, ◌+◌, ◌^◌, ◌<◌, ◌≤◌, None, IsTrue, IfOk, option_copied};
-ghost use Rattle.std.specs.Prelude.{IsSome, option_map};
-ghost use Rattle.std.specs.Prelude.{replicate};
+ghost use Rattle.std.specs.Prelude.{ℕ, ◌≡◌, ◌↔◌, ◌+◌, ◌^◌, ◌<◌, ◌≤◌, None, IsSome, IsTrue, IfOk};
+ghost use Rattle.std.specs.Prelude.{false, true, length, option_copied, option_map, replicate};
 ghost use Rattle.offset_allocator.specs.Ranges.{Range};
+ghost use Rattle.offset_heaps.specs.Heaps.{slot};
+ghost use Rattle.offset_heaps.specs.Slots.{ResetsIn};
+ghost use Rattle.offset_heaps.specs.Soundness.{IsNoted, IsWide};
 
+mod allocate;
+mod beside;
 mod copying;
-mod dropping;
-mod granting;
+mod drop;
+mod fresh;
 mod index;
 pub mod laws;
 mod limits;
-mod making;
 mod maxima;
 mod place;
 mod refusal;
-mod relocating;
+mod relocate;
 mod restoring;
 mod saving;
 mod slots;
@@ -81,18 +84,42 @@ impl<T: Tables> Model for HeapsOf<T> {
     ghost use Rattle.offset_heaps.specs.Soundness.{IsSound};
 
     ghost view = { λ h. record {
-      slots = h.slots.items;
+      slots = h.slots;
       limits = h.limits;
       made = h.made;
       realm = h.realm;
       accesses = h.accesses;
     } };
 
-    ghost invariant = { λ h. IsSound T.Index.MAX h.slots.items h.limits h.made h.index };
+    ghost invariant = { λ h. IsSound T.Index.MAX h.slots h.limits h.made h.index };
+}
+
+// Makes the space of each heap one free block again.
+fn reset_all<T: Tables>(
+    slots: &mut Slots<T>,
+    index: &mut Index,
+    limits: Limits,
+    count: &mut Accesses,
+)
+    requires numbers { length slots.old ≡ limits.most + limits.most_larger }
+    requires few { length slots.old < 2 ^ 32 }
+    requires wide { IsWide slots.old index.old }
+    requires noted { (k : ℕ) → IsNoted limits slots.old index.old k }
+    ensures done { (k : ℕ) → ResetsIn (slot k slots.old) (slot k slots.new) }
+    ensures len { length slots.new ≡ length slots.old }
+    ensures wide { IsWide slots.new index.new }
+    ensures noted { (k : ℕ) → IsNoted limits slots.new index.new k }
+    ensures levels { index.new.one.height ≡ index.old.one.height }
+{
+    for number in 0..limits.most + limits.most_larger {
+        slots.reset(number, count);
+        index.note(slots, number, limits, count);
+    }
 }
 
 impl<T: Tables> HeapsOf<T> {
-    ghost use Rattle.offset_heaps.specs.Heaps.{IsLive, heap_at, range_in, range_of};
+    ghost use Rattle.offset_heaps.specs.Heaps.{FreesIn, IsLive, IsSame, KeepsOthers, TakesFewSteps};
+    ghost use Rattle.offset_heaps.specs.Heaps.{heap_at, range_in, range_of};
 
     /// No heap, and memory for the numbers of all that may be made: some 1.2 KB each. A heap is made by the
     /// first request that none has room for. The realm is kept in places: a place of another realm is never
@@ -116,7 +143,7 @@ impl<T: Tables> HeapsOf<T> {
             × (h.accesses ≡ 0)) }
     {
         let count = limits.most + limits.most_larger;
-        let slots = slots::none(alloc, count)?;
+        let slots = Slots::with_room(alloc, count)?;
         let mut index = Index::with_room(alloc, count)?;
         let mut accesses = Accesses::new();
         for number in 0..count {
@@ -165,7 +192,7 @@ impl<T: Tables> HeapsOf<T> {
     pub fn heap(&self, number: u32) -> Option<&GuardedOf<T>>
         ensures { option_copied result ≡ heap_at number self.now }
     {
-        slots::at(&self.slots, number, &mut Accesses::new())
+        self.slots.at(number, &mut Accesses::new())
     }
 
     // The heap of a place.
@@ -173,10 +200,11 @@ impl<T: Tables> HeapsOf<T> {
         ensures range { range_of place self.now ≡ range_in place.ticket (option_copied result) }
         ensures heap { IsSome result → option_copied result ≡ heap_at place.heap self.now }
     {
-        if place.realm != self.realm {
-            return None;
+        if place.realm == self.realm {
+            self.heap(place.heap)
+        } else {
+            None
         }
-        self.heap(place.heap)
     }
 
     /// Whether a place is live here: it has the realm, and its range was not freed, its heap not given up and
@@ -225,6 +253,62 @@ impl<T: Tables> HeapsOf<T> {
             None => None,
             Some(heap) => heap.offset_of(place.ticket),
         }
+    }
+
+    /// Frees the range of a place, as `GuardedOf::free` does in its heap, and returns `true`; or `false`
+    /// where the place is not live, and then nothing changes. The heap stays, also where it is empty then:
+    /// `drop_empty` drops it.
+    ///
+    /// ```
+    /// let mesh = heaps.allocate(300).unwrap().place;
+    /// assert!(heaps.free(mesh));
+    /// assert!(!heaps.free(mesh));
+    /// ```
+    pub fn free(&mut self, place: Place) -> bool
+        // It is done exactly when the place is live.
+        ensures done { IsTrue result ↔ IsLive place self.old }
+        // After it the place is not live. Every other place keeps its range, if it has one.
+        ensures gone { range_of place self.new ≡ None }
+        ensures others { KeepsOthers place self.old self.new }
+        ensures same { result ≡ false → IsSame self.old self.new }
+        // The step of its heap. All other heaps are as they were.
+        ensures step { result ≡ true → FreesIn place self.old self.new }
+        ensures steps { TakesFewSteps self.old self.new }
+    {
+        if place.realm != self.realm {
+            return false;
+        }
+        if !self
+            .slots
+            .free(place.heap, place.ticket, &mut self.accesses)
+        {
+            return false;
+        }
+        self.index
+            .note(&self.slots, place.heap, self.limits, &mut self.accesses);
+        true
+    }
+
+    /// Makes the space of each heap one free block again. No earlier place is ever live again. All heaps
+    /// stay, for `drop_empty`.
+    ///
+    /// ```
+    /// let mesh = heaps.allocate(300).unwrap().place;
+    /// heaps.reset();
+    /// assert!(!heaps.is_live(mesh));
+    /// assert_eq!(heaps.totals().heaps, 1);
+    /// ```
+    pub fn reset(&mut self)
+        ensures gone { (p : Place) → range_of p self.new ≡ None }
+        ensures heaps { (k : ℕ) → ResetsIn (heap_at k self.old) (heap_at k self.new) }
+        ensures rest { self.new ≡ record self.old { slots = self.new.slots; accesses = self.new.accesses } }
+    {
+        reset_all(
+            &mut self.slots,
+            &mut self.index,
+            self.limits,
+            &mut self.accesses,
+        );
     }
 }
 

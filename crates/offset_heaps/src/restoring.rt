@@ -9,13 +9,14 @@ ghost use Rattle.offset_heaps.specs.StateFaults.{IsFault, IsHeapFault, IsHeapsFa
 
 use crate::HeapsOf;
 use crate::copying::index_of;
+use crate::fresh::LARGER_LIMIT;
 use crate::limits::Limits;
-use crate::making::LARGER_LIMIT;
-use crate::slots::{self, Slots};
-use crate::state::{StateFault, StateFaultKind, checksum, number};
+use crate::slots::Slots;
+use crate::state::{FORM, StateFault, StateFaultKind, VERSION};
 use offset_allocator::{Accesses, NodeIndex, Tables};
 use offset_guarded::GuardedOf;
 use offset_guarded::laws::a_state_is_read_back;
+use offset_guarded::numbers::{checksum, number};
 use std::alloc::{AllocError, Global};
 
 // What the numbers before the places say.
@@ -48,7 +49,7 @@ fn header_of<T: Tables>(
     if bytes.len() < 80 {
         return fault(bytes.len(), StateFaultKind::Length);
     }
-    if number(bytes, 0) != 1397244239 || number(bytes, 1) != 1 {
+    if number(bytes, 0) != FORM || number(bytes, 1) != VERSION {
         return fault(0, StateFaultKind::Form);
     }
     let size = number(bytes, 2);
@@ -163,14 +164,14 @@ fn read_slots<T: Tables>(
 ) -> Result<Result<Slots<T>, StateFault>, AllocError>
     requires long { 80 + 8 * count ≤ length bytes.now }
     ensures read { IfOk result (λ r. IfOk r (λ s. AreRead limits T.Index.MAX made most_allocs count
-        bytes.now states.now s.items)) }
+        bytes.now states.now s)) }
     ensures fault { IfOk result (λ r. IfErr r (λ f. IsHeapsFault limits T.Index.MAX made most_allocs count
         bytes.now states.now f.at f.kind)) }
     ensures refused { IfOk result (λ r. IsErr r
         → AreNone limits T.Index.MAX made most_allocs count bytes.now states.now) }
 {
     let start = 80 + 8 * count as usize;
-    let mut slots = slots::none(alloc, count)?;
+    let mut slots = Slots::with_room(alloc, count)?;
     for k in 0..count {
         let from = number(bytes, 8 + k as usize);
         let to = number(bytes, 9 + k as usize);
@@ -197,7 +198,7 @@ fn read_slots<T: Tables>(
             }
             Ok(heap) => heap,
         };
-        slots::put(&mut slots, k, heap, &mut Accesses::new());
+        slots.put(k, heap, &mut Accesses::new());
     }
     Ok(Ok(slots))
 }

@@ -1,9 +1,11 @@
-//! The numbers of a state of many heaps: their bytes, their checksum, and faults. It touches no heap.
-ghost use Rattle.std.specs.Prelude.{◌≡◌, ◌+◌, ◌*◌, ◌++◌, ◌∷◌, ◌≤◌, [], ℕ, IfOk, length};
-ghost use Rattle.offset_guarded.specs.State.{checksum_from, number_at, numbers};
-
-use std::alloc::AllocError;
+//! The form of a state of many heaps, and faults. It touches no heap.
 use std::fmt;
+
+/// The number that a state of many heaps begins with: its first bytes are the letters OAHS.
+pub(crate) const FORM: u64 = 1397244239;
+
+/// The version of the form.
+pub(crate) const VERSION: u64 = 1;
 
 /// What is wrong with the bytes of a state, and where.
 #[derive(Clone, Copy, PartialEq, Debug)]
@@ -72,51 +74,4 @@ impl fmt::Display for StateFaultKind {
             StateFaultKind::Heap(kind) => write!(f, "{kind}"),
         }
     }
-}
-
-/// The number of 64 bits at a place, the lowest byte first.
-pub(crate) fn number(bytes: &[u8], place: usize) -> u64
-    requires { 8 * place + 8 ≤ length bytes.now }
-    ensures { result ≡ number_at bytes.now place }
-{
-    let at = 8 * place;
-    let mut eight = [0; 8];
-    eight.copy_from_slice(&bytes[at..at + 8]);
-    u64::from_le_bytes(eight)
-}
-
-/// The checksum of the first numbers.
-pub(crate) fn checksum(bytes: &[u8], count: usize) -> u64
-    requires { 8 * count ≤ length bytes.now }
-    ensures { result ≡ checksum_from 0 (numbers count bytes.now) }
-{
-    let mut sum = 0u64;
-    for place in 0..count {
-        sum = sum
-            .wrapping_mul(1099511628211)
-            .wrapping_add(number(bytes, place));
-    }
-    sum
-}
-
-// Adds a number at the end.
-fn push_number(bytes: &mut Vec<u8>, number: u64) -> Result<(), AllocError>
-    ensures { IfOk result (λ _. (k : ℕ) → length bytes.old.items ≡ 8 * k
-        → (numbers (k + 1) bytes.new.items ≡ numbers k bytes.old.items ++ number ∷ [])
-        × (length bytes.new.items ≡ 8 * (k + 1))) }
-{
-    bytes.extend_from_slice(&number.to_le_bytes())?;
-    Ok(())
-}
-
-/// Adds numbers at the end.
-pub(crate) fn push_numbers(bytes: &mut Vec<u8>, more: &[u64]) -> Result<(), AllocError>
-    ensures { IfOk result (λ _. (k : ℕ) → length bytes.old.items ≡ 8 * k
-        → (numbers (k + length more.now) bytes.new.items ≡ numbers k bytes.old.items ++ more.now)
-        × (length bytes.new.items ≡ 8 * (k + length more.now))) }
-{
-    for number in more {
-        push_number(bytes, *number)?;
-    }
-    Ok(())
 }

@@ -2,8 +2,8 @@
 ghost use Rattle.std.specs.Prelude.{◌≡◌, ◌+◌, ◌^◌, ◌<◌, ◌≤◌, max, option_copied};
 ghost use Rattle.offset_heaps.specs.Heaps.{free_of, live_of, part, room_of, size_of};
 
+use crate::HeapsOf;
 use crate::index::rooms;
-use crate::{HeapsOf, slots};
 use offset_allocator::laws::sizes_add_up;
 use offset_allocator::{Accesses, Tables};
 use offset_guarded::GuardedOf;
@@ -97,7 +97,7 @@ impl<T: Tables> HeapsOf<T> {
             largest_free_region: 0,
         };
         for number in 0..self.limits.most + self.limits.most_larger {
-            let heap = slots::at(&self.slots, number, &mut Accesses::new());
+            let heap = self.slots.at(number, &mut Accesses::new());
             totals = with_heap(totals, heap);
         }
         totals

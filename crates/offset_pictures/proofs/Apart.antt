@@ -10,8 +10,7 @@ use Rattle.offset_script.specs.Machine.{Tag, Live, Free, Block, has_number, tota
 use Rattle.offset_script.specs.Machine as machine
 use Rattle.offset_script.proofs.Well.{IsWell, well_start, well_step}
 use Rattle.offset_pictures.specs.Lives.{Life, life_of_answer, end_from, lives_from, lives_of, range_of, is_on, blocks_after, AreApart, LivesAreWithin, LivesAreApart}
-use Rattle.offset_pictures.proofs.Seen.{grants_of, call_counts, call_grants}
-use Rattle.offset_pictures.proofs.Whole.{IsShown, shown}
+use Rattle.offset_pictures.proofs.{Seen.grants_of, Seen.call_counts, Seen.call_grants, Whole.IsShown, Whole.shown}
 
 -- ---- two ranges of one list
 

@@ -6,8 +6,7 @@ use Rattle.std.proofs.lemmas.List.Sums.{sum_by-cons, sum_by_more, sum_by-le, cou
 use Rattle.std.proofs.lemmas.List.Elements.{All-head, All-tail, All-weaker}
 use Rattle.offset_pictures.specs.declared.living.Life.{Life}
 use Rattle.offset_pictures.specs.declared.figures.Count.{Count}
-use Rattle.offset_pictures.specs.Lives.{IsOrdered, is_on, life_view}
-use Rattle.offset_pictures.specs.Counting.{IsChange, lowered, raised}
+use Rattle.offset_pictures.specs.{Lives.IsOrdered, Lives.is_on, Lives.life_view, Counting.IsChange, Counting.lowered, Counting.raised}
 
 -- how many of these lives pass a test, and how many units they have
 pub record IsCount (test : Life → Bool) (ls : List Life) (c : Count) : Type 0 where

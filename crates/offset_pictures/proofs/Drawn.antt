@@ -2,9 +2,7 @@
 use Rattle.std.proofs.Common.{◌≡◌, ℕ, ◌+◌, List, [], ◌++◌, ◌∙◌, sym, ap, subst, Result, Ok, Err}
 use Rattle.std.specs.Prelude.{IfOk}
 use Rattle.offset_pictures.specs.declared.axes.Axis.{Axis}
-use Rattle.offset_pictures.specs.Axes.{in_tenths, x_of}
-use Rattle.offset_pictures.specs.Scales.{along}
-use Rattle.offset_pictures.specs.StepLines.{AreXs}
+use Rattle.offset_pictures.specs.{Axes.in_tenths, Axes.x_of, Scales.along, StepLines.AreXs}
 use Rattle.offset_pictures.proofs.Texts.{goes_on}
 
 -- the parts of a picture with its title

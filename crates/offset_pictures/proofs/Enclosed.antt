@@ -3,29 +3,18 @@ use Rattle.std.proofs.Common.{◌≡◌, ℕ, ◌/◌, ◌∙◌, Bool, true, fa
 use Rattle.std.proofs.Common.{Some, None, append-nil, append_assoc, ap, arith, codes, drop, length, map, nat_eq, nat_lt, refl, subst, sym}
 use Rattle.std.proofs.lemmas.Bool.Decides.{nat_tests}
 use Rattle.std.proofs.lemmas.Str.{scalars-chars}
-use Rattle.std.specs.Bool.{MatchBool}
-use Rattle.std.specs.Char.{IsScalar}
-use Rattle.std.specs.Prelude.{IsUtf8, chars, encode_utf8, flat_map, take_while}
-use Rattle.std.specs.Str.{all_scalars}
+use Rattle.std.specs.{Bool.MatchBool, Char.IsScalar, Prelude.IsUtf8, Prelude.chars, Prelude.encode_utf8, Prelude.flat_map, Prelude.take_while, Str.all_scalars}
 use Rattle.offset_pictures.specs.declared.course.Course.{Course}
 use Rattle.offset_pictures.specs.declared.living.Life.{Life}
 use Rattle.offset_pictures.specs.declared.plots.Plot.{Plot}
 use Rattle.offset_pictures.specs.declared.shapes.Shape.{Shape}
-use Rattle.offset_pictures.specs.Numerals.{pixels_text}
-use Rattle.offset_pictures.specs.Levels.{free_of, joined_of, most_of}
-use Rattle.offset_pictures.specs.Merging.{AreMerged}
-use Rattle.offset_pictures.specs.Picture.{IsBody, IsPictureOf, PicturesAreWellFormed, opening, style}
-use Rattle.offset_pictures.specs.Plots.{bottom_of}
-use Rattle.offset_pictures.specs.Shapes.{shape_of}
-use Rattle.offset_pictures.specs.Rectangles.{ages_text, plain_of_age, titled_of_age}
-use Rattle.offset_pictures.specs.Titles.{escape, escaped, heading_text, is_shown, quarters}
-use Rattle.offset_pictures.specs.Xml.{IsContent, IsWellFormed, is_plain}
-use Rattle.offset_pictures.specs.Xml.IsContent.{nothing, characters, entity}
-use Rattle.offset_pictures.proofs.Formed.{and_both, both, joins, words}
+use Rattle.offset_pictures.specs.{Numerals.pixels_text, Levels.free_of, Levels.joined_of, Levels.most_of, Merging.AreMerged, Picture.IsBody, Picture.IsPictureOf, Picture.PicturesAreWellFormed}
+use Rattle.offset_pictures.specs.{Picture.opening, Picture.style, Plots.bottom_of, Shapes.shape_of, Rectangles.ages_text, Rectangles.plain_of_age, Rectangles.titled_of_age, Titles.escape}
+use Rattle.offset_pictures.specs.{Titles.escaped, Titles.heading_text, Titles.is_shown, Titles.quarters, Xml.IsContent, Xml.IsWellFormed, Xml.is_plain, Xml.IsContent.nothing}
+use Rattle.offset_pictures.specs.Xml.IsContent.{characters, entity}
+use Rattle.offset_pictures.proofs.{Formed.and_both, Formed.both, Formed.joins, Formed.words, Texts.same_text, Worded.legend_content, Worded.notes_content}
 use Rattle.offset_pictures.proofs.Nested.{Attributes, InPieces, end, ◌⊙◌, none, one, Grows, ◌⊕◌, content, document, empty_tag, full_tag, in_pieces, literal, quoted}
 use Rattle.offset_pictures.proofs.Tagged.{at, axes_content, line_content, plain_content, refusals_content, titled_content}
-use Rattle.offset_pictures.proofs.Texts.{same_text}
-use Rattle.offset_pictures.proofs.Worded.{legend_content, notes_content}
 
 -- ---- the title
 

@@ -3,8 +3,7 @@ use Rattle.std.proofs.Common.{ℕ, ◌+◌, ◌-◌, ◌*◌, ◌/◌, ◌<◌, 
 use Rattle.std.proofs.Math.Nat.{mul-le-mul_left}
 use Rattle.std.proofs.lemmas.Nat.{le-div}
 use Rattle.offset_pictures.specs.declared.axes.Axis.{Axis}
-use Rattle.offset_pictures.specs.Scales.{along}
-use Rattle.offset_pictures.specs.Axes.{y_of}
+use Rattle.offset_pictures.specs.{Scales.along, Axes.y_of}
 
 quotient_rises : (a b m : ℕ) → 0 < m → a ≤ b → a / m ≤ b / m
 quotient_rises a b m pos h = le-div (a / m) b m pos (omega arith)

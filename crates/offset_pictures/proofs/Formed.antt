@@ -4,11 +4,8 @@ use Rattle.std.proofs.Common.{[], ◌∷◌, ◌++◌, append_assoc, append-nil,
 use Rattle.std.proofs.lemmas.Bool.{true≢false}
 use Rattle.std.proofs.lemmas.Bool.Decides.{nat_tests}
 use Rattle.std.proofs.lemmas.Str.{encode_ascii, encodes-append}
-use Rattle.std.specs.Fmt.{decimal, digits, digits_onto, digit_glyph}
-use Rattle.std.specs.List.{list_all}
-use Rattle.std.specs.Prelude.{encode_utf8_all, ◌==◌}
-use Rattle.offset_pictures.specs.Numerals.{pixels_text, grouped_text, three_digits, share_text}
-use Rattle.offset_pictures.specs.Xml.{IsContent, IsOf, is_plain, is_quoted}
+use Rattle.std.specs.{Fmt.decimal, Fmt.digits, Fmt.digits_onto, Fmt.digit_glyph, List.list_all, Prelude.encode_utf8_all, Prelude.◌==◌}
+use Rattle.offset_pictures.specs.{Numerals.pixels_text, Numerals.grouped_text, Numerals.three_digits, Numerals.share_text, Xml.IsContent, Xml.IsOf, Xml.is_plain, Xml.is_quoted}
 use Rattle.offset_pictures.specs.Xml.IsContent.{nothing, characters, entity, empty, full}
 
 -- ---- pieces in a row

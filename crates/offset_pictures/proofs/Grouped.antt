@@ -1,15 +1,13 @@
 -- Groups of states and runs of marks, and what is still to be written of them.
 use Rattle.std.proofs.Common.{◌≡◌, ℕ, ◌+◌, ◌<◌, ◌≤◌, ◌∙◌, Bool, true, false, cond, List, [], ◌∷◌, ◌++◌, Option, Some}
-use Rattle.std.proofs.Common.{None, append_assoc, append-nil, codes, eqb-true, eq-eqb, get_or, drop, length, map, nat_eq, refl, sym, ap, ap₂, arith}
+use Rattle.std.proofs.Common.{None, append_assoc, append-nil, codes, eqb-true, eq-eqb, get_or, drop, length, nat_eq, refl, sym, ap, ap₂, arith}
 use Rattle.std.proofs.lemmas.List.{at_drop_more, at_drop_all}
-use Rattle.std.specs.Prelude.{flat_map, max, min}
+use Rattle.std.specs.Prelude.{max, min}
 use Rattle.offset_pictures.specs.declared.axes.Axis.{Axis}
 use Rattle.offset_pictures.specs.declared.step_lines.Group.{Group}
 use Rattle.offset_pictures.specs.declared.plots.Plot.{Plot}
-use Rattle.offset_pictures.specs.Numerals.{pixels_text}
+use Rattle.offset_pictures.specs.{Numerals.pixels_text, Axes.y_of, Axes.x_of, Marks.after_equal}
 use Rattle.offset_pictures.specs.StepLines.{column_of, column_text, group_before, groups_from, groups_text, join_groups, one_state, steps_text}
-use Rattle.offset_pictures.specs.Axes.{y_of, x_of}
-use Rattle.offset_pictures.specs.Marks.{after_equal, mark_text, one_of_each}
 
 -- ---- groups
 
@@ -136,41 +134,6 @@ no_group u calls i pen group values out whole all started before =
 abbrev pub marked_after : Option ℕ → List ℕ → List ℕ
 marked_after None ps = ps
 marked_after (Some b) ps = after_equal b ps
-
--- a call at the place of the one before
-pub mark_is_there : {X : Type 0} (height place i : ℕ) (d : X) (b : ℕ) (f : X → ℕ) (calls : List X) (out whole : List ℕ) → i < length calls → place ≡ f (get_or calls i d) → b ≡ place
-    → out ++ flat_map (mark_text height) (marked_after (Some b) (one_of_each (map f (drop i calls)))) ≡ whole
-    → out ++ flat_map (mark_text height) (marked_after (Some place) (one_of_each (map f (drop (i + 1) calls)))) ≡ whole
-mark_is_there height place i d b f calls out whole less at same before =
-    let to_come : List ℕ = after_equal place (one_of_each (map f (drop (i + 1) calls))) in
-    let next : marked_after (Some b) (one_of_each (map f (drop i calls))) ≡ to_come =
-    at_drop_more (λ cs. after_equal b (one_of_each (map f cs))) calls i d less
-    ∙ ap (λ p. after_equal b (p ∷ after_equal p (one_of_each (map f (drop (i + 1) calls))))) (sym at)
-    ∙ ap (λ t. cond t to_come (place ∷ to_come)) (eq-eqb b place same) in
-    ap (λ ps. out ++ flat_map (mark_text height) ps) (sym next) ∙ before
-
-abbrev is_at : Option ℕ → ℕ → Bool
-is_at None p = false
-is_at (Some b) p = nat_eq b p
-
-not_marked : (before : Option ℕ) (p : ℕ) (ps : List ℕ) → is_at before p ≡ false → marked_after before (p ∷ ps) ≡ p ∷ ps
-not_marked None p ps e = refl
-not_marked (Some b) p ps e = ap (λ t. cond t ps (p ∷ ps)) e
-
--- a call at another place gets a mark
-pub mark_is_put : {X : Type 0} (height place i : ℕ) (d : X) (last : Option ℕ) (f : X → ℕ) (calls : List X) (out new whole : List ℕ) → i < length calls → place ≡ f (get_or calls i d)
-    → is_at last place ≡ false
-    → new ≡ out ++ mark_text height place
-    → out ++ flat_map (mark_text height) (marked_after last (one_of_each (map f (drop i calls)))) ≡ whole
-    → new ++ flat_map (mark_text height) (marked_after (Some place) (one_of_each (map f (drop (i + 1) calls)))) ≡ whole
-mark_is_put height place i d last f calls out new whole less at other put before =
-    let to_come : List ℕ = after_equal place (one_of_each (map f (drop (i + 1) calls))) in
-    let next : marked_after last (one_of_each (map f (drop i calls))) ≡ place ∷ to_come =
-    at_drop_more (λ cs. marked_after last (one_of_each (map f cs))) calls i d less
-    ∙ ap (λ p. marked_after last (p ∷ after_equal p (one_of_each (map f (drop (i + 1) calls))))) (sym at)
-    ∙ not_marked last place to_come other in
-    ap (λ o. o ++ flat_map (mark_text height) to_come) put ∙ append_assoc out (mark_text height place) _
-    ∙ ap (λ ps. out ++ flat_map (mark_text height) ps) (sym next) ∙ before
 
 -- ---- a line of steps
 

@@ -3,23 +3,16 @@ use Rattle.std.proofs.Common.{◌≡◌, ℕ, zero, suc, ◌+◌, ◌-◌, ◌<�
 use Rattle.std.proofs.Common.{Option, Some, None, append_assoc, append-nil, codes, get_or, drop, length, map, nat_eq, nat_lt, sym, ap, ap₂, subst, arith, if◌then◌else◌}
 use Rattle.std.proofs.lemmas.List.{at_drop_more, at_drop_all}
 use Rattle.std.proofs.lemmas.Slice.Zip.{get_or-zip}
-use Rattle.std.specs.Bool.{MatchBool}
-use Rattle.std.specs.Fmt.{decimal}
-use Rattle.std.specs.Prelude.{filter, flat_map}
-use Rattle.std.specs.List.{zip}
+use Rattle.std.specs.{Bool.MatchBool, Fmt.decimal, Prelude.filter, Prelude.flat_map, List.zip}
 use Rattle.offset_allocator.specs.declared.reports.StorageReport.{StorageReport}
 use Rattle.offset_pictures.specs.declared.course.Course.{Course}
 use Rattle.offset_pictures.specs.declared.living.Life.{Life}
 use Rattle.offset_pictures.specs.declared.plots.Plot.{Plot}
 use Rattle.offset_pictures.specs.declared.refusing.Refused.{Refused}
 use Rattle.offset_pictures.specs.declared.shapes.Shape.{Shape}
-use Rattle.offset_pictures.specs.Levels.{free_of, joined_of, most_of}
-use Rattle.offset_pictures.specs.Rectangles.{age_text, ages_text, AreRectangles, falling_below, frame_of, plain_of_age, rectangle_text, title_text, titled_of_age, titled_text}
-use Rattle.offset_pictures.specs.Merging.{AreMerged}
-use Rattle.offset_pictures.specs.Shapes.{shape_of}
-use Rattle.offset_pictures.specs.Reasons.{reasons_text}
-use Rattle.offset_pictures.specs.StepLines.{line_text, reports_text}
+use Rattle.offset_pictures.specs.{Levels.free_of, Levels.joined_of, Levels.most_of, Merging.AreMerged, Shapes.shape_of, Reasons.reasons_text, StepLines.line_text, StepLines.reports_text}
 use Rattle.offset_pictures.specs.Marks.{marks_text, refusals_text}
+use Rattle.offset_pictures.specs.Rectangles.{age_text, ages_text, AreRectangles, falling_below, frame_of, plain_of_age, rectangle_text, title_text, titled_of_age, titled_text}
 
 -- what the group of an age holds
 abbrev pub held : Bool → ℕ → List Shape → List Life → ℕ → List ℕ

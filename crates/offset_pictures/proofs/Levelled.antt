@@ -3,15 +3,12 @@ use Rattle.std.proofs.Common.{◌≡◌, ℕ, ◌+◌, ◌≤◌, Bool, true, fa
 use Rattle.std.proofs.lemmas.Bool.{true≢false}
 use Rattle.std.proofs.lemmas.List.Elements.{All-nil, All-cons}
 use Rattle.std.proofs.lemmas.List.Sums.{sum_by-cons}
-use Rattle.std.specs.Prelude.{sum}
-use Rattle.std.specs.List.{prefix_len, range_with_len}
-use Rattle.offset_allocator.specs.Classes.{value, down}
-use Rattle.offset_allocator.specs.FreeSizes.{largest}
+use Rattle.std.specs.{Prelude.sum, List.prefix_len, List.range_with_len}
+use Rattle.offset_allocator.specs.{Classes.value, Classes.down, Reporting.FreeSizes.largest}
 use Rattle.offset_allocator.proofs.Classes.{value_down, value_grows}
 use Rattle.offset_script.specs.declared.scripts.Command.{Command}
 use Rattle.offset_script.specs.Machine.{State, Report, free_sizes, is_short_of, report, start, step}
-use Rattle.offset_pictures.specs.Levels.{IsLevelled, ReportsAreLevelled}
-use Rattle.offset_pictures.specs.Reports.{reports_from}
+use Rattle.offset_pictures.specs.{Levels.IsLevelled, Levels.ReportsAreLevelled, Reports.reports_from}
 
 -- more numbers pass a test that more numbers pass
 one_longer : (p q : Bool) (m n : ℕ) → (p ≡ true → q ≡ true) → m ≤ n → cond p (1 + m) 0 ≤ cond q (1 + n) 0

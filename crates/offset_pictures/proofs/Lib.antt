@@ -7,7 +7,6 @@ mod Falling
 mod Fixed
 mod Formed
 mod Grouped
-mod Grown
 mod Held
 mod Levelled
 mod Lined

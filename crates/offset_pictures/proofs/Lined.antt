@@ -10,11 +10,8 @@ use Rattle.offset_pictures.specs.declared.axes.Axis.{Axis}
 use Rattle.offset_pictures.specs.declared.plots.Plot.{Plot}
 use Rattle.offset_pictures.specs.declared.step_lines.Column.{Column}
 use Rattle.offset_pictures.specs.declared.step_lines.Group.{Group}
-use Rattle.offset_pictures.specs.Scales.{along}
-use Rattle.offset_pictures.specs.Numerals.{pixels_text}
-use Rattle.offset_pictures.specs.Lines.{Across, IsOn, path_text, Step, step_text, Upright}
-use Rattle.offset_pictures.specs.StepLines.{column_of, groups_from, groups_text, steps_text}
-use Rattle.offset_pictures.specs.Axes.{y_of, x_of}
+use Rattle.offset_pictures.specs.{Scales.along, Numerals.pixels_text, Lines.Across, Lines.IsOn, Lines.path_text, Lines.Step, Lines.step_text, Lines.Upright, StepLines.column_of}
+use Rattle.offset_pictures.specs.{StepLines.groups_from, StepLines.groups_text, StepLines.steps_text, Axes.y_of, Axes.x_of}
 
 -- ---- places
 

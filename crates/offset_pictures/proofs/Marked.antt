@@ -3,9 +3,7 @@ use Rattle.std.proofs.Common.{◌≡◌, ℕ, Bool, true, false, cond, List, [],
 use Rattle.std.proofs.lemmas.List.Elements.{All-cons, All-nil, All-weaker, Contains-append_left, Contains-append_right, Contains-push}
 use Rattle.std.specs.Prelude.{Contains}
 use Rattle.offset_pictures.specs.declared.refusing.Refused.{Refused}
-use Rattle.offset_pictures.specs.Numerals.{counted_from_1}
-use Rattle.offset_pictures.specs.Axes.{in_tenths, x_of, right_of}
-use Rattle.offset_pictures.specs.Marks.{after_equal, EachRefusalIsMarked, IsMarked, marked_xs, one_of_each}
+use Rattle.offset_pictures.specs.{Numerals.counted_from_1, Axes.in_tenths, Axes.x_of, Axes.right_of, Marks.after_equal, Marks.EachRefusalIsMarked, Marks.IsMarked, Marks.marked_xs, Marks.one_of_each}
 
 in_more : (n x : ℕ) (ms : List ℕ) → Contains ms x → Contains (n ∷ ms) x
 in_more n x ms h = Contains-append_right (n ∷ []) ms x h

@@ -1,7 +1,6 @@
 -- Where lives are on the picture, and that merging rectangles keeps the places that they cover.
 use Rattle.std.proofs.Common.{◌≡◌, ℕ, ◌+◌, ◌*◌, ◌/◌, ◌%◌, ◌^◌, ◌<◌, ◌≤◌, All, Bool, true, false, not, cond, ◌||◌, List, [], ◌∷◌, map, Option, Some, None, arith, sym, ◌∙◌, ap, ap₂, refl, subst, min}
-use Rattle.std.specs.Prelude.{filter, if◌then◌else◌}
-use Rattle.std.specs.List.{list_any}
+use Rattle.std.specs.{Prelude.filter, Prelude.if◌then◌else◌, List.list_any}
 use Rattle.std.proofs.lemmas.Bool.Decides.{nat_tests}
 use Rattle.std.proofs.lemmas.List.Elements.{All-append, All-cons, All-filter, All-head, All-map, All-nil, All-tail}
 use Rattle.std.proofs.lemmas.List.Folds.{list_any-append}
@@ -10,14 +9,9 @@ use Rattle.offset_pictures.specs.declared.axes.Axis.{Axis}
 use Rattle.offset_pictures.specs.declared.living.Life.{Life}
 use Rattle.offset_pictures.specs.declared.plots.Plot.{Plot}
 use Rattle.offset_pictures.specs.declared.shapes.Shape.{Shape}
-use Rattle.offset_pictures.specs.Axes.{right_of, up_of}
-use Rattle.offset_pictures.specs.Scales.{along}
+use Rattle.offset_pictures.specs.{Axes.right_of, Axes.up_of, Scales.along, Merging.tiny_shapes, Merging.touch, Shapes.shape_of, Rectangles.MergedRectanglesAreDrawn}
 use Rattle.offset_pictures.specs.Merging.{IsAtTenth, MergedRectanglesCoverLives, Point, covers, is_tiny, join, key_of, large_shapes, merge, merge_after, round_out, rounded_if_tiny, shape_of_key}
-use Rattle.offset_pictures.specs.Merging.{tiny_shapes, touch}
-use Rattle.offset_pictures.specs.Shapes.{shape_of}
-use Rattle.offset_pictures.proofs.Lined.{along_within}
-use Rattle.offset_pictures.specs.Rectangles.{MergedRectanglesAreDrawn}
-use Rattle.offset_pictures.proofs.Parted.{all_young, parted, young}
+use Rattle.offset_pictures.proofs.{Lined.along_within, Parted.all_young, Parted.parted, Parted.young}
 
 -- a value that is cut to 64 bits lies where it lay
 pub along_capped : (span most v w : ℕ) → most < 4294967296 → v ≡ min w 18446744073709551615 → along span most v ≡ along span most w

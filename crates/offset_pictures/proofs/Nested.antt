@@ -1,13 +1,11 @@
 -- Attributes, tags and elements of XML.
-use Rattle.std.proofs.Common.{◌≡◌, ◌≢◌, ℕ, ◌∙◌, Bool, true, ◌&&◌, not, List}
-use Rattle.std.proofs.Common.{[], ◌∷◌, ◌++◌, All, append_assoc, append-nil, length, nat_lt, sym, ap, subst, arith, codes, refl}
+use Rattle.std.proofs.Common.{◌≡◌, ◌≢◌, ℕ, ◌∙◌, Bool, true, ◌&&◌, not, List, [], ◌∷◌, ◌++◌, All, append_assoc, append-nil, length, nat_lt, sym, ap, subst, arith, codes, refl}
 use Rattle.std.proofs.lemmas.Bool.{true≢false}
 use Rattle.std.proofs.lemmas.Bool.Decides.{nat_tests}
 use Rattle.std.proofs.lemmas.List.Elements.{All-cons, All-nil}
 use Rattle.std.proofs.lemmas.List.Kept.{AllPairs-cons}
 use Rattle.std.proofs.lemmas.Slice.Eq.{bytes_eq-Decides}
-use Rattle.std.specs.List.{list_all}
-use Rattle.std.specs.Prelude.{bytes_eq, flat_map}
+use Rattle.std.specs.{List.list_all, Prelude.bytes_eq, Prelude.flat_map}
 use Rattle.offset_pictures.proofs.Texts.{in_a_row, joined_up, same_text}
 use Rattle.offset_pictures.specs.Xml.{AreAttributes, IsContent, IsName, IsOf, IsWellFormed, attribute_text, empty_element, full_element, is_letter, is_plain, is_quoted}
 use Rattle.offset_pictures.specs.Xml.IsContent.{nothing, empty, full}

@@ -6,8 +6,7 @@ use Rattle.offset_allocator.specs.declared.reports.StorageReport.{StorageReport}
 use Rattle.offset_pictures.specs.declared.course.Course.{Course}
 use Rattle.offset_pictures.specs.declared.figures.Figures.{Figures}
 use Rattle.offset_pictures.specs.Figures.{AreFigures, AreTotals, IsFirstLargest, IsFirstSmallest, counted, count_below, live_after, used_after, size_after, region_after, free_after, is_full_after}
-use Rattle.offset_pictures.specs.Figures.{states}
-use Rattle.offset_pictures.specs.Counting.{Sees, StartsAs}
+use Rattle.offset_pictures.specs.{Figures.states, Counting.Sees, Counting.StartsAs}
 
 abbrev pub first_largest : (ℕ → ℕ) → ℕ → ℕ
 first_largest value zero = 0

@@ -7,15 +7,9 @@ use Rattle.offset_pictures.specs.declared.living.Life.{Life}
 use Rattle.offset_pictures.specs.declared.plots.Plot.{Plot}
 use Rattle.offset_pictures.specs.declared.shapes.Shape.{Shape}
 use Rattle.offset_pictures.specs.Lives as plain
-use Rattle.offset_pictures.specs.Lives.{IsOrdered, life_view}
-use Rattle.offset_pictures.specs.Merging.{rounded_if_tiny, is_tiny, round_out}
+use Rattle.offset_pictures.specs.{Lives.IsOrdered, Lives.life_view, Merging.rounded_if_tiny, Merging.is_tiny, Merging.round_out, Axes.right_of, Axes.up_of, Rectangles.frame_of, Shapes.shape_of}
 use Rattle.offset_pictures.specs.Overlaps.{AreApart, AreDrawnApart, AreNearlyApart, IsAbove, IsLeftOf, RectanglesAreApart}
-use Rattle.offset_pictures.specs.Axes.{right_of, up_of}
-use Rattle.offset_pictures.specs.Rectangles.{frame_of}
-use Rattle.offset_pictures.specs.Shapes.{shape_of}
-use Rattle.offset_pictures.proofs.Apart.{apart_law}
-use Rattle.offset_pictures.proofs.Lined.{along_grows, along_within}
-use Rattle.offset_pictures.proofs.Ordered.{lives_are_ordered}
+use Rattle.offset_pictures.proofs.{Apart.apart_law, Lined.along_grows, Lined.along_within, Ordered.lives_are_ordered}
 
 right_grows : (a : Axis) (m n : ℕ) → m ≤ n → right_of a m ≤ right_of a n
 right_grows a m n l = let e = along_grows a.span a.most m n a.positive l in omega arith

@@ -1,12 +1,10 @@
 -- A report in place of each full report leaves lives and reports as they were.
-use Rattle.std.proofs.Common.{◌≡◌, ℕ, ◌+◌, List, [], ◌∷◌, ◌++◌, Bool, true, false, if◌then◌else◌, refl, ap, ap₂, ◌∙◌}
+use Rattle.std.proofs.Common.{◌≡◌, ℕ, ◌+◌, List, [], ◌∷◌, ◌++◌, Bool, true, false, if◌then◌else◌, map, refl, ap, ap₂, ◌∙◌}
 use Rattle.offset_script.specs.declared.scripts.Command.{Command}
 use Rattle.offset_script.specs.declared.scripts.Command.TheVariants as command
 use Rattle.offset_script.specs.Machine.{State, step, answers, start, report, is_short_of}
 use Rattle.offset_script.specs.Machine as machine
-use Rattle.offset_pictures.specs.Lives.{life_of_answer, end_from, lives_from, lives_of}
-use Rattle.offset_pictures.specs.Watching.{replace_full, replace_all_full}
-use Rattle.offset_pictures.specs.Reports.{reports_from, reports_of}
+use Rattle.offset_pictures.specs.{Lives.life_of_answer, Lives.end_from, Lives.lives_from, Lives.lives_of, Watching.replace_full, Watching.replace_all_full, Reports.reports_of, Reports.states_from}
 
 pub quiet_state : (c : Command) (s : State) → (step (replace_full c) s).state ≡ (step c s).state
 quiet_state (command.Alloc n) s = refl
@@ -41,9 +39,9 @@ quiet_from (c ∷ cs) s j = ap₂ (λ xs ys. xs ++ ys)
 pub quiet_lives : (size limit : ℕ) (cs : List Command) → lives_from 0 cs (answers (replace_all_full cs) (start size limit)) ≡ lives_of size limit cs
 quiet_lives size limit cs = quiet_from cs (start size limit) 0
 
-quiet_reported : (cs : List Command) (s : State) → reports_from (replace_all_full cs) s ≡ reports_from cs s
-quiet_reported [] s = refl
-quiet_reported (c ∷ cs) s = ap (λ l. report s ∷ l) (ap (reports_from (replace_all_full cs)) (quiet_state c s) ∙ quiet_reported cs (step c s).state)
+pub quiet_states : (cs : List Command) (s : State) → states_from (replace_all_full cs) s ≡ states_from cs s
+quiet_states [] s = refl
+quiet_states (c ∷ cs) s = ap (λ l. s ∷ l) (ap (states_from (replace_all_full cs)) (quiet_state c s) ∙ quiet_states cs (step c s).state)
 
 pub quiet_reports : (size limit : ℕ) (cs : List Command) → reports_of size limit (replace_all_full cs) ≡ reports_of size limit cs
-quiet_reports size limit cs = quiet_reported cs (start size limit)
+quiet_reports size limit cs = ap (map report) (quiet_states cs (start size limit))

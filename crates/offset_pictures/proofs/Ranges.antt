@@ -5,8 +5,7 @@ use Rattle.offset_allocator.specs.View.{one}
 use Rattle.std.proofs.lemmas.Bool.{cases_eq, true≢false, false≢true}
 use Rattle.offset_script.specs.Machine.{Tag, Live, Free, Block, block, is_free, has_number, total, Place, place_of, free_part, coalesce}
 use Rattle.offset_script.proofs.Lists.{count, hit, whole, count-append, total-append, AreFree, coalesced}
-use Rattle.offset_script.proofs.Found.{found_at, number_hit}
-use Rattle.offset_script.proofs.Well.{granted_blocks}
+use Rattle.offset_script.proofs.{Found.found_at, Found.number_hit, Well.granted_blocks}
 use Rattle.offset_pictures.specs.Lives.{range_of}
 
 -- the first of two options that is not `None`

@@ -3,17 +3,15 @@ use Rattle.offset_script.proofs.Common.{◌≡◌, ℕ, zero, suc, ◌+◌, ◌-
 use Rattle.offset_script.proofs.Common.{None, Option, Some, ap, ap₂, arith, cond, false≢true, le-leb, le-ltb, length, lt-leb, lt-ltb, map, nat_le, nat_lt, refl, subst, sum, sym, up, value, ◌∙◌}
 use Rattle.offset_allocator.specs.declared.reports.Refusal.{Refusal}
 use Rattle.offset_allocator.specs.declared.reports.Refusal.TheVariants.{Nodes, TooLarge, Space, Fragmented}
-use Rattle.offset_allocator.specs.Relations.{SameState}
+use Rattle.offset_allocator.specs.{Relations.SameState, View.IsWellFormed, View.View, View.Handle, View.max_size}
 use Rattle.offset_allocator.specs.Requests.{CanGrant, IsWhy, blocks_needed, size_needed, units_needed}
-use Rattle.offset_allocator.specs.View.{IsWellFormed, View, Handle, max_size}
 use Rattle.offset_allocator.specs.View as named
 use Rattle.offset_script.specs.declared.scripts.Command.{Command}
 use Rattle.offset_script.specs.declared.scripts.Command.TheVariants as command
 use Rattle.offset_script.specs.Machine.{State, Answer, Outcome, Place, step, answers, after, start, total, free_sizes, is_short_of, chosen_place, place_of}
 use Rattle.offset_script.specs.Machine.{returns_only, grant_or_refuse, release, size_at, report, request, allocate}
 use Rattle.offset_script.specs.Machine as machine
-use Rattle.offset_script.specs.Listening.{Shows}
-use Rattle.offset_script.specs.Steps.{IsKept, Takes}
+use Rattle.offset_script.specs.{Listening.Shows, Steps.IsKept, Steps.Takes}
 use Rattle.offset_allocator.proofs.Advice.{free_within}
 use Rattle.offset_pictures.specs.declared.refusing.Refused.{Refused}
 use Rattle.offset_pictures.specs.Refusals.{is_refusal, IsRefusedBy, Numbers, numbers_of, numbers_of_view, refusals_with_reasons, refusals_with_reasons_from}

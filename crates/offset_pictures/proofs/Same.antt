@@ -5,9 +5,7 @@ use Rattle.std.proofs.Math.Bridge.{le_prop}
 use Rattle.std.proofs.lemmas.List.Elements.{All-cons, All-head, All-tail, All-weaker}
 use Rattle.std.proofs.lemmas.List.Sorted.{sum_by-IsPermutation}
 use Rattle.std.proofs.lemmas.List.Sums.{sum_by-cons}
-use Rattle.std.specs.Bool.{MatchBool}
-use Rattle.std.specs.List.Sorted.{IsNonDecreasing}
-use Rattle.std.specs.Prelude.{IsPermutation, count_by, min, slice_index, sum_by}
+use Rattle.std.specs.{Bool.MatchBool, List.Sorted.IsNonDecreasing, Prelude.IsPermutation, Prelude.count_by, Prelude.min, Prelude.slice_index, Prelude.sum_by}
 use Rattle.offset_pictures.specs.declared.axes.Axis.{Axis}
 use Rattle.offset_pictures.specs.declared.course.Course.{Course}
 use Rattle.offset_allocator.specs.declared.reports.StorageReport.{StorageReport}
@@ -17,23 +15,13 @@ use Rattle.offset_pictures.specs.declared.plots.Plot.{Plot}
 use Rattle.offset_pictures.specs.declared.refusing.Refused.{Refused}
 use Rattle.offset_pictures.specs.declared.shapes.Shape.{Shape}
 use Rattle.offset_pictures.specs.Figures.{AreFigures, AreTotals, count_below, counted, end_of, IsFirstLargest, IsFirstSmallest, largest}
-use Rattle.offset_pictures.specs.Legend.{legend_text, notes_text}
-use Rattle.offset_pictures.specs.Levels.{free_of, joined_of, most_of}
-use Rattle.offset_pictures.specs.Lives.{is_on, life_view}
+use Rattle.offset_pictures.specs.{Legend.legend_text, Legend.notes_text, Levels.free_of, Levels.joined_of, Levels.most_of, Lives.is_on, Lives.life_view, Reports.report_view, Course.IsCourse}
+use Rattle.offset_pictures.specs.{Plots.IsPlot, Plots.bottom_of, Plots.ranges_end, Plots.reports_end, Shapes.shape_of, Rectangles.ages_text, Rectangles.AreRectangles, Rectangles.plain_of_age}
+use Rattle.offset_pictures.specs.{Rectangles.titled_of_age, StepLines.line_text, Marks.refusals_text, Ticks.axes_text, Titles.escaped, Titles.heading_text}
 use Rattle.offset_pictures.specs.Lives as plain
-use Rattle.offset_pictures.specs.Reports.{report_view}
-use Rattle.offset_script.specs.Grammar.{Plan}
-use Rattle.offset_script.specs.Machine.{Answer, Report}
+use Rattle.offset_script.specs.{Grammar.Plan, Machine.Answer, Machine.Report}
 use Rattle.offset_pictures.specs.Merging.{AreMerged, key_of, large_shapes, merge, shape_of_key, tiny_shapes}
 use Rattle.offset_pictures.specs.Picture.{IsBody, IsPictureOf, opening, PicturesAreFixed, ScriptsFixTheirPictures, style}
-use Rattle.offset_pictures.specs.Course.{IsCourse}
-use Rattle.offset_pictures.specs.Plots.{IsPlot, bottom_of, ranges_end, reports_end}
-use Rattle.offset_pictures.specs.Shapes.{shape_of}
-use Rattle.offset_pictures.specs.Rectangles.{ages_text, AreRectangles, plain_of_age, titled_of_age}
-use Rattle.offset_pictures.specs.StepLines.{line_text}
-use Rattle.offset_pictures.specs.Marks.{refusals_text}
-use Rattle.offset_pictures.specs.Ticks.{axes_text}
-use Rattle.offset_pictures.specs.Titles.{escaped, heading_text}
 use Rattle.offset_pictures.proofs.Fixed.{figures_law}
 
 -- ---- lists

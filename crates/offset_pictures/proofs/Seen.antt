@@ -6,14 +6,9 @@ use Rattle.offset_allocator.specs.View.{max_size}
 use Rattle.offset_script.specs.declared.scripts.Command.{Command}
 use Rattle.offset_script.specs.declared.scripts.Command.TheVariants as command
 use Rattle.offset_script.specs.Machine.{Live, Block, total, Place, place_of, ends_live, coalesce, State, Answer, Outcome, start, step, answers, after, returns_only, leaves, grant, release, reset}
-use Rattle.offset_script.specs.Machine.{stamp_of_call, stamp_of_padding, is_short_of}
+use Rattle.offset_script.specs.{Machine.stamp_of_call, Machine.stamp_of_padding, Machine.is_short_of, Histories.KeepsSpace, Totals.requested_units}
 use Rattle.offset_script.specs.Machine as machine
-use Rattle.offset_script.specs.Histories.{KeepsSpace}
-use Rattle.offset_script.specs.Totals.{requested_units}
-use Rattle.offset_script.proofs.Lists.{count, whole, count-append}
-use Rattle.offset_script.proofs.Found.{chosen_at, not_found}
-use Rattle.offset_script.proofs.Well.{IsWell, not_there}
-use Rattle.offset_script.proofs.Nests.{IsQuiet, does, IsGranted}
+use Rattle.offset_script.proofs.{Lists.count, Lists.whole, Lists.count-append, Found.chosen_at, Found.not_found, Well.IsWell, Well.not_there, Nests.IsQuiet, Nests.does, Nests.IsGranted}
 use Rattle.offset_pictures.specs.Lives.{Life, life_of_answer, lives_from, lives_of, range_of, blocks_after, is_on, IsSeen}
 use Rattle.offset_pictures.specs.Lives as lives
 use Rattle.offset_pictures.proofs.Ranges.{either_of, range_none, range_coalesce, range_released, range_gone, range_kept, range_granted}

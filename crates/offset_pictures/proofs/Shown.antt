@@ -5,10 +5,8 @@ use Rattle.std.specs.Prelude.{min, slice_index}
 use Rattle.offset_pictures.specs.declared.axes.Axis.{Axis}
 use Rattle.offset_pictures.specs.declared.plots.Plot.{Plot}
 use Rattle.offset_pictures.specs.declared.step_lines.Group.{Group}
-use Rattle.offset_pictures.specs.Scales.{along}
-use Rattle.offset_pictures.specs.Lines.{EachLineShowsItsValues, IsYAt}
-use Rattle.offset_pictures.specs.Axes.{y_of, x_of}
-use Rattle.offset_pictures.specs.StepLines.{group_before, groups_from, join_groups, one_state}
+use Rattle.offset_pictures.specs.{Scales.along, Lines.EachLineShowsItsValues, Lines.IsYAt, Axes.y_of, Axes.x_of, StepLines.group_before, StepLines.groups_from, StepLines.join_groups}
+use Rattle.offset_pictures.specs.StepLines.{one_state}
 use Rattle.offset_pictures.proofs.Lined.{Has, IsRising, along_within, line, line_written, x_grows, shows, sooner}
 use Rattle.offset_pictures.proofs.Traced.{AreYs, first_before, first_left, ys_before, traced}
 

@@ -1,14 +1,12 @@
 -- The pieces of a picture are pieces of XML.
 use Rattle.std.proofs.Common.{ℕ, ◌+◌, ◌-◌, Bool, true, false, cond, ◌&&◌, List, [], ◌∷◌, ◌++◌, append-nil, length, nat_eq, nat_le, nat_lt, sym, ap, codes, refl}
-use Rattle.std.specs.Fmt.{decimal}
-use Rattle.std.specs.Prelude.{flat_map}
+use Rattle.std.specs.{Fmt.decimal, Prelude.flat_map}
 use Rattle.offset_pictures.specs.declared.axes.Axis.{Axis}
 use Rattle.offset_pictures.specs.declared.living.Life.{Life}
 use Rattle.offset_allocator.specs.declared.reports.Refusal.{Refusal}
 use Rattle.offset_allocator.specs.declared.reports.Refusal.TheVariants as refusal
 use Rattle.offset_allocator.specs.declared.reports.StorageReport.{StorageReport}
-use Rattle.offset_allocator.specs.Classes.{value, up}
-use Rattle.offset_allocator.specs.Requests.{refusal_words}
+use Rattle.offset_allocator.specs.{Classes.value, Classes.up, Requests.refusal_words}
 use Rattle.offset_pictures.specs.declared.plots.Plot.{Plot}
 use Rattle.offset_pictures.specs.declared.reasons.Spot.{Spot}
 use Rattle.offset_pictures.specs.declared.refusing.Asked.{Asked}
@@ -20,16 +18,12 @@ use Rattle.offset_pictures.specs.declared.rectangles.Frame.{Frame}
 use Rattle.offset_pictures.specs.declared.shapes.Shape.{Shape}
 use Rattle.offset_pictures.specs.declared.step_lines.Column.{Column}
 use Rattle.offset_pictures.specs.declared.step_lines.Group.{Group}
-use Rattle.offset_pictures.specs.Axes.{y_of, right_of, up_of}
-use Rattle.offset_pictures.specs.Scales.{round_step}
-use Rattle.offset_pictures.specs.Numerals.{counted_from_1, grouped_text, pixels_text}
+use Rattle.offset_pictures.specs.{Axes.y_of, Axes.right_of, Axes.up_of, Scales.round_step, Numerals.counted_from_1, Numerals.grouped_text, Numerals.pixels_text, Marks.mark_text, Marks.marked_xs}
+use Rattle.offset_pictures.specs.{Marks.marks_text, Marks.refusals_text, Ticks.axes_text, Ticks.calls_text, Ticks.calls_tick, Ticks.multiples_to, Ticks.units_tick, Xml.IsContent}
+use Rattle.offset_pictures.specs.Xml.IsContent.{nothing}
 use Rattle.offset_pictures.specs.StepLines.{column_of, column_text, groups_from, groups_text, line_text, steps_text}
 use Rattle.offset_pictures.specs.Rectangles.{age_text, ages_text, falling_below, frame_of, plain_of_age, plain_text, title_text, titled_of_age, titled_text}
 use Rattle.offset_pictures.specs.Reasons.{asked_text, more_text, reason_text, reasons_text, report_after, report_text, rounded_text, said_text, spot_text, spots_of}
-use Rattle.offset_pictures.specs.Marks.{mark_text, marked_xs, marks_text, refusals_text}
-use Rattle.offset_pictures.specs.Ticks.{axes_text, calls_text, calls_tick, multiples_to, units_tick}
-use Rattle.offset_pictures.specs.Xml.{IsContent}
-use Rattle.offset_pictures.specs.Xml.IsContent.{nothing}
 use Rattle.offset_pictures.proofs.Texts.{in_a_row, joined_up, same_text}
 use Rattle.offset_pictures.proofs.Nested.{Attributes, Grows, InPieces, IsQuoted, content, each, empty_tag, end, full_tag, in_pieces, literal, none, number_in_value, one, quoted, ◌⊕◌, ◌⊙◌, ◌⊛◌}
 use Rattle.offset_pictures.proofs.Formed.{decimal_numeric, grouped_numeric, joins, number_words, pixels_numeric, words}

@@ -3,12 +3,10 @@ use Rattle.std.proofs.Common.{◌≡◌, ℕ, zero, suc, ◌+◌, ◌-◌, ◌*�
 use Rattle.std.proofs.Math.Nat.{div-le_of_le-mul, div-lt_iff_lt-mul}
 use Rattle.std.proofs.lemmas.Nat.{le-div}
 use Rattle.offset_pictures.specs.declared.plots.Plot.{Plot}
-use Rattle.offset_pictures.specs.Numerals.{grouped_text, pixels_text}
-use Rattle.offset_pictures.specs.Axes.{right_of, up_of}
+use Rattle.offset_pictures.specs.{Numerals.grouped_text, Numerals.pixels_text, Axes.right_of, Axes.up_of, Ticks.calls_tick, Ticks.first_multiples, Ticks.multiples_to, Ticks.units_tick}
 use Rattle.offset_pictures.proofs.Texts.{goes_on, in_a_row, is_begun}
 use Rattle.std.specs.Prelude.{flat_map}
 use Rattle.std.proofs.lemmas.List.{flat_map_more}
-use Rattle.offset_pictures.specs.Ticks.{calls_tick, first_multiples, multiples_to, units_tick}
 
 -- the ticks of the first n multiples, and one more
 one_more : (f : ℕ → List ℕ) (step n : ℕ) (old : List ℕ) → (old ++ flat_map f (first_multiples step n)) ++ f (n * step) ≡ old ++ flat_map f (first_multiples step (n + 1))

@@ -5,9 +5,7 @@ use Rattle.std.specs.Prelude.{max, min}
 use Rattle.offset_pictures.specs.declared.axes.Axis.{Axis}
 use Rattle.offset_pictures.specs.declared.step_lines.Column.{Column}
 use Rattle.offset_pictures.specs.declared.step_lines.Group.{Group}
-use Rattle.offset_pictures.specs.Lines.{IsBetween, IsOn, Step}
-use Rattle.offset_pictures.specs.StepLines.{column_of, group_before, join_groups}
-use Rattle.offset_pictures.specs.Axes.{y_of}
+use Rattle.offset_pictures.specs.{Lines.IsBetween, Lines.IsOn, Lines.Step, StepLines.column_of, StepLines.group_before, StepLines.join_groups, Axes.y_of}
 use Rattle.offset_pictures.proofs.Lined.{IsRising, drawn_first, is_left_out, line, one, same_y, sooner, uprights}
 
 -- a point is at a height that its place has, or between two of them

@@ -1,20 +1,17 @@
 -- Whole lives, from the call that grants to the one that ends.
-use Rattle.std.proofs.Common.{◌≡◌, ℕ, zero, suc, ◌+◌, ◌-◌, ◌<◌, ◌≤◌, Bool, true, false, ◌&&◌, List, []}
-use Rattle.std.proofs.Common.{◌∷◌, length, take, cond, Option, Some, None, All, nat_lt, nat_le, if◌then◌else◌, refl, sym, ap, ◌∙◌}
-use Rattle.std.proofs.Common.{inl, inr, arith, slice_index_or, le-leb}
+use Rattle.std.proofs.Common.{◌≡◌, ℕ, zero, suc, ◌+◌, ◌-◌, ◌<◌, ◌≤◌, Bool, true, false, ◌&&◌, List, [], ◌∷◌, length, take, cond, Option, Some, None, All, nat_lt, nat_le, if◌then◌else◌, refl, sym, ap}
+use Rattle.std.proofs.Common.{◌∙◌, inl, inr, arith, slice_index_or, le-leb}
 use Rattle.std.proofs.lemmas.Bool.{cases_lt, lt-leb}
 use Rattle.std.proofs.lemmas.Bool.Decides.{nat_tests}
 use Rattle.std.proofs.lemmas.List.Elements.{All-nil, All-cons, All-append}
 use Rattle.std.proofs.lemmas.List.Sums.{prefix_len-le-length}
 use Rattle.std.specs.List.{prefix_len}
 use Rattle.offset_script.specs.declared.scripts.Command.{Command}
-use Rattle.offset_script.specs.Machine.{State, Answer, start, step, answers, after}
+use Rattle.offset_script.specs.{Machine.State, Machine.Answer, Machine.start, Machine.step, Machine.answers, Machine.after, Totals.requested_units}
 use Rattle.offset_script.specs.Machine as machine
-use Rattle.offset_script.specs.Totals.{requested_units}
 use Rattle.offset_script.proofs.Well.{IsWell, not_there, well_start, well_step}
 use Rattle.offset_pictures.specs.Lives.{Life, leaves, life_of_answer, end_from, lives_from, lives_of, range_of, is_on, LivesAreSeen}
-use Rattle.offset_pictures.proofs.Ranges.{range_none}
-use Rattle.offset_pictures.proofs.Seen.{grants_of, call_keeps, call_ends, call_counts, call_grants}
+use Rattle.offset_pictures.proofs.{Ranges.range_none, Seen.grants_of, Seen.call_keeps, Seen.call_ends, Seen.call_counts, Seen.call_grants}
 
 more_grants : (c : Command) (s : State) → IsWell s → (k : ℕ) → k ≤ s.grants → k ≤ (step c s).state.grants
 more_grants c s w k made = let g = call_counts c s w in omega arith

@@ -2,14 +2,10 @@
 use Rattle.std.proofs.Common.{ℕ, ◌+◌, ◌*◌, cond, List, [], ◌∷◌, ◌++◌, Option, Some, None, codes, nat_eq, nat_lt, refl}
 use Rattle.std.specs.Fmt.{decimal}
 use Rattle.offset_pictures.specs.declared.figures.Figures.{Figures}
-use Rattle.offset_pictures.specs.Numerals.{grouped_text, pixels_text, share_of, share_text}
-use Rattle.offset_pictures.specs.Figures.{counted}
+use Rattle.offset_pictures.specs.{Numerals.grouped_text, Numerals.pixels_text, Numerals.share_of, Numerals.share_text, Figures.counted, Xml.IsContent, Xml.IsContent.nothing}
 use Rattle.offset_pictures.specs.Legend.{age_key, ages_key, colours_text, end_text, full_text, legend_text, merged_text, notes_text, plural, size_text, use_text, worst_text}
-use Rattle.offset_pictures.specs.Xml.{IsContent}
-use Rattle.offset_pictures.specs.Xml.IsContent.{nothing}
-use Rattle.offset_pictures.proofs.Nested.{IsQuoted, end, ◌⊙◌, Attributes, none, one, Grows, ◌⊕◌, content, empty_tag, full_tag, in_pieces, literal, quoted}
+use Rattle.offset_pictures.proofs.Nested.{IsQuoted, end, ◌⊙◌, Attributes, none, one, Grows, ◌⊕◌, content, empty_tag, full_tag, in_pieces, literal, quoted, number_in_value}
 use Rattle.offset_pictures.proofs.Formed.{decimal_numeric, grouped_numeric, joins, number_words, share_numeric, words}
-use Rattle.offset_pictures.proofs.Nested.{number_in_value}
 use Rattle.offset_pictures.proofs.Tagged.{at, at_place, either_content, grouped, in_class, placed}
 
 is_plural : (n : ℕ) → Grows (λ rest. plural n ++ rest)

@@ -1,20 +1,15 @@
 //! The course of calls, such as those of a script: all that a picture shows of them. It plays the script, and
 //! keeps no space.
-
-ghost use Rattle.std.specs.Prelude.{◌≡◌, All, IfOk, length, map};
-ghost use Rattle.offset_script.specs.Machine as machine;
-ghost use Rattle.offset_script.specs.Machine.{answer_view};
-ghost use Rattle.offset_script.specs.Totals.{added_units};
+ghost use Rattle.std.specs.Prelude.{All, IfOk, map};
 ghost use Rattle.offset_script.specs.Running.{as_plan};
-ghost use Rattle.offset_pictures.specs.Course.{AreSizes, IsCourse};
+ghost use Rattle.offset_pictures.specs.Course.{IsCourse};
 ghost use Rattle.offset_pictures.specs.Lives.{IsOrdered, life_view};
-ghost use Rattle.offset_pictures.specs.Watching.{replace_all_full};
 
 use crate::living::{Life, lives_of_answers};
 use crate::refusing::Refused;
 use crate::watching::{Watched, watch};
 use offset_allocator::StorageReport;
-use offset_script::{Answer, Command, Script};
+use offset_script::Script;
 use std::alloc::{AllocError, Global};
 
 /// What some calls did to a space: those of a script, by `course_of`, or other calls, as noted by the program
@@ -41,36 +36,6 @@ pub struct Course {
     pub refused: Vec<Refused>,
 }
 
-// The units that a command with this answer adds to the space.
-fn added_units(command: Command, answer: &Answer) -> u32
-    ensures { result ≡ added_units command (answer_view answer.now) }
-{
-    match (command, answer) {
-        (Command::Extend(more), Answer::Extended) => more,
-        _ => 0,
-    }
-}
-
-// The units of the space in each state, where the answers have a report in place of each full report.
-fn sizes_of(alloc: Global, script: &Script, answers: &[Answer]) -> Result<Vec<u32>, AllocError>
-    requires len { length answers.now ≡ length script.now.commands.items }
-    requires played { map answer_view answers.now
-        ≡ machine.answers (replace_all_full script.now.commands.items)
-        (machine.start script.now.size script.now.max_allocs) }
-    ensures { IfOk result
-        (λ v. AreSizes v.items script.now.size script.now.max_allocs script.now.commands.items) }
-{
-    let calls = script.commands.len();
-    let mut size = script.size;
-    let mut sizes = Vec::with_capacity(alloc, calls + 1)?;
-    sizes.push(size)?;
-    for i in 0..calls {
-        size = size.saturating_add(added_units(script.commands[i], &answers[i]));
-        sizes.push(size)?;
-    }
-    Ok(sizes)
-}
-
 /// Plays a script, without its full reports, and returns its course.
 ///
 /// ```
@@ -86,9 +51,9 @@ pub fn course_of(alloc: Global, script: &Script) -> Result<Course, AllocError>
     let Watched {
         answers,
         reports,
+        sizes,
         refused,
     } = watch(alloc, script)?;
-    let sizes = sizes_of(alloc, script, &answers)?;
     let lives = lives_of_answers(alloc, &script.commands, &answers)?;
     Ok(Course {
         max_allocs: script.max_allocs,

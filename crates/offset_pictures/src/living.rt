@@ -1,8 +1,7 @@
 //! The lives of grants. It reads commands and their answers, which `lives` has by a play of its script.
 
 ghost use Rattle.std.specs.Prelude.{◌≡◌, ℕ, ◌+◌, ◌-◌, ◌^◌, ◌<◌, ◌≤◌, All, AllPairs, IfOk, length, map};
-ghost use Rattle.std.specs.Prelude.{get_or};
-ghost use Rattle.std.specs.Prelude.{option_map, option_to_list, if◌then◌else◌};
+ghost use Rattle.std.specs.Prelude.{get_or, option_map, option_to_list, if◌then◌else◌};
 ghost use Rattle.offset_script.specs.Machine.{answer_view};
 ghost use Rattle.offset_script.specs.Machine as machine;
 ghost use Rattle.offset_script.specs.Totals.{requested_units};

@@ -3,9 +3,8 @@
 ghost use Rattle.std.specs.Prelude.{◌≡◌, ◌++◌, OnOk, string_bytes};
 ghost use Rattle.offset_pictures.specs.Numerals.{counted_from_1};
 ghost use Rattle.offset_pictures.specs.Reasons.{asked_text, more_text, one_spot, pixel_of, reason_text};
-ghost use Rattle.offset_pictures.specs.Reasons.{reasons_text};
-ghost use Rattle.offset_pictures.specs.Reasons.{report_after, report_text, rounded_text, said_text};
-ghost use Rattle.offset_pictures.specs.Reasons.{spot_text};
+ghost use Rattle.offset_pictures.specs.Reasons.{reasons_text, report_after, report_text, rounded_text};
+ghost use Rattle.offset_pictures.specs.Reasons.{said_text, spot_text};
 
 use crate::numerals::Pixels;
 use crate::plots::Plot;

@@ -2,8 +2,7 @@
 //! only asks the space.
 
 ghost use Rattle.std.specs.Prelude.{◌≡◌, ◌++◌, [], true, IsTrue, OnOk, option_to_list, if◌then◌else◌};
-ghost use Rattle.offset_allocator.specs.Requests.{IsAlignment};
-ghost use Rattle.offset_allocator.specs.Requests.{CanGrant, blocks_needed, units_needed};
+ghost use Rattle.offset_allocator.specs.Requests.{IsAlignment, CanGrant, blocks_needed, units_needed};
 ghost use Rattle.offset_script.specs.Grammar.{has_valid_alignment};
 ghost use Rattle.offset_script.specs.Machine.{answer_view};
 ghost use Rattle.offset_pictures.specs.Refusals.{IsRefusedBy, is_refusal, numbers_of_view, refused_call};

@@ -1,6 +1,6 @@
-//! What a script's space says while the script is played, without its full reports: what it reports after
-//! each command, and why it refuses commands. It plays the script, and asks its space after each command.
-
+//! What a script's space says while the script is played, without its full reports: what it reports and how
+//! large it is after each command, and why it refuses commands. It plays the script, and asks its space after
+//! each command.
 ghost use Rattle.std.specs.Prelude.{◌≡◌, IfOk, map};
 ghost use Rattle.offset_script.specs.Machine.{start};
 ghost use Rattle.offset_pictures.specs.Watching.{HasSeen, replace_all_full, replace_full};
@@ -18,6 +18,8 @@ pub struct Watched {
     pub answers: Vec<Answer>,
     /// The report of the fresh space, and the one after each command.
     pub reports: Vec<StorageReport>,
+    /// The units of the fresh space, and those after each command.
+    pub sizes: Vec<u32>,
     /// The commands that were refused.
     pub refused: Vec<Refused>,
 }
@@ -43,9 +45,12 @@ impl Listener for Watched {
         let answers = Vec::with_capacity(alloc, calls)?;
         let mut reports = Vec::with_capacity(alloc, calls.saturating_add(1))?;
         reports.push(space.storage_report())?;
+        let mut sizes = Vec::with_capacity(alloc, calls.saturating_add(1))?;
+        sizes.push(space.size())?;
         Ok(Watched {
             answers,
             reports,
+            sizes,
             refused: Vec::new(alloc),
         })
     }
@@ -62,6 +67,7 @@ impl Listener for Watched {
         note(&mut self.refused, space, calls, command, &answer)?;
         self.answers.push(answer)?;
         self.reports.push(space.storage_report())?;
+        self.sizes.push(space.size())?;
         Ok(())
     }
 }
@@ -72,7 +78,7 @@ impl Listener for Watched {
 ///
 /// It fails only where an allocation fails.
 pub fn watch(alloc: Global, script: &Script) -> Result<Watched, AllocError>
-    // It is what the plain machine answers to these commands, reports and refuses.
+    // It is what the plain machine answers to these commands, reports and refuses, and how large it is.
     ensures { IfOk result (λ w. HasSeen w (start script.now.size script.now.max_allocs)
         (replace_all_full script.now.commands.items)) }
 {

@@ -12,8 +12,8 @@ use Rattle.offset_script.proofs.Labels.{names, tags, map_three, stamps_below, Ar
 use Rattle.offset_script.proofs.Chosen.{Spot, whole, place_at, named_spot, plain_spot, named_place, plain_place, IsLabelled, none_chosen, chosen, place_of_spot}
 use Rattle.offset_script.proofs.Ends.{AreFree, free_named, free_tagged, apart_tagged, ends_live_last, last_free, total_units, free_sizes_labels, or_none, name_append, name_skip, name_free, name_none}
 use Rattle.offset_script.proofs.{Tests.if_same, Tests.same_some, Found.found_at, Found.not_found, Found.chosen_at, Well.IsWell, Well.not_there, Members.map_parts, Members.map_first}
-use Rattle.offset_allocator.proofs.{Emptied.none_at, ViewApart.and_true, Reading.size_at, Served.Serves, Split.split_view, Tallies.units-append, ViewBins.names_same, ViewBins.names_other}
-use Rattle.offset_allocator.proofs.{Classes.down_small, Classes.fits_size}
+use Rattle.offset_allocator.proofs.{Emptied.none_at, Views.ViewApart.and_true, Reading.size_at, Served.Serves, Views.Split.split_view, Tallies.units-append, Views.ViewBins.names_same}
+use Rattle.offset_allocator.proofs.{Views.ViewBins.names_other, Classes.down_small, Classes.fits_size}
 use Rattle.offset_allocator.specs.{View.Block, View.Place, View.place_of, View.free_block, View.free_part, Requests.HasRoomFor, Requests.CanGrant, Requests.blocks_needed, Requests.units_needed}
 use Rattle.offset_script.specs.declared.scripts.Command.TheVariants as command
 use Rattle.offset_script.specs.Machine as machine

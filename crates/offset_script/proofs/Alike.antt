@@ -2,10 +2,9 @@
 use Rattle.offset_script.proofs.Common.{◌≡◌, ℕ, zero, suc, ◌+◌, ◌-◌, ◌*◌, ◌<◌, ◌≤◌, true, ◌⊎◌, List, [], ◌∷◌, ◌++◌, map, Option, None, nat_eq, nat_lt, refl, sym, ap, ap₂, subst, subst₂, ⊎_elim, ◌∙◌}
 use Rattle.offset_script.proofs.Common.{inl, inr, arith, lt-ltb, le-ltb, sum, Command, Free, Block, block, has_number, total, Place, fits, chosen_place, place_of, coalesce, State, Answer, Outcome}
 use Rattle.offset_script.proofs.Common.{step, answers, request, grant, grant_or_refuse, returns_only, leaves, release, size_at, report, reset, extend, stamp_of_call, padding_to, rows_below, cases_lt}
-use Rattle.offset_script.proofs.Common.{nat_tests, renumber, raise_number}
+use Rattle.offset_script.proofs.{Common.nat_tests, Common.renumber, Common.raise_number, Members.IsIn, Members.in_parts, Tests.if_same}
 use Rattle.offset_script.proofs.Pairs.{Kind, Lives, Frees, Pair, pair, left_tag, right_tag, left, right, lefts, rights, AreAgreed, AreAllAgreed, IsSameOrder, IsSamePlace, neither, both, same_total}
 use Rattle.offset_script.proofs.Pairs.{same_short, same_units, same_free_sizes, same_refusal, both_coalesced, same_place_of, same_chosen, pairs_granted, in_granted, lefts_granted, rights_granted}
-use Rattle.offset_script.proofs.{Members.IsIn, Members.in_parts, Tests.if_same}
 use Rattle.offset_script.specs.declared.scripts.Command.TheVariants as command
 use Rattle.offset_script.specs.Machine as machine
 

@@ -18,9 +18,8 @@ pub use Rattle.std.specs.Option.{option_or, option_map_or}
 pub use Rattle.std.specs.Str.{all_ascii_digits}
 unfoldable pub use Rattle.offset_allocator.specs.Classes.{up, down, value}
 pub use Rattle.offset_allocator.specs.Relations.{SameSpace, Frees, Adds, CanExtend, Extends, Splits, IsFresh, Resets}
-pub use Rattle.offset_allocator.specs.FreeSizes.{largest, rows_below, row, count_of}
-pub use Rattle.offset_allocator.specs.View.{View, Handle, units, used_block, bin_at, push_all, IsWellFormed, replace, max_size, padding_to, tally, times, one, count_named, push}
-pub use Rattle.offset_allocator.specs.View.{remove, remove_all}
+pub use Rattle.offset_allocator.specs.Reporting.FreeSizes.{largest, rows_below, row, count_of}
+pub use Rattle.offset_allocator.specs.View.{View, Handle, units, used_block, bin_at, push_all, IsWellFormed, replace, max_size, padding_to, tally, times, one, count_named, push, remove, remove_all}
 pub use Rattle.offset_script.specs.Grammar.{parts, lines_of, is_skipped, Line, numbered_from, line_ends, largest_limit, Plan, ◌>>=!◌, command_of, header_of, is_admitted, has_valid_alignment, words}
 pub use Rattle.offset_script.specs.Grammar.{one_word_command, number_command, pair_command, ◌>>=◌, text_of, row_line, width_of}
 unfoldable pub use Rattle.offset_script.specs.Grammar.{meaning_of, significant_from, command_of_words, header_of_words, commands_of, plan_of, number_of}

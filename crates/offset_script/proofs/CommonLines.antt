@@ -1,14 +1,11 @@
 -- Commands at the head of a text are the commands of its first lines.
 use Rattle.offset_script.proofs.Common.{◌≡◌, ℕ, ◌+◌, ◌<◌, length, length-append, true, false, eqb, List, [], ◌∷◌, ◌++◌, Some, refl, sym, ap, subst, ◌∙◌, append_assoc, arith, rules, codes}
-use Rattle.offset_script.proofs.Common.{AllByRecursion, IsTrue, all_ascii_digits, and_parts, nat_tests}
-use Rattle.offset_script.proofs.Common.{slice_split_at, All-from_recursion, Command, Alloc, Size, Report, Full, Reset, Align, Extend, has_valid_alignment, parts, is_skipped, significant_from, Line}
-use Rattle.offset_script.proofs.Common.{Plan, ◌>>=!◌, commands_of, Result, Ok, Err}
+use Rattle.offset_script.proofs.Common.{AllByRecursion, IsTrue, all_ascii_digits, and_parts, nat_tests, slice_split_at, All-from_recursion, Command, Alloc, Size, Report, Full, Reset, Align, Extend}
+use Rattle.offset_script.proofs.Common.{has_valid_alignment, parts, is_skipped, significant_from, Line, Plan, ◌>>=!◌, commands_of, Result, Ok, Err}
 use Rattle.offset_script.proofs.{FirstLine.significant_step, Spelled.commands, Meaning.rest_of_plan}
 use Rattle.std.specs.{Char.is_ascii_digit}
-use Rattle.offset_script.specs.{declared.scripts.Command.TheVariants.Free, Spelling.IsNumbered, Spelling.IsSpelling}
-use Rattle.offset_script.specs.{CommonLines.BeginsWithNumber, CommonLines.BeginsWithCommand, CommonLines.ReadsCommands}
-use Rattle.offset_script.specs.{CommonLines.name_of, CommonLines.with_number}
-use Rattle.offset_script.specs.{declared.scripts.Header.Header, declared.faults.ScriptFault.ScriptFault}
+use Rattle.offset_script.specs.{declared.scripts.Command.TheVariants.Free, Spelling.IsNumbered, Spelling.IsSpelling, CommonLines.BeginsWithNumber, CommonLines.BeginsWithCommand}
+use Rattle.offset_script.specs.{CommonLines.ReadsCommands, CommonLines.name_of, CommonLines.with_number, declared.scripts.Header.Header, declared.faults.ScriptFault.ScriptFault}
 use Rattle.offset_script.specs.declared.common_lines.Word.{Word}
 use Rattle.offset_script.specs.declared.common_lines.Word.TheVariants as words
 

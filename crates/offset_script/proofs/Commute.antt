@@ -4,10 +4,9 @@ use Rattle.offset_script.proofs.Common.{ap, ap₂, subst, subst₂, ◌∙◌, a
 use Rattle.offset_script.proofs.Common.{Free, Block, block, is_free, has_number, total, Place, fits, choose, chosen_place, place_of, coalesce, State, start, step, after, request, grant_or_refuse}
 use Rattle.offset_script.proofs.Common.{release, size_at, stamp_of_call, holder, outline, widen, collapse, without_offset, releases, IsCollapse, list_any, option_map_or, or-false}
 use Rattle.offset_script.proofs.Pairs.{Kind, Lives, Frees, Pair, left_tag, right_tag, left, right, lefts, rights, same_free, same_short, same_free_sizes, same_refusal, IsSamePlace, neither, both}
-use Rattle.offset_script.proofs.Pairs.{same_place_of}
+use Rattle.offset_script.proofs.{Pairs.same_place_of, Well.IsWell, Well.well_start, Well.well_after, Well.well_step, Found.found_at, Found.not_found, Similar.HasSameNumber, Similar.ArePaired}
+use Rattle.offset_script.proofs.{Similar.paired, Tests.if_same}
 use Rattle.offset_script.proofs.Lists.{AreFree, coalesced, apart_coalesce, count_coalesce, count, hit, hit_self, number_of, count-append, starts_free, AreApart, apart_parts}
-use Rattle.offset_script.proofs.Well.{IsWell, well_start, well_after, well_step}
-use Rattle.offset_script.proofs.{Found.found_at, Found.not_found, Similar.HasSameNumber, Similar.ArePaired, Similar.paired, Tests.if_same}
 use Rattle.offset_script.specs.declared.scripts.Command.TheVariants as command
 use Rattle.offset_script.specs.Machine as machine
 

@@ -1,7 +1,7 @@
 -- Texts of blocks, one after the other.
 use Rattle.std.proofs.Common.{◌≡◌, ℕ, zero, suc, ◌+◌, ◌<◌, ◌≤◌, length, slice_index_or, arith, Bool, false, List, [], ◌∷◌, ◌++◌, map, drop, reverse, refl, sym, ap, ◌∙◌, append_assoc}
 use Rattle.std.proofs.lemmas.List.{reverse-append}
-use Rattle.offset_allocator.specs.Listing.{Placed}
+use Rattle.offset_allocator.specs.Reporting.Listing.{Placed}
 use Rattle.offset_script.specs.Dumping.{comma, joined}
 
 -- one block more

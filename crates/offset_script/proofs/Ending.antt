@@ -2,9 +2,8 @@
 use Rattle.offset_script.proofs.Common.{◌≡◌, ℕ, suc, ◌-◌, ◌<◌, ◌⊎◌, inl, inr, false, List, [], ◌∷◌, ◌++◌, length, take, drop, get_or, Option, Some, None, Ok, Err, sym, ap, ◌∙◌, append_assoc, arith}
 use Rattle.offset_script.proofs.Common.{take-append-drop, IfSome, flat_map, Appends, cases_lt, append-nil, take_rest, length-append, drop_at, drop_all, meaning_of}
 use Rattle.std.proofs.{Math.Seq.split_at, lemmas.Grind.flat_map-append, KnownBytes.Appends-trans}
-use Rattle.offset_script.specs.Running.{as_plan, IsParsed, IsScriptOf, HasText}
-use Rattle.offset_script.specs.Sending.{Pushes}
-use Rattle.offset_script.specs.{declared.faults.ScriptFault.ScriptFault, declared.scripts.Script.Script, Faults.as_run_fault}
+use Rattle.offset_script.specs.{Running.as_plan, Running.IsParsed, Running.IsScriptOf, Running.HasText, Sending.Pushes, declared.faults.ScriptFault.ScriptFault, declared.scripts.Script.Script}
+use Rattle.offset_script.specs.Faults.{as_run_fault}
 use Rattle.offset_script.proofs.Meaning.{is_too_long}
 use Rattle.offset_script.specs.declared.faults.ScriptFault.TheVariants as scripts
 

@@ -1,9 +1,8 @@
 -- The places that are found for the number of a grant, and chosen for a request.
 use Rattle.offset_script.proofs.Common.{◌≡◌, ℕ, Bool, true, false, ◌&&◌, ◌||◌, List, [], ◌∷◌, ◌++◌, Option, Some, None, option_map, nat_eq, nat_lt, if◌then◌else◌, refl, sym, ap, subst, ◌∙◌, inl, inr}
 use Rattle.offset_script.proofs.Common.{arith, true≢false, and_parts, nat_tests, down, one, Tag, Live, Free, Block, has_number, stamp, Place, here, prepend, fits, is_taken_before, choose}
-use Rattle.offset_script.proofs.Common.{chosen_place, place_of}
-use Rattle.offset_allocator.proofs.ViewApart.{right_false}
-use Rattle.offset_script.proofs.{Members.IsIn, Lists.hit, Lists.count, Lists.whole, Lists.hit_number}
+use Rattle.offset_script.proofs.{Common.chosen_place, Common.place_of, Members.IsIn, Lists.hit, Lists.count, Lists.whole, Lists.hit_number}
+use Rattle.offset_allocator.proofs.Views.ViewApart.{right_false}
 
 -- what is found
 abbrev IsFoundAt : ℕ → List Block → Option Place → Type 0

@@ -1,10 +1,9 @@
 -- A state without live blocks continues as a fresh one, and a fresh one that is extended as a larger one.
 use Rattle.offset_script.proofs.Common.{◌≡◌, ℕ, zero, suc, ◌+◌, ◌-◌, ◌*◌, ◌<◌, ◌≤◌, false, List, [], ◌∷◌, length, IsTrue, nat_lt, refl, sym, ap, ap₂, subst, subst₂, le-ltb, ◌∙◌, inl, inr, arith}
 use Rattle.offset_script.proofs.Common.{true≢false, AllByRecursion, max_size, Tag, Live, Free, Block, block, is_free, total, State, Answer, start, step, answers, after, Command, renumber}
-use Rattle.offset_script.proofs.Common.{raise_number, number_without, answers_renumbered, HasNoLive}
-use Rattle.offset_script.proofs.Nests.{number_without_none, number_without_past, number_without_future}
-use Rattle.offset_script.proofs.{Pairs.rights, Pairs.Frees, Pairs.Pair, Pairs.pair, Pairs.AreAgreed, Members.IsIn, Members.map_same, Alike.IsAlike, Alike.IsMatched, Alike.alike_answers}
-use Rattle.offset_script.proofs.{Lists.AreApart, Lists.count, Lists.hit_self, Well.IsWell, Well.well_start, Well.well_after}
+use Rattle.offset_script.proofs.{Common.raise_number, Common.number_without, Common.answers_renumbered, Common.HasNoLive, Nests.number_without_none, Nests.number_without_past}
+use Rattle.offset_script.proofs.{Nests.number_without_future, Pairs.rights, Pairs.Frees, Pairs.Pair, Pairs.pair, Pairs.AreAgreed, Members.IsIn, Members.map_same, Alike.IsAlike, Alike.IsMatched}
+use Rattle.offset_script.proofs.{Alike.alike_answers, Lists.AreApart, Lists.count, Lists.hit_self, Well.IsWell, Well.well_start, Well.well_after}
 use Rattle.offset_script.specs.declared.scripts.Command.TheVariants as command
 use Rattle.offset_script.specs.Machine as machine
 

@@ -5,8 +5,7 @@ use Rattle.offset_script.proofs.{Agreed.report_agrees, Agreed.same_length, Agree
 use Rattle.offset_script.proofs.{Simulation.follows, Well.IsWell, Well.well_step}
 use Rattle.std.proofs.lemmas.Grind.{flat_map-append}
 use Rattle.offset_allocator.specs.View as named
-use Rattle.offset_script.specs.Grammar.{lines_of_answer}
-use Rattle.offset_script.specs.Listening.{IsTold, Shows}
+use Rattle.offset_script.specs.{Grammar.lines_of_answer, Listening.IsTold, Listening.Shows}
 
 -- a space shows the state that it represents
 pub shows : (v : View) (hs : List (Option Handle)) (s : State) → IsWell s → IsAtState v hs s → Shows v s

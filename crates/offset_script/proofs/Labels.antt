@@ -4,7 +4,8 @@ use Rattle.offset_script.proofs.Common.{cases_lt, not-true, not-false, Tag, Live
 use Rattle.offset_allocator.specs.View.{Block}
 use Rattle.offset_script.proofs.Falling.{falling_remove_all, falling_same, falling_put_all, IsRising}
 use Rattle.offset_script.proofs.{Agreement.Label, Agreement.by_name, Agreement.by_tag, Agreement.stamp_of, Agreement.IsFalling, Lists.count, Lists.hit, Lists.hit_self}
-use Rattle.offset_allocator.proofs.{Tallies.tally_three, Tallies.listed_named, Tallies.tally_append, Tallies.hit_cases, Tallies.one-same, ViewBins.length_remove_all, ViewReplaced.bins_replaced}
+use Rattle.offset_allocator.proofs.{Tallies.tally_three, Tallies.listed_named, Tallies.tally_append, Tallies.hit_cases, Tallies.one-same, Views.ViewBins.length_remove_all}
+use Rattle.offset_allocator.proofs.{Views.ViewReplaced.bins_replaced}
 use Rattle.offset_script.specs.Machine as plain
 
 -- the blocks by name

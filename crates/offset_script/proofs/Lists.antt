@@ -2,7 +2,7 @@
 use Rattle.offset_script.proofs.Common.{◌≡◌, ℕ, zero, suc, ◌+◌, ◌≤◌, Bool, true, false, ◌&&◌, List, [], ◌∷◌, ◌++◌, length, nat_eq, if◌then◌else◌, refl, sym, ap, ap₂, subst, ◌∙◌, inl, inr, arith}
 use Rattle.offset_script.proofs.Common.{ne_eqb, append-nil, cases_eq, true≢false, false≢true, and_left, and_right, AllByRecursion, one, Tag, Live, Free, Block, block, is_free, has_number, total}
 use Rattle.offset_script.proofs.Common.{Place, free_part, units_at_start, without_start, units_at_end, without_end, coalesce, nil_from_length, cases_Bool}
-use Rattle.offset_allocator.proofs.{ViewApart.left_false, ViewApart.right_false, Tallies.hit_cases, Tallies.one-same}
+use Rattle.offset_allocator.proofs.{Views.ViewApart.left_false, Views.ViewApart.right_false, Tallies.hit_cases, Tallies.one-same}
 use Rattle.offset_script.proofs.Members.{IsIn}
 
 -- whether the first block of a list is free

@@ -2,12 +2,11 @@
 use Rattle.offset_script.proofs.Common.{◌≡◌, ℕ, ◌+◌, ◌-◌, ◌<◌, ◌≤◌, true, false, ◌&&◌, ◌||◌, ◌⊎◌, List, [], ◌∷◌, ◌++◌, Some, nat_eq, nat_lt, nat_le, refl, sym, ap, ap₂, subst, subst₂, ◌∙◌, inl, inr}
 use Rattle.offset_script.proofs.Common.{arith, append_assoc, eqb-true, eq-eqb, lt-ltb, le-ltb, map-append, cases_eq, false≢true, and_parts, nat_tests, up, down, Tag, Live, Free, Block, block, is_free}
 use Rattle.offset_script.proofs.Common.{has_number, stamp, Place, fits, place_of, free_part, coalesce, State, stamp_of_call, stamp_of_padding}
-use Rattle.offset_allocator.proofs.ViewApart.{left_false, right_false}
+use Rattle.offset_allocator.proofs.Views.ViewApart.{left_false, right_false}
 use Rattle.offset_script.proofs.Members.{IsIn, in_append, in_left, in_right, in_map, map_parts, map_first, in_parts}
 use Rattle.offset_script.proofs.Pairs.{Kind, Lives, Frees, Pair, pair, left_tag, right_tag, left, right, lefts, rights, same_total, same_end, same_start, AreAgreed, AreAllAgreed, IsSameOrder}
 use Rattle.offset_script.proofs.Lists.{whole, count, hit, hit_self, in_count, count-append, count_free_part, starts_free, ends_free, AreApart, apart_parts, IsEnd, IsStart, end_of, start_of}
-use Rattle.offset_script.proofs.Lists.{coalesce_parts}
-use Rattle.offset_script.proofs.{Well.IsWell, Well.not_there, Well.free_part_is, Well.granted_blocks, Found.place_at, Found.IsBest, Similar.HasSameNumber, Similar.AreSimilar}
+use Rattle.offset_script.proofs.{Lists.coalesce_parts, Well.IsWell, Well.not_there, Well.free_part_is, Well.granted_blocks, Found.place_at, Found.IsBest, Similar.HasSameNumber, Similar.AreSimilar}
 
 same_hit : (k : ℕ) (q : Kind) → HasSameNumber q → hit (Live k) (left_tag q) ≡ hit (Live k) (right_tag q)
 same_hit k (Lives i j) e = ap (λ x. hit (Live k) (Live x)) e

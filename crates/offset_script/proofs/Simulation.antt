@@ -2,14 +2,13 @@
 use Rattle.offset_script.proofs.Common.{◌≡◌, ℕ, zero, suc, ◌+◌, ◌-◌, ◌%◌, ◌^◌, ◌<◌, ◌≤◌, Bool, List, [], ◌∷◌, ◌++◌, map, length, Option, Some, None, option_map, Result, Ok, Err, IfOk, slice_index_or}
 use Rattle.offset_script.proofs.Common.{slice_set, get_or, if◌then◌else◌, IsTrue, refl, sym, ap, ap₂, subst, subst₂, ◌∙◌, inl, inr, arith, eq-eqb, ne_eqb, add-one, length-append, append_assoc}
 use Rattle.offset_script.proofs.Common.{append-nil, map-append, get_or-set_same, get_or-set_other, get_or_past, length-set, cases_eq, cases_lt, value, row, rows_below, count_of, Command}
-use Rattle.offset_script.proofs.Common.{has_valid_alignment, State, Answer, step, start, row_view, View, Handle, IsWellFormed, kept_name, Takes, AreSteps, AreStepsFromFresh, IsKept, IfNamed, Stays, AreLive}
-use Rattle.offset_script.proofs.Common.{IsFresh, Frees, Extends, Resets}
+use Rattle.offset_script.proofs.Common.{has_valid_alignment, State, Answer, step, start, row_view, View, Handle, IsWellFormed, kept_name, Takes, AreSteps, AreStepsFromFresh, IsKept, IfNamed, Stays}
+use Rattle.offset_script.proofs.{Common.AreLive, Common.IsFresh, Common.Frees, Common.Extends, Common.Resets, Agreement.IsAtState, Well.IsWell}
 use Rattle.std.proofs.{Math.ListN.get_or-append, Math.Seq.get_or-append_seam}
 use Rattle.offset_allocator.specs.declared.reports.StorageReportFullRegion.{StorageReportFullRegion}
-use Rattle.offset_allocator.specs.{declared.reports.StorageReportFull.StorageReportFull, View.free_sizes, Reports.IsFullReport, Ranges.size_of}
+use Rattle.offset_allocator.specs.{declared.reports.StorageReportFull.StorageReportFull, View.free_sizes, Reporting.Reports.IsFullReport, Ranges.size_of}
 use Rattle.offset_script.proofs.Agreed.{with_name, without_name, IsMatch, serve_agrees, aligned_agrees, extend_agrees, free_agrees, live_agrees, gone_agrees, size_gone_agrees, size_agrees}
 use Rattle.offset_script.proofs.Agreed.{report_agrees, full_agrees, agrees_quiet, agrees_kept, alone_agrees, same_units}
-use Rattle.offset_script.proofs.{Agreement.IsAtState, Well.IsWell}
 use Rattle.offset_script.specs.declared.answers.FullRow.{FullRow}
 use Rattle.offset_allocator.proofs.{Reading.used_live, Reading.size_is, Powers.not_zero, Served.plain_serves, Served.aligned_serves}
 use Rattle.offset_script.specs.declared.scripts.Command.TheVariants as command

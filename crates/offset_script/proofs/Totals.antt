@@ -71,7 +71,7 @@ adds_step (command.Extend (suc more)) s =
     (λ e. adds_none _ _ refl) (λ e. let j = total_coalesce s.blocks (suc more) (stamp_of_call s) [] in omega arith)
 adds_step c s = adds_none _ _ (total_kept c s tt)
 
-adds_all : (cs : List Command) (s : State) → total (after cs s).blocks ≡ total s.blocks + added_by cs s
+pub adds_all : (cs : List Command) (s : State) → total (after cs s).blocks ≡ total s.blocks + added_by cs s
 adds_all [] s = omega arith
 adds_all (c ∷ cs) s = let a = adds_step c s in let ih = adds_all cs (step c s).state in omega arith
 

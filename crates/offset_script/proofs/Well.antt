@@ -5,7 +5,7 @@ use Rattle.offset_script.proofs.Common.{Tag, Live, Free, Block, block, is_free, 
 use Rattle.offset_script.proofs.Common.{request, grant, grant_or_refuse, is_short_of, returns_only, leaves, release, reset, extend, stamp_of_call, stamp_of_padding, cond_both}
 use Rattle.offset_script.proofs.{Lists.sums_coalesced, Lists.starts_free, Lists.ends_free, Lists.AreApart, Lists.hit, Lists.count, Lists.whole, Lists.count-append, Lists.count_free_part}
 use Rattle.offset_script.proofs.{Lists.apart_append, Lists.apart_parts, Lists.AreFree, Lists.coalesced, Lists.count_coalesce, Lists.apart_coalesce, Found.found_at, Found.chosen_at}
-use Rattle.offset_allocator.proofs.{ViewApart.left_false, ViewApart.right_false, Tallies.hit_cases}
+use Rattle.offset_allocator.proofs.{Views.ViewApart.left_false, Views.ViewApart.right_false, Tallies.hit_cases}
 use Rattle.offset_script.specs.declared.scripts.Command.TheVariants as command
 use Rattle.offset_script.specs.Machine as machine
 

@@ -4,8 +4,7 @@ use Rattle.std.proofs.lemmas.Fmt.{IsAscii-decimal, decimal_digit}
 use Rattle.std.proofs.lemmas.List.{drop-set, drop_at, drop-drop, length-take-le}
 use Rattle.std.proofs.lemmas.Str.{IsUtf8-append, IsUtf8-from_ascii, IsUtf8-from_is_utf8, is_utf8-from_IsUtf8}
 use borrow.Rule.Slice.PartMut.{put_mid}
-use Rattle.std.specs.Fmt.{decimal}
-use Rattle.std.specs.Str.{IsUtf8, is_utf8}
+use Rattle.std.specs.{Fmt.decimal, Str.IsUtf8, Str.is_utf8}
 
 -- text before text is text
 pub text_before : (a b ab : List ℕ) → ab ≡ a ++ b → IsUtf8 a → is_utf8 b ≡ true → is_utf8 ab ≡ true

@@ -1,8 +1,8 @@
 -- A space as JSON.
 use Rattle.std.specs.Prelude.{ℕ, Bool, true, false, List, [], ◌∷◌, ◌++◌, Option, Some, None, codes, if◌then◌else◌}
 use Rattle.std.specs.Fmt.{decimal}
-use Rattle.offset_allocator.specs.Listing.{Placed, placed}
-use Rattle.offset_allocator.specs.declared.statistics.Statistics.{Statistics}
+use Rattle.offset_allocator.specs.Reporting.Listing.{Placed, placed}
+use Rattle.offset_allocator.specs.declared.reports.statistics.Statistics.{Statistics}
 use Rattle.offset_allocator.specs.View.{View, Handle}
 
 -- a comma, but not before the first

@@ -13,7 +13,7 @@ use Rattle.offset_script.specs.declared.scripts.IndexWidth.TheVariants.{Bits16, 
 use Rattle.offset_script.specs.declared.scripts.Header.{Header}
 use Rattle.offset_script.specs.declared.faults.ScriptFault.{ScriptFault}
 use Rattle.offset_script.specs.declared.faults.ScriptFault.TheVariants.{TooLong, BadHeader, BadLimit, BadCommand}
-use Rattle.offset_allocator.specs.FreeSizes.{Row}
+use Rattle.offset_allocator.specs.Reporting.FreeSizes.{Row}
 use Rattle.offset_script.specs.Machine.{Answer}
 use Rattle.offset_script.specs.Machine as machine
 

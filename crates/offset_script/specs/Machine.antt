@@ -5,7 +5,7 @@ use Rattle.std.specs.Prelude.{ℕ, zero, suc, ◌+◌, ◌-◌, ◌*◌, Bool, t
 use Rattle.std.specs.Prelude.{if◌then◌else◌}
 use Rattle.offset_allocator.specs.Classes.{up, down}
 use Rattle.offset_allocator.specs.View.{max_size, padding_to}
-use Rattle.offset_allocator.specs.FreeSizes.{largest, Row, rows_below}
+use Rattle.offset_allocator.specs.Reporting.FreeSizes.{largest, Row, rows_below}
 use Rattle.offset_script.specs.declared.scripts.Command.{Command}
 use Rattle.offset_script.specs.declared.scripts.Command.TheVariants as command
 use Rattle.offset_script.specs.declared.answers.FullRow.{FullRow}

@@ -2,8 +2,7 @@
 //! failed is tried again.
 
 ghost use Rattle.std.specs.Prelude.{◌≡◌, ℕ, ◌<◌, ◌≤◌, Bool, true, false, not, ◌||◌, IsTrue, List, Option};
-ghost use Rattle.std.specs.Prelude.{length, take};
-ghost use Rattle.std.specs.Prelude.{IfSome, MatchOption, is_none};
+ghost use Rattle.std.specs.Prelude.{length, take, IfSome, MatchOption, is_none};
 ghost use Rattle.offset_script.specs.Devices.{Reading, Writing};
 ghost use Rattle.std.specs.Io.KnownBytes.{Consumes, Appends, Keeps, IsAtEnd};
 

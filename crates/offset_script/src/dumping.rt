@@ -1,12 +1,11 @@
 //! A space as JSON, for tools that draw or count its blocks. It only reads the space.
 
 ghost use Rattle.std.specs.Prelude.{◌≡◌, ◌++◌, IfOk, OnOk, map, string_bytes, true};
-ghost use Rattle.offset_allocator.specs.Listing.{as_placed, placed};
-ghost use Rattle.offset_allocator.specs.Statistics.{AreStatistics};
-ghost use Rattle.offset_allocator.specs.declared.statistics.Statistics.{Statistics};
+ghost use Rattle.offset_allocator.specs.Reporting.Listing.{as_placed, placed};
+ghost use Rattle.offset_allocator.specs.Reporting.Statistics.{AreStatistics};
+ghost use Rattle.offset_allocator.specs.declared.reports.statistics.Statistics.{Statistics};
 ghost use Rattle.offset_script.specs.Dumping.{block_json, comma, free_json, joined, live_json, numbers_json};
-ghost use Rattle.offset_script.specs.Dumping.{space_json};
-ghost use Rattle.offset_script.specs.Dumping.{vma_json, vma_numbers, vma_space_json};
+ghost use Rattle.offset_script.specs.Dumping.{space_json, vma_json, vma_numbers, vma_space_json};
 
 use offset_allocator::{AllocatorOf, Block, NodeIndex, Statistics, Tables};
 use std::alloc::{AllocError, Global};

@@ -1,14 +1,11 @@
 -- Free blocks, counted along a walk over the blocks.
-use Rattle.std.proofs.Common.{◌≡◌, ℕ, ◌+◌, ◌<◌, ◌≤◌, Bool, true, false, is_some, slice_index, slice_set, get_or-set_same, get_or-set_other, List, [], ◌∷◌, ◌++◌, length}
-use Rattle.std.proofs.Common.{reverse, nat_eq}
-use Rattle.std.proofs.Common.{if◌then◌else◌, refl, ap, ◌∙◌, arith}
+use Rattle.std.proofs.Common.{◌≡◌, ℕ, ◌+◌, ◌<◌, ◌≤◌, Bool, true, false, is_some, slice_index, slice_set, get_or-set_same, get_or-set_other, List, [], ◌∷◌, ◌++◌, length, reverse, nat_eq, if◌then◌else◌}
+use Rattle.std.proofs.Common.{refl, ap, ◌∙◌, arith}
 use Rattle.std.proofs.lemmas.Bool.Decides.{eqb_tells}
 use Rattle.std.proofs.lemmas.List.{reverse-append}
-use Rattle.offset_allocator.specs.Classes.{down}
-use Rattle.offset_allocator.specs.View.{Block, Handle, View, free_sizes}
+use Rattle.offset_allocator.specs.{Classes.down, View.Block, View.Handle, View.View, View.free_sizes, Reporting.FreeSizes.count_of}
 use Rattle.offset_allocator.proofs.Classes.{down_small}
-use Rattle.offset_allocator.specs.FreeSizes.{count_of}
-use Rattle.offset_allocator.specs.Listing.{Placed, placed, placed_at, listing}
+use Rattle.offset_allocator.specs.Reporting.Listing.{Placed, placed, placed_at, listing}
 
 -- a test as a count
 abbrev one_if : Bool → ℕ

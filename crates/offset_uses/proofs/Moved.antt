@@ -1,15 +1,13 @@
 -- What the copies of the moves leave under each handle.
-use Rattle.std.proofs.Common.{◌≡◌, ℕ, ◌+◌, ◌<◌, ◌≤◌, Bool, true, false, Option, Some, None, List, [], ◌∷◌, ◌++◌, length, slice_index_or, if◌then◌else◌, nat_eq}
-use Rattle.std.proofs.Common.{option_map, option_and_then, refl}
-use Rattle.std.proofs.Common.{sym, ap, subst, ◌∙◌, inl, inr, arith}
-use Rattle.std.specs.Bool.{⊤}
-use Rattle.std.specs.List.{FoldsTo}
+use Rattle.std.proofs.Common.{◌≡◌, ℕ, ◌+◌, ◌<◌, ◌≤◌, Bool, true, false, Option, Some, None, List, [], ◌∷◌, ◌++◌, length, slice_index_or, if◌then◌else◌, nat_eq, option_map, option_and_then, refl, sym}
+use Rattle.std.proofs.Common.{ap, subst, ◌∙◌, inl, inr, arith}
+use Rattle.std.specs.{Bool.⊤, List.FoldsTo}
 use Rattle.std.proofs.lemmas.Bool.{cases_eq}
 use Rattle.std.proofs.lemmas.Bool.Decides.{nat_tests}
 use Rattle.offset_allocator.specs.View.{Block, View, Place, one, place_of, count_named, units, IsWellFormed}
 use Rattle.offset_allocator.specs.Ranges.{Range, range_of}
-use Rattle.offset_allocator.specs.Compacting.{Move, live, moves, move_of, gathered, Compacts}
-use Rattle.offset_allocator.proofs.Sliding.{live_used, live_idle, moves_used, moves_idle}
+use Rattle.offset_allocator.specs.Moving.Compacting.{Move, live, moves, move_of, gathered, Compacts}
+use Rattle.offset_allocator.proofs.Moving.Sliding.{live_used, live_idle, moves_used, moves_idle}
 use Rattle.offset_allocator.proofs.Tallies.{hit_cases}
 use Rattle.offset_uses.specs.Pool.{HasSameBytes, IsCopied}
 

@@ -2,7 +2,7 @@
 use Rattle.std.specs.Prelude.{ℕ, List, ◌++◌, Option, Some, None, codes}
 use Rattle.std.specs.Fmt.{decimal}
 use Rattle.offset_allocator.specs.View.{Handle}
-use Rattle.offset_allocator.specs.Listing.{Placed}
+use Rattle.offset_allocator.specs.Reporting.Listing.{Placed}
 
 -- how a block's line ends
 abbrev pub use_text : Option Handle → List ℕ

@@ -2,15 +2,14 @@
 //! `place_packed` and `defragment` have a proof file.
 
 ghost use Rattle.std.specs.Prelude.{ℕ, ◌≡◌, ◌≢◌, ◌↔◌, ◌⊎◌, ◌+◌, ◌-◌, ◌*◌, ◌<◌, ◌≤◌, ◌%◌, Some, None, false};
-ghost use Rattle.std.specs.Prelude.{not, min};
-ghost use Rattle.std.specs.Prelude.{IfSome, IfOk, IfErr, IsOk, IsSome, IsTrue, length};
+ghost use Rattle.std.specs.Prelude.{not, min, IfSome, IfOk, IfErr, IsOk, IsSome, IsTrue, length};
 ghost use Rattle.std.specs.Int.{is_power_of_two};
 ghost use Rattle.offset_allocator.specs.View.{used_units, reported_largest};
 ghost use Rattle.offset_allocator.specs.Ranges.{Range, range_of, size_of, KeepsAll, KeepsOthers, IsLive};
 ghost use Rattle.offset_allocator.specs.Relations.{Aligns, Allocates, Frees, SameState, Resets};
 ghost use Rattle.offset_allocator.specs.Requests.{CanGrant, IsWhy};
 ghost use Rattle.offset_allocator.specs.Resizing.{CanShrink, CanGrow, HasUnits};
-ghost use Rattle.offset_allocator.specs.Compacting.{Compacts, KeepsSizes};
+ghost use Rattle.offset_allocator.specs.Moving.Compacting.{Compacts, KeepsSizes};
 ghost use Rattle.offset_uses.specs.Grants.{HasTooFewUnits, IsGrantOf};
 ghost use Rattle.offset_uses.specs.Pool.{HasSameBytes, IsCopied};
 

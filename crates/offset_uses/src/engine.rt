@@ -1,8 +1,7 @@
 //! What engines do beside: requests of one alignment, handles that travel, and several spaces.
 
 ghost use Rattle.std.specs.Prelude.{ℕ, ◌≡◌, ◌≢◌, ◌↔◌, ◌⊎◌, ◌+◌, ◌*◌, ◌/◌, ◌%◌, ◌<◌, ◌≤◌, Some, None, false};
-ghost use Rattle.std.specs.Prelude.{IfSome};
-ghost use Rattle.std.specs.Prelude.{IsSome, IsTrue, length, slice_index_or};
+ghost use Rattle.std.specs.Prelude.{IfSome, IsSome, IsTrue, length, slice_index_or};
 ghost use Rattle.std.specs.Int.{is_power_of_two};
 ghost use Rattle.offset_allocator.specs.View.{View, Handle, reported_largest};
 ghost use Rattle.offset_allocator.specs.Ranges.{IsLive, KeepsAll, KeepsOthers};

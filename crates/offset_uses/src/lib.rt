@@ -2,12 +2,10 @@
 #![tactic(auto)]
 
 ghost use Rattle.std.specs.Prelude.{◌≡◌, ◌≢◌, ◌↔◌, ◌⊎◌, true, false, ◌+◌, ◌<◌, ◌≤◌, ◌%◌, Some, None, IfSome};
-ghost use Rattle.std.specs.Prelude.{IsSome};
-ghost use Rattle.std.specs.Prelude.{IsTrue, IfOk, MatchOption, All, map, min, length};
+ghost use Rattle.std.specs.Prelude.{IsSome, IsTrue, IfOk, MatchOption, All, map, min, length};
 ghost use Rattle.offset_allocator.specs.View.{View, Handle, reported_largest, reported_free};
 ghost use Rattle.offset_allocator.specs.Ranges.{Range, AreDisjoint, IsLive, KeepsOthers, KeepsRanges};
-ghost use Rattle.offset_allocator.specs.Ranges.{range_of};
-ghost use Rattle.offset_allocator.specs.Ranges.{size_of};
+ghost use Rattle.offset_allocator.specs.Ranges.{range_of, size_of};
 ghost use Rattle.offset_allocator.specs.Requests.{CanGrant};
 ghost use Rattle.offset_allocator.specs.Relations.{Aligns, Allocates, Extends, Frees, SameSpace, SameState};
 ghost use Rattle.offset_script.specs.Machine.{answer_view, answers, start};

@@ -2,7 +2,7 @@
 
 ghost use Rattle.std.specs.Prelude.{ℕ, ◌≡◌, ◌≤◌, ◌+◌, length};
 ghost use Rattle.offset_allocator.specs.Ranges.{range_of};
-ghost use Rattle.offset_allocator.specs.Compacting.{Compacts};
+ghost use Rattle.offset_allocator.specs.Moving.Compacting.{Compacts};
 ghost use Rattle.offset_uses.specs.Pool.{HasSameBytes, IsCopied};
 
 use offset_allocator::{Allocator, Move, laws};

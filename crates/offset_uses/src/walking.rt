@@ -3,8 +3,8 @@
 ghost use Rattle.std.specs.Prelude.{◌≡◌, ◌<◌, ◌++◌, ℕ, IfOk, OnOk, slice_index, string_bytes};
 ghost use Rattle.std.specs.List.{flat_map};
 ghost use Rattle.offset_allocator.specs.View.{free_sizes};
-ghost use Rattle.offset_allocator.specs.FreeSizes.{count_of};
-ghost use Rattle.offset_allocator.specs.Listing.{as_placed, listing};
+ghost use Rattle.offset_allocator.specs.Reporting.FreeSizes.{count_of};
+ghost use Rattle.offset_allocator.specs.Reporting.Listing.{as_placed, listing};
 ghost use Rattle.offset_uses.specs.Walking.{block_line};
 
 use offset_allocator::small_float::uint_to_float_round_down;

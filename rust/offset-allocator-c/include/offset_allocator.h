@@ -245,10 +245,11 @@ bool oa_retract(oa_allocator *space, uint32_t less);
 /* A second range of as many units before that of a live handle, from the block that oa_allocate takes for them. Both are live
  * until the old one is freed, so the units can be copied while the old ones are still read, and the copies do not overlap.
  * Both parts are OA_NO_SPACE, and nothing changes, where oa_allocate would refuse them, where that block begins after the
- * range, if the handle is not live, or if the allocator is null. Bounded. */
+ * range, if the handle is not live, or if the allocator is null. It begins at any multiple. Bounded. */
 oa_allocation oa_relocate(oa_allocator *space, oa_allocation allocation);
 
-/* Moves all live ranges to the front of the space, in order, so that all free units are one block. Handles stay live.
+/* Moves all live ranges to the front of the space, in order, so that all free units are one block. Handles stay live; a
+ * range that moves begins at oa_allocation_offset from then on, and keeps no alignment.
  * `moved`, if it is not null, is called with `user` and each range that moves, in the order in which they can be copied
  * one after the other. It must return: no exception, no longjmp; and it must not use this allocator.
  * Nothing is done where the allocator is null. Cost: at most 10 accesses a block, and 384. */
@@ -271,8 +272,9 @@ oa_allocation oa_live_after(const oa_allocator *space, oa_allocation allocation)
 
 /* Makes room for a request of this size where ranges have to move for it: slides those of a run of blocks that costs what
  * oa_room_cost returns to its front, so that its free units are one block after them, which is large enough. `moved` is
- * called as by oa_compact. Handles stay live. Returns what oa_room_cost would have returned before; where that is not
- * possible or has no ranges, nothing changes. Else oa_allocate grants the request afterwards, at the node limit too.
+ * called as by oa_compact, and the same holds of handles and alignments. Returns what oa_room_cost would have returned
+ * before; where that is not possible or has no ranges, nothing changes. Else oa_allocate grants the request afterwards, at
+ * the node limit too.
  * All 0 for null. Cost: 6 accesses a block, 40 a range that moves, and 20. */
 oa_room oa_make_room(oa_allocator *space, uint32_t size, void (*moved)(void *user, oa_move range), void *user);
 

@@ -30,10 +30,13 @@ mod traits;
 pub use offset_allocator_memory as memory;
 pub use offset_allocator_memory::{AllocError, Global};
 
-mod changing;
-mod ending;
-mod granting;
+mod allocate;
+mod beside;
+mod compact;
+#[doc(hidden)]
+pub mod numbers;
 mod refusal;
+mod resize;
 mod restoring;
 mod saving;
 mod serials;

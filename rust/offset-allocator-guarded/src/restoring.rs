@@ -3,8 +3,9 @@
 //! A guarded allocator from the bytes of its state, or what is wrong with them. It makes tables.
 
 use crate::GuardedOf;
+use crate::numbers::{checksum, number};
 use crate::serials::Serials;
-use crate::state::{StateFault, StateFaultKind, checksum, number};
+use crate::state::{FORM, StateFault, StateFaultKind, VERSION};
 use offset_allocator::{Allocation, AllocatorOf, Tables};
 use crate::memory::{AllocError, Global};
 
@@ -24,7 +25,7 @@ fn header_of(bytes: &[u8]) -> Result<Header, StateFault> {
             kind: StateFaultKind::Length,
         });
     }
-    if number(bytes, 0) != 1263812943 || number(bytes, 1) != 1 {
+    if number(bytes, 0) != FORM || number(bytes, 1) != VERSION {
         return Err(StateFault {
             at: 0,
             kind: StateFaultKind::Form,

@@ -2,7 +2,7 @@
 
 //! The serials of grants, by name. It touches its own numbers alone.
 
-use crate::state::number;
+use crate::numbers::number;
 use crate::memory::Vec;
 use crate::memory::{AllocError, Global};
 

@@ -1,8 +1,13 @@
 // Printed by rust/erase from crates/offset_guarded/src/state.rt: change it there.
 
-//! The numbers of a state with tickets: their bytes, their checksum, and faults. It touches no space.
-
+//! The form of a state with tickets, and faults. It touches no space.
 use core::fmt;
+
+/// The number that a state with tickets begins with: its first bytes are the letters OATK.
+pub(crate) const FORM: u64 = 1263812943;
+
+/// The version of the form.
+pub(crate) const VERSION: u64 = 1;
 
 /// What is wrong with the bytes of a state, and where.
 #[derive(Clone, Copy, PartialEq, Debug)]
@@ -51,23 +56,4 @@ impl fmt::Display for StateFaultKind {
             StateFaultKind::Allocator(kind) => write!(f, "{kind}"),
         }
     }
-}
-
-/// The number of 64 bits at a place, the lowest byte first.
-pub(crate) fn number(bytes: &[u8], place: usize) -> u64 {
-    let at = 8 * place;
-    let mut eight = [0; 8];
-    eight.copy_from_slice(&bytes[at..at + 8]);
-    u64::from_le_bytes(eight)
-}
-
-/// The checksum of the first numbers.
-pub(crate) fn checksum(bytes: &[u8], count: usize) -> u64 {
-    let mut sum = 0u64;
-    for place in 0..count {
-        sum = sum
-            .wrapping_mul(1099511628211)
-            .wrapping_add(number(bytes, place));
-    }
-    sum
 }

@@ -5,7 +5,7 @@
 use crate::HeapsOf;
 use crate::index::Index;
 use crate::limits::Limits;
-use crate::slots::{self, Slots};
+use crate::slots::Slots;
 use offset_allocator::{Accesses, Tables};
 use offset_guarded::GuardedOf;
 use crate::memory::{AllocError, Global};
@@ -37,10 +37,10 @@ fn copy_of<T: Tables>(
 
 // Copies of all heaps.
 fn copies_of<T: Tables>(alloc: Global, slots: &Slots<T>, count: u32) -> Result<Slots<T>, AllocError> {
-    let mut copies = slots::none(alloc, count)?;
+    let mut copies = Slots::with_room(alloc, count)?;
     for number in 0..count {
-        let copy = copy_of(alloc, slots::at(slots, number, &mut Accesses::new()))?;
-        slots::put(&mut copies, number, copy, &mut Accesses::new());
+        let copy = copy_of(alloc, slots.at(number, &mut Accesses::new()))?;
+        copies.put(number, copy, &mut Accesses::new());
     }
     Ok(copies)
 }

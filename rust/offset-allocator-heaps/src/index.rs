@@ -4,8 +4,8 @@
 
 use crate::limits::Limits;
 use crate::maxima::{Maxima, levels_for};
-use crate::slots::{self, Slots};
-use offset_allocator::laws::unused_names;
+use crate::slots::Slots;
+use offset_allocator::laws::unused_nodes;
 use offset_allocator::{Accesses, Tables};
 use offset_guarded::{GuardedOf, Refusal};
 use crate::memory::{AllocError, Global};
@@ -32,7 +32,7 @@ fn has_serial_left<T: Tables>(heap: &GuardedOf<T>) -> bool {
 pub(crate) fn rooms<T: Tables>(heap: Option<&GuardedOf<T>>) -> (u32, u32) {
     let Some(heap) = heap else { return (0, 0) };
     let space = heap.allocator();
-    let left = unused_names(space);
+    let left = unused_nodes(space);
     if !has_serial_left(heap) || left <= 1 {
         return (0, 0);
     }
@@ -75,7 +75,7 @@ impl Index {
         limits: Limits,
         count: &mut Accesses,
     ) {
-        let heap = slots::at(slots, number, count);
+        let heap = slots.at(number, count);
         let (one, two) = rooms(heap);
         self.one.set(number, one, count);
         self.two.set(number, two, count);

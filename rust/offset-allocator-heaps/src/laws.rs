@@ -2,4 +2,4 @@
 
 //! Laws: what holds of all heaps. Its functions do nothing.
 
-pub use crate::relocating::emptiest_counted;
+pub use crate::relocate::emptiest_counted;

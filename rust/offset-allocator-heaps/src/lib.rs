@@ -40,17 +40,18 @@ pub use offset_allocator_memory as memory;
 pub use offset_allocator_memory::{AllocError, Global};
 pub use offset_guarded::Ticket;
 
+mod allocate;
+mod beside;
 mod copying;
-mod dropping;
-mod granting;
+mod drop;
+mod fresh;
 mod index;
 pub mod laws;
 mod limits;
-mod making;
 mod maxima;
 mod place;
 mod refusal;
-mod relocating;
+mod relocate;
 mod restoring;
 mod saving;
 mod slots;
@@ -86,6 +87,19 @@ pub struct HeapsOf<T: Tables> {
     accesses: Accesses,
 }
 
+// Makes the space of each heap one free block again.
+fn reset_all<T: Tables>(
+    slots: &mut Slots<T>,
+    index: &mut Index,
+    limits: Limits,
+    count: &mut Accesses,
+) {
+    for number in 0..limits.most + limits.most_larger {
+        slots.reset(number, count);
+        index.note(slots, number, limits, count);
+    }
+}
+
 impl<T: Tables> HeapsOf<T> {
     /// No heap, and memory for the numbers of all that may be made: some 1.2 KB each. A heap is made by the
     /// first request that none has room for. The realm is kept in places: a place of another realm is never
@@ -114,7 +128,7 @@ impl<T: Tables> HeapsOf<T> {
         assert!(limits.max_allocs < <T::Index as offset_allocator::NodeIndex>::MAX - 1, "max_allocs must be at most NI::MAX - 2");
         assert!(limits.most.checked_add(limits.most_larger).is_some(), "there may be at most 4294967295 heaps");
         let count = limits.most + limits.most_larger;
-        let slots = slots::none(alloc, count)?;
+        let slots = Slots::with_room(alloc, count)?;
         let mut index = Index::with_room(alloc, count)?;
         let mut accesses = Accesses::new();
         for number in 0..count {
@@ -172,15 +186,16 @@ impl<T: Tables> HeapsOf<T> {
     /// # Ok::<(), AllocError>(())
     /// ```
     pub fn heap(&self, number: u32) -> Option<&GuardedOf<T>> {
-        slots::at(&self.slots, number, &mut Accesses::new())
+        self.slots.at(number, &mut Accesses::new())
     }
 
     // The heap of a place.
     fn heap_of(&self, place: Place) -> Option<&GuardedOf<T>> {
-        if place.realm != self.realm {
-            return None;
+        if place.realm == self.realm {
+            self.heap(place.heap)
+        } else {
+            None
         }
-        self.heap(place.heap)
     }
 
     /// Whether a place is live here: it has the realm, and its range was not freed, its heap not given up and
@@ -238,6 +253,58 @@ impl<T: Tables> HeapsOf<T> {
             None => None,
             Some(heap) => heap.offset_of(place.ticket),
         }
+    }
+
+    /// Frees the range of a place, as `GuardedOf::free` does in its heap, and returns `true`; or `false`
+    /// where the place is not live, and then nothing changes. The heap stays, also where it is empty then:
+    /// `drop_empty` drops it.
+    ///
+    /// ```
+    /// # use offset_allocator_heaps::*;
+    /// # let alloc = Global;
+    /// let limits = Limits { size: 1000, max_allocs: 100, most: 2, most_larger: 1 };
+    /// let mut heaps = Heaps::<u32>::new(alloc, limits, 1)?;
+    /// let mesh = heaps.allocate(300).unwrap().place;
+    /// assert!(heaps.free(mesh));
+    /// assert!(!heaps.free(mesh));
+    /// # Ok::<(), AllocError>(())
+    /// ```
+    pub fn free(&mut self, place: Place) -> bool {
+        if place.realm != self.realm {
+            return false;
+        }
+        if !self
+            .slots
+            .free(place.heap, place.ticket, &mut self.accesses)
+        {
+            return false;
+        }
+        self.index
+            .note(&self.slots, place.heap, self.limits, &mut self.accesses);
+        true
+    }
+
+    /// Makes the space of each heap one free block again. No earlier place is ever live again. All heaps
+    /// stay, for `drop_empty`.
+    ///
+    /// ```
+    /// # use offset_allocator_heaps::*;
+    /// # let alloc = Global;
+    /// let limits = Limits { size: 1000, max_allocs: 100, most: 2, most_larger: 1 };
+    /// let mut heaps = Heaps::<u32>::new(alloc, limits, 1)?;
+    /// let mesh = heaps.allocate(300).unwrap().place;
+    /// heaps.reset();
+    /// assert!(!heaps.is_live(mesh));
+    /// assert_eq!(heaps.totals().heaps, 1);
+    /// # Ok::<(), AllocError>(())
+    /// ```
+    pub fn reset(&mut self) {
+        reset_all(
+            &mut self.slots,
+            &mut self.index,
+            self.limits,
+            &mut self.accesses,
+        );
     }
 }
 

@@ -4,12 +4,13 @@
 
 use crate::HeapsOf;
 use crate::copying::index_of;
+use crate::fresh::LARGER_LIMIT;
 use crate::limits::Limits;
-use crate::making::LARGER_LIMIT;
-use crate::slots::{self, Slots};
-use crate::state::{StateFault, StateFaultKind, checksum, number};
+use crate::slots::Slots;
+use crate::state::{FORM, StateFault, StateFaultKind, VERSION};
 use offset_allocator::{Accesses, NodeIndex, Tables};
 use offset_guarded::GuardedOf;
+use offset_guarded::numbers::{checksum, number};
 use crate::memory::{AllocError, Global};
 
 // What the numbers before the places say.
@@ -36,7 +37,7 @@ fn header_of<T: Tables>(
     if bytes.len() < 80 {
         return fault(bytes.len(), StateFaultKind::Length);
     }
-    if number(bytes, 0) != 1397244239 || number(bytes, 1) != 1 {
+    if number(bytes, 0) != FORM || number(bytes, 1) != VERSION {
         return fault(0, StateFaultKind::Form);
     }
     let size = number(bytes, 2);
@@ -139,7 +140,7 @@ fn read_slots<T: Tables>(
     most_allocs: u32,
 ) -> Result<Result<Slots<T>, StateFault>, AllocError> {
     let start = 80 + 8 * count as usize;
-    let mut slots = slots::none(alloc, count)?;
+    let mut slots = Slots::with_room(alloc, count)?;
     for k in 0..count {
         let from = number(bytes, 8 + k as usize);
         let to = number(bytes, 9 + k as usize);
@@ -166,7 +167,7 @@ fn read_slots<T: Tables>(
             }
             Ok(heap) => heap,
         };
-        slots::put(&mut slots, k, heap, &mut Accesses::new());
+        slots.put(k, heap, &mut Accesses::new());
     }
     Ok(Ok(slots))
 }

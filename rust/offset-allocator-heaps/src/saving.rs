@@ -2,11 +2,12 @@
 
 //! The bytes of the state of many heaps. It changes nothing.
 
+use crate::HeapsOf;
 use crate::slots::Slots;
-use crate::state::{checksum, push_numbers};
-use crate::{HeapsOf, slots};
+use crate::state::{FORM, VERSION};
 use offset_allocator::{Accesses, Tables};
 use offset_guarded::GuardedOf;
+use offset_guarded::numbers::bytes_with_checksum;
 use crate::memory::Vec;
 use crate::memory::{AllocError, Global};
 
@@ -32,11 +33,7 @@ fn states_of<T: Tables>(
     let mut places = Vec::new(alloc);
     places.push(0)?;
     for number in 0..count {
-        push_state(
-            alloc,
-            &mut states,
-            slots::at(slots, number, &mut Accesses::new()),
-        )?;
+        push_state(alloc, &mut states, slots.at(number, &mut Accesses::new()))?;
         places.push(states.len() as u64)?;
     }
     Ok((places, states))
@@ -45,7 +42,7 @@ fn states_of<T: Tables>(
 impl<T: Tables> HeapsOf<T> {
     /// The bytes of the state, which `read_state` reads: 80, 8 for each number, and those of
     /// `GuardedOf::write_state` for each heap. The first are numbers of 64 bits, the lowest byte of each
-    /// first: 1397244239 and the version 1, the four limits, how many heaps were made, the realm; where the
+    /// first: the letters OAHS, the version 1, the four limits, how many heaps were made, the realm; where the
     /// state of each number's heap begins behind these numbers, and where the last one ends, so that a number
     /// without a heap has no bytes; and a checksum. The index of the heaps is not stored.
     ///
@@ -70,8 +67,8 @@ impl<T: Tables> HeapsOf<T> {
         let count = limits.most + limits.most_larger;
         let (places, states) = states_of(alloc, &self.slots, count)?;
         let head = [
-            1397244239,
-            1,
+            FORM,
+            VERSION,
             limits.size as u64,
             limits.max_allocs as u64,
             limits.most as u64,
@@ -79,11 +76,7 @@ impl<T: Tables> HeapsOf<T> {
             self.made as u64,
             self.realm as u64,
         ];
-        let mut bytes = Vec::new(alloc);
-        push_numbers(&mut bytes, &head)?;
-        push_numbers(&mut bytes, &places)?;
-        let sum = [checksum(&bytes, 9 + count as usize)];
-        push_numbers(&mut bytes, &sum)?;
+        let mut bytes = bytes_with_checksum(alloc, &head, &places)?;
         bytes.extend_from_slice(&states)?;
         Ok(bytes)
     }

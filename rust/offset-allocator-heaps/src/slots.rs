@@ -10,47 +10,8 @@ use crate::memory::Vec;
 use crate::memory::{AllocError, Global};
 
 /// The heap of each number, where there is one.
-pub(crate) type Slots<T> = Vec<Option<GuardedOf<T>>>;
-
-/// Memory for `count` numbers, none of which has a heap.
-pub(crate) fn none<T: Tables>(alloc: Global, count: u32) -> Result<Slots<T>, AllocError> {
-    let mut slots = Vec::with_capacity(alloc, count as usize)?;
-    for _number in 0..count {
-        slots.push(None)?;
-    }
-    Ok(slots)
-}
-
-/// The heap of a number.
-pub(crate) fn at<'a, T: Tables>(
-    slots: &'a Slots<T>,
-    number: u32,
-    count: &mut Accesses,
-) -> Option<&'a GuardedOf<T>> {
-    count.tick();
-    match slots.get(number as usize) {
-        Some(Some(heap)) => Some(heap),
-        _ => None,
-    }
-}
-
-/// Whether a number has a heap.
-pub(crate) fn has<T: Tables>(slots: &Slots<T>, number: u32, count: &mut Accesses) -> bool {
-    match at(slots, number, count) {
-        Some(_) => true,
-        None => false,
-    }
-}
-
-/// Puts a heap at a number, or none.
-pub(crate) fn put<T: Tables>(
-    slots: &mut Slots<T>,
-    number: u32,
-    heap: Option<GuardedOf<T>>,
-    count: &mut Accesses,
-) {
-    count.tick();
-    slots[number as usize] = heap;
+pub(crate) struct Slots<T: Tables> {
+    heaps: Vec<Option<GuardedOf<T>>>,
 }
 
 /// Grants a request in a heap that has room for it.
@@ -77,38 +38,12 @@ pub(crate) fn grant_tight_in<T: Tables>(slot: &mut Option<GuardedOf<T>>, size: u
     }
 }
 
-/// Grants a request in the heap of a number, which has room for it.
-pub(crate) fn grant<T: Tables>(
-    slots: &mut Slots<T>,
-    number: u32,
-    size: u32,
-    align: u32,
-    count: &mut Accesses,
-) -> Ticket {
-    count.tick();
-    grant_in(&mut slots[number as usize], size, align)
-}
-
 // Frees the range of a ticket, where it is live.
 fn free_in<T: Tables>(slot: &mut Option<GuardedOf<T>>, ticket: Ticket) -> bool {
     match slot {
         Some(heap) => heap.free(ticket),
         None => false,
     }
-}
-
-/// Frees the range of a ticket in the heap of a number, where it is live.
-pub(crate) fn free<T: Tables>(
-    slots: &mut Slots<T>,
-    number: u32,
-    ticket: Ticket,
-    count: &mut Accesses,
-) -> bool {
-    count.tick();
-    if number as usize >= slots.len() {
-        return false;
-    }
-    free_in(&mut slots[number as usize], ticket)
 }
 
 // Makes the space of a heap one free block again.
@@ -119,104 +54,9 @@ fn reset_in<T: Tables>(slot: &mut Option<GuardedOf<T>>) {
     }
 }
 
-/// Makes the space of the heap of a number one free block again.
-pub(crate) fn reset<T: Tables>(slots: &mut Slots<T>, number: u32, count: &mut Accesses) {
-    count.tick();
-    reset_in(&mut slots[number as usize]);
-}
-
-/// Whether the heap of a number has no live range.
-pub(crate) fn is_empty_at<T: Tables>(slots: &Slots<T>, number: u32, count: &mut Accesses) -> bool {
-    match at(slots, number, count) {
-        None => false,
-        Some(heap) => heap.allocator().is_empty(),
-    }
-}
-
 // The empty heaps that were seen, how many and the last, with one more heap.
 fn with_number(seen: (u32, u32), number: u32, empty: bool) -> (u32, u32) {
     if empty { (seen.0 + 1, number) } else { seen }
-}
-
-/// The empty heaps of the first `numbers` numbers: how many, and the last of them.
-pub(crate) fn last_empty<T: Tables>(
-    slots: &Slots<T>,
-    numbers: u32,
-    count: &mut Accesses,
-) -> (u32, u32) {
-    let mut seen = (0, 0);
-    for number in 0..numbers {
-        let empty = is_empty_at(slots, number, count);
-        seen = with_number(seen, number, empty);
-    }
-    seen
-}
-
-/// The units of the range of a ticket in the heap of a number, or 0, and the units that are live there.
-pub(crate) fn units_at<T: Tables>(
-    slots: &Slots<T>,
-    number: u32,
-    ticket: Ticket,
-    count: &mut Accesses,
-) -> (u32, u32) {
-    match at(slots, number, count) {
-        None => (0, 0),
-        Some(heap) => (
-            heap.size_of(ticket).unwrap_or(0),
-            heap.allocator().live_units(),
-        ),
-    }
-}
-
-// Whether the heap of a number takes units of another one, in which so many are live.
-fn takes<T: Tables>(
-    slots: &Slots<T>,
-    number: u32,
-    own: u32,
-    units: u32,
-    live: u32,
-    count: &mut Accesses,
-) -> bool {
-    match at(slots, number, count) {
-        None => false,
-        Some(heap) => {
-            let (room, _) = rooms(Some(heap));
-            number != own && room >= units && heap.allocator().live_units() >= live
-        }
-    }
-}
-
-/// The first heap, from a number on, that takes units of another one, in which so many are live.
-pub(crate) fn taker<T: Tables>(
-    slots: &Slots<T>,
-    from: u32,
-    numbers: u32,
-    own: u32,
-    units: u32,
-    live: u32,
-    count: &mut Accesses,
-) -> Option<u32> {
-    for number in from..numbers {
-        if takes(slots, number, own, units, live, count) {
-            return Some(number);
-        }
-    }
-    None
-}
-
-// The live units of the heap of a number, or `None` where nothing is live in it.
-fn live_at<T: Tables>(slots: &Slots<T>, number: u32, count: &mut Accesses) -> Option<u32> {
-    match at(slots, number, count) {
-        None => None,
-        Some(heap) => {
-            let space = heap.allocator();
-            if space.is_empty() {
-                None
-            } else {
-                Some(space.live_units())
-            }
-        }
-    }
 }
 
 // The emptiest heap so far, and its live units, with those of one more heap.
@@ -234,20 +74,150 @@ fn with_live(found: Option<(u32, u32)>, number: u32, live: Option<u32>) -> Optio
     }
 }
 
-/// The heap with the fewest live units, of the first `numbers` numbers whose heaps have a live range, and the
-/// last such.
-pub(crate) fn emptiest<T: Tables>(
-    slots: &Slots<T>,
-    numbers: u32,
-    count: &mut Accesses,
-) -> Option<u32> {
-    let mut found = None;
-    for number in 0..numbers {
-        let live = live_at(slots, number, count);
-        found = with_live(found, number, live);
+impl<T: Tables> Slots<T> {
+    /// Memory for `count` numbers, none of which has a heap.
+    pub(crate) fn with_room(alloc: Global, count: u32) -> Result<Self, AllocError> {
+        let mut heaps = Vec::with_capacity(alloc, count as usize)?;
+        for _number in 0..count {
+            heaps.push(None)?;
+        }
+        Ok(Slots { heaps })
     }
-    match found {
-        None => None,
-        Some((number, _)) => Some(number),
+
+    /// The heap of a number.
+    pub(crate) fn at(&self, number: u32, count: &mut Accesses) -> Option<&GuardedOf<T>> {
+        count.tick();
+        match self.heaps.get(number as usize) {
+            Some(Some(heap)) => Some(heap),
+            _ => None,
+        }
+    }
+
+    /// Whether a number has a heap.
+    pub(crate) fn has(&self, number: u32, count: &mut Accesses) -> bool {
+        match self.at(number, count) {
+            Some(_) => true,
+            None => false,
+        }
+    }
+
+    /// Puts a heap at a number, or none.
+    pub(crate) fn put(&mut self, number: u32, heap: Option<GuardedOf<T>>, count: &mut Accesses) {
+        count.tick();
+        self.heaps[number as usize] = heap;
+    }
+
+    /// Grants a request in the heap of a number, which has room for it.
+    pub(crate) fn grant(
+        &mut self,
+        number: u32,
+        size: u32,
+        align: u32,
+        count: &mut Accesses,
+    ) -> Ticket {
+        count.tick();
+        grant_in(&mut self.heaps[number as usize], size, align)
+    }
+
+    /// Frees the range of a ticket in the heap of a number, where it is live.
+    pub(crate) fn free(&mut self, number: u32, ticket: Ticket, count: &mut Accesses) -> bool {
+        count.tick();
+        if number as usize >= self.heaps.len() {
+            return false;
+        }
+        free_in(&mut self.heaps[number as usize], ticket)
+    }
+
+    /// Makes the space of the heap of a number one free block again.
+    pub(crate) fn reset(&mut self, number: u32, count: &mut Accesses) {
+        count.tick();
+        reset_in(&mut self.heaps[number as usize]);
+    }
+
+    /// Whether the heap of a number has no live range.
+    pub(crate) fn is_empty_at(&self, number: u32, count: &mut Accesses) -> bool {
+        match self.at(number, count) {
+            None => false,
+            Some(heap) => heap.allocator().is_empty(),
+        }
+    }
+
+    /// The empty heaps of the first `numbers` numbers: how many, and the last of them.
+    pub(crate) fn last_empty(&self, numbers: u32, count: &mut Accesses) -> (u32, u32) {
+        let mut seen = (0, 0);
+        for number in 0..numbers {
+            let empty = self.is_empty_at(number, count);
+            seen = with_number(seen, number, empty);
+        }
+        seen
+    }
+
+    /// The units of the range of a ticket in the heap of a number, or 0, and the units that are live there.
+    pub(crate) fn units_at(&self, number: u32, ticket: Ticket, count: &mut Accesses) -> (u32, u32) {
+        match self.at(number, count) {
+            None => (0, 0),
+            Some(heap) => (
+                heap.size_of(ticket).unwrap_or(0),
+                heap.allocator().live_units(),
+            ),
+        }
+    }
+
+    // Whether the heap of a number takes units of another one, in which so many are live.
+    fn takes(&self, number: u32, own: u32, units: u32, live: u32, count: &mut Accesses) -> bool {
+        match self.at(number, count) {
+            None => false,
+            Some(heap) => {
+                let (room, _) = rooms(Some(heap));
+                number != own && room >= units && heap.allocator().live_units() >= live
+            }
+        }
+    }
+
+    /// The first heap, from a number on, that takes units of another one, in which so many are live.
+    pub(crate) fn taker(
+        &self,
+        from: u32,
+        numbers: u32,
+        own: u32,
+        units: u32,
+        live: u32,
+        count: &mut Accesses,
+    ) -> Option<u32> {
+        for number in from..numbers {
+            if self.takes(number, own, units, live, count) {
+                return Some(number);
+            }
+        }
+        None
+    }
+
+    // The live units of the heap of a number, or `None` where nothing is live in it.
+    fn live_at(&self, number: u32, count: &mut Accesses) -> Option<u32> {
+        match self.at(number, count) {
+            None => None,
+            Some(heap) => {
+                let space = heap.allocator();
+                if space.is_empty() {
+                    None
+                } else {
+                    Some(space.live_units())
+                }
+            }
+        }
+    }
+
+    /// The heap with the fewest live units, of the first `numbers` numbers whose heaps have a live range, and the
+    /// last such.
+    pub(crate) fn emptiest(&self, numbers: u32, count: &mut Accesses) -> Option<u32> {
+        let mut found = None;
+        for number in 0..numbers {
+            let live = self.live_at(number, count);
+            found = with_live(found, number, live);
+        }
+        match found {
+            None => None,
+            Some((number, _)) => Some(number),
+        }
     }
 }

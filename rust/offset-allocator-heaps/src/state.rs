@@ -1,10 +1,13 @@
 // Printed by rust/erase from crates/offset_heaps/src/state.rt: change it there.
 
-//! The numbers of a state of many heaps: their bytes, their checksum, and faults. It touches no heap.
-
-use crate::memory::Vec;
-use crate::memory::AllocError;
+//! The form of a state of many heaps, and faults. It touches no heap.
 use core::fmt;
+
+/// The number that a state of many heaps begins with: its first bytes are the letters OAHS.
+pub(crate) const FORM: u64 = 1397244239;
+
+/// The version of the form.
+pub(crate) const VERSION: u64 = 1;
 
 /// What is wrong with the bytes of a state, and where.
 #[derive(Clone, Copy, PartialEq, Debug)]
@@ -68,37 +71,4 @@ impl fmt::Display for StateFaultKind {
             StateFaultKind::Heap(kind) => write!(f, "{kind}"),
         }
     }
-}
-
-/// The number of 64 bits at a place, the lowest byte first.
-pub(crate) fn number(bytes: &[u8], place: usize) -> u64 {
-    let at = 8 * place;
-    let mut eight = [0; 8];
-    eight.copy_from_slice(&bytes[at..at + 8]);
-    u64::from_le_bytes(eight)
-}
-
-/// The checksum of the first numbers.
-pub(crate) fn checksum(bytes: &[u8], count: usize) -> u64 {
-    let mut sum = 0u64;
-    for place in 0..count {
-        sum = sum
-            .wrapping_mul(1099511628211)
-            .wrapping_add(number(bytes, place));
-    }
-    sum
-}
-
-// Adds a number at the end.
-fn push_number(bytes: &mut Vec<u8>, number: u64) -> Result<(), AllocError> {
-    bytes.extend_from_slice(&number.to_le_bytes())?;
-    Ok(())
-}
-
-/// Adds numbers at the end.
-pub(crate) fn push_numbers(bytes: &mut Vec<u8>, more: &[u64]) -> Result<(), AllocError> {
-    for number in more {
-        push_number(bytes, *number)?;
-    }
-    Ok(())
 }

@@ -2,8 +2,8 @@
 
 //! What is live and what is free in all heaps together. It reads each slot once, and changes nothing.
 
+use crate::HeapsOf;
 use crate::index::rooms;
-use crate::{HeapsOf, slots};
 use offset_allocator::{Accesses, Tables};
 use offset_guarded::GuardedOf;
 
@@ -76,7 +76,7 @@ impl<T: Tables> HeapsOf<T> {
             largest_free_region: 0,
         };
         for number in 0..self.limits.most + self.limits.most_larger {
-            let heap = slots::at(&self.slots, number, &mut Accesses::new());
+            let heap = self.slots.at(number, &mut Accesses::new());
             totals = with_heap(totals, heap);
         }
         totals

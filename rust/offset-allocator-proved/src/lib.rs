@@ -38,54 +38,38 @@ pub use offset_allocator_memory::{AllocError, Global};
 pub use nonmax::IsMax;
 
 mod accesses;
-mod beside;
 mod bins;
-mod blocks;
-mod building;
-mod by_field;
-mod by_node;
 mod chain;
-mod compact;
-mod copies;
-mod copying;
 pub mod ext;
-mod fills;
-mod gap;
-mod gathering;
 mod handle;
 mod index;
 pub mod laws;
-mod lengths;
+mod layouts;
+mod moves;
 mod neighbours;
 mod nonmax;
-mod relocate;
 mod reports;
 mod resize;
-mod restoring;
-mod retract;
-mod room;
-mod saving;
 pub mod small_float;
-mod state;
-mod statistics;
+mod states;
 mod steps;
 mod store;
 mod tables;
 mod tight;
 
 pub use accesses::Accesses;
-pub use blocks::{Block, BlocksOf};
-pub use by_field::ByField;
-pub use by_node::ByNode;
-pub use compact::Move;
-pub use copies::{MovePieces, Piece};
 pub use handle::Allocation;
 pub use index::{NodeIndex, NodeIndexNonMax};
+pub use layouts::by_field::ByField;
+pub use layouts::by_node::ByNode;
+pub use moves::compact::Move;
+pub use moves::pieces::{MovePieces, Piece};
+pub use moves::room::RoomCost;
 pub use nonmax::{NonMaxU16, NonMaxU32};
+pub use reports::blocks::{Block, BlocksOf};
+pub use reports::statistics::Statistics;
 pub use reports::{Refusal, StorageReport, StorageReportFull, StorageReportFullRegion};
-pub use room::RoomCost;
-pub use state::{StateFault, StateFaultKind};
-pub use statistics::Statistics;
+pub use states::state::{StateFault, StateFaultKind};
 use core::fmt;
 use store::Store;
 pub use tables::Tables;
@@ -517,7 +501,7 @@ impl<T: Tables> AllocatorOf<T> {
     /// # Ok::<(), AllocError>(())
     /// ```
     pub fn extend(&mut self, more: u32) -> bool {
-        let left = self.names_left();
+        let left = self.unused_nodes();
         if more == 0 {
             return true;
         }

@@ -55,8 +55,8 @@ impl<T: Tables> AllocatorOf<T> {
         self.store.last = 0;
     }
 
-    /// How many names no block has: of nodes that were made, and of those that may still be.
-    pub(crate) fn names_left(&self) -> u32 {
+    /// How many nodes no block has: of those that were made, and of those that may still be.
+    pub(crate) fn unused_nodes(&self) -> u32 {
         self.max_allocs - self.block_count()
     }
 
@@ -64,7 +64,7 @@ impl<T: Tables> AllocatorOf<T> {
     /// enough: at most `max_allocs` nodes are made, so it implies the second.
     #[inline(always)]
     pub(crate) fn has_room_for(&self, blocks: u32) -> bool {
-        self.store.spare_count > blocks || self.names_left() > blocks
+        self.store.spare_count > blocks || self.unused_nodes() > blocks
     }
 
     /// Grants `size` units of the newest block of a class, beginning at the first multiple of `align` in that

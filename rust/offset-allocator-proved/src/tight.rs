@@ -77,7 +77,7 @@ pub fn refusal_tight_aligned_counted<T: Tables>(
     count: &mut Accesses,
 ) -> Option<Refusal> {
     assert!(align.is_power_of_two(), "align must be a power of two");
-    if allocator.names_left() <= align.min(2) {
+    if allocator.unused_nodes() <= align.min(2) {
         return Some(Refusal::Nodes);
     }
     if size > allocator.size {

@@ -2,11 +2,11 @@
 
 use core::hash::{Hash, Hasher};
 
-use crate::blocks::Block;
 use crate::handle::Allocation;
 use crate::index::{NodeIndex, NodeIndexNonMax};
+use crate::reports::blocks::Block;
+use crate::reports::statistics::Statistics;
 use crate::reports::{Refusal, StorageReport, StorageReportFull, StorageReportFullRegion};
-use crate::statistics::Statistics;
 
 /// Two names are equal exactly where their numbers are: that is a law of `NodeIndexNonMax`.
 impl<NI: NodeIndex, N: NodeIndexNonMax> Eq for Allocation<NI, N> {}

@@ -4,9 +4,9 @@
 
 use crate::calls::{Call, Reply};
 use crate::ending_desk;
-use crate::playing::{Moves, numbered, resized};
-use crate::room::make_room_guarded;
-use offset_allocator::{Move, NodeIndex, Tables};
+use crate::playing::resized;
+use crate::sliding::{compact_guarded, make_room_guarded};
+use offset_allocator::Tables;
 use offset_guarded::{GuardedOf, Ticket};
 use offset_script::{Answer, Command, full_answer};
 use crate::memory::Vec;
@@ -135,42 +135,6 @@ fn grow<T: Tables>(space: &mut GuardedOf<T>, ticket: Option<Ticket>, size: u32) 
     }
 }
 
-// The numbers of the live ranges, which are their serials, in space order.
-fn numbers_of_live<T: Tables>(alloc: Global, desk: &Desk<T>) -> Result<Vec<u64>, AllocError> {
-    let mut numbers = Vec::new(alloc);
-    for block in desk.space.allocator().blocks() {
-        if let Some(handle) = block.allocation {
-            // it is live, so it has a ticket
-            let serial = match desk.space.ticket(handle) {
-                None => 0,
-                Some(ticket) => ticket.serial,
-            };
-            numbers.push(serial)?;
-        }
-    }
-    numbers.reverse();
-    Ok(numbers)
-}
-
-// Compacts a space, and collects the moves. Its index type is a parameter too, which keeps the proof short.
-fn collect<NI: NodeIndex, T: Tables<Index = NI>>(space: &mut GuardedOf<T>, seen: &mut Moves) {
-    space.compact(&mut |range: Move<NI>| seen.add(range.from, range.to, range.size));
-}
-
-// The reply to `Compact`. All ranges after the first one that moves are moved too.
-fn compact<T: Tables>(alloc: Global, desk: &mut Desk<T>) -> Result<Reply, AllocError> {
-    let numbers = numbers_of_live(alloc, desk)?;
-    let mut moves = Moves {
-        found: Vec::new(alloc),
-        is_refused: false,
-    };
-    collect(&mut desk.space, &mut moves);
-    if moves.is_refused {
-        return Err(AllocError);
-    }
-    Ok(Reply::Compacted(numbered(alloc, &numbers, &moves.found)?))
-}
-
 // The answer to a command that passes this ticket.
 fn answer<T: Tables>(
     alloc: Global,
@@ -201,7 +165,7 @@ pub(crate) fn reply<T: Tables>(
         Call::Command(command) => Ok(Reply::Answer(answer(alloc, desk, command, ticket)?)),
         Call::Shrink(_, size) => Ok(shrink(&mut desk.space, ticket, size)),
         Call::Grow(_, size) => Ok(grow(&mut desk.space, ticket, size)),
-        Call::Compact => compact(alloc, desk),
+        Call::Compact => compact_guarded(alloc, desk),
         Call::Offset(_) => Ok(offset_of(&desk.space, ticket)),
         Call::Refusal(size) => Ok(Reply::Refusal(desk.space.allocator().refusal(size))),
         Call::RefusalAligned(size, align) => Ok(Reply::Refusal(

@@ -17,6 +17,7 @@ pub(crate) fn relocate<T: Tables>(
     let Some(handle) = player.handle(number) else {
         return Ok(Reply::Answer(Answer::Gone));
     };
+    player.handles.reserve(1)?;
     let granted = player.space.relocate(handle);
     Ok(Reply::Answer(player.keep(granted)?))
 }

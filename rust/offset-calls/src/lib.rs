@@ -11,14 +11,12 @@
 #![doc = include_str!("../README.md")]
 #![forbid(unsafe_code)]
 #![warn(missing_docs)]
+#![expect(clippy::let_and_return)] // a step of a proof stands before the return, and is left out here
 #![expect(clippy::manual_map)] // a `match` needs no closure, whose calls would need a proof
 #![expect(clippy::needless_range_loop)] // the proof speaks of the places of grants and of moves
 
-mod player;
-
 pub use offset_allocator_memory as memory;
 pub use offset_allocator_memory::{AllocError, Global};
-pub use player::{CallPlayer, CallPlayerOf};
 
 mod calls;
 mod desk;
@@ -26,9 +24,11 @@ mod ending;
 mod ending_desk;
 mod guarded;
 mod numbers;
+mod player;
 mod playing;
-mod room;
+mod sliding;
 
 pub use calls::{Call, LiveRange, Moved, Reply, are_valid};
 pub use guarded::{Played, TicketCall, play_guarded};
+pub use player::{CallPlayer, CallPlayerOf};
 pub use playing::{play_calls, play_calls_of};

@@ -31,7 +31,7 @@ impl Numbers {
     }
 
     // Makes room for this many names at once. Where that is refused, room is made as they come.
-    fn make_room(&mut self, names: usize) {
+    fn reserve(&mut self, names: usize) {
         let len = self.by_name.len();
         if len < names && self.by_name.reserve_exact(names - len).is_ok() {
             let _is_made = self.by_name.resize(names, 0);
@@ -54,7 +54,7 @@ impl Numbers {
         handles: &[Option<Allocation<NI>>],
         names: u32,
     ) -> Result<(), AllocError> {
-        self.make_room(names as usize);
+        self.reserve(names as usize);
         for i in self.grants..handles.len() {
             if let Some(handle) = handles[i] {
                 self.set(handle.to_parts().1, i as u64 + 1)?;

@@ -1,11 +1,13 @@
-//! Plays calls one by one. It is written by hand, and each call is that of the list players.
+// Printed by rust/erase from crates/offset_calls/src/player.rt: change it there.
+
+//! A player that takes calls one by one. It changes its own allocator alone.
 
 use crate::calls::{Call, Reply};
-use crate::memory::{AllocError, Global};
 use crate::numbers::Numbers;
 use crate::playing::reply;
-use offset_allocator::{AllocatorOf, ByNode, Tables};
+use offset_allocator::{Allocation, AllocatorOf, ByNode, NodeIndex, Tables};
 use offset_script::PlayerOf;
+use crate::memory::{AllocError, Global};
 
 /// A player of an allocator by node.
 pub type CallPlayer<NI = u32> = CallPlayerOf<ByNode<NI>>;
@@ -17,7 +19,7 @@ pub struct CallPlayerOf<T: Tables> {
 }
 
 impl<T: Tables> CallPlayerOf<T> {
-    /// A fresh space, and no grants.
+    /// A fresh space, and no grants. The limit has to be 2 to `T::Index::MAX - 2`.
     ///
     /// # Errors
     ///
@@ -25,46 +27,85 @@ impl<T: Tables> CallPlayerOf<T> {
     ///
     /// # Panics
     ///
-    /// It panics unless `max_allocs` is 2 to `T::Index::MAX - 2`.
+    /// It panics unless `max_allocs` is at least 2, and `max_allocs` is at most `NI::MAX - 2`.
+    ///
+    /// ```
+    /// # use offset_calls::*;
+    /// # let alloc = Global;
+    /// let player = CallPlayer::<u16>::start(alloc, 1000, 16)?;
+    /// assert_eq!(player.space().size(), 1000);
+    /// # Ok::<(), AllocError>(())
+    /// ```
     #[track_caller]
     pub fn start(alloc: Global, size: u32, max_allocs: u32) -> Result<Self, AllocError> {
-        Ok(CallPlayerOf { player: PlayerOf::start(alloc, size, max_allocs)?, numbers: Numbers::new(alloc) })
+        assert!(2 <= max_allocs, "max_allocs must be at least 2");
+        assert!(max_allocs < T::Index::MAX - 1, "max_allocs must be at most NI::MAX - 2");
+        let player = PlayerOf::start(alloc, size, max_allocs)?;
+        Ok(CallPlayerOf {
+            player,
+            numbers: Numbers::new(alloc),
+        })
     }
 
-    /// Makes one call. It costs what the call costs in the allocator; `Compact`, `MakeRoom`, `First`, `Last`, `Before`
-    /// and `After` also read the grants since the last one of them, and keep 8 bytes for each node.
+    // `call`, where it is known that the alignment is a power of two.
+    pub(crate) fn take(&mut self, alloc: Global, call: Call) -> Result<Reply, AllocError> {
+        let reply = reply(alloc, &mut self.player, &mut self.numbers, call);
+        reply
+    }
+
+    /// Makes one call, and returns its reply. Its alignment, if it has one, has to be a power of two.
+    ///
+    /// It costs what the call costs in the allocator. `Compact`, `MakeRoom`, `First`, `Last`, `Before` and
+    /// `After` also read the grants since the last one of them, and keep 8 bytes for each node.
     ///
     /// # Errors
     ///
-    /// It fails only where an allocation fails. A `Command` has changed nothing then. After any other call drop the
-    /// player: the call may be made, and a grant live that has no number.
+    /// It fails only where an allocation fails. Then nothing was done, but by `Compact` and `MakeRoom`: they
+    /// may have moved their ranges, and the reply that says so is lost. Any call may follow.
     ///
     /// # Panics
     ///
-    /// It panics unless the alignment of the call, if it has one, is a power of two.
+    /// It panics unless an alignment is a power of two.
     ///
     /// ```
-    /// use offset_calls::{Call, CallPlayer, Global, Reply};
-    ///
-    /// let mut player = CallPlayer::<u32>::start(Global, 1000, 16)?;
-    /// assert!(matches!(player.call(Global, Call::Tight(300))?, Reply::Answer(_)));
-    /// assert!(matches!(player.call(Global, Call::Shrink(1, 200))?, Reply::Resized));
+    /// # use offset_calls::*;
+    /// # let alloc = Global;
+    /// let mut player = CallPlayer::<u32>::start(alloc, 1000, 16)?;
+    /// assert!(matches!(player.call(alloc, Call::Tight(300))?, Reply::Answer(_)));
+    /// assert!(matches!(player.call(alloc, Call::Shrink(1, 200))?, Reply::Resized));
     /// assert_eq!(player.space().free_units(), 800);
-    /// # Ok::<(), offset_calls::AllocError>(())
+    /// # Ok::<(), AllocError>(())
     /// ```
     #[track_caller]
     pub fn call(&mut self, alloc: Global, call: Call) -> Result<Reply, AllocError> {
         assert!(call.is_valid(), "an alignment must be a power of two");
-        reply(alloc, &mut self.player, &mut self.numbers, call)
+        self.take(alloc, call)
     }
 
-    /// The allocator.
+    /// The allocator, to read.
+    ///
+    /// ```
+    /// # use offset_calls::*;
+    /// # let alloc = Global;
+    /// let player = CallPlayer::<u32>::start(alloc, 1000, 16)?;
+    /// assert!(player.space().is_empty());
+    /// # Ok::<(), AllocError>(())
+    /// ```
     pub fn space(&self) -> &AllocatorOf<T> {
         &self.player.space
     }
 
     /// The handle of the grant of this number, if it is live.
-    pub fn handle(&self, number: u32) -> Option<offset_allocator::Allocation<T::Index>> {
+    ///
+    /// ```
+    /// # use offset_calls::*;
+    /// # let alloc = Global;
+    /// let mut player = CallPlayer::<u32>::start(alloc, 1000, 16)?;
+    /// player.call(alloc, Call::Tight(300))?;
+    /// assert!(player.handle(1).is_some());
+    /// # Ok::<(), AllocError>(())
+    /// ```
+    pub fn handle(&self, number: u32) -> Option<Allocation<T::Index>> {
         self.player.handle(number)
     }
 }

@@ -2,11 +2,12 @@
 
 //! Plays calls on an allocator.
 
-use crate::calls::{Call, Moved, Reply};
+use crate::calls::{Call, Reply};
 use crate::ending;
 use crate::numbers::Numbers;
-use crate::room::make_room;
-use offset_allocator::{AllocatorOf, ByNode, Move, NodeIndex, Tables};
+use crate::player::CallPlayerOf;
+use crate::sliding::{compact, make_room};
+use offset_allocator::{ByNode, NodeIndex, Tables};
 use offset_script::{Answer, PlayerOf};
 use crate::memory::Vec;
 use crate::memory::{AllocError, Global};
@@ -36,87 +37,6 @@ fn grow<T: Tables>(player: &mut PlayerOf<T>, number: u32, size: u32) -> Reply {
     }
 }
 
-// The numbers of the live ranges, in space order.
-fn numbers_of_live<T: Tables>(
-    alloc: Global,
-    player: &PlayerOf<T>,
-    numbers: &Numbers,
-) -> Result<Vec<u64>, AllocError> {
-    let mut found = Vec::new(alloc);
-    for block in player.space.blocks() {
-        if let Some(handle) = block.allocation {
-            found.push(numbers.of(handle.to_parts().1))?;
-        }
-    }
-    found.reverse();
-    Ok(found)
-}
-
-// The moves of a compaction so far, without numbers, unless memory for one was refused.
-pub(crate) struct Moves {
-    pub(crate) found: Vec<Moved>,
-    pub(crate) is_refused: bool,
-}
-
-impl Moves {
-    // One more move.
-    pub(crate) fn add(&mut self, from: u32, to: u32, size: u32) {
-        let moved = Moved {
-            number: 0,
-            from,
-            to,
-            size,
-        };
-        if self.found.push(moved).is_err() {
-            self.is_refused = true;
-        }
-    }
-}
-
-// Compacts a space, and collects the moves. Its index type is a parameter too, which keeps the proof short.
-fn collect<NI: NodeIndex, T: Tables<Index = NI>>(space: &mut AllocatorOf<T>, seen: &mut Moves) {
-    space.compact(&mut |range: Move<NI>| seen.add(range.from, range.to, range.size));
-}
-
-// The moves with these numbers, the last of which are those of the ranges that are moved.
-pub(crate) fn numbered(
-    alloc: Global,
-    numbers: &[u64],
-    moves: &[Moved],
-) -> Result<Vec<Moved>, AllocError> {
-    let first = numbers.len() - moves.len();
-    let mut found = Vec::new(alloc);
-    for i in 0..moves.len() {
-        let range = moves[i];
-        found.push(Moved {
-            number: numbers[first + i],
-            from: range.from,
-            to: range.to,
-            size: range.size,
-        })?;
-    }
-    Ok(found)
-}
-
-// The reply to `Compact`. All ranges after the first one that moves are moved too.
-fn compact<T: Tables>(
-    alloc: Global,
-    player: &mut PlayerOf<T>,
-    numbers: &mut Numbers,
-) -> Result<Reply, AllocError> {
-    numbers.read(&player.handles, player.space.node_count())?;
-    let live_numbers = numbers_of_live(alloc, player, numbers)?;
-    let mut moves = Moves {
-        found: Vec::new(alloc),
-        is_refused: false,
-    };
-    collect(&mut player.space, &mut moves);
-    if moves.is_refused {
-        return Err(AllocError);
-    }
-    Ok(Reply::Compacted(numbered(alloc, &live_numbers, &moves.found)?))
-}
-
 // The reply to `Offset`.
 fn offset<T: Tables>(player: &PlayerOf<T>, number: u32) -> Reply {
     match player.handle(number) {
@@ -144,10 +64,12 @@ pub(crate) fn reply<T: Tables>(
             player.space.refusal_aligned(size, align),
         )),
         Call::Tight(size) => {
+            player.handles.reserve(1)?;
             let granted = player.space.allocate_tight(size);
             Ok(Reply::Answer(player.keep(granted)?))
         }
         Call::TightAligned(size, align) => {
+            player.handles.reserve(1)?;
             let granted = player.space.allocate_tight_aligned(size, align);
             Ok(Reply::Answer(player.keep(granted)?))
         }
@@ -201,11 +123,10 @@ pub fn play_calls_of<T: Tables>(
     assert!(2 <= max_allocs, "max_allocs must be at least 2");
     assert!(max_allocs < T::Index::MAX - 1, "max_allocs must be at most NI::MAX - 2");
     assert!(calls.iter().all(|call| call.is_valid()), "each alignment must be a power of two");
-    let mut player: PlayerOf<T> = PlayerOf::start(alloc, size, max_allocs)?;
-    let mut numbers = Numbers::new(alloc);
+    let mut player: CallPlayerOf<T> = CallPlayerOf::start(alloc, size, max_allocs)?;
     let mut found = Vec::with_capacity(alloc, calls.len())?;
     for call in calls {
-        let reply = reply(alloc, &mut player, &mut numbers, *call)?;
+        let reply = player.take(alloc, *call)?;
         found.push(reply)?;
     }
     Ok(found)

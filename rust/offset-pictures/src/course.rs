@@ -7,7 +7,7 @@ use crate::living::{Life, lives_of_answers};
 use crate::refusing::Refused;
 use crate::watching::{Watched, watch};
 use offset_allocator::StorageReport;
-use offset_script::{Answer, Command, Script};
+use offset_script::Script;
 use crate::memory::Vec;
 use crate::memory::{AllocError, Global};
 
@@ -34,27 +34,6 @@ pub struct Course {
     pub refused: Vec<Refused>,
 }
 
-// The units that a command with this answer adds to the space.
-fn added_units(command: Command, answer: &Answer) -> u32 {
-    match (command, answer) {
-        (Command::Extend(more), Answer::Extended) => more,
-        _ => 0,
-    }
-}
-
-// The units of the space in each state, where the answers have a report in place of each full report.
-fn sizes_of(alloc: Global, script: &Script, answers: &[Answer]) -> Result<Vec<u32>, AllocError> {
-    let calls = script.commands.len();
-    let mut size = script.size;
-    let mut sizes = Vec::with_capacity(alloc, calls + 1)?;
-    sizes.push(size)?;
-    for i in 0..calls {
-        size = size.saturating_add(added_units(script.commands[i], &answers[i]));
-        sizes.push(size)?;
-    }
-    Ok(sizes)
-}
-
 /// Plays a script, without its full reports, and returns its course.
 ///
 /// ```
@@ -70,9 +49,9 @@ pub fn course_of(alloc: Global, script: &Script) -> Result<Course, AllocError> {
     let Watched {
         answers,
         reports,
+        sizes,
         refused,
     } = watch(alloc, script)?;
-    let sizes = sizes_of(alloc, script, &answers)?;
     let lives = lives_of_answers(alloc, &script.commands, &answers)?;
     Ok(Course {
         max_allocs: script.max_allocs,

@@ -1,7 +1,8 @@
 // Printed by rust/erase from crates/offset_pictures/src/watching.rt: change it there.
 
-//! What a script's space says while the script is played, without its full reports: what it reports after
-//! each command, and why it refuses commands. It plays the script, and asks its space after each command.
+//! What a script's space says while the script is played, without its full reports: what it reports and how
+//! large it is after each command, and why it refuses commands. It plays the script, and asks its space after
+//! each command.
 
 use crate::refusing::{Refused, note};
 use offset_allocator::{AllocatorOf, ByNode, StorageReport, Tables};
@@ -15,6 +16,8 @@ pub struct Watched {
     pub answers: Vec<Answer>,
     /// The report of the fresh space, and the one after each command.
     pub reports: Vec<StorageReport>,
+    /// The units of the fresh space, and those after each command.
+    pub sizes: Vec<u32>,
     /// The commands that were refused.
     pub refused: Vec<Refused>,
 }
@@ -36,9 +39,12 @@ impl Listener for Watched {
         let answers = Vec::with_capacity(alloc, calls)?;
         let mut reports = Vec::with_capacity(alloc, calls.saturating_add(1))?;
         reports.push(space.storage_report())?;
+        let mut sizes = Vec::with_capacity(alloc, calls.saturating_add(1))?;
+        sizes.push(space.size())?;
         Ok(Watched {
             answers,
             reports,
+            sizes,
             refused: Vec::new(alloc),
         })
     }
@@ -55,6 +61,7 @@ impl Listener for Watched {
         note(&mut self.refused, space, calls, command, &answer)?;
         self.answers.push(answer)?;
         self.reports.push(space.storage_report())?;
+        self.sizes.push(space.size())?;
         Ok(())
     }
 }

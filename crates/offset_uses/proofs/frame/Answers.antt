@@ -1,4 +1,4 @@
-use Rattle.offset_allocator.proofs.ViewUndo.{is_undone}
+use Rattle.offset_allocator.proofs.Views.ViewUndo.{is_undone}
 use Rattle.offset_uses.proofs.frame.Goals as goal
 
 -- the units are granted and freed

@@ -1,6 +1,6 @@
 use Rattle.std.proofs.Common.{refl, ap, ◌∙◌, inl, inr}
 use Rattle.offset_allocator.specs.Ranges.{range_of}
-use Rattle.offset_allocator.proofs.{Sound.state_space, ViewUndo.taken_back}
+use Rattle.offset_allocator.proofs.{Sound.state_space, Views.ViewUndo.taken_back}
 use Rattle.offset_uses.proofs.place_mesh.Goals as goal
 
 -- the first range is freed

@@ -1,9 +1,8 @@
 use Rattle.offset_allocator.proofs.Common.{◌≡◌, ◌≤◌, ℕ, Some, ap, ap₂, push, arith, refl, sym, subst, ◌∙◌, down, length, times, bin_at, bins_in, Block, Node, View, Place, ChainCells, HasPlace}
-use Rattle.offset_allocator.proofs.Common.{IsChain, List}
-use Rattle.offset_allocator.proofs.{Sound.Fields, Sound.shown, Sound.fields_of, Sound.known_sound, Places.placed, Places.at_place, Holding.block_listed, Holding.brought, Holding.place_there}
-use Rattle.offset_allocator.proofs.{Classes.down_small, Uses.removed_unlisted}
+use Rattle.offset_allocator.proofs.{Common.IsChain, Common.List, Sound.Fields, Sound.shown, Sound.fields_of, Sound.known_sound, Linking.Places.placed, Linking.Places.at_place, Holding.block_listed}
+use Rattle.offset_allocator.proofs.{Holding.brought, Holding.place_there, Classes.down_small, Filing.Uses.removed_unlisted, AllocatorOf.bring_first.Goals.After-self}
+use Rattle.offset_allocator.proofs.AllocatorOf.bring_first.Given.{Over}
 use Rattle.offset_allocator.proofs.AllocatorOf.bring_first.Goals as goal
-use Rattle.offset_allocator.proofs.AllocatorOf.bring_first.{Goals.After-self, Given.Over}
 
 -- the block, in the tables
 held : (g : Over) (c : After-self g) → HasPlace (g.T.Tables.cells c.self.inside.store.tables).chain (g.T.Tables.cells c.self.inside.store.tables).chain.reserved c.self.inside.store.last

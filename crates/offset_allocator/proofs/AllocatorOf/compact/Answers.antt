@@ -1,11 +1,9 @@
-use Rattle.offset_allocator.proofs.Common.{◌++◌, ◌≡◌, ℕ, ◌+◌, ◌*◌, ◌≤◌, List, Block, length, length-append, ◌∷◌, [], refl, sym, ap, subst, ◌∙◌, arith, replicate, Place, View, units, free_sizes, BinCells}
-use Rattle.offset_allocator.proofs.Common.{Node, bins_in, blocks, live, moves, KeepsSizes}
-use Rattle.offset_allocator.proofs.Common.{Compacts, common_steps}
-use Rattle.offset_allocator.proofs.Sound.{AreSound, Fields, shown, fields_of, known_sound}
-use Rattle.offset_allocator.proofs.Compacting.{IsFirst, first_is, packed, compacts_live, first_held, packs, stays_packed}
-use Rattle.offset_allocator.proofs.{Nearest.newest_few, Starts.until_first, Starts.until_none, Packed.compacts_sizes, Places.at_place, Places.kept_place, Classes.down_small, Fresh.empty_unlisted}
-use Rattle.offset_allocator.proofs.Names.{kept_unused}
-use Rattle.offset_allocator.specs.{Compacting.until_free, Names.free_blocks, Names.names_of}
+use Rattle.offset_allocator.proofs.{Sound.AreSound, Sound.Fields, Sound.shown, Sound.fields_of, Sound.known_sound, Moving.Nearest.newest_few, Moving.Starts.until_first, Moving.Starts.until_none}
+use Rattle.offset_allocator.proofs.{Moving.Packed.compacts_sizes, Linking.Places.at_place, Linking.Places.kept_place, Classes.down_small, Fresh.empty_unlisted, Linking.Names.kept_unused}
+use Rattle.offset_allocator.proofs.Common.{◌++◌, ◌≡◌, ℕ, ◌+◌, ◌*◌, ◌≤◌, List, Block, length, length-append, ◌∷◌, [], refl, sym, ap, subst, ◌∙◌, arith, replicate, Place, View, units, free_sizes}
+use Rattle.offset_allocator.proofs.Common.{BinCells, Node, bins_in, blocks, live, moves, KeepsSizes, Compacts, common_steps}
+use Rattle.offset_allocator.proofs.Moving.Compacting.{IsFirst, first_is, packed, compacts_live, first_held, packs, stays_packed}
+use Rattle.offset_allocator.specs.{Moving.Compacting.until_free, Names.free_blocks, Names.names_of}
 use Rattle.offset_allocator.proofs.AllocatorOf.compact.Goals as goal
 use Rattle.offset_allocator.proofs.AllocatorOf.compact.{Goals.After-slide-hole, Goals.After-push, Given.Over}
 

@@ -1,6 +1,6 @@
 use Rattle.offset_allocator.proofs.Common.{◌≡◌, ◌∙◌, true, false, length, refl, inr, arith, ap, subst, sym, View, Extends, ends_used, blocks}
 use Rattle.offset_allocator.proofs.Extending.{used_at_end, can_widen, cannot_append, adds_counted, extends_done}
-use Rattle.offset_allocator.proofs.{Sound.shown, Sound.Fields, Sound.fields_of, Places.end_place, Reading.used_read}
+use Rattle.offset_allocator.proofs.{Sound.shown, Sound.Fields, Sound.fields_of, Linking.Places.end_place, Reading.used_read}
 use Rattle.offset_allocator.proofs.AllocatorOf.extend.Goals as goal
 use Rattle.offset_allocator.proofs.AllocatorOf.extend.{Goals.After-is_used-used, Given.Over}
 
@@ -22,7 +22,7 @@ pub append-requires-clause-used : goal.append-requires-clause-used
 append-requires-clause-used g c = read g (goal.at.append-requires-clause-used g c).After-is_used-used ∙ c.if-not-used.false
 
 pub append-requires-clause-enough : goal.append-requires-clause-enough
-append-requires-clause-enough g c = omega (arith, c.names_left-left.ensures, ap (λ (u : View). length u.blocks) c.self.view_is, ap (λ (u : View). u.max_allocs) c.self.view_is)
+append-requires-clause-enough g c = omega (arith, c.unused_nodes-left.ensures, ap (λ (u : View). length u.blocks) c.self.view_is, ap (λ (u : View). u.max_allocs) c.self.view_is)
 
 pub returns-then-left-lt2-clause-step : goal.returns-then-left-lt2-clause-step
 returns-then-left-lt2-clause-step g c =
@@ -31,7 +31,7 @@ returns-then-left-lt2-clause-step g c =
     subst P c.self.view_is (
       omega arith,
       cannot_append f c.args.more c.self.invariant (read g (goal.at.returns-then-left-lt2-clause-step g c).After-is_used-used
-          ∙ c.if-not-used.false) (omega (arith, c.names_left-left.ensures, ap (λ (u : View). length u.blocks) c.self.view_is, ap (λ (u : View). u.max_allocs) c.self.view_is)),
+          ∙ c.if-not-used.false) (omega (arith, c.unused_nodes-left.ensures, ap (λ (u : View). length u.blocks) c.self.view_is, ap (λ (u : View). u.max_allocs) c.self.view_is)),
       refl,
     )
 

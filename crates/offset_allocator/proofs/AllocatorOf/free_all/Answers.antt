@@ -1,4 +1,4 @@
-use Rattle.offset_allocator.proofs.{Common.sym, Common.ap, Common.◌∙◌, Common.arith, Common.View, Common.used_of, Common.common_steps, Emptied.freed_first, Emptied.freed_none, Emptied.freed_one}
+use Rattle.offset_allocator.proofs.{Common.sym, Common.ap, Common.◌∙◌, Common.arith, Common.View, Common.used_of, Emptied.freed_first, Emptied.freed_none, Emptied.freed_one}
 use Rattle.offset_allocator.proofs.AllocatorOf.free_all.Goals as goal
 
 pub loop-name-init : goal.loop-name-init

@@ -1,10 +1,8 @@
+use Rattle.offset_allocator.proofs.{Sound.shown, Sound.AreSound, Sound.Fields, Sound.fields_of, Linking.Places.at_place, Linking.Places.kept_place, Linking.Names.kept_unused, Tallies.one-same}
+use Rattle.offset_allocator.proofs.{Filing.Uses.removed_unlisted, Common.length, Common.◌≢◌, Common.[], Common.◌∷◌, Common.Splits}
 use Rattle.offset_allocator.proofs.Common.{◌≡◌, ◌+◌, ◌-◌, ◌≤◌, ◌<◌, ◌^◌, ◌∙◌, ℕ, ap, arith, refl, subst, sym, up, Node, View, padding_to, IsFoundFrom, Some, HasRoomFor, blocks_needed, units, bin_at}
-use Rattle.offset_allocator.proofs.Common.{length, ◌≢◌, [], ◌∷◌}
-use Rattle.offset_allocator.specs.Requests.{NewestHolds}
-use Rattle.offset_allocator.proofs.Common.{Splits}
-use Rattle.offset_allocator.proofs.Sound.{shown, AreSound, Fields, fields_of}
 use Rattle.offset_allocator.proofs.Granting.{Call, got, held, unlisted, padding_fits, units_free, granted}
-use Rattle.offset_allocator.proofs.{Places.at_place, Places.kept_place, Names.kept_unused, Tallies.one-same, Uses.removed_unlisted}
+use Rattle.offset_allocator.specs.Requests.{NewestHolds}
 use Rattle.offset_allocator.proofs.AllocatorOf.grant.Goals as goal
 use Rattle.offset_allocator.proofs.AllocatorOf.grant.{Goals.After-pop-name, Goals.After-size-whole, Goals.After-divide, Given.Over}
 

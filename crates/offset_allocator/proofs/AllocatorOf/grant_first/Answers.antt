@@ -1,7 +1,6 @@
-use Rattle.offset_allocator.proofs.Common.{◌≡◌, ◌∷◌, Some, ap, arith, refl, sym, subst, ◌∙◌, value, bin_at, remove, View, Splits, padding_to, ◌<◌}
-use Rattle.offset_allocator.specs.Tight.{with_first}
 use Rattle.offset_allocator.proofs.{Holding.holder, Holding.place_there, Holding.first_is, Classes.down_small, Granting.found_itself, Served.split_as}
-use Rattle.offset_allocator.specs.Requests.{Holds}
+use Rattle.offset_allocator.proofs.Common.{◌≡◌, ◌∷◌, Some, ap, arith, refl, sym, subst, ◌∙◌, value, bin_at, remove, View, Splits, padding_to, ◌<◌}
+use Rattle.offset_allocator.specs.{Requests.Holds}
 use Rattle.offset_allocator.proofs.AllocatorOf.grant_first.Goals as goal
 
 pub bring_first-class-requires : goal.bring_first-class-requires

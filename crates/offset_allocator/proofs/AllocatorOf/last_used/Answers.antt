@@ -1,7 +1,7 @@
-use Rattle.offset_allocator.proofs.Common.{ℕ, Some, refl, sym, ap, ◌∙◌, Node, View}
-use Rattle.offset_allocator.proofs.{Emptied.last_before, Emptied.last_used_there, Ends.ended}
+use Rattle.offset_allocator.proofs.{Common.ℕ, Common.Some, Common.refl, Common.sym, Common.ap, Common.◌∙◌, Common.Node, Common.View, Emptied.last_before, Emptied.last_used_there, Emptied.as_empty}
+use Rattle.offset_allocator.proofs.{Emptied.before_live, Emptied.none_used, Linking.Ends.ended, Sound.shown, Sound.fields_of, Sound.known_sound, Linking.Places.at_place, Linking.Places.end_place}
+use Rattle.offset_allocator.proofs.{Reading.used_live}
 use Rattle.offset_allocator.specs.View.{last_used}
-use Rattle.offset_allocator.proofs.{Sound.shown, Sound.fields_of, Sound.known_sound, Places.at_place, Places.end_place, Emptied.as_empty, Emptied.before_live, Emptied.none_used, Reading.used_live}
 use Rattle.offset_allocator.proofs.AllocatorOf.last_used.Goals as goal
 
 pub is_used-requires : goal.is_used-requires

@@ -1,7 +1,6 @@
 use Rattle.offset_allocator.proofs.Common.{◌∙◌, ◌≡◌, inr, subst}
+use Rattle.offset_allocator.specs.{Saving.State.words_in, Saving.StateFaults.IsFaultOf}
 use Rattle.std.proofs.lemmas.Result.{IfErr-weaker, IfOk-weaker}
-use Rattle.offset_allocator.specs.State.{words_in}
-use Rattle.offset_allocator.specs.StateFaults.{IsFaultOf}
 use Rattle.offset_allocator.proofs.AllocatorOf.read_state.Goals as goal
 
 pub returns-clause-fault : goal.returns-clause-fault

@@ -1,6 +1,6 @@
 use Rattle.offset_allocator.proofs.Common.{take, ◌≡◌, false, refl, ◌+◌, ◌∙◌, ℕ, ap, arith, sym, Node, IsWellFormed, IsBinned, bins_in, HasPlace, Frees}
-use Rattle.offset_allocator.proofs.{Filed.unlisted, Sound.Fields, Sound.AreSound, Sound.shown, Sound.fields_of, Sound.known_sound, Places.at_place, Freeing.Release, Freeing.at, Freeing.room_for}
-use Rattle.offset_allocator.proofs.{Freeing.filed, Freeing.freed, Freeing.named_live, Ranges.frees_gone, Ranges.frees_others, Reading.live_used, ViewTaken.well_frees}
+use Rattle.offset_allocator.proofs.{Filing.Filed.unlisted, Sound.Fields, Sound.AreSound, Sound.shown, Sound.fields_of, Sound.known_sound, Linking.Places.at_place, Freeing.Release, Freeing.at}
+use Rattle.offset_allocator.proofs.{Freeing.room_for, Freeing.filed, Freeing.freed, Freeing.named_live, Ranges.frees_gone, Ranges.frees_others, Reading.live_used, Views.ViewTaken.well_frees}
 use Rattle.offset_allocator.proofs.AllocatorOf.release.Goals as goal
 use Rattle.offset_allocator.proofs.AllocatorOf.release.{Goals.After-self, Goals.After-set_used, Goals.After-coalesce, Given.Over}
 
@@ -52,23 +52,17 @@ overflow_add-self g c =
 pub set_used-requires : goal.set_used-requires
 set_used-requires g c = (at (release g (goal.at.set_used-requires g c).After-self)).held.below
 
-pub coalesce-requires-clause-place : goal.coalesce-requires-clause-place
-coalesce-requires-clause-place g c =
-    let here = goal.at.coalesce-requires-clause-place g c in
+pub coalesce-requires : goal.coalesce-requires
+coalesce-requires g c =
+    let here = goal.at.coalesce-requires g c in
     let r = release g here.After-self in
-    (_, _, marked g here.After-set_used r, rw (bins g here.After-set_used r).1 (filed r))
-
-pub coalesce-requires-clause-binned : goal.coalesce-requires-clause-binned
-coalesce-requires-clause-binned g c = let here = goal.at.coalesce-requires-clause-binned g c in (bins g here.After-set_used (release g here.After-self)).0
-
-pub coalesce-requires-clause-idle : goal.coalesce-requires-clause-idle
-coalesce-requires-clause-idle g c = let here = goal.at.coalesce-requires-clause-idle g c in ap (λ (v : Node). v.used) (at_place (marked g here.After-set_used (release g here.After-self)))
-
-pub coalesce-requires-clause-size : goal.coalesce-requires-clause-size
-coalesce-requires-clause-size g c =
-    let here = goal.at.coalesce-requires-clause-size g c in
-    let r = release g here.After-self in
-    c.size-size.ensures.cell ∙ ap (λ (v : Node). v.size) (at_place (at r).held) ∙ sym (ap (λ (v : Node). v.size) (at_place (marked g here.After-set_used r)))
+    let m = marked g here.After-set_used r in
+    record {
+      place = (_, _, m, rw (bins g here.After-set_used r).1 (filed r));
+      binned = (bins g here.After-set_used r).0;
+      idle = ap (λ (v : Node). v.used) (at_place m);
+      size = c.size-size.ensures.cell ∙ ap (λ (v : Node). v.size) (at_place (at r).held) ∙ sym (ap (λ (v : Node). v.size) (at_place m));
+    }
 
 pub invariant_of-self : goal.invariant_of-self
 invariant_of-self g c = (done g c 0).0

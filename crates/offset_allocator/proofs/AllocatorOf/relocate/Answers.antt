@@ -1,8 +1,7 @@
-use Rattle.offset_allocator.proofs.Common.{◌≡◌, ℕ, Some, sym, ap, subst, ◌∙◌, arith, View, Handle, Allocates, Aligns, IsLive, IsWellFormed, Option, unwrap_or, size_of}
-use Rattle.offset_allocator.specs.Relocating.{WouldBegin, offset_of, Relocates}
-use Rattle.offset_allocator.specs.Relations.{SameState}
 use Rattle.offset_allocator.proofs.{Sound.fields_of, Sound.known_sound, Reading.live_below, Reading.live_size, Reading.live_offset}
-use Rattle.offset_allocator.proofs.{Begins.Begins, Begins.none_relocates, Begins.later_relocates, Begins.earlier_relocates, Begins.relocated_grants, Begins.relocated_before}
+use Rattle.offset_allocator.proofs.Common.{◌≡◌, ℕ, Some, sym, ap, subst, ◌∙◌, arith, View, Handle, Aligns, IsLive, IsWellFormed, Option, unwrap_or, size_of}
+use Rattle.offset_allocator.proofs.Moving.Begins.{Begins, none_relocates, later_relocates, earlier_relocates, relocated_grants, relocated_before}
+use Rattle.offset_allocator.specs.{Moving.Relocating.WouldBegin, Moving.Relocating.offset_of, Moving.Relocating.Relocates, Relations.SameState}
 use Rattle.offset_allocator.proofs.AllocatorOf.relocate.Goals as goal
 use Rattle.offset_allocator.proofs.AllocatorOf.relocate.{Goals.After-would_begin, Goals.After-serve, Given.Over}
 

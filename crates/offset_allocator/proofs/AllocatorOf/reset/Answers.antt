@@ -1,4 +1,4 @@
-use Rattle.offset_allocator.proofs.{Common.arith, Emptied.few_reset, Emptied.freed_sizes, Emptied.half_used, Split.used_most}
+use Rattle.offset_allocator.proofs.{Common.arith, Emptied.few_reset, Emptied.freed_sizes, Emptied.half_used, Views.Split.used_most}
 use Rattle.offset_allocator.proofs.AllocatorOf.reset.Goals as goal
 
 pub returns-then-block_count-le5-clause-accesses : goal.returns-then-block_count-le5-clause-accesses

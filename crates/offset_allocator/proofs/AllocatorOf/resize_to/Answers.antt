@@ -1,11 +1,10 @@
-use Rattle.offset_allocator.proofs.Common.{cases_lt, true≢false, ◌≡◌, ◌⊎◌, ◌+◌, ◌-◌, ◌<◌, ◌≤◌, ◌∙◌, ℕ, true, false, length, inl, inr, refl, sym, ap, subst, arith, Node, View, IsWellFormed, free_start, units, HasRoomFor}
-use Rattle.offset_allocator.proofs.Common.{range_of, size_of, Resizes, ResizesTo, common_steps}
+use Rattle.offset_allocator.proofs.Common.{cases_lt, true≢false, ◌≡◌, ◌⊎◌, ◌+◌, ◌-◌, ◌<◌, ◌≤◌, ◌∙◌, ℕ, true, false, length, inl, inr, refl, sym, ap, subst, arith, Node, View, IsWellFormed, free_start}
+use Rattle.offset_allocator.proofs.{Common.units, Common.HasRoomFor, Common.range_of, Common.size_of, Common.Resizes, Common.ResizesTo, Freeing.Release, Freeing.at, Freeing.filed, Freeing.room_for}
+use Rattle.offset_allocator.proofs.{Freeing.named_live, Linking.Places.at_place, Reading.live_used, Sound.Fields, Sound.AreSound, Sound.shown, Sound.fields_of, Sound.known_sound}
+use Rattle.offset_allocator.proofs.AllocatorOf.resize_to.Given.{Over}
 use Rattle.offset_allocator.proofs.Resizing.{resized, free_beside, next_some, some_after, resizes_full, resizes_short, resizes_done, resized_units, resized_others, size_there}
-use Rattle.offset_allocator.proofs.{Freeing.Release, Freeing.at, Freeing.filed, Freeing.room_for, Freeing.named_live, Places.at_place, Reading.live_used}
-use Rattle.offset_allocator.proofs.{Sound.Fields, Sound.AreSound, Sound.shown, Sound.fields_of, Sound.known_sound}
 use Rattle.offset_allocator.proofs.AllocatorOf.resize_to.Goals as goal
 use Rattle.offset_allocator.proofs.AllocatorOf.resize_to.Goals.{After-self, After-units_after-more, After-resize, else-is_none-via-then-is_none+else-not-has_room_for, else-is_none-via-else-is_none}
-use Rattle.offset_allocator.proofs.AllocatorOf.resize_to.Given.{Over}
 
 -- where the block is, and its size
 block : (g : Over) (c : After-self g) → Release (fields_of g.T.Tables.cells g.T.Index.NodeIndex.MAX c.self.inside) c.args.name

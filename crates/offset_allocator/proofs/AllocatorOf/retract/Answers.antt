@@ -1,10 +1,9 @@
 use Rattle.offset_allocator.proofs.Common.{◌≡◌, ◌≤◌, ◌∙◌, refl, sym, subst, arith, false, false≢true, Bool, View, ends_used, blocks, ◌↔◌, KeepsAll}
 use Rattle.std.specs.Bool.{IsTrue}
-use Rattle.offset_allocator.specs.Retracting.{CanRetract, Retracts}
-use Rattle.offset_allocator.proofs.{Sound.shown, Sound.fields_of, Sound.known_sound, Retracted.none_retracts, Retracted.retracts_counted, Retracted.retracts_size, Extending.used_at_end}
-use Rattle.offset_allocator.proofs.{Reading.used_read, Places.end_place}
+use Rattle.offset_allocator.specs.Moving.Retracting.{CanRetract, Retracts}
+use Rattle.offset_allocator.proofs.{Sound.shown, Sound.fields_of, Sound.known_sound, Moving.Retracted.none_retracts, Moving.Retracted.retracts_counted, Moving.Retracted.retracts_size}
+use Rattle.offset_allocator.proofs.{Extending.used_at_end, Reading.used_read, Linking.Places.end_place, AllocatorOf.retract.Goals.After-is_used, AllocatorOf.retract.Given.Over}
 use Rattle.offset_allocator.proofs.AllocatorOf.retract.Goals as goal
-use Rattle.offset_allocator.proofs.AllocatorOf.retract.{Goals.After-is_used, Given.Over}
 
 pub is_used-requires : goal.is_used-requires
 is_used-requires g c = (end_place c.self.invariant.space).below

@@ -1,6 +1,6 @@
-use Rattle.offset_allocator.proofs.Common.{◌≡◌, ◌∙◌, sym, ap, arith, false≢true, Node, size_of}
-use Rattle.offset_allocator.proofs.Resizing.{shrinks_can, shrinks_of, resized_counted, size_there}
-use Rattle.offset_allocator.proofs.{Freeing.Release, Freeing.at, Freeing.named_live, Places.at_place, Reading.live_used, Sound.shown, Sound.fields_of}
+use Rattle.offset_allocator.proofs.{Common.◌≡◌, Common.◌∙◌, Common.sym, Common.ap, Common.arith, Common.false≢true, Common.Node, Common.size_of, Resizing.shrinks_can, Resizing.shrinks_of}
+use Rattle.offset_allocator.proofs.{Resizing.resized_counted, Resizing.size_there, Freeing.Release, Freeing.at, Freeing.named_live, Linking.Places.at_place, Reading.live_used, Sound.shown}
+use Rattle.offset_allocator.proofs.{Sound.fields_of}
 use Rattle.offset_allocator.proofs.AllocatorOf.shrink.Goals as goal
 use Rattle.offset_allocator.proofs.AllocatorOf.shrink.{Goals.After-self, Goals.After-size-old_size, Given.Over}
 

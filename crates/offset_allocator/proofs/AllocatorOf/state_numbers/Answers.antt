@@ -1,8 +1,7 @@
-use Rattle.offset_allocator.proofs.Common.{◌≡◌, ◌∙◌, ◌++◌, ◌∷◌, [], ap, ap₂, sym, take, length, length-take-le, append_assoc, arith, ℕ, List, Block, View, count_named}
-use Rattle.offset_allocator.proofs.Common.{blocks, bins_in}
+use Rattle.offset_allocator.proofs.{Saving.Saved.names_once, Linking.Exchange.there-below, Linking.Walks.length_below}
+use Rattle.offset_allocator.proofs.Common.{◌≡◌, ◌∙◌, ◌++◌, ◌∷◌, [], ap, ap₂, sym, take, length, length-take-le, append_assoc, arith, ℕ, List, Block, View, count_named, blocks, bins_in}
+use Rattle.offset_allocator.specs.Saving.State.{block_words}
 use Rattle.std.specs.List.{concat}
-use Rattle.offset_allocator.proofs.{Saved.names_once, Exchange.there-below, Walks.length_below}
-use Rattle.offset_allocator.specs.State.{block_words}
 use Rattle.offset_allocator.proofs.AllocatorOf.state_numbers.Goals as goal
 
 pub overflow_cast-len : goal.overflow_cast-len

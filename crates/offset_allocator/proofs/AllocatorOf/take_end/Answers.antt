@@ -1,9 +1,9 @@
+use Rattle.offset_allocator.proofs.{Sound.shown, Sound.fields_of, Classes.down_small, Linking.Ends.last_none, Linking.Places.at_place, Linking.Places.end_place, Linking.Places.previous_place}
+use Rattle.offset_allocator.proofs.{Linking.Places.kept_place, Linking.Names.kept_unused}
 use Rattle.offset_allocator.proofs.Common.{◌∷◌, ◌++◌, List, ap₂, take, ◌≡◌, ◌-◌, ◌≤◌, ◌∙◌, ℕ, [], length, refl, sym, ap, subst, arith, inr, false, Node, node, ChainCells, View}
-use Rattle.offset_allocator.specs.Retracting.{Retracts}
-use Rattle.offset_allocator.proofs.{Sound.shown, Sound.fields_of, Classes.down_small, Ends.last_none, Places.at_place, Places.end_place, Places.previous_place, Places.kept_place}
 use Rattle.offset_allocator.proofs.Extending.{EndsFree, last_of, last_held, last_size, last_free, last_listed, last_unlisted}
-use Rattle.offset_allocator.proofs.Retracted.{Cut, size_fits, free_fits, narrowed_to, dropped, too_few}
-use Rattle.offset_allocator.proofs.Names.{kept_unused}
+use Rattle.offset_allocator.proofs.Moving.Retracted.{Cut, size_fits, free_fits, narrowed_to, dropped, too_few}
+use Rattle.offset_allocator.specs.Moving.Retracting.{Retracts}
 use Rattle.offset_allocator.proofs.AllocatorOf.take_end.Goals as goal
 use Rattle.offset_allocator.proofs.AllocatorOf.take_end.{Goals.After-size-size, Goals.After-remove, Goals.After-drop_end, Goals.After-push, Given.Over}
 

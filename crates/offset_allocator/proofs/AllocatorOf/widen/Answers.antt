@@ -1,6 +1,6 @@
 use Rattle.offset_allocator.proofs.Common.{take, ◌+◌, ◌∙◌, ℕ, length, false, ap, arith, Node, ChainCells}
 use Rattle.offset_allocator.proofs.Extending.{Growth, Grown, b_used, end_held, end_small, free_fits, widen_listed, widen_unlisted, widened}
-use Rattle.offset_allocator.proofs.{Sound.fields_of, Classes.down_small, Places.at_place, Places.end_place}
+use Rattle.offset_allocator.proofs.{Sound.fields_of, Classes.down_small, Linking.Places.at_place, Linking.Places.end_place}
 use Rattle.offset_allocator.proofs.AllocatorOf.widen.Goals as goal
 use Rattle.offset_allocator.proofs.AllocatorOf.widen.{Goals.After-self, Goals.After-push, Given.Over}
 

@@ -1,6 +1,6 @@
-use Rattle.offset_allocator.proofs.Common.{◌≡◌, ◌∙◌, sym, arith, refl, length-set, down}
-use Rattle.offset_allocator.proofs.Binned.{below, older_in, is_first, exchanged, exchange_masked, changed}
-use Rattle.offset_allocator.proofs.{Classes.down_small, ViewBins.unlisted_removed, Uses.after_idle, Uses.no_mark}
+use Rattle.offset_allocator.proofs.{Common.◌≡◌, Common.◌∙◌, Common.sym, Common.arith, Common.refl, Common.length-set, Common.down, Filing.Binned.below, Filing.Binned.older_in, Filing.Binned.is_first}
+use Rattle.offset_allocator.proofs.{Filing.Binned.exchanged}
+use Rattle.offset_allocator.proofs.{Filing.Binned.exchange_masked, Filing.Binned.changed, Classes.down_small, Views.ViewBins.unlisted_removed, Filing.Uses.after_idle, Filing.Uses.no_mark}
 use Rattle.offset_allocator.proofs.bins.exchange.Goals as goal
 
 pub newer-newer-requires : goal.newer-newer-requires

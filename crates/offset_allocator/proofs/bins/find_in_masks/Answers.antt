@@ -1,4 +1,4 @@
-use Rattle.offset_allocator.proofs.{Common.refl, Find.here, Find.nowhere, Find.above, Find.word_below}
+use Rattle.offset_allocator.proofs.{Common.refl, Filing.Find.here, Filing.Find.nowhere, Filing.Find.above, Filing.Find.word_below}
 use Rattle.offset_allocator.proofs.bins.find_in_masks.Goals as goal
 
 pub returns-then-rest-ne0 : goal.returns-then-rest-ne0

@@ -1,4 +1,4 @@
-use Rattle.offset_allocator.proofs.Find.{none_at_all, last_below, bit_within, largest_is}
+use Rattle.offset_allocator.proofs.Filing.Find.{none_at_all, last_below, bit_within, largest_is}
 use Rattle.offset_allocator.proofs.bins.largest.Goals as goal
 
 pub returns-then-top_mask-eq0-clause-largest : goal.returns-then-top_mask-eq0-clause-largest

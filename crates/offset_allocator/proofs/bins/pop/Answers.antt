@@ -1,5 +1,4 @@
-use Rattle.offset_allocator.proofs.Common.{◌∷◌, ◌∙◌, sym, ap, ap₂, bin_at}
-use Rattle.offset_allocator.proofs.{Binned.head, Binned.without_head, ViewBins.names_same}
+use Rattle.offset_allocator.proofs.{Common.◌∷◌, Common.◌∙◌, Common.sym, Common.ap, Common.ap₂, Common.bin_at, Filing.Binned.head, Filing.Binned.without_head, Views.ViewBins.names_same}
 use Rattle.offset_allocator.proofs.bins.pop.Goals as goal
 
 pub remove_newest-requires-clause-older : goal.remove_newest-requires-clause-older

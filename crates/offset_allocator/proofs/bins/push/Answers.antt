@@ -1,6 +1,6 @@
 use Rattle.offset_allocator.proofs.Common.{◌∙◌, ap, sym, arith, refl, length-set, set_past, first_of, bin_at, bins_in, common_steps}
-use Rattle.offset_allocator.proofs.Binned.{head_among, head_below, head_small, pushed, changed}
-use Rattle.offset_allocator.proofs.{Masks.flag_cons, Masks.flag_full, Masks.masked_same, Masks.masked_set, Uses.listed_idle, Uses.no_mark}
+use Rattle.offset_allocator.proofs.Filing.Binned.{head_among, head_below, head_small, pushed, changed}
+use Rattle.offset_allocator.proofs.{Filing.Masks.flag_cons, Filing.Masks.flag_full, Filing.Masks.masked_same, Filing.Masks.masked_set, Filing.Uses.listed_idle, Filing.Uses.no_mark}
 use Rattle.offset_allocator.proofs.bins.push.Goals as goal
 
 pub set_links-requires-clause-link : goal.set_links-requires-clause-link

@@ -1,4 +1,4 @@
-use Rattle.offset_allocator.proofs.{Binned.below, Classes.down_small}
+use Rattle.offset_allocator.proofs.{Filing.Binned.below, Classes.down_small}
 use Rattle.offset_allocator.proofs.bins.remove.Goals as goal
 
 pub newer-newer-requires : goal.newer-newer-requires

@@ -1,6 +1,5 @@
-use Rattle.offset_allocator.proofs.Common.{◌≡◌, ◌≢◌, ◌∙◌, arith, refl, slice_index}
-use Rattle.offset_allocator.proofs.Binned.{below, newer_in, older_in, is_first, is_later, later_masked, left, changed}
-use Rattle.offset_allocator.proofs.{Classes.down_small, Uses.after_idle, Uses.no_mark}
+use Rattle.offset_allocator.proofs.{Common.◌≡◌, Common.◌≢◌, Common.◌∙◌, Common.arith, Common.refl, Common.slice_index, Classes.down_small, Filing.Uses.after_idle, Filing.Uses.no_mark}
+use Rattle.offset_allocator.proofs.Filing.Binned.{below, newer_in, older_in, is_first, is_later, later_masked, left, changed}
 use Rattle.offset_allocator.proofs.bins.remove_linked.Goals as goal
 
 pub older-older-requires : goal.older-older-requires

@@ -1,5 +1,6 @@
 use Rattle.offset_allocator.proofs.Common.{◌∙◌, ap, sym, arith, refl, set_past, first_of, common_steps}
-use Rattle.offset_allocator.proofs.{Binned.head, Binned.without_head, Binned.none_left, Binned.without_newest, Binned.changed, Masks.flag_full, Masks.masked_same, Uses.no_mark, Uses.second_idle}
+use Rattle.offset_allocator.proofs.{Filing.Binned.head, Filing.Binned.without_head, Filing.Binned.none_left, Filing.Binned.without_newest, Filing.Binned.changed, Filing.Masks.flag_full}
+use Rattle.offset_allocator.proofs.{Filing.Masks.masked_same, Filing.Uses.no_mark, Filing.Uses.second_idle}
 use Rattle.offset_allocator.proofs.bins.remove_newest.Goals as goal
 
 pub set_newer-requires : goal.set_newer-requires

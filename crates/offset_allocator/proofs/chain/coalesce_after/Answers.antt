@@ -1,7 +1,6 @@
-use Rattle.offset_allocator.proofs.Common.{◌∙◌, ap, arith, refl, Cells, ChainCells, common_steps}
-use Rattle.offset_allocator.proofs.Nodes.{length-put, spare-put, nodes-with_spare}
-use Rattle.offset_allocator.proofs.{Exchange.back_to, Exchange.relinked_spare, Places.next_place, Places.next_below, Places.spare_room, Writes.coalesce_after_place}
-use Rattle.offset_allocator.proofs.{Names.put_back}
+use Rattle.offset_allocator.proofs.{Common.◌∙◌, Common.ap, Common.arith, Common.refl, Common.Cells, Common.ChainCells, Common.common_steps, Linking.Nodes.length-put, Linking.Nodes.spare-put}
+use Rattle.offset_allocator.proofs.{Linking.Nodes.nodes-with_spare, Linking.Exchange.back_to, Linking.Exchange.relinked_spare, Linking.Places.next_place, Linking.Places.next_below}
+use Rattle.offset_allocator.proofs.{Linking.Places.spare_room, Linking.Writes.coalesce_after_place, Linking.Names.put_back}
 use Rattle.offset_allocator.proofs.chain.coalesce_after.Goals as goal
 
 pub after-next-requires : goal.after-next-requires

@@ -1,7 +1,6 @@
-use Rattle.offset_allocator.proofs.Common.{◌∙◌, ap, arith, refl, Cells, ChainCells, common_steps}
-use Rattle.offset_allocator.proofs.Places.{previous_place, previous_below, spare_room}
-use Rattle.offset_allocator.proofs.{Exchange.on_to, Exchange.relinked_spare, Nodes.length-put, Nodes.spare-put, Nodes.nodes-with_spare, Writes.coalesce_before_place}
-use Rattle.offset_allocator.proofs.{Names.put_back}
+use Rattle.offset_allocator.proofs.{Common.◌∙◌, Common.ap, Common.arith, Common.refl, Common.Cells, Common.ChainCells, Common.common_steps, Linking.Places.previous_place}
+use Rattle.offset_allocator.proofs.{Linking.Places.previous_below, Linking.Places.spare_room, Linking.Exchange.on_to, Linking.Exchange.relinked_spare, Linking.Nodes.length-put}
+use Rattle.offset_allocator.proofs.{Linking.Nodes.spare-put, Linking.Nodes.nodes-with_spare, Linking.Writes.coalesce_before_place, Linking.Names.put_back}
 use Rattle.offset_allocator.proofs.chain.coalesce_before.Goals as goal
 
 pub offset-offset-requires : goal.offset-offset-requires

@@ -1,6 +1,5 @@
-use Rattle.offset_allocator.proofs.Common.{◌≡◌, ℕ, sym, ap, subst, ◌∙◌, arith, [], Node, HasPlace}
-use Rattle.offset_allocator.proofs.{Places.at_place, Places.after_fits, Dropped.next_is, Dropped.end_node, Dropped.joined, Dropped.joined_last}
-use Rattle.offset_allocator.proofs.{Common.take}
+use Rattle.offset_allocator.proofs.{Linking.Places.at_place, Linking.Places.after_fits, Linking.Dropped.next_is, Linking.Dropped.end_node, Linking.Dropped.joined, Linking.Dropped.joined_last}
+use Rattle.offset_allocator.proofs.Common.{◌≡◌, ℕ, sym, ap, subst, ◌∙◌, arith, [], Node, HasPlace, take}
 use Rattle.offset_allocator.proofs.chain.drop_end.Goals as goal
 
 pub overflow_add-kept : goal.overflow_add-kept

@@ -1,6 +1,5 @@
-use Rattle.offset_allocator.proofs.Common.{ap, arith, [], ◌∷◌, Cells, Node, units}
-use Rattle.offset_allocator.proofs.{Views.blocks-chain, Places.at_place, Writes.grow_place, Tallies.units-append}
-use Rattle.offset_allocator.proofs.{Common.refl, Nodes.spare-put}
+use Rattle.offset_allocator.proofs.{Views.blocks-chain, Linking.Places.at_place, Linking.Writes.grow_place, Tallies.units-append, Linking.Nodes.spare-put}
+use Rattle.offset_allocator.proofs.Common.{ap, arith, [], ◌∷◌, Cells, Node, units, refl}
 use Rattle.offset_allocator.proofs.chain.grow.Goals as goal
 
 pub overflow_add-size : goal.overflow_add-size

@@ -1,4 +1,4 @@
-use Rattle.offset_allocator.proofs.{Common.◌∙◌, Common.arith, Common.sym, Nodes.past_idle, Reading.used_read}
+use Rattle.offset_allocator.proofs.{Common.◌∙◌, Common.arith, Common.sym, Linking.Nodes.past_idle, Reading.used_read}
 use Rattle.offset_allocator.proofs.chain.is_live.Goals as goal
 
 pub returns-else-name-len-clause-live : goal.returns-else-name-len-clause-live

@@ -1,4 +1,4 @@
-use Rattle.offset_allocator.proofs.{Common.refl, Nodes.length-put}
+use Rattle.offset_allocator.proofs.{Common.refl, Linking.Nodes.length-put}
 use Rattle.offset_allocator.proofs.chain.point_on.Goals as goal
 
 pub returns-in-Some-clause-nodes : goal.returns-in-Some-clause-nodes

@@ -1,5 +1,4 @@
-use Rattle.offset_allocator.proofs.{Common.ap, Common.Cells, Uses.binned_marked, Writes.mark_place}
-use Rattle.offset_allocator.proofs.{Common.refl, Nodes.spare-put}
+use Rattle.offset_allocator.proofs.{Common.ap, Common.Cells, Common.refl, Filing.Uses.binned_marked, Linking.Writes.mark_place, Linking.Nodes.spare-put}
 use Rattle.offset_allocator.proofs.chain.set_used.Goals as goal
 
 pub returns-clause-place : goal.returns-clause-place

@@ -1,6 +1,6 @@
-use Rattle.offset_allocator.proofs.Common.{◌∙◌, ap, arith, refl, Cells, ChainCells, Node}
-use Rattle.offset_allocator.proofs.{Exchange.top, Nodes.length-put, Places.at_place, Places.end_fits, Places.next_below, Writes.split_place}
-use Rattle.offset_allocator.proofs.{Exchange.back_to, Exchange.relinked_spare, Names.top_taken, Nodes.spare-put}
+use Rattle.offset_allocator.proofs.{Common.◌∙◌, Common.ap, Common.arith, Common.refl, Common.Cells, Common.ChainCells, Common.Node, Linking.Exchange.top, Linking.Exchange.back_to}
+use Rattle.offset_allocator.proofs.{Linking.Exchange.relinked_spare, Linking.Nodes.length-put, Linking.Nodes.spare-put, Linking.Places.at_place, Linking.Places.end_fits, Linking.Places.next_below}
+use Rattle.offset_allocator.proofs.{Linking.Writes.split_place, Linking.Names.top_taken}
 use Rattle.offset_allocator.proofs.chain.split.Goals as goal
 
 pub overflow_add-offset : goal.overflow_add-offset

@@ -1,6 +1,6 @@
-use Rattle.offset_allocator.proofs.Common.{◌∙◌, ap, arith, refl, Cells, ChainCells, Node}
-use Rattle.offset_allocator.proofs.{Exchange.top, Nodes.length-put, Places.at_place, Places.end_fits, Places.previous_below, Writes.split_before_place}
-use Rattle.offset_allocator.proofs.{Exchange.on_to, Exchange.relinked_spare, Names.top_taken, Nodes.spare-put}
+use Rattle.offset_allocator.proofs.{Common.◌∙◌, Common.ap, Common.arith, Common.refl, Common.Cells, Common.ChainCells, Common.Node, Linking.Exchange.top, Linking.Exchange.on_to}
+use Rattle.offset_allocator.proofs.{Linking.Exchange.relinked_spare, Linking.Nodes.length-put, Linking.Nodes.spare-put, Linking.Places.at_place, Linking.Places.end_fits, Linking.Places.previous_below}
+use Rattle.offset_allocator.proofs.{Linking.Writes.split_before_place, Linking.Names.top_taken}
 use Rattle.offset_allocator.proofs.chain.split_before.Goals as goal
 
 pub set_block-requires-clause-name : goal.set_block-requires-clause-name

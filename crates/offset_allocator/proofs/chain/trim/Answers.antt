@@ -1,6 +1,4 @@
-use Rattle.offset_allocator.proofs.Common.{ap, Cells}
-use Rattle.offset_allocator.proofs.{Writes.trim_place}
-use Rattle.offset_allocator.proofs.{Common.refl, Nodes.spare-put}
+use Rattle.offset_allocator.proofs.{Common.ap, Common.Cells, Common.refl, Linking.Writes.trim_place, Linking.Nodes.spare-put}
 use Rattle.offset_allocator.proofs.chain.trim.Goals as goal
 
 pub returns-clause-place : goal.returns-clause-place

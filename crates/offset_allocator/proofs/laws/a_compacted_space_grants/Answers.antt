@@ -1,4 +1,4 @@
-use Rattle.offset_allocator.proofs.Packed.{compacted_grants}
+use Rattle.offset_allocator.proofs.Moving.Packed.{compacted_grants}
 use Rattle.offset_allocator.proofs.laws.a_compacted_space_grants.Goals as goal
 
 pub returns : goal.returns

@@ -1,8 +1,5 @@
-use Rattle.offset_allocator.proofs.Common.{◌∙◌, ap, arith, subst, sym, View}
-use Rattle.offset_allocator.proofs.{Bytes.same_bytes, Sound.fields_of, Sound.names_sound}
-use Rattle.offset_allocator.specs.View.{AreNames}
-use Rattle.offset_allocator.proofs.Restored.{one_view}
-use Rattle.offset_allocator.specs.State.{words_in}
+use Rattle.offset_allocator.proofs.{Common.◌∙◌, Common.ap, Common.arith, Common.subst, Common.sym, Common.View, Saving.Bytes.same_bytes, Sound.fields_of, Sound.names_sound, Saving.Restored.one_view}
+use Rattle.offset_allocator.specs.{View.AreNames, Saving.State.words_in}
 use Rattle.offset_allocator.proofs.laws.a_state_is_read_back.Goals as goal
 
 pub returns-clause-one : goal.returns-clause-one

@@ -1,4 +1,4 @@
-use Rattle.offset_allocator.proofs.{Common.arith, Packed.safe}
+use Rattle.offset_allocator.proofs.{Common.arith, Moving.Packed.safe}
 use Rattle.offset_allocator.proofs.laws.moves_are_safe.Goals as goal
 
 pub returns : goal.returns

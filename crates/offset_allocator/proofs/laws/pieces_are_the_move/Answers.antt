@@ -1,5 +1,5 @@
 use Rattle.std.specs.Prelude.{min, ◌-◌}
-use Rattle.offset_allocator.proofs.{Common.arith, InPieces.together, InPieces.apart}
+use Rattle.offset_allocator.proofs.{Common.arith, Moving.InPieces.together, Moving.InPieces.apart}
 use Rattle.offset_allocator.proofs.laws.pieces_are_the_move.Goals as goal
 
 pub returns-clause-together : goal.returns-clause-together

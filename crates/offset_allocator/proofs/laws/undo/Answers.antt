@@ -1,4 +1,4 @@
-use Rattle.offset_allocator.proofs.ViewUndo.{is_undone}
+use Rattle.offset_allocator.proofs.Views.ViewUndo.{is_undone}
 use Rattle.offset_allocator.proofs.laws.undo.Goals as goal
 
 pub returns-in-Some-clause-undone : goal.returns-in-Some-clause-undone

@@ -1,7 +1,7 @@
 use Rattle.offset_allocator.proofs.Common.{ap₂, ◌++◌, ℕ, List, append-nil, append_assoc, free_end, free_start, ◌≡◌, ◌+◌, refl, sym, ap, arith, ◌∙◌, Node, node, push}
-use Rattle.offset_allocator.proofs.Places.{at_place, next_place, previous_place, kept_before, kept_after, kept_place, free_before, free_after, before_fits, after_fits}
-use Rattle.offset_allocator.proofs.{Classes.down_small, Filed.unlisted, Filed.previous_filed, Filed.next_filed, Filed.filed_before, Filed.next_same}
-use Rattle.offset_allocator.proofs.Names.{kept_unused, name_after, name_before, names-append}
+use Rattle.offset_allocator.proofs.Linking.Places.{at_place, next_place, previous_place, kept_before, kept_after, kept_place, free_before, free_after, before_fits, after_fits}
+use Rattle.offset_allocator.proofs.{Classes.down_small, Filing.Filed.unlisted, Filing.Filed.previous_filed, Filing.Filed.next_filed, Filing.Filed.filed_before, Filing.Filed.next_same}
+use Rattle.offset_allocator.proofs.Linking.Names.{kept_unused, name_after, name_before, names-append}
 use Rattle.offset_allocator.specs.{Names.names_of, Store.unused_of}
 use Rattle.offset_allocator.proofs.neighbours.coalesce.Goals as goal
 use Rattle.offset_allocator.proofs.neighbours.coalesce.Goals.{in-Some, in_default+in-Some-free_before}

@@ -1,7 +1,8 @@
-use Rattle.offset_allocator.proofs.Common.{◌≡◌, ◌∙◌, ◌+◌, ◌-◌, ℕ, inl, inr, length, length-append, ◌++◌, ◌∷◌, take, used_block, List, refl, ap, arith, eq-zero-or-pos, sym, Node, Block, free_part, push_all, IsBinned, IsUnlisted, bins_in}
-use Rattle.offset_allocator.proofs.{Pieces.padded_unlisted, Pieces.pushed_parts, Pieces.unlisted_part, Places.at_place, Tallies.part_sums, Tallies.units-append}
-use Rattle.offset_allocator.proofs.Names.{more_taken, names-append, names-length, part_length}
-use Rattle.offset_allocator.specs.Names.{AreTaken, names_of}
+use Rattle.offset_allocator.proofs.Common.{◌≡◌, ◌∙◌, ◌+◌, ◌-◌, ℕ, inl, inr, length, length-append, ◌++◌, ◌∷◌, take, used_block, List, refl, ap, arith, eq-zero-or-pos, sym, Node, Block, free_part}
+use Rattle.offset_allocator.proofs.Common.{push_all, IsBinned, IsUnlisted, bins_in}
+use Rattle.offset_allocator.proofs.{Linking.Parts.padded_unlisted, Linking.Parts.pushed_parts, Linking.Parts.unlisted_part, Linking.Places.at_place, Tallies.part_sums, Tallies.units-append}
+use Rattle.offset_allocator.proofs.Linking.Names.{more_taken, names-append, names-length, part_length}
+use Rattle.offset_allocator.specs.Names.{names_of}
 use Rattle.offset_allocator.proofs.neighbours.divide.Goals as goal
 use Rattle.offset_allocator.proofs.neighbours.divide.{Goals.After-set_used, Given.Over}
 

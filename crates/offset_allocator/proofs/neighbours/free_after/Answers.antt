@@ -1,4 +1,4 @@
-use Rattle.offset_allocator.proofs.{Common.sym, Places.next_place, Places.used_after, Places.none_after}
+use Rattle.offset_allocator.proofs.{Common.sym, Linking.Places.next_place, Linking.Places.used_after, Linking.Places.none_after}
 use Rattle.offset_allocator.proofs.neighbours.free_after.Goals as goal
 
 pub is_used-requires : goal.is_used-requires

@@ -1,4 +1,4 @@
-use Rattle.offset_allocator.proofs.{Common.sym, Places.previous_place, Places.used_before, Places.none_before}
+use Rattle.offset_allocator.proofs.{Common.sym, Linking.Places.previous_place, Linking.Places.used_before, Linking.Places.none_before}
 use Rattle.offset_allocator.proofs.neighbours.free_before.Goals as goal
 
 pub is_used-requires : goal.is_used-requires

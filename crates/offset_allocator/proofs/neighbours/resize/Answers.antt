@@ -1,5 +1,5 @@
-use Rattle.offset_allocator.proofs.Common.{inl, inr, List, [], ◌∷◌, ◌++◌, length, length-append, without_start, Block, ◌≡◌, ◌∙◌, ℕ, ◌+◌, ◌-◌, ◌<◌, ap, arith, Node, Place, units, free_start, HasPlace}
-use Rattle.offset_allocator.proofs.{Filed.unlisted_after, Names.none_in, Names.part_taken, Places.at_place, ViewApart.start_parts}
+use Rattle.offset_allocator.proofs.Common.{inl, inr, ◌∷◌, ◌++◌, length, length-append, without_start, Block, ◌≡◌, ◌∙◌, ℕ, ◌+◌, ◌-◌, ◌<◌, ap, arith, Node, Place, units, free_start, HasPlace}
+use Rattle.offset_allocator.proofs.{Filing.Filed.unlisted_after, Linking.Names.none_in, Linking.Names.part_taken, Linking.Places.at_place, Views.ViewApart.start_parts}
 use Rattle.offset_allocator.proofs.neighbours.resize.Goals as goal
 use Rattle.offset_allocator.proofs.neighbours.resize.{Goals.After-with_after-whole, Given.Over}
 

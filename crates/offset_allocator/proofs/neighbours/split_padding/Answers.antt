@@ -1,6 +1,5 @@
-use Rattle.offset_allocator.proofs.Common.{arith, refl}
-use Rattle.offset_allocator.proofs.{Pieces.no_padding, Pieces.some_part, Places.previous_idle, Classes.down_small}
-use Rattle.offset_allocator.proofs.Names.{kept_unused, next_taken, none_taken, one_taken, ready_place}
+use Rattle.offset_allocator.proofs.{Common.arith, Common.refl, Linking.Parts.no_padding, Linking.Parts.some_part, Linking.Places.previous_idle, Classes.down_small}
+use Rattle.offset_allocator.proofs.Linking.Names.{kept_unused, next_taken, none_taken, one_taken, ready_place}
 use Rattle.offset_allocator.proofs.neighbours.split_padding.Goals as goal
 
 pub returns-then-units-eq0-clause-place : goal.returns-then-units-eq0-clause-place

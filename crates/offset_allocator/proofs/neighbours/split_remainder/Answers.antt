@@ -1,6 +1,6 @@
-use Rattle.offset_allocator.proofs.Common.{◌≡◌, ◌-◌, ap, arith, refl, Node}
-use Rattle.offset_allocator.proofs.{Pieces.no_remainder, Pieces.some_part, Places.at_place, Places.end_fits, Places.next_idle, Classes.down_small}
-use Rattle.offset_allocator.proofs.Names.{kept_unused, next_taken, none_taken, one_taken, ready_place}
+use Rattle.offset_allocator.proofs.{Common.◌≡◌, Common.◌-◌, Common.ap, Common.arith, Common.refl, Common.Node, Linking.Parts.no_remainder, Linking.Parts.some_part, Linking.Places.at_place}
+use Rattle.offset_allocator.proofs.{Linking.Places.end_fits, Linking.Places.next_idle, Classes.down_small, Linking.Names.kept_unused, Linking.Names.next_taken, Linking.Names.none_taken}
+use Rattle.offset_allocator.proofs.{Linking.Names.one_taken, Linking.Names.ready_place}
 use Rattle.offset_allocator.proofs.neighbours.split_remainder.Goals as goal
 
 pub returns-then-left-eq0-clause-place : goal.returns-then-left-eq0-clause-place

@@ -1,6 +1,6 @@
-use Rattle.offset_allocator.proofs.Common.{refl, sym, ap₂, ◌∙◌, ◌++◌, ℕ, List, append-nil, ap, arith, Node}
-use Rattle.offset_allocator.proofs.{Places.at_place, Places.next_place, Places.kept_after, Places.free_after, Places.after_fits, Places.kept_place, Filed.next_filed}
-use Rattle.offset_allocator.proofs.Names.{kept_unused, name_after}
+use Rattle.offset_allocator.proofs.{Common.refl, Common.sym, Common.ap₂, Common.◌∙◌, Common.◌++◌, Common.ℕ, Common.List, Common.append-nil, Common.ap, Common.arith, Common.Node}
+use Rattle.offset_allocator.proofs.{Linking.Places.at_place, Linking.Places.next_place, Linking.Places.kept_after, Linking.Places.free_after, Linking.Places.after_fits, Linking.Places.kept_place}
+use Rattle.offset_allocator.proofs.{Filing.Filed.next_filed, Linking.Names.kept_unused, Linking.Names.name_after}
 use Rattle.offset_allocator.proofs.neighbours.with_after.Goals as goal
 
 pub returns-in-None-clause-place : goal.returns-in-None-clause-place

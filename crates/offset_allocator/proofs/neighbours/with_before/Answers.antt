@@ -1,6 +1,6 @@
-use Rattle.offset_allocator.proofs.Common.{refl, sym, ap₂, ◌∙◌, ◌++◌, ℕ, List, append-nil, ap, arith, Node}
-use Rattle.offset_allocator.proofs.{Places.at_place, Places.previous_place, Places.kept_before, Places.free_before, Places.before_fits, Places.kept_place, Filed.previous_filed}
-use Rattle.offset_allocator.proofs.Names.{kept_unused, name_before}
+use Rattle.offset_allocator.proofs.{Common.refl, Common.sym, Common.ap₂, Common.◌∙◌, Common.◌++◌, Common.ℕ, Common.List, Common.append-nil, Common.ap, Common.arith, Common.Node}
+use Rattle.offset_allocator.proofs.{Linking.Places.at_place, Linking.Places.previous_place, Linking.Places.kept_before, Linking.Places.free_before, Linking.Places.before_fits}
+use Rattle.offset_allocator.proofs.{Linking.Places.kept_place, Filing.Filed.previous_filed, Linking.Names.kept_unused, Linking.Names.name_before}
 use Rattle.offset_allocator.proofs.neighbours.with_before.Goals as goal
 
 pub size-more-requires : goal.size-more-requires

@@ -1,6 +1,6 @@
 use Rattle.offset_allocator.proofs.Common.{◌≡◌, ℕ, suc, inl, inr, List, ◌+◌, ◌*◌, ◌%◌, ◌^◌, ◌<◌, ◌≤◌, length, sum, slice_index, slice_index_or, slice_set, bin_at, bins_in, cases_eq, length-set}
 use Rattle.offset_allocator.proofs.Common.{get_or-set_same, get_or-set_other, subst, ap, ◌∙◌, arith, value, count_of, View, free_sizes}
-use Rattle.offset_allocator.proofs.{Sound.shown, Sound.fields_of, Counting.length_names, Counting.accesses_most, Counting.names_below}
+use Rattle.offset_allocator.proofs.{Sound.shown, Sound.fields_of, Reporting.Counting.length_names, Reporting.Counting.accesses_most, Reporting.Counting.names_below}
 use Rattle.offset_allocator.specs.declared.reports.StorageReportFullRegion.{StorageReportFullRegion}
 use Rattle.offset_allocator.proofs.reports.storage_report_full_counted.Goals as goal
 

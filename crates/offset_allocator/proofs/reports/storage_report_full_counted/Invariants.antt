@@ -1,5 +1,5 @@
 use Rattle.offset_allocator.proofs.Common.{◌≡◌, ℕ, ◌+◌, ◌*◌, ◌%◌, ◌^◌, ◌<◌, ◌≤◌, length, slice_index_or, value, bin_at, bins_in}
-use Rattle.offset_allocator.proofs.Counting.{names_below}
+use Rattle.offset_allocator.proofs.Reporting.Counting.{names_below}
 use Rattle.offset_allocator.specs.declared.reports.StorageReportFullRegion.{StorageReportFullRegion}
 use Rattle.offset_allocator.proofs.reports.storage_report_full_counted.Given as goal
 

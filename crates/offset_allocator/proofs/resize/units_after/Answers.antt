@@ -1,4 +1,4 @@
-use Rattle.offset_allocator.proofs.{Common.sym, Common.ap, Common.◌∙◌, Common.units, Places.next_place, Places.free_after}
+use Rattle.offset_allocator.proofs.{Common.sym, Common.ap, Common.◌∙◌, Common.units, Linking.Places.next_place, Linking.Places.free_after}
 use Rattle.offset_allocator.proofs.resize.units_after.Goals as goal
 
 pub size-requires : goal.size-requires

@@ -1,5 +1,5 @@
-use Rattle.offset_allocator.proofs.Common.{◌≡◌, arith, common_steps}
-use Rattle.offset_allocator.proofs.Readied.{has_memory, made_name, not_made, not_readied, readied_first}
+use Rattle.offset_allocator.proofs.{Common.◌≡◌, Common.arith, Common.common_steps, Linking.Readied.has_memory, Linking.Readied.made_name, Linking.Readied.not_made, Linking.Readied.not_readied}
+use Rattle.offset_allocator.proofs.{Linking.Readied.readied_first}
 use Rattle.offset_allocator.proofs.store.ensure_spare.Goals as goal
 
 pub add-requires : goal.add-requires

@@ -25,31 +25,27 @@ returns-in-None-clause-first g c =
     let long = c.requires.binned.linked.lists_len in
     sym (i.rest ∙ ap (find P) (listed_none ls c.loop-class.class long i.within c.in-None.ensures.smallest))
 
-pub returns-then-is_some-clause-first : goal.returns-then-is_some-clause-first
-returns-then-is_some-clause-first g c =
+pub returns-then-is_some : goal.returns-then-is_some
+returns-then-is_some g c =
     let t = g.T.Tables.cells c.args.tables.now in
     let ls = bins_in g.T.Index.NodeIndex.MAX t.bins in
     let P : ℕ → Bool = holds_in t.chain c.args.size c.args.align in
     let i = c.loop-class.invariant in
     let long = c.requires.binned.linked.lists_len in
     let parts = listed_parts ls c.loop-class.class c.in-Some.filled long c.in-Some.ensures.smallest in
-    find_some_here P (bin_at ls c.in-Some.filled) (listed_from (c.in-Some.filled + 1) ls) c.first_of_bin-first.result (sym c.is_some.ensures ∙ c.if-is_some.true) c.first_of_bin-first.ensures.first
-    ∙ sym (i.rest ∙ ap (find P) parts)
-
-pub returns-then-is_some-clause-accesses : goal.returns-then-is_some-clause-accesses
-returns-then-is_some-clause-accesses g c =
-    let t = g.T.Tables.cells c.args.tables.now in
-    let ls = bins_in g.T.Index.NodeIndex.MAX t.bins in
-    let P : ℕ → Bool = holds_in t.chain c.args.size c.args.align in
-    let i = c.loop-class.invariant in
-    let long = c.requires.binned.linked.lists_len in
-    let parts = listed_parts ls c.loop-class.class c.in-Some.filled long c.in-Some.ensures.smallest in
-    let some = some_names (bin_at ls c.in-Some.filled) c.in-Some.ensures.smallest.2 in
-    let lengths = ap (λ (l : List ℕ). length l) parts ∙ length-append (bin_at ls c.in-Some.filled) (listed_from (c.in-Some.filled + 1) ls) in (
-      omega (arith, i.least, c.in-Some.ensures.accesses, c.first_of_bin-first.ensures.accesses),
-      omega
-          (arith, i.accesses, c.in-Some.ensures.accesses, c.first_of_bin-first.ensures.accesses, some, lengths),
-    )
+    record {
+      first =
+          find_some_here P (bin_at ls c.in-Some.filled) (listed_from (c.in-Some.filled + 1) ls)
+          c.first_of_bin-first.result (sym c.is_some.ensures ∙ c.if-is_some.true) c.first_of_bin-first.ensures.first
+          ∙ sym (i.rest ∙ ap (find P) parts);
+      accesses =
+          let some = some_names (bin_at ls c.in-Some.filled) c.in-Some.ensures.smallest.2 in
+          let lengths = ap (λ (l : List ℕ). length l) parts ∙ length-append (bin_at ls c.in-Some.filled) (listed_from (c.in-Some.filled + 1) ls) in (
+            omega (arith, i.least, c.in-Some.ensures.accesses, c.first_of_bin-first.ensures.accesses),
+            omega
+                (arith, i.accesses, c.in-Some.ensures.accesses, c.first_of_bin-first.ensures.accesses, some, lengths),
+          );
+    }
 
 pub loop-class-preserved : goal.loop-class-preserved
 loop-class-preserved g c =

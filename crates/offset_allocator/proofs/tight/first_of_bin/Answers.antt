@@ -1,5 +1,5 @@
 use Rattle.offset_allocator.proofs.Common.{ℕ, Bool, ap, arith, sym, ◌∙◌, ◌++◌, ◌∷◌, [], length-append}
-use Rattle.offset_allocator.proofs.{Largest.walk_at, Largest.walk_ends, Largest.walk_next, Holding.find_past, Holding.find_first, Holding.find_later}
+use Rattle.offset_allocator.proofs.{Reporting.Largest.walk_at, Reporting.Largest.walk_ends, Reporting.Largest.walk_next, Holding.find_past, Holding.find_first, Holding.find_later}
 use Rattle.offset_allocator.specs.Tight.{holds_in}
 use Rattle.std.specs.List.{find}
 use Rattle.offset_allocator.proofs.tight.first_of_bin.Goals as goal

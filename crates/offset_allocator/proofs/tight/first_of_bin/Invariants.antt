@@ -1,5 +1,4 @@
-use Rattle.offset_allocator.proofs.Common.{◌≡◌, ℕ, List, None, ◌+◌, ◌-◌, ◌*◌, length, bin_at, bins_in}
-use Rattle.offset_allocator.proofs.Largest.{IsWalked}
+use Rattle.offset_allocator.proofs.{Common.◌≡◌, Common.ℕ, Common.List, Common.None, Common.◌+◌, Common.◌-◌, Common.◌*◌, Common.length, Common.bin_at, Common.bins_in, Reporting.Largest.IsWalked}
 use Rattle.offset_allocator.specs.Tight.{holds_in}
 use Rattle.std.specs.List.{find}
 use Rattle.offset_allocator.proofs.tight.first_of_bin.Given as goal

@@ -1,6 +1,5 @@
-use Rattle.offset_calls.proofs.Common.{refl}
+use Rattle.offset_calls.proofs.{Common.refl, Tickets.stored}
 use Rattle.offset_script.proofs.Simulation.{if_ok}
-use Rattle.offset_calls.proofs.Tickets.{stored}
 use Rattle.offset_calls.proofs.desk.allocate.Goals as goal
 
 pub returns : goal.returns

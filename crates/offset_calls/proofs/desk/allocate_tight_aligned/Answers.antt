@@ -1,5 +1,4 @@
-use Rattle.offset_calls.proofs.Common.{refl}
-use Rattle.offset_calls.proofs.Tickets.{stored}
+use Rattle.offset_calls.proofs.{Common.refl, Tickets.stored}
 use Rattle.offset_calls.proofs.desk.allocate_tight_aligned.Goals as goal
 
 pub returns : goal.returns

@@ -1,5 +1,4 @@
-use Rattle.offset_calls.proofs.Common.{Bool, sym, ap, if◌then◌else◌}
-use Rattle.offset_calls.proofs.Tickets.{extended}
+use Rattle.offset_calls.proofs.{Common.Bool, Common.sym, Common.ap, Common.if◌then◌else◌, Tickets.extended}
 use Rattle.offset_script.specs.Machine as machine
 use Rattle.offset_calls.proofs.desk.extend.Goals as goal
 

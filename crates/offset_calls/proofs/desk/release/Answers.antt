@@ -1,5 +1,4 @@
-use Rattle.offset_calls.proofs.Common.{ap, ◌∙◌, live_name}
-use Rattle.offset_calls.proofs.Tickets.{freed}
+use Rattle.offset_calls.proofs.{Common.ap, Common.◌∙◌, Common.live_name, Tickets.freed}
 use Rattle.offset_calls.proofs.desk.release.Goals as goal
 
 pub returns-then-free : goal.returns-then-free

@@ -1,25 +1,23 @@
-use Rattle.offset_calls.proofs.Tickets.{refusal_serves, refusal_aligned_serves, refusal_tight_serves, refusal_tight_aligned_serves}
-use Rattle.offset_calls.proofs.Slid.{room_cost_serves}
+use Rattle.offset_calls.proofs.{Common.refl, Tickets.question_serves}
+use Rattle.offset_calls.specs.declared.calls.Call.TheVariants as call
 use Rattle.offset_calls.proofs.desk.reply.Goals as goal
 
 pub returns-in-Refusal : goal.returns-in-Refusal
-returns-in-Refusal g c k is_number = refusal_serves _ _ c.args.call k c.in-Refusal.size _ _ c.requires.ledger c.in-Refusal.is c.allocator.ensures (c.refusal.ensures.granted, c.refusal.ensures.why)
+returns-in-Refusal g c k is_number = question_serves (call.Refusal c.in-Refusal.size) _ _ _ k _ _ c.requires.ledger c.in-Refusal.is refl c.allocator.ensures
+    (λ hs. ((refl, refl), (_, (c.refusal.ensures.granted, c.refusal.ensures.why), refl)))
 
 pub returns-in-RefusalAligned : goal.returns-in-RefusalAligned
-returns-in-RefusalAligned g c k is_number =
-    refusal_aligned_serves _ _ c.args.call k c.in-RefusalAligned.size c.in-RefusalAligned.align _ _ c.requires.ledger c.in-RefusalAligned.is c.allocator-in-RefusalAligned.ensures
-    (c.refusal_aligned.ensures.granted, c.refusal_aligned.ensures.why)
+returns-in-RefusalAligned g c k is_number = question_serves (call.RefusalAligned c.in-RefusalAligned.size c.in-RefusalAligned.align) _ _ _ k _ _ c.requires.ledger c.in-RefusalAligned.is refl
+    c.allocator-in-RefusalAligned.ensures (λ hs. ((refl, refl), (_, (c.refusal_aligned.ensures.granted, c.refusal_aligned.ensures.why), refl)))
 
 pub returns-in-RefusalTight : goal.returns-in-RefusalTight
-returns-in-RefusalTight g c k is_number =
-    refusal_tight_serves _ _ c.args.call k c.in-RefusalTight.size _ _ c.requires.ledger c.in-RefusalTight.is c.allocator-in-RefusalTight.ensures
-    (c.refusal_tight.ensures.granted, c.refusal_tight.ensures.why)
+returns-in-RefusalTight g c k is_number = question_serves (call.RefusalTight c.in-RefusalTight.size) _ _ _ k _ _ c.requires.ledger c.in-RefusalTight.is refl c.allocator-in-RefusalTight.ensures
+    (λ hs. ((refl, refl), (_, (c.refusal_tight.ensures.granted, c.refusal_tight.ensures.why), refl)))
 
 pub returns-in-RefusalTightAligned : goal.returns-in-RefusalTightAligned
-returns-in-RefusalTightAligned g c k is_number =
-    refusal_tight_aligned_serves _ _ c.args.call k c.in-RefusalTightAligned.size c.in-RefusalTightAligned.align _ _ c.requires.ledger c.in-RefusalTightAligned.is
-    c.allocator-in-RefusalTightAligned.ensures (c.refusal_tight_aligned.ensures.granted, c.refusal_tight_aligned.ensures.why)
+returns-in-RefusalTightAligned g c k is_number = question_serves (call.RefusalTightAligned c.in-RefusalTightAligned.size c.in-RefusalTightAligned.align) _ _ _ k _ _ c.requires.ledger
+    c.in-RefusalTightAligned.is refl c.allocator-in-RefusalTightAligned.ensures (λ hs. ((refl, refl), (_, (c.refusal_tight_aligned.ensures.granted, c.refusal_tight_aligned.ensures.why), refl)))
 
 pub returns-in-RoomCost : goal.returns-in-RoomCost
-returns-in-RoomCost g c k is_number =
-    room_cost_serves _ _ c.args.call k c.in-RoomCost.size _ _ c.requires.ledger c.in-RoomCost.is c.allocator-in-RoomCost.ensures c.room_cost.ensures.cost
+returns-in-RoomCost g c k is_number = question_serves (call.RoomCost c.in-RoomCost.size) _ _ _ k _ _ c.requires.ledger c.in-RoomCost.is refl c.allocator-in-RoomCost.ensures
+    (λ hs. ((refl, refl), (_, c.room_cost.ensures.cost, refl)))

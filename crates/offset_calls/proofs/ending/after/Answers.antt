@@ -1,6 +1,5 @@
-use Rattle.offset_calls.proofs.Common.{sym, subst}
+use Rattle.offset_calls.proofs.{Common.sym, Common.subst, Beside.after_kept}
 use Rattle.offset_calls.specs.Steps.{IsKeptSome}
-use Rattle.offset_calls.proofs.Beside.{after_kept}
 use Rattle.offset_calls.proofs.ending.after.Goals as goal
 
 pub find-requires-clause-kept : goal.find-requires-clause-kept

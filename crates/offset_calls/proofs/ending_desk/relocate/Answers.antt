@@ -1,5 +1,4 @@
-use Rattle.offset_calls.proofs.Common.{ap, ◌∙◌, live_name}
-use Rattle.offset_calls.proofs.EndServed.{relocate_serves}
+use Rattle.offset_calls.proofs.{Common.ap, Common.◌∙◌, Common.live_name, EndServed.relocate_serves}
 use Rattle.offset_calls.proofs.ending_desk.relocate.Goals as goal
 
 pub returns : goal.returns

@@ -1,7 +1,12 @@
-use Rattle.offset_calls.proofs.Common.{option_map, refl, sym, ap, ◌∙◌, Handle}
+use Rattle.offset_calls.proofs.Common.{◌≡◌, ℕ, Option, Some, option_map, unwrap_or, false≢true, arith, refl, sym, ap, ◌∙◌, Handle, Range, View}
+use Rattle.offset_allocator.specs.{Ranges.IsLive, Ranges.range_of}
 use Rattle.offset_script.proofs.Simulation.{if_some}
-use Rattle.offset_calls.proofs.Numbering.{offset_is}
 use Rattle.offset_calls.proofs.playing.offset.Goals as goal
+
+-- where a live name begins
+offset_is : (x o : ℕ) (v : View) (r : Option ℕ) → IsLive x v → r ≡ option_map (λ (q : Range). q.offset) (range_of x v) → o ≡ unwrap_or r 0
+    → option_map (λ (q : Range). q.offset) (range_of x v) ≡ Some o
+offset_is x o v r l e f = search (arith, option_map, false≢true, unwrap_or)
 
 pub returns-in-Some : goal.returns-in-Some
 returns-in-Some g c =

@@ -1,16 +1,12 @@
-use Rattle.offset_calls.proofs.Common.{◌≡◌, ◌+◌, ◌<◌, ◌≤◌, ℕ, List, [], ◌∷◌, ◌++◌, map, take, drop, length, get_or, refl, sym, ap, subst, ◌∙◌, arith, IsTrue, add-one, append-nil, append_assoc}
-use Rattle.offset_calls.proofs.Common.{drop-cons, map-append, take_more, take_all, drop_all, State, start, Call, Reply, after, is_valid, replies, reply_view, step, Takes}
+use Rattle.offset_calls.proofs.Common.{◌≡◌, ◌+◌, ◌<◌, ◌≤◌, ℕ, List, [], ◌∷◌, ◌++◌, map, take, drop, length, get_or, sym, ap, subst, ◌∙◌, arith, IsTrue, add-one, append-nil, append_assoc}
+use Rattle.offset_calls.proofs.Common.{drop-cons, map-append, take_more, take_all, drop_all, State, start, Call, Reply, after, is_valid, replies, reply_view, step, Takes, IsWellFormed}
 use Rattle.std.proofs.lemmas.List.Elements.{All-get_or}
-use Rattle.offset_script.proofs.{Agreement.IsAtState, Simulation.all_live, Simulation.fresh_represents, Simulation.steps_begin, Simulation.steps_go_on, Simulation.steps_end, Well.well_start}
-use Rattle.offset_calls.proofs.{Kept.next_call, Kept.numbers_begin, Kept.numbers_next, Followed.follows, Followed.well_calls, Compacted.all_kept}
+use Rattle.offset_script.proofs.{Agreement.IsAtState, Simulation.fresh_represents, Simulation.steps_begin, Simulation.steps_go_on, Simulation.steps_end, Well.well_start}
+use Rattle.offset_calls.proofs.{Along.after-append, Followed.follows, Followed.well_calls}
 use Rattle.offset_calls.specs.declared.calls.Reply as program
 use Rattle.offset_calls.proofs.playing.play_calls_of.Goals as goal
 
 -- A loop over calls: one more call, and one more reply.
-
-after-append : (xs ys : List Call) (s : State) → after (xs ++ ys) s ≡ after ys (after xs s)
-after-append [] ys s = refl
-after-append (c ∷ xs) ys s = after-append xs ys (step c s).state
 
 -- the state after one more call
 after_more : (cs : List Call) (s : State) (i : ℕ) (d : Call) → i < length cs → after (take (i + 1) cs) s ≡ (step (get_or cs i d) (after (take i cs) s)).state
@@ -27,19 +23,8 @@ replies_all : (cs : List Call) (s : State) (i : ℕ) (found : List program.Reply
     → map reply_view found ≡ all
 replies_all cs s i found all h so_far = sym (append-nil (map reply_view found)) ∙ ap (λ l. map reply_view found ++ l) (sym (ap (λ l. replies l (after (take i cs) s)) (drop_all i cs h))) ∙ so_far
 
-pub reply-requires-clause-held : goal.reply-requires-clause-held
-reply-requires-clause-held g c = record {
-  live = all_live _ _ _ (well_calls (take c.loop-call.call-index c.args.calls.now) _ (well_start c.args.size c.args.max_allocs c.requires.low)) c.loop-call.invariant.represents;
-  apart = c.loop-call.invariant.numbers.apart;
-}
-
-pub reply-requires-clause-kept : goal.reply-requires-clause-kept
-reply-requires-clause-kept g c =
-    let r = c.loop-call.invariant.represents in
-    all_kept _ _ _ r.formed (well_calls (take c.loop-call.call-index c.args.calls.now) _ (well_start c.args.size c.args.max_allocs c.requires.low)) r.agrees
-
 pub loop-call-init : goal.loop-call-init
-loop-call-init g c = search (arith, fresh_represents, steps_begin, map, numbers_begin)
+loop-call-init g c = search (arith, fresh_represents, steps_begin, map)
 
 pub loop-call-preserved : goal.loop-call-preserved
 loop-call-preserved g c =
@@ -50,13 +35,11 @@ loop-call-preserved g c =
     let within : i < length cs = omega arith in
     let valid = All-get_or (λ c. IsTrue (is_valid c)) cs i _ within c.requires.valid in
     let well = well_calls (take i cs) s (well_start c.args.size c.args.max_allocs c.requires.low) in
-    let live = all_live _ _ _ well c.loop-call.invariant.represents in
-    let next = follows _ _ _ _ _ state c.is_well_formed-in-loop-call.ensures well c.loop-call.invariant.represents _ valid c.in_ok-reply.ensures.takes in
+    let formed = subst IsWellFormed c.space-in-loop-call.ensures c.is_well_formed-in-loop-call.ensures in
+    let next = follows _ _ _ _ _ state formed well c.loop-call.invariant.represents _ valid c.in_ok-reply.ensures.takes in
     record {
-      numbers = numbers_next c.loop-call.player.handles.items _ _ _
-          (next_call _ _ _ _ c.loop-call.invariant.represents.formed c.is_well_formed-in-loop-call.ensures live _ _ valid c.in_ok-reply.ensures.takes) c.in_ok-reply.ensures.numbers;
-      represents = subst (IsAtState c.reply.new.player.space c.reply.new.player.handles.items) (sym (after_more cs s i _ within)) next.1;
-      steps = steps_go_on Takes _ _ _ _ _ _ _ _ _ _ _ _ c.loop-call.invariant.steps c.in_ok-reply.ensures.takes c.is_well_formed-in-loop-call.ensures (take_more cs i _ within)
+      represents = subst (IsAtState c.take.new.self.space c.take.new.self.handles) (sym (after_more cs s i _ within)) next.1;
+      steps = steps_go_on Takes _ _ _ _ _ _ _ _ _ _ _ _ c.loop-call.invariant.steps c.in_ok-reply.ensures.takes formed (take_more cs i _ within)
           (ap (map reply_view) c.in_ok-push.ensures.items ∙ map-append reply_view c.loop-call.found.items _);
       so_far = replies_more cs s i _ c.loop-call.found.items _ c.in_ok-reply.reply (replies cs s) within c.in_ok-push.ensures.items next.0 c.loop-call.invariant.so_far;
     }

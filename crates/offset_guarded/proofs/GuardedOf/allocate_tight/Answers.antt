@@ -1,6 +1,5 @@
 use Rattle.std.proofs.Common.{Some, ap, refl, subst, sym}
-use Rattle.offset_allocator.specs.Tight.{AlignsTight}
-use Rattle.offset_allocator.specs.View.{Handle}
+use Rattle.offset_allocator.specs.{Tight.AlignsTight, View.Handle}
 use Rattle.offset_guarded.specs.Guard.{Guard, handle_in}
 use Rattle.offset_guarded.proofs.Guards.{can_hold, granted_as, issued, same_limit_tight}
 use Rattle.offset_guarded.proofs.GuardedOf.allocate_tight.Goals as goal

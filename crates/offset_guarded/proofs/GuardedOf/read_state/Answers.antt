@@ -1,17 +1,12 @@
 use Rattle.std.proofs.Common.{◌≡◌, ◌∙◌, ◌+◌, ◌*◌, ◌≤◌, ap, refl, sym, subst, arith, drop, length, List, ℕ}
 use Rattle.std.proofs.lemmas.List.{length-drop}
 use Rattle.offset_allocator.specs.Ranges as named
-use Rattle.offset_allocator.specs.State as allocator
+use Rattle.offset_allocator.specs.Saving.State as allocator
 use Rattle.offset_allocator.specs.View.{View}
-use Rattle.offset_guarded.specs.Guard.{Guard, cell}
-use Rattle.offset_guarded.specs.State.{number_at, numbers}
-use Rattle.offset_guarded.specs.StateFaults.{IsFaultOf, IsSerialFault}
-use Rattle.offset_allocator.proofs.FaultPlaces.{fault_within}
-use Rattle.offset_allocator.specs.StateFaults as faults
-use Rattle.offset_guarded.proofs.Headed.{headed}
-use Rattle.offset_guarded.proofs.Guards.{guard}
-use Rattle.offset_guarded.proofs.Numbers.{length-numbers, numbers_sliced, rest_of}
-use Rattle.offset_guarded.proofs.States.{parts, serials_of, tickets_read}
+use Rattle.offset_guarded.specs.{Guard.Guard, Guard.cell, Numbers.number_at, Numbers.numbers, StateFaults.IsFaultOf, StateFaults.IsSerialFault}
+use Rattle.offset_allocator.proofs.Saving.FaultPlaces.{fault_within}
+use Rattle.offset_allocator.specs.Saving.StateFaults as faults
+use Rattle.offset_guarded.proofs.{Headed.headed, Guards.guard, Bytes.length-numbers, Bytes.numbers_sliced, Bytes.rest_of, States.parts, States.serials_of, States.tickets_read}
 use Rattle.offset_guarded.proofs.GuardedOf.read_state.Goals as goal
 
 pub returns-in-Err-2-clause-refused : goal.returns-in-Err-2-clause-refused

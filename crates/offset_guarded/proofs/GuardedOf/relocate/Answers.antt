@@ -1,5 +1,5 @@
 use Rattle.std.proofs.Common.{ℕ, None, subst}
-use Rattle.offset_allocator.specs.Relocating.{Relocates}
+use Rattle.offset_allocator.specs.Moving.Relocating.{Relocates}
 use Rattle.offset_guarded.specs.Guard.{Guard}
 use Rattle.offset_guarded.proofs.GuardedOf.relocate.Goals as goal
 

@@ -1,8 +1,6 @@
 use Rattle.std.proofs.Common.{ap, subst, arith}
-use Rattle.offset_guarded.specs.Guard.{Guard}
-use Rattle.offset_guarded.proofs.Guards.{formed}
-use Rattle.offset_guarded.proofs.States.{one_guard, one_text}
-use Rattle.offset_guarded.specs.State.{IsWellFormed}
+use Rattle.offset_guarded.specs.{Guard.Guard, State.IsWellFormed}
+use Rattle.offset_guarded.proofs.{Guards.formed, States.one_guard, States.one_text}
 use Rattle.offset_guarded.proofs.laws.a_state_is_read_back.Goals as goal
 
 pub returns-clause-one : goal.returns-clause-one

@@ -1,5 +1,5 @@
 use Rattle.std.proofs.Common.{◌≡◌, ◌∙◌, ◌+◌, sym, subst, arith, length, List, ℕ}
-use Rattle.offset_guarded.specs.State.{checksum_from, number_at, numbers}
+use Rattle.offset_guarded.specs.Numbers.{checksum_from, number_at, numbers}
 use Rattle.offset_guarded.proofs.States.{parts}
 use Rattle.offset_guarded.proofs.restoring.header_of.Goals as goal
 

@@ -1,7 +1,6 @@
 use Rattle.std.proofs.Common.{◌+◌, ◌<◌, ◌≤◌, IfSome, length, ap, arith, subst}
 use Rattle.offset_heaps.specs.Heaps.{Heaps, IsNew, IsOfKind, larger_limit, numbers}
-use Rattle.offset_heaps.proofs.Grants.{granted_larger}
-use Rattle.offset_heaps.proofs.Shapes.{kind_larger}
+use Rattle.offset_heaps.proofs.{Grants.granted_larger, Shapes.kind_larger}
 use Rattle.offset_heaps.proofs.HeapsOf.grant_larger.Goals as goal
 
 pub returns-in-Ok-clause-grants : goal.returns-in-Ok-clause-grants

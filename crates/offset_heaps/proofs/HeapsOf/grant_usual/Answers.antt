@@ -1,7 +1,6 @@
 use Rattle.std.proofs.Common.{◌+◌, ◌<◌, IfSome, length, ap, arith, subst}
 use Rattle.offset_heaps.specs.Heaps.{Heaps, IsNew, IsOfKind}
-use Rattle.offset_heaps.proofs.Grants.{granted_usual}
-use Rattle.offset_heaps.proofs.Shapes.{kind_usual}
+use Rattle.offset_heaps.proofs.{Grants.granted_usual, Shapes.kind_usual}
 use Rattle.offset_heaps.proofs.HeapsOf.grant_usual.Goals as goal
 
 pub returns-in-Ok-clause-grants : goal.returns-in-Ok-clause-grants

@@ -4,7 +4,7 @@ use Rattle.offset_heaps.proofs.HeapsOf.new.Goals as goal
 
 pub loop-number-init : goal.loop-number-init
 loop-number-init g c =
-    let begun = started c.args.limits (c.args.limits.most + c.args.limits.most_larger) (2 ^ c.in_ok-index.index.one.height) c.in_ok-slots.slots.items c.in_ok-index.index c.in_ok-slots.ensures refl
+    let begun = started c.args.limits (c.args.limits.most + c.args.limits.most_larger) (2 ^ c.in_ok-index.index.one.height) c.in_ok-slots.slots c.in_ok-index.index c.in_ok-slots.ensures refl
     c.in_ok-index.ensures.room c.in_ok-index.ensures.one c.in_ok-index.ensures.two c.in_ok-index.ensures.spare in
     record {
       wide = begun.0;
@@ -15,7 +15,7 @@ loop-number-init g c =
 pub loop-number-preserved : goal.loop-number-preserved
 loop-number-preserved g c = record {
   wide = c.note.ensures.wide;
-  noted = noted_more c.args.limits c.in_ok-slots.slots.items c.loop-number.index c.note.new.self c.loop-number.number (c.args.limits.most + c.args.limits.most_larger) c.note.ensures.here
+  noted = noted_more c.args.limits c.in_ok-slots.slots c.loop-number.index c.note.new.self c.loop-number.number (c.args.limits.most + c.args.limits.most_larger) c.note.ensures.here
       c.note.ensures.others c.loop-number.invariant.noted;
   levels = c.note.ensures.levels ∙ c.loop-number.invariant.levels;
 }

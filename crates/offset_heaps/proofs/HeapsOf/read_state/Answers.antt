@@ -1,10 +1,8 @@
 use Rattle.std.proofs.Common.{◌≡◌, ◌∙◌, ◌+◌, ◌*◌, ap, arith, drop, inl, inr, length, refl, subst, sym, List, ℕ}
-use Rattle.offset_guarded.specs.State.{number_at}
-use Rattle.offset_guarded.proofs.Numbers.{rest_of}
+use Rattle.offset_guarded.specs.Numbers.{number_at}
+use Rattle.offset_guarded.proofs.Bytes.{rest_of}
 use Rattle.offset_heaps.specs.declared.limits.Limits.{Limits}
-use Rattle.offset_heaps.specs.Heaps.{slot}
-use Rattle.offset_heaps.specs.State.{AreRead, IsHeapAt, IsHeapFormed}
-use Rattle.offset_heaps.specs.StateFaults.{IsStatesFault}
+use Rattle.offset_heaps.specs.{Heaps.slot, State.AreRead, State.IsHeapAt, State.IsHeapFormed, StateFaults.IsStatesFault}
 use Rattle.offset_heaps.proofs.States.{heap_between, parts, read_restored, read_sound, read_well_formed}
 use Rattle.offset_heaps.proofs.HeapsOf.read_state.Goals as goal
 
@@ -50,9 +48,9 @@ invariant_of-result g c =
     let h = c.in-Ok.header in
     let m : ℕ = h.limits.most + h.limits.most_larger in
     let b = rw c.in-Ok-2.is at c.in_ok-fault.ensures.read in
-    let are : AreRead h.limits g.T.Index.NodeIndex.MAX h.made c.args.most_allocs m bs (drop (80 + 8 * m) bs) c.in-Ok-2.slots.items =
-    subst (λ r. AreRead h.limits g.T.Index.NodeIndex.MAX h.made c.args.most_allocs m bs r c.in-Ok-2.slots.items) (rest_of (80 + 8 * m) bs) b in
-    read_sound g.T.Index.NodeIndex.MAX c.args.most_heaps c.args.most_allocs bs h c.in-Ok-2.slots.items 0 c.in-Ok.ensures.header (sym c.number.ensures ∙ c.if-number-ne0.false)
+    let are : AreRead h.limits g.T.Index.NodeIndex.MAX h.made c.args.most_allocs m bs (drop (80 + 8 * m) bs) c.in-Ok-2.slots =
+    subst (λ r. AreRead h.limits g.T.Index.NodeIndex.MAX h.made c.args.most_allocs m bs r c.in-Ok-2.slots) (rest_of (80 + 8 * m) bs) b in
+    read_sound g.T.Index.NodeIndex.MAX c.args.most_heaps c.args.most_allocs bs h c.in-Ok-2.slots 0 c.in-Ok.ensures.header (sym c.number.ensures ∙ c.if-number-ne0.false)
     (sym c.number-2.ensures ∙ c.if-number-states.false ∙ ap length (rest_of (80 + 8 * m) bs)) are refl c.in_ok-index.index (omega (arith, c.ranges.most_heaps)) c.in_ok-index.ensures.wide
     c.in_ok-index.ensures.noted c.in_ok-index.ensures.low
 
@@ -62,9 +60,9 @@ returns-clause-read g c =
     let h = c.in-Ok.header in
     let m : ℕ = h.limits.most + h.limits.most_larger in
     let b = rw c.in-Ok-2.is at c.in_ok-fault.ensures.read in
-    let are : AreRead h.limits g.T.Index.NodeIndex.MAX h.made c.args.most_allocs m bs (drop (80 + 8 * m) bs) c.in-Ok-2.slots.items =
-    subst (λ r. AreRead h.limits g.T.Index.NodeIndex.MAX h.made c.args.most_allocs m bs r c.in-Ok-2.slots.items) (rest_of (80 + 8 * m) bs) b in
-    read_restored g.T.Index.NodeIndex.MAX c.args.most_heaps c.args.most_allocs bs h c.in-Ok-2.slots.items c.new.result c.in-Ok.ensures.header (sym c.number.ensures ∙ c.if-number-ne0.false)
+    let are : AreRead h.limits g.T.Index.NodeIndex.MAX h.made c.args.most_allocs m bs (drop (80 + 8 * m) bs) c.in-Ok-2.slots =
+    subst (λ r. AreRead h.limits g.T.Index.NodeIndex.MAX h.made c.args.most_allocs m bs r c.in-Ok-2.slots) (rest_of (80 + 8 * m) bs) b in
+    read_restored g.T.Index.NodeIndex.MAX c.args.most_heaps c.args.most_allocs bs h c.in-Ok-2.slots c.new.result c.in-Ok.ensures.header (sym c.number.ensures ∙ c.if-number-ne0.false)
     (sym c.number-2.ensures ∙ c.if-number-states.false ∙ ap length (rest_of (80 + 8 * m) bs)) are c.new.ensures
 
 pub returns-clause-formed : goal.returns-clause-formed
@@ -73,9 +71,9 @@ returns-clause-formed g c =
     let h = c.in-Ok.header in
     let m : ℕ = h.limits.most + h.limits.most_larger in
     let b = rw c.in-Ok-2.is at c.in_ok-fault.ensures.read in
-    let are : AreRead h.limits g.T.Index.NodeIndex.MAX h.made c.args.most_allocs m bs (drop (80 + 8 * m) bs) c.in-Ok-2.slots.items =
-    subst (λ r. AreRead h.limits g.T.Index.NodeIndex.MAX h.made c.args.most_allocs m bs r c.in-Ok-2.slots.items) (rest_of (80 + 8 * m) bs) b in
-    read_well_formed g.T.Index.NodeIndex.MAX c.args.most_heaps c.args.most_allocs bs h c.in-Ok-2.slots.items c.new.result c.in-Ok.ensures.header (sym c.number.ensures ∙ c.if-number-ne0.false)
+    let are : AreRead h.limits g.T.Index.NodeIndex.MAX h.made c.args.most_allocs m bs (drop (80 + 8 * m) bs) c.in-Ok-2.slots =
+    subst (λ r. AreRead h.limits g.T.Index.NodeIndex.MAX h.made c.args.most_allocs m bs r c.in-Ok-2.slots) (rest_of (80 + 8 * m) bs) b in
+    read_well_formed g.T.Index.NodeIndex.MAX c.args.most_heaps c.args.most_allocs bs h c.in-Ok-2.slots c.new.result c.in-Ok.ensures.header (sym c.number.ensures ∙ c.if-number-ne0.false)
     (sym c.number-2.ensures ∙ c.if-number-states.false ∙ ap length (rest_of (80 + 8 * m) bs)) are c.new.ensures (omega (arith, c.ranges.most_heaps))
 
 pub returns-then-number-ne0-clause-fault : goal.returns-then-number-ne0-clause-fault

@@ -1,14 +1,11 @@
 use Rattle.std.proofs.Common.{ap, arith, subst, sym}
-use Rattle.offset_heaps.specs.Heaps.{Heaps, Grants, numbers}
-use Rattle.offset_heaps.specs.Relocating.{IsTaker, granted}
-use Rattle.offset_heaps.proofs.Grants.{granted_since, not_live_before, others_kept, range_granted}
-use Rattle.offset_heaps.proofs.Places.{shown}
-use Rattle.offset_heaps.proofs.Takers.{takes_range, takes_units, units_here}
+use Rattle.offset_heaps.specs.{Heaps.Heaps, Heaps.Grants, Heaps.numbers, Relocating.IsTaker, Relocating.granted}
+use Rattle.offset_heaps.proofs.{Grants.granted_since, Grants.not_live_before, Grants.others_kept, Grants.range_granted, Places.shown, Takers.takes_range, Takers.takes_units, Takers.units_here}
 use Rattle.offset_heaps.proofs.HeapsOf.relocate.Goals as goal
 
 pub returns-in_err-number-clause-none : goal.returns-in_err-number-clause-none
 returns-in_err-number-clause-none g c =
-    let old = shown c.self.inside.slots.items c.self.inside.limits c.self.inside.made c.self.inside.realm c.self.inside.accesses in
+    let old = shown c.self.inside.slots c.self.inside.limits c.self.inside.made c.self.inside.realm c.self.inside.accesses in
     rw (← c.self.view_is) (
       λ _ k t. c.in_err-number.ensures.first k
           (takes_units c.args.place old c.units_at-units.result.0 c.units_at-units.result.1 c.if-place-self.false c.units_at-units.ensures.units c.units_at-units.ensures.live k t),
@@ -25,7 +22,7 @@ returns-in_err-number-clause-steps g c bits enough =
 
 pub returns-clause-none : goal.returns-clause-none
 returns-clause-none g c =
-    let old = shown c.self.inside.slots.items c.self.inside.limits c.self.inside.made c.self.inside.realm c.self.inside.accesses in
+    let old = shown c.self.inside.slots c.self.inside.limits c.self.inside.made c.self.inside.realm c.self.inside.accesses in
     rw (← c.self.view_is) (
       λ e. absurd (cc),
       λ none. absurd (none c.in_ok-number.number
@@ -35,7 +32,7 @@ returns-clause-none g c =
 
 pub returns-clause-first : goal.returns-clause-first
 returns-clause-first g c =
-    let old = shown c.self.inside.slots.items c.self.inside.limits c.self.inside.made c.self.inside.realm c.self.inside.accesses in
+    let old = shown c.self.inside.slots c.self.inside.limits c.self.inside.made c.self.inside.realm c.self.inside.accesses in
     rw (← c.self.view_is) (subst (IsTaker c.args.place old) (sym c.grant_at.ensures.number) (
       takes_range c.args.place old c.units_at-units.result.0 c.units_at-units.result.1 c.if-place-self.false c.units_at-units.ensures.units c.units_at-units.ensures.live
           c.in_ok-number.number (omega (arith, c.if-units-eq0.false)) c.in_ok-number.ensures.first.0,
@@ -45,7 +42,7 @@ returns-clause-first g c =
 
 pub returns-clause-grants : goal.returns-clause-grants
 returns-clause-grants g c =
-    let old = shown c.self.inside.slots.items c.self.inside.limits c.self.inside.made c.self.inside.realm c.self.inside.accesses in
+    let old = shown c.self.inside.slots c.self.inside.limits c.self.inside.made c.self.inside.realm c.self.inside.accesses in
     rw (← c.self.view_is)
     (subst (λ n. Grants n 1 old c.grant_at.new.self (granted c.grant_at.result.place))
     (units_here c.args.place old c.units_at-units.result.0 c.units_at-units.result.1 c.if-place-self.false c.units_at-units.ensures.units c.units_at-units.ensures.live)
@@ -54,21 +51,21 @@ returns-clause-grants g c =
 
 pub returns-clause-not_live : goal.returns-clause-not_live
 returns-clause-not_live g c =
-    let old = shown c.self.inside.slots.items c.self.inside.limits c.self.inside.made c.self.inside.realm c.self.inside.accesses in
+    let old = shown c.self.inside.slots c.self.inside.limits c.self.inside.made c.self.inside.realm c.self.inside.accesses in
     rw (← c.self.view_is)
     (not_live_before c.units_at-units.result.0 1 old c.grant_at.new.self c.grant_at.result
     (granted_since c.units_at-units.result.0 1 old c.taker.new.self c.grant_at.new.self c.grant_at.result c.taker.ensures.same c.grant_at.ensures.grants))
 
 pub returns-clause-range : goal.returns-clause-range
 returns-clause-range g c =
-    let old = shown c.self.inside.slots.items c.self.inside.limits c.self.inside.made c.self.inside.realm c.self.inside.accesses in
+    let old = shown c.self.inside.slots c.self.inside.limits c.self.inside.made c.self.inside.realm c.self.inside.accesses in
     rw (← c.self.view_is, ← units_here c.args.place old c.units_at-units.result.0 c.units_at-units.result.1 c.if-place-self.false c.units_at-units.ensures.units c.units_at-units.ensures.live)
     (range_granted c.units_at-units.result.0 1 old c.grant_at.new.self c.grant_at.result
     (granted_since c.units_at-units.result.0 1 old c.taker.new.self c.grant_at.new.self c.grant_at.result c.taker.ensures.same c.grant_at.ensures.grants))
 
 pub returns-clause-others : goal.returns-clause-others
 returns-clause-others g c =
-    let old = shown c.self.inside.slots.items c.self.inside.limits c.self.inside.made c.self.inside.realm c.self.inside.accesses in
+    let old = shown c.self.inside.slots c.self.inside.limits c.self.inside.made c.self.inside.realm c.self.inside.accesses in
     rw (← c.self.view_is)
     (others_kept c.units_at-units.result.0 1 old c.grant_at.new.self c.grant_at.result
     (granted_since c.units_at-units.result.0 1 old c.taker.new.self c.grant_at.new.self c.grant_at.result c.taker.ensures.same c.grant_at.ensures.grants))

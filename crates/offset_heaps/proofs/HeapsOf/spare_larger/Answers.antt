@@ -5,12 +5,12 @@ use Rattle.offset_heaps.proofs.HeapsOf.spare_larger.Goals as goal
 
 pub returns-clause-first : goal.returns-clause-first
 returns-clause-first g c = rw (← c.self.view_is)
-    (larger_first g.T.Index.NodeIndex.MAX c.self.inside.slots.items c.self.inside.limits c.self.inside.made c.self.inside.index c.self.invariant c.self.inside.realm c.self.inside.accesses
+    (larger_first g.T.Index.NodeIndex.MAX c.self.inside.slots c.self.inside.limits c.self.inside.made c.self.inside.index c.self.invariant c.self.inside.realm c.self.inside.accesses
     c.first_at_least.result c.first_at_least.ensures.first)
 
 pub returns-clause-steps : goal.returns-clause-steps
 returns-clause-steps g c bits enough =
-    let low = levels g.T.Index.NodeIndex.MAX c.self.inside.slots.items c.self.inside.limits c.self.inside.made c.self.inside.index c.self.invariant c.self.inside.realm c.self.inside.accesses
+    let low = levels g.T.Index.NodeIndex.MAX c.self.inside.slots c.self.inside.limits c.self.inside.made c.self.inside.index c.self.invariant c.self.inside.realm c.self.inside.accesses
     c.args.self.now c.self.view_is bits enough in
     let start = ap (λ (h : Heaps). h.accesses) c.self.view_is in
     let same = c.self.invariant.wide.level_spare in

@@ -1,11 +1,10 @@
 use Rattle.std.proofs.Common.{◌≡◌, ℕ, ◌<◌, length}
-use Rattle.offset_heaps.specs.Heaps.{slot}
-use Rattle.offset_heaps.specs.State.{quiet}
+use Rattle.offset_heaps.specs.{Heaps.slot, State.quiet}
 use Rattle.offset_heaps.proofs.copying.copies_of.Given as goal
 
 -- the heaps so far are copied
 abbrev pub invariant-loop-number : goal.invariant-loop-number
 invariant-loop-number g l = record {
-  long : length l.copies.items ≡ l.count;
-  copied : (k : ℕ) → k < l.number → slot k l.copies.items ≡ quiet (slot k l.slots.items);
+  long : length l.copies ≡ l.count;
+  copied : (k : ℕ) → k < l.number → slot k l.copies ≡ quiet (slot k l.slots);
 }

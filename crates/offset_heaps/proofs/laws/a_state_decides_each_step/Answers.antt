@@ -1,6 +1,5 @@
 use Rattle.offset_heaps.proofs.DecidedCalls.{allocates_decided, drops_decided, drops_empty_decided, emptiest_decided, free_decided, gives_up_decided, relocates_decided, resets_decided, totals_decided}
-use Rattle.offset_heaps.proofs.DecidedWalks.{before_decided, last_decided}
-use Rattle.offset_heaps.proofs.Twins.{range_twins}
+use Rattle.offset_heaps.proofs.{DecidedWalks.before_decided, DecidedWalks.last_decided, Twins.range_twins}
 use Rattle.offset_heaps.proofs.laws.a_state_decides_each_step.Goals as goal
 
 pub returns-clause-allocate : goal.returns-clause-allocate

@@ -1,7 +1,6 @@
 use Rattle.std.proofs.Common.{◌≡◌, ◌≢◌, ℕ, Some, option_copied, ap, sym, subst, ◌∙◌}
-use Rattle.offset_allocator.specs.Ranges.{AreDisjoint, Range}
+use Rattle.offset_allocator.specs.{Ranges.AreDisjoint, Ranges.Range, View.View}
 use Rattle.offset_allocator.specs.Ranges as named
-use Rattle.offset_allocator.specs.View.{View}
 use Rattle.offset_heaps.proofs.Places.{apart}
 use Rattle.offset_heaps.proofs.laws.places_are_apart.Goals as goal
 

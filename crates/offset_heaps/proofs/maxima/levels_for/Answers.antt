@@ -1,6 +1,5 @@
-use Rattle.std.proofs.Common.{◌+◌, ◌^◌, ◌≤◌, arith}
+use Rattle.std.proofs.{Common.◌+◌, Common.◌^◌, Common.◌≤◌, Common.arith, Math.Pow.pow_mono}
 use Rattle.std.proofs.lemmas.Grind.{pow_more}
-use Rattle.std.proofs.Math.Pow.{pow_mono}
 use Rattle.offset_heaps.proofs.Trees.{one_more}
 use Rattle.offset_heaps.proofs.maxima.levels_for.Goals as goal
 

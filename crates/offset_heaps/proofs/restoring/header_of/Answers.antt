@@ -1,17 +1,17 @@
 use Rattle.std.proofs.Common.{◌≡◌, ◌∙◌, ◌+◌, sym, subst, arith, length, List, ℕ}
-use Rattle.offset_guarded.specs.State.{checksum_from, number_at, numbers}
+use Rattle.offset_guarded.specs.Numbers.{checksum_from, number_at, numbers}
 use Rattle.offset_heaps.proofs.States.{parts}
-use Rattle.offset_heaps.proofs.restoring.header_of.Goals.{then-number-ne1397244239-via-then-number-ne1397244239, then-number-ne1397244239-via-else-number-ne1397244239+then-number-ne1}
+use Rattle.offset_heaps.proofs.restoring.header_of.Goals.{then-number-ne-FORM-via-then-number-ne-FORM, then-number-ne-FORM-via-else-number-ne-FORM+then-number-ne-VERSION}
 use Rattle.offset_heaps.proofs.restoring.header_of.Goals.{then-limit-lt4-via-then-limit-lt4, then-limit-lt4-via-else-limit-lt4+then-limit-most_allocs}
 use Rattle.offset_heaps.proofs.restoring.header_of.Goals.{then-limit-lt4-via-else-limit-lt4+else-limit-most_allocs+then-limit-MAX}
 use Rattle.offset_heaps.proofs.restoring.header_of.Goals as goal
 
-pub returns-then-number-ne1397244239-clause-wrong : goal.returns-then-number-ne1397244239-clause-wrong
-returns-then-number-ne1397244239-clause-wrong g c _ hs w adm st =
+pub returns-then-number-ne-FORM-clause-wrong : goal.returns-then-number-ne-FORM-clause-wrong
+returns-then-number-ne-FORM-clause-wrong g c _ hs w adm st =
     let p = parts hs c.args.bytes.now st in
-    elim c.then-number-ne1397244239.branch [
-      | then-number-ne1397244239-via-then-number-ne1397244239 w ↦ w.if-number-ne1397244239.true (c.number.ensures ∙ p.form)
-      | then-number-ne1397244239-via-else-number-ne1397244239+then-number-ne1 w ↦ w.if-number-ne1.true (w.number-else-number-ne1397244239.ensures ∙ p.version)
+    elim c.then-number-ne-FORM.branch [
+      | then-number-ne-FORM-via-then-number-ne-FORM w ↦ w.if-number-ne-FORM.true (c.number.ensures ∙ p.form)
+      | then-number-ne-FORM-via-else-number-ne-FORM+then-number-ne-VERSION w ↦ w.if-number-ne-VERSION.true (w.number-else-number-ne-FORM.ensures ∙ p.version)
     ]
 
 pub returns-then-size-clause-wrong : goal.returns-then-size-clause-wrong

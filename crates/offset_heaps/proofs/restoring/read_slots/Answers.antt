@@ -1,11 +1,8 @@
 use Rattle.std.proofs.Common.{◌∙◌, ◌≡◌, ◌+◌, ◌-◌, ◌≤◌, ap, arith, drop, inl, inr, length, refl, subst, sym, take, List, ℕ}
 use Rattle.std.proofs.lemmas.List.{length-drop, length-set, length-take-le}
-use Rattle.offset_guarded.specs.State.{number_at}
-use Rattle.offset_heaps.specs.Heaps.{slot}
-use Rattle.offset_heaps.specs.State.{IsHeapReadAt, IsHeapState}
-use Rattle.offset_heaps.specs.StateFaults.{IsHeapFault}
-use Rattle.offset_heaps.proofs.FaultPlaces.{heap_within}
-use Rattle.offset_heaps.proofs.States.{put_more}
+use Rattle.offset_guarded.specs.Numbers.{number_at}
+use Rattle.offset_heaps.specs.{Heaps.slot, State.IsHeapReadAt, State.IsHeapState, StateFaults.IsHeapFault}
+use Rattle.offset_heaps.proofs.{FaultPlaces.heap_within, States.put_more}
 use Rattle.offset_heaps.proofs.restoring.read_slots.Goals.{then-from-to-via-then-from-to, then-from-to-via-else-from-to+then-to-states}
 use Rattle.offset_heaps.proofs.restoring.read_slots.Goals as goal
 
@@ -33,7 +30,7 @@ loop-k-preserved g c =
     let k : ℕ = c.loop-k.k in
     let bs : List ℕ = c.args.bytes.now in
     let states : List ℕ = c.args.states.now in
-    let old = c.loop-k.slots.items in
+    let old = c.loop-k.slots in
     let made : ℕ = c.args.made in
     let most : ℕ = c.args.most_allocs in
     let r = rw c.in-Ok.is at c.in_ok-wrong.ensures.read in
@@ -57,7 +54,7 @@ returns-then-from-to-clause-fault g c =
     record {
       number = k;
       below = c.loop-k-test.true;
-      before = λ j l. (slot j c.loop-k.slots.items, c.loop-k.invariant.read j l);
+      before = λ j l. (slot j c.loop-k.slots, c.loop-k.invariant.read j l);
       fault = inl (
         refl,
         refl,
@@ -86,7 +83,7 @@ returns-in-Err-clause-fault g c =
     record {
       number = k;
       below = c.loop-k-test.true;
-      before = λ j l. (slot j c.loop-k.slots.items, c.loop-k.invariant.read j l);
+      before = λ j l. (slot j c.loop-k.slots, c.loop-k.invariant.read j l);
       fault = inr (
         (omega (arith, c.if-from-to.false, c.number-from.ensures, c.number-to.ensures), omega (arith, c.if-to-states.false, c.number-to.ensures)),
         (

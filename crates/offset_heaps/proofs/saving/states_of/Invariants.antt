@@ -3,4 +3,4 @@ use Rattle.offset_heaps.proofs.saving.states_of.Given as goal
 
 -- the states so far
 abbrev pub invariant-loop-number : goal.invariant-loop-number
-invariant-loop-number g l = ArePushed l.number l.slots.items l.places.items l.states.items
+invariant-loop-number g l = ArePushed l.number l.slots l.places.items l.states.items

@@ -1,7 +1,6 @@
 use Rattle.std.proofs.Common.{subst, arith}
 use Rattle.std.proofs.lemmas.Bool.{false≢true}
-use Rattle.offset_allocator.specs.View.{IsWellFormed}
-use Rattle.offset_allocator.specs.Requests.{blocks_needed, units_needed}
+use Rattle.offset_allocator.specs.{View.IsWellFormed, Requests.blocks_needed, Requests.units_needed}
 use Rattle.offset_heaps.proofs.Rooms.{can}
 use Rattle.offset_heaps.proofs.slots.grant_in.Goals as goal
 

@@ -1,6 +1,5 @@
 use Rattle.std.proofs.Common.{codes}
-use Rattle.offset_pictures.specs.Picture.{opening, style}
-use Rattle.offset_pictures.specs.Titles.{escaped, heading_text}
+use Rattle.offset_pictures.specs.{Picture.opening, Picture.style, Titles.escaped, Titles.heading_text}
 use Rattle.offset_pictures.proofs.Drawn.{has_title}
 use Rattle.offset_pictures.proofs.drawing.picture_of.Goals as goal
 

@@ -6,11 +6,7 @@ use Rattle.offset_pictures.specs.declared.figures.Figures.{Figures}
 use Rattle.offset_pictures.specs.declared.living.Life.{Life}
 use Rattle.offset_pictures.specs.declared.plots.Plot.{Plot}
 use Rattle.offset_pictures.specs.declared.refusing.Refused.{Refused}
-use Rattle.offset_pictures.specs.Legend.{legend_text, notes_text}
-use Rattle.offset_pictures.specs.Rectangles.{AreRectangles}
-use Rattle.offset_pictures.specs.StepLines.{beyond_text, reports_text}
-use Rattle.offset_pictures.specs.Marks.{refusals_text}
-use Rattle.offset_pictures.specs.Ticks.{axes_text}
+use Rattle.offset_pictures.specs.{Legend.legend_text, Legend.notes_text, Rectangles.AreRectangles, StepLines.beyond_text, StepLines.reports_text, Marks.refusals_text, Ticks.axes_text}
 use Rattle.offset_pictures.proofs.Drawn.{has_all, same_xs}
 use Rattle.offset_pictures.proofs.drawing.put_body.Goals as goal
 

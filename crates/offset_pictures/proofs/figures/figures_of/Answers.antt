@@ -5,10 +5,8 @@ use Rattle.offset_allocator.specs.declared.reports.StorageReport.{StorageReport}
 use Rattle.offset_pictures.specs.declared.course.Course.{Course}
 use Rattle.offset_pictures.specs.declared.living.Life.{Life}
 use Rattle.offset_pictures.specs.declared.figures.Count.{Count}
-use Rattle.offset_pictures.specs.Figures.{counted}
-use Rattle.offset_pictures.specs.Lives.{is_on, life_view}
-use Rattle.offset_pictures.proofs.Counted.{IsCount, none_yet, none_on, joins}
-use Rattle.offset_pictures.proofs.Peaks.{HasSeen, has_seen, has_seen_none, all_seen}
+use Rattle.offset_pictures.specs.{Figures.counted, Lives.is_on, Lives.life_view}
+use Rattle.offset_pictures.proofs.{Counted.IsCount, Counted.none_yet, Counted.none_on, Counted.joins, Peaks.HasSeen, Peaks.has_seen, Peaks.has_seen_none, Peaks.all_seen}
 use Rattle.offset_pictures.proofs.figures.figures_of.Goals as goal
 use Rattle.offset_pictures.proofs.figures.figures_of.Goals.{then-state-gt0, else-state-gt0}
 

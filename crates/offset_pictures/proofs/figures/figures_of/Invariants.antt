@@ -1,7 +1,6 @@
 use Rattle.std.proofs.Common.{◌-◌}
 use Rattle.offset_pictures.specs.Lives.{is_on, life_view}
-use Rattle.offset_pictures.proofs.Counted.{IsCount}
-use Rattle.offset_pictures.proofs.Peaks.{HasSeen}
+use Rattle.offset_pictures.proofs.{Counted.IsCount, Peaks.HasSeen}
 use Rattle.offset_pictures.proofs.figures.figures_of.Given as goal
 
 -- the numbers after the states so far, and what is on in the last of them

@@ -1,6 +1,5 @@
 use Rattle.std.proofs.Common.{◌++◌, ◌+◌, ◌*◌, List, [], ◌∷◌, ℕ, codes}
-use Rattle.std.specs.Prelude.{string_bytes}
-use Rattle.std.specs.Fmt.{decimal}
+use Rattle.std.specs.{Prelude.string_bytes, Fmt.decimal}
 use Rattle.offset_pictures.specs.Numerals.{pixels_text}
 use Rattle.offset_pictures.proofs.Texts.{is_begun, is_ended}
 use Rattle.offset_pictures.proofs.legend.put_age.Goals as goal

@@ -1,7 +1,6 @@
 use Rattle.std.proofs.Common.{◌≡◌, ◌++◌, List, [], ◌∷◌, ℕ, codes}
 use Rattle.std.specs.Prelude.{string_bytes}
-use Rattle.offset_pictures.specs.Numerals.{pixels_text}
-use Rattle.offset_pictures.specs.Legend.{full_text}
+use Rattle.offset_pictures.specs.{Numerals.pixels_text, Legend.full_text}
 use Rattle.offset_pictures.proofs.Texts.{is_begun, goes_on, is_ended}
 use Rattle.offset_pictures.proofs.legend.put_colours.Goals as goal
 

@@ -1,8 +1,7 @@
 use Rattle.std.proofs.Common.{◌≡◌, ◌++◌, ◌<◌, List, [], ◌∷◌, ℕ, codes, subst, sym, lt-ltb, if◌then◌else◌, arith}
 use Rattle.std.specs.Prelude.{OnOk, string_bytes}
 use Rattle.offset_pictures.specs.declared.figures.Figures.{Figures}
-use Rattle.offset_pictures.specs.Numerals.{grouped_text, pixels_text}
-use Rattle.offset_pictures.specs.Legend.{plural}
+use Rattle.offset_pictures.specs.{Numerals.grouped_text, Numerals.pixels_text, Legend.plural}
 use Rattle.offset_pictures.proofs.Texts.{in_a_row, is_begun, is_ended}
 use Rattle.offset_pictures.proofs.legend.put_full.Goals as goal
 

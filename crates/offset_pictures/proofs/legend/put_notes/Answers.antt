@@ -1,8 +1,6 @@
 use Rattle.std.proofs.Common.{◌≡◌, ◌++◌, ◌∙◌, List, [], ◌∷◌, ℕ, codes, ap, subst, sym, append-nil}
 use Rattle.std.specs.Prelude.{string_bytes}
-use Rattle.offset_pictures.specs.Numerals.{grouped_text}
-use Rattle.offset_pictures.specs.Figures.{counted}
-use Rattle.offset_pictures.specs.Legend.{merged_text}
+use Rattle.offset_pictures.specs.{Numerals.grouped_text, Figures.counted, Legend.merged_text}
 use Rattle.offset_pictures.proofs.Texts.{in_a_row, is_begun, goes_on, is_ended, is_none}
 use Rattle.offset_pictures.proofs.legend.put_notes.Goals as goal
 use Rattle.offset_pictures.proofs.legend.put_notes.Goals.{in-Some+in_ok-write-2, in_default}

@@ -1,8 +1,7 @@
 use Rattle.std.proofs.Common.{◌≡◌, ◌++◌, ◌∙◌, List, [], ◌∷◌, ℕ, codes, ap, subst, lt-ltb, le-ltb, nat_lt, if◌then◌else◌}
 use Rattle.std.specs.Prelude.{string_bytes}
 use Rattle.offset_pictures.specs.declared.figures.Figures.{Figures}
-use Rattle.offset_pictures.specs.Numerals.{grouped_text}
-use Rattle.offset_pictures.specs.Legend.{plural}
+use Rattle.offset_pictures.specs.{Numerals.grouped_text, Legend.plural}
 use Rattle.offset_pictures.proofs.Texts.{in_a_row, is_begun, is_ended, is_put, is_left_out}
 use Rattle.offset_pictures.proofs.legend.put_size.Goals as goal
 use Rattle.offset_pictures.proofs.legend.put_size.Goals.{then-figures+in_ok-write-2, else-figures}

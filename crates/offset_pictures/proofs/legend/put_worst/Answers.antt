@@ -1,8 +1,7 @@
 use Rattle.std.proofs.Common.{◌≡◌, ◌++◌, List, [], ◌∷◌, ℕ, codes, subst}
 use Rattle.std.specs.Prelude.{OnOk, string_bytes}
 use Rattle.offset_pictures.specs.declared.figures.Figures.{Figures}
-use Rattle.offset_pictures.specs.Numerals.{grouped_text}
-use Rattle.offset_pictures.specs.Legend.{plural}
+use Rattle.offset_pictures.specs.{Numerals.grouped_text, Legend.plural}
 use Rattle.offset_pictures.proofs.Texts.{in_a_row, is_begun, is_ended}
 use Rattle.offset_pictures.proofs.legend.put_worst.Goals as goal
 

@@ -2,9 +2,7 @@ use Rattle.std.proofs.Common.{map, length, All, AllPairs, ap, ap₂, ◌∙◌, 
 use Rattle.std.proofs.lemmas.List.{length-map}
 use Rattle.offset_script.specs.Machine.{answer_view, start}
 use Rattle.offset_pictures.specs.Lives.{AreApart, IsOrdered, IsWithin, lives_from, lives_of}
-use Rattle.offset_pictures.proofs.Backward.{answers_count, numbers_few, same_lives, each_result}
-use Rattle.offset_pictures.proofs.Apart.{apart_law, within_law}
-use Rattle.offset_pictures.proofs.Ordered.{lives_are_ordered}
+use Rattle.offset_pictures.proofs.{Backward.answers_count, Backward.numbers_few, Backward.same_lives, Backward.each_result, Apart.apart_law, Apart.within_law, Ordered.lives_are_ordered}
 use Rattle.offset_pictures.proofs.living.lives.Goals as goal
 
 pub lives_of_answers-requires : goal.lives_of_answers-requires

@@ -4,8 +4,7 @@ use Rattle.offset_script.specs.declared.scripts.Command.{Command}
 use Rattle.offset_script.specs.declared.scripts.Command.TheVariants as command
 use Rattle.offset_script.specs.Machine.{answer_view, Answer}
 use Rattle.offset_script.specs.Machine as machine
-use Rattle.offset_pictures.specs.Ends.{end_in}
-use Rattle.offset_pictures.specs.Lives.{leaves}
+use Rattle.offset_pictures.specs.{Ends.end_in, Lives.leaves}
 use Rattle.offset_pictures.proofs.Backward.{end_back, lives_back, seen_at, left_at, none_is, pushed, not_pushed, all_lives}
 use Rattle.offset_pictures.proofs.living.lives_of_answers.Goals as goal
 use Rattle.offset_pictures.proofs.living.lives_of_answers.Goals.{in-Some+in_ok-push, in_default}

@@ -1,7 +1,6 @@
 use Rattle.std.proofs.Common.{◌≡◌, ℕ, ◌+◌, ◌≤◌, length, map, reverse, drop}
 use Rattle.offset_script.specs.Machine.{answer_view}
-use Rattle.offset_pictures.specs.Ends.{grants_in, end_in}
-use Rattle.offset_pictures.specs.Lives.{life_view, end_from, lives_from}
+use Rattle.offset_pictures.specs.{Ends.grants_in, Ends.end_in, Lives.life_view, Lives.end_from, Lives.lives_from}
 use Rattle.offset_pictures.proofs.living.lives_of_answers.Given as goal
 
 -- the lives that begin from call i on, and the call from there on that ends each grant

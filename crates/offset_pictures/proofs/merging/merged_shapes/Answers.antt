@@ -1,8 +1,7 @@
 use Rattle.std.proofs.lemmas.List.{get_or-map, length-map}
 use Rattle.std.proofs.lemmas.List.Sorted.{IsNonDecreasingBy-from_sort}
 use Rattle.std.proofs.Common.{◌≡◌, ℕ, ◌<◌, ◌≤◌, [], ◌∷◌, ◌++◌, length, map, ◌∙◌, List, Some, true, false, get_or, arith, ap, subst, sym}
-use Rattle.std.specs.Prelude.{IsPermutation}
-use Rattle.std.specs.List.Sorted.{IsNonDecreasing}
+use Rattle.std.specs.{Prelude.IsPermutation, List.Sorted.IsNonDecreasing}
 use Rattle.offset_pictures.specs.declared.living.Life.{Life}
 use Rattle.offset_pictures.specs.declared.plots.Plot.{Plot}
 use Rattle.offset_pictures.specs.declared.shapes.Shape.{Shape}

@@ -1,6 +1,5 @@
 use Rattle.std.proofs.Common.{◌≡◌, ℕ, ◌++◌, List, [], ◌∷◌, codes, subst, sym}
-use Rattle.std.specs.Fmt.{decimal}
-use Rattle.std.specs.Prelude.{OnOk, string_bytes}
+use Rattle.std.specs.{Fmt.decimal, Prelude.OnOk, Prelude.string_bytes}
 use Rattle.offset_pictures.specs.declared.refusing.Asked.{Asked}
 use Rattle.offset_pictures.specs.Reasons.{asked_text, rounded_text}
 use Rattle.offset_pictures.proofs.Texts.{is_begun, is_ended}

@@ -1,11 +1,9 @@
 use Rattle.std.proofs.Common.{◌≡◌, ℕ, ◌+◌, ◌-◌, ◌++◌, ◌∙◌, List, length, Some, nat_lt, le-ltb, lt-ltb, refl, ap, subst, sym, arith, rules}
-use Rattle.std.specs.Prelude.{string_bytes}
-use Rattle.std.specs.Bool.{then_some}
+use Rattle.std.specs.{Prelude.string_bytes, Bool.then_some}
 use Rattle.offset_pictures.specs.declared.living.Life.{Life}
 use Rattle.offset_pictures.specs.declared.plots.Plot.{Plot}
 use Rattle.offset_pictures.specs.declared.shapes.Shape.{Shape}
-use Rattle.offset_pictures.specs.Merging.{AreMerged}
-use Rattle.offset_pictures.specs.Rectangles.{AreRectangles, ages_text}
+use Rattle.offset_pictures.specs.{Merging.AreMerged, Rectangles.AreRectangles, Rectangles.ages_text}
 use Rattle.offset_pictures.proofs.Held.{age_is_put, few_lives, group_is_put, held, many_lives, no_age_to_come, plain_held, titled_held}
 use Rattle.offset_pictures.proofs.rectangles.put_rectangles.Goals as goal
 use Rattle.offset_pictures.proofs.rectangles.put_rectangles.Goals.{then-is_merged+in_ok-shapes, else-is_merged+in_ok-shapes-2, then-is_merged-3+in_ok-put_plain, else-is_merged-3+in_ok-put_titled}

@@ -1,7 +1,6 @@
 use Rattle.std.proofs.Common.{◌≡◌, ◌++◌, ◌&&◌, Bool, [], codes, nat_le, if◌then◌else◌, ap, ◌∙◌, sym}
 use Rattle.offset_pictures.specs.declared.rectangles.Frame.{Frame}
-use Rattle.offset_pictures.specs.Numerals.{pixels_text}
-use Rattle.offset_pictures.specs.Rectangles.{rectangle_text}
+use Rattle.offset_pictures.specs.{Numerals.pixels_text, Rectangles.rectangle_text}
 use Rattle.offset_pictures.proofs.Pieces.{both_tests, ten_pieces}
 use Rattle.offset_pictures.proofs.rectangles.put_shape.Goals as goal
 use Rattle.offset_pictures.proofs.rectangles.put_shape.Goals.{then-has_edge, else-has_edge}

@@ -1,7 +1,6 @@
 use Rattle.std.proofs.Common.{◌≡◌, ◌++◌, ◌<◌, List, ℕ, ◌≤◌, Bool, true, false, codes, nat_lt, if◌then◌else◌, arith, ap, ap₂, ◌∙◌, sym, subst, lt-ltb}
 use Rattle.std.proofs.lemmas.Bool.Decides.{nat_tests}
-use Rattle.std.specs.Prelude.{OnOk, string_bytes}
-use Rattle.std.specs.Fmt.{decimal}
+use Rattle.std.specs.{Prelude.OnOk, Prelude.string_bytes, Fmt.decimal}
 use Rattle.offset_pictures.specs.declared.living.Life.{Life}
 use Rattle.offset_pictures.specs.Numerals.{counted_from_1}
 use Rattle.offset_pictures.proofs.Pieces.{ten_pieces}

@@ -1,8 +1,7 @@
 use Rattle.std.proofs.Common.{ℕ, ◌<◌, List, eq-eqb, length, nat_eq, ne_eqb, arith}
 use Rattle.std.proofs.lemmas.List.{length_push}
 use Rattle.std.proofs.lemmas.Slice.Zip.{length-zip, zip_turn, zip_end}
-use Rattle.std.specs.Prelude.{string_bytes}
-use Rattle.std.specs.List.{zip}
+use Rattle.std.specs.{Prelude.string_bytes, List.zip}
 use Rattle.offset_pictures.specs.declared.living.Life.{Life}
 use Rattle.offset_pictures.specs.declared.shapes.Shape.{Shape}
 use Rattle.offset_pictures.specs.Rectangles.{titled_text}

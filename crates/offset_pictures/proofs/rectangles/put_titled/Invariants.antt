@@ -1,6 +1,5 @@
 use Rattle.std.proofs.Common.{◌≡◌, ◌++◌, drop, length, nat_eq}
-use Rattle.std.specs.Prelude.{filter, flat_map, string_bytes}
-use Rattle.std.specs.List.{zip}
+use Rattle.std.specs.{Prelude.filter, Prelude.flat_map, Prelude.string_bytes, List.zip}
 use Rattle.offset_pictures.specs.Rectangles.{titled_of_age, titled_text}
 use Rattle.offset_pictures.proofs.rectangles.put_titled.Given as goal
 

@@ -1,8 +1,6 @@
 use Rattle.std.proofs.Common.{◌≡◌, ◌++◌, drop, map}
 use Rattle.std.specs.Prelude.{flat_map, string_bytes}
-use Rattle.offset_pictures.specs.Numerals.{counted_from_1}
-use Rattle.offset_pictures.specs.Marks.{mark_text, marks_text, one_of_each}
-use Rattle.offset_pictures.specs.Axes.{x_of}
+use Rattle.offset_pictures.specs.{Numerals.counted_from_1, Marks.mark_text, Marks.marks_text, Marks.one_of_each, Axes.x_of}
 use Rattle.offset_pictures.proofs.Grouped.{marked_after}
 use Rattle.offset_pictures.proofs.step_lines.put_marks.Given as goal
 

@@ -4,9 +4,7 @@ use Rattle.std.proofs.lemmas.Slice.Zip.{zip_turn, zip_end}
 use Rattle.std.specs.Prelude.{string_bytes}
 use Rattle.offset_pictures.specs.declared.axes.Axis.{Axis}
 use Rattle.offset_pictures.specs.declared.step_lines.Group.{Group}
-use Rattle.offset_pictures.specs.Numerals.{pixels_text}
-use Rattle.offset_pictures.specs.StepLines.{group_before, groups_from, groups_text, IsAt}
-use Rattle.offset_pictures.specs.Axes.{x_of}
+use Rattle.offset_pictures.specs.{Numerals.pixels_text, StepLines.group_before, StepLines.groups_from, StepLines.groups_text, StepLines.IsAt, Axes.x_of}
 use Rattle.offset_pictures.proofs.Grouped.{state_joins, state_begins, state_is_first, last_group, no_group, no_open, steps_are_put}
 use Rattle.offset_pictures.proofs.step_lines.put_steps.Goals as goal
 use Rattle.offset_pictures.proofs.step_lines.put_steps.Goals.{in_default-via-in-Some-group+else-group-x, in_default-via-in_default, in-Some-group-2+in_ok-pen-in_default, in_default-group}

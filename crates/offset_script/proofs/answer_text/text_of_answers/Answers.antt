@@ -1,6 +1,5 @@
-use Rattle.offset_script.proofs.Common.{◌∙◌, ap, answers, start, text_of}
+use Rattle.offset_script.proofs.{Common.◌∙◌, Common.ap, Common.answers, Common.start, Common.text_of, Simulation.if_ok}
 use Rattle.std.proofs.lemmas.List.{map-id}
-use Rattle.offset_script.proofs.Simulation.{if_ok}
 use Rattle.offset_script.proofs.answer_text.text_of_answers.Goals as goal
 
 pub returns : goal.returns

@@ -1,5 +1,5 @@
 use Rattle.std.proofs.Common.{◌++◌, List, map, reverse, ap, sym, ◌∙◌, append-nil}
-use Rattle.offset_allocator.specs.Listing.{Placed, as_placed, placed}
+use Rattle.offset_allocator.specs.Reporting.Listing.{Placed, as_placed, placed}
 use Rattle.std.proofs.lemmas.List.{reverse-reverse}
 use Rattle.offset_script.proofs.Dumped.{map_reverse}
 use Rattle.offset_script.proofs.dumping.blocks_in_order.Goals as goal

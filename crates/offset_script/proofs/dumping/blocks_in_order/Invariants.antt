@@ -1,5 +1,5 @@
 use Rattle.std.proofs.Common.{◌≡◌, ◌++◌, map}
-use Rattle.offset_allocator.specs.Listing.{as_placed, listing}
+use Rattle.offset_allocator.specs.Reporting.Listing.{as_placed, listing}
 use Rattle.offset_script.proofs.dumping.blocks_in_order.Given as goal
 
 -- the blocks so far and those that are left are all blocks

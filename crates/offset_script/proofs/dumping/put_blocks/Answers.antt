@@ -1,5 +1,5 @@
 use Rattle.std.proofs.Common.{◌+◌, ◌∷◌, ◌++◌, ap, arith, drop, map, string_bytes, sym, ◌∙◌, append-nil, List}
-use Rattle.offset_allocator.specs.Listing.{Placed, as_placed}
+use Rattle.offset_allocator.specs.Reporting.Listing.{Placed, as_placed}
 use Rattle.offset_script.specs.Dumping.{joined, block_json}
 use Rattle.offset_script.proofs.Dumped.{joined_more, mapped_end, mapped_from}
 use Rattle.offset_script.proofs.dumping.put_blocks.Goals as goal

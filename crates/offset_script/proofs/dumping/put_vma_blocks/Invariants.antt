@@ -1,5 +1,5 @@
 use Rattle.std.proofs.Common.{◌≡◌, ◌++◌, drop, map, string_bytes, true}
-use Rattle.offset_allocator.specs.Listing.{as_placed}
+use Rattle.offset_allocator.specs.Reporting.Listing.{as_placed}
 use Rattle.offset_script.specs.Dumping.{joined, vma_json}
 use Rattle.offset_script.proofs.dumping.put_vma_blocks.Given as goal
 

@@ -1,5 +1,5 @@
 use Rattle.std.proofs.Common.{◌++◌, ℕ, List, ap, map, string_bytes, true, ◌∙◌}
-use Rattle.offset_allocator.specs.Listing.{Placed, as_placed, placed}
+use Rattle.offset_allocator.specs.Reporting.Listing.{Placed, as_placed, placed}
 use Rattle.offset_script.specs.Dumping.{joined, vma_json, vma_numbers}
 use Rattle.offset_script.proofs.Dumped.{three_put}
 use Rattle.offset_script.proofs.dumping.vma_json_of.Goals as goal

@@ -1,6 +1,5 @@
-use Rattle.offset_script.proofs.Common.{sym, ◌∙◌, arith, IsTrue, All-push, has_valid_alignment}
-use Rattle.offset_script.proofs.Meaning.{has_header, has_bad_command, goes_on, admitted}
-use Rattle.offset_script.proofs.CommonLines.{goes_on_past}
+use Rattle.offset_script.proofs.{Common.sym, Common.◌∙◌, Common.arith, Common.IsTrue, Common.All-push, Common.has_valid_alignment, Meaning.has_header, Meaning.has_bad_command, Meaning.goes_on}
+use Rattle.offset_script.proofs.{Meaning.admitted, CommonLines.goes_on_past}
 use Rattle.offset_script.proofs.parsing.parse.Goals as goal
 
 pub loop-number-init : goal.loop-number-init

@@ -1,5 +1,4 @@
-use Rattle.offset_script.proofs.Common.{map, answer_view}
-use Rattle.offset_script.proofs.{Answered.are_answers, Heard.if_ok_both}
+use Rattle.offset_script.proofs.{Common.map, Common.answer_view, Answered.are_answers, Heard.if_ok_both}
 use Rattle.offset_script.proofs.playing.play_script.Goals as goal
 
 pub returns : goal.returns

@@ -1,7 +1,6 @@
 use Rattle.offset_script.proofs.Common.{◌≡◌, ◌+◌, ◌<◌, ◌∙◌, [], ◌∷◌, ◌++◌, length, take, map, refl, sym, ap, subst, arith, answers, start, after, Takes, AreStepsFromFresh}
-use Rattle.offset_script.proofs.Common.{take_more, take_all, map-append, Command}
-use Rattle.offset_script.proofs.Simulation.{fresh_represents, steps_begin, steps_go_on, steps_end}
-use Rattle.offset_script.proofs.{Agreement.IsAtState, Asking.answers-append, Heard.shows, Heard.told, Nests.after-append, Well.well_start, Well.well_after}
+use Rattle.offset_script.proofs.{Common.take_more, Common.take_all, Common.map-append, Common.Command, Simulation.fresh_represents, Simulation.steps_begin, Simulation.steps_go_on}
+use Rattle.offset_script.proofs.{Simulation.steps_end, Agreement.IsAtState, Asking.answers-append, Heard.shows, Heard.told, Nests.after-append, Well.well_start, Well.well_after}
 use Rattle.offset_script.proofs.playing.play_to.Goals as goal
 
 pub call-requires : goal.call-requires

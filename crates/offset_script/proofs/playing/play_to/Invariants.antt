@@ -1,5 +1,4 @@
-use Rattle.offset_script.proofs.Common.{take, map, answers, after, start, Takes}
-use Rattle.offset_script.proofs.{Agreement.IsAtState, Simulation.IsBegun}
+use Rattle.offset_script.proofs.{Common.take, Common.map, Common.answers, Common.after, Common.start, Common.Takes, Agreement.IsAtState, Simulation.IsBegun}
 use Rattle.offset_script.specs.Steps.{AreHeld}
 use Rattle.offset_script.proofs.playing.play_to.Given as goal
 

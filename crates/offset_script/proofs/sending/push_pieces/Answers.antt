@@ -1,6 +1,5 @@
-use Rattle.offset_script.proofs.Common.{ap, subst, false, ◌∙◌, List, ℕ}
+use Rattle.offset_script.proofs.{Common.ap, Common.subst, Common.false, Common.◌∙◌, Common.List, Common.ℕ, Ending.piece_failed}
 use Rattle.offset_script.specs.Sending.{Pushes}
-use Rattle.offset_script.proofs.Ending.{piece_failed}
 use Rattle.offset_script.proofs.sending.push_pieces.Goals as goal
 
 pub returns-then-not-push_all-clause-sent : goal.returns-then-not-push_all-clause-sent

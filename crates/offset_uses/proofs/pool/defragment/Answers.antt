@@ -1,5 +1,5 @@
 use Rattle.std.proofs.Common.{◌≡◌, rules}
-use Rattle.offset_allocator.specs.Compacting.{Move}
+use Rattle.offset_allocator.specs.Moving.Compacting.{Move}
 use Rattle.offset_uses.specs.Pool.{IsCopied}
 use Rattle.offset_uses.specs.contracts.pool.fn.defragment.compact as closure
 use Rattle.offset_uses.proofs.Moved.{calls_seen, compacted_holds}

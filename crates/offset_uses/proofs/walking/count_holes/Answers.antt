@@ -1,9 +1,7 @@
 use Rattle.std.proofs.Common.{◌≡◌, ℕ, ◌+◌, ◌<◌, ◌∷◌, not, slice_index, ap, ◌∙◌, arith, length-set}
 use Rattle.std.proofs.lemmas.List.{length-replicate, get_or-replicate}
 use Rattle.offset_allocator.proofs.Classes.{down_small}
-use Rattle.offset_allocator.specs.View.{free_sizes}
-use Rattle.offset_allocator.specs.FreeSizes.{count_of}
-use Rattle.offset_allocator.specs.Listing.{as_placed}
+use Rattle.offset_allocator.specs.{View.free_sizes, Reporting.FreeSizes.count_of, Reporting.Listing.as_placed}
 use Rattle.offset_uses.proofs.Holes.{holes, holes-listing, count_most, counted_hole, hole_fits}
 use Rattle.offset_uses.proofs.walking.count_holes.Goals as goal
 

@@ -1,6 +1,5 @@
 use Rattle.std.proofs.Common.{◌≡◌, ℕ, ◌+◌, ◌<◌, length, slice_index}
-use Rattle.offset_allocator.specs.View.{free_sizes}
-use Rattle.offset_allocator.specs.FreeSizes.{count_of}
+use Rattle.offset_allocator.specs.{View.free_sizes, Reporting.FreeSizes.count_of}
 use Rattle.offset_uses.proofs.Holes.{holes}
 use Rattle.offset_uses.proofs.walking.count_holes.Given as goal
 

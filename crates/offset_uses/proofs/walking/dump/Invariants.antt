@@ -1,5 +1,5 @@
 use Rattle.std.proofs.Common.{◌≡◌, ◌++◌, string_bytes, flat_map}
-use Rattle.offset_allocator.specs.Listing.{listing}
+use Rattle.offset_allocator.specs.Reporting.Listing.{listing}
 use Rattle.offset_uses.specs.Walking.{block_line}
 use Rattle.offset_uses.proofs.walking.dump.Given as goal
 

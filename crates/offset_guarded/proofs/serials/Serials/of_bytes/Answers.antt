@@ -1,5 +1,5 @@
 use Rattle.std.proofs.Common.{◌∙◌, ◌++◌, ◌∷◌, [], ap, ap₂, sym, arith, length, List, ℕ}
-use Rattle.offset_guarded.proofs.Numbers.{length-numbers, numbers_more}
+use Rattle.offset_guarded.proofs.Bytes.{length-numbers, numbers_more}
 use Rattle.offset_guarded.proofs.serials.Serials.of_bytes.Goals as goal
 
 pub push_within-requires : goal.push_within-requires

@@ -1,5 +1,5 @@
 use Rattle.std.proofs.Common.{◌≡◌, vec_capacity, max}
-use Rattle.offset_guarded.specs.State.{numbers}
+use Rattle.offset_guarded.specs.Numbers.{numbers}
 use Rattle.offset_guarded.proofs.serials.Serials.of_bytes.Given as goal
 
 -- the serials so far

@@ -1,9 +1,7 @@
 use Rattle.std.proofs.Common.{◌≡◌, ◌+◌, ◌-◌, ◌*◌, ◌++◌, ◌∙◌, ◌<◌, ◌≤◌, List, [], ◌∷◌, ℕ, codes, ap, ap₂, subst, sym, arith}
 use Rattle.std.specs.Prelude.{OnOk, flat_map, string_bytes}
 use Rattle.offset_pictures.specs.declared.plots.Plot.{Plot}
-use Rattle.offset_pictures.specs.Scales.{round_step}
-use Rattle.offset_pictures.specs.Numerals.{pixels_text}
-use Rattle.offset_pictures.specs.Ticks.{calls_tick, multiples_to}
+use Rattle.offset_pictures.specs.{Scales.round_step, Numerals.pixels_text, Ticks.calls_tick, Ticks.multiples_to}
 use Rattle.offset_pictures.proofs.Texts.{in_a_row, is_ended}
 use Rattle.offset_pictures.proofs.Ticked.{all_ticks, calls_tick_is_put, some_step, tick_is_left_out, tick_is_put}
 use Rattle.offset_pictures.proofs.plots.Plot.put_calls.Goals as goal

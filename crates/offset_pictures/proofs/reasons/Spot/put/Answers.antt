@@ -1,8 +1,7 @@
 use Rattle.std.proofs.Common.{◌≡◌, ℕ, ◌-◌, ◌++◌, List, [], ◌∷◌, codes, subst}
 use Rattle.std.specs.Prelude.{string_bytes}
 use Rattle.offset_pictures.specs.declared.reasons.Spot.{Spot}
-use Rattle.offset_pictures.specs.Numerals.{pixels_text}
-use Rattle.offset_pictures.specs.Reasons.{more_text, said_text}
+use Rattle.offset_pictures.specs.{Numerals.pixels_text, Reasons.more_text, Reasons.said_text}
 use Rattle.offset_pictures.proofs.Texts.{goes_on, in_a_row, is_begun, is_ended}
 use Rattle.offset_pictures.proofs.reasons.Spot.put.Goals as goal
 

@@ -1,5 +1,4 @@
-use Rattle.offset_script.proofs.Heard.{text_more}
-use Rattle.offset_script.proofs.Simulation.{if_ok}
+use Rattle.offset_script.proofs.{Heard.text_more, Simulation.if_ok}
 use Rattle.offset_script.proofs.answer_text.PiecesListener.hear.Goals as goal
 
 pub returns : goal.returns

@@ -1,5 +1,4 @@
-use Rattle.offset_script.proofs.Common.{sym, subst, subst₂, answer_view, Takes, Align}
-use Rattle.offset_script.proofs.{Held.held_stays, Held.may_be_kept, Simulation.if_ok}
+use Rattle.offset_script.proofs.{Common.sym, Common.subst, Common.subst₂, Common.answer_view, Common.Takes, Common.Align, Held.held_stays, Held.may_be_kept, Simulation.if_ok}
 use Rattle.offset_script.proofs.player.PlayerOf.allocate_aligned.Goals as goal
 
 pub keep-requires-clause-granted : goal.keep-requires-clause-granted

@@ -1,6 +1,5 @@
-use Rattle.offset_script.proofs.Common.{Bool, refl, sym, ap, if◌then◌else◌}
+use Rattle.offset_script.proofs.{Common.Bool, Common.refl, Common.sym, Common.ap, Common.if◌then◌else◌, Held.held_kept}
 use Rattle.offset_script.specs.Machine as machine
-use Rattle.offset_script.proofs.Held.{held_kept}
 use Rattle.offset_script.proofs.player.PlayerOf.extend.Goals as goal
 
 pub returns-then-extend : goal.returns-then-extend

@@ -1,6 +1,5 @@
-use Rattle.offset_script.proofs.Common.{subst}
+use Rattle.offset_script.proofs.{Common.subst, Held.held_pushed}
 use Rattle.offset_script.specs.Steps.{MayBeKept}
-use Rattle.offset_script.proofs.Held.{held_pushed}
 use Rattle.offset_script.proofs.player.PlayerOf.keep.Goals as goal
 
 pub returns-in_ok-push-in-Some-clause-held : goal.returns-in_ok-push-in-Some-clause-held

@@ -1,5 +1,4 @@
-use Rattle.offset_script.proofs.Common.{option_map, refl, sym, ap, ◌∙◌, Handle}
-use Rattle.offset_script.proofs.{Held.held_freed, Simulation.if_none, Simulation.if_some}
+use Rattle.offset_script.proofs.{Common.option_map, Common.refl, Common.sym, Common.ap, Common.◌∙◌, Common.Handle, Held.held_freed, Simulation.if_none, Simulation.if_some}
 use Rattle.offset_script.proofs.player.PlayerOf.release.Goals as goal
 
 pub free-requires : goal.free-requires

@@ -1,5 +1,4 @@
-use Rattle.offset_script.proofs.Common.{sym, subst, arith, Resets}
-use Rattle.offset_script.proofs.{Held.held_none, Simulation.none_kept, Simulation.reset_takes}
+use Rattle.offset_script.proofs.{Common.sym, Common.subst, Common.arith, Common.Resets, Held.held_none, Simulation.none_kept, Simulation.reset_takes}
 use Rattle.offset_script.proofs.player.PlayerOf.reset.Goals as goal
 
 pub returns-clause-takes : goal.returns-clause-takes

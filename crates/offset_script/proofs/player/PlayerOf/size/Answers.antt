@@ -1,5 +1,4 @@
-use Rattle.offset_script.proofs.Common.{option_map, refl, sym, ap, ◌∙◌, Handle}
-use Rattle.offset_script.proofs.Simulation.{if_none, if_some}
+use Rattle.offset_script.proofs.{Common.option_map, Common.refl, Common.sym, Common.ap, Common.◌∙◌, Common.Handle, Simulation.if_none, Simulation.if_some}
 use Rattle.offset_script.specs.Machine as machine
 use Rattle.offset_script.proofs.player.PlayerOf.size.Goals as goal
 

@@ -1,5 +1,4 @@
-use Rattle.offset_script.proofs.Common.{map, map-append, ap, ◌∙◌, answer_view}
-use Rattle.offset_script.proofs.Heard.{one_more}
+use Rattle.offset_script.proofs.{Common.map, Common.map-append, Common.ap, Common.◌∙◌, Common.answer_view, Heard.one_more}
 use Rattle.offset_script.proofs.playing.VecAnswerListener.hear.Goals as goal
 
 pub returns : goal.returns

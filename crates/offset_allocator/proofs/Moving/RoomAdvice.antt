@@ -1,0 +1,173 @@
+-- What has to move for a request, beside the reason of its refusal.
+use Rattle.offset_allocator.proofs.{Advice.none_free, Advice.free_within, Taken.HasFit, Taken.fitting, Classes.value_rises, Classes.down_law, Classes.value_grows, Classes.value_down}
+use Rattle.offset_allocator.proofs.{Views.ViewFits.HasName, Views.ViewFits.there_listed, Views.ViewFits.there_middle, Views.ViewApart.apart_parts, Tallies.free_units, Tallies.free_sum}
+use Rattle.offset_allocator.proofs.{Tallies.units-append, Joints.free_units-append, Joints.free_units-free, Joints.free_units-used, Moving.Compacting.AreUsed, Moving.Compacting.IsFirst}
+use Rattle.offset_allocator.proofs.{Moving.Compacting.first_is, Moving.Runs.single_run, Moving.Runs.run_some, Moving.Runs.run_within}
+use Rattle.offset_allocator.proofs.Common.{◌≡◌, ℕ, ◌^◌, ◌<◌, ◌≤◌, ◌⊎◌, Bool, true, false, not, ◌&&◌, Option, Some, None, List, [], ◌∷◌, ◌++◌, sum, if◌then◌else◌, refl, sym, ap, ap₂, subst, ◌∙◌, arith}
+use Rattle.offset_allocator.proofs.Common.{inl, inr, eq-zero-or-pos, true≢false, not-true, Block, View, IsWellFormed, AreCoalesced, CanGrant, IsWhy, free_sizes, starts_free, ends_used, used_of, one}
+use Rattle.offset_allocator.proofs.Common.{value, up, down, times, units, first_free}
+use Rattle.offset_allocator.specs.Moving.Room.{IsRun, IsAtMost, IsLeastCost, ranges_of}
+use Rattle.offset_allocator.specs.declared.reports.Refusal.TheVariants.{TooLarge, Space, Fragmented}
+use Rattle.offset_allocator.specs.declared.moves.room.RoomCost.{RoomCost}
+
+-- nothing has to move where a free block is large enough
+pub granted_moves_none : (v : View) → IsWellFormed v → (n : ℕ) (c : Option RoomCost) → CanGrant 1 n v → IsLeastCost (value (up n)) v.blocks c → c ≡ Some (record { units = 0; ranges = 0 })
+granted_moves_none v w n c g h = go c h
+  where
+    zero : RoomCost
+    zero = record { units = 0; ranges = 0 }
+
+    one_block : IsLeastCost (value (up n)) v.blocks (Some zero)
+    one_block =
+        let p = fitting n v w g.1 in
+        single_run (value (up n)) v.blocks p.0.before p.0.after p.0.block p.1 p.2 (omega (arith, value_grows (up n) (down p.0.block.size) p.3, value_down p.0.block.size))
+
+    least : (d : RoomCost) → IsAtMost d zero → d ≡ zero
+    least d (inl l) = absurd (omega (arith, l))
+    least d (inr l) = let r : d.ranges ≡ 0 = omega (arith, l.1) in ap₂ (λ (a b : ℕ). record { units = a; ranges = b }) l.0 r
+
+    go : (c : Option RoomCost) → IsLeastCost (value (up n)) v.blocks c → c ≡ Some zero
+    go None h = absurd (let k = h one_block.0.0 one_block.0.1 in omega (arith, k, one_block.0.2))
+    go (Some d) h = ap (λ x. Some x) (least d (subst (IsAtMost d) (sym one_block.0.3) (h.1 one_block.0.0 one_block.0.1 one_block.0.2)))
+
+-- no run is enough where all free units are not
+module _ (v : View) (w : IsWellFormed v) (n : ℕ) where
+  too_few : (c : Option RoomCost) → IsLeastCost (value (up n)) v.blocks c → ((run : List Block) → IsRun run v.blocks → value (up n) ≤ sum (free_sizes run) → ⊥) → c ≡ None
+  too_few None h none = refl
+  too_few (Some d) h none = absurd (none h.0.0 h.0.1 h.0.2)
+
+  pub large_moves_none : (c : Option RoomCost) → IsWhy 1 n v TooLarge → IsLeastCost (value (up n)) v.blocks c → c ≡ None
+  large_moves_none c why h = too_few c h (λ run r l. omega (arith, why.1, l, run_within run v.blocks r, free_within v w))
+
+  pub space_moves_none : (c : Option RoomCost) → IsWhy 1 n v Space → IsLeastCost (value (up n)) v.blocks c → c ≡ None
+  space_moves_none c why h = too_few c h none
+    where
+      no_fit : up n ≡ 0 → HasFit 0 v → ⊥
+      no_fit z f = why.3 (why.0, (f.0, omega (arith, z), f.2))
+
+      none : (run : List Block) → IsRun run v.blocks → value (up n) ≤ sum (free_sizes run) → ⊥
+      none run r l = elim (eq-zero-or-pos (up n)) [
+        | inl z ↦ run_some run v.blocks r (none_free v w (no_fit z))
+        | inr s ↦ omega (arith, why.2, l, run_within run v.blocks r, value_rises 0 (up n) (omega (arith, s)))
+      ]
+
+-- the blocks up to the last free one
+record IsEnding (bs : List Block) : Type 0 where
+  run : List Block
+  back : List Block
+  is : bs ≡ run ++ back
+  ends : (run ≡ []) ⊎ (ends_used run ≡ false)
+  all : free_units run ≡ free_units bs
+
+ending_more : (d : Block) (bs : List Block) → IsEnding bs → IsEnding (d ∷ bs)
+ending_more d bs t = go t.run refl
+  where
+    first : (u : Bool) → d.used ≡ u → free_units bs ≡ 0 → IsEnding (d ∷ bs)
+    first true e z = record { run = []; back = d ∷ bs; is = refl; ends = inl refl; all = omega (arith, z, free_units-used d bs e) }
+    first false e z = record { run = d ∷ []; back = bs; is = refl; ends = inr e; all = omega (arith, z) }
+
+    closed : (l : List Block) → t.run ≡ l → (l ≡ [] → ⊥) → ends_used (d ∷ t.run) ≡ ends_used t.run
+    closed [] e n = absurd (n refl)
+    closed (x ∷ l) e n = ap (λ k. ends_used (d ∷ k)) e ∙ sym (ap ends_used e)
+
+    go : (l : List Block) → t.run ≡ l → IsEnding (d ∷ bs)
+    go [] e = first d.used refl (omega (arith, t.all, ap free_units e))
+    go (x ∷ l) e = record {
+      run = d ∷ t.run;
+      back = t.back;
+      is = ap (λ k. d ∷ k) t.is;
+      ends = inr (elim t.ends [ inl z ↦ absurd (let k = sym e ∙ z in cc) | inr k ↦ closed (x ∷ l) e (λ q. absurd (cc)) ∙ k ]);
+      all = omega (arith, t.all);
+    }
+
+ending : (bs : List Block) → IsEnding bs
+ending [] = record { run = []; back = []; is = refl; ends = inl refl; all = refl }
+ending (d ∷ bs) = ending_more d bs (ending bs)
+
+-- the run from the first free block to the last one has all free units
+whole_run : (bs : List Block) → 1 ≤ sum (free_sizes bs) → (run : List Block) × IsRun run bs × (sum (free_sizes run) ≡ sum (free_sizes bs))
+whole_run bs some = go (first_free bs) refl
+  where
+    none_used : (l : List Block) → AreUsed l → free_units l ≡ 0
+    none_used [] h = refl
+    none_used (b ∷ l) h = free_units-used b l h.0 ∙ none_used l h.1
+
+    no_first : (l : List Block) → first_free l ≡ None → free_units l ≡ 0
+    no_first [] e = refl
+    no_first (b ∷ l) e = step b.used refl (no_first l)
+      where
+        step : (u : Bool) → b.used ≡ u → (first_free l ≡ None → free_units l ≡ 0) → free_units (b ∷ l) ≡ 0
+        step true q ih = free_units-used b l q ∙ ih (sym (ap (λ (u : Bool). if u then first_free l else Some b.name) q) ∙ e)
+        step false q ih = let k = sym (ap (λ (u : Bool). if u then first_free l else Some b.name) q) ∙ e in absurd (cc)
+
+    closed : (b : Block) (l : List Block) → b.used ≡ false → (l ≡ []) ⊎ (ends_used l ≡ false) → ends_used (b ∷ l) ≡ false
+    closed b [] f e = f
+    closed b (x ∷ l) f (inl z) = absurd (cc)
+    closed b (x ∷ l) f (inr k) = k
+
+    go : (o : Option ℕ) → first_free bs ≡ o → (run : List Block) × IsRun run bs × (sum (free_sizes run) ≡ sum (free_sizes bs))
+    go None e = absurd (omega (arith, some, free_sum bs, no_first bs e))
+    go (Some x) e =
+        let p : IsFirst bs x = first_is bs x e in
+        let t = ending p.place.after in (
+          p.place.block ∷ t.run,
+          record {
+            front = p.place.before;
+            back = t.back;
+            is = p.is ∙ ap (λ l. p.place.before ++ (p.place.block ∷ l)) t.is;
+            begins = ap not p.idle;
+            ends = closed p.place.block t.run p.idle t.ends;
+          },
+          omega (
+            arith,
+            free_sum bs,
+            ap free_units p.is,
+            free_units-append p.place.before (p.place.block ∷ p.place.after),
+            none_used p.place.before p.used,
+            free_sum (p.place.block ∷ t.run),
+            t.all,
+          ),
+        )
+
+-- where no free block is enough, some range has to move
+module _ (v : View) (w : IsWellFormed v) (n : ℕ) (why : IsWhy 1 n v Fragmented) where
+  alone_fits : (b : Block) (front back : List Block) → v.blocks ≡ front ++ (b ∷ back) → b.used ≡ false → value (up n) ≤ b.size → HasFit n v
+  alone_fits b front back is idle l =
+      let small : b.size < 2 ^ 32 = omega (arith, w.whole, w.fits, ap units is, units-append front (b ∷ back)) in (
+        down b.size,
+        (down_law b.size (up n) small).1 l,
+        λ e. absurd (omega (
+          arith,
+          w.binned (down b.size) b.name,
+          ap (times b.name) e,
+          there_listed b v.blocks (subst (HasName b) (sym is) (there_middle front b back)) (ap not idle),
+        )),
+      )
+
+  -- it is not one free block
+  not_alone : (run : List Block) → IsRun run v.blocks → used_of run ≡ 0 → value (up n) ≤ sum (free_sizes run) → ⊥
+  not_alone run r z l = go run r.front r.back r.is r.begins z l
+    where
+      go : (run front back : List Block) → v.blocks ≡ front ++ (run ++ back) → starts_free run ≡ true → used_of run ≡ 0 → value (up n) ≤ sum (free_sizes run) → ⊥
+      go [] front back is s z l = true≢false (sym s)
+      go (b ∷ []) front back is s z l =
+          let idle : b.used ≡ false = not-true b.used s in
+          why.2 (why.0, alone_fits b front back is idle (omega (arith, l, free_sum (b ∷ []), free_units-free b [] idle)))
+      go (b ∷ d ∷ rest) front back is s z l = two d.used refl
+        where
+          apart : AreCoalesced (b ∷ d ∷ rest)
+          apart = (apart_parts (b ∷ d ∷ rest) back (apart_parts front ((b ∷ d ∷ rest) ++ back) (subst AreCoalesced is w.apart)).1).0
+
+          two : (u : Bool) → d.used ≡ u → ⊥
+          two true e = omega (arith, z, ap one e)
+          two false e = true≢false (sym (ap₂ (λ (x y : Bool). x && y) s (ap not e)) ∙ apart.0)
+
+  pub fragmented_moves : (c : Option RoomCost) → IsLeastCost (value (up n)) v.blocks c → 1 ≤ ranges_of c
+  fragmented_moves None h =
+      let t = whole_run v.blocks (omega (arith, why.1)) in
+      let few = h t.0 t.1 in
+      absurd (omega (arith, few, t.2, why.1))
+  fragmented_moves (Some d) h = elim (eq-zero-or-pos d.ranges) [
+    | inl z ↦ absurd (not_alone h.0.0 h.0.1 (omega (arith, z, ap (λ (c : RoomCost). c.ranges) h.0.3)) h.0.2)
+    | inr k ↦ omega (arith, k)
+  ]

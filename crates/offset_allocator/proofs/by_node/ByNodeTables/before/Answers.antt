@@ -1,8 +1,0 @@
-use Rattle.offset_allocator.proofs.{Common.ap, Common.sym, Entries.read, Entries.bound}
-use Rattle.offset_allocator.proofs.by_node.ByNodeTables.before.Goals as goal
-
-pub returns-clause-cell : goal.returns-clause-cell
-returns-clause-cell g c = sym (ap (λ v. v.before) (read _ _ _ c.self.view_is c.args.name _ c.requires c.index.ensures))
-
-pub index-requires : goal.index-requires
-index-requires g c = bound _ _ c.self.inside c.self.view_is c.args.name c.requires

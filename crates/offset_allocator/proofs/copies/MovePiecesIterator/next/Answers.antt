@@ -1,8 +1,0 @@
-use Rattle.offset_allocator.proofs.{Common.arith, Common.common_steps, InPieces.stepped}
-use Rattle.offset_allocator.proofs.copies.MovePiecesIterator.next.Goals as goal
-
-pub returns-clause-steps : goal.returns-clause-steps
-returns-clause-steps c = grind (arith, common_steps, stepped)
-
-pub returns-clause-goes : goal.returns-clause-goes
-returns-clause-goes c = grind (arith, common_steps, stepped)

@@ -1,0 +1,9 @@
+use Rattle.offset_allocator.proofs.{Common.◌∙◌, Common.ap, Common.sym, Common.arith, Common.get_or-map, Common.link_of, Fields.read, Fields.within}
+use Rattle.offset_allocator.proofs.layouts.by_field.ByFieldTables.after.Goals as goal
+
+pub returns-clause-cell : goal.returns-clause-cell
+returns-clause-cell g c =
+    let t = c.self.inside in
+    let short = within _ _ t c.self.view_is c.args.name c.requires in
+    ap (link_of g.NI.NodeIndex.MAX) (ap g.NI.NodeIndex.number c.index.ensures ∙ sym (get_or-map g.NI.NodeIndex.number t.after.items c.args.name _ 0 (omega (arith, short, c.self.invariant.after))))
+    ∙ sym (ap (λ v. v.after) (read _ _ t c.self.view_is c.args.name c.requires))

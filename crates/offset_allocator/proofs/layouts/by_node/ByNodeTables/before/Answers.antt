@@ -1,0 +1,5 @@
+use Rattle.offset_allocator.proofs.{Common.ap, Common.sym, Entries.read}
+use Rattle.offset_allocator.proofs.layouts.by_node.ByNodeTables.before.Goals as goal
+
+pub returns-clause-cell : goal.returns-clause-cell
+returns-clause-cell g c = sym (ap (λ v. v.before) (read _ _ _ c.self.view_is c.args.name _ c.requires c.index.ensures))

@@ -1,0 +1,6 @@
+use Rattle.offset_allocator.proofs.{Common.refl, Common.Node, Common.link_of, Entries.wrote-chain}
+use Rattle.offset_allocator.proofs.layouts.by_node.ByNodeTables.set_end.Goals as goal
+
+pub returns-clause-cells : goal.returns-clause-cells
+returns-clause-cells g c = wrote-chain _ _ _ c.self.view_is c.args.name c.index_mut-node.result.now _
+    (λ (n : Node). record n { size = c.args.size; after = link_of g.NI.NodeIndex.MAX (g.NI.NodeIndex.number c.args.link) }) c.requires c.index_mut-node.ensures.value refl refl refl

@@ -1,0 +1,5 @@
+use Rattle.offset_allocator.proofs.{Common.ap, Common.sym, Entries.read}
+use Rattle.offset_allocator.proofs.layouts.by_node.ByNodeTables.used.Goals as goal
+
+pub returns-clause-cell : goal.returns-clause-cell
+returns-clause-cell g c = rw (c.number.ensures.number, c.MAX.ensures) (sym (ap (λ v. v.used) (read _ _ _ c.self.view_is c.args.name _ c.requires c.index.ensures)))

@@ -1,6 +1,0 @@
-use Rattle.offset_allocator.proofs.Common.{◌≡◌, take}
-use Rattle.offset_allocator.specs.State.{words_in}
-use Rattle.offset_allocator.proofs.state.words_of.Given as goal
-
-abbrev pub invariant-loop-i : goal.invariant-loop-i
-invariant-loop-i l = l.words.items ≡ take l.i (words_in l.bytes)

@@ -1,6 +1,0 @@
-use Rattle.offset_allocator.proofs.{Common.◌≡◌, Common.free_sizes, Counting.sizes_below}
-use Rattle.offset_allocator.proofs.statistics.free_blocks.Given as goal
-
--- those of the classes so far
-abbrev pub invariant-loop-class : goal.invariant-loop-class
-invariant-loop-class g l = l.blocks ≡ sizes_below l.class (free_sizes l.allocator.blocks)

@@ -1,0 +1,7 @@
+-- Live ranges that slide, what that costs and copies, and what empties the end of a space.
+pub mod Compacting
+pub mod Gaps
+pub mod Pieces
+pub mod Relocating
+pub mod Retracting
+pub mod Room

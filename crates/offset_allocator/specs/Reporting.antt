@@ -1,0 +1,6 @@
+-- What is reported.
+pub mod Beside
+pub mod FreeSizes
+pub mod Listing
+pub mod Reports
+pub mod Statistics

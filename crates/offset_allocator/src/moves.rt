@@ -1,0 +1,9 @@
+//! Live ranges that slide, what that costs and copies, and what empties the end of a space.
+
+pub(crate) mod compact;
+pub(crate) mod gap;
+pub(crate) mod make_room;
+pub(crate) mod pieces;
+pub(crate) mod relocate;
+pub(crate) mod retract;
+pub(crate) mod room;

@@ -1,0 +1,260 @@
+//! Slides every live range to the front of the space, so that all free units are one block at its end. It
+//! changes the chain by `gap`, and makes the bins anew.
+ghost use Rattle.std.specs.Prelude.{ℕ, ◌≡◌, ◌≢◌, ◌+◌, ◌*◌, ◌<◌, ◌≤◌, [], ◌∷◌, ◌++◌, Some, false, Bool, List};
+ghost use Rattle.std.specs.Prelude.{length, sum, unwrap_or};
+ghost use Rattle.std.specs.List.{FoldsTo};
+ghost use Rattle.offset_allocator.specs.Accesses.{Costs};
+ghost use Rattle.offset_allocator.specs.Cells.{node};
+ghost use Rattle.offset_allocator.specs.Names.{free_blocks, names_of};
+ghost use Rattle.offset_allocator.specs.View.{Place, free_block, free_sizes, units, AreInBins};
+ghost use Rattle.offset_allocator.specs.Bins.{IsBinned, bins_in};
+ghost use Rattle.offset_allocator.specs.Chain.{IsSpace, HasPlace, blocks};
+ghost use Rattle.offset_allocator.specs.Moving.Compacting.{live, moves, move_of, Compacts, KeepsSizes};
+ghost use Rattle.offset_allocator.specs.Moving.Compacting.{IsCalledWith, IsStart, first_among, first_free};
+ghost use Rattle.offset_allocator.specs.Moving.Compacting.{newest, until, until_free};
+ghost use Rattle.offset_allocator.specs.Store.{IsPlaceIn, SameBins, unused_of};
+
+use crate::accesses::Accesses;
+use crate::handle::Allocation;
+use crate::index::{NodeIndex, NodeIndexNonMax, linked};
+use crate::moves::gap;
+use crate::moves::gap::Gap;
+use crate::small_float::uint_to_float_round_down;
+use crate::store::Store;
+use crate::tables::Tables;
+use crate::{AllocatorOf, bins, chain};
+use std::marker::PhantomData;
+
+/// A range that `compact` moves: `size` units from the offset `from` to the offset `to`, which is smaller.
+#[derive(Clone, Copy, Debug, PartialEq)]
+pub struct Move<NI: NodeIndex = u32, N: NodeIndexNonMax = <NI as NodeIndex>::NonMax> {
+    name: N,
+    /// The offset that the range had.
+    pub from: u32,
+    /// The offset that it has after the move.
+    pub to: u32,
+    /// Its units.
+    pub size: u32,
+    index: PhantomData<NI>,
+}
+
+impl<NI: NodeIndex, N: NodeIndexNonMax> Move<NI, N> {
+    /// The handle of the range as it is after the move. Every older handle of the range is live too; only its
+    /// `offset` is that of before.
+    ///
+    /// ```
+    /// let hole = space.allocate(300).unwrap();
+    /// let mesh = space.allocate(100).unwrap();
+    /// space.free(hole);
+    /// space.compact(&mut |it| assert_eq!(it.allocation().name(), mesh.name()));
+    /// ```
+    pub fn allocation(&self) -> Allocation<NI, N>
+        ensures { result ≡ record { name = N.number self.now.name; offset = self.now.to } }
+    {
+        Allocation::make(self.to, self.name)
+    }
+}
+
+// The most bins that are looked into for a free block near the start of the space.
+const MOST_BINS: u32 = 32;
+
+// A block to begin the search for the first free one at, which is this one or before it: of the newest blocks
+// of the first bins that have some, the first in space, or the last block of the space where none is free.
+fn search_start<T: Tables>(tables: &T, top_mask: u32, last: u32, count: &mut Accesses) -> u32
+    requires space { (spare : ℕ) × IsSpace (T.cells tables.now).chain last spare }
+    requires binned { IsBinned T.Index.MAX (T.cells tables.now).bins top_mask }
+    requires filed { AreInBins (blocks (T.cells tables.now).chain last)
+        (bins_in T.Index.MAX (T.cells tables.now).bins) }
+    ensures first { result
+        ≡ unwrap_or (first_among (newest 32 (bins_in T.Index.MAX (T.cells tables.now).bins))
+        (blocks (T.cells tables.now).chain last)) last }
+    ensures start { IsStart (blocks (T.cells tables.now).chain last) result }
+    ensures accesses { count.new
+        ≡ count.old + 4 + 2 * length (newest 32 (bins_in T.Index.MAX (T.cells tables.now).bins)) }
+{
+    let masks = bins::masks(tables, count);
+    let mut start = last;
+    // above each offset
+    let mut lowest = u64::MAX;
+    let mut class = 0;
+    for _ in 0..MOST_BINS {
+        if class > 255 {
+            return start;
+        }
+        let Some(found) = bins::find_in_masks(&masks, top_mask, class) else {
+            return start;
+        };
+        let name = tables.head(found, count);
+        let offset = tables.offset(name, count) as u64;
+        if offset < lowest {
+            lowest = offset;
+            start = name;
+        }
+        class = found + 1;
+    }
+    start
+}
+
+// The name of the first free block, if there is one. It is found by a walk back from `start`, since the first
+// block of the space is not known.
+fn first_free<T: Tables>(tables: &T, last: u32, start: u32, count: &mut Accesses) -> Option<u32>
+    requires space { (spare : ℕ) × IsSpace (T.cells tables.now).chain last spare }
+    requires start { IsStart (blocks (T.cells tables.now).chain last) start }
+    ensures first { result ≡ first_free (blocks (T.cells tables.now).chain last) }
+    ensures accesses { count.new ≡ count.old + 2 * until start (blocks (T.cells tables.now).chain last) }
+    // no fewer than up to the first free block
+    ensures least { until_free (blocks (T.cells tables.now).chain last)
+        ≤ until start (blocks (T.cells tables.now).chain last) }
+    ensures most { until start (blocks (T.cells tables.now).chain last)
+        ≤ length (blocks (T.cells tables.now).chain last) }
+{
+    let mut first = None;
+    let mut at = Some(start);
+    while let Some(name) = at {
+        if !chain::is_used(tables, name, count) {
+            first = Some(name);
+        }
+        at = chain::before(tables, name, count);
+    }
+    first
+}
+
+// Calls the closure with the move of a block, where it gets another offset.
+pub(crate) fn report<NI: NodeIndex, F: FnMut(Move<NI>)>(
+    moved: &mut F,
+    name: u32,
+    from: u32,
+    to: u32,
+    size: u32,
+)
+    requires named { name < NI.MAX }
+    requires callable { F.IsAlwaysCallable moved.old }
+    ensures called { (used : Bool) → FoldsTo (IsCalledWith NI.NonMax.number
+        (λ f range g. F.step f range tt g)) moved.old (move_of from to (record {
+          name = name;
+          size = size;
+          used = used;
+        })) moved.new }
+    ensures callable { F.IsAlwaysCallable moved.new }
+{
+    if from == to {
+        return;
+    }
+    moved(Move {
+        name: NI::from_u32(name).to_name(),
+        from,
+        to,
+        size,
+        index: PhantomData,
+    });
+}
+
+// Slides the used blocks after a free block to the front, and coalesces it with the free ones, until it is
+// the last block of the space.
+fn slide<T: Tables, F: FnMut(Move<T::Index>)>(
+    store: &mut Store<T>,
+    name: u32,
+    size: u32,
+    moved: &mut F,
+) -> Gap<T::Index>
+    requires place { (limit : ℕ) × (p : Place) × IsPlaceIn T.cells store.old limit name p
+        × (p.block.used ≡ false) }
+    requires size { size ≡ (node (T.cells store.old.tables).chain name).size }
+    requires callable { F.IsAlwaysCallable moved.old }
+    ensures callable { F.IsAlwaysCallable moved.new }
+    ensures place { (limit : ℕ) (p : Place) → IsPlaceIn T.cells store.old limit name p → p.block.used ≡ false
+        → IsPlaceIn T.cells store.new limit result.name (record {
+          before = p.before ++ live p.after;
+          block = free_block result.name result.size;
+          after = [];
+        })
+        × (result.size ≡ p.block.size + sum (free_sizes p.after))
+        × FoldsTo (IsCalledWith T.Index.NonMax.number (λ f range g. F.step f range tt g)) moved.old
+        (moves (units p.before + p.block.size) (units p.before) p.after) moved.new
+        × (store.new.accesses ≤ store.old.accesses + 7 * length p.after + 9) }
+    ensures name { result.name ≡ name }
+    ensures unused { (limit : ℕ) (p : Place) → IsPlaceIn T.cells store.old limit name p
+        → p.block.used ≡ false
+        → unused_of T.cells store.new
+        ≡ unused_of T.cells store.old ++ names_of (free_blocks p.after) }
+    ensures bins { SameBins T.cells store.old store.new }
+    ensures accesses_min { (limit : ℕ) (p : Place) → IsPlaceIn T.cells store.old limit name p
+        → p.block.used ≡ false
+        → store.old.accesses + 4 * length p.after + 7 ≤ store.new.accesses }
+{
+    store.tables.shape();
+    let mut gap = gap::open(&store.tables, name, size, &mut store.accesses);
+    let mut at = store.tables.after(name, &mut store.accesses);
+    while let Some(next) = linked(at) {
+        let more = store.tables.size(next, &mut store.accesses);
+        at = store.tables.after(next, &mut store.accesses);
+        if chain::is_used(&store.tables, next, &mut store.accesses) {
+            report(moved, next, gap.offset + gap.size, gap.offset, more);
+            gap::pass(store, &mut gap, next, more);
+        } else {
+            gap::gather(store, &mut gap, next, more);
+        }
+    }
+    gap::close(store, gap, at);
+    gap
+}
+
+impl<T: Tables> AllocatorOf<T> {
+    /// Slides every live range to the front of the space, in space order, so that all free units are one
+    /// block at its end. `moved` is called for each range that gets another offset, in space order: the units
+    /// from `from` on are to be copied to `to`, as `copy_within` does. In this order no copy writes on a unit
+    /// that a later one reads.
+    ///
+    /// Every handle stays live, with its name and its size; only the public `offset` of a moved one is that
+    /// of before, and `allocation_offset` returns the new one. The free block at the end has the name of the
+    /// first one that there was. `moved` has to be callable with any move: its contract may require nothing of it. It makes at
+    /// most 10 accesses to the tables for each block, and 384, and takes no memory.
+    ///
+    /// ```
+    /// let hole = space.allocate(300).unwrap();
+    /// let mesh = space.allocate(100).unwrap();
+    /// space.free(hole);
+    /// space.compact(&mut |it| assert_eq!((it.from, it.to, it.size), (300, 0, 100)));
+    /// assert_eq!(space.allocation_offset(mesh), Some(0));
+    /// ```
+    pub fn compact<F: FnMut(Move<T::Index>)>(&mut self, moved: &mut F)
+        requires callable { F.IsAlwaysCallable moved.old }
+        // The live blocks keep their names, their sizes and their order: so every handle stays live, with its
+        // size.
+        ensures live { live self.new.blocks ≡ live self.old.blocks }
+        ensures sizes { KeepsSizes self.old self.new }
+        // The closure is called with the moves, in space order.
+        ensures moved { FoldsTo
+            (IsCalledWith T.Index.NonMax.number (λ f range g. F.step f range tt g)) moved.old
+            (moves 0 0 self.old.blocks) moved.new }
+        // It makes at least 2 accesses to table cells for each block, and 267 more where a block is free; at
+        // most 10 for each, and 384.
+        ensures accesses { Costs (2 * length self.old.blocks)
+            (10 * length self.old.blocks + 384) self.old.accesses self.new.accesses }
+        ensures accesses_some { free_sizes self.old.blocks ≢ []
+            → self.old.accesses + 2 * length self.old.blocks + 267 ≤ self.new.accesses }
+        // The step as a whole: the live blocks, and after them one free block of all free units, alone in its
+        // bin.
+        ensures step { Compacts self.old self.new }
+    {
+        let start = search_start(
+            &self.store.tables,
+            self.store.top_mask,
+            self.store.last,
+            &mut self.store.accesses,
+        );
+        let Some(first) = first_free(
+            &self.store.tables,
+            self.store.last,
+            start,
+            &mut self.store.accesses,
+        ) else {
+            return;
+        };
+        let size = self.store.tables.size(first, &mut self.store.accesses);
+        bins::empty(&mut self.store);
+        let hole = slide(&mut self.store, first, size, moved);
+        let class = uint_to_float_round_down(hole.size);
+        bins::push(&mut self.store, hole.name, class);
+    }
+}

@@ -1,0 +1,77 @@
+//! A second range for what a live one holds, nearer to the start of the space, so that the end of a heap can
+//! be emptied. It reads the tables, and changes them by a grant alone.
+ghost use Rattle.std.specs.Prelude.{◌≡◌, ◌+◌, ◌<◌, ◌≤◌, ℕ, None, Some, IfSome};
+ghost use Rattle.offset_allocator.specs.Accesses.{Costs};
+ghost use Rattle.offset_allocator.specs.Ranges.{Grants, IsLive, size_of};
+ghost use Rattle.offset_allocator.specs.Relations.{SameState};
+ghost use Rattle.offset_allocator.specs.Moving.Relocating.{Relocates, WouldBegin, offset_of};
+
+use crate::handle::Allocation;
+use crate::small_float::uint_to_float_round_up;
+use crate::tables::Tables;
+use crate::{AllocatorOf, bins};
+
+impl<T: Tables> AllocatorOf<T> {
+    // Where the block begins that a request for `size` units would take, if there is one: where it is
+    // granted, its range begins there.
+    fn would_begin(&mut self, size: u32) -> Option<u32>
+        ensures same { SameState self.old self.new }
+        ensures begins { (offset : ℕ) → WouldBegin size self.old offset → result ≡ Some offset }
+        ensures accesses { Costs 1 4 self.old.accesses self.new.accesses }
+    {
+        self.store.tables.shape();
+        let smallest = uint_to_float_round_up(size);
+        let class = bins::find_at_or_above(
+            &self.store.tables,
+            self.store.top_mask,
+            smallest,
+            &mut self.store.accesses,
+        )?;
+        let name = self.store.tables.head(class, &mut self.store.accesses);
+        Some(self.store.tables.offset(name, &mut self.store.accesses))
+    }
+
+    /// Grants a second range of as many units as that of a live handle, which begins before it, and returns
+    /// its handle. The old range stays live until it is freed: so the units can be copied, and the copies do
+    /// not overlap, while the old ones are still read. Done for the last ranges of a space (`last_live`,
+    /// `live_before`), it empties the end.
+    ///
+    /// The block is the one that `allocate` takes for these units. `None` is returned where that would refuse
+    /// them, or where the block begins after the range; then the space is as it was. The handle has to be
+    /// live, and only its name counts. It makes at most 80 accesses to the tables, and takes no memory.
+    ///
+    /// ```
+    /// let hole = space.allocate(320).unwrap();
+    /// let mesh = space.allocate(320).unwrap();
+    /// space.free(hole);
+    /// let moved = space.relocate(mesh).unwrap();
+    /// assert_eq!((mesh.offset, moved.offset), (320, 0));
+    /// space.free(mesh);
+    /// ```
+    pub fn relocate(&mut self, allocation: Allocation<T::Index>) -> Option<Allocation<T::Index>>
+        requires live { IsLive allocation.name self.old }
+        // A grant as of `allocate`: under a name that was not live, with as many units, and all live ranges
+        // stay.
+        ensures grants { IfSome result (Grants (size_of allocation.name self.old) self.old self.new) }
+        // It ends where the old range begins, or before.
+        ensures before { IfSome result (λ h. h.offset + size_of allocation.name self.old
+            ≤ offset_of allocation.name self.old) }
+        // A refusal leaves the space as it was.
+        ensures same { result ≡ None → SameState self.old self.new }
+        // At most 80 accesses to table cells, and at least 3.
+        ensures accesses { Costs 3 80 self.old.accesses self.new.accesses }
+        // The step as a whole: it is the grant of `allocate` where that begins before the range, and only
+        // there.
+        ensures step { Relocates allocation.name self.old self.new result }
+    {
+        let name = allocation.name();
+        let size = self.store.tables.size(name, &mut self.store.accesses);
+        let old = self.store.tables.offset(name, &mut self.store.accesses);
+        let begins = self.would_begin(size)?;
+        if begins < old {
+            self.serve(size, 1)
+        } else {
+            None
+        }
+    }
+}

@@ -1,0 +1,153 @@
+//! A copy of a space, cell by cell: it makes tables, and reads those of the space.
+ghost use Rattle.std.specs.Prelude.{◌≡◌, ◌<◌, ◌≤◌, ℕ, false, length, IfOk};
+ghost use Rattle.offset_allocator.specs.Cells.{node};
+ghost use Rattle.offset_allocator.specs.Saving.Copying.{IsAlikeAt, IsFilled, IsIdle, KeepsOtherNames};
+ghost use Rattle.offset_allocator.specs.Relations.{IsCopy};
+
+use crate::AllocatorOf;
+use crate::accesses::Accesses;
+use crate::store::Store;
+use crate::tables::Tables;
+use std::alloc::{AllocError, Global};
+
+/// Tables with some nodes, none of them used, memory for `limit`, and no name in a bin.
+pub(crate) fn with_nodes<T: Tables>(
+    alloc: Global,
+    limit: u32,
+    nodes: u32,
+    count: &mut Accesses,
+) -> Result<T, AllocError>
+    requires some { 1 ≤ nodes }
+    requires within { nodes ≤ limit }
+    requires limit { limit < T.Index.MAX }
+    ensures { IfOk result (λ tables. IsIdle T.Index.MAX nodes limit (T.cells tables)) }
+{
+    let mut tables = T::with_capacity(alloc, limit)?;
+    for made in 1..nodes {
+        tables.add(made, count);
+    }
+    Ok(tables)
+}
+
+// Copies the node of a name, and its links in its bin.
+#[tactic(auto, using(crate::proofs::Linking::Nodes::lengths))]
+fn copy_node<T: Tables>(from: &T, into: &mut T, name: u32, count: &mut Accesses)
+    requires named { name < length (T.cells from.now).chain.nodes }
+    requires even { length (T.cells into.old).chain.nodes ≡ length (T.cells from.now).chain.nodes }
+    requires idle { (node (T.cells into.old).chain name).used ≡ false }
+    ensures { IsFilled name (T.cells from.now) (T.cells into.old) (T.cells into.new) }
+{
+    from.shape();
+    into.shape();
+    let offset = from.offset(name, count);
+    let size = from.size(name, count);
+    let before = from.before(name, count);
+    let after = from.after(name, count);
+    into.set_block(name, offset, size, before, after, count);
+    let older = from.older(name, count);
+    if from.used(name, count) {
+        into.set_older(name, older, count);
+        into.set_used(name, true, count);
+    } else {
+        let newer = from.newer(name, count);
+        into.set_links(name, newer, older, count);
+    }
+}
+
+// Copies the cells of a name.
+fn copy_name<T: Tables>(from: &T, into: &mut T, name: u32, count: &mut Accesses)
+    requires named { name < length (T.cells from.now).chain.nodes }
+    requires even { length (T.cells into.old).chain.nodes ≡ length (T.cells from.now).chain.nodes }
+    requires idle { (node (T.cells into.old).chain name).used ≡ false }
+    ensures alike { IsAlikeAt name (T.cells from.now) (T.cells into.new) }
+    ensures others { KeepsOtherNames name (T.cells into.old) (T.cells into.new) }
+{
+    from.shape();
+    into.shape();
+    copy_node(from, into, name, count);
+    let spare = from.spare(name, count);
+    into.set_spare(name, spare, count);
+}
+
+// Copies the newest name of each bin, and the masks.
+fn copy_bins<T: Tables>(from: &T, into: &mut T, count: &mut Accesses)
+    ensures cells { T.cells into.new ≡ record (T.cells into.old) {
+      bins = record (T.cells into.old).bins {
+        heads = (T.cells from.now).bins.heads;
+        masks = (T.cells from.now).bins.masks;
+      };
+    } }
+{
+    from.shape();
+    into.shape();
+    for class in 0..256 {
+        let head = from.head(class, count);
+        into.set_head(class, head, count);
+    }
+    for word in 0..4 {
+        let mask = from.mask(word, count);
+        into.set_mask(word, mask, count);
+    }
+}
+
+// Tables with the same cells.
+fn copied<T: Tables>(
+    alloc: Global,
+    from: &T,
+    limit: u32,
+    count: &mut Accesses,
+) -> Result<T, AllocError>
+    requires memory { limit ≡ (T.cells from.now).chain.reserved }
+    requires some { 0 < length (T.cells from.now).chain.nodes }
+    ensures cells { IfOk result (λ into. T.cells into ≡ T.cells from.now) }
+{
+    from.shape();
+    let mut into = with_nodes(alloc, limit, from.len(), count)?;
+    for name in 0..from.len() {
+        copy_name(from, &mut into, name, count);
+    }
+    copy_bins(from, &mut into, count);
+    into.shape();
+    Ok(into)
+}
+
+impl<T: Tables> AllocatorOf<T> {
+    /// A copy of the space, with memory of its own: the same live ranges under the same handles, the same
+    /// blocks and the same order in bins, and the same unused nodes. So each further call has the same answer
+    /// in both, handles included, and a handle of one is live in the other exactly if it was when the copy
+    /// was made.
+    ///
+    /// It reserves what `with_max_allocs` does, and takes time for the nodes that were made, which
+    /// `node_count` counts, and not for the node limit.
+    ///
+    /// # Errors
+    ///
+    /// An error is returned only where an allocation failed; then nothing is made.
+    ///
+    /// ```
+    /// let mesh = space.allocate(300).unwrap();
+    /// let copy = space.try_clone(alloc)?;
+    /// space.free(mesh);
+    /// assert!(copy.is_live(mesh));
+    /// ```
+    pub fn try_clone(&self, alloc: Global) -> Result<Self, AllocError>
+        ensures { IfOk result (IsCopy self.now) }
+    {
+        let mut count = Accesses::new();
+        let store = &self.store;
+        self.formed();
+        let tables = copied(alloc, &store.tables, self.max_allocs, &mut count)?;
+        Ok(AllocatorOf {
+            size: self.size,
+            max_allocs: self.max_allocs,
+            free_total: self.free_total,
+            store: Store {
+                tables,
+                top_mask: store.top_mask,
+                last: store.last,
+                spare_count: store.spare_count,
+                accesses: Accesses::new(),
+            },
+        })
+    }
+}

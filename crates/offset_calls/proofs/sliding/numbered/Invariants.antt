@@ -1,0 +1,9 @@
+use Rattle.offset_calls.proofs.Common.{◌≡◌, ◌++◌, drop, map, move_view}
+use Rattle.std.specs.Prelude.{slice_index}
+use Rattle.offset_calls.specs.Slides.{numbered_move}
+use Rattle.offset_calls.proofs.sliding.numbered.Given as goal
+
+-- the moves so far, and those that are left with their numbers
+abbrev pub invariant-loop-i : goal.invariant-loop-i
+invariant-loop-i g l = map move_view l.found.items ++ map (numbered_move (λ x. slice_index l.numbers.by_name.items x)) (drop l.i l.slides)
+    ≡ map (numbered_move (λ x. slice_index l.numbers.by_name.items x)) l.slides

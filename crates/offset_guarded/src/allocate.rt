@@ -1,0 +1,305 @@
+//! Grants, each with the next serial, and why one is refused. Nothing else gives a serial.
+ghost use Rattle.std.specs.Prelude.{ℕ, ◌≡◌, ◌↔◌, ◌+◌, ◌*◌, ◌%◌, ◌<◌, ◌≤◌, None, Some, IsSome, IfSome};
+ghost use Rattle.std.specs.Prelude.{if◌then◌else◌, length, nat_eq, option_map};
+ghost use Rattle.offset_allocator.specs.Ranges as named;
+ghost use Rattle.offset_allocator.specs.Ranges.{size_of};
+ghost use Rattle.offset_allocator.specs.Moving.Relocating.{Relocates, offset_of};
+ghost use Rattle.offset_allocator.specs.View.{bin_at, reported_largest};
+ghost use Rattle.offset_allocator.specs.Relations.{Aligns, Allocates};
+ghost use Rattle.offset_allocator.specs.Requests.{CanGrant, IsAlignment, blocks_needed, units_needed};
+ghost use Rattle.offset_allocator.specs.Classes.{down};
+ghost use Rattle.offset_allocator.specs.Tight.{AlignsTight, CanHold, listed_from};
+ghost use Rattle.offset_guarded.specs.Guard.{Grants, IsLive, IsSame, IsWhy, IsWhyTight, cell, handle_in};
+ghost use Rattle.offset_guarded.specs.Guard.{HasSerialLeft, last_serial};
+
+use crate::GuardedOf;
+use crate::refusal::Refusal;
+use crate::serials::Serials;
+use crate::ticket::Ticket;
+use offset_allocator::{Allocation, AllocatorOf, Tables};
+
+// Gives the next serial to a grant.
+#[inline(always)]
+fn ticket_for<T: Tables>(
+    space: &AllocatorOf<T>,
+    serials: &mut Serials,
+    realm: u32,
+    handle: Allocation<T::Index>,
+) -> Ticket
+    requires live { named.IsLive handle.name space.now }
+    requires room { space.now.max_allocs ≤ serials.old.room }
+    requires left { serials.old.given < last_serial }
+    ensures cells { (x : ℕ) → cell x serials.new.cells
+        ≡ (if nat_eq x handle.name then serials.old.given + 1 else cell x serials.old.cells) }
+    ensures given { serials.new.given ≡ serials.old.given + 1 }
+    ensures room { serials.new.room ≡ serials.old.room }
+    ensures ticket { result ≡ record {
+      offset = handle.offset;
+      name = handle.name;
+      serial = serials.old.given + 1;
+      realm = realm;
+    } }
+{
+    serials.cover(space.node_count());
+    let (offset, name) = handle.to_parts();
+    Ticket {
+        offset,
+        name,
+        serial: serials.give(name),
+        realm,
+    }
+}
+
+impl<T: Tables> GuardedOf<T> {
+    /// Grants a range of `size` units, and returns its ticket: of the range that `Allocator::allocate`
+    /// grants, with the next serial.
+    ///
+    /// `None` is returned where that call returns `None`, or where all serials are given; then all is as it
+    /// was.
+    ///
+    /// ```
+    /// let mesh = guarded.allocate(300).unwrap();
+    /// assert_eq!(guarded.offset_of(mesh), Some(0));
+    /// assert!(guarded.allocate(701).is_none());
+    /// ```
+    #[inline(always)]
+    pub fn allocate(&mut self, size: u32) -> Option<Ticket>
+        // It is granted exactly when a serial is left and the allocator can grant it: for at least one unit,
+        // when `size` is at most the reported `largest_free_region`.
+        ensures granted { 1 ≤ size
+            → (IsSome result ↔ (HasSerialLeft self.old × (size ≤ reported_largest self.old.space))) }
+        ensures can_grant { IsSome result ↔ (HasSerialLeft self.old × CanGrant 1 size self.old.space) }
+        // A grant has the next serial, and its ticket was not live. Its range has exactly `size` units, lies
+        // in the space, and overlaps no live range. Every other ticket keeps its range, if it has one.
+        ensures grants { IfSome result (Grants size self.old self.new) }
+        // A refusal leaves all as it was.
+        ensures same { result ≡ None → IsSame self.old self.new }
+        // The step of the allocator, where a serial is left.
+        ensures step { HasSerialLeft self.old
+            → Allocates size self.old.space self.new.space (option_map handle_in result) }
+        ensures accesses_max { self.new.space.accesses ≤ self.old.space.accesses + 64 }
+    {
+        if self.serials.is_spent() {
+            return None;
+        }
+        match self.space.allocate(size) {
+            None => None,
+            Some(handle) => Some(ticket_for(&self.space, &mut self.serials, self.realm, handle)),
+        }
+    }
+
+    /// Grants `size` units that begin at a multiple of `align`, a power of two: the range that
+    /// `Allocator::allocate_aligned` grants, with the next serial.
+    ///
+    /// `None` is returned where that call returns `None`, or where all serials are given; then all is as it
+    /// was.
+    ///
+    /// ```
+    /// guarded.allocate(10);
+    /// let uniforms = guarded.allocate_aligned(300, 256).unwrap();
+    /// assert_eq!(guarded.offset_of(uniforms), Some(256));
+    /// ```
+    pub fn allocate_aligned(&mut self, size: u32, align: u32) -> Option<Ticket>
+        requires power { IsAlignment align }
+        ensures can_grant { IsSome result ↔ (HasSerialLeft self.old
+            × CanGrant (blocks_needed align) (units_needed size align) self.old.space) }
+        ensures grants { IfSome result (Grants size self.old self.new) }
+        ensures aligned { IfSome result (λ t. t.offset % align ≡ 0) }
+        ensures same { result ≡ None → IsSame self.old self.new }
+        ensures step { HasSerialLeft self.old
+            → Aligns size align self.old.space self.new.space (option_map handle_in result) }
+        ensures accesses_max { self.new.space.accesses ≤ self.old.space.accesses + 128 }
+    {
+        if self.serials.is_spent() {
+            return None;
+        }
+        match self.space.allocate_aligned(size, align) {
+            None => None,
+            Some(handle) => Some(ticket_for(&self.space, &mut self.serials, self.realm, handle)),
+        }
+    }
+
+    /// Grants `size` units of any free block that has them: the range that `Allocator::allocate_tight`
+    /// grants, with the next serial.
+    ///
+    /// `None` is returned where that call returns `None`, or where all serials are given; then all is as it
+    /// was.
+    ///
+    /// ```
+    /// guarded.allocate(300);
+    /// assert!(guarded.allocate(700).is_none());
+    /// assert!(guarded.allocate_tight(700).is_some());
+    /// ```
+    pub fn allocate_tight(&mut self, size: u32) -> Option<Ticket>
+        // It is granted exactly when a serial is left and there is room for one more block and a free block
+        // of `size` units.
+        ensures can_hold { IsSome result ↔ (HasSerialLeft self.old × CanHold size 1 self.old.space) }
+        ensures grants { IfSome result (Grants size self.old self.new) }
+        ensures same { result ≡ None → IsSame self.old self.new }
+        ensures step { HasSerialLeft self.old
+            → AlignsTight size 1 self.old.space self.new.space (option_map handle_in result) }
+        ensures accesses_max { self.new.space.accesses
+            ≤ self.old.space.accesses + 140 + 6 * length (bin_at self.old.space.bins (down size)) }
+    {
+        if self.serials.is_spent() {
+            return None;
+        }
+        match self.space.allocate_tight(size) {
+            None => None,
+            Some(handle) => Some(ticket_for(&self.space, &mut self.serials, self.realm, handle)),
+        }
+    }
+
+    /// Grants `size` units that begin at a multiple of `align`, a power of two, of any free block that holds
+    /// them: the range that `Allocator::allocate_tight_aligned` grants, with the next serial.
+    ///
+    /// `None` is returned where that call returns `None`, or where all serials are given; then all is as it
+    /// was.
+    ///
+    /// ```
+    /// guarded.allocate(256);
+    /// assert!(guarded.allocate_aligned(700, 256).is_none());
+    /// assert_eq!(guarded.allocate_tight_aligned(700, 256).unwrap().offset, 256);
+    /// ```
+    pub fn allocate_tight_aligned(&mut self, size: u32, align: u32) -> Option<Ticket>
+        requires power { IsAlignment align }
+        ensures can_hold { IsSome result ↔ (HasSerialLeft self.old × CanHold size align self.old.space) }
+        ensures grants { IfSome result (Grants size self.old self.new) }
+        ensures aligned { IfSome result (λ t. t.offset % align ≡ 0) }
+        ensures same { result ≡ None → IsSame self.old self.new }
+        ensures step { HasSerialLeft self.old
+            → AlignsTight size align self.old.space self.new.space (option_map handle_in result) }
+        ensures accesses_max { self.new.space.accesses
+            ≤ self.old.space.accesses + 140 + 6 * length (listed_from (down size) self.old.space.bins) }
+    {
+        if self.serials.is_spent() {
+            return None;
+        }
+        match self.space.allocate_tight_aligned(size, align) {
+            None => None,
+            Some(handle) => Some(ticket_for(&self.space, &mut self.serials, self.realm, handle)),
+        }
+    }
+
+    /// Grants a second range of as many units as that of a ticket, which begins before it: the one that
+    /// `Allocator::relocate` grants, with the next serial. The old ticket stays live until it is freed.
+    ///
+    /// `None` is returned where that call returns `None`, where the ticket is not live, or where all serials
+    /// are given; then all is as it was.
+    ///
+    /// It makes at most 88 accesses to the tables of the allocator: 8 to see whether the name is live, which
+    /// the allocator does not count, and 80 that it counts.
+    ///
+    /// ```
+    /// let hole = guarded.allocate(320).unwrap();
+    /// let mesh = guarded.allocate(320).unwrap();
+    /// guarded.free(hole);
+    /// let moved = guarded.relocate(mesh).unwrap();
+    /// assert_eq!((mesh.offset, moved.offset), (320, 0));
+    /// guarded.free(mesh);
+    /// ```
+    pub fn relocate(&mut self, ticket: Ticket) -> Option<Ticket>
+        ensures live { IsSome result → IsLive ticket self.old × HasSerialLeft self.old }
+        ensures grants { IfSome result (Grants (size_of ticket.name self.old.space) self.old self.new) }
+        // It ends where the old range begins, or before.
+        ensures before { IfSome result (λ t. t.offset + size_of ticket.name self.old.space
+            ≤ offset_of ticket.name self.old.space) }
+        ensures same { result ≡ None → IsSame self.old self.new }
+        // The step of the allocator, where the ticket is live and a serial is left.
+        ensures step { IsLive ticket self.old → HasSerialLeft self.old
+            → Relocates ticket.name self.old.space self.new.space (option_map handle_in result) }
+        // It counts the accesses of the step, without those of the test whether the ticket is live, at most 8.
+        ensures accesses_max { self.new.space.accesses ≤ self.old.space.accesses + 80 }
+    {
+        let handle = self.handle(ticket)?;
+        if self.serials.is_spent() {
+            return None;
+        }
+        match self.space.relocate(handle) {
+            None => None,
+            Some(second) => Some(ticket_for(&self.space, &mut self.serials, self.realm, second)),
+        }
+    }
+
+    /// Why `allocate(size)` would be refused now, or `None` exactly where it would be granted.
+    ///
+    /// ```
+    /// assert_eq!(guarded.refusal(300), None);
+    /// assert_eq!(guarded.refusal(1001).unwrap().to_string(), "the request is too large for the space");
+    /// ```
+    pub fn refusal(&self, size: u32) -> Option<Refusal>
+        ensures granted { result ≡ None ↔ (HasSerialLeft self.now × CanGrant 1 size self.now.space) }
+        ensures why { IfSome result (IsWhy 1 size self.now) }
+    {
+        if self.serials.is_spent() {
+            return Some(Refusal::Serials);
+        }
+        match self.space.refusal(size) {
+            None => None,
+            Some(why) => Some(Refusal::Allocator(why)),
+        }
+    }
+
+    /// Why `allocate_aligned(size, align)` would be refused now, or `None` exactly where it would be granted.
+    ///
+    /// ```
+    /// assert_eq!(guarded.refusal_aligned(900, 4), None);
+    /// assert!(guarded.refusal_aligned(900, 256).is_some());
+    /// ```
+    pub fn refusal_aligned(&self, size: u32, align: u32) -> Option<Refusal>
+        requires power { IsAlignment align }
+        ensures granted { result ≡ None ↔ (HasSerialLeft self.now
+            × CanGrant (blocks_needed align) (units_needed size align) self.now.space) }
+        ensures why { IfSome result (IsWhy (blocks_needed align) (units_needed size align) self.now) }
+    {
+        if self.serials.is_spent() {
+            return Some(Refusal::Serials);
+        }
+        match self.space.refusal_aligned(size, align) {
+            None => None,
+            Some(why) => Some(Refusal::Allocator(why)),
+        }
+    }
+
+    /// Why `allocate_tight(size)` would be refused now, or `None` exactly where it would be granted.
+    ///
+    /// ```
+    /// guarded.allocate(300);
+    /// assert_eq!(guarded.refusal_tight(700), None);
+    /// assert!(guarded.refusal_tight(701).is_some());
+    /// ```
+    pub fn refusal_tight(&self, size: u32) -> Option<Refusal>
+        ensures granted { result ≡ None ↔ (HasSerialLeft self.now × CanHold size 1 self.now.space) }
+        ensures why { IfSome result (IsWhyTight size 1 self.now) }
+    {
+        if self.serials.is_spent() {
+            return Some(Refusal::Serials);
+        }
+        match self.space.refusal_tight(size) {
+            None => None,
+            Some(why) => Some(Refusal::Allocator(why)),
+        }
+    }
+
+    /// Why `allocate_tight_aligned(size, align)` would be refused now, or `None` exactly where it would be
+    /// granted.
+    ///
+    /// ```
+    /// guarded.allocate(300);
+    /// assert_eq!(guarded.refusal_tight_aligned(400, 256), None);
+    /// assert!(guarded.refusal_tight_aligned(700, 256).is_some());
+    /// ```
+    pub fn refusal_tight_aligned(&self, size: u32, align: u32) -> Option<Refusal>
+        requires power { IsAlignment align }
+        ensures granted { result ≡ None ↔ (HasSerialLeft self.now × CanHold size align self.now.space) }
+        ensures why { IfSome result (IsWhyTight size align self.now) }
+    {
+        if self.serials.is_spent() {
+            return Some(Refusal::Serials);
+        }
+        match self.space.refusal_tight_aligned(size, align) {
+            None => None,
+            Some(why) => Some(Refusal::Allocator(why)),
+        }
+    }
+}

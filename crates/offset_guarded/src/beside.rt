@@ -1,0 +1,102 @@
+//! The live ranges beside one another in space. It changes nothing.
+ghost use Rattle.std.specs.Prelude.{◌≡◌, None, option_map};
+ghost use Rattle.offset_allocator.specs.Reporting.Beside.{first_live, last_live, live_after, live_before};
+ghost use Rattle.offset_allocator.specs.View.{Handle};
+ghost use Rattle.offset_guarded.specs.Guard.{IsLive, ticket_at};
+
+use crate::GuardedOf;
+use crate::ticket::Ticket;
+use offset_allocator::{Allocation, Tables};
+
+impl<T: Tables> GuardedOf<T> {
+    // The present ticket of a handle.
+    fn ticket_at(&self, handle: Allocation<T::Index>) -> Ticket
+        ensures { result ≡ ticket_at handle self.now }
+    {
+        let (offset, name) = handle.to_parts();
+        Ticket {
+            offset,
+            name,
+            serial: self.serials.at(name),
+            realm: self.realm,
+        }
+    }
+
+    /// The ticket of the live range that is the first one in space, as `Allocator::first_live` finds it, or
+    /// `None` where none is live. Its offset is where the range begins now, as in what `ticket` returns.
+    ///
+    /// ```
+    /// let mesh = guarded.allocate(300);
+    /// guarded.allocate(100);
+    /// assert_eq!(guarded.first_live(), mesh);
+    /// ```
+    pub fn first_live(&self) -> Option<Ticket>
+        ensures { result ≡ option_map (λ (h : Handle). ticket_at h self.now) (first_live self.now.space) }
+    {
+        match self.space.first_live() {
+            None => None,
+            Some(handle) => Some(self.ticket_at(handle)),
+        }
+    }
+
+    /// The ticket of the live range that is the last one in space, as `Allocator::last_live` finds it, or
+    /// `None` where none is live. Its offset is where the range begins now, as in what `ticket` returns.
+    ///
+    /// ```
+    /// guarded.allocate(300);
+    /// let texture = guarded.allocate(100);
+    /// assert_eq!(guarded.last_live(), texture);
+    /// ```
+    pub fn last_live(&self) -> Option<Ticket>
+        ensures { result ≡ option_map (λ (h : Handle). ticket_at h self.now) (last_live self.now.space) }
+    {
+        match self.space.last_live() {
+            None => None,
+            Some(handle) => Some(self.ticket_at(handle)),
+        }
+    }
+
+    /// The ticket of the live range directly before that of a ticket. `None` where there is none, or where
+    /// the ticket is not live.
+    ///
+    /// ```
+    /// let mesh = guarded.allocate(300);
+    /// let texture = guarded.allocate(100).unwrap();
+    /// assert_eq!(guarded.live_before(texture), mesh);
+    /// ```
+    pub fn live_before(&self, ticket: Ticket) -> Option<Ticket>
+        ensures before { IsLive ticket self.now → result
+            ≡ option_map (λ (h : Handle). ticket_at h self.now) (live_before ticket.name self.now.space) }
+        ensures gone { (IsLive ticket self.now → ⊥) → result ≡ None }
+    {
+        match self.handle(ticket) {
+            None => None,
+            Some(handle) => match self.space.live_before(handle) {
+                None => None,
+                Some(before) => Some(self.ticket_at(before)),
+            },
+        }
+    }
+
+    /// The ticket of the live range directly after that of a ticket. `None` where there is none, or where
+    /// the ticket is not live.
+    ///
+    /// ```
+    /// let mesh = guarded.allocate(300).unwrap();
+    /// let texture = guarded.allocate(100);
+    /// assert_eq!(guarded.live_after(mesh), texture);
+    /// ```
+    pub fn live_after(&self, ticket: Ticket) -> Option<Ticket>
+        ensures after { IsLive ticket self.now → result
+            ≡ option_map (λ (h : Handle). ticket_at h self.now) (live_after ticket.name self.now.space) }
+        ensures gone { (IsLive ticket self.now → ⊥) → result ≡ None }
+    {
+        match self.handle(ticket) {
+            None => None,
+            Some(handle) => match self.space.live_after(handle) {
+                None => None,
+                Some(after) => Some(self.ticket_at(after)),
+            },
+        }
+    }
+}

@@ -1,0 +1,70 @@
+//! Bytes as numbers of 64 bits, the lowest byte of each first, and their checksum. It touches bytes alone.
+ghost use Rattle.std.specs.Prelude.{◌≡◌, ◌+◌, ◌*◌, ◌++◌, ◌∷◌, ◌≤◌, [], ℕ, IfOk, length};
+ghost use Rattle.offset_guarded.specs.Numbers.{checksum_from, number_at, numbers};
+
+use std::alloc::{AllocError, Global};
+
+/// The number of 64 bits at a place, the lowest byte first.
+pub fn number(bytes: &[u8], place: usize) -> u64
+    requires { 8 * place + 8 ≤ length bytes.now }
+    ensures { result ≡ number_at bytes.now place }
+{
+    let at = 8 * place;
+    let mut eight = [0; 8];
+    eight.copy_from_slice(&bytes[at..at + 8]);
+    u64::from_le_bytes(eight)
+}
+
+/// The checksum of the first numbers.
+pub fn checksum(bytes: &[u8], count: usize) -> u64
+    requires { 8 * count ≤ length bytes.now }
+    ensures { result ≡ checksum_from 0 (numbers count bytes.now) }
+{
+    let mut sum = 0u64;
+    for place in 0..count {
+        sum = sum
+            .wrapping_mul(1099511628211)
+            .wrapping_add(number(bytes, place));
+    }
+    sum
+}
+
+// Adds a number at the end.
+fn push_number(bytes: &mut Vec<u8>, number: u64) -> Result<(), AllocError>
+    ensures { IfOk result (λ _. (k : ℕ) → length bytes.old.items ≡ 8 * k
+        → (numbers (k + 1) bytes.new.items ≡ numbers k bytes.old.items ++ number ∷ [])
+        × (length bytes.new.items ≡ 8 * (k + 1))) }
+{
+    bytes.extend_from_slice(&number.to_le_bytes())?;
+    Ok(())
+}
+
+// Adds numbers at the end.
+fn push_numbers(bytes: &mut Vec<u8>, more: &[u64]) -> Result<(), AllocError>
+    ensures { IfOk result (λ _. (k : ℕ) → length bytes.old.items ≡ 8 * k
+        → (numbers (k + length more.now) bytes.new.items ≡ numbers k bytes.old.items ++ more.now)
+        × (length bytes.new.items ≡ 8 * (k + length more.now))) }
+{
+    for number in more {
+        push_number(bytes, *number)?;
+    }
+    Ok(())
+}
+
+/// The bytes of some numbers and more of them, and behind these of their checksum.
+pub fn bytes_with_checksum(
+    alloc: Global,
+    first: &[u64],
+    more: &[u64],
+) -> Result<Vec<u8>, AllocError>
+    ensures numbers { IfOk result (λ b. numbers (length first.now + length more.now + 1) b.items
+        ≡ (first.now ++ more.now) ++ checksum_from 0 (first.now ++ more.now) ∷ []) }
+    ensures length { IfOk result (λ b. length b.items ≡ 8 * (length first.now + length more.now + 1)) }
+{
+    let mut bytes = Vec::new(alloc);
+    push_numbers(&mut bytes, first)?;
+    push_numbers(&mut bytes, more)?;
+    let sum = checksum(&bytes, first.len() + more.len());
+    push_number(&mut bytes, sum)?;
+    Ok(bytes)
+}

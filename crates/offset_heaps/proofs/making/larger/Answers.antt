@@ -1,5 +1,0 @@
-use Rattle.offset_heaps.proofs.Rooms.{new_holds}
-use Rattle.offset_heaps.proofs.making.larger.Goals as goal
-
-pub grant_tight_in-ticket-requires : goal.grant_tight_in-ticket-requires
-grant_tight_in-ticket-requires g c = new_holds c.args.size c.in_ok-with_max_allocs.field-0 c.in_ok-with_max_allocs.ensures.space c.in_ok-with_max_allocs.ensures.serials.0

@@ -1,7 +1,0 @@
-use Rattle.std.proofs.Common.{ap, ◌∙◌, slice_set}
-use Rattle.std.proofs.lemmas.List.{set-get_or}
-use Rattle.offset_heaps.proofs.slots.free.Goals as goal
-
-pub returns-clause-same : goal.returns-clause-same
-returns-clause-same g c e =
-    ap (slice_set c.args.slots.now.items c.args.number) (c.free_in.ensures.same e ∙ c.index_mut.ensures.value) ∙ set-get_or c.args.slots.now.items c.args.number c.index_mut.result.now

@@ -1,0 +1,318 @@
+//! Requests: which heap grants one, and when another heap is made for it. It changes one slot, and notes it
+//! in the index.
+ghost use Rattle.std.specs.Prelude.{ℕ, ◌≡◌, ◌↔◌, ◌+◌, ◌*◌, ◌%◌, ◌^◌, ◌<◌, ◌≤◌, ◌⊎◌, None, Some, Ok, Err};
+ghost use Rattle.std.specs.Prelude.{false, true, length, IsTrue, IfOk, IfErr, IfSome, MatchOption, OnErr};
+ghost use Rattle.offset_allocator.specs.Requests.{IsAlignment, blocks_needed, units_needed};
+ghost use Rattle.offset_heaps.specs.Slots.{IsBelow};
+
+use crate::place::{Granted, Place};
+use crate::refusal::Refusal;
+use crate::{HeapsOf, fresh};
+use offset_allocator::Tables;
+use offset_allocator::small_float::{uint_to_float_round_down, uint_to_float_round_up};
+use offset_guarded::{GuardedOf, Ticket};
+
+// A number, where it is below a limit.
+fn below(found: Option<u32>, limit: u32) -> Option<u32>
+    ensures { IsBelow limit found result }
+{
+    match found {
+        None => None,
+        Some(number) => {
+            if number < limit {
+                return Some(number);
+            }
+            None
+        }
+    }
+}
+
+impl<T: Tables> HeapsOf<T> {
+    ghost use Rattle.offset_heaps.specs.Heaps.{heap_at, range_of, KeepsOthers, Grants, IsFirstFit, IsNext};
+    ghost use Rattle.offset_heaps.specs.Heaps.{IsSame, IsSpareLarger, IsSpareUsual, IsUsual, IsWhy, NoneFits};
+    ghost use Rattle.offset_heaps.specs.Heaps.{TakesFewSteps, Adds, IsForRoom, IsOfKind, IsWhyNotMade};
+    ghost use Rattle.offset_heaps.specs.Heaps.{last_realm, numbers, room_of};
+
+    // The first heap that has room for a request.
+    pub(crate) fn first_fit(&mut self, units: u64, align: u32) -> Option<u32>
+        requires some { 1 ≤ units }
+        requires power { 1 ≤ align }
+        ensures first { MatchOption result (NoneFits (blocks_needed align) units self.old)
+            (λ k. IsFirstFit (blocks_needed align) units k self.old) }
+        ensures there { IfSome result (λ k. k < length self.old.slots) }
+        ensures same { IsSame self.old self.new }
+        ensures steps { (bits : ℕ) → numbers self.old ≤ 2 ^ bits
+            → self.new.accesses ≤ self.old.accesses + bits + 1 }
+    {
+        self.index.first_fit(units, align, &mut self.accesses)
+    }
+
+    // Whether a fresh heap of the usual size has that many units for a request.
+    fn is_usual(&self, units: u64) -> bool
+        ensures { IsTrue result ↔ IsUsual units self.now }
+    {
+        let size = self.limits.size;
+        let class = uint_to_float_round_down(size);
+        if units > size as u64 {
+            return false;
+        }
+        uint_to_float_round_up(units as u32) <= class
+    }
+
+    // The first number of a heap of the usual size that has none.
+    fn spare_usual(&mut self) -> Option<u32>
+        ensures first { MatchOption result ((k : ℕ) → IsSpareUsual k self.old → ⊥)
+            (λ k. IsSpareUsual k self.old × ((j : ℕ) → j < k → IsSpareUsual j self.old → ⊥)) }
+        ensures same { IsSame self.old self.new }
+        ensures steps { (bits : ℕ) → numbers self.old ≤ 2 ^ bits
+            → self.new.accesses ≤ self.old.accesses + bits + 1 }
+    {
+        let found = self.index.spare.first_at_least(1, &mut self.accesses);
+        below(found, self.limits.most)
+    }
+
+    // The first number of a larger heap that has none.
+    fn spare_larger(&mut self) -> Option<u32>
+        ensures first { MatchOption result ((k : ℕ) → IsSpareLarger k self.old → ⊥)
+            (λ k. IsSpareLarger k self.old × ((j : ℕ) → j < k → IsSpareLarger j self.old → ⊥)) }
+        ensures same { IsSame self.old self.new }
+        ensures steps { (bits : ℕ) → numbers self.old ≤ 2 ^ bits
+            → self.new.accesses ≤ self.old.accesses + bits + 1 }
+    {
+        self.index.spare.first_at_least(2, &mut self.accesses)
+    }
+
+    // Grants a request in the heap of a number, which has room for it.
+    pub(crate) fn grant_at(&mut self, number: u32, size: u32, align: u32) -> Granted
+        requires there { number < length self.old.slots }
+        requires some { 1 ≤ units_needed size align }
+        requires power { IsAlignment align }
+        requires room { units_needed size align ≤ room_of (blocks_needed align) (heap_at number self.old) }
+        ensures grants { Grants size align self.old self.new result }
+        ensures number { result.place.heap ≡ number }
+        ensures found { result.is_new ≡ false }
+        ensures aligned { result.place.ticket.offset % align ≡ 0 }
+        ensures steps { (bits : ℕ) → numbers self.old ≤ 2 ^ bits
+            → self.new.accesses ≤ self.old.accesses + 12 * bits + 8 }
+    {
+        let ticket = self.slots.grant(number, size, align, &mut self.accesses);
+        self.index
+            .note(&self.slots, number, self.limits, &mut self.accesses);
+        Granted {
+            place: Place {
+                heap: number,
+                realm: self.realm,
+                ticket,
+            },
+            is_new: false,
+        }
+    }
+
+    // Puts a heap that was made at a number that has none.
+    fn add(&mut self, number: u32, slot: Option<GuardedOf<T>>, ticket: Ticket) -> Granted
+        requires there { number < length self.old.slots }
+        requires left { self.old.made < last_realm }
+        requires realm { IfSome slot (λ g. g.realm ≡ self.old.made + 1) }
+        requires kind { IfSome slot (IsOfKind self.old.limits number) }
+        ensures heaps { Adds number slot self.old self.new }
+        ensures granted { result ≡ record {
+          place = record { heap = number; realm = self.old.realm; ticket = ticket };
+          is_new = true;
+        } }
+        ensures steps { (bits : ℕ) → numbers self.old ≤ 2 ^ bits
+            → self.new.accesses ≤ self.old.accesses + 12 * bits + 8 }
+    {
+        self.slots.put(number, slot, &mut self.accesses);
+        self.made += 1;
+        self.index
+            .note(&self.slots, number, self.limits, &mut self.accesses);
+        Granted {
+            place: Place {
+                heap: number,
+                realm: self.realm,
+                ticket,
+            },
+            is_new: true,
+        }
+    }
+
+    // Makes a heap of the usual size for a request that it has room for.
+    fn grant_usual(&mut self, number: u32, size: u32, align: u32) -> Result<Granted, Refusal>
+        requires spare { IsSpareUsual number self.old }
+        requires some { 1 ≤ units_needed size align }
+        requires power { IsAlignment align }
+        requires usual { IsUsual (units_needed size align) self.old }
+        ensures why { IfErr result (IsWhyNotMade self.old) }
+        ensures same { OnErr result (IsSame self.old self.new) }
+        ensures grants { IfOk result (Grants size align self.old self.new) }
+        ensures made { IfOk result (λ g. (g.is_new ≡ true) × (g.place.heap ≡ number)
+            × (self.old.made < last_realm)) }
+        ensures aligned { IfOk result (λ g. g.place.ticket.offset % align ≡ 0) }
+        ensures steps { (bits : ℕ) → numbers self.old ≤ 2 ^ bits
+            → self.new.accesses ≤ self.old.accesses + 12 * bits + 8 }
+    {
+        if self.made == u32::MAX {
+            return Err(Refusal::Full);
+        }
+        match fresh::usual(self.alloc, self.limits, self.made + 1, size, align) {
+            Err(_) => Err(Refusal::Memory),
+            Ok((slot, ticket)) => Ok(self.add(number, slot, ticket)),
+        }
+    }
+
+    // Makes a heap of the size of a request.
+    fn grant_larger(&mut self, number: u32, size: u32, align: u32) -> Result<Granted, Refusal>
+        requires spare { IsSpareLarger number self.old }
+        requires units { 1 ≤ size }
+        requires some { 1 ≤ align }
+        requires unusual { IsUsual (units_needed size align) self.old → ⊥ }
+        ensures why { IfErr result (IsWhyNotMade self.old) }
+        ensures same { OnErr result (IsSame self.old self.new) }
+        ensures grants { IfOk result (Grants size align self.old self.new) }
+        ensures made { IfOk result (λ g. (g.is_new ≡ true) × (g.place.heap ≡ number)
+            × (self.old.made < last_realm)) }
+        ensures aligned { IfOk result (λ g. g.place.ticket.offset % align ≡ 0) }
+        ensures steps { (bits : ℕ) → numbers self.old ≤ 2 ^ bits
+            → self.new.accesses ≤ self.old.accesses + 12 * bits + 8 }
+    {
+        if self.made == u32::MAX {
+            return Err(Refusal::Full);
+        }
+        match fresh::larger(self.alloc, self.made + 1, size) {
+            Err(_) => Err(Refusal::Memory),
+            Ok((slot, ticket)) => Ok(self.add(number, slot, ticket)),
+        }
+    }
+
+    // Makes a heap for a request that none has room for.
+    fn grant_new(&mut self, size: u32, align: u32, units: u64) -> Result<Granted, Refusal>
+        requires size { 1 ≤ size }
+        requires units { units ≡ units_needed size align }
+        requires some { 1 ≤ units_needed size align }
+        requires power { IsAlignment align }
+        requires positive { 1 ≤ align }
+        requires none { NoneFits (blocks_needed align) (units_needed size align) self.old }
+        ensures why { IfErr result (IsWhy size align self.old) }
+        ensures not_empty { result ≡ Err Refusal.Empty → ⊥ }
+        ensures same { OnErr result (IsSame self.old self.new) }
+        ensures grants { IfOk result (Grants size align self.old self.new) }
+        ensures made { IfOk result (λ g. (g.is_new ≡ true)
+            × IsNext (units_needed size align) g.place.heap self.old) }
+        ensures aligned { IfOk result (λ g. g.place.ticket.offset % align ≡ 0) }
+        ensures steps { (bits : ℕ) → numbers self.old ≤ 2 ^ bits
+            → self.new.accesses ≤ self.old.accesses + 13 * bits + 16 }
+    {
+        if self.is_usual(units) {
+            return match self.spare_usual() {
+                None => Err(Refusal::Full),
+                Some(number) => self.grant_usual(number, size, align),
+            };
+        }
+        if self.limits.most_larger == 0 {
+            return Err(Refusal::TooLarge);
+        }
+        match self.spare_larger() {
+            None => Err(Refusal::Full),
+            Some(number) => self.grant_larger(number, size, align),
+        }
+    }
+
+    // A request as `allocate_aligned` has it.
+    fn request(&mut self, size: u32, align: u32) -> Result<Granted, Refusal>
+        requires power { IsAlignment align }
+        ensures empty { size ≡ 0 → result ≡ Err Refusal.Empty }
+        ensures why { IfErr result (IsWhy size align self.old) }
+        ensures same { OnErr result (IsSame self.old self.new) }
+        ensures found { IfOk result (λ g. g.is_new ≡ false
+            → IsFirstFit (blocks_needed align) (units_needed size align) g.place.heap self.old) }
+        ensures made { IfOk result (λ g. g.is_new ≡ true
+            → NoneFits (blocks_needed align) (units_needed size align) self.old
+            × IsNext (units_needed size align) g.place.heap self.old) }
+        ensures grants { IfOk result (Grants size align self.old self.new) }
+        ensures aligned { IfOk result (λ g. g.place.ticket.offset % align ≡ 0) }
+        ensures steps { TakesFewSteps self.old self.new }
+    {
+        if size == 0 {
+            return Err(Refusal::Empty);
+        }
+        let units = size as u64 + align as u64 - 1;
+        match self.first_fit(units, align) {
+            Some(number) => Ok(self.grant_at(number, size, align)),
+            None => self.grant_new(size, align, units),
+        }
+    }
+
+    /// Grants `size` units of one heap: what `allocate_aligned(size, 1)` grants.
+    ///
+    /// A heap has room exactly for requests up to the `largest_free_region` of its report, while it has a
+    /// serial left: see `laws::room_is_reported`.
+    ///
+    /// ```
+    /// let mesh = heaps.allocate(300).unwrap();
+    /// assert!(mesh.is_new);
+    /// let level = heaps.allocate(5000).unwrap();
+    /// assert_eq!(heaps.size_of(level.place), Some(5000));
+    /// ```
+    pub fn allocate(&mut self, size: u32) -> Result<Granted, Refusal>
+        ensures no_room { IsForRoom result
+            ↔ ((1 ≤ size) × NoneFits 1 size self.old × ((k : ℕ) → IsNext size k self.old → ⊥)) }
+        ensures empty { size ≡ 0 → result ≡ Err Refusal.Empty }
+        ensures why { IfErr result (IsWhy size 1 self.old) }
+        ensures same { OnErr result (IsSame self.old self.new) }
+        ensures found { IfOk result (λ g. g.is_new ≡ false → IsFirstFit 1 size g.place.heap self.old) }
+        ensures made { IfOk result (λ g. g.is_new ≡ true
+            → NoneFits 1 size self.old × IsNext size g.place.heap self.old) }
+        ensures not_live { IfOk result (λ g. range_of g.place self.old ≡ None) }
+        ensures range { IfOk result (λ g. range_of g.place self.new
+            ≡ Some (record { offset = g.place.ticket.offset; size = size })) }
+        ensures others { IfOk result (λ g. KeepsOthers g.place self.old self.new) }
+        ensures grants { IfOk result (Grants size 1 self.old self.new) }
+        ensures steps { TakesFewSteps self.old self.new }
+    {
+        self.allocate_aligned(size, 1)
+    }
+
+    /// Grants `size` units of one heap that begin at a multiple of `align`, a power of two, in that heap.
+    ///
+    /// The heap is the first one, by number, that has room: what `GuardedOf::allocate_aligned` grants there,
+    /// as it grants it. Where none has, another heap is made. If a fresh heap of the usual size has room, it
+    /// is such a heap, with the first number below `most` that no heap has; else a larger heap of exactly
+    /// `size` units, all of which are granted, with the first number from `most` on that no heap has. Only
+    /// then memory is requested.
+    ///
+    /// Where the request is refused, all is as it was, and the `Refusal` says why.
+    ///
+    /// ```
+    /// heaps.allocate(10).unwrap();
+    /// let uniforms = heaps.allocate_aligned(300, 256).unwrap().place;
+    /// assert_eq!(heaps.offset_of(uniforms), Some(256));
+    /// ```
+    pub fn allocate_aligned(&mut self, size: u32, align: u32) -> Result<Granted, Refusal>
+        requires power { IsAlignment align }
+        // It is refused for room exactly when no heap has room, and no other may be made for it.
+        ensures no_room { IsForRoom result ↔ ((1 ≤ size)
+            × NoneFits (blocks_needed align) (units_needed size align) self.old
+            × ((k : ℕ) → IsNext (units_needed size align) k self.old → ⊥)) }
+        ensures empty { size ≡ 0 → result ≡ Err Refusal.Empty }
+        ensures why { IfErr result (IsWhy size align self.old) }
+        ensures same { OnErr result (IsSame self.old self.new) }
+        // Its heap is the first that has room, or a new one with the next number where none has.
+        ensures found { IfOk result (λ g. g.is_new ≡ false
+            → IsFirstFit (blocks_needed align) (units_needed size align) g.place.heap self.old) }
+        ensures made { IfOk result (λ g. g.is_new ≡ true
+            → NoneFits (blocks_needed align) (units_needed size align) self.old
+            × IsNext (units_needed size align) g.place.heap self.old) }
+        // The place was not live. It has exactly `size` units, from a multiple of `align` on, and every other
+        // place keeps its range, if it has one.
+        ensures not_live { IfOk result (λ g. range_of g.place self.old ≡ None) }
+        ensures range { IfOk result (λ g. range_of g.place self.new
+            ≡ Some (record { offset = g.place.ticket.offset; size = size })) }
+        ensures aligned { IfOk result (λ g. g.place.ticket.offset % align ≡ 0) }
+        ensures others { IfOk result (λ g. KeepsOthers g.place self.old self.new) }
+        // The step of that heap. All other heaps are as they were.
+        ensures grants { IfOk result (Grants size align self.old self.new) }
+        ensures steps { TakesFewSteps self.old self.new }
+    {
+        self.request(size, align)
+    }
+}

@@ -1,0 +1,67 @@
+//! The live ranges of a heap, beside one another in space. It changes nothing.
+ghost use Rattle.std.specs.Prelude.{◌≡◌, None, option_map};
+ghost use Rattle.offset_guarded.specs.declared.ticket.Ticket.{Ticket};
+ghost use Rattle.offset_heaps.specs.Heaps.{IsLive, heap_at};
+ghost use Rattle.offset_heaps.specs.Relocating.{last_place, place_before};
+
+use crate::HeapsOf;
+use crate::place::Place;
+use offset_allocator::Tables;
+use offset_guarded::Ticket;
+
+impl<T: Tables> HeapsOf<T> {
+    // The place of a ticket in the heap of a number.
+    fn place_at(&self, heap: u32, ticket: Option<Ticket>) -> Option<Place>
+        ensures { result ≡ option_map (λ (t : Ticket). record {
+          heap = heap;
+          realm = self.now.realm;
+          ticket = t;
+        }) ticket }
+    {
+        match ticket {
+            None => None,
+            Some(ticket) => Some(Place {
+                heap,
+                realm: self.realm,
+                ticket,
+            }),
+        }
+    }
+
+    /// The place of the live range that is the last one in the heap of a number, or `None` where nothing is
+    /// live in it, or the number has no heap. From it on, `live_before` walks all live ranges of the heap;
+    /// they may be freed on the way, after the next one is asked for.
+    ///
+    /// ```
+    /// let mesh = heaps.allocate(300).unwrap().place;
+    /// let texture = heaps.allocate(100).unwrap().place;
+    /// assert_eq!(heaps.last_live(mesh.heap), Some(texture));
+    /// ```
+    pub fn last_live(&self, heap: u32) -> Option<Place>
+        ensures { result ≡ last_place heap self.now.realm (heap_at heap self.now) }
+    {
+        match self.heap(heap) {
+            None => None,
+            Some(guarded) => self.place_at(heap, guarded.last_live()),
+        }
+    }
+
+    /// The place of the live range directly before that of a place in its heap. `None` where there is none,
+    /// or where the place is not live.
+    ///
+    /// ```
+    /// let mesh = heaps.allocate(300).unwrap().place;
+    /// let texture = heaps.allocate(100).unwrap().place;
+    /// assert_eq!(heaps.live_before(texture), Some(mesh));
+    /// ```
+    pub fn live_before(&self, place: Place) -> Option<Place>
+        ensures before { IsLive place self.now → result
+            ≡ place_before place.heap self.now.realm place.ticket (heap_at place.heap self.now) }
+        ensures gone { (IsLive place self.now → ⊥) → result ≡ None }
+    {
+        match self.heap_of(place) {
+            None => None,
+            Some(guarded) => self.place_at(place.heap, guarded.live_before(place.ticket)),
+        }
+    }
+}

@@ -1,0 +1,53 @@
+//! Heaps that are made for a request, which they grant at once. It touches nothing else.
+ghost use Rattle.std.specs.Prelude.{◌≡◌, ◌+◌, ◌<◌, ◌≤◌, IfOk, Some};
+ghost use Rattle.offset_allocator.specs.Classes.{down, value};
+ghost use Rattle.offset_allocator.specs.Requests.{IsAlignment, units_needed};
+ghost use Rattle.offset_guarded.specs.Guard.{Guard};
+ghost use Rattle.offset_heaps.specs.Heaps.{IsNew, larger_limit};
+ghost use Rattle.offset_heaps.specs.Slots.{Serves, ServesTight};
+
+use crate::limits::Limits;
+use crate::slots;
+use offset_allocator::Tables;
+use offset_guarded::{GuardedOf, Ticket};
+use std::alloc::{AllocError, Global};
+
+/// The node limit of a larger heap: two ranges may be live in it.
+pub(crate) const LARGER_LIMIT: u32 = 4;
+
+/// A heap of the usual size, and its first grant, which it has room for.
+pub(crate) fn usual<T: Tables>(
+    alloc: Global,
+    limits: Limits,
+    realm: u32,
+    size: u32,
+    align: u32,
+) -> Result<(Option<GuardedOf<T>>, Ticket), AllocError>
+    requires limit_min { 4 ≤ limits.max_allocs }
+    requires limit_max { limits.max_allocs + 1 < T.Index.MAX }
+    requires power { IsAlignment align }
+    requires some { 1 ≤ units_needed size align }
+    requires fits { units_needed size align ≤ value (down limits.size) }
+    ensures { IfOk result (λ r. (g : Guard) × IsNew limits.size limits.max_allocs realm g
+        × Serves size align (Some g) r.0 r.1) }
+{
+    let mut slot = Some(GuardedOf::with_max_allocs(alloc, limits.size, limits.max_allocs, realm)?);
+    let ticket = slots::grant_in(&mut slot, size, align);
+    Ok((slot, ticket))
+}
+
+/// A heap of the size of the request, which is its first grant: all of it.
+pub(crate) fn larger<T: Tables>(
+    alloc: Global,
+    realm: u32,
+    size: u32,
+) -> Result<(Option<GuardedOf<T>>, Ticket), AllocError>
+    requires { 5 < T.Index.MAX }
+    ensures grants { IfOk result (λ r. (g : Guard) × IsNew size larger_limit realm g
+        × ServesTight size (Some g) r.0 r.1) }
+    ensures start { IfOk result (λ r. r.1.offset ≡ 0) }
+{
+    let mut slot = Some(GuardedOf::with_max_allocs(alloc, size, LARGER_LIMIT, realm)?);
+    let ticket = slots::grant_tight_in(&mut slot, size);
+    Ok((slot, ticket))
+}

@@ -1,0 +1,114 @@
+//! Second ranges in other heaps, so that a heap can be emptied; and which one is the emptiest. It changes one
+//! slot by a grant, and notes it in the index.
+ghost use Rattle.std.specs.Prelude.{ℕ, ◌≡◌, ◌↔◌, ◌+◌, ◌*◌, ◌^◌, ◌<◌, ◌≤◌, None, Some, IfSome, MatchOption};
+ghost use Rattle.std.specs.Prelude.{length};
+ghost use Rattle.offset_heaps.specs.Heaps.{numbers};
+ghost use Rattle.offset_heaps.specs.Relocating.{IsEmptiest, NoneLive, TakesUnits};
+
+use crate::HeapsOf;
+use crate::place::Place;
+use offset_allocator::{Accesses, Tables};
+
+/// As `emptiest` of `Heaps`. The count grows by the number of numbers, one for each slot.
+pub fn emptiest_counted<T: Tables>(heaps: &HeapsOf<T>, count: &mut Accesses) -> Option<u32>
+    ensures emptiest { MatchOption result (NoneLive (numbers heaps.now) heaps.now.slots)
+        (IsEmptiest (numbers heaps.now) heaps.now.slots) }
+    ensures accesses { count.new ≡ count.old + numbers heaps.now }
+{
+    let limits = heaps.limits;
+    heaps
+        .slots
+        .emptiest(limits.most + limits.most_larger, count)
+}
+
+impl<T: Tables> HeapsOf<T> {
+    ghost use Rattle.offset_heaps.specs.Heaps.{Grants, IsSame, KeepsOthers, range_of};
+    ghost use Rattle.offset_heaps.specs.Relocating.{IsTaker, NoneTakes, granted, units_of};
+
+    // The first heap that takes units of another one, in which so many are live.
+    fn taker(&mut self, own: u32, units: u32, live: u32) -> Option<u32>
+        requires { 1 ≤ units }
+        ensures first { MatchOption result ((k : ℕ) → TakesUnits own units live self.old.slots k → ⊥)
+            (λ k. TakesUnits own units live self.old.slots k
+            × ((j : ℕ) → j < k → TakesUnits own units live self.old.slots j → ⊥)) }
+        ensures there { IfSome result (λ k. k < length self.old.slots) }
+        ensures same { IsSame self.old self.new }
+        ensures steps { (bits : ℕ) → numbers self.old ≤ 2 ^ bits
+            → self.new.accesses ≤ self.old.accesses + numbers self.old + bits + 1 }
+    {
+        let from = self.first_fit(units as u64, 1)?;
+        let numbers = self.limits.most + self.limits.most_larger;
+        self.slots
+            .taker(from, numbers, own, units, live, &mut self.accesses)
+    }
+
+    /// Grants a second range of as many units as that of a live place, in another heap, and returns its
+    /// place. The old range stays live until it is freed: so the units can be copied while the old ones are
+    /// still read, and the copies never overlap. Done for all live ranges of the `emptiest` heap, by
+    /// `last_live` and `live_before`, it empties that heap, which `drop_empty` then drops.
+    ///
+    /// The heap is the first one, by number, that has room, other than the place's own, and in which at least
+    /// as many units are live: so calls of `relocate` alone never bring a range back, and none goes to an
+    /// empty heap. None is made, and no memory is taken. The range is what `GuardedOf::allocate` grants
+    /// there: one that was granted at an alignment is given none.
+    ///
+    /// `None` is returned where no heap takes the range, and where the place is not live; then nothing
+    /// changes. It looks for the first heap that has room as `allocate` does, and from there on reads each
+    /// slot once, up to the one that takes the range.
+    ///
+    /// ```
+    /// heaps.allocate(500).unwrap();
+    /// let old = heaps.allocate(400).unwrap().place;
+    /// let mesh = heaps.allocate(300).unwrap().place;
+    /// heaps.free(old);
+    /// let moved = heaps.relocate(mesh).unwrap();
+    /// assert_eq!((mesh.heap, moved.heap), (1, 0));
+    /// ```
+    pub fn relocate(&mut self, place: Place) -> Option<Place>
+        // It is refused exactly where no heap takes the range, and then all is as it was.
+        ensures none { result ≡ None ↔ NoneTakes place self.old }
+        ensures same { result ≡ None → IsSame self.old self.new }
+        // The heap is the first that takes it.
+        ensures first { IfSome result (λ q. IsTaker place self.old q.heap) }
+        // The new place was not live. It has as many units, and every other place keeps its range, if it has
+        // one: so the old one does.
+        ensures not_live { IfSome result (λ q. range_of q self.old ≡ None) }
+        ensures range { IfSome result (λ q. range_of q self.new
+            ≡ Some (record { offset = q.ticket.offset; size = units_of place self.old })) }
+        ensures others { IfSome result (λ q. KeepsOthers q self.old self.new) }
+        ensures stays { range_of place self.new ≡ range_of place self.old }
+        // The step of its heap: a grant of these units. All other heaps are as they were.
+        ensures grants { IfSome result (λ q. Grants (units_of place self.old) 1 self.old self.new
+            (granted q)) }
+        ensures steps { (bits : ℕ) → numbers self.old ≤ 2 ^ bits
+            → self.new.accesses ≤ self.old.accesses + numbers self.old + 16 * bits + 32 }
+    {
+        if place.realm != self.realm {
+            return None;
+        }
+        let (units, live) = self
+            .slots
+            .units_at(place.heap, place.ticket, &mut self.accesses);
+        if units == 0 {
+            return None;
+        }
+        let number = self.taker(place.heap, units, live)?;
+        Some(self.grant_at(number, units, 1).place)
+    }
+
+    /// The number of the heap with the fewest live units of those that have a live range, the last such by
+    /// number, or `None` where nothing is live: the heap that is emptied with the least copies. It reads the
+    /// slot of each number once.
+    ///
+    /// ```
+    /// assert_eq!(heaps.emptiest(), None);
+    /// let mesh = heaps.allocate(300).unwrap().place;
+    /// assert_eq!(heaps.emptiest(), Some(mesh.heap));
+    /// ```
+    pub fn emptiest(&self) -> Option<u32>
+        ensures { MatchOption result (NoneLive (numbers self.now) self.now.slots)
+            (IsEmptiest (numbers self.now) self.now.slots) }
+    {
+        emptiest_counted(self, &mut Accesses::new())
+    }
+}

@@ -1,0 +1,269 @@
+// Printed by rust/erase from crates/offset_guarded/src/allocate.rt: change it there.
+
+//! Grants, each with the next serial, and why one is refused. Nothing else gives a serial.
+
+use crate::GuardedOf;
+use crate::refusal::Refusal;
+use crate::serials::Serials;
+use crate::ticket::Ticket;
+use offset_allocator::{Allocation, AllocatorOf, Tables};
+
+// Gives the next serial to a grant.
+#[inline(always)]
+fn ticket_for<T: Tables>(
+    space: &AllocatorOf<T>,
+    serials: &mut Serials,
+    realm: u32,
+    handle: Allocation<T::Index>,
+) -> Ticket {
+    serials.cover(space.node_count());
+    let (offset, name) = handle.to_parts();
+    Ticket {
+        offset,
+        name,
+        serial: serials.give(name),
+        realm,
+    }
+}
+
+impl<T: Tables> GuardedOf<T> {
+    /// Grants a range of `size` units, and returns its ticket: of the range that `Allocator::allocate`
+    /// grants, with the next serial.
+    ///
+    /// `None` is returned where that call returns `None`, or where all serials are given; then all is as it
+    /// was.
+    ///
+    /// ```
+    /// # use offset_allocator_guarded::*;
+    /// # let alloc = Global;
+    /// let mut guarded = Guarded::<u32>::new(alloc, 1000, 1)?;
+    /// let mesh = guarded.allocate(300).unwrap();
+    /// assert_eq!(guarded.offset_of(mesh), Some(0));
+    /// assert!(guarded.allocate(701).is_none());
+    /// # Ok::<(), AllocError>(())
+    /// ```
+    #[inline(always)]
+    pub fn allocate(&mut self, size: u32) -> Option<Ticket> {
+        if self.serials.is_spent() {
+            return None;
+        }
+        match self.space.allocate(size) {
+            None => None,
+            Some(handle) => Some(ticket_for(&self.space, &mut self.serials, self.realm, handle)),
+        }
+    }
+
+    /// Grants `size` units that begin at a multiple of `align`, a power of two: the range that
+    /// `Allocator::allocate_aligned` grants, with the next serial.
+    ///
+    /// `None` is returned where that call returns `None`, or where all serials are given; then all is as it
+    /// was.
+    ///
+    /// # Panics
+    ///
+    /// It panics unless `align` is a power of two.
+    ///
+    /// ```
+    /// # use offset_allocator_guarded::*;
+    /// # let alloc = Global;
+    /// let mut guarded = Guarded::<u32>::new(alloc, 1000, 1)?;
+    /// guarded.allocate(10);
+    /// let uniforms = guarded.allocate_aligned(300, 256).unwrap();
+    /// assert_eq!(guarded.offset_of(uniforms), Some(256));
+    /// # Ok::<(), AllocError>(())
+    /// ```
+    #[track_caller]
+    pub fn allocate_aligned(&mut self, size: u32, align: u32) -> Option<Ticket> {
+        assert!(align.is_power_of_two(), "align must be a power of two");
+        if self.serials.is_spent() {
+            return None;
+        }
+        match self.space.allocate_aligned(size, align) {
+            None => None,
+            Some(handle) => Some(ticket_for(&self.space, &mut self.serials, self.realm, handle)),
+        }
+    }
+
+    /// Grants `size` units of any free block that has them: the range that `Allocator::allocate_tight`
+    /// grants, with the next serial.
+    ///
+    /// `None` is returned where that call returns `None`, or where all serials are given; then all is as it
+    /// was.
+    ///
+    /// ```
+    /// # use offset_allocator_guarded::*;
+    /// # let alloc = Global;
+    /// let mut guarded = Guarded::<u32>::new(alloc, 1000, 1)?;
+    /// guarded.allocate(300);
+    /// assert!(guarded.allocate(700).is_none());
+    /// assert!(guarded.allocate_tight(700).is_some());
+    /// # Ok::<(), AllocError>(())
+    /// ```
+    pub fn allocate_tight(&mut self, size: u32) -> Option<Ticket> {
+        if self.serials.is_spent() {
+            return None;
+        }
+        match self.space.allocate_tight(size) {
+            None => None,
+            Some(handle) => Some(ticket_for(&self.space, &mut self.serials, self.realm, handle)),
+        }
+    }
+
+    /// Grants `size` units that begin at a multiple of `align`, a power of two, of any free block that holds
+    /// them: the range that `Allocator::allocate_tight_aligned` grants, with the next serial.
+    ///
+    /// `None` is returned where that call returns `None`, or where all serials are given; then all is as it
+    /// was.
+    ///
+    /// # Panics
+    ///
+    /// It panics unless `align` is a power of two.
+    ///
+    /// ```
+    /// # use offset_allocator_guarded::*;
+    /// # let alloc = Global;
+    /// let mut guarded = Guarded::<u32>::new(alloc, 1000, 1)?;
+    /// guarded.allocate(256);
+    /// assert!(guarded.allocate_aligned(700, 256).is_none());
+    /// assert_eq!(guarded.allocate_tight_aligned(700, 256).unwrap().offset, 256);
+    /// # Ok::<(), AllocError>(())
+    /// ```
+    #[track_caller]
+    pub fn allocate_tight_aligned(&mut self, size: u32, align: u32) -> Option<Ticket> {
+        assert!(align.is_power_of_two(), "align must be a power of two");
+        if self.serials.is_spent() {
+            return None;
+        }
+        match self.space.allocate_tight_aligned(size, align) {
+            None => None,
+            Some(handle) => Some(ticket_for(&self.space, &mut self.serials, self.realm, handle)),
+        }
+    }
+
+    /// Grants a second range of as many units as that of a ticket, which begins before it: the one that
+    /// `Allocator::relocate` grants, with the next serial. The old ticket stays live until it is freed.
+    ///
+    /// `None` is returned where that call returns `None`, where the ticket is not live, or where all serials
+    /// are given; then all is as it was.
+    ///
+    /// It makes at most 88 accesses to the tables of the allocator: 8 to see whether the name is live, which
+    /// the allocator does not count, and 80 that it counts.
+    ///
+    /// ```
+    /// # use offset_allocator_guarded::*;
+    /// # let alloc = Global;
+    /// let mut guarded = Guarded::<u32>::new(alloc, 1000, 1)?;
+    /// let hole = guarded.allocate(320).unwrap();
+    /// let mesh = guarded.allocate(320).unwrap();
+    /// guarded.free(hole);
+    /// let moved = guarded.relocate(mesh).unwrap();
+    /// assert_eq!((mesh.offset, moved.offset), (320, 0));
+    /// guarded.free(mesh);
+    /// # Ok::<(), AllocError>(())
+    /// ```
+    pub fn relocate(&mut self, ticket: Ticket) -> Option<Ticket> {
+        let handle = self.handle(ticket)?;
+        if self.serials.is_spent() {
+            return None;
+        }
+        match self.space.relocate(handle) {
+            None => None,
+            Some(second) => Some(ticket_for(&self.space, &mut self.serials, self.realm, second)),
+        }
+    }
+
+    /// Why `allocate(size)` would be refused now, or `None` exactly where it would be granted.
+    ///
+    /// ```
+    /// # use offset_allocator_guarded::*;
+    /// # let alloc = Global;
+    /// let mut guarded = Guarded::<u32>::new(alloc, 1000, 1)?;
+    /// assert_eq!(guarded.refusal(300), None);
+    /// assert_eq!(guarded.refusal(1001).unwrap().to_string(), "the request is too large for the space");
+    /// # Ok::<(), AllocError>(())
+    /// ```
+    pub fn refusal(&self, size: u32) -> Option<Refusal> {
+        if self.serials.is_spent() {
+            return Some(Refusal::Serials);
+        }
+        match self.space.refusal(size) {
+            None => None,
+            Some(why) => Some(Refusal::Allocator(why)),
+        }
+    }
+
+    /// Why `allocate_aligned(size, align)` would be refused now, or `None` exactly where it would be granted.
+    ///
+    /// # Panics
+    ///
+    /// It panics unless `align` is a power of two.
+    ///
+    /// ```
+    /// # use offset_allocator_guarded::*;
+    /// # let alloc = Global;
+    /// let mut guarded = Guarded::<u32>::new(alloc, 1000, 1)?;
+    /// assert_eq!(guarded.refusal_aligned(900, 4), None);
+    /// assert!(guarded.refusal_aligned(900, 256).is_some());
+    /// # Ok::<(), AllocError>(())
+    /// ```
+    #[track_caller]
+    pub fn refusal_aligned(&self, size: u32, align: u32) -> Option<Refusal> {
+        assert!(align.is_power_of_two(), "align must be a power of two");
+        if self.serials.is_spent() {
+            return Some(Refusal::Serials);
+        }
+        match self.space.refusal_aligned(size, align) {
+            None => None,
+            Some(why) => Some(Refusal::Allocator(why)),
+        }
+    }
+
+    /// Why `allocate_tight(size)` would be refused now, or `None` exactly where it would be granted.
+    ///
+    /// ```
+    /// # use offset_allocator_guarded::*;
+    /// # let alloc = Global;
+    /// let mut guarded = Guarded::<u32>::new(alloc, 1000, 1)?;
+    /// guarded.allocate(300);
+    /// assert_eq!(guarded.refusal_tight(700), None);
+    /// assert!(guarded.refusal_tight(701).is_some());
+    /// # Ok::<(), AllocError>(())
+    /// ```
+    pub fn refusal_tight(&self, size: u32) -> Option<Refusal> {
+        if self.serials.is_spent() {
+            return Some(Refusal::Serials);
+        }
+        match self.space.refusal_tight(size) {
+            None => None,
+            Some(why) => Some(Refusal::Allocator(why)),
+        }
+    }
+
+    /// Why `allocate_tight_aligned(size, align)` would be refused now, or `None` exactly where it would be
+    /// granted.
+    ///
+    /// # Panics
+    ///
+    /// It panics unless `align` is a power of two.
+    ///
+    /// ```
+    /// # use offset_allocator_guarded::*;
+    /// # let alloc = Global;
+    /// let mut guarded = Guarded::<u32>::new(alloc, 1000, 1)?;
+    /// guarded.allocate(300);
+    /// assert_eq!(guarded.refusal_tight_aligned(400, 256), None);
+    /// assert!(guarded.refusal_tight_aligned(700, 256).is_some());
+    /// # Ok::<(), AllocError>(())
+    /// ```
+    #[track_caller]
+    pub fn refusal_tight_aligned(&self, size: u32, align: u32) -> Option<Refusal> {
+        assert!(align.is_power_of_two(), "align must be a power of two");
+        if self.serials.is_spent() {
+            return Some(Refusal::Serials);
+        }
+        match self.space.refusal_tight_aligned(size, align) {
+            None => None,
+            Some(why) => Some(Refusal::Allocator(why)),
+        }
+    }
+}

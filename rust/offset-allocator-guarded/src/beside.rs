@@ -1,0 +1,102 @@
+// Printed by rust/erase from crates/offset_guarded/src/beside.rt: change it there.
+
+//! The live ranges beside one another in space. It changes nothing.
+
+use crate::GuardedOf;
+use crate::ticket::Ticket;
+use offset_allocator::{Allocation, Tables};
+
+impl<T: Tables> GuardedOf<T> {
+    // The present ticket of a handle.
+    fn ticket_at(&self, handle: Allocation<T::Index>) -> Ticket {
+        let (offset, name) = handle.to_parts();
+        Ticket {
+            offset,
+            name,
+            serial: self.serials.at(name),
+            realm: self.realm,
+        }
+    }
+
+    /// The ticket of the live range that is the first one in space, as `Allocator::first_live` finds it, or
+    /// `None` where none is live. Its offset is where the range begins now, as in what `ticket` returns.
+    ///
+    /// ```
+    /// # use offset_allocator_guarded::*;
+    /// # let alloc = Global;
+    /// let mut guarded = Guarded::<u32>::new(alloc, 1000, 1)?;
+    /// let mesh = guarded.allocate(300);
+    /// guarded.allocate(100);
+    /// assert_eq!(guarded.first_live(), mesh);
+    /// # Ok::<(), AllocError>(())
+    /// ```
+    pub fn first_live(&self) -> Option<Ticket> {
+        match self.space.first_live() {
+            None => None,
+            Some(handle) => Some(self.ticket_at(handle)),
+        }
+    }
+
+    /// The ticket of the live range that is the last one in space, as `Allocator::last_live` finds it, or
+    /// `None` where none is live. Its offset is where the range begins now, as in what `ticket` returns.
+    ///
+    /// ```
+    /// # use offset_allocator_guarded::*;
+    /// # let alloc = Global;
+    /// let mut guarded = Guarded::<u32>::new(alloc, 1000, 1)?;
+    /// guarded.allocate(300);
+    /// let texture = guarded.allocate(100);
+    /// assert_eq!(guarded.last_live(), texture);
+    /// # Ok::<(), AllocError>(())
+    /// ```
+    pub fn last_live(&self) -> Option<Ticket> {
+        match self.space.last_live() {
+            None => None,
+            Some(handle) => Some(self.ticket_at(handle)),
+        }
+    }
+
+    /// The ticket of the live range directly before that of a ticket. `None` where there is none, or where
+    /// the ticket is not live.
+    ///
+    /// ```
+    /// # use offset_allocator_guarded::*;
+    /// # let alloc = Global;
+    /// let mut guarded = Guarded::<u32>::new(alloc, 1000, 1)?;
+    /// let mesh = guarded.allocate(300);
+    /// let texture = guarded.allocate(100).unwrap();
+    /// assert_eq!(guarded.live_before(texture), mesh);
+    /// # Ok::<(), AllocError>(())
+    /// ```
+    pub fn live_before(&self, ticket: Ticket) -> Option<Ticket> {
+        match self.handle(ticket) {
+            None => None,
+            Some(handle) => match self.space.live_before(handle) {
+                None => None,
+                Some(before) => Some(self.ticket_at(before)),
+            },
+        }
+    }
+
+    /// The ticket of the live range directly after that of a ticket. `None` where there is none, or where
+    /// the ticket is not live.
+    ///
+    /// ```
+    /// # use offset_allocator_guarded::*;
+    /// # let alloc = Global;
+    /// let mut guarded = Guarded::<u32>::new(alloc, 1000, 1)?;
+    /// let mesh = guarded.allocate(300).unwrap();
+    /// let texture = guarded.allocate(100);
+    /// assert_eq!(guarded.live_after(mesh), texture);
+    /// # Ok::<(), AllocError>(())
+    /// ```
+    pub fn live_after(&self, ticket: Ticket) -> Option<Ticket> {
+        match self.handle(ticket) {
+            None => None,
+            Some(handle) => match self.space.live_after(handle) {
+                None => None,
+                Some(after) => Some(self.ticket_at(after)),
+            },
+        }
+    }
+}

@@ -1,0 +1,184 @@
+// Printed by rust/erase from crates/offset_heaps/src/allocate.rt: change it there.
+
+//! Requests: which heap grants one, and when another heap is made for it. It changes one slot, and notes it
+//! in the index.
+
+use crate::place::{Granted, Place};
+use crate::refusal::Refusal;
+use crate::{HeapsOf, fresh};
+use offset_allocator::Tables;
+use offset_allocator::small_float::{uint_to_float_round_down, uint_to_float_round_up};
+use offset_guarded::{GuardedOf, Ticket};
+
+// A number, where it is below a limit.
+fn below(found: Option<u32>, limit: u32) -> Option<u32> {
+    match found {
+        None => None,
+        Some(number) => {
+            if number < limit {
+                return Some(number);
+            }
+            None
+        }
+    }
+}
+
+impl<T: Tables> HeapsOf<T> {
+    // The first heap that has room for a request.
+    pub(crate) fn first_fit(&mut self, units: u64, align: u32) -> Option<u32> {
+        self.index.first_fit(units, align, &mut self.accesses)
+    }
+
+    // Whether a fresh heap of the usual size has that many units for a request.
+    fn is_usual(&self, units: u64) -> bool {
+        let size = self.limits.size;
+        let class = uint_to_float_round_down(size);
+        if units > size as u64 {
+            return false;
+        }
+        uint_to_float_round_up(units as u32) <= class
+    }
+
+    // The first number of a heap of the usual size that has none.
+    fn spare_usual(&mut self) -> Option<u32> {
+        let found = self.index.spare.first_at_least(1, &mut self.accesses);
+        below(found, self.limits.most)
+    }
+
+    // The first number of a larger heap that has none.
+    fn spare_larger(&mut self) -> Option<u32> {
+        self.index.spare.first_at_least(2, &mut self.accesses)
+    }
+
+    // Grants a request in the heap of a number, which has room for it.
+    pub(crate) fn grant_at(&mut self, number: u32, size: u32, align: u32) -> Granted {
+        let ticket = self.slots.grant(number, size, align, &mut self.accesses);
+        self.index
+            .note(&self.slots, number, self.limits, &mut self.accesses);
+        Granted {
+            place: Place {
+                heap: number,
+                realm: self.realm,
+                ticket,
+            },
+            is_new: false,
+        }
+    }
+
+    // Puts a heap that was made at a number that has none.
+    fn add(&mut self, number: u32, slot: Option<GuardedOf<T>>, ticket: Ticket) -> Granted {
+        self.slots.put(number, slot, &mut self.accesses);
+        self.made += 1;
+        self.index
+            .note(&self.slots, number, self.limits, &mut self.accesses);
+        Granted {
+            place: Place {
+                heap: number,
+                realm: self.realm,
+                ticket,
+            },
+            is_new: true,
+        }
+    }
+
+    // Makes a heap of the usual size for a request that it has room for.
+    fn grant_usual(&mut self, number: u32, size: u32, align: u32) -> Result<Granted, Refusal> {
+        if self.made == u32::MAX {
+            return Err(Refusal::Full);
+        }
+        match fresh::usual(self.alloc, self.limits, self.made + 1, size, align) {
+            Err(_) => Err(Refusal::Memory),
+            Ok((slot, ticket)) => Ok(self.add(number, slot, ticket)),
+        }
+    }
+
+    // Makes a heap of the size of a request.
+    fn grant_larger(&mut self, number: u32, size: u32, align: u32) -> Result<Granted, Refusal> {
+        if self.made == u32::MAX {
+            return Err(Refusal::Full);
+        }
+        match fresh::larger(self.alloc, self.made + 1, size) {
+            Err(_) => Err(Refusal::Memory),
+            Ok((slot, ticket)) => Ok(self.add(number, slot, ticket)),
+        }
+    }
+
+    // Makes a heap for a request that none has room for.
+    fn grant_new(&mut self, size: u32, align: u32, units: u64) -> Result<Granted, Refusal> {
+        if self.is_usual(units) {
+            return match self.spare_usual() {
+                None => Err(Refusal::Full),
+                Some(number) => self.grant_usual(number, size, align),
+            };
+        }
+        if self.limits.most_larger == 0 {
+            return Err(Refusal::TooLarge);
+        }
+        match self.spare_larger() {
+            None => Err(Refusal::Full),
+            Some(number) => self.grant_larger(number, size, align),
+        }
+    }
+
+    // A request as `allocate_aligned` has it.
+    fn request(&mut self, size: u32, align: u32) -> Result<Granted, Refusal> {
+        if size == 0 {
+            return Err(Refusal::Empty);
+        }
+        let units = size as u64 + align as u64 - 1;
+        match self.first_fit(units, align) {
+            Some(number) => Ok(self.grant_at(number, size, align)),
+            None => self.grant_new(size, align, units),
+        }
+    }
+
+    /// Grants `size` units of one heap: what `allocate_aligned(size, 1)` grants.
+    ///
+    /// A heap has room exactly for requests up to the `largest_free_region` of its report, while it has a
+    /// serial left: see `laws::room_is_reported`.
+    ///
+    /// ```
+    /// # use offset_allocator_heaps::*;
+    /// # let alloc = Global;
+    /// let limits = Limits { size: 1000, max_allocs: 100, most: 2, most_larger: 1 };
+    /// let mut heaps = Heaps::<u32>::new(alloc, limits, 1)?;
+    /// let mesh = heaps.allocate(300).unwrap();
+    /// assert!(mesh.is_new);
+    /// let level = heaps.allocate(5000).unwrap();
+    /// assert_eq!(heaps.size_of(level.place), Some(5000));
+    /// # Ok::<(), AllocError>(())
+    /// ```
+    pub fn allocate(&mut self, size: u32) -> Result<Granted, Refusal> {
+        self.allocate_aligned(size, 1)
+    }
+
+    /// Grants `size` units of one heap that begin at a multiple of `align`, a power of two, in that heap.
+    ///
+    /// The heap is the first one, by number, that has room: what `GuardedOf::allocate_aligned` grants there,
+    /// as it grants it. Where none has, another heap is made. If a fresh heap of the usual size has room, it
+    /// is such a heap, with the first number below `most` that no heap has; else a larger heap of exactly
+    /// `size` units, all of which are granted, with the first number from `most` on that no heap has. Only
+    /// then memory is requested.
+    ///
+    /// Where the request is refused, all is as it was, and the `Refusal` says why.
+    ///
+    /// # Panics
+    ///
+    /// It panics unless `align` is a power of two.
+    ///
+    /// ```
+    /// # use offset_allocator_heaps::*;
+    /// # let alloc = Global;
+    /// let limits = Limits { size: 1000, max_allocs: 100, most: 2, most_larger: 1 };
+    /// let mut heaps = Heaps::<u32>::new(alloc, limits, 1)?;
+    /// heaps.allocate(10).unwrap();
+    /// let uniforms = heaps.allocate_aligned(300, 256).unwrap().place;
+    /// assert_eq!(heaps.offset_of(uniforms), Some(256));
+    /// # Ok::<(), AllocError>(())
+    /// ```
+    #[track_caller]
+    pub fn allocate_aligned(&mut self, size: u32, align: u32) -> Result<Granted, Refusal> {
+        assert!(align.is_power_of_two(), "align must be a power of two");
+        self.request(size, align)
+    }
+}

@@ -1,0 +1,36 @@
+// Printed by rust/erase from crates/offset_heaps/src/fresh.rt: change it there.
+
+//! Heaps that are made for a request, which they grant at once. It touches nothing else.
+
+use crate::limits::Limits;
+use crate::slots;
+use offset_allocator::Tables;
+use offset_guarded::{GuardedOf, Ticket};
+use crate::memory::{AllocError, Global};
+
+/// The node limit of a larger heap: two ranges may be live in it.
+pub(crate) const LARGER_LIMIT: u32 = 4;
+
+/// A heap of the usual size, and its first grant, which it has room for.
+pub(crate) fn usual<T: Tables>(
+    alloc: Global,
+    limits: Limits,
+    realm: u32,
+    size: u32,
+    align: u32,
+) -> Result<(Option<GuardedOf<T>>, Ticket), AllocError> {
+    let mut slot = Some(GuardedOf::with_max_allocs(alloc, limits.size, limits.max_allocs, realm)?);
+    let ticket = slots::grant_in(&mut slot, size, align);
+    Ok((slot, ticket))
+}
+
+/// A heap of the size of the request, which is its first grant: all of it.
+pub(crate) fn larger<T: Tables>(
+    alloc: Global,
+    realm: u32,
+    size: u32,
+) -> Result<(Option<GuardedOf<T>>, Ticket), AllocError> {
+    let mut slot = Some(GuardedOf::with_max_allocs(alloc, size, LARGER_LIMIT, realm)?);
+    let ticket = slots::grant_tight_in(&mut slot, size);
+    Ok((slot, ticket))
+}

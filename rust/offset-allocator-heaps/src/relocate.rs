@@ -1,0 +1,85 @@
+// Printed by rust/erase from crates/offset_heaps/src/relocate.rt: change it there.
+
+//! Second ranges in other heaps, so that a heap can be emptied; and which one is the emptiest. It changes one
+//! slot by a grant, and notes it in the index.
+
+use crate::HeapsOf;
+use crate::place::Place;
+use offset_allocator::{Accesses, Tables};
+
+/// As `emptiest` of `Heaps`. The count grows by the number of numbers, one for each slot.
+pub fn emptiest_counted<T: Tables>(heaps: &HeapsOf<T>, count: &mut Accesses) -> Option<u32> {
+    let limits = heaps.limits;
+    heaps
+        .slots
+        .emptiest(limits.most + limits.most_larger, count)
+}
+
+impl<T: Tables> HeapsOf<T> {
+    // The first heap that takes units of another one, in which so many are live.
+    fn taker(&mut self, own: u32, units: u32, live: u32) -> Option<u32> {
+        let from = self.first_fit(units as u64, 1)?;
+        let numbers = self.limits.most + self.limits.most_larger;
+        self.slots
+            .taker(from, numbers, own, units, live, &mut self.accesses)
+    }
+
+    /// Grants a second range of as many units as that of a live place, in another heap, and returns its
+    /// place. The old range stays live until it is freed: so the units can be copied while the old ones are
+    /// still read, and the copies never overlap. Done for all live ranges of the `emptiest` heap, by
+    /// `last_live` and `live_before`, it empties that heap, which `drop_empty` then drops.
+    ///
+    /// The heap is the first one, by number, that has room, other than the place's own, and in which at least
+    /// as many units are live: so calls of `relocate` alone never bring a range back, and none goes to an
+    /// empty heap. None is made, and no memory is taken. The range is what `GuardedOf::allocate` grants
+    /// there: one that was granted at an alignment is given none.
+    ///
+    /// `None` is returned where no heap takes the range, and where the place is not live; then nothing
+    /// changes. It looks for the first heap that has room as `allocate` does, and from there on reads each
+    /// slot once, up to the one that takes the range.
+    ///
+    /// ```
+    /// # use offset_allocator_heaps::*;
+    /// # let alloc = Global;
+    /// let limits = Limits { size: 1000, max_allocs: 100, most: 2, most_larger: 1 };
+    /// let mut heaps = Heaps::<u32>::new(alloc, limits, 1)?;
+    /// heaps.allocate(500).unwrap();
+    /// let old = heaps.allocate(400).unwrap().place;
+    /// let mesh = heaps.allocate(300).unwrap().place;
+    /// heaps.free(old);
+    /// let moved = heaps.relocate(mesh).unwrap();
+    /// assert_eq!((mesh.heap, moved.heap), (1, 0));
+    /// # Ok::<(), AllocError>(())
+    /// ```
+    pub fn relocate(&mut self, place: Place) -> Option<Place> {
+        if place.realm != self.realm {
+            return None;
+        }
+        let (units, live) = self
+            .slots
+            .units_at(place.heap, place.ticket, &mut self.accesses);
+        if units == 0 {
+            return None;
+        }
+        let number = self.taker(place.heap, units, live)?;
+        Some(self.grant_at(number, units, 1).place)
+    }
+
+    /// The number of the heap with the fewest live units of those that have a live range, the last such by
+    /// number, or `None` where nothing is live: the heap that is emptied with the least copies. It reads the
+    /// slot of each number once.
+    ///
+    /// ```
+    /// # use offset_allocator_heaps::*;
+    /// # let alloc = Global;
+    /// let limits = Limits { size: 1000, max_allocs: 100, most: 2, most_larger: 1 };
+    /// let mut heaps = Heaps::<u32>::new(alloc, limits, 1)?;
+    /// assert_eq!(heaps.emptiest(), None);
+    /// let mesh = heaps.allocate(300).unwrap().place;
+    /// assert_eq!(heaps.emptiest(), Some(mesh.heap));
+    /// # Ok::<(), AllocError>(())
+    /// ```
+    pub fn emptiest(&self) -> Option<u32> {
+        emptiest_counted(self, &mut Accesses::new())
+    }
+}

@@ -1,0 +1,171 @@
+// Printed by rust/erase from crates/offset_calls/src/sliding.rt: change it there.
+
+//! Calls that slide ranges: the moves, and the numbers of the ranges that move.
+
+use crate::calls::{Moved, Reply};
+use crate::desk::Desk;
+use crate::numbers::Numbers;
+use offset_allocator::{Allocation, AllocatorOf, Move, NodeIndex, RoomCost, Tables};
+use offset_guarded::GuardedOf;
+use offset_script::PlayerOf;
+use crate::memory::Vec;
+use crate::memory::{AllocError, Global};
+
+// The moves so far, without numbers, each with the handle of its range after it, unless memory for one was
+// refused.
+struct Slides<NI: NodeIndex> {
+    found: Vec<(Allocation<NI>, Moved)>,
+    is_refused: bool,
+}
+
+impl<NI: NodeIndex> Slides<NI> {
+    // No moves.
+    fn new(alloc: Global) -> Self {
+        Slides {
+            found: Vec::new(alloc),
+            is_refused: false,
+        }
+    }
+
+    // One more move.
+    fn add(&mut self, range: Move<NI>) {
+        let moved = Moved {
+            number: 0,
+            from: range.from,
+            to: range.to,
+            size: range.size,
+        };
+        if self.found.push((range.allocation(), moved)).is_err() {
+            self.is_refused = true;
+        }
+    }
+}
+
+// Compacts a space, and collects the moves. Its index type is a parameter too, which keeps the proof short,
+// here and below.
+fn compacted<NI: NodeIndex, T: Tables<Index = NI>>(
+    space: &mut AllocatorOf<T>,
+    seen: &mut Slides<NI>,
+) {
+    space.compact(&mut |range: Move<NI>| seen.add(range));
+}
+
+// Makes room in a space, and collects the moves.
+fn collect<NI: NodeIndex, T: Tables<Index = NI>>(
+    space: &mut AllocatorOf<T>,
+    size: u32,
+    seen: &mut Slides<NI>,
+) -> Option<RoomCost> {
+    space.make_room(size, &mut |range: Move<NI>| seen.add(range))
+}
+
+// The moves, with the numbers of the ranges.
+fn numbered<NI: NodeIndex>(
+    alloc: Global,
+    numbers: &Numbers,
+    slides: &[(Allocation<NI>, Moved)],
+) -> Result<Vec<Moved>, AllocError> {
+    let mut found = Vec::new(alloc);
+    for i in 0..slides.len() {
+        let (handle, moved) = slides[i];
+        found.push(Moved {
+            number: numbers.of(handle.name()),
+            ..moved
+        })?;
+    }
+    Ok(found)
+}
+
+// The reply to `Compact`.
+pub(crate) fn compact<T: Tables>(
+    alloc: Global,
+    player: &mut PlayerOf<T>,
+    numbers: &mut Numbers,
+) -> Result<Reply, AllocError> {
+    numbers.read(&player.handles, player.space.node_count())?;
+    let mut seen = Slides::new(alloc);
+    compacted(&mut player.space, &mut seen);
+    if seen.is_refused {
+        return Err(AllocError);
+    }
+    Ok(Reply::Compacted(numbered(alloc, numbers, &seen.found)?))
+}
+
+// The reply to `MakeRoom`.
+pub(crate) fn make_room<T: Tables>(
+    alloc: Global,
+    player: &mut PlayerOf<T>,
+    numbers: &mut Numbers,
+    size: u32,
+) -> Result<Reply, AllocError> {
+    numbers.read(&player.handles, player.space.node_count())?;
+    let mut seen = Slides::new(alloc);
+    let cost = collect(&mut player.space, size, &mut seen);
+    if seen.is_refused {
+        return Err(AllocError);
+    }
+    Ok(Reply::RoomMade(cost, numbered(alloc, numbers, &seen.found)?))
+}
+
+// Compacts a guarded space, and collects the moves, as `compacted` does.
+fn compacted_guarded<NI: NodeIndex, T: Tables<Index = NI>>(
+    space: &mut GuardedOf<T>,
+    seen: &mut Slides<NI>,
+) {
+    space.compact(&mut |range: Move<NI>| seen.add(range));
+}
+
+// Makes room in a guarded space, and collects the moves, as `collect` does.
+fn collect_guarded<NI: NodeIndex, T: Tables<Index = NI>>(
+    space: &mut GuardedOf<T>,
+    size: u32,
+    seen: &mut Slides<NI>,
+) -> Option<RoomCost> {
+    space.make_room(size, &mut |it: Move<NI>| seen.add(it))
+}
+
+// The moves, with the numbers of the ranges, which are their serials.
+fn with_serials<T: Tables>(
+    alloc: Global,
+    space: &GuardedOf<T>,
+    slides: &[(Allocation<T::Index>, Moved)],
+) -> Result<Vec<Moved>, AllocError> {
+    let mut found = Vec::new(alloc);
+    for i in 0..slides.len() {
+        let (handle, range) = slides[i];
+        // it is live, so it has a ticket
+        let number = match space.ticket(handle) {
+            None => 0,
+            Some(ticket) => ticket.serial,
+        };
+        found.push(Moved { number, ..range })?;
+    }
+    Ok(found)
+}
+
+// The reply to `Compact` of a guarded space.
+pub(crate) fn compact_guarded<T: Tables>(
+    alloc: Global,
+    desk: &mut Desk<T>,
+) -> Result<Reply, AllocError> {
+    let mut seen = Slides::new(alloc);
+    compacted_guarded(&mut desk.space, &mut seen);
+    if seen.is_refused {
+        return Err(AllocError);
+    }
+    Ok(Reply::Compacted(with_serials(alloc, &desk.space, &seen.found)?))
+}
+
+// The reply to `MakeRoom` of a guarded space.
+pub(crate) fn make_room_guarded<T: Tables>(
+    alloc: Global,
+    desk: &mut Desk<T>,
+    size: u32,
+) -> Result<Reply, AllocError> {
+    let mut seen = Slides::new(alloc);
+    let cost = collect_guarded(&mut desk.space, size, &mut seen);
+    if seen.is_refused {
+        return Err(AllocError);
+    }
+    Ok(Reply::RoomMade(cost, with_serials(alloc, &desk.space, &seen.found)?))
+}
