@@ -39,10 +39,8 @@ class Module {
   saved() { return new Uint8Array(this.e.memory.buffer).slice(); }
   // The memory never becomes smaller, and what was taken since is not known there: from time to time it begins anew.
   restore(saved) {
-    if (this.size() > 2 * saved.length + (1 << 24)) {
-      this.e = new WebAssembly.Instance(compiled, {}).exports;
-      this.e.memory.grow((saved.length - this.size()) / 65536);
-    }
+    if (this.size() > 2 * saved.length + (1 << 24)) this.e = new WebAssembly.Instance(compiled, {}).exports;
+    if (this.size() < saved.length) this.e.memory.grow((saved.length - this.size()) / 65536);
     new Uint8Array(this.e.memory.buffer).set(saved);
   }
 }
