@@ -27,7 +27,7 @@ pub use Rattle.offset_allocator.specs.Chain.{HasPlace, last_or, IsChain, first_o
 unfoldable pub use Rattle.offset_allocator.specs.Chain.{blocks}
 pub use Rattle.offset_allocator.specs.Classes.{IsExponent}
 unfoldable pub use Rattle.offset_allocator.specs.Classes.{down, value, up}
-pub use Rattle.offset_allocator.specs.Moving.Compacting.{live, Compacts, moves, first_free, gathered, move_of, Move, KeepsSizes, IsCalledWith, AreSafe}
+pub use Rattle.offset_allocator.specs.Moving.Compacting.{live, Compacts, moves, first_free, gathered, move_of, Move, KeepsSizes, IsCalledWith, AreSafe, AreBetween}
 pub use Rattle.offset_allocator.specs.Layouts.{field_tables, FieldTables, node_in, node_of, cells_of, cells_by_node, AreEven, values, cells_by_field, AreLevel}
 unfoldable pub use Rattle.offset_allocator.specs.Layouts.{nodes_of, nodes_in}
 pub use Rattle.offset_allocator.specs.Reporting.Listing.{Placed, placed_at, placed}

@@ -1,11 +1,11 @@
 -- The same request in the same state has the same result, and leaves the same state.
 use Rattle.std.proofs.Common.{subst₂}
-use Rattle.offset_allocator.proofs.{Moving.Begins.begins_still, Moving.Begins.grant_begins, Holding.at_first, Holding.well_first, Holding.block_listed, Holding.fills_counted, Holding.holder}
+use Rattle.offset_allocator.proofs.{Moving.Begins.begins_still, Moving.Begins.grant_begins, Moving.Begins.aligned_begins, Holding.at_first, Holding.well_first, Holding.block_listed, Holding.fills_counted, Holding.holder}
 use Rattle.offset_allocator.proofs.{Linking.Names.names-length, Ranges.split_grants, Served.Serves, Served.plain_serves, Served.aligned_serves, Served.can_grant, Served.split_as}
 use Rattle.offset_allocator.proofs.{Served.aligns_counted, Views.ViewUndo.one_place, Common.blocks_needed, Common.units_needed, Common.size_of, Common.Grants}
 use Rattle.offset_allocator.proofs.Common.{◌≡◌, true, ℕ, zero, suc, ◌+◌, ◌≤◌, List, [], ◌∷◌, ◌++◌, length, Option, Some, None, refl, sym, ap, ap₂, subst, ◌∙◌, inl, inr, arith, length-append, cases_lt}
 use Rattle.offset_allocator.proofs.Common.{value, down, Block, View, Handle, units, times, bin_at, remove, push_all, free_part, padding_to, IsWellFormed, SameSpace, Splits, Allocates, Aligns}
-use Rattle.offset_allocator.specs.{Names.AreTaken, Names.IsTaken, Names.Renames, Names.names_of, Relations.SameState, Moving.Relocating.Relocates}
+use Rattle.offset_allocator.specs.{Names.AreTaken, Names.IsTaken, Names.Renames, Names.names_of, Relations.SameState, Moving.Relocating.Relocates, Moving.Relocating.RelocatesAligned}
 use Rattle.offset_allocator.specs.Tight.{AlignsTight, FillsFirst, CanHold, with_first}
 
 -- ---- views
@@ -32,7 +32,7 @@ last_same {A} (a ∷ l) (b ∷ m) x y e =
     let r = last_same l m x y rest in
     (r.0, ap₂ (λ (c : A) (k : List A). c ∷ k) first r.1)
 
-one_name : (k : ℕ) (u : List ℕ) (x y : ℕ) (l m : List ℕ) → IsTaken k u x l → IsTaken k u y m → (x ≡ y) × (l ≡ m)
+pub one_name : (k : ℕ) (u : List ℕ) (x y : ℕ) (l m : List ℕ) → IsTaken k u x l → IsTaken k u y m → (x ≡ y) × (l ≡ m)
 one_name k u x y l m (inl e) (inl f) = last_same l m x y (sym e ∙ f)
 one_name k u x y l m (inl e) (inr f) = absurd (omega (arith, ap length (sym e ∙ f.0), length-append l (x ∷ [])))
 one_name k u x y l m (inr e) (inl f) = absurd (omega (arith, ap length (sym f ∙ e.0), length-append m (y ∷ [])))
@@ -217,3 +217,25 @@ relocates_same x v known k w w' (Some g) (Some h) a b = allocates_decided (size_
 
 pub relocates_decided : (x : ℕ) (v v' w w' : View) → IsWellFormed v → SameState v v' → (r r' : Option Handle) → Relocates x v w r → Relocates x v' w' r' → (r ≡ r') × SameState w w'
 relocates_decided x v v' w w' known same r r' a b = relocates_same x v known v'.accesses w w' r r' a (subst (λ z. Relocates x z w' r') same b)
+
+aligned_same : (x align : ℕ) (v : View) → 1 ≤ align → IsWellFormed v → (k : ℕ) (w w' : View) (r r' : Option Handle) → RelocatesAligned x align v w r
+    → RelocatesAligned x align (record v { accesses = k }) w' r' → (r ≡ r') × SameState w w'
+aligned_same x align v some known k w w' None None a b = (refl, both_stay v w w' a.1 b.1)
+aligned_same x align v some known k w w' None (Some g) a b =
+    let n = units_needed (size_of x v) align in
+    let o = units b.0.1.before in
+    let room = b.0.0 in
+    let before = b.1 in
+    absurd (omega (arith, before, a.0 o room (begins_still n o (record v { accesses = k }) v.unused v.accesses (aligned_begins (size_of x v) align (record v { accesses = k }) w' g some b.0))))
+aligned_same x align v some known k w w' (Some g) None a b =
+    let n = units_needed (size_of x v) align in
+    let o = units a.0.1.before in
+    let room = a.0.0 in
+    let before = a.1 in
+    absurd (omega (arith, before, b.0 o room (begins_still n o v v.unused k (aligned_begins (size_of x v) align v w g some a.0))))
+aligned_same x align v some known k w w' (Some g) (Some h) a b = aligns_decided (size_of x v) align v (record v { accesses = k }) w w' known refl (Some g) (Some h) a.0 b.0
+
+pub relocates_aligned_decided : (x align : ℕ) (v v' w w' : View) → 1 ≤ align → IsWellFormed v → SameState v v' → (r r' : Option Handle) → RelocatesAligned x align v w r
+    → RelocatesAligned x align v' w' r' → (r ≡ r') × SameState w w'
+relocates_aligned_decided x align v v' w w' some known same r r' a b =
+    aligned_same x align v some known v'.accesses w w' r r' a (subst (λ z. RelocatesAligned x align z w' r') same b)

@@ -8,7 +8,7 @@ use Rattle.std.specs.{List.AllByRecursion, Option.option_or}
 use Rattle.offset_allocator.specs.{Relations.FreesLast, Relations.IsEmpty, Relations.SameState, View.last_used}
 use Rattle.offset_allocator.proofs.Views.ViewBins.{hit_at, hit_other, names_same, names_other, length_put}
 use Rattle.offset_allocator.proofs.{Linking.Ends.Ended, Linking.Ends.ended, Linking.Ends.last_none, Classes.down_small, Reading.used_live, Views.ViewApart.apart_parts, Views.ViewApart.left_false}
-use Rattle.offset_allocator.proofs.{Tallies.hit_cases, Tallies.tally_append, Tallies.one-same, Tallies.one-eq, Views.ViewSteps.place_here, Views.ViewTaken.replicate_none}
+use Rattle.offset_allocator.proofs.{Tallies.hit_cases, Tallies.tally_append, Tallies.one-same, Tallies.one-eq, Views.ViewPlaces.place_here, Views.ViewTaken.replicate_none}
 
 -- lists of names
 pub no_name : (l : List ℕ) → ((y : ℕ) → times y l ≡ 0) → l ≡ []

@@ -3,7 +3,7 @@ use Rattle.offset_allocator.proofs.Common.{take, ◌≡◌, ℕ, ◌+◌, ◌<�
 use Rattle.offset_allocator.proofs.Common.{false≢true, down, Cells, Block, View, Place, one, count_named, count_in_bin, IsWellFormed, units, place_of, is_used_at, free_end, without_end, free_start}
 use Rattle.offset_allocator.proofs.Common.{without_start, remove_all, push, free_block, replace, AreCoalesced, remove, IsChain, HasPlace, blocks, bins_in, IsBinned, IsSound, view_of, AreInBins}
 use Rattle.offset_allocator.proofs.{Common.SameSpace, Common.Frees, Common.common_steps, Filing.Filed.share, Sound.Fields, Sound.AreSound, Sound.shown, Sound.well_counted, Linking.Places.located}
-use Rattle.offset_allocator.proofs.{Views.ViewSteps.place_at, Views.ViewTaken.well_frees, Views.ViewTaken.tally_end, Views.ViewTaken.tally_start, Views.ViewApart.apart_parts}
+use Rattle.offset_allocator.proofs.{Views.ViewPlaces.place_at, Views.ViewTaken.well_frees, Views.ViewTaken.tally_end, Views.ViewTaken.tally_start, Views.ViewApart.apart_parts}
 use Rattle.offset_allocator.proofs.{Views.ViewApart.apart_coalesced, Views.ViewApart.coalesced_parts, Released.idle_append, Released.idle_end, Released.idle_start, Joints.stepped, Joints.free_most}
 use Rattle.offset_allocator.proofs.{Joints.free_units-append, Joints.free_units-free, Joints.free_units-used, Tallies.tally_append, Tallies.units-append, Tallies.free_units, Tallies.free_sum}
 use Rattle.offset_allocator.specs.Names.{names_of}

@@ -1,6 +1,6 @@
 -- Requests for any free block that is large enough.
 use Rattle.offset_allocator.proofs.{Sound.Fields, Sound.AreSound, Sound.shown, Sound.known_sound, Joints.stepped, Linking.Places.placed, Linking.Places.at_place, Taken.taken_among, Taken.fitting}
-use Rattle.offset_allocator.proofs.{Ranges.beside, Ranges.split_grants, Views.ViewSteps.place_here, Granting.within, Views.Split.well_split, Views.Split.part_room, Served.split_as, Served.can_grant}
+use Rattle.offset_allocator.proofs.{Ranges.beside, Ranges.split_grants, Views.ViewPlaces.place_here, Granting.within, Views.Split.well_split, Views.Split.part_room, Served.split_as, Served.can_grant}
 use Rattle.offset_allocator.proofs.{Served.grants, Served.multiple, Padding.reaches, Reporting.Largest.free_most, Advice.free_within, Advice.open_still}
 use Rattle.offset_allocator.proofs.Common.{◌≡◌, ℕ, zero, suc, ◌+◌, ◌-◌, ◌%◌, ◌<◌, ◌≤◌, ◌^◌, ◌↔◌, Bool, true, false, List, [], ◌∷◌, ◌++◌, length, Option, Some, None, IsSome, IfSome, is_some, nat_eq}
 use Rattle.offset_allocator.proofs.Common.{nat_le, cond, refl, sym, ap, ap₂, subst, ◌∙◌, inl, inr, arith, append-nil, get_or_past, cases_lt, le-leb, leb-true, false≢true, if◌then◌else◌, value, up}

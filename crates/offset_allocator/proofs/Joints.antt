@@ -1,7 +1,7 @@
 -- The chain, the bins and the view together.
 use Rattle.offset_allocator.proofs.Common.{◌≡◌, ℕ, zero, suc, ◌+◌, ◌≤◌, Bool, true, false, List, [], ◌∷◌, ◌++◌, if◌then◌else◌, take, refl, ap, ◌∙◌, arith, down, units, Block, View, count_named}
 use Rattle.offset_allocator.proofs.Common.{count_in_bin, IsWellFormed, free_part, remove_all, remove, Cells, IsChain, IsBinned, bins_in, IsUnlisted, view_of, common_steps}
-use Rattle.offset_allocator.proofs.{Views.blocks-chain, Views.space-chain, Sound.Fields, Sound.AreSound, Sound.well_unused, Tallies.listed_named, Tallies.tally_append}
+use Rattle.offset_allocator.proofs.{Views.ViewChain.blocks-chain, Views.ViewChain.space-chain, Sound.Fields, Sound.AreSound, Sound.well_unused, Tallies.listed_named, Tallies.tally_append}
 use Rattle.offset_allocator.proofs.Tallies.{free_units, free_sum}
 
 -- a name that no free block has is in no list

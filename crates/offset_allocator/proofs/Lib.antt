@@ -23,8 +23,7 @@ pub mod Served
 pub mod Sound
 pub mod Reading
 pub mod Views
-pub mod Entries
-pub mod Fields
+pub mod Arranging
 pub mod Filing
 pub mod Linking
 pub mod Moving

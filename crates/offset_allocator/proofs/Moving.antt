@@ -2,6 +2,7 @@
 pub mod Begins
 pub mod Compacting
 pub mod DecidedRooms
+pub mod DecidedSteps
 pub mod Gaps
 pub mod InPieces
 pub mod Nearest
@@ -12,4 +13,6 @@ pub mod Rooms
 pub mod Runs
 pub mod Sliding
 pub mod Starts
+pub mod Stepped
+pub mod Stepping
 pub mod Stretches

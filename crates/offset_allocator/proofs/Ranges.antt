@@ -1,5 +1,5 @@
 -- What each call leaves of the ranges of live handles.
-use Rattle.offset_allocator.proofs.{Views.ViewSteps.place_at, Views.ViewSteps.no_place, Released.idle_parts, Reading.range_at, Views.Split.split_view, Common.HasUnits, Common.SameSpace}
+use Rattle.offset_allocator.proofs.{Views.ViewPlaces.place_at, Views.ViewPlaces.no_place, Released.idle_parts, Reading.range_at, Views.Split.split_view, Common.HasUnits, Common.SameSpace}
 use Rattle.offset_allocator.proofs.{Common.Splits, Common.Frees, Common.Adds, Common.common_steps, Tallies.part_sums, Tallies.tally_append, Tallies.hit_cases, Tallies.units-append}
 use Rattle.offset_allocator.proofs.Common.{◌-◌, ◌≡◌, ◌≢◌, ℕ, IfSome, zero, suc, ◌+◌, ◌≤◌, Bool, true, false, ◌&&◌, List, [], ◌∷◌, ◌++◌, Option, Some, None, nat_eq, if◌then◌else◌, refl, sym, ap, subst}
 use Rattle.offset_allocator.proofs.Common.{◌∙◌, inl, inr, arith, append_assoc, add-zero, add_assoc, eq-eqb, ne_eqb, false≢true, and_right, AllByRecursion, Block, View, Place, Handle, one, units}

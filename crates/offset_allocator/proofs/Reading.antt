@@ -1,7 +1,7 @@
 -- What a read of cells says of the view.
 use Rattle.offset_allocator.proofs.Common.{◌≡◌, ℕ, ◌<◌, inl, inr, length, arith, is_some, true, false, Option, None, Some, option_and_then, option_map, unwrap_or, if◌then◌else◌, refl, sym, ap, subst}
 use Rattle.offset_allocator.proofs.Common.{◌∙◌, cases_lt, false≢true, ChainCells, Node, node, View, Place, units, place_of, is_used_at, Range, range_of, size_of, IsLive, blocks, IsRow, IsSpace}
-use Rattle.offset_allocator.proofs.{Common.common_steps, Linking.Nodes.past_idle, Sound.Fields, Sound.AreSound, Sound.shown, Linking.Rows.node_at, Views.ViewSteps.place_at, Views.ViewSteps.no_place}
+use Rattle.offset_allocator.proofs.{Common.common_steps, Linking.Nodes.past_idle, Sound.Fields, Sound.AreSound, Sound.shown, Linking.Rows.node_at, Views.ViewPlaces.place_at, Views.ViewPlaces.no_place}
 
 -- the range of the used block at a place
 abbrev pub range_at : Option Place → Option Range

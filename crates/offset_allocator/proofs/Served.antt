@@ -4,7 +4,7 @@ use Rattle.offset_allocator.proofs.Common.{◌≡◌, ◌↔◌, ℕ, ◌+◌, �
 use Rattle.offset_allocator.proofs.Common.{false≢true, lt-leb, down, View, Handle, units, count_named, place_of, IsWellFormed, free_sizes, reported_largest, padding_to, max_size, largest}
 use Rattle.offset_allocator.proofs.Common.{IsGoodRefusal, HasRoomFor, CanGrant, blocks_needed, units_needed, Splits, Allocates, Aligns, IsSplitNearBest, Grants}
 use Rattle.offset_allocator.proofs.Views.ViewFits.{HasName, there_middle, near_best_fit, good_refusal, fits_exactly, refusal_past, largest_small}
-use Rattle.offset_allocator.proofs.{Padding.reaches, Refusals.fit_small, Views.Split.well_split, Views.Split.part_room, Ranges.beside, Ranges.split_grants, Views.ViewSteps.place_here}
+use Rattle.offset_allocator.proofs.{Padding.reaches, Refusals.fit_small, Views.Split.well_split, Views.Split.part_room, Ranges.beside, Ranges.split_grants, Views.ViewPlaces.place_here}
 
 -- a request that may add this many blocks, takes a block of a class large enough for the units needed, and is granted n
 -- of them, after padding

@@ -1,5 +1,5 @@
 -- The block that a request takes, and when there is one.
-use Rattle.offset_allocator.proofs.{Views.ViewSteps.place_at, Views.ViewSteps.no_place, Tallies.listed_named, Tallies.tally_append, Tallies.hit_cases, Tallies.one-same}
+use Rattle.offset_allocator.proofs.{Views.ViewPlaces.place_at, Views.ViewPlaces.no_place, Tallies.listed_named, Tallies.tally_append, Tallies.hit_cases, Tallies.one-same}
 use Rattle.offset_allocator.proofs.Common.{not, ◌≡◌, ◌≢◌, ℕ, ◌≤◌, Bool, true, false, ◌&&◌, List, [], ◌∷◌, ◌++◌, Option, Some, None, nat_eq, refl, sym, ap, arith, not-true, up, down, Block, View}
 use Rattle.offset_allocator.proofs.Common.{Place, one, times, count_named, count_in_bin, bin_at, place_of, IsWellFormed}
 

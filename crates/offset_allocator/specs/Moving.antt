@@ -1,4 +1,5 @@
 -- Live ranges that slide, what that costs and copies, and what empties the end of a space.
+pub mod BySteps
 pub mod Compacting
 pub mod Gaps
 pub mod Pieces

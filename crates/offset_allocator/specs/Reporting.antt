@@ -1,5 +1,6 @@
 -- What is reported.
 pub mod Beside
+pub mod Dumping
 pub mod FreeSizes
 pub mod Listing
 pub mod Reports

@@ -11,11 +11,11 @@ ghost use Rattle.offset_allocator.specs.Reporting.Beside.{live_after, live_befor
 ghost use Rattle.offset_allocator.specs.Classes.{value, up, down};
 ghost use Rattle.offset_allocator.specs.View.{View, AreNames, Block, Handle, IsWellFormed, free_sizes};
 ghost use Rattle.offset_allocator.specs.View.{reported_free};
-ghost use Rattle.offset_allocator.specs.View.{reported_largest, padding_to, used_of, used_units};
+ghost use Rattle.offset_allocator.specs.View.{reported_largest, padding_to, units, used_of, used_units};
 ghost use Rattle.offset_allocator.specs.Ranges.{Range, range_of, AreDisjoint};
 ghost use Rattle.offset_allocator.specs.Relations.{SameSpace, SameState, Aligns, Allocates, Extends, Frees};
 ghost use Rattle.offset_allocator.specs.Relations.{IsFresh, Resets};
-ghost use Rattle.offset_allocator.specs.Moving.Relocating.{Relocates};
+ghost use Rattle.offset_allocator.specs.Moving.Relocating.{Relocates, RelocatesAligned};
 ghost use Rattle.offset_allocator.specs.Requests.{IsAlignment, CanGrant, HasRoomFor, IsWhy};
 ghost use Rattle.offset_allocator.specs.Reporting.Reports.{IsReport};
 ghost use Rattle.offset_allocator.specs.Resizing.{Grows, Shrinks};
@@ -28,8 +28,9 @@ ghost use Rattle.offset_allocator.specs.declared.reports.statistics.Statistics.{
 ghost use Rattle.offset_allocator.specs.declared.reports.Refusal.{Refusal};
 ghost use Rattle.offset_allocator.specs.declared.reports.Refusal.TheVariants.{TooLarge, Space, Fragmented};
 ghost use Rattle.offset_allocator.specs.declared.moves.room.RoomCost.{RoomCost};
+ghost use Rattle.offset_allocator.specs.Moving.BySteps.{CompactsBy, moves_by};
 ghost use Rattle.offset_allocator.specs.Moving.Room.{IsLeastCost, MakesRoom, ranges_of};
-ghost use Rattle.offset_allocator.specs.Moving.Compacting.{moves, AreSafe, Compacts, Move};
+ghost use Rattle.offset_allocator.specs.Moving.Compacting.{moves, AreBetween, AreSafe, Compacts, Move};
 ghost use Rattle.offset_allocator.specs.Moving.Pieces.{pieces, copied, all_copied, ArePieces};
 
 use crate::AllocatorOf;
@@ -279,10 +280,28 @@ pub fn each_live_range_is_met_once<T: Tables>(allocator: &AllocatorOf<T>)
     allocator.formed();
 }
 
-/// Each move of `compact` goes to a smaller offset, and ends before all units that later moves have yet to
-/// read.
+/// Each move of `compact`, and of the run of blocks that `make_room` slides, goes to a smaller offset, and ends
+/// before all units that later moves have yet to read. It lies in the run, and so in the space.
 pub fn moves_are_safe()
-    ensures { (bs : List Block) → AreSafe (moves 0 0 bs) }
+    ensures compact { (bs : List Block) → AreSafe (moves 0 0 bs) }
+    ensures compact_within { (v : View) → IsWellFormed v → AreBetween 0 v.size (moves 0 0 v.blocks) }
+    ensures make_room { (front run : List Block) → AreSafe (moves (units front) (units front) run) }
+    ensures make_room_within { (v : View) (front run back : List Block) → IsWellFormed v
+        → v.blocks ≡ front ++ (run ++ back)
+        → AreBetween (units front) (units (front ++ run)) (moves (units front) (units front) run)
+        × (units (front ++ run) ≤ v.size) }
+{}
+
+/// Each move of `compact_by` goes to a smaller offset of the space by a multiple of the step, and ends before
+/// all units that later moves have yet to read. So a range keeps its alignment where that divides the step.
+pub fn moves_by_steps_are_safe()
+    ensures safe { (step : ℕ) (bs : List Block) → AreSafe (moves_by step 0 0 bs) }
+    ensures within { (step : ℕ) (v : View) → IsWellFormed v
+        → AreBetween 0 v.size (moves_by step 0 0 v.blocks) }
+    ensures steps { (step : ℕ) (bs : List Block)
+        → AllByRecursion (λ m. m.from % step ≡ m.to % step) (moves_by step 0 0 bs) }
+    ensures aligned { (align k : ℕ) (bs : List Block)
+        → AllByRecursion (λ m. m.from % align ≡ m.to % align) (moves_by (k * align) 0 0 bs) }
 {}
 
 /// The pieces of a move, copied one after the other, leave what the move at once leaves, whatever the units
@@ -326,6 +345,9 @@ pub fn a_state_decides_each_step()
         → (r ≡ r') × SameState w w' }
     ensures relocate { (x : ℕ) (v v' w w' : View) → IsWellFormed v → SameState v v'
         → (r r' : Option Handle) → Relocates x v w r → Relocates x v' w' r' → (r ≡ r') × SameState w w' }
+    ensures relocate_aligned { (x align : ℕ) (v v' w w' : View) → 1 ≤ align → IsWellFormed v → SameState v v'
+        → (r r' : Option Handle) → RelocatesAligned x align v w r → RelocatesAligned x align v' w' r'
+        → (r ≡ r') × SameState w w' }
     ensures free { (x : ℕ) (v v' w w' : View) → IsWellFormed v → SameState v v' → Frees x v w → Frees x v' w'
         → SameState w w' }
     ensures reset { (v v' w w' : View) → IsWellFormed v → SameState v v' → Resets v w → Resets v' w'
@@ -339,6 +361,8 @@ pub fn a_state_decides_each_step()
     ensures grow { (x n : ℕ) (v v' w w' : View) → IsWellFormed v → SameState v v'
         → (r r' : Bool) → Grows x n v w r → Grows x n v' w' r' → (r ≡ r') × SameState w w' }
     ensures compact { (v v' w w' : View) → SameState v v' → Compacts v w → Compacts v' w' → SameState w w' }
+    ensures compact_by { (s : ℕ) (v v' w w' : View) → SameState v v'
+        → (r r' : Bool) → CompactsBy s v w r → CompactsBy s v' w' r' → (r ≡ r') × SameState w w' }
     ensures room_cost { (want : ℕ) (bs : List Block) (r r' : Option RoomCost) → IsLeastCost want bs r
         → IsLeastCost want bs r' → r ≡ r' }
     // the moves too, each noted after those before it

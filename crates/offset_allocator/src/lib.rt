@@ -56,11 +56,11 @@ pub use handle::Allocation;
 pub use index::{NodeIndex, NodeIndexNonMax};
 pub use layouts::by_field::ByField;
 pub use layouts::by_node::ByNode;
-pub use moves::compact::Move;
 pub use moves::pieces::{MovePieces, Piece};
 pub use moves::room::RoomCost;
 pub use nonmax::{NonMaxU16, NonMaxU32};
 pub use reports::blocks::{Block, BlocksOf};
+pub use reports::dumping::{json_of, vma_json_of};
 pub use reports::statistics::Statistics;
 pub use reports::{Refusal, StorageReport, StorageReportFull, StorageReportFullRegion};
 pub use states::state::{StateFault, StateFaultKind};
@@ -72,6 +72,10 @@ pub use tables::Tables;
 
 /// The allocator of one space, with one table of nodes: a block's cells are in one or two cache lines.
 pub type Allocator<NI = u32> = AllocatorOf<ByNode<NI>>;
+
+/// A range that `compact`, `compact_by` or `make_room` moves: `size` units from the offset `from` to the offset
+/// `to`, which is smaller.
+pub type Move<NI = u32> = moves::one_move::Move<NI, <NI as NodeIndex>::NonMax>;
 
 /// The blocks of such an allocator.
 pub type Blocks<'a, NI = u32> = BlocksOf<'a, ByNode<NI>>;
@@ -247,8 +251,8 @@ impl<T: Tables> AllocatorOf<T> {
     }
 
     /// Whether `max_allocs - 1` blocks exist. Then every request is refused, and the short report is 0, 0,
-    /// until blocks coalesce (by `free`, `compact`, `make_room` or `reset`), or `grow_in_place` or `retract`
-    /// takes the whole of a free block.
+    /// until blocks coalesce (by `free`, `compact`, `compact_by`, `make_room` or `reset`), or `grow_in_place`
+    /// or `retract` takes the whole of a free block.
     ///
     /// ```
     /// let mut space = Allocator::<u32>::with_max_allocs(alloc, 1000, 3)?;

@@ -11,6 +11,7 @@ ghost use Rattle.offset_allocator.specs.Reporting.Reports.{IsReport, IsFullRepor
 
 pub(crate) mod beside;
 pub(crate) mod blocks;
+pub(crate) mod dumping;
 pub(crate) mod lengths;
 pub(crate) mod statistics;
 

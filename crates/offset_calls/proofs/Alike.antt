@@ -2,7 +2,7 @@
 use Rattle.offset_calls.proofs.Common.{◌≡◌, ℕ, ◌+◌, ◌-◌, ◌*◌, Bool, true, false, not, ◌&&◌, ◌||◌, ◌⊎◌, List, [], ◌∷◌, ◌++◌, map, sum, Option, None, is_some, nat_eq, nat_le, if◌then◌else◌, refl, sym}
 use Rattle.offset_calls.proofs.Common.{ap, ap₂, subst, subst₂, ◌∙◌, inl, inr, arith, eq-eqb, ne_eqb, le-leb, cases_eq, cases_lt, true≢false, false≢true, lt-leb, map-append, number_without, State}
 use Rattle.offset_calls.proofs.Common.{is_free, has_number, free_sizes, place_of, chosen_place, units_at_start, without_start, free_part, stamp_of_call, fits, Call, Reply, Answer, Compacted, Offset}
-use Rattle.offset_calls.proofs.Common.{Refused_for, Outcome, starts_free, resize, resized, replies_only, number, move_of, moves, gathered, compact, offset_at, reason, step, replies, renumber}
+use Rattle.offset_calls.proofs.Common.{Refusal, Outcome, starts_free, resize, resized, replies_only, number, move_of, moves, gathered, compact, offset_at, reason, step, replies, renumber}
 use Rattle.offset_calls.proofs.Common.{number_with, raise_move, raise, option_map, Some, Nodes, and_parts, is_short_of, total}
 use Rattle.offset_script.specs.{Totals.live, Machine.is_taken_before}
 use Rattle.offset_script.proofs.Alike.{IsAlike, IsMatched, IsFreshKind, alike_step, same_placed, same_quiet, same_leaves, fresh_kinds, matched_in_new, agree_in_new, either}
@@ -12,7 +12,8 @@ use Rattle.offset_script.proofs.Pairs.{Kind, Lives, Frees, Pair, pair, left_tag,
 use Rattle.offset_script.proofs.Pairs.{same_units, same_short, same_free_sizes, same_chosen, pair_free_part, lefts_free_part, rights_free_part, in_free_part, AreAllAgreed, same_tests}
 use Rattle.std.specs.Option.{option_or}
 use Rattle.offset_allocator.specs.{Classes.down, View.padding_to, Classes.value, Classes.up, declared.moves.room.RoomCost.RoomCost}
-use Rattle.offset_calls.specs.Calls.{answered, Beside, beside, make_room, remakes, Made_room, Room_costs}
+use Rattle.offset_calls.specs.Calls.{answered, Beside, beside, make_room, remakes, RoomMade}
+use Rattle.offset_calls.specs.Calls as plain
 use Rattle.offset_calls.specs.declared.calls.LiveRange.{LiveRange}
 use Rattle.offset_calls.specs.{Ending.first_live, Ending.last_live, Ending.live_before, Ending.live_after, Histories.raise_range, Room.Split, Room.cheapest, Room.slid}
 use Rattle.offset_calls.proofs.EndPairs.{same_can, retracted_alike, same_relocated, IsSent, AreSent, sent_first, sent_last}
@@ -287,13 +288,13 @@ module _ (r : ℕ → ℕ) (g d : ℕ) (back : (k : ℕ) → r (number_with g d 
 
   slid_same : (f k b : List Pair) → a.pairs ≡ f ++ (k ++ b) → AreSame r g d
       (remakes s (slid (stamp_of_call s) (record { front = lefts f; run = lefts k; back = lefts b }))
-      (Made_room (Some (room.cost_of (lefts k))) (moves (total (lefts f)) (total (lefts f)) (lefts k))))
+      (RoomMade (Some (room.cost_of (lefts k))) (moves (total (lefts f)) (total (lefts f)) (lefts k))))
       (remakes t (slid (stamp_of_call t) (record { front = rights f; run = rights k; back = rights b }))
-      (Made_room (Some (room.cost_of (rights k))) (moves (total (rights f)) (total (rights f)) (rights k))))
+      (RoomMade (Some (room.cost_of (rights k))) (moves (total (rights f)) (total (rights f)) (rights k))))
   slid_same f k b e =
       let new = pair (sum (free_sizes (lefts k))) (Frees (2 * (s.calls + 1) + 1) (2 * (t.calls + 1) + 1)) in
       record {
-        reply = ap₂ (λ c l. Made_room (Some c) l) (same_cost k)
+        reply = ap₂ (λ c l. RoomMade (Some c) l) (same_cost k)
             (moves_same (total (lefts f)) (total (lefts f)) k (λ q i. subst (IsIn q) (sym e) (in_right q f (k ++ b) (in_left q k b i)))
             ∙ ap (λ n. map (raise_move g d) (moves n n (rights k))) (same_total f));
         state = (same_leaves r d s t a machine.Gone machine.Gone (f ++ (live_pairs k ++ (new ∷ b))) _ _ refl
@@ -313,7 +314,7 @@ module _ (r : ℕ → ℕ) (g d : ℕ) (back : (k : ℕ) → r (number_with g d 
   made_same : (o o' : Option Split) → IsSameSplit a.pairs o o' → AreSame r g d (make_room s o) (make_room t o')
   made_same None None no_split = quiet _ _ refl
   made_same o o' (same_split f k b e) = if_same (AreSame r g d) _ _ _ _ _ _ (ap (λ (c : RoomCost). nat_eq c.ranges 0) (same_cost k))
-      (λ z. quiet _ _ (ap (λ c. Made_room (Some c) []) (same_cost k))) (slid_same f k b e)
+      (λ z. quiet _ _ (ap (λ c. RoomMade (Some c) []) (same_cost k))) (slid_same f k b e)
 
   -- live ranges beside one another
   sent_kind : (k : Kind) → (is_free (left_tag k) ≡ false → number (left_tag k) ≡ number_with g d (number (right_tag k))) → IsSent (number_with g d) k
@@ -337,13 +338,13 @@ module _ (r : ℕ → ℕ) (g d : ℕ) (back : (k : ℕ) → r (number_with g d 
   same_call (call.Grow k n) = resize_same k n _ _ _ _ refl (same_placed r d s t a k) (λ xs q ys. ap (λ f. nat_le q.size n && nat_le n (q.size + f)) (same_free_start ys))
   same_call call.Compact = compact_same
   same_call (call.Offset k) = quiet _ _ (offset_same _ _ (same_placed r d s t a k))
-  same_call (call.Refusal n) = quiet _ _ (ap Refused_for (reason_same 1 n))
+  same_call (call.Refusal n) = quiet _ _ (ap Refusal (reason_same 1 n))
   same_call (call.Tight n) = tight_same n 1
   same_call (call.TightAligned n align) = tight_same n align
-  same_call (call.RefusalTight n) = quiet _ _ (ap Refused_for (held_reason 1 n 1))
-  same_call (call.RefusalTightAligned n align) = quiet _ _ (ap Refused_for (held_reason (if nat_le align 1 then 1 else 2) n align))
+  same_call (call.RefusalTight n) = quiet _ _ (ap Refusal (held_reason 1 n 1))
+  same_call (call.RefusalTightAligned n align) = quiet _ _ (ap Refusal (held_reason (if nat_le align 1 then 1 else 2) n align))
   same_call (call.MakeRoom n) = made_same _ _ (runs_same (value (up n)))
-  same_call (call.RoomCost n) = quiet _ _ (ap Room_costs (same_room_cost a.pairs _ _ (runs_same (value (up n)))))
+  same_call (call.RoomCost n) = quiet _ _ (ap plain.RoomCost (same_room_cost a.pairs _ _ (runs_same (value (up n)))))
   same_call (call.Relocate k) = let o = same_relocated r d s t a _ _ (same_placed r d s t a k) in record { reply = ap Answer o.answer; state = o.state }
   same_call (call.Retract n) = if_same (AreSame r g d) _ _ _ _ _ _ (same_can r d s t a n) (λ e. record { reply = refl; state = retracted_alike r d s t a n }) (quiet _ _ refl)
   same_call call.First = quiet _ _ (ap Beside (ap (first_live 0) a.left_blocks ∙ sent_first (number_with g d) 0 a.pairs sent_pairs
@@ -355,7 +356,7 @@ module _ (r : ℕ → ℕ) (g d : ℕ) (back : (k : ℕ) → r (number_with g d 
   same_call (call.After k) = quiet _ _ (beside_same live_after live_after
       (λ xs q ys i. sent_first (number_with g d) (total (lefts xs) + q.size) ys (λ x j. sent_pairs x (i x (inr j)))
       ∙ ap (λ m. option_map (raise_range g d) (first_live (m + q.size) (rights ys))) (same_total xs)) _ _ (same_placed r d s t a k))
-  same_call (call.RefusalAligned n align) = quiet _ _ (ap₂ (λ x y. Refused_for (if nat_le align 1 then x else y)) (reason_same 1 n) (reason_same 2 (n + align - 1)))
+  same_call (call.RefusalAligned n align) = quiet _ _ (ap₂ (λ x y. Refusal (if nat_le align 1 then x else y)) (reason_same 1 n) (reason_same 2 (n + align - 1)))
 
 -- alike states give the same replies to any calls
 pub same_replies : (r : ℕ → ℕ) (g d : ℕ) → ((k : ℕ) → r (number_with g d k) ≡ k) → (cs : List Call) (s t : State) → IsAlike r d s t

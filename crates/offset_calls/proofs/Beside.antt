@@ -5,7 +5,7 @@ use Rattle.offset_calls.proofs.Common.{AreKept, Tag, Live, Free, State, is_free,
 use Rattle.std.specs.{List.slice_index, Option.option_or}
 use Rattle.offset_allocator.specs.{View.place_of, Reporting.Listing.placed_at}
 use Rattle.offset_allocator.specs.Reporting.Beside.{first_handle, first_live, last_live, live_before, live_after}
-use Rattle.offset_allocator.proofs.Views.ViewSteps.{place_at}
+use Rattle.offset_allocator.proofs.Views.ViewPlaces.{place_at}
 use Rattle.offset_guarded.specs.Guard.{ticket_at}
 use Rattle.offset_script.proofs.{Agreement.Label, Agreement.by_name, Agreement.HasBlocksOf, Chosen.Spot, Chosen.named_place, Chosen.plain_place}
 use Rattle.offset_script.proofs.{Ends.total_units, Labels.names, Labels.tags, Members.IsIn, Members.in_left, Members.in_right, Well.IsWell}

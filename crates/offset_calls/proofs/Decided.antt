@@ -134,7 +134,7 @@ module _ (v : View) (known : IsWellFormed v) (accesses : ℕ) (w w' : View) (hs 
   room_taken want r r' e f t k =
       let s = noted_decided want v z w w' known refl t.0 k.0 t.2 k.2 t.1 k.1 t.3.made k.3.made in
       let same = same_moves hs apart k.2 t.4 k.4 (subst (λ xs. AreNumbered hs xs t.4) s.1 t.5) k.5 in
-      (t.6 ∙ ap₂ plain.Made_room s.0 same ∙ sym k.6, s.2, e ∙ sym f)
+      (t.6 ∙ ap₂ plain.RoomMade s.0 same ∙ sym k.6, s.2, e ∙ sym f)
 
   resized_taken : (d d' : Bool) (r r' : Reply) → (d ≡ d') × SameState w w' → left ≡ hs → left' ≡ hs → r ≡ (if d then plain.Resized else Answer machine.Refused) → r' ≡ (if d' then plain.Resized else Answer machine.Refused)
       → AreSame r r' w w' left left'
@@ -153,15 +153,15 @@ module _ (v : View) (known : IsWellFormed v) (accesses : ℕ) (w w' : View) (hs 
   )
   takes_same (call.Offset i) r r' t k = stay r r'
       (both_named (kept_name hs i) _ _ _ _ _ (λ x f g. let same : f.0 ≡ g.0 = let q = sym f.1 ∙ g.1 in cc in f.2 ∙ ap plain.Offset same ∙ sym g.2) (λ f g. f ∙ sym g) t.1 k.1) t.0 k.0
-  takes_same (call.Refusal n) r r' t k = stay r r' (t.1.2 ∙ ap plain.Refused_for (same_reason v known 1 n t.1.0 k.1.0 t.1.1 k.1.1) ∙ sym k.1.2) t.0 k.0
+  takes_same (call.Refusal n) r r' t k = stay r r' (t.1.2 ∙ ap plain.Refusal (same_reason v known 1 n t.1.0 k.1.0 t.1.1 k.1.1) ∙ sym k.1.2) t.0 k.0
   takes_same (call.RefusalAligned n align) r r' t k = stay r r'
-      (t.1.2 ∙ ap plain.Refused_for (same_reason v known (blocks_needed align) (units_needed n align) t.1.0 k.1.0 t.1.1 k.1.1) ∙ sym k.1.2) t.0 k.0
+      (t.1.2 ∙ ap plain.Refusal (same_reason v known (blocks_needed align) (units_needed n align) t.1.0 k.1.0 t.1.1 k.1.1) ∙ sym k.1.2) t.0 k.0
   takes_same (call.Tight n) r r' t k = tight_taken n 1 r r' t k
   takes_same (call.TightAligned n align) r r' t k = tight_taken n align r r' t k
-  takes_same (call.RefusalTight n) r r' t k = stay r r' (t.1.2 ∙ ap plain.Refused_for (same_reason_tight v known n 1 t.1.0 k.1.0 t.1.1 k.1.1) ∙ sym k.1.2) t.0 k.0
-  takes_same (call.RefusalTightAligned n align) r r' t k = stay r r' (t.1.2 ∙ ap plain.Refused_for (same_reason_tight v known n align t.1.0 k.1.0 t.1.1 k.1.1) ∙ sym k.1.2) t.0 k.0
+  takes_same (call.RefusalTight n) r r' t k = stay r r' (t.1.2 ∙ ap plain.Refusal (same_reason_tight v known n 1 t.1.0 k.1.0 t.1.1 k.1.1) ∙ sym k.1.2) t.0 k.0
+  takes_same (call.RefusalTightAligned n align) r r' t k = stay r r' (t.1.2 ∙ ap plain.Refusal (same_reason_tight v known n align t.1.0 k.1.0 t.1.1 k.1.1) ∙ sym k.1.2) t.0 k.0
   takes_same (call.MakeRoom n) r r' t k = room_taken (value (up n)) r r' t.1 k.1 t.0 k.0
-  takes_same (call.RoomCost n) r r' t k = stay r r' (t.1.2 ∙ ap plain.Room_costs (least_decided (value (up n)) v.blocks t.1.0 k.1.0 t.1.1 k.1.1) ∙ sym k.1.2) t.0 k.0
+  takes_same (call.RoomCost n) r r' t k = stay r r' (t.1.2 ∙ ap plain.RoomCost (least_decided (value (up n)) v.blocks t.1.0 k.1.0 t.1.1 k.1.1) ∙ sym k.1.2) t.0 k.0
   takes_same (call.Relocate i) r r' t k = both_named (kept_name hs i) _ _ _ _ _
       (λ x f g. answered f.1 g.1 r r' f.4 g.4 (granted f.0 g.0 (relocates_decided x v z w w' known refl f.0 g.0 f.2 g.2) f.1 g.1 f.3 g.3)) (λ f g. stay r r' (f.1 ∙ sym g.1) f.0 g.0) t k
   takes_same (call.Retract n) r r' t k = resized_taken t.0 k.0 r r' (retracts_decided n v z w w' refl t.0 k.0 t.1 k.1) t.2 k.2 t.3 k.3

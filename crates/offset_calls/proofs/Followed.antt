@@ -6,7 +6,7 @@ use Rattle.offset_calls.proofs.Common.{◌≡◌, ◌≢◌, ◌⊎◌, ℕ, zer
 use Rattle.offset_calls.proofs.Common.{IsTrue, option_map, option_and_then, nat_eq, nat_lt, nat_le, if◌then◌else◌, refl, sym, ap, ap₂, subst, ◌∙◌, inl, inr, arith, eq-eqb, ne_eqb, le-leb, leb-true}
 use Rattle.offset_calls.proofs.Common.{lt-ltb, le-ltb, cases_eq, cases_lt, true≢false, false≢true, and_parts, lt-leb, Nodes, TooLarge, Space, Fragmented, View, Handle, times, count_in_bin, bin_at}
 use Rattle.offset_calls.proofs.Common.{units, IsWellFormed, HasRoomFor, IsWhy, size_needed, blocks_needed, units_needed, Range, size_of, kept_name, IfNamed, Stays, State, is_free, free_sizes, total}
-use Rattle.offset_calls.proofs.Common.{chosen_place, is_short_of, fits, Call, Reply, Answer, Resized, Compacted, Offset, Refused_for, Outcome, can_shrink, can_grow, resize, resized, replies_only}
+use Rattle.offset_calls.proofs.Common.{chosen_place, is_short_of, fits, Call, Reply, Answer, Resized, Compacted, Offset, Outcome, can_shrink, can_grow, resize, resized, replies_only}
 use Rattle.offset_calls.proofs.Common.{shortage, reason, offset_at, step, after, is_valid, compact, starts_free, Takes, IsReason}
 use Rattle.offset_allocator.proofs.{Advice.free_within, Powers.not_zero, Tallies.hit_cases}
 use Rattle.offset_script.proofs.Agreed.{agrees_but, agrees_quiet, has_room, labelled, none_there, same_length, same_units}
@@ -15,7 +15,8 @@ use Rattle.offset_script.proofs.{Members.in_map, Found.not_chosen, Well.IsWell, 
 use Rattle.offset_script.proofs.{Chosen.named_place, Found.chosen_at, Lists.whole, Tests.same_some, Well.free_part_is, Well.well_grant}
 use Rattle.std.specs.{Prelude.max, Option.option_or}
 use Rattle.std.proofs.lemmas.Bool.{cond_both}
-use Rattle.offset_calls.specs.{Steps.IsReasonTight, Steps.TakesTight, Calls.answered, Calls.Beside, Calls.beside, Calls.remakes, Calls.Room_costs, Room.cheapest, Ending.begins_before}
+use Rattle.offset_calls.specs.{Steps.IsReasonTight, Steps.TakesTight, Calls.answered, Calls.Beside, Calls.beside, Calls.remakes, Room.cheapest, Ending.begins_before}
+use Rattle.offset_calls.specs.Calls as reply
 use Rattle.offset_calls.specs.{Ending.relocate, Ending.can_retract, Ending.retracted, Steps.Finds}
 use Rattle.offset_calls.specs.Tight.{holding_place, request_tight, allocate_tight, lack, reason_held, reason_tight}
 use Rattle.offset_calls.proofs.{Held.held_at, Filled.held_spot, Filled.held_there, Filled.there, Filled.tight_agrees, Rooms.well_room, Rooms.room_cost_is, Rooms.room_taken, Common.IsKept}
@@ -349,8 +350,8 @@ module _ (v w : View) (hs left : List (Option Handle)) (r : Reply) (s : State) (
       let f = script.requested v w hs left t.1 s formed ws p (allocate_tight n align s) t.0 m t.3 in
       (t.4 ∙ ap Answer f.0, f.1)
 
-  tight_reason_step : (n align : ℕ) → 1 ≤ align → (why : Option Refusal) → IsReasonTight n align v why → r ≡ Refused_for why → r ≡ Refused_for (reason_tight n align s)
-  tight_reason_step n align some why t e = e ∙ ap Refused_for (tight_reason_is n align why t ∙ spare_is n align some)
+  tight_reason_step : (n align : ℕ) → 1 ≤ align → (why : Option Refusal) → IsReasonTight n align v why → r ≡ reply.Refusal why → r ≡ reply.Refusal (reason_tight n align s)
+  tight_reason_step n align some why t e = e ∙ ap reply.Refusal (tight_reason_is n align why t ∙ spare_is n align some)
 
   aligned_reason : (n align : ℕ) → 1 ≤ align → reason (blocks_needed align) (units_needed n align) s ≡ (if nat_le align 1 then reason 1 n s else reason 2 (n + align - 1) s)
   aligned_reason n align some = elim (cases_lt 1 align) [
@@ -404,15 +405,15 @@ module _ (v w : View) (hs left : List (Option Handle)) (r : Reply) (s : State) (
       let moved = moves_are v hs s p.formed ws p.agrees t.2.0 t.2.1 in
       (t.2.2 ∙ ap Compacted moved, subst (λ l. IsAtState w l (compact s).state) (sym t.1) (record { formed = formed; agrees = agrees; grants = p.grants }))
   follows (call.Offset k) valid t = quiet _ _ refl t.0 (offset_step k (kept_name hs k) refl t.1)
-  follows (call.Refusal n) valid t = quiet _ _ refl t.0 (t.1.2 ∙ ap Refused_for (reason_is 1 n t.1.0 t.1.1))
+  follows (call.Refusal n) valid t = quiet _ _ refl t.0 (t.1.2 ∙ ap reply.Refusal (reason_is 1 n t.1.0 t.1.1))
   follows (call.RefusalAligned n align) valid t = quiet _ _ refl t.0
-      (t.1.2 ∙ ap Refused_for (reason_is (blocks_needed align) (units_needed n align) t.1.0 t.1.1 ∙ aligned_reason n align (not_zero align (inr (inl valid)))))
+      (t.1.2 ∙ ap reply.Refusal (reason_is (blocks_needed align) (units_needed n align) t.1.0 t.1.1 ∙ aligned_reason n align (not_zero align (inr (inl valid)))))
   follows (call.Tight n) valid t = tight_step n 1 (omega arith) t
   follows (call.TightAligned n align) valid t = tight_step n align (not_zero align (inr (inl valid))) t
   follows (call.RefusalTight n) valid t = quiet _ _ refl t.0 (tight_reason_step n 1 (omega arith) t.1.0 t.1.1 t.1.2)
   follows (call.RefusalTightAligned n align) valid t = quiet _ _ refl t.0 (tight_reason_step n align (not_zero align (inr (inl valid))) t.1.0 t.1.1 t.1.2)
   follows (call.MakeRoom n) valid t = room_taken v w hs left r s formed ws p t.1 (value (up n)) t.0
-  follows (call.RoomCost n) valid t = quiet _ _ refl t.0 (t.1.2 ∙ ap Room_costs (room_cost_is v w hs left r s formed ws p t.0.1 (value (up n)) t.1.0 t.1.1))
+  follows (call.RoomCost n) valid t = quiet _ _ refl t.0 (t.1.2 ∙ ap reply.RoomCost (room_cost_is v w hs left r s formed ws p t.0.1 (value (up n)) t.1.0 t.1.1))
   follows (call.Relocate k) valid t = relocate_step k (kept_name hs k) refl t
   follows (call.Retract n) valid t = retract_step n t.0 t.1 t.2 t.3
   follows call.First valid t = quiet _ _ refl t.0 (t.1.2 ∙ ap Beside (first_same v hs s p.formed ws p.agrees t.1.0 t.1.1))

@@ -13,7 +13,7 @@ use Rattle.offset_script.proofs.{Labels.names, Labels.tags, Labels.map_three, La
 use Rattle.offset_script.proofs.Agreement.{Label, by_name, by_tag, name_of, HasBlocksOf, IsAtState}
 use Rattle.offset_script.proofs.Lists.{AreApart, apart_append, apart_parts, count, count-append, ends_free, starts_free}
 use Rattle.offset_script.specs.Totals.{live}
-use Rattle.offset_calls.specs.{Calls.make_room, Calls.remakes, Calls.Made_room, Room.Split, Room.cheapest, Room.room_cost, Room.slid, Slides.Notes, Steps.TakesRoom}
+use Rattle.offset_calls.specs.{Calls.make_room, Calls.remakes, Calls.RoomMade, Room.Split, Room.cheapest, Room.room_cost, Room.slid, Slides.Notes, Steps.TakesRoom}
 use Rattle.offset_calls.specs.Room as plain
 use Rattle.offset_calls.proofs.Compacted.{count_live, length_live, apart_live, ends_of_live, live_labels, live_names, live_tags, live_name_of, moves_agree, one_number}
 use Rattle.offset_calls.proofs.Runs.{IsChosen, IsBest, IsLabelledRun, best, chosen_is, cost_is, cost_same, ends_free_is}
@@ -211,9 +211,9 @@ module _ (v : View) (hs : List (Option Handle)) (s : State) (w : IsWellFormed v)
 
     -- it slides
     pub made_is : 1 ≤ c.ranges → make_room s (Some split_at)
-        ≡ remakes s (slid (stamp_of_call s) split_at) (Made_room (Some (plain.cost_of (tags r))) (moves (total (tags f)) (total (tags f)) (tags r)))
-    made_is l = ap (λ x. if x then replies_only s (Made_room (Some (plain.cost_of (tags r))) [])
-        else remakes s (slid (stamp_of_call s) split_at) (Made_room (Some (plain.cost_of (tags r))) (moves (total (tags f)) (total (tags f)) (tags r)))) (slid_some l)
+        ≡ remakes s (slid (stamp_of_call s) split_at) (RoomMade (Some (plain.cost_of (tags r))) (moves (total (tags f)) (total (tags f)) (tags r)))
+    made_is l = ap (λ x. if x then replies_only s (RoomMade (Some (plain.cost_of (tags r))) [])
+        else remakes s (slid (stamp_of_call s) split_at) (RoomMade (Some (plain.cost_of (tags r))) (moves (total (tags f)) (total (tags f)) (tags r)))) (slid_some l)
 
     pub slid_cost : c ≡ plain.cost_of (tags r)
     slid_cost = cost ∙ sym (cost_same r ∙ ap cost_of labelled_run.run_is)
@@ -237,9 +237,9 @@ module _ (v w : View) (hs left : List (Option Handle)) (r : Reply) (s : State) (
   room_cost_is want c l = cost_is want p.agrees.labels c (subst (λ bs. IsLeastCost want bs c) p.agrees.view l) ∙ ap (room_cost want) (sym p.agrees.state)
 
   module _ (want : ℕ) (xs : List named_moves.Move) (ms : List Move) (a : AreNumbered hs xs ms) where
-    made : (c : Option RoomCost) → IsLeastCost want v.blocks c → MakesRoom Notes want v [] c w xs → r ≡ Made_room c ms → (o : Option Split) → cheapest want s.blocks ≡ o
+    made : (c : Option RoomCost) → IsLeastCost want v.blocks c → MakesRoom Notes want v [] c w xs → r ≡ RoomMade c ms → (o : Option Split) → cheapest want s.blocks ≡ o
         → c ≡ option_map (λ (p : Split). plain.cost_of p.run) o → Agrees (make_room s o)
-    made None l m is None f k = stays _ m.0 (is ∙ ap (Made_room None) (none_numbered hs xs ms m.1 a))
+    made None l m is None f k = stays _ m.0 (is ∙ ap (RoomMade None) (none_numbered hs xs ms m.1 a))
     made None l m is (Some q) f k = absurd (cc)
     made (Some c) l m is None f k = absurd (cc)
     made (Some c) l m is (Some q) f k = elim (cases_lt 0 c.ranges) [ inr z ↦ none (omega (arith, z)) | inl z ↦ some z ]
@@ -250,10 +250,10 @@ module _ (v w : View) (hs left : List (Option Handle)) (r : Reply) (s : State) (
         none : c.ranges ≡ 0 → Agrees (make_room s (Some q))
         none z =
             let t = m.0 z in
-            subst (λ x. Agrees (if x then replies_only s (Made_room (Some (plain.cost_of q.run)) [])
-            else remakes s (slid (stamp_of_call s) q) (Made_room (Some (plain.cost_of q.run)) (moves (total q.front) (total q.front) q.run))))
+            subst (λ x. Agrees (if x then replies_only s (RoomMade (Some (plain.cost_of q.run)) [])
+            else remakes s (slid (stamp_of_call s) q) (RoomMade (Some (plain.cost_of q.run)) (moves (total q.front) (total q.front) q.run))))
             (sym (eq-eqb (length (live q.run)) 0 (omega (arith, z, ap (λ (d : RoomCost). d.ranges) own))))
-            (stays _ t.0 (is ∙ ap₂ (λ d l. Made_room (Some d) l) own (none_numbered hs xs ms t.1 a)))
+            (stays _ t.0 (is ∙ ap₂ (λ d l. RoomMade (Some d) l) own (none_numbered hs xs ms t.1 a)))
 
         some : 1 ≤ c.ranges → Agrees (make_room s (Some q))
         some z =
@@ -263,7 +263,7 @@ module _ (v w : View) (hs left : List (Option Handle)) (r : Reply) (s : State) (
             let moved = slid_moves v hs s p.formed ws p.agrees w formed want c l t.0 t.1 ms (subst (λ k. AreNumbered hs k ms) (noted _ [] xs t.2) a) in
             let agrees = slid_agrees v hs s p.formed ws p.agrees w formed want c l t.0 t.1 in
             subst (λ o. Agrees (make_room s o)) there (subst Agrees (sym (made_is v hs s p.formed ws p.agrees w formed want c l t.0 t.1 z)) (
-              is ∙ ap₂ (λ d k. Made_room (Some d) k) (slid_cost v hs s p.formed ws p.agrees w formed want c l t.0 t.1) moved,
+              is ∙ ap₂ (λ d k. RoomMade (Some d) k) (slid_cost v hs s p.formed ws p.agrees w formed want c l t.0 t.1) moved,
               subst (λ k. IsAtState w k (machine.leaves s (slid (stamp_of_call s) at) machine.Freed).state) (sym e) (record { formed = formed; agrees = agrees; grants = p.grants }),
             ))
 

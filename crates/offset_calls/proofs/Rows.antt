@@ -1,6 +1,6 @@
 -- Releases in a row: the reply to the call after them.
 use Rattle.offset_calls.proofs.Common.{◌≡◌, ℕ, ◌+◌, ◌-◌, ◌≤◌, Bool, not, ◌&&◌, ◌||◌, List, [], ◌∷◌, sum, Option, None, nat_eq, nat_le, if◌then◌else◌, refl, sym, ap, ap₂, subst₂, ◌∙◌, inl, inr}
-use Rattle.offset_calls.proofs.Common.{IsCollapse, collapse, outline, releases, State, start, is_short_of, place_of, Call, Answer, Compacted, Offset, Refused_for, Outcome, resize, number, moves}
+use Rattle.offset_calls.proofs.Common.{IsCollapse, collapse, outline, releases, State, start, is_short_of, place_of, Call, Answer, Compacted, Offset, Refusal, Outcome, resize, number, moves}
 use Rattle.offset_calls.proofs.Common.{offset_at, reason, step, after, without_offset, arith, ◌⊎◌, false, option_map, subst, Some, is_some, true≢false, false≢true, Nodes, total, free_sizes}
 use Rattle.offset_calls.proofs.{Common.chosen_place, Common.◌++◌, Alike.same_starts, Alike.same_free_start, Followed.well_calls}
 use Rattle.offset_script.proofs.Commute.{IsSameSpace, releases_outline, releases_scalars, same_next, same_number, some_same, same_granted}
@@ -9,7 +9,8 @@ use Rattle.offset_script.proofs.{Pairs.same_free_sizes, Pairs.same_place_of, Mem
 use Rattle.offset_script.proofs.Members.{in_right}
 use Rattle.offset_allocator.specs.{View.padding_to, Classes.value, Classes.up, declared.moves.room.RoomCost.RoomCost}
 use Rattle.std.specs.Option.{option_or}
-use Rattle.offset_calls.specs.{Calls.answered, Calls.Beside, Calls.beside, Calls.make_room, Calls.Made_room, Calls.Room_costs, Ending.first_live, Ending.last_live, Ending.live_before}
+use Rattle.offset_calls.specs.{Calls.answered, Calls.Beside, Calls.beside, Calls.make_room, Calls.RoomMade, Ending.first_live, Ending.last_live, Ending.live_before}
+use Rattle.offset_calls.specs.Calls as plain
 use Rattle.offset_calls.specs.{Ending.live_after, Histories.relocates, Room.Split, Room.cheapest}
 use Rattle.offset_calls.specs.declared.calls.LiveRange.{LiveRange}
 use Rattle.offset_calls.proofs.EndPairs.{same_free_end, IsSent, AreSent, sent, sent_first, sent_last}
@@ -99,8 +100,8 @@ module _ (s t : State) (a : IsSameSpace s t) where
   made_reply : (o o' : Option Split) → IsSameSplit a.blocks.pairs o o' → (make_room s o).reply ≡ (make_room t o').reply
   made_reply None None no_split = refl
   made_reply o o' (same_split f r b e) = if_same (λ (x y : Outcome). x.reply ≡ y.reply) _ _ _ _ _ _ (ap (λ (c : RoomCost). nat_eq c.ranges 0) (same_cost r))
-      (λ z. ap (λ c. Made_room (Some c) []) (same_cost r))
-      (ap₂ (λ c l. Made_room (Some c) l) (same_cost r)
+      (λ z. ap (λ c. RoomMade (Some c) []) (same_cost r))
+      (ap₂ (λ c l. RoomMade (Some c) l) (same_cost r)
       (same_moves (total (lefts f)) (total (lefts f)) r (λ q i. a.blocks.numbers q (subst (IsIn q) (sym e) (in_right q f (r ++ b) (in_left q r b i))))
       ∙ ap (λ n. moves n n (rights r)) (same_total f)))
 
@@ -128,13 +129,13 @@ module _ (s t : State) (a : IsSameSpace s t) where
   next_reply (call.Grow k n) other = resize_reply n _ _ _ _ (placed k) (λ xs q ys. ap (λ f. nat_le q.size n && nat_le n (q.size + f)) (same_free_start ys))
   next_reply call.Compact other = ap Compacted (ap (moves 0 0) a.blocks.left_blocks ∙ same_moves 0 0 a.blocks.pairs a.blocks.numbers ∙ ap (moves 0 0) (sym a.blocks.right_blocks))
   next_reply (call.Offset k) other = ap without_offset (offset_reply _ _ (placed k))
-  next_reply (call.Refusal n) other = ap Refused_for (reason_reply 1 n)
+  next_reply (call.Refusal n) other = ap Refusal (reason_reply 1 n)
   next_reply (call.Tight n) other = tight_reply n 1
   next_reply (call.TightAligned n align) other = tight_reply n align
-  next_reply (call.RefusalTight n) other = ap Refused_for (held_reason 1 n 1)
-  next_reply (call.RefusalTightAligned n align) other = ap Refused_for (held_reason (if nat_le align 1 then 1 else 2) n align)
+  next_reply (call.RefusalTight n) other = ap Refusal (held_reason 1 n 1)
+  next_reply (call.RefusalTightAligned n align) other = ap Refusal (held_reason (if nat_le align 1 then 1 else 2) n align)
   next_reply (call.MakeRoom n) other = ap without_offset (made_reply _ _ (runs_same (value (up n))))
-  next_reply (call.RoomCost n) other = ap Room_costs (same_room_cost a.blocks.pairs _ _ (runs_same (value (up n))))
+  next_reply (call.RoomCost n) other = ap plain.RoomCost (same_room_cost a.blocks.pairs _ _ (runs_same (value (up n))))
   next_reply (call.Relocate k) other = absurd (true≢false other)
   next_reply (call.Retract n) other = if_same (λ (x y : Outcome). without_offset x.reply ≡ without_offset y.reply) _ _ _ _ _ _
       (ap (nat_le n) (ap machine.units_at_end a.blocks.left_blocks ∙ same_free_end a.blocks.pairs ∙ ap machine.units_at_end (sym a.blocks.right_blocks))) (λ z. refl) refl
@@ -146,7 +147,7 @@ module _ (s t : State) (a : IsSameSpace s t) where
   next_reply (call.After k) other = beside_reply live_after
       (λ xs q ys i. sent_first (λ n. n) (total (lefts xs) + q.size) ys (λ x j. sent_all x (i x (inr j))) ∙ sent_none (first_live (total (lefts xs) + q.size) (rights ys))
       ∙ ap (λ m. first_live (m + q.size) (rights ys)) (same_total xs)) _ _ (placed k)
-  next_reply (call.RefusalAligned n align) other = ap₂ (λ x y. Refused_for (if nat_le align 1 then x else y)) (reason_reply 1 n) (reason_reply 2 (n + align - 1))
+  next_reply (call.RefusalAligned n align) other = ap₂ (λ x y. Refusal (if nat_le align 1 then x else y)) (reason_reply 1 n) (reason_reply 2 (n + align - 1))
 
 pub rows_space : (size limit : ℕ) → 2 ≤ limit → (cs : List Call) (ks : List ℕ) → let s = after cs (start size limit) in
     outline (machine.after (releases ks) s).blocks ≡ collapse ks (outline s.blocks)

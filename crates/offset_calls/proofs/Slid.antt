@@ -10,7 +10,7 @@ use Rattle.offset_calls.specs.declared.calls.Moved.{Moved}
 use Rattle.std.specs.Prelude.{Result, Ok, Err, OnErr}
 use Rattle.std.proofs.lemmas.List.{get_or_default}
 use Rattle.offset_calls.specs.declared.calls.Call.TheVariants as call
-use Rattle.offset_calls.specs.Calls.{Move as Numbered, Compacted, Made_room}
+use Rattle.offset_calls.specs.Calls.{Move as Numbered, Compacted, RoomMade}
 use Rattle.offset_calls.specs.{Calling.IsLost, Steps.AreKept, Steps.TakesRoom, Slides.IsMade, Slides.Notes, Slides.named_move, Slides.numbered_move}
 
 -- ---- the moves that a closure has seen
@@ -166,7 +166,7 @@ pub room_lost : (n : ℕ) (v w : View) (c : Option RoomCost) (hs left : List (Op
     → (xs : List Move) × IsMade (value (up n)) v c w xs → left ≡ hs → IsLost (call.MakeRoom n) v hs w left
 room_lost n v w c hs left kept least m e =
     let ms = numbered_some hs m.0 (room_named (λ x. (k : ℕ) × (kept_name hs k ≡ Some x)) (value (up n)) v w c m.0 m.1.made kept) in
-    inr (refl, Made_room c ms.0, ((c, least, m.0, m.1, ms.0, ms.1, refl), e))
+    inr (refl, RoomMade c ms.0, ((c, least, m.0, m.1, ms.0, ms.1, refl), e))
 
 module _ (v w : View) (hs : List (Option Handle)) (ss : List (Handle × Moved)) (kept : AreKept v hs) where
   -- each range that moves has a number
@@ -185,8 +185,8 @@ module _ (v w : View) (hs : List (Option Handle)) (ss : List (Handle × Moved)) 
     compact_takes t e = (t, refl, (_, subst (λ xs. AreNumbered hs xs (map (numbered_move number) ss)) e (all_numbered hs number each ss (compacted_numbers e)), ap Compacted is))
 
     -- room is made, with the moves that were collected
-    pub room_takes : (want : ℕ) (c : Option RoomCost) → IsLeastCost want v.blocks c → IsMade want v c w (map named_move ss) → TakesRoom want v hs w (Made_room c ms)
-    room_takes want c least makes = (c, least, map named_move ss, makes, _, all_numbered hs number each ss (room_numbers want c makes), ap (Made_room c) is)
+    pub room_takes : (want : ℕ) (c : Option RoomCost) → IsLeastCost want v.blocks c → IsMade want v c w (map named_move ss) → TakesRoom want v hs w (RoomMade c ms)
+    room_takes want c least makes = (c, least, map named_move ss, makes, _, all_numbered hs number each ss (room_numbers want c makes), ap (RoomMade c) is)
 
 -- each range that moves has a live name then
 pub slides_live : (hs : List (Option Handle)) (P : ℕ → Type 0) → ((k x : ℕ) → kept_name hs k ≡ Some x → P x)

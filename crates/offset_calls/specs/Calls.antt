@@ -3,7 +3,7 @@
 -- end, and ask for an offset, for the reason of a refusal, for what room would cost, or for the live range beside one. States and stamps are those of the script's machine.
 use Rattle.std.specs.Prelude.{ℕ, ◌+◌, ◌-◌, max, Bool, true, false, not, ◌&&◌, ◌||◌, List, [], ◌∷◌, ◌++◌, length, map, sum, Option, Some, None, is_some, nat_eq, nat_lt, nat_le, if◌then◌else◌}
 use Rattle.std.specs.Int.{is_power_of_two}
-use Rattle.offset_allocator.specs.declared.reports.Refusal.{Refusal}
+use Rattle.offset_allocator.specs.declared.reports.Refusal as allocator
 use Rattle.offset_allocator.specs.declared.reports.Refusal.TheVariants.{Nodes, TooLarge, Space, Fragmented}
 use Rattle.offset_allocator.specs.Classes.{value, up}
 use Rattle.offset_script.specs.Grammar.{has_valid_alignment}
@@ -14,7 +14,7 @@ use Rattle.offset_script.specs.Totals.{live}
 use Rattle.offset_calls.specs.declared.calls.Call.{Call}
 use Rattle.offset_calls.specs.declared.calls.Call.TheVariants as call
 use Rattle.offset_calls.specs.declared.calls.Moved.{Moved}
-use Rattle.offset_allocator.specs.declared.moves.room.RoomCost.{RoomCost}
+use Rattle.offset_allocator.specs.declared.moves.room.RoomCost as room
 use Rattle.offset_calls.specs.Room.{Split, cost_of, cheapest, room_cost, slid}
 use Rattle.offset_calls.specs.Tight.{allocate_tight, reason_tight}
 use Rattle.offset_calls.specs.Ending.{relocate, can_retract, retracted, first_live, last_live, live_before, live_after}
@@ -38,9 +38,9 @@ pub data Reply : Type 0 where
   Resized : Reply
   Compacted : List Move → Reply
   Offset : ℕ → Reply
-  Refused_for : Option Refusal → Reply
-  Made_room : Option RoomCost → List Move → Reply
-  Room_costs : Option RoomCost → Reply
+  Refusal : Option allocator.Refusal → Reply
+  RoomMade : Option room.RoomCost → List Move → Reply
+  RoomCost : Option room.RoomCost → Reply
   Beside : Option LiveRange → Reply
 
 -- the state that a call leaves, and the reply
@@ -131,11 +131,11 @@ compact s = remakes s (live s.blocks ++ gathered (stamp_of_call s) (free_sizes s
 
 -- a run slides, where it has live blocks; else nothing changes
 abbrev pub make_room : State → Option Split → Outcome
-make_room s None = replies_only s (Made_room None [])
+make_room s None = replies_only s (RoomMade None [])
 make_room s (Some p) =
-    if nat_eq (length (live p.run)) 0 then replies_only s (Made_room (Some (cost_of p.run)) [])
+    if nat_eq (length (live p.run)) 0 then replies_only s (RoomMade (Some (cost_of p.run)) [])
     else remakes s (slid (stamp_of_call s) p)
-    (Made_room (Some (cost_of p.run)) (moves (total p.front) (total p.front) p.run))
+    (RoomMade (Some (cost_of p.run)) (moves (total p.front) (total p.front) p.run))
 
 -- ---- questions
 
@@ -150,14 +150,14 @@ beside f None = Answer machine.Gone
 beside f (Some p) = Beside (f p)
 
 -- why no block is chosen for n units, in a space of this size with this many units free
-abbrev pub shortage : ℕ → ℕ → ℕ → Refusal
+abbrev pub shortage : ℕ → ℕ → ℕ → allocator.Refusal
 shortage n size free =
     if nat_lt size (value (up n)) then TooLarge
     else if nat_lt free (max 1 (value (up n))) then Space
     else Fragmented
 
 -- why a request is refused that may add `spare` blocks and takes the block chosen for n units
-abbrev pub reason : ℕ → ℕ → State → Option Refusal
+abbrev pub reason : ℕ → ℕ → State → Option allocator.Refusal
 reason spare n s =
     if is_short_of spare s then Some Nodes
     else if is_some (chosen_place n s.blocks) then None
@@ -172,15 +172,15 @@ step (call.Shrink k n) s = resize (can_shrink n s) n s (place_of k s.blocks)
 step (call.Grow k n) s = resize (can_grow n) n s (place_of k s.blocks)
 step call.Compact s = compact s
 step (call.Offset k) s = replies_only s (offset_at (place_of k s.blocks))
-step (call.Refusal n) s = replies_only s (Refused_for (reason 1 n s))
+step (call.Refusal n) s = replies_only s (Refusal (reason 1 n s))
 step (call.RefusalAligned n align) s =
-    replies_only s (Refused_for (if nat_le align 1 then reason 1 n s else reason 2 (n + align - 1) s))
+    replies_only s (Refusal (if nat_le align 1 then reason 1 n s else reason 2 (n + align - 1) s))
 step (call.Tight n) s = answered (allocate_tight n 1 s)
 step (call.TightAligned n align) s = answered (allocate_tight n align s)
-step (call.RefusalTight n) s = replies_only s (Refused_for (reason_tight n 1 s))
-step (call.RefusalTightAligned n align) s = replies_only s (Refused_for (reason_tight n align s))
+step (call.RefusalTight n) s = replies_only s (Refusal (reason_tight n 1 s))
+step (call.RefusalTightAligned n align) s = replies_only s (Refusal (reason_tight n align s))
 step (call.MakeRoom n) s = make_room s (cheapest (value (up n)) s.blocks)
-step (call.RoomCost n) s = replies_only s (Room_costs (room_cost (value (up n)) s.blocks))
+step (call.RoomCost n) s = replies_only s (RoomCost (room_cost (value (up n)) s.blocks))
 step (call.Relocate k) s = answered (relocate s (place_of k s.blocks))
 step (call.Retract n) s = retract n s
 step call.First s = replies_only s (Beside (first_live 0 s.blocks))
@@ -218,7 +218,7 @@ reply_view (program_reply.Answer a) = Answer (answer_view a)
 reply_view program_reply.Resized = Resized
 reply_view (program_reply.Compacted ms) = Compacted (map move_view ms.items)
 reply_view (program_reply.Offset n) = Offset n
-reply_view (program_reply.Refusal r) = Refused_for r
-reply_view (program_reply.RoomMade c ms) = Made_room c (map move_view ms.items)
-reply_view (program_reply.RoomCost c) = Room_costs c
+reply_view (program_reply.Refusal r) = Refusal r
+reply_view (program_reply.RoomMade c ms) = RoomMade c (map move_view ms.items)
+reply_view (program_reply.RoomCost c) = RoomCost c
 reply_view (program_reply.Beside r) = Beside r

@@ -20,7 +20,8 @@ use Rattle.offset_script.specs.Machine as machine
 use Rattle.offset_script.specs.Steps as script
 use Rattle.offset_calls.specs.declared.calls.Call.{Call}
 use Rattle.offset_calls.specs.declared.calls.Call.TheVariants as call
-use Rattle.offset_calls.specs.Calls.{Move, Reply, Answer, Resized, Compacted, Offset, Refused_for, Made_room, Room_costs, Beside}
+use Rattle.offset_calls.specs.Calls.{Move, Reply, Answer, Resized, Compacted, Offset, RoomMade, Beside}
+use Rattle.offset_calls.specs.Calls as reply
 use Rattle.offset_calls.specs.Slides.{IsMade}
 use Rattle.offset_calls.specs.declared.calls.LiveRange.{LiveRange}
 
@@ -47,7 +48,7 @@ TakesTight n align v handles w kept r = (g : Option Handle) × (a : machine.Answ
 -- room is made for a request, and the moves are replied with the numbers of their grants
 abbrev pub TakesRoom : ℕ → View → List (Option Handle) → View → Reply → Type 0
 TakesRoom want v handles w r = (c : Option RoomCost) × IsLeastCost want v.blocks c × (xs : List named.Move)
-    × IsMade want v c w xs × (ms : List Move) × AreNumbered handles xs ms × (r ≡ Made_room c ms)
+    × IsMade want v c w xs × (ms : List Move) × AreNumbered handles xs ms × (r ≡ RoomMade c ms)
 
 -- a live range, or none, with the number of the grant whose handle has its name
 abbrev pub IsNumbered : List (Option Handle) → Option Handle → Option LiveRange → Type 0
@@ -77,18 +78,18 @@ Takes (call.Offset k) v handles w kept r = Stays v handles w kept × IfNamed (ke
     (λ x. (o : ℕ) × (option_map (λ (q : Range). q.offset) (range_of x v) ≡ Some o) × (r ≡ Offset o))
     (r ≡ Answer machine.Gone)
 Takes (call.Refusal n) v handles w kept r = Stays v handles w kept
-    × ((why : Option Refusal) × IsReason 1 n v why × (r ≡ Refused_for why))
+    × ((why : Option Refusal) × IsReason 1 n v why × (r ≡ reply.Refusal why))
 Takes (call.RefusalAligned n align) v handles w kept r = Stays v handles w kept
-    × ((why : Option Refusal) × IsReason (blocks_needed align) (units_needed n align) v why × (r ≡ Refused_for why))
+    × ((why : Option Refusal) × IsReason (blocks_needed align) (units_needed n align) v why × (r ≡ reply.Refusal why))
 Takes (call.Tight n) v handles w kept r = TakesTight n 1 v handles w kept r
 Takes (call.TightAligned n align) v handles w kept r = TakesTight n align v handles w kept r
 Takes (call.RefusalTight n) v handles w kept r = Stays v handles w kept
-    × ((why : Option Refusal) × IsReasonTight n 1 v why × (r ≡ Refused_for why))
+    × ((why : Option Refusal) × IsReasonTight n 1 v why × (r ≡ reply.Refusal why))
 Takes (call.RefusalTightAligned n align) v handles w kept r = Stays v handles w kept
-    × ((why : Option Refusal) × IsReasonTight n align v why × (r ≡ Refused_for why))
+    × ((why : Option Refusal) × IsReasonTight n align v why × (r ≡ reply.Refusal why))
 Takes (call.MakeRoom n) v handles w kept r = TakesRoom (value (up n)) v handles w r × (kept ≡ handles)
 Takes (call.RoomCost n) v handles w kept r = Stays v handles w kept
-    × ((c : Option RoomCost) × IsLeastCost (value (up n)) v.blocks c × (r ≡ Room_costs c))
+    × ((c : Option RoomCost) × IsLeastCost (value (up n)) v.blocks c × (r ≡ reply.RoomCost c))
 Takes (call.Relocate k) v handles w kept r = IfNamed (kept_name handles k)
     (λ x. (g : Option Handle) × (a : machine.Answer) × Relocates x v w g
     × IsKept g handles kept a × (r ≡ Answer a))

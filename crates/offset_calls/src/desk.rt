@@ -255,9 +255,9 @@ pub(crate) fn reply<T: Tables>(
         Call::RoomCost(size) => Ok(Reply::RoomCost(desk.space.allocator().room_cost(size))),
         Call::Relocate(_) => ending_desk::relocate(desk, ticket),
         Call::Retract(less) => Ok(ending_desk::retract(&mut desk.space, less)),
-        Call::First => Ok(ending_desk::first(desk)),
-        Call::Last => Ok(ending_desk::last(desk)),
-        Call::Before(_) => Ok(ending_desk::before(desk, ticket)),
-        Call::After(_) => Ok(ending_desk::after(desk, ticket)),
+        Call::First => Ok(ending_desk::first_live(desk)),
+        Call::Last => Ok(ending_desk::last_live(desk)),
+        Call::Before(_) => Ok(ending_desk::live_before(desk, ticket)),
+        Call::After(_) => Ok(ending_desk::live_after(desk, ticket)),
     }
 }

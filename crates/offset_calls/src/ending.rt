@@ -66,7 +66,7 @@ fn find<NI: NodeIndex>(
 }
 
 // The reply to `First`.
-pub(crate) fn first<T: Tables>(
+pub(crate) fn first_live<T: Tables>(
     player: &PlayerOf<T>,
     numbers: &mut Numbers,
 ) -> Result<Reply, AllocError>
@@ -81,7 +81,7 @@ pub(crate) fn first<T: Tables>(
 }
 
 // The reply to `Last`.
-pub(crate) fn last<T: Tables>(
+pub(crate) fn last_live<T: Tables>(
     player: &PlayerOf<T>,
     numbers: &mut Numbers,
 ) -> Result<Reply, AllocError>
@@ -96,7 +96,7 @@ pub(crate) fn last<T: Tables>(
 }
 
 // The reply to `Before`.
-pub(crate) fn before<T: Tables>(
+pub(crate) fn live_before<T: Tables>(
     player: &PlayerOf<T>,
     numbers: &mut Numbers,
     number: u32,
@@ -115,7 +115,7 @@ pub(crate) fn before<T: Tables>(
 }
 
 // The reply to `After`.
-pub(crate) fn after<T: Tables>(
+pub(crate) fn live_after<T: Tables>(
     player: &PlayerOf<T>,
     numbers: &mut Numbers,
     number: u32,

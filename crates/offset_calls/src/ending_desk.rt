@@ -60,7 +60,7 @@ fn numbered(found: Option<Ticket>) -> Reply
 }
 
 // The reply to `First`.
-pub(crate) fn first<T: Tables>(desk: &Desk<T>) -> Reply
+pub(crate) fn first_live<T: Tables>(desk: &Desk<T>) -> Reply
     requires ledger { IsLedger desk.now.space desk.now.tickets.items }
     requires kept { AreKept desk.now.space.space (handles_of desk.now.space desk.now.tickets.items) }
     ensures { Serves Call.First desk.now.space desk.now.tickets.items
@@ -70,7 +70,7 @@ pub(crate) fn first<T: Tables>(desk: &Desk<T>) -> Reply
 }
 
 // The reply to `Last`.
-pub(crate) fn last<T: Tables>(desk: &Desk<T>) -> Reply
+pub(crate) fn last_live<T: Tables>(desk: &Desk<T>) -> Reply
     requires ledger { IsLedger desk.now.space desk.now.tickets.items }
     requires kept { AreKept desk.now.space.space (handles_of desk.now.space desk.now.tickets.items) }
     ensures { Serves Call.Last desk.now.space desk.now.tickets.items
@@ -80,7 +80,7 @@ pub(crate) fn last<T: Tables>(desk: &Desk<T>) -> Reply
 }
 
 // The reply to `Before`.
-pub(crate) fn before<T: Tables>(desk: &Desk<T>, ticket: Option<Ticket>) -> Reply
+pub(crate) fn live_before<T: Tables>(desk: &Desk<T>, ticket: Option<Ticket>) -> Reply
     requires ledger { IsLedger desk.now.space desk.now.tickets.items }
     requires kept { AreKept desk.now.space.space (handles_of desk.now.space desk.now.tickets.items) }
     ensures { (k : ℕ) → IsNumberOf k ticket desk.now.space desk.now.tickets.items
@@ -97,7 +97,7 @@ pub(crate) fn before<T: Tables>(desk: &Desk<T>, ticket: Option<Ticket>) -> Reply
 }
 
 // The reply to `After`.
-pub(crate) fn after<T: Tables>(desk: &Desk<T>, ticket: Option<Ticket>) -> Reply
+pub(crate) fn live_after<T: Tables>(desk: &Desk<T>, ticket: Option<Ticket>) -> Reply
     requires ledger { IsLedger desk.now.space desk.now.tickets.items }
     requires kept { AreKept desk.now.space.space (handles_of desk.now.space desk.now.tickets.items) }
     ensures { (k : ℕ) → IsNumberOf k ticket desk.now.space desk.now.tickets.items

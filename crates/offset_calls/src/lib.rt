@@ -1,5 +1,5 @@
-//! Lists of calls to an allocator, played on it: every call that changes a space, and the questions beside
-//! them.
+//! Lists of calls to an allocator, played on it: every call that changes a space but `relocate_aligned` and
+//! `compact_by`, and the questions beside them.
 //!
 //! `offset_script` plays the commands of a script. Here `shrink`, `grow_in_place`, `compact`, `make_room`,
 //! `relocate`, `retract` and the tight requests, and the questions for an offset, for the reason of a

@@ -3,7 +3,7 @@ ghost use Rattle.std.specs.Prelude.{ℕ, ◌≡◌, ◌↔◌, ◌+◌, ◌*◌,
 ghost use Rattle.std.specs.Prelude.{if◌then◌else◌, length, nat_eq, option_map};
 ghost use Rattle.offset_allocator.specs.Ranges as named;
 ghost use Rattle.offset_allocator.specs.Ranges.{size_of};
-ghost use Rattle.offset_allocator.specs.Moving.Relocating.{Relocates, offset_of};
+ghost use Rattle.offset_allocator.specs.Moving.Relocating.{Relocates, RelocatesAligned, offset_of};
 ghost use Rattle.offset_allocator.specs.View.{bin_at, reported_largest};
 ghost use Rattle.offset_allocator.specs.Relations.{Aligns, Allocates};
 ghost use Rattle.offset_allocator.specs.Requests.{CanGrant, IsAlignment, blocks_needed, units_needed};
@@ -187,8 +187,8 @@ impl<T: Tables> GuardedOf<T> {
     /// `None` is returned where that call returns `None`, where the ticket is not live, or where all serials
     /// are given; then all is as it was.
     ///
-    /// It makes at most 88 accesses to the tables of the allocator: 8 to see whether the name is live, which
-    /// the allocator does not count, and 80 that it counts.
+    /// It makes at most 75 accesses to the tables of the allocator: 8 to see whether the name is live, which
+    /// the allocator does not count, and 67 that it counts.
     ///
     /// ```
     /// let hole = guarded.allocate(320).unwrap();
@@ -209,13 +209,57 @@ impl<T: Tables> GuardedOf<T> {
         ensures step { IsLive ticket self.old → HasSerialLeft self.old
             → Relocates ticket.name self.old.space self.new.space (option_map handle_in result) }
         // It counts the accesses of the step, without those of the test whether the ticket is live, at most 8.
-        ensures accesses_max { self.new.space.accesses ≤ self.old.space.accesses + 80 }
+        ensures accesses_max { self.new.space.accesses ≤ self.old.space.accesses + 67 }
     {
         let handle = self.handle(ticket)?;
         if self.serials.is_spent() {
             return None;
         }
         match self.space.relocate(handle) {
+            None => None,
+            Some(second) => Some(ticket_for(&self.space, &mut self.serials, self.realm, second)),
+        }
+    }
+
+    /// As `relocate`, and the second range begins at a multiple of `align`, a power of two: the one that
+    /// `Allocator::relocate_aligned` grants, with the next serial. The old ticket stays live until it is
+    /// freed.
+    ///
+    /// `None` is returned where that call returns `None`, where the ticket is not live, or where all serials
+    /// are given; then all is as it was.
+    ///
+    /// It makes at most 75 accesses to the tables of the allocator: 8 to see whether the name is live, which
+    /// the allocator does not count, and 67 that it counts.
+    ///
+    /// ```
+    /// guarded.allocate(10);
+    /// let hole = guarded.allocate(320).unwrap();
+    /// let mesh = guarded.allocate(64).unwrap();
+    /// guarded.free(hole);
+    /// let moved = guarded.relocate_aligned(mesh, 256).unwrap();
+    /// assert_eq!((mesh.offset, moved.offset), (330, 256));
+    /// guarded.free(mesh);
+    /// ```
+    pub fn relocate_aligned(&mut self, ticket: Ticket, align: u32) -> Option<Ticket>
+        requires power { IsAlignment align }
+        ensures live { IsSome result → IsLive ticket self.old × HasSerialLeft self.old }
+        ensures grants { IfSome result (Grants (size_of ticket.name self.old.space) self.old self.new) }
+        ensures aligned { IfSome result (λ t. t.offset % align ≡ 0) }
+        // It ends where the old range begins, or before.
+        ensures before { IfSome result (λ t. t.offset + size_of ticket.name self.old.space
+            ≤ offset_of ticket.name self.old.space) }
+        ensures same { result ≡ None → IsSame self.old self.new }
+        // The step of the allocator, where the ticket is live and a serial is left.
+        ensures step { IsLive ticket self.old → HasSerialLeft self.old
+            → RelocatesAligned ticket.name align self.old.space self.new.space (option_map handle_in result) }
+        // It counts the accesses of the step, without those of the test whether the ticket is live, at most 8.
+        ensures accesses_max { self.new.space.accesses ≤ self.old.space.accesses + 67 }
+    {
+        let handle = self.handle(ticket)?;
+        if self.serials.is_spent() {
+            return None;
+        }
+        match self.space.relocate_aligned(handle, align) {
             None => None,
             Some(second) => Some(ticket_for(&self.space, &mut self.serials, self.realm, second)),
         }

@@ -25,8 +25,8 @@ ghost use Rattle.offset_guarded.specs.Guard.{range_of, serial_of};
 
 mod allocate;
 mod beside;
-mod compact;
 pub mod laws;
+mod moves;
 #[doc(hidden)]
 pub mod numbers;
 mod refusal;
@@ -248,8 +248,8 @@ impl<T: Tables> GuardedOf<T> {
     /// Where the range of a ticket begins, in units from the start of the space, or `None` where it is not
     /// live.
     ///
-    /// The `offset` of the ticket is where the range began when the ticket was made. `compact` does not
-    /// change it.
+    /// The `offset` of the ticket is where the range began when the ticket was made. A move does not change
+    /// it.
     ///
     /// ```
     /// let mesh = guarded.allocate(300).unwrap();
@@ -266,10 +266,9 @@ impl<T: Tables> GuardedOf<T> {
         }
     }
 
-    /// The ticket of a live handle of the allocator, as its `blocks` and the moves of `compact` have them, or
-    /// `None` where the handle is not live. Its offset is where the range begins now: the ticket that the
-    /// grant returned has another one where `compact` moved the range, and is live as well, but not equal to
-    /// this one.
+    /// The ticket of a live handle of the allocator, as its `blocks` and moves have them, or `None` where
+    /// the handle is not live. Its offset is where the range begins now: the ticket that the grant returned
+    /// has another one where the range has moved, and is live as well, but not equal to this one.
     ///
     /// ```
     /// let mesh = guarded.allocate(300).unwrap();

@@ -5,7 +5,7 @@
 #[derive(Clone, Copy, PartialEq, Eq, Hash, Debug)]
 pub struct Ticket {
     /// Where the range began when this ticket was made, by the grant or by `ticket`, in units from the start
-    /// of the space. No call reads it. So after `compact` two tickets of one grant may differ in it, and are
+    /// of the space. No call reads it. So after a move two tickets of one grant may differ in it, and are
     /// not equal then.
     pub offset: u32,
     /// The name of the range, which later grants may have too.

@@ -2,7 +2,7 @@
 use Rattle.std.proofs.Common.{[], ◌∷◌, replicate, if◌then◌else◌}
 use Rattle.std.proofs.Common.{◌≡◌, ℕ, ◌+◌, ◌<◌, ◌≤◌, ◌⊎◌, Bool, true, length, List, Option, Some, None, IfSome, slice_set, refl, sym, ap, ap₂, subst, subst₂, ◌∙◌, inl, inr, arith}
 use Rattle.std.proofs.lemmas.Bool.{cases_lt}
-use Rattle.offset_allocator.specs.{Relations.SameState, Requests.blocks_needed, Requests.units_needed, View.View, View.IsWellFormed, View.free_block, View.push_all}
+use Rattle.offset_allocator.specs.{Relations.Aligns, Relations.SameState, Requests.blocks_needed, Requests.units_needed, View.View, View.IsWellFormed, View.free_block, View.push_all}
 use Rattle.offset_allocator.proofs.{Decided.aligns_decided, Decided.tight_decided, Views.ViewTaken.well_alone}
 use Rattle.offset_guarded.specs.Guard.{Guard, handle_in}
 use Rattle.offset_guarded.specs.declared.ticket.Ticket.{Ticket}
@@ -56,15 +56,15 @@ next_twins hs ks t units k n =
 pub why_twins : (hs ks : Heaps) → AreTwins hs ks → (size align : ℕ) (r : Refusal) → IsWhy size align hs r → IsWhy size align ks r
 why_twins hs ks t size align Empty w = w
 why_twins hs ks t size align TooLarge w =
-    ((w.0.0, none_fit_twins hs ks t (blocks_needed align) (units_needed size align) w.0.1), λ m. w.1 (may_twins ks hs (twins_sym hs ks t) (units_needed size align) m))
+    ((w.0.0, none_fit_twins hs ks t (blocks_needed align) (units_needed size align) w.0.1), λ m. w.1 (may_twins ks hs (twins_sym hs ks t) size m))
 why_twins hs ks t size align Full w = (
   (w.0.0, none_fit_twins hs ks t (blocks_needed align) (units_needed size align) w.0.1),
-  may_twins hs ks t (units_needed size align) w.1,
-  λ k n. w.2 k (next_twins ks hs (twins_sym hs ks t) (units_needed size align) k n),
+  may_twins hs ks t size w.1,
+  λ k n. w.2 k (next_twins ks hs (twins_sym hs ks t) size k n),
 )
 why_twins hs ks t size align Memory w = (
   (w.0.0, none_fit_twins hs ks t (blocks_needed align) (units_needed size align) w.0.1),
-  (w.1.0, next_twins hs ks t (units_needed size align) w.1.0 w.1.1),
+  (w.1.0, next_twins hs ks t size w.1.0 w.1.1),
 )
 
 -- of the first numbers there is one
@@ -124,21 +124,18 @@ known_at hs is k g e = subst (λ o. IfSome o (λ (g : Guard). IsWellFormed g.spa
 -- ---- grants
 module _ (size align : ℕ) (hs hs' ks ks' : Heaps) (grant grant' : Granted) (small : grant.is_new ≡ true → size ≤ 4294967295) (is : IsKnown hs) (t : AreTwins hs hs') (number : grant.place.heap ≡ grant'.place.heap)
     (new : grant.is_new ≡ grant'.is_new) (s : Grants size align hs ks grant) (s' : Grants size align hs' ks' grant') where
-  units : ℕ
-  units = units_needed size align
-
   -- the two kinds of new heaps
   abbrev New : Heaps → Guard → Type 0
-  New hs g = (IsUsual (units_needed size align) hs × IsNew hs.limits.size hs.limits.max_allocs (hs.made + 1) g)
-      ⊎ ((IsUsual (units_needed size align) hs → ⊥) × IsNew size larger_limit (hs.made + 1) g)
+  New hs g = (IsUsual size hs × IsNew hs.limits.size hs.limits.max_allocs (hs.made + 1) g)
+      ⊎ ((IsUsual size hs → ⊥) × IsNew size larger_limit (hs.made + 1) g)
 
   new_back : (g : Guard) → New hs' g → New hs g
   new_back g (inl n) =
       inl (
-        usual_twins hs' hs (twins_sym hs hs' t) (units_needed size align) n.0,
+        usual_twins hs' hs (twins_sym hs hs' t) size n.0,
         subst₂ (λ (l : Limits) (m : ℕ). IsNew l.size l.max_allocs (m + 1) g) t.limits t.made n.1,
       )
-  new_back g (inr n) = inr (λ u. n.0 (usual_twins hs hs' t (units_needed size align) u), subst (λ (m : ℕ). IsNew size larger_limit (m + 1) g) t.made n.1)
+  new_back g (inr n) = inr (λ u. n.0 (usual_twins hs hs' t size u), subst (λ (m : ℕ). IsNew size larger_limit (m + 1) g) t.made n.1)
 
   one_kind : (g h : Guard) → size ≤ 4294967295 → New hs g → New hs h → (g ≡ h) × IsWellFormed g.space
   one_kind g h fits (inl a) (inl b) = (one_new hs.limits.size hs.limits.max_allocs (hs.made + 1) g h a.1 b.1, new_formed hs.limits.size hs.limits.max_allocs (hs.made + 1) g a.1 is.limit is.size)
@@ -146,7 +143,7 @@ module _ (size align : ℕ) (hs hs' ks ks' : Heaps) (grant grant' : Granted) (sm
   one_kind g h fits (inr a) (inl b) = absurd (a.0 b.0)
   one_kind g h fits (inr a) (inr b) = (one_new size larger_limit (hs.made + 1) g h a.1 b.1, new_formed size larger_limit (hs.made + 1) g a.1 (omega arith) fits)
 
-  befores : (g h : Guard) → IsBefore size align hs grant g → IsBefore size align hs' grant' h → IsTwin g h × IsWellFormed g.space
+  befores : (g h : Guard) → IsBefore size hs grant g → IsBefore size hs' grant' h → IsTwin g h × IsWellFormed g.space
   befores g h (inl a) (inl b) = (
     some_twin g h (heap_at grant.place.heap hs) (heap_at grant.place.heap hs') a.1 (ap (λ k. heap_at k hs') number ∙ b.1) (t.heaps grant.place.heap),
     known_at hs is grant.place.heap g a.1,
@@ -163,12 +160,13 @@ module _ (size align : ℕ) (hs hs' ks ks' : Heaps) (grant grant' : Granted) (sm
   step : (Some (handle_in grant.place.ticket) ≡ Some (handle_in grant'.place.ticket)) × SameState s.after.space s'.after.space
   step = elim s.step [
     | inl a ↦ elim s'.step [
-      | inl b ↦ aligns_decided size align s.before.space s'.before.space s.after.space s'.after.space before.1 before.0.space (Some (handle_in grant.place.ticket))
-          (Some (handle_in grant'.place.ticket)) a.1 b.1
-      | inr b ↦ absurd (b.1 (usual_twins hs hs' t (units_needed size align) (a.0 (new ∙ b.0))))
+      | inl b ↦ aligns_decided size (if grant.is_new then 1 else align) s.before.space s'.before.space s.after.space s'.after.space before.1 before.0.space
+          (Some (handle_in grant.place.ticket)) (Some (handle_in grant'.place.ticket)) a.1
+          (subst (λ (b : Bool). Aligns size (if b then 1 else align) s'.before.space s'.after.space (Some (handle_in grant'.place.ticket))) (sym new) b.1)
+      | inr b ↦ absurd (b.1 (usual_twins hs hs' t size (a.0 (new ∙ b.0))))
     ]
     | inr a ↦ elim s'.step [
-      | inl b ↦ absurd (a.1 (usual_twins hs' hs (twins_sym hs hs' t) (units_needed size align) (b.0 (sym new ∙ a.0))))
+      | inl b ↦ absurd (a.1 (usual_twins hs' hs (twins_sym hs hs' t) size (b.0 (sym new ∙ a.0))))
       | inr b ↦ tight_decided size 1 s.before.space s'.before.space s.after.space s'.after.space before.1 before.0.space (Some (handle_in grant.place.ticket))
           (Some (handle_in grant'.place.ticket)) a.2 b.2
     ]

@@ -32,7 +32,7 @@ puts_twins k o o' hs hs' ks ks' t there there' now e f = subst₂ AreTwins (sym 
 
 -- ---- requests
 refused : (size align : ℕ) (hs : Heaps) (why : Refusal) (g : Granted) → (size ≡ 0 → ⊥) → IsWhy size align hs why → (why ≡ Memory → ⊥)
-    → (g.is_new ≡ false → IsFirstFit (blocks_needed align) (units_needed size align) g.place.heap hs) → (g.is_new ≡ true → IsNext (units_needed size align) g.place.heap hs) → ⊥
+    → (g.is_new ≡ false → IsFirstFit (blocks_needed align) (units_needed size align) g.place.heap hs) → (g.is_new ≡ true → IsNext size g.place.heap hs) → ⊥
 refused size align hs why g some w other found made =
     let one : 1 ≤ size = elim (cases_eq size 0) [ inl e ↦ absurd (some e) | inr d ↦ omega (arith, d) ] in
     elim (cases_Bool g.is_new) [
@@ -42,9 +42,9 @@ refused size align hs why g some w other found made =
 
 both_granted : (size align : ℕ) (hs hs' : Heaps) (g h : Granted) → AreTwins hs hs'
     → (g.is_new ≡ false → IsFirstFit (blocks_needed align) (units_needed size align) g.place.heap hs)
-    → (g.is_new ≡ true → NoneFits (blocks_needed align) (units_needed size align) hs × IsNext (units_needed size align) g.place.heap hs)
+    → (g.is_new ≡ true → NoneFits (blocks_needed align) (units_needed size align) hs × IsNext size g.place.heap hs)
     → (h.is_new ≡ false → IsFirstFit (blocks_needed align) (units_needed size align) h.place.heap hs')
-    → (h.is_new ≡ true → NoneFits (blocks_needed align) (units_needed size align) hs' × IsNext (units_needed size align) h.place.heap hs')
+    → (h.is_new ≡ true → NoneFits (blocks_needed align) (units_needed size align) hs' × IsNext size h.place.heap hs')
     → (g.place.heap ≡ h.place.heap) × (g.is_new ≡ h.is_new)
 both_granted size align hs hs' g h t found made found' made' =
     let s = twins_sym hs hs' t in
@@ -52,7 +52,7 @@ both_granted size align hs hs' g h t found made found' made' =
     let units = units_needed size align in
     elim (cases_Bool g.is_new) [
       | inl e ↦ elim (cases_Bool h.is_new) [
-        | inl f ↦ (one_next units g.place.heap h.place.heap hs (made e).1 (next_twins hs' hs s units h.place.heap (made' f).1), e ∙ sym f)
+        | inl f ↦ (one_next size g.place.heap h.place.heap hs (made e).1 (next_twins hs' hs s size h.place.heap (made' f).1), e ∙ sym f)
         | inr f ↦ absurd (let fit = (first_twins hs' hs s blocks units h.place.heap (found' f)).0 in let less = (made e).0 h.place.heap in omega (arith, fit, less))
       ]
       | inr e ↦ elim (cases_Bool h.is_new) [
@@ -100,25 +100,25 @@ module _ (p : Place) (hs ks : Heaps) (t : AreTwins hs ks) where
   live_twins : (k : ℕ) → live_at k ks ≡ live_at k hs
   live_twins k = option_twin (part live_of) (heap_at k hs) (heap_at k ks) (λ g h u. ap live_of (as_twin g h u)) (t.heaps k)
 
-  takes_twins : (k : ℕ) → TakesRange p hs k → TakesRange p ks k
-  takes_twins k takes = (
+  takes_twins : (align k : ℕ) → TakesRange p align hs k → TakesRange p align ks k
+  takes_twins align k takes = (
     subst (λ n. 1 ≤ n) (sym units_twins) takes.0,
     record {
       other = takes.1.other;
-      room = subst₂ (λ n m. n ≤ m) (sym units_twins) (sym (room_twins hs ks t 1 k)) takes.1.room;
-      full = subst₂ (λ n m. n ≤ m) (sym (live_twins p.heap)) (sym (live_twins k)) takes.1.full;
+      room = let room = takes.1.room in omega (arith, room, units_twins, room_twins hs ks t (blocks_needed align) k);
+      full = let full = takes.1.full in omega (arith, full, live_twins p.heap, live_twins k);
     },
   )
 
-pub relocates_decided : (p : Place) (hs hs' ks ks' : Heaps) → state.IsWellFormed hs → AreTwins hs hs' → (r r' : Option Place) → Relocates p hs ks r → Relocates p hs' ks' r' → (r ≡ r') × AreTwins ks ks'
-relocates_decided p hs hs' ks ks' is t None None x y = (refl, same_twins hs hs' ks ks' t (x.same refl) (y.same refl))
-relocates_decided p hs hs' ks ks' is t None (Some q) x y = absurd (x.none.0 refl q.heap (takes_twins p hs' hs (twins_sym hs hs' t) q.heap y.first.0))
-relocates_decided p hs hs' ks ks' is t (Some q) None x y = absurd (y.none.0 refl q.heap (takes_twins p hs hs' t q.heap x.first.0))
-relocates_decided p hs hs' ks ks' is t (Some q) (Some q') x y =
+pub relocates_decided : (p : Place) (align : ℕ) (hs hs' ks ks' : Heaps) → state.IsWellFormed hs → AreTwins hs hs' → (r r' : Option Place) → Relocates p align hs ks r → Relocates p align hs' ks' r' → (r ≡ r') × AreTwins ks ks'
+relocates_decided p align hs hs' ks ks' is t None None x y = (refl, same_twins hs hs' ks ks' t (x.same refl) (y.same refl))
+relocates_decided p align hs hs' ks ks' is t None (Some q) x y = absurd (x.none.0 refl q.heap (takes_twins p hs' hs (twins_sym hs hs' t) align q.heap y.first.0))
+relocates_decided p align hs hs' ks ks' is t (Some q) None x y = absurd (y.none.0 refl q.heap (takes_twins p hs hs' t align q.heap x.first.0))
+relocates_decided p align hs hs' ks ks' is t (Some q) (Some q') x y =
     let s = twins_sym hs hs' t in
-    let number = one_first (TakesRange p hs) q.heap q'.heap x.first.0 x.first.1 (takes_twins p hs' hs s q'.heap y.first.0) (λ i l u. y.first.1 i l (takes_twins p hs hs' t i u)) in
-    let all = grants_decided (units_of p hs) 1 hs hs' ks ks' (granted q) (granted q') (λ e. absurd (cc)) (known hs is) t number refl x.grants
-    (subst (λ n. Grants n 1 hs' ks' (granted q')) (units_twins p hs hs' t) y.grants) in
+    let number = one_first (TakesRange p align hs) q.heap q'.heap x.first.0 x.first.1 (takes_twins p hs' hs s align q'.heap y.first.0) (λ i l u. y.first.1 i l (takes_twins p hs hs' t align i u)) in
+    let all = grants_decided (units_of p hs) align hs hs' ks ks' (granted q) (granted q') (λ e. absurd (cc)) (known hs is) t number refl x.grants
+    (subst (λ n. Grants n align hs' ks' (granted q')) (units_twins p hs hs' t) y.grants) in
     (ap Some (ap (λ (g : Granted). g.place) all.0), all.1)
 
 -- ---- heaps that are dropped
@@ -240,7 +240,7 @@ takes_decided (Allocate size align) hs hs' ks ks' is t r r' x y m n =
     let e = allocates_decided size align hs hs' ks ks' x.2 is t x.0 y.0 x.3 y.3 (λ q. m (x.1 ∙ ap Requested q)) (λ q. n (y.1 ∙ ap Requested q)) in
     (x.1 ∙ ap Requested e.0 ∙ sym y.1, e.1)
 takes_decided (Free p) hs hs' ks ks' is t r r' x y m n = let e = free_decided p hs hs' ks ks' is t x.0 y.0 x.2 y.2 in (x.1 ∙ ap Was_done e.0 ∙ sym y.1, e.1)
-takes_decided (Relocate p) hs hs' ks ks' is t r r' x y m n = let e = relocates_decided p hs hs' ks ks' is t x.0 y.0 x.2 y.2 in (x.1 ∙ ap Second e.0 ∙ sym y.1, e.1)
+takes_decided (Relocate p align) hs hs' ks ks' is t r r' x y m n = let e = relocates_decided p align hs hs' ks ks' is t x.0 y.0 x.2 y.2 in (x.1 ∙ ap Second e.0 ∙ sym y.1, e.1)
 takes_decided (Drop_empty keep) hs hs' ks ks' is t r r' x y m n = let e = drops_empty_decided keep hs hs' ks ks' t x.0 y.0 x.2 y.2 in (x.1 ∙ ap Dropped e.0 ∙ sym y.1, e.1)
 takes_decided (Drop_heap k) hs hs' ks ks' is t r r' x y m n = let e = drops_decided k hs hs' ks ks' t x.0 y.0 x.2 y.2 in (x.1 ∙ ap Was_done e.0 ∙ sym y.1, e.1)
 takes_decided (Give_up k) hs hs' ks ks' is t r r' x y m n = let e = gives_up_decided k hs hs' ks ks' t x.0 y.0 x.2 y.2 in (x.1 ∙ ap Was_done e.0 ∙ sym y.1, e.1)

@@ -39,8 +39,8 @@ module _ (hs ks : Heaps) (number size align : ℕ) (o : Option Guard) (ticket : 
   abbrev grant : Granted
   grant = record { place = record { heap = number; realm = hs.realm; ticket = ticket }; is_new = true }
 
-  pub granted_usual : (g : Guard) → IsSpareUsual number hs → IsUsual (units_needed size align) hs → IsNew hs.limits.size hs.limits.max_allocs (hs.made + 1) g
-      → Serves size align (Some g) o ticket → Grants size align hs ks grant
+  pub granted_usual : (g : Guard) → IsSpareUsual number hs → IsUsual size hs → IsNew hs.limits.size hs.limits.max_allocs (hs.made + 1) g
+      → Serves size 1 (Some g) o ticket → Grants size align hs ks grant
   granted_usual g spare usual new by =
       record {
         before = by.before;
@@ -53,7 +53,7 @@ module _ (hs ks : Heaps) (number size align : ℕ) (o : Option Guard) (ticket : 
         heaps = subst (λ o. Adds number o hs ks) by.is adds;
       }
 
-  pub granted_larger : (g : Guard) → IsSpareLarger number hs → (IsUsual (units_needed size align) hs → ⊥) → IsNew size larger_limit (hs.made + 1) g
+  pub granted_larger : (g : Guard) → IsSpareLarger number hs → (IsUsual size hs → ⊥) → IsNew size larger_limit (hs.made + 1) g
       → ServesTight size (Some g) o ticket → Grants size align hs ks grant
   granted_larger g spare unusual new by =
       record {
@@ -110,19 +110,19 @@ module _ (size align : ℕ) (hs ks : Heaps) (grant : Granted) (g : Grants size a
   pub not_live_before : range_of grant.place hs ≡ None
   not_live_before = none_if (nat_eq grant.place.realm hs.realm) (range_in grant.place.ticket (heap_at grant.place.heap hs)) (none g.heap)
     where
-      none : IsBefore size align hs grant g.before → range_in grant.place.ticket (heap_at grant.place.heap hs) ≡ None
+      none : IsBefore size hs grant g.before → range_in grant.place.ticket (heap_at grant.place.heap hs) ≡ None
       none (inl old) = ap (range_in grant.place.ticket) old.1 ∙ g.grants.not_live
       none (inr new) = ap (range_in grant.place.ticket) new.1
 
   pub others_kept : KeepsOthers grant.place hs ks
   others_kept = put_keeps hs ks grant.place.heap (Some g.after) slots realms g.number grant.place refl g.realm (kept g.heap)
     where
-      fresh : (t : Ticket) → ((IsUsual (units_needed size align) hs × IsNew hs.limits.size hs.limits.max_allocs (hs.made + 1) g.before)
-          ⊎ ((IsUsual (units_needed size align) hs → ⊥) × IsNew size larger_limit (hs.made + 1) g.before)) → guarded.range_of t g.before ≡ None
+      fresh : (t : Ticket) → ((IsUsual size hs × IsNew hs.limits.size hs.limits.max_allocs (hs.made + 1) g.before)
+          ⊎ ((IsUsual size hs → ⊥) × IsNew size larger_limit (hs.made + 1) g.before)) → guarded.range_of t g.before ≡ None
       fresh t (inl usual) = fresh_none hs.limits.size hs.limits.max_allocs (hs.made + 1) g.before t usual.1
       fresh t (inr larger) = fresh_none size larger_limit (hs.made + 1) g.before t larger.1
 
-      kept : IsBefore size align hs grant g.before → KeepsOthersIn grant.place.ticket (slot grant.place.heap hs.slots) (Some g.after)
+      kept : IsBefore size hs grant g.before → KeepsOthersIn grant.place.ticket (slot grant.place.heap hs.slots) (Some g.after)
       kept (inl old) u apart = g.grants.others u apart ∙ sym (ap (range_in u) old.1)
       kept (inr new) u apart = g.grants.others u apart ∙ fresh u new.2 ∙ sym (ap (range_in u) new.1)
 
@@ -135,12 +135,12 @@ next_fits units k hs next = elim next.1 [
 
 pub no_room : (size align : ℕ) (hs : Heaps) (r : Result Granted Refusal) → (size ≡ 0 → r ≡ Err Empty) → IfErr r (IsWhy size align hs)
     → IfOk r (λ g. g.is_new ≡ false → IsFirstFit (blocks_needed align) (units_needed size align) g.place.heap hs)
-    → IfOk r (λ g. g.is_new ≡ true → NoneFits (blocks_needed align) (units_needed size align) hs × IsNext (units_needed size align) g.place.heap hs)
-    → IsForRoom r ↔ ((1 ≤ size) × NoneFits (blocks_needed align) (units_needed size align) hs × ((k : ℕ) → IsNext (units_needed size align) k hs → ⊥))
+    → IfOk r (λ g. g.is_new ≡ true → NoneFits (blocks_needed align) (units_needed size align) hs × IsNext size g.place.heap hs)
+    → IsForRoom r ↔ ((1 ≤ size) × NoneFits (blocks_needed align) (units_needed size align) hs × ((k : ℕ) → IsNext size k hs → ⊥))
 no_room size align hs r empty why found made = (refused r empty why, kept r why found made)
   where
     refused : (r : Result Granted Refusal) → (size ≡ 0 → r ≡ Err Empty) → IfErr r (IsWhy size align hs) → IsForRoom r
-        → (1 ≤ size) × NoneFits (blocks_needed align) (units_needed size align) hs × ((k : ℕ) → IsNext (units_needed size align) k hs → ⊥)
+        → (1 ≤ size) × NoneFits (blocks_needed align) (units_needed size align) hs × ((k : ℕ) → IsNext size k hs → ⊥)
     refused (Ok g) empty why (inl e) = absurd (cc)
     refused (Ok g) empty why (inr e) = absurd (cc)
     refused (Err Empty) empty why (inl e) = absurd (cc)
@@ -148,12 +148,12 @@ no_room size align hs r empty why found made = (refused r empty why, kept r why 
     refused (Err Memory) empty why (inl e) = absurd (cc)
     refused (Err Memory) empty why (inr e) = absurd (cc)
     refused (Err Full) empty why e = (why.0.0, why.0.1, why.2)
-    refused (Err TooLarge) empty why e = (why.0.0, why.0.1, λ k next. why.1 (next_fits (units_needed size align) k hs next))
+    refused (Err TooLarge) empty why e = (why.0.0, why.0.1, λ k next. why.1 (next_fits size k hs next))
 
     kept : (r : Result Granted Refusal) → IfErr r (IsWhy size align hs)
         → IfOk r (λ g. g.is_new ≡ false → IsFirstFit (blocks_needed align) (units_needed size align) g.place.heap hs)
-        → IfOk r (λ g. g.is_new ≡ true → NoneFits (blocks_needed align) (units_needed size align) hs × IsNext (units_needed size align) g.place.heap hs)
-        → (1 ≤ size) × NoneFits (blocks_needed align) (units_needed size align) hs × ((k : ℕ) → IsNext (units_needed size align) k hs → ⊥) → IsForRoom r
+        → IfOk r (λ g. g.is_new ≡ true → NoneFits (blocks_needed align) (units_needed size align) hs × IsNext size g.place.heap hs)
+        → (1 ≤ size) × NoneFits (blocks_needed align) (units_needed size align) hs × ((k : ℕ) → IsNext size k hs → ⊥) → IsForRoom r
     kept (Err Full) why found made h = inl refl
     kept (Err TooLarge) why found made h = inr refl
     kept (Err Empty) why found made h = let some = h.0 in absurd (omega (arith, why))
@@ -172,13 +172,13 @@ one_reason size align hs Empty Memory a b = absurd (omega (arith, a, b.0.0))
 one_reason size align hs TooLarge Empty a b = absurd (omega (arith, a.0.0, b))
 one_reason size align hs TooLarge TooLarge a b = refl
 one_reason size align hs TooLarge Full a b = absurd (a.1 b.1)
-one_reason size align hs TooLarge Memory a b = absurd (a.1 (next_fits (units_needed size align) b.1.0 hs b.1.1))
+one_reason size align hs TooLarge Memory a b = absurd (a.1 (next_fits size b.1.0 hs b.1.1))
 one_reason size align hs Full Empty a b = absurd (omega (arith, a.0.0, b))
 one_reason size align hs Full TooLarge a b = absurd (b.1 a.1)
 one_reason size align hs Full Full a b = refl
 one_reason size align hs Full Memory a b = absurd (a.2 b.1.0 b.1.1)
 one_reason size align hs Memory Empty a b = absurd (omega (arith, a.0.0, b))
-one_reason size align hs Memory TooLarge a b = absurd (b.1 (next_fits (units_needed size align) a.1.0 hs a.1.1))
+one_reason size align hs Memory TooLarge a b = absurd (b.1 (next_fits size a.1.0 hs a.1.1))
 one_reason size align hs Memory Full a b = absurd (b.2 a.1.0 a.1.1)
 one_reason size align hs Memory Memory a b = refl
 
@@ -190,9 +190,9 @@ none_found size align k hs Full some fits why = omega (arith, fits, why.0.1 k)
 none_found size align k hs Memory some fits why = omega (arith, fits, why.0.1 k)
 
 -- and where another heap may be made, no reason but its memory
-pub memory_alone : (size align k : ℕ) (hs : Heaps) (r : Refusal) → 1 ≤ size → IsNext (units_needed size align) k hs → IsWhy size align hs r → r ≡ Memory
+pub memory_alone : (size align k : ℕ) (hs : Heaps) (r : Refusal) → 1 ≤ size → IsNext size k hs → IsWhy size align hs r → r ≡ Memory
 memory_alone size align k hs Empty some next why = absurd (omega (arith, some, why))
-memory_alone size align k hs TooLarge some next why = absurd (why.1 (next_fits (units_needed size align) k hs next))
+memory_alone size align k hs TooLarge some next why = absurd (why.1 (next_fits size k hs next))
 memory_alone size align k hs Full some next why = absurd (why.2 k next)
 memory_alone size align k hs Memory some next why = refl
 

@@ -45,7 +45,7 @@ grant_keeps p size align hs ks grant g gone = record {
     more true l = omega (arith, l)
     more false l = l
 
-    lacks : p.heap ≡ grant.place.heap → IsBefore size align hs grant g.before → Lacks p.ticket.realm (Some g.after)
+    lacks : p.heap ≡ grant.place.heap → IsBefore size hs grant g.before → Lacks p.ticket.realm (Some g.after)
     lacks e (inl old) = same_realm p.ticket.realm (heap_at p.heap hs) g.before g.after (ap (λ k. heap_at k hs) e ∙ old.1) g.grants.realm.1 gone.other
     lacks e (inr new) = λ r. elim new.2 [
       | inl usual ↦ absurd (omega (arith, usual.1.realm, g.grants.realm.1, r, gone.made))

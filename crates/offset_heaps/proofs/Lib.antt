@@ -12,6 +12,7 @@ pub mod Places
 pub mod Rooms
 pub mod Shapes
 pub mod Sound
+pub mod Squares
 pub mod States
 pub mod Sums
 pub mod Takers

@@ -1,5 +1,5 @@
 -- Calls, their results and what they leave: of the contract of each call the clauses of the same names.
-use Rattle.std.specs.Prelude.{◌≡◌, ◌↔◌, ℕ, ◌<◌, ◌≤◌, Bool, true, false, List, [], ◌∷◌, Option, None, IfSome, IsSome, IsTrue, Result, Err, IfOk, IfErr, OnErr}
+use Rattle.std.specs.Prelude.{◌≡◌, ◌↔◌, ℕ, ◌<◌, ◌≤◌, Bool, true, false, List, [], ◌∷◌, Option, None, Some, IfSome, IsSome, IsTrue, Result, Err, IfOk, IfErr, OnErr}
 use Rattle.offset_allocator.specs.Requests.{blocks_needed, units_needed}
 use Rattle.offset_heaps.specs.declared.place.Granted.{Granted}
 use Rattle.offset_heaps.specs.declared.place.Place.{Place}
@@ -17,7 +17,7 @@ pub record Allocates (size align : ℕ) (hs ks : Heaps) (r : Result Granted Refu
   pub same : OnErr r (IsSame hs ks)
   pub found : IfOk r (λ g. g.is_new ≡ false → IsFirstFit (blocks_needed align) (units_needed size align) g.place.heap hs)
   pub made : IfOk r (λ g. g.is_new ≡ true
-      → NoneFits (blocks_needed align) (units_needed size align) hs × IsNext (units_needed size align) g.place.heap hs)
+      → NoneFits (blocks_needed align) (units_needed size align) hs × IsNext size g.place.heap hs)
   pub grants : IfOk r (Grants size align hs ks)
 
 -- `free`
@@ -26,12 +26,24 @@ pub record Frees (p : Place) (hs ks : Heaps) (r : Bool) : Type 0 where
   pub same : r ≡ false → IsSame hs ks
   pub step : r ≡ true → FreesIn p hs ks
 
--- `relocate`
-pub record Relocates (p : Place) (hs ks : Heaps) (r : Option Place) : Type 0 where
-  pub none : r ≡ None ↔ NoneTakes p hs
+-- `relocate_aligned`, and with the alignment 1 `relocate`
+pub record Relocates (p : Place) (align : ℕ) (hs ks : Heaps) (r : Option Place) : Type 0 where
+  pub none : r ≡ None ↔ NoneTakes p align hs
   pub same : r ≡ None → IsSame hs ks
-  pub first : IfSome r (λ q. IsTaker p hs q.heap)
-  pub grants : IfSome r (λ q. Grants (units_of p hs) 1 hs ks (granted q))
+  pub first : IfSome r (λ q. IsTaker p align hs q.heap)
+  pub grants : IfSome r (λ q. Grants (units_of p hs) align hs ks (granted q))
+
+-- a range goes to another heap: a second range is granted there, and the first one is freed
+pub record Goes (p q : Place) (hs ks : Heaps) : Type 0 where
+  pub align : ℕ
+  pub between : Heaps
+  pub grants : Relocates p align hs between (Some q)
+  pub frees : Frees p between ks true
+
+-- ranges go, one after another
+abbrev pub GoAll : Heaps → List Place → Heaps → Type 0
+GoAll hs [] ks = ks ≡ hs
+GoAll hs (p ∷ ps) ks = (q : Place) × (now : Heaps) × Goes p q hs now × IsWellFormed now × GoAll now ps ks
 
 -- `drop_empty`
 pub record DropsEmpty (keep : ℕ) (hs ks : Heaps) (r : Option ℕ) : Type 0 where
@@ -58,7 +70,7 @@ pub data Call : Type 0 where
   -- a request, by its size and alignment
   Allocate : ℕ → ℕ → Call
   Free : Place → Call
-  Relocate : Place → Call
+  Relocate : Place → ℕ → Call
   Drop_empty : ℕ → Call
   Drop_heap : ℕ → Call
   Give_up : ℕ → Call
@@ -76,7 +88,7 @@ pub data Reply : Type 0 where
 abbrev pub Takes : Call → Heaps → Heaps → Reply → Type 0
 Takes (Allocate size align) hs ks reply = (r : Result Granted Refusal) × (reply ≡ Requested r) × (size ≤ 4294967295) × Allocates size align hs ks r
 Takes (Free p) hs ks reply = (r : Bool) × (reply ≡ Was_done r) × Frees p hs ks r
-Takes (Relocate p) hs ks reply = (r : Option Place) × (reply ≡ Second r) × Relocates p hs ks r
+Takes (Relocate p align) hs ks reply = (r : Option Place) × (reply ≡ Second r) × Relocates p align hs ks r
 Takes (Drop_empty keep) hs ks reply = (r : Option ℕ) × (reply ≡ Dropped r) × DropsEmpty keep hs ks r
 Takes (Drop_heap k) hs ks reply = (r : Bool) × (reply ≡ Was_done r) × Drops k hs ks r
 Takes (Give_up k) hs ks reply = (r : Bool) × (reply ≡ Was_done r) × GivesUp k hs ks r

@@ -69,9 +69,9 @@ NoneFits blocks units hs = (k : ℕ) → room_of blocks (heap_at k hs) < units
 abbrev pub IsFirstFit : ℕ → ℕ → ℕ → Heaps → Type 0
 IsFirstFit blocks units k hs = (units ≤ room_of blocks (heap_at k hs)) × ((j : ℕ) → j < k → room_of blocks (heap_at j hs) < units)
 
--- a fresh heap of the usual size grants that many units
+-- a fresh heap of the usual size grants that many units. They begin at 0, which is a multiple of every alignment
 abbrev pub IsUsual : ℕ → Heaps → Type 0
-IsUsual units hs = units ≤ value (down hs.limits.size)
+IsUsual size hs = size ≤ value (down hs.limits.size)
 
 -- a number that no heap has: one below most for a heap of the usual size, and one of the others for a larger heap
 abbrev pub IsSpareUsual : ℕ → Heaps → Type 0
@@ -82,9 +82,9 @@ IsSpareLarger k hs = (hs.limits.most ≤ k) × (k < numbers hs) × (heap_at k hs
 
 -- the number of a new heap for a request: the first spare one of its kind, while realms are left
 abbrev pub IsNext : ℕ → ℕ → Heaps → Type 0
-IsNext units k hs = (hs.made < last_realm)
-    × ((IsUsual units hs × IsSpareUsual k hs × ((j : ℕ) → j < k → IsSpareUsual j hs → ⊥))
-    ⊎ ((IsUsual units hs → ⊥) × IsSpareLarger k hs × ((j : ℕ) → j < k → IsSpareLarger j hs → ⊥)))
+IsNext size k hs = (hs.made < last_realm)
+    × ((IsUsual size hs × IsSpareUsual k hs × ((j : ℕ) → j < k → IsSpareUsual j hs → ⊥))
+    ⊎ ((IsUsual size hs → ⊥) × IsSpareLarger k hs × ((j : ℕ) → j < k → IsSpareLarger j hs → ⊥)))
 
 -- no heap has room for a request of at least one unit
 abbrev pub IsUnmet : ℕ → ℕ → Heaps → Type 0
@@ -92,16 +92,16 @@ IsUnmet size align hs = (1 ≤ size) × NoneFits (blocks_needed align) (units_ne
 
 -- some heap may ever have that many units: a fresh one of the usual size, or a larger one, where there may be any
 abbrev pub MayEverFit : ℕ → Heaps → Type 0
-MayEverFit units hs = IsUsual units hs ⊎ (1 ≤ hs.limits.most_larger)
+MayEverFit size hs = IsUsual size hs ⊎ (1 ≤ hs.limits.most_larger)
 
 -- why a request is refused. Empty: it is for no unit. TooLarge: no heap has room, and none may ever be large enough. Full:
 -- no heap has room, and though one may be large enough, none may be made for it now. Memory: one may be made, but its
 -- memory was refused
 abbrev pub IsWhy : ℕ → ℕ → Heaps → Refusal → Type 0
 IsWhy size align hs Empty = size ≡ 0
-IsWhy size align hs TooLarge = IsUnmet size align hs × (MayEverFit (units_needed size align) hs → ⊥)
-IsWhy size align hs Full = IsUnmet size align hs × MayEverFit (units_needed size align) hs × ((k : ℕ) → IsNext (units_needed size align) k hs → ⊥)
-IsWhy size align hs Memory = IsUnmet size align hs × ((k : ℕ) × IsNext (units_needed size align) k hs)
+IsWhy size align hs TooLarge = IsUnmet size align hs × (MayEverFit size hs → ⊥)
+IsWhy size align hs Full = IsUnmet size align hs × MayEverFit size hs × ((k : ℕ) → IsNext size k hs → ⊥)
+IsWhy size align hs Memory = IsUnmet size align hs × ((k : ℕ) × IsNext size k hs)
 
 -- a refusal for room
 abbrev pub IsForRoom : Result Granted Refusal → Type 0
@@ -126,22 +126,23 @@ IsOfKind limits k g = ((k < limits.most) × (g.space.size ≡ limits.size) × (g
     ⊎ ((limits.most ≤ k) × (1 ≤ g.space.size) × (g.space.max_allocs ≡ larger_limit))
 
 -- the heap of a grant, as it was before: one that was there, a new one of the usual size, or one of the request's own size
-abbrev pub IsBefore : ℕ → ℕ → Heaps → Granted → Guard → Type 0
-IsBefore size align hs grant g = ((grant.is_new ≡ false) × (heap_at grant.place.heap hs ≡ Some g))
+abbrev pub IsBefore : ℕ → Heaps → Granted → Guard → Type 0
+IsBefore size hs grant g = ((grant.is_new ≡ false) × (heap_at grant.place.heap hs ≡ Some g))
     ⊎ ((grant.is_new ≡ true) × (heap_at grant.place.heap hs ≡ None)
-    × ((IsUsual (units_needed size align) hs × IsNew hs.limits.size hs.limits.max_allocs (hs.made + 1) g)
-    ⊎ ((IsUsual (units_needed size align) hs → ⊥) × IsNew size larger_limit (hs.made + 1) g)))
+    × ((IsUsual size hs × IsNew hs.limits.size hs.limits.max_allocs (hs.made + 1) g)
+    ⊎ ((IsUsual size hs → ⊥) × IsNew size larger_limit (hs.made + 1) g)))
 
 -- a grant: a step of one heap, which all others do not see
 pub record Grants (size align : ℕ) (hs ks : Heaps) (grant : Granted) : Type 0 where
   pub before : Guard
   pub after : Guard
-  pub heap : IsBefore size align hs grant before
-  -- one of the request's own size grants all of it
-  pub step : ((grant.is_new ≡ true → IsUsual (units_needed size align) hs)
-      × Aligns size align before.space after.space (Some (handle_in grant.place.ticket))
+  pub heap : IsBefore size hs grant before
+  -- a new one begins at 0, a multiple of every alignment, so none is asked of it; one of the request's own size grants
+  -- all of it
+  pub step : ((grant.is_new ≡ true → IsUsual size hs)
+      × Aligns size (if grant.is_new then 1 else align) before.space after.space (Some (handle_in grant.place.ticket))
       × (after.space.accesses ≤ before.space.accesses + 128))
-      ⊎ ((grant.is_new ≡ true) × (IsUsual (units_needed size align) hs → ⊥)
+      ⊎ ((grant.is_new ≡ true) × (IsUsual size hs → ⊥)
       × AlignsTight size 1 before.space after.space (Some (handle_in grant.place.ticket))
       × (after.space.accesses ≤ before.space.accesses + 140 + 6 * length (bin_at before.space.bins (down size))))
   pub grants : guarded.Grants size before after grant.place.ticket

@@ -1,13 +1,14 @@
 -- Which heap takes a range of another one, which one is the emptiest, and the places of the live ranges of a heap.
-use Rattle.std.specs.Prelude.{◌≢◌, ℕ, ◌<◌, ◌≤◌, List, Option, Some, None, false, option_map, unwrap_or}
+use Rattle.std.specs.Prelude.{◌≢◌, ℕ, ◌*◌, ◌<◌, ◌≤◌, List, Option, Some, None, false, option_map, unwrap_or}
 use Rattle.offset_allocator.specs.Reporting.Beside.{last_live, live_before}
 use Rattle.offset_allocator.specs.Ranges.{Range}
+use Rattle.offset_allocator.specs.Requests.{blocks_needed, units_needed}
 use Rattle.offset_allocator.specs.View.{Handle, used_of}
 use Rattle.offset_guarded.specs.Guard.{Guard, ticket_at}
 use Rattle.offset_guarded.specs.declared.ticket.Ticket.{Ticket}
 use Rattle.offset_heaps.specs.declared.place.Place.{Place}
 use Rattle.offset_heaps.specs.declared.place.Granted.{Granted}
-use Rattle.offset_heaps.specs.Heaps.{Heaps, heap_at, live_of, part, range_of, room_of, slot}
+use Rattle.offset_heaps.specs.Heaps.{Heaps, heap_at, live_of, part, range_of, room_of, slot, total}
 
 -- the units of a range, or 0 where there is none
 abbrev pub units_in : Option Range → ℕ
@@ -21,23 +22,33 @@ units_of p hs = units_in (range_of p hs)
 abbrev pub live_at : ℕ → Heaps → ℕ
 live_at k hs = part live_of (heap_at k hs)
 
--- a heap takes units of another one, in which so many are live: it has room for them, and as many are live in it, or more
-pub record TakesUnits (own units live : ℕ) (slots : List (Option Guard)) (k : ℕ) : Type 0 where
+-- the square of the live units of a heap
+abbrev pub square_of : Guard → ℕ
+square_of g = live_of g * live_of g
+
+-- the squares of the live units of all heaps, added up
+abbrev pub squares : Heaps → ℕ
+squares hs = total square_of hs.slots
+
+-- a heap takes units of another one, in which so many are live: it has room for them, and for the blocks, and as many are
+-- live in it, or more
+pub record TakesUnits (own blocks units live : ℕ) (slots : List (Option Guard)) (k : ℕ) : Type 0 where
   pub other : k ≢ own
-  pub room : units ≤ room_of 1 (slot k slots)
+  pub room : units ≤ room_of blocks (slot k slots)
   pub full : live ≤ part live_of (slot k slots)
 
--- a heap takes the range of a place
-abbrev pub TakesRange : Place → Heaps → ℕ → Type 0
-TakesRange p hs k = (1 ≤ units_of p hs) × TakesUnits p.heap (units_of p hs) (live_at p.heap hs) hs.slots k
+-- a heap takes the range of a place, from a multiple of align on
+abbrev pub TakesRange : Place → ℕ → Heaps → ℕ → Type 0
+TakesRange p align hs k = (1 ≤ units_of p hs)
+    × TakesUnits p.heap (blocks_needed align) (units_needed (units_of p hs) align) (live_at p.heap hs) hs.slots k
 
 -- it is the first one that does
-abbrev pub IsTaker : Place → Heaps → ℕ → Type 0
-IsTaker p hs k = TakesRange p hs k × ((j : ℕ) → j < k → TakesRange p hs j → ⊥)
+abbrev pub IsTaker : Place → ℕ → Heaps → ℕ → Type 0
+IsTaker p align hs k = TakesRange p align hs k × ((j : ℕ) → j < k → TakesRange p align hs j → ⊥)
 
 -- none does
-abbrev pub NoneTakes : Place → Heaps → Type 0
-NoneTakes p hs = (k : ℕ) → TakesRange p hs k → ⊥
+abbrev pub NoneTakes : Place → ℕ → Heaps → Type 0
+NoneTakes p align hs = (k : ℕ) → TakesRange p align hs k → ⊥
 
 -- a grant in a heap that was there
 abbrev pub granted : Place → Granted

@@ -48,15 +48,15 @@ impl<T: Tables> HeapsOf<T> {
     }
 
     // Whether a fresh heap of the usual size has that many units for a request.
-    fn is_usual(&self, units: u64) -> bool
-        ensures { IsTrue result ↔ IsUsual units self.now }
+    fn is_usual(&self, size: u32) -> bool
+        ensures { IsTrue result ↔ IsUsual size self.now }
     {
-        let size = self.limits.size;
-        let class = uint_to_float_round_down(size);
-        if units > size as u64 {
+        let all = self.limits.size;
+        let class = uint_to_float_round_down(all);
+        if size > all {
             return false;
         }
-        uint_to_float_round_up(units as u32) <= class
+        uint_to_float_round_up(size) <= class
     }
 
     // The first number of a heap of the usual size that has none.
@@ -139,9 +139,9 @@ impl<T: Tables> HeapsOf<T> {
     // Makes a heap of the usual size for a request that it has room for.
     fn grant_usual(&mut self, number: u32, size: u32, align: u32) -> Result<Granted, Refusal>
         requires spare { IsSpareUsual number self.old }
-        requires some { 1 ≤ units_needed size align }
-        requires power { IsAlignment align }
-        requires usual { IsUsual (units_needed size align) self.old }
+        requires units { 1 ≤ size }
+        requires some { 1 ≤ align }
+        requires usual { IsUsual size self.old }
         ensures why { IfErr result (IsWhyNotMade self.old) }
         ensures same { OnErr result (IsSame self.old self.new) }
         ensures grants { IfOk result (Grants size align self.old self.new) }
@@ -154,7 +154,7 @@ impl<T: Tables> HeapsOf<T> {
         if self.made == u32::MAX {
             return Err(Refusal::Full);
         }
-        match fresh::usual(self.alloc, self.limits, self.made + 1, size, align) {
+        match fresh::usual(self.alloc, self.limits, self.made + 1, size) {
             Err(_) => Err(Refusal::Memory),
             Ok((slot, ticket)) => Ok(self.add(number, slot, ticket)),
         }
@@ -165,7 +165,7 @@ impl<T: Tables> HeapsOf<T> {
         requires spare { IsSpareLarger number self.old }
         requires units { 1 ≤ size }
         requires some { 1 ≤ align }
-        requires unusual { IsUsual (units_needed size align) self.old → ⊥ }
+        requires unusual { IsUsual size self.old → ⊥ }
         ensures why { IfErr result (IsWhyNotMade self.old) }
         ensures same { OnErr result (IsSame self.old self.new) }
         ensures grants { IfOk result (Grants size align self.old self.new) }
@@ -185,11 +185,8 @@ impl<T: Tables> HeapsOf<T> {
     }
 
     // Makes a heap for a request that none has room for.
-    fn grant_new(&mut self, size: u32, align: u32, units: u64) -> Result<Granted, Refusal>
+    fn grant_new(&mut self, size: u32, align: u32) -> Result<Granted, Refusal>
         requires size { 1 ≤ size }
-        requires units { units ≡ units_needed size align }
-        requires some { 1 ≤ units_needed size align }
-        requires power { IsAlignment align }
         requires positive { 1 ≤ align }
         requires none { NoneFits (blocks_needed align) (units_needed size align) self.old }
         ensures why { IfErr result (IsWhy size align self.old) }
@@ -197,12 +194,12 @@ impl<T: Tables> HeapsOf<T> {
         ensures same { OnErr result (IsSame self.old self.new) }
         ensures grants { IfOk result (Grants size align self.old self.new) }
         ensures made { IfOk result (λ g. (g.is_new ≡ true)
-            × IsNext (units_needed size align) g.place.heap self.old) }
+            × IsNext size g.place.heap self.old) }
         ensures aligned { IfOk result (λ g. g.place.ticket.offset % align ≡ 0) }
         ensures steps { (bits : ℕ) → numbers self.old ≤ 2 ^ bits
             → self.new.accesses ≤ self.old.accesses + 13 * bits + 16 }
     {
-        if self.is_usual(units) {
+        if self.is_usual(size) {
             return match self.spare_usual() {
                 None => Err(Refusal::Full),
                 Some(number) => self.grant_usual(number, size, align),
@@ -227,7 +224,7 @@ impl<T: Tables> HeapsOf<T> {
             → IsFirstFit (blocks_needed align) (units_needed size align) g.place.heap self.old) }
         ensures made { IfOk result (λ g. g.is_new ≡ true
             → NoneFits (blocks_needed align) (units_needed size align) self.old
-            × IsNext (units_needed size align) g.place.heap self.old) }
+            × IsNext size g.place.heap self.old) }
         ensures grants { IfOk result (Grants size align self.old self.new) }
         ensures aligned { IfOk result (λ g. g.place.ticket.offset % align ≡ 0) }
         ensures steps { TakesFewSteps self.old self.new }
@@ -238,7 +235,7 @@ impl<T: Tables> HeapsOf<T> {
         let units = size as u64 + align as u64 - 1;
         match self.first_fit(units, align) {
             Some(number) => Ok(self.grant_at(number, size, align)),
-            None => self.grant_new(size, align, units),
+            None => self.grant_new(size, align),
         }
     }
 
@@ -274,11 +271,12 @@ impl<T: Tables> HeapsOf<T> {
 
     /// Grants `size` units of one heap that begin at a multiple of `align`, a power of two, in that heap.
     ///
-    /// The heap is the first one, by number, that has room: what `GuardedOf::allocate_aligned` grants there,
-    /// as it grants it. Where none has, another heap is made. If a fresh heap of the usual size has room, it
-    /// is such a heap, with the first number below `most` that no heap has; else a larger heap of exactly
-    /// `size` units, all of which are granted, with the first number from `most` on that no heap has. Only
-    /// then memory is requested.
+    /// The heap is the first one, by number, that has room, which it has for `size + align - 1` units: what
+    /// `GuardedOf::allocate_aligned` grants there, as it grants it. Where none has, another heap is made,
+    /// whose first range begins at 0, a multiple of every alignment: so it needs room for `size` units alone.
+    /// If a fresh heap of the usual size has that, it is such a heap, with the first number below `most` that
+    /// no heap has; else a larger heap of exactly `size` units, all of which are granted, with the first
+    /// number from `most` on that no heap has. Only then memory is requested.
     ///
     /// Where the request is refused, all is as it was, and the `Refusal` says why.
     ///
@@ -286,13 +284,15 @@ impl<T: Tables> HeapsOf<T> {
     /// heaps.allocate(10).unwrap();
     /// let uniforms = heaps.allocate_aligned(300, 256).unwrap().place;
     /// assert_eq!(heaps.offset_of(uniforms), Some(256));
+    /// let page = heaps.allocate_aligned(960, 256).unwrap().place;
+    /// assert_eq!((page.heap, heaps.offset_of(page)), (1, Some(0)));
     /// ```
     pub fn allocate_aligned(&mut self, size: u32, align: u32) -> Result<Granted, Refusal>
         requires power { IsAlignment align }
         // It is refused for room exactly when no heap has room, and no other may be made for it.
         ensures no_room { IsForRoom result ↔ ((1 ≤ size)
             × NoneFits (blocks_needed align) (units_needed size align) self.old
-            × ((k : ℕ) → IsNext (units_needed size align) k self.old → ⊥)) }
+            × ((k : ℕ) → IsNext size k self.old → ⊥)) }
         ensures empty { size ≡ 0 → result ≡ Err Refusal.Empty }
         ensures why { IfErr result (IsWhy size align self.old) }
         ensures same { OnErr result (IsSame self.old self.new) }
@@ -301,7 +301,7 @@ impl<T: Tables> HeapsOf<T> {
             → IsFirstFit (blocks_needed align) (units_needed size align) g.place.heap self.old) }
         ensures made { IfOk result (λ g. g.is_new ≡ true
             → NoneFits (blocks_needed align) (units_needed size align) self.old
-            × IsNext (units_needed size align) g.place.heap self.old) }
+            × IsNext size g.place.heap self.old) }
         // The place was not live. It has exactly `size` units, from a multiple of `align` on, and every other
         // place keeps its range, if it has one.
         ensures not_live { IfOk result (λ g. range_of g.place self.old ≡ None) }

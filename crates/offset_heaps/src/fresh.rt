@@ -1,7 +1,6 @@
 //! Heaps that are made for a request, which they grant at once. It touches nothing else.
 ghost use Rattle.std.specs.Prelude.{◌≡◌, ◌+◌, ◌<◌, ◌≤◌, IfOk, Some};
 ghost use Rattle.offset_allocator.specs.Classes.{down, value};
-ghost use Rattle.offset_allocator.specs.Requests.{IsAlignment, units_needed};
 ghost use Rattle.offset_guarded.specs.Guard.{Guard};
 ghost use Rattle.offset_heaps.specs.Heaps.{IsNew, larger_limit};
 ghost use Rattle.offset_heaps.specs.Slots.{Serves, ServesTight};
@@ -21,18 +20,17 @@ pub(crate) fn usual<T: Tables>(
     limits: Limits,
     realm: u32,
     size: u32,
-    align: u32,
 ) -> Result<(Option<GuardedOf<T>>, Ticket), AllocError>
     requires limit_min { 4 ≤ limits.max_allocs }
     requires limit_max { limits.max_allocs + 1 < T.Index.MAX }
-    requires power { IsAlignment align }
-    requires some { 1 ≤ units_needed size align }
-    requires fits { units_needed size align ≤ value (down limits.size) }
-    ensures { IfOk result (λ r. (g : Guard) × IsNew limits.size limits.max_allocs realm g
-        × Serves size align (Some g) r.0 r.1) }
+    requires some { 1 ≤ size }
+    requires fits { size ≤ value (down limits.size) }
+    ensures grants { IfOk result (λ r. (g : Guard) × IsNew limits.size limits.max_allocs realm g
+        × Serves size 1 (Some g) r.0 r.1) }
+    ensures start { IfOk result (λ r. r.1.offset ≡ 0) }
 {
     let mut slot = Some(GuardedOf::with_max_allocs(alloc, limits.size, limits.max_allocs, realm)?);
-    let ticket = slots::grant_in(&mut slot, size, align);
+    let ticket = slots::grant_in(&mut slot, size, 1);
     Ok((slot, ticket))
 }
 

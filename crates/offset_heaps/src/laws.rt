@@ -1,5 +1,5 @@
 //! Laws: what holds of all heaps. Its functions do nothing.
-ghost use Rattle.std.specs.Prelude.{ℕ, List, ◌≡◌, ◌↔◌, ◌+◌, ◌<◌, ◌≤◌, ◌∷◌, None, Some, IfSome, length};
+ghost use Rattle.std.specs.Prelude.{ℕ, List, ◌≡◌, ◌↔◌, ◌+◌, ◌-◌, ◌*◌, ◌<◌, ◌≤◌, ◌∷◌, None, Some, IfSome, length};
 ghost use Rattle.std.specs.Prelude.{Bool, Err, MatchOption, Option, Result};
 ghost use Rattle.std.specs.List.{AllByRecursion};
 ghost use Rattle.offset_allocator.specs.Ranges.{AreDisjoint, Range};
@@ -8,13 +8,14 @@ ghost use Rattle.offset_allocator.specs.Requests.{CanGrant, blocks_needed, units
 ghost use Rattle.offset_allocator.specs.declared.reports.StorageReport.{StorageReport};
 ghost use Rattle.offset_guarded.specs.Guard.{Guard, HasSerialLeft};
 ghost use Rattle.offset_heaps.specs.Heaps.{Heaps, room, AreAlike, AreTotals, heap_at, numbers, range_of};
-ghost use Rattle.offset_heaps.specs.Heaps.{IsFirstFit, IsLive, IsNext, IsWhy, Puts};
+ghost use Rattle.offset_heaps.specs.Heaps.{IsFirstFit, IsLive, IsNext, IsWhy, Puts, size_of, total};
 ghost use Rattle.offset_heaps.specs.Histories.{AreSteps, IsGone, IsStep, ResetsAll};
 ghost use Rattle.offset_heaps.specs.State.{IsCopy, IsStateOf, IsWellFormed, SameHeaps};
 ghost use Rattle.offset_heaps.specs.Relocating.{IsEmptiest, NoneLive, last_place, place_before};
+ghost use Rattle.offset_heaps.specs.Relocating.{live_at, squares, units_of};
 ghost use Rattle.offset_heaps.specs.Twins.{AreTwins};
 ghost use Rattle.offset_heaps.specs.Calls.{Allocates, TakesAll, Call, Drops, DropsEmpty, Frees, GivesUp};
-ghost use Rattle.offset_heaps.specs.Calls.{Relocates, Reply};
+ghost use Rattle.offset_heaps.specs.Calls.{GoAll, Goes, Relocates, Reply};
 ghost use Rattle.offset_heaps.specs.declared.place.Granted.{Granted};
 ghost use Rattle.offset_heaps.specs.declared.place.Place.{Place};
 ghost use Rattle.offset_heaps.specs.declared.refusal.Refusal.{Refusal};
@@ -62,7 +63,7 @@ pub fn reasons_exclude_one_another()
     ensures found { (size align k : ℕ) (hs : Heaps) (r : Refusal) → 1 ≤ size
         → IsFirstFit (blocks_needed align) (units_needed size align) k hs → IsWhy size align hs r → ⊥ }
     ensures made { (size align k : ℕ) (hs : Heaps) (r : Refusal) → 1 ≤ size
-        → IsNext (units_needed size align) k hs → IsWhy size align hs r → r ≡ Memory }
+        → IsNext size k hs → IsWhy size align hs r → r ≡ Memory }
 {}
 
 /// There is a slot for each number, and no heap has a realm that a later one will have: theirs are above
@@ -85,6 +86,20 @@ pub fn dropped_heaps_stay_dropped<T: Tables>(heaps: &HeapsOf<T>)
 {
     let _ = &heaps.made;
 }
+
+/// Ranges that go from heap to heap, by `relocate` or `relocate_aligned`, each old range freed before the
+/// next goes, come to an end, in whatever order they go: each adds at least 2 to the sum of the squares of
+/// the heaps' live units, which is at most that of the squares of their units.
+///
+/// From a heap of `a` live units to one of `b`, `u` units add `2 u (b - a) + 2 u²` to that sum.
+pub fn relocations_end()
+    ensures grows { (p q : Place) (hs ks : Heaps) → IsWellFormed hs → Goes p q hs ks → squares ks ≡ squares hs
+        + 2 * (units_of p hs * (live_at q.heap hs - live_at p.heap hs)) + 2 * (units_of p hs * units_of p hs) }
+    ensures some { (p q : Place) (hs ks : Heaps) → Goes p q hs ks
+        → (1 ≤ units_of p hs) × (live_at p.heap hs ≤ live_at q.heap hs) }
+    ensures ends { (ps : List Place) (hs ks : Heaps) → IsWellFormed hs → GoAll hs ps ks
+        → squares hs + 2 * length ps ≤ total (λ g. size_of g * size_of g) hs.slots }
+{}
 
 // How many heaps were made.
 fn made<T: Tables>(heaps: &HeapsOf<T>) -> u32
@@ -127,8 +142,9 @@ pub fn a_state_decides_each_step()
         → (r ≡ r') × AreTwins ks ks' }
     ensures free { (p : Place) (hs hs' ks ks' : Heaps) → IsWellFormed hs → AreTwins hs hs' → (r r' : Bool)
         → Frees p hs ks r → Frees p hs' ks' r' → (r ≡ r') × AreTwins ks ks' }
-    ensures relocate { (p : Place) (hs hs' ks ks' : Heaps) → IsWellFormed hs → AreTwins hs hs'
-        → (r r' : Option Place) → Relocates p hs ks r → Relocates p hs' ks' r' → (r ≡ r') × AreTwins ks ks' }
+    ensures relocate { (p : Place) (align : ℕ) (hs hs' ks ks' : Heaps) → IsWellFormed hs → AreTwins hs hs'
+        → (r r' : Option Place) → Relocates p align hs ks r → Relocates p align hs' ks' r'
+        → (r ≡ r') × AreTwins ks ks' }
     ensures drop_empty { (keep : ℕ) (hs hs' ks ks' : Heaps) → AreTwins hs hs' → (r r' : Option ℕ)
         → DropsEmpty keep hs ks r → DropsEmpty keep hs' ks' r' → (r ≡ r') × AreTwins ks ks' }
     ensures drop_heap { (k : ℕ) (hs hs' ks ks' : Heaps) → AreTwins hs hs' → (r r' : Bool)

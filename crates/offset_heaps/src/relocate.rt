@@ -1,7 +1,8 @@
 //! Second ranges in other heaps, so that a heap can be emptied; and which one is the emptiest. It changes one
 //! slot by a grant, and notes it in the index.
-ghost use Rattle.std.specs.Prelude.{ℕ, ◌≡◌, ◌↔◌, ◌+◌, ◌*◌, ◌^◌, ◌<◌, ◌≤◌, None, Some, IfSome, MatchOption};
+ghost use Rattle.std.specs.Prelude.{ℕ, ◌≡◌, ◌↔◌, ◌+◌, ◌*◌, ◌%◌, ◌^◌, ◌<◌, ◌≤◌, None, Some, IfSome, MatchOption};
 ghost use Rattle.std.specs.Prelude.{length};
+ghost use Rattle.offset_allocator.specs.Requests.{IsAlignment, blocks_needed};
 ghost use Rattle.offset_heaps.specs.Heaps.{numbers};
 ghost use Rattle.offset_heaps.specs.Relocating.{IsEmptiest, NoneLive, TakesUnits};
 
@@ -26,20 +27,22 @@ impl<T: Tables> HeapsOf<T> {
     ghost use Rattle.offset_heaps.specs.Relocating.{IsTaker, NoneTakes, granted, units_of};
 
     // The first heap that takes units of another one, in which so many are live.
-    fn taker(&mut self, own: u32, units: u32, live: u32) -> Option<u32>
-        requires { 1 ≤ units }
-        ensures first { MatchOption result ((k : ℕ) → TakesUnits own units live self.old.slots k → ⊥)
-            (λ k. TakesUnits own units live self.old.slots k
-            × ((j : ℕ) → j < k → TakesUnits own units live self.old.slots j → ⊥)) }
+    fn taker(&mut self, own: u32, units: u64, align: u32, live: u32) -> Option<u32>
+        requires some { 1 ≤ units }
+        requires power { 1 ≤ align }
+        ensures first { MatchOption result
+            ((k : ℕ) → TakesUnits own (blocks_needed align) units live self.old.slots k → ⊥)
+            (λ k. TakesUnits own (blocks_needed align) units live self.old.slots k
+            × ((j : ℕ) → j < k → TakesUnits own (blocks_needed align) units live self.old.slots j → ⊥)) }
         ensures there { IfSome result (λ k. k < length self.old.slots) }
         ensures same { IsSame self.old self.new }
         ensures steps { (bits : ℕ) → numbers self.old ≤ 2 ^ bits
             → self.new.accesses ≤ self.old.accesses + numbers self.old + bits + 1 }
     {
-        let from = self.first_fit(units as u64, 1)?;
+        let from = self.first_fit(units, align)?;
         let numbers = self.limits.most + self.limits.most_larger;
         self.slots
-            .taker(from, numbers, own, units, live, &mut self.accesses)
+            .taker(from, numbers, own, units, align, live, &mut self.accesses)
     }
 
     /// Grants a second range of as many units as that of a live place, in another heap, and returns its
@@ -48,9 +51,12 @@ impl<T: Tables> HeapsOf<T> {
     /// `last_live` and `live_before`, it empties that heap, which `drop_empty` then drops.
     ///
     /// The heap is the first one, by number, that has room, other than the place's own, and in which at least
-    /// as many units are live: so calls of `relocate` alone never bring a range back, and none goes to an
-    /// empty heap. None is made, and no memory is taken. The range is what `GuardedOf::allocate` grants
-    /// there: one that was granted at an alignment is given none.
+    /// as many units are live: so none goes to an empty heap, and calls of `relocate`, each followed by the
+    /// release of its old range before the next one, come to an end, since the sum of the squares of the
+    /// heaps' live units grows at each: see `laws::relocations_end`. With later releases a range may go to
+    /// and fro: make one pass, free what it left, then begin the next. No heap is made, and no memory is
+    /// taken. The range is what `GuardedOf::allocate` grants there: for one at an alignment see
+    /// `relocate_aligned`.
     ///
     /// `None` is returned where no heap takes the range, and where the place is not live; then nothing
     /// changes. It looks for the first heap that has room as `allocate` does, and from there on reads each
@@ -66,10 +72,10 @@ impl<T: Tables> HeapsOf<T> {
     /// ```
     pub fn relocate(&mut self, place: Place) -> Option<Place>
         // It is refused exactly where no heap takes the range, and then all is as it was.
-        ensures none { result ≡ None ↔ NoneTakes place self.old }
+        ensures none { result ≡ None ↔ NoneTakes place 1 self.old }
         ensures same { result ≡ None → IsSame self.old self.new }
         // The heap is the first that takes it.
-        ensures first { IfSome result (λ q. IsTaker place self.old q.heap) }
+        ensures first { IfSome result (λ q. IsTaker place 1 self.old q.heap) }
         // The new place was not live. It has as many units, and every other place keeps its range, if it has
         // one: so the old one does.
         ensures not_live { IfSome result (λ q. range_of q self.old ≡ None) }
@@ -83,17 +89,54 @@ impl<T: Tables> HeapsOf<T> {
         ensures steps { (bits : ℕ) → numbers self.old ≤ 2 ^ bits
             → self.new.accesses ≤ self.old.accesses + numbers self.old + 16 * bits + 32 }
     {
+        self.relocate_aligned(place, 1)
+    }
+
+    /// As `relocate`, and the second range begins at a multiple of `align`, a power of two, in its heap: the
+    /// first other one that has room for an aligned request as `allocate_aligned` has it, for
+    /// `size + align - 1` units, and in which at least as many units are live.
+    ///
+    /// ```
+    /// heaps.allocate(500).unwrap();
+    /// let old = heaps.allocate(400).unwrap().place;
+    /// let uniforms = heaps.allocate_aligned(200, 256).unwrap().place;
+    /// heaps.free(old);
+    /// let moved = heaps.relocate_aligned(uniforms, 256).unwrap();
+    /// assert_eq!((moved.heap, heaps.offset_of(moved)), (0, Some(512)));
+    /// ```
+    pub fn relocate_aligned(&mut self, place: Place, align: u32) -> Option<Place>
+        requires power { IsAlignment align }
+        // It is refused exactly where no heap takes the range, and then all is as it was.
+        ensures none { result ≡ None ↔ NoneTakes place align self.old }
+        ensures same { result ≡ None → IsSame self.old self.new }
+        // The heap is the first that takes it.
+        ensures first { IfSome result (λ q. IsTaker place align self.old q.heap) }
+        // The new place was not live. It has as many units, from a multiple of `align` on, and every other
+        // place keeps its range, if it has one: so the old one does.
+        ensures not_live { IfSome result (λ q. range_of q self.old ≡ None) }
+        ensures range { IfSome result (λ q. range_of q self.new
+            ≡ Some (record { offset = q.ticket.offset; size = units_of place self.old })) }
+        ensures aligned { IfSome result (λ q. q.ticket.offset % align ≡ 0) }
+        ensures others { IfSome result (λ q. KeepsOthers q self.old self.new) }
+        ensures stays { range_of place self.new ≡ range_of place self.old }
+        // The step of its heap: a grant of these units. All other heaps are as they were.
+        ensures grants { IfSome result (λ q. Grants (units_of place self.old) align self.old self.new
+            (granted q)) }
+        ensures steps { (bits : ℕ) → numbers self.old ≤ 2 ^ bits
+            → self.new.accesses ≤ self.old.accesses + numbers self.old + 16 * bits + 32 }
+    {
         if place.realm != self.realm {
             return None;
         }
-        let (units, live) = self
+        let (size, live) = self
             .slots
             .units_at(place.heap, place.ticket, &mut self.accesses);
-        if units == 0 {
+        if size == 0 {
             return None;
         }
-        let number = self.taker(place.heap, units, live)?;
-        Some(self.grant_at(number, units, 1).place)
+        let units = size as u64 + align as u64 - 1;
+        let number = self.taker(place.heap, units, align, live)?;
+        Some(self.grant_at(number, size, align).place)
     }
 
     /// The number of the heap with the fewest live units of those that have a live range, the last such by

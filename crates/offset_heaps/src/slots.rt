@@ -6,7 +6,7 @@ ghost use Rattle.std.specs.Prelude.{ℕ, slice_set, true, if◌then◌else◌};
 ghost use Rattle.offset_allocator.specs.Requests.{IsAlignment, blocks_needed, units_needed};
 ghost use Rattle.offset_allocator.specs.Tight.{CanHold};
 ghost use Rattle.offset_guarded.specs.Guard.{Guard, HasSerialLeft};
-ghost use Rattle.offset_heaps.specs.Heaps.{is_empty, live_of, part, range_in, room_of, slot};
+ghost use Rattle.offset_heaps.specs.Heaps.{is_empty, live_of, part, range_in, room, room_of, slot};
 ghost use Rattle.offset_heaps.specs.Relocating.{HasLive, IsEmptiest, NoneLive, TakesUnits, units_in};
 ghost use Rattle.offset_heaps.specs.Slots.{CanHoldIn, Changes, FreesIn, HasEmpty, KeepsOthersIn};
 ghost use Rattle.offset_heaps.specs.Slots.{IsMore, ResetsIn, Serves, ServesTight};
@@ -31,6 +31,15 @@ impl<T: Tables> Model for Slots<T> {
     ghost Value = { List (Option Guard) };
 
     ghost view = { λ s. s.heaps.items };
+}
+
+// The largest request at a multiple of `align` that a heap grants, or 0.
+fn room_at<T: Tables>(heap: &GuardedOf<T>, align: u32) -> u32
+    requires { 1 ≤ align }
+    ensures { result ≡ room (blocks_needed align) heap.now }
+{
+    let (one, two) = rooms(Some(heap));
+    if align == 1 { one } else { two }
 }
 
 /// Grants a request in a heap that has room for it.
@@ -248,15 +257,24 @@ impl<T: Tables> Slots<T> {
     }
 
     // Whether the heap of a number takes units of another one, in which so many are live.
-    fn takes(&self, number: u32, own: u32, units: u32, live: u32, count: &mut Accesses) -> bool
-        requires { 1 ≤ units }
-        ensures takes { IsTrue result ↔ TakesUnits own units live self.now number }
+    fn takes(
+        &self,
+        number: u32,
+        own: u32,
+        units: u64,
+        align: u32,
+        live: u32,
+        count: &mut Accesses,
+    ) -> bool
+        requires some { 1 ≤ units }
+        requires power { 1 ≤ align }
+        ensures takes { IsTrue result ↔ TakesUnits own (blocks_needed align) units live self.now number }
         ensures accesses { count.new ≡ count.old + 1 }
     {
         match self.at(number, count) {
             None => false,
             Some(heap) => {
-                let (room, _) = rooms(Some(heap));
+                let room = room_at(heap, align) as u64;
                 number != own && room >= units && heap.allocator().live_units() >= live
             }
         }
@@ -268,21 +286,23 @@ impl<T: Tables> Slots<T> {
         from: u32,
         numbers: u32,
         own: u32,
-        units: u32,
+        units: u64,
+        align: u32,
         live: u32,
         count: &mut Accesses,
     ) -> Option<u32>
         requires some { 1 ≤ units }
+        requires power { 1 ≤ align }
         requires from { from ≤ numbers }
         requires numbers { numbers ≤ length self.now }
         ensures first { MatchOption result
-            ((k : ℕ) → from ≤ k → k < numbers → TakesUnits own units live self.now k → ⊥)
-            (λ k. (k < numbers) × TakesUnits own units live self.now k
-            × ((j : ℕ) → from ≤ j → j < k → TakesUnits own units live self.now j → ⊥)) }
+            ((k : ℕ) → from ≤ k → k < numbers → TakesUnits own (blocks_needed align) units live self.now k → ⊥)
+            (λ k. (k < numbers) × TakesUnits own (blocks_needed align) units live self.now k
+            × ((j : ℕ) → from ≤ j → j < k → TakesUnits own (blocks_needed align) units live self.now j → ⊥)) }
         ensures accesses { count.new ≤ count.old + numbers }
     {
         for number in from..numbers {
-            if self.takes(number, own, units, live, count) {
+            if self.takes(number, own, units, align, live, count) {
                 return Some(number);
             }
         }

@@ -13,9 +13,9 @@ module _ (hs ks : Heaps) where
   grants size align (Ok g) same step = inr (inl (size, align, g, step))
   grants size align (Err e) same step = inl same
 
-  pub relocates : (n : ℕ) (r : Option Place) → (r ≡ None → IsSame hs ks) → IfSome r (λ q. Grants n 1 hs ks (granted q)) → IsStep hs ks
-  relocates n None same step = inl (same refl)
-  relocates n (Some q) same step = inr (inl (n, 1, granted q, step))
+  pub relocates : (n align : ℕ) (r : Option Place) → (r ≡ None → IsSame hs ks) → IfSome r (λ q. Grants n align hs ks (granted q)) → IsStep hs ks
+  relocates n align None same step = inl (same refl)
+  relocates n align (Some q) same step = inr (inl (n, align, granted q, step))
 
   pub frees : (p : Place) (b : Bool) → (b ≡ false → IsSame hs ks) → (b ≡ true → FreesIn p hs ks) → IsStep hs ks
   frees p false same step = inl (same refl)

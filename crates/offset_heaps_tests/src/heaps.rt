@@ -138,6 +138,39 @@ fn an_empty_larger_heap_is_dropped_first(rt: HostRuntime) -> Result<(), Fail> {
     Ok(())
 }
 
+// The first range of a heap begins at 0, a multiple of every alignment: so a page at an alignment fits a page, and
+// takes no larger heap. A heap that is there is asked for 1024 + 255 units.
+#[test]
+fn an_aligned_page_fits_a_page(rt: HostRuntime) -> Result<(), Fail> {
+    let limits = Limits {
+        size: 1024,
+        max_allocs: 8,
+        most: 2,
+        most_larger: 1,
+    };
+    let mut heaps: Heaps = HeapsOf::new(rt.alloc(), limits, 1)?;
+    let first = place_of(heaps.allocate_aligned(1024, 256), nowhere());
+    assert_same(&rt, &(first.heap, first.ticket.offset), &(0, 0));
+    assert_same(
+        &rt,
+        &shown(heaps.allocate_aligned(1024, 1 << 31)),
+        &(1, 0, true),
+    );
+    assert_same(
+        &rt,
+        &shown(heaps.allocate_aligned(1025, 256)),
+        &(2, 0, true),
+    );
+    assert_that(&rt, heaps.free(first));
+    assert_same(
+        &rt,
+        &shown(heaps.allocate_aligned(1024, 256)),
+        &(1002, 0, false),
+    );
+    assert_same(&rt, &shown(heaps.allocate(1024)), &(0, 0, false));
+    Ok(())
+}
+
 #[test]
 fn heaps_are_shown(rt: HostRuntime) -> Result<(), Fail> {
     let limits = Limits {

@@ -13,6 +13,7 @@ pub enum Change {
     Allocate(u32),
     AllocateAligned(u32),
     Relocate(Place),
+    RelocateAligned(Place),
     Free(Place),
     DropEmpty(u32),
     DropHeap(u32),
@@ -36,6 +37,12 @@ fn relocate(heaps: &mut Heaps, place: Place)
     ensures { IsStep heaps.old heaps.new }
 {
     let _ = heaps.relocate(place);
+}
+
+fn relocate_aligned(heaps: &mut Heaps, place: Place)
+    ensures { IsStep heaps.old heaps.new }
+{
+    let _ = heaps.relocate_aligned(place, 256);
 }
 
 fn free(heaps: &mut Heaps, place: Place)
@@ -76,6 +83,7 @@ pub fn make(heaps: &mut Heaps, change: Change)
         Change::Allocate(size) => allocate(heaps, size),
         Change::AllocateAligned(size) => allocate_aligned(heaps, size),
         Change::Relocate(place) => relocate(heaps, place),
+        Change::RelocateAligned(place) => relocate_aligned(heaps, place),
         Change::Free(place) => free(heaps, place),
         Change::DropEmpty(keep) => drop_empty(heaps, keep),
         Change::DropHeap(number) => drop_heap(heaps, number),

@@ -83,6 +83,43 @@ fn expect_pass<T: Tables>(rt: &impl Abort, heaps: &mut HeapsOf<T>, nowhere: Plac
     assert_same(rt, &heaps.relocate(nowhere), &None);
 }
 
+// Two heaps of 96 units: behind 41 live ones a second range of 20 begins at 64, at a multiple of 32, and another at 41.
+#[test]
+fn aligned_relocation(rt: HostRuntime) -> Result<(), Fail> {
+    let limits = Limits {
+        size: 96,
+        max_allocs: 8,
+        most: 2,
+        most_larger: 0,
+    };
+    let nowhere = Place {
+        heap: 9,
+        realm: 0,
+        ticket: offset_guarded::Ticket {
+            offset: 0,
+            name: 0,
+            serial: 0,
+            realm: 0,
+        },
+    };
+    let mut heaps: Heaps = HeapsOf::new(rt.alloc(), limits, 9)?;
+    let first = granted(&mut heaps, 41, nowhere);
+    let gone = granted(&mut heaps, 52, nowhere);
+    let moved = granted(&mut heaps, 20, nowhere);
+    assert_same(&rt, &at(Some(moved)), &(1, 0));
+    assert_that(&rt, heaps.free(gone));
+    // 55 units from 41 on are filed as 52: 20 + 31 units fit, 20 + 63 do not
+    assert_same(&rt, &heaps.relocate_aligned(moved, 64), &None);
+    assert_same(&rt, &at(heaps.relocate_aligned(moved, 32)), &(0, 64));
+    // 12 units are left from 84 on, and 23 from 41 on, which are filed as 22: 20 + 7 do not fit, 20 do
+    assert_same(&rt, &heaps.relocate_aligned(moved, 8), &None);
+    assert_same(&rt, &at(heaps.relocate_aligned(moved, 1)), &(0, 41));
+    assert_that(&rt, heaps.free(moved));
+    assert_same(&rt, &heaps.relocate_aligned(moved, 1), &None);
+    assert_same(&rt, &heaps.relocate_aligned(first, 1), &None);
+    Ok(())
+}
+
 #[test]
 fn relocation(rt: HostRuntime) -> Result<(), Fail> {
     let limits = Limits {

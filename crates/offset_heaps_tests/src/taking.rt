@@ -31,9 +31,17 @@ pub fn free(heaps: &mut Heaps, place: Place) -> bool
 
 /// Grants a second range in another heap.
 pub fn relocate(heaps: &mut Heaps, place: Place) -> Option<Place>
-    ensures { Relocates place heaps.old heaps.new result }
+    ensures { Relocates place 1 heaps.old heaps.new result }
 {
     heaps.relocate(place)
+}
+
+/// Grants a second range in another heap, with an alignment.
+pub fn relocate_aligned(heaps: &mut Heaps, place: Place, align: u32) -> Option<Place>
+    requires { IsAlignment align }
+    ensures { Relocates place align heaps.old heaps.new result }
+{
+    heaps.relocate_aligned(place, align)
 }
 
 /// Drops the last empty heap, if more than `keep` are empty.

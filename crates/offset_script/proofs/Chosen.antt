@@ -5,7 +5,7 @@ use Rattle.offset_script.proofs.Common.{chosen_place, View, Handle, one, times, 
 use Rattle.offset_script.proofs.Agreement.{Label, by_name, by_tag, stamp_of, IsFalling}
 use Rattle.offset_script.proofs.{Tests.same_some, Found.chosen_at, Found.not_chosen, Members.IsIn, Members.in_right, Members.map_split, Labels.names, Labels.tags, Labels.gives_parts, Labels.gives_all}
 use Rattle.offset_allocator.specs.View.{Block, Place, place_of}
-use Rattle.offset_allocator.proofs.{Views.ViewSteps.place_here, Tallies.tally_append, Tallies.hit_cases, Tallies.one-same}
+use Rattle.offset_allocator.proofs.{Views.ViewPlaces.place_here, Tallies.tally_append, Tallies.hit_cases, Tallies.one-same}
 use Rattle.offset_script.specs.Machine as plain
 
 -- a list of labels, split at one

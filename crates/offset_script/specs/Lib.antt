@@ -1,6 +1,5 @@
 pub mod CommonLines
 pub mod Devices
-pub mod Dumping
 pub mod Faults
 pub mod Grammar
 pub mod Histories

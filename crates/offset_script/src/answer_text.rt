@@ -1,17 +1,21 @@
 //! The text of the answers to a script (the lines of each by `answers`), collected while the script is
-//! played: no list of answers is kept, unless full reports have many rows. It plays by `playing`, and
-//! touches only its text.
+//! played: no list of answers is kept, unless full reports have many rows. It plays by `playing`, sends by
+//! `sending`, and touches only its text and the sink.
 
 ghost use Rattle.std.specs.Prelude.{◌≡◌, ◌+◌, ◌++◌, ◌∷◌, ◌<◌, ◌≤◌, All, IfOk, IsTrue, OnOk, []};
 ghost use Rattle.std.specs.List.{flat_map};
 ghost use Rattle.offset_script.specs.Grammar.{has_valid_alignment, lines_of_answer, text_of};
 ghost use Rattle.offset_script.specs.Machine as machine;
 ghost use Rattle.offset_script.specs.Machine.{answer_view};
+ghost use Rattle.offset_script.specs.Running.{IsTextOfAnswers};
 
 use crate::answers::{Answer, put_answer};
+use crate::devices::Sink;
 use crate::listening::Listener;
 use crate::playing::play_script_to;
+use crate::running::Rendering;
 use crate::scripts::{Command, Script};
+use crate::sending::send_in_turn;
 use offset_allocator::{AllocatorOf, ByNode, Tables};
 use std::alloc::{AllocError, Global};
 use std::marker::Model;
@@ -168,17 +172,31 @@ impl Listener for Pieces {
     }
 }
 
-/// Plays a script on an allocator of its index width, and returns the text of its answers in pieces: a line
-/// for each, and after the line of a full report one for each of its rows.
-///
-/// # Errors
-///
-/// It fails only where an allocation fails.
-pub(crate) fn text_of_answers(alloc: Global, script: &Script) -> Result<Vec<Vec<u8>>, AllocError>
+// Plays a script on an allocator of its index width, and returns the text of its answers in pieces: a line
+// for each, and after the line of a full report one for each of its rows. It fails only where an allocation
+// fails.
+fn text_of_answers(alloc: Global, script: &Script) -> Result<Vec<Vec<u8>>, AllocError>
     ensures { IfOk result (λ pieces. flat_map (λ piece. piece.items) pieces.items
         ≡ text_of (machine.answers script.now.commands.items
         (machine.start script.now.size script.now.max_allocs))) }
 {
     let text: Pieces = play_script_to::<ByNode<u16>, ByNode<u32>, _>(alloc, script)?;
     text.pieces(alloc)
+}
+
+// The text of the answers to a script.
+pub(crate) struct AnswerText;
+
+impl Rendering for AnswerText {
+    ghost IsRendering = { λ _. IsTextOfAnswers };
+
+    fn send<K: Sink>(
+        &self,
+        alloc: Global,
+        script: &Script,
+        output: &mut K,
+    ) -> Result<bool, AllocError> {
+        let pieces = text_of_answers(alloc, script)?;
+        Ok(send_in_turn(output, &pieces))
+    }
 }

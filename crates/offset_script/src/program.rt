@@ -2,8 +2,9 @@
 
 ghost use Rattle.offset_script.specs.Running.{Exits, IsTextOfAnswers};
 
+use crate::answer_text::AnswerText;
 use crate::devices::{Sink, Source};
-use crate::running::{AnswerText, Rendering, run_of};
+use crate::running::{Rendering, run_of};
 use crate::sending::send_fault;
 use std::alloc::Global;
 

@@ -9,12 +9,11 @@ ghost use Rattle.offset_script.specs.Running.{is_read_fault, is_write_fault};
 ghost use Rattle.offset_script.specs.declared.faults.RunFault.TheVariants as faults;
 ghost use Rattle.offset_script.specs.declared.faults.ScriptFault.TheVariants as script_fault;
 
-use crate::answer_text::text_of_answers;
+use crate::answer_text::AnswerText;
 use crate::devices::{Sink, Source};
 use crate::faults::RunFault;
 use crate::parsing::{MAX_TEXT, parse};
 use crate::scripts::Script;
-use crate::sending::send_in_turn;
 use std::alloc::{AllocError, Global};
 
 // The largest number of bytes that one pull requests.
@@ -98,23 +97,6 @@ pub fn run_of<X: Rendering, S: Source, K: Sink>(
         Ok(())
     } else {
         Err(RunFault::Write)
-    }
-}
-
-// The text of the answers to a script.
-pub(crate) struct AnswerText;
-
-impl Rendering for AnswerText {
-    ghost IsRendering = { λ _. IsTextOfAnswers };
-
-    fn send<K: Sink>(
-        &self,
-        alloc: Global,
-        script: &Script,
-        output: &mut K,
-    ) -> Result<bool, AllocError> {
-        let pieces = text_of_answers(alloc, script)?;
-        Ok(send_in_turn(output, &pieces))
     }
 }
 

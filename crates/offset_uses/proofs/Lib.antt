@@ -1,3 +1,4 @@
+pub mod InPieces
 pub mod Moved
 pub mod Holes
 pub mod Lacking

@@ -316,8 +316,10 @@ public:
     bool extend(uint32 more) { return oa_extend(space, more); }
     bool retract(uint32 less) { return oa_retract(space, less); }
 
-    // A second range before that of a live allocation; where there is none, both parts are NO_SPACE.
+    // A second range before that of a live allocation; where there is none, both parts are NO_SPACE, also where align is no
+    // power of two.
     Allocation relocate(Allocation allocation) { return detail::of(oa_relocate(space, detail::in(allocation))); }
+    Allocation relocateAligned(Allocation allocation, uint32 align) { return detail::of(oa_relocate_aligned(space, detail::in(allocation), align)); }
 
     // The live ranges in space; where there is none, both parts are NO_SPACE.
     Allocation firstLive() const { return detail::of(oa_first_live(space)); }
@@ -342,12 +344,20 @@ public:
         }
     }
 
-    // Calls moved(Move) for each range that moves. An exception of it goes on to the caller when all ranges have moved;
-    // after it, moved is not called again.
+    // Handles stay live; a range that moves begins at allocationOffset from then on, and keeps no alignment, or, by compactBy,
+    // those that divide step: that returns false, and nothing moves, where step is 0, or, as oa_compact_by says, a node is
+    // missing. moved(Move) is called for each range that moves. An exception of it goes on to the caller when
+    // all ranges have moved; after it, moved is not called again.
     template <class F> void compact(F &&moved) {
         detail::Calling<F> each(moved);
         oa_compact(space, detail::Calling<F>::moved, &each);
         each.finish();
+    }
+    template <class F> bool compactBy(uint32 step, F &&moved) {
+        detail::Calling<F> each(moved);
+        const bool done = oa_compact_by(space, step, detail::Calling<F>::moved, &each);
+        each.finish();
+        return done;
     }
     template <class F> RoomCost makeRoom(uint32 size, F &&moved) {
         detail::Calling<F> each(moved);
@@ -484,8 +494,9 @@ public:
     bool extend(uint32 more) { return oag_extend(space, more); }
     bool retract(uint32 less) { return oag_retract(space, less); }
 
-    // Where there is none, the ticket converts to false.
+    // Where there is none, the ticket converts to false, also where align is no power of two.
     Ticket relocate(Ticket ticket) { return of(oag_relocate(space, in(ticket))); }
+    Ticket relocateAligned(Ticket ticket, uint32 align) { return of(oag_relocate_aligned(space, in(ticket), align)); }
     Ticket firstLive() const { return of(oag_first_live(space)); }
     Ticket lastLive() const { return of(oag_last_live(space)); }
     Ticket liveBefore(Ticket ticket) const { return of(oag_live_before(space, in(ticket))); }
@@ -513,6 +524,12 @@ public:
         detail::Calling<F> each(moved);
         oag_compact(space, detail::Calling<F>::moved, &each);
         each.finish();
+    }
+    template <class F> bool compactBy(uint32 step, F &&moved) {
+        detail::Calling<F> each(moved);
+        const bool done = oag_compact_by(space, step, detail::Calling<F>::moved, &each);
+        each.finish();
+        return done;
     }
     template <class F> RoomCost makeRoom(uint32 size, F &&moved) {
         detail::Calling<F> each(moved);

@@ -102,8 +102,9 @@ public:
     uint32 offsetOf(const Place &place) const { return oah_offset_of(heaps, in(place)); }
 
     // The place of a second range in another heap in which at least as many units are live, whose serial is 0 where none
-    // takes it; the old one stays live. It begins at any multiple.
+    // takes it, also where align is no power of two; the old one stays live. It begins at any multiple, or at one of align.
     Place relocate(const Place &place) { return of(oah_relocate(heaps, in(place))); }
+    Place relocateAligned(const Place &place, uint32 align) { return of(oah_relocate_aligned(heaps, in(place), align)); }
 
     // The number of the heap that is emptied with the least copies, or NO_SPACE, and its live ranges from the last on.
     uint32 emptiest() const { return oah_emptiest(heaps); }

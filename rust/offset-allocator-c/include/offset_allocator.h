@@ -103,7 +103,8 @@ typedef enum oa_reason {
     OA_SERIALS = 6     /* All serials are given (oag_refusal alone). Use another space. */
 } oa_reason;
 
-/* A range that oa_compact or oa_make_room moves: its units were at from, and have to be at to, which is smaller. */
+/* A range that oa_compact, oa_compact_by or oa_make_room moves: its units were at from, and have to be at to, which is
+ * smaller. */
 typedef struct oa_move {
     uint32_t from;
     uint32_t to;
@@ -222,8 +223,8 @@ bool oa_is_live(const oa_allocator *space, oa_allocation allocation);
  * no units. At most 16 accesses. */
 uint32_t oa_allocation_size(const oa_allocator *space, oa_allocation allocation);
 
-/* Where a range begins now, which oa_compact may have changed. OA_NO_SPACE if the handle is not live or the allocator is
- * null. At most 16 accesses. */
+/* Where a range begins now, which the calls that move ranges may have changed. OA_NO_SPACE if the handle is not live or the
+ * allocator is null. At most 16 accesses. */
 uint32_t oa_allocation_offset(const oa_allocator *space, oa_allocation allocation);
 
 /* Gives the last units of a range back, so that `size` remain. True if done. False, and nothing changes, where it has
@@ -248,12 +249,26 @@ bool oa_retract(oa_allocator *space, uint32_t less);
  * range, if the handle is not live, or if the allocator is null. It begins at any multiple. Bounded. */
 oa_allocation oa_relocate(oa_allocator *space, oa_allocation allocation);
 
+/* The same at a multiple of align, from the block that oa_allocate_aligned takes for these units. Both parts are OA_NO_SPACE,
+ * and nothing changes, also where align is no power of two. Bounded. */
+oa_allocation oa_relocate_aligned(oa_allocator *space, oa_allocation allocation, uint32_t align);
+
 /* Moves all live ranges to the front of the space, in order, so that all free units are one block. Handles stay live; a
- * range that moves begins at oa_allocation_offset from then on, and keeps no alignment.
+ * range that moves begins at oa_allocation_offset from then on, and keeps no alignment: see oa_compact_by.
  * `moved`, if it is not null, is called with `user` and each range that moves, in the order in which they can be copied
  * one after the other. It must return: no exception, no longjmp; and it must not use this allocator.
  * Nothing is done where the allocator is null. Cost: at most 10 accesses a block, and 384. */
 void oa_compact(oa_allocator *space, void (*moved)(void *user, oa_move range), void *user);
+
+/* Moves live ranges to the front of the space, in order, each by a multiple of `step` units, by as many as the free blocks
+ * before it have. Handles stay live; a range that moves begins at oa_allocation_offset from then on, and keeps its alignment
+ * where that divides `step`: pass the least common multiple of the alignments that are used. What whole steps leave of a
+ * free block stays a free block; all that the others give up is one free block at the end of the space. `moved` is called
+ * as by oa_compact.
+ * True if done, also where no free block before another block has a whole step, and so nothing changes. False, and nothing
+ * changes, where there is such a block but the last block is used and no node is left; also where `step` is 0, or if the
+ * allocator is null. Cost: at most 21 accesses a block, and 40. */
+bool oa_compact_by(oa_allocator *space, uint32_t step, void (*moved)(void *user, oa_move range), void *user);
 
 /* The copies that make a move of `size` units from `from` to `to` where a copy may not overlap, as on a device: `copy`, if it
  * is not null, is called with `user` and each, in the order in which they can be made. Each has at most `most` units, as many
@@ -272,9 +287,9 @@ oa_allocation oa_live_after(const oa_allocator *space, oa_allocation allocation)
 
 /* Makes room for a request of this size where ranges have to move for it: slides those of a run of blocks that costs what
  * oa_room_cost returns to its front, so that its free units are one block after them, which is large enough. `moved` is
- * called as by oa_compact, and the same holds of handles and alignments. Returns what oa_room_cost would have returned
- * before; where that is not possible or has no ranges, nothing changes. Else oa_allocate grants the request afterwards, at
- * the node limit too.
+ * called as by oa_compact, and the same holds of handles; a range that moves keeps no alignment. Returns what oa_room_cost
+ * would have returned before; where that is not possible or has no ranges, nothing changes. Else oa_allocate grants the
+ * request afterwards, at the node limit too.
  * All 0 for null. Cost: 6 accesses a block, 40 a range that moves, and 20. */
 oa_room oa_make_room(oa_allocator *space, uint32_t size, void (*moved)(void *user, oa_move range), void *user);
 
@@ -431,8 +446,10 @@ bool oag_grow_in_place(oag_allocator *space, oag_ticket ticket, uint32_t size);
 bool oag_extend(oag_allocator *space, uint32_t more);
 bool oag_retract(oag_allocator *space, uint32_t less);
 
-/* As oa_relocate: the ticket of the second range; the old one stays live. Its serial is 0 where there is none. */
+/* As oa_relocate and oa_relocate_aligned: the ticket of the second range; the old one stays live. Its serial is 0 where there
+ * is none. */
 oag_ticket oag_relocate(oag_allocator *space, oag_ticket ticket);
+oag_ticket oag_relocate_aligned(oag_allocator *space, oag_ticket ticket, uint32_t align);
 
 /* As oa_first_live, oa_last_live, oa_live_before and oa_live_after. The serial of the ticket is 0 where there is none. */
 oag_ticket oag_first_live(const oag_allocator *space);
@@ -440,8 +457,10 @@ oag_ticket oag_last_live(const oag_allocator *space);
 oag_ticket oag_live_before(const oag_allocator *space, oag_ticket ticket);
 oag_ticket oag_live_after(const oag_allocator *space, oag_ticket ticket);
 
-/* As oa_compact. Tickets stay live; metadata of a move is the name in the ticket. */
+/* As oa_compact and oa_compact_by. Tickets stay live; a range that moves begins at oag_offset_of from then on, and keeps its
+ * alignment by oag_compact_by alone, where it divides the step. metadata of a move is the name in the ticket. */
 void oag_compact(oag_allocator *space, void (*moved)(void *user, oa_move range), void *user);
+bool oag_compact_by(oag_allocator *space, uint32_t step, void (*moved)(void *user, oa_move range), void *user);
 
 /* As oa_make_room; the same of tickets. */
 oa_room oag_make_room(oag_allocator *space, uint32_t size, void (*moved)(void *user, oa_move range), void *user);

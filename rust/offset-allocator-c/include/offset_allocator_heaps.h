@@ -109,7 +109,8 @@ void oah_reset(oah_heaps *heaps);
  * Cost: that of oag_allocate, and some steps for each bit of the numbers. */
 oah_granted oah_allocate(oah_heaps *heaps, uint32_t size);
 
-/* The same at a multiple of align, a power of two, in the heap: it takes room for size + align - 1 units. */
+/* The same at a multiple of align, a power of two, in the heap: one that is there needs room for size + align - 1 units, a
+ * new one for size, since its first range begins at 0. */
 oah_granted oah_allocate_aligned(oah_heaps *heaps, uint32_t size, uint32_t align);
 
 /* Frees the range of a place. True if it was live; else nothing changes. Its heap stays, for oah_drop_empty. */
@@ -126,9 +127,11 @@ uint32_t oah_offset_of(const oah_heaps *heaps, oah_place place);
 
 /* Grants a second range of as many units as that of a place, in the first other heap, by number, that has room and in which
  * at least as many units are live, and returns its place; the old one stays live. Its serial is 0 where no heap takes the
- * range, or the place is not live; then nothing changes. No heap is made, and calls of it alone never bring a range
- * back. The range begins at any multiple: one that was granted at an alignment is given none. Done for each live
- * range of the emptiest heap, it empties that heap, for oah_drop_empty:
+ * range, or the place is not live; then nothing changes. No heap is made. Such calls, each followed by the release of its
+ * old range before the next one, come to an end, since the sum of the squares of the heaps' live units grows at each; with
+ * later releases a range may go to and fro: make one pass, free what it left, then begin the next. The range begins at any
+ * multiple: for one at an alignment see oah_relocate_aligned. Done for each live range of the emptiest heap, it empties
+ * that heap, for oah_drop_empty:
  *
  *     uint32_t from = oah_emptiest(heaps);
  *     for (oah_place old = oah_last_live(heaps, from), next; old.ticket.serial; old = next) {
@@ -139,6 +142,10 @@ uint32_t oah_offset_of(const oah_heaps *heaps, oah_place place);
  *
  * Cost: that of oah_allocate, and at most one read of each number. */
 oah_place oah_relocate(oah_heaps *heaps, oah_place place);
+
+/* The same at a multiple of align, a power of two, in the heap, which needs room for as many units and align - 1 more. Its
+ * serial is 0 also where align is no power of two. */
+oah_place oah_relocate_aligned(oah_heaps *heaps, oah_place place, uint32_t align);
 
 /* The number of the heap with the fewest live units, of those that have a live range, the last such; OA_NO_SPACE where
  * nothing is live, or for null. Cost: each number is read once. */

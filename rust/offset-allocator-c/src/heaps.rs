@@ -165,6 +165,10 @@ exports! {
 
     fn oah_relocate([heaps: &mut ManyHeaps], from: At) -> At { at(heaps.relocate(place(from))) } else NOWHERE;
 
+    fn oah_relocate_aligned([heaps: &mut ManyHeaps], from: At, align: u32) -> At {
+        if align.is_power_of_two() { at(heaps.relocate_aligned(place(from), align)) } else { NOWHERE }
+    } else NOWHERE;
+
     fn oah_emptiest([heaps: &ManyHeaps],) -> u32 { heaps.emptiest().unwrap_or(NO_SPACE) } else NO_SPACE;
 
     fn oah_last_live([heaps: &ManyHeaps], number: u32) -> At { at(heaps.last_live(number)) } else NOWHERE;

@@ -448,6 +448,11 @@ exports! {
         handle(live(space, allocation).and_then(|allocation| space.relocate(allocation)))
     } else NOTHING;
 
+    fn oa_relocate_aligned([space: &mut Space], allocation: Handle, align: u32) -> Handle {
+        let allocation = if align.is_power_of_two() { live(space, allocation) } else { None };
+        handle(allocation.and_then(|allocation| space.relocate_aligned(allocation, align)))
+    } else NOTHING;
+
     fn oa_compact(
         [space: &mut Space],
         moved: Option<Callback>,
@@ -455,6 +460,15 @@ exports! {
     ) -> () {
         space.compact(&mut calls(moved, user))
     } else ();
+
+    fn oa_compact_by(
+        [space: &mut Space],
+        step: u32,
+        moved: Option<Callback>,
+        user: Option<NonNull<c_void>>
+    ) -> bool {
+        step != 0 && space.compact_by(step, &mut calls(moved, user))
+    } else false;
 
     fn oa_copy_in_pieces(
         from: u32,
@@ -620,6 +634,10 @@ exports! {
         guard(space.relocate(ticket(allocation)))
     } else NO_TICKET;
 
+    fn oag_relocate_aligned([space: &mut GuardedSpace], allocation: Guard, align: u32) -> Guard {
+        guard(if align.is_power_of_two() { space.relocate_aligned(ticket(allocation), align) } else { None })
+    } else NO_TICKET;
+
     fn oag_first_live([space: &GuardedSpace],) -> Guard { guard(space.first_live()) } else NO_TICKET;
 
     fn oag_last_live([space: &GuardedSpace],) -> Guard { guard(space.last_live()) } else NO_TICKET;
@@ -639,6 +657,15 @@ exports! {
     ) -> () {
         space.compact(&mut calls(moved, user))
     } else ();
+
+    fn oag_compact_by(
+        [space: &mut GuardedSpace],
+        step: u32,
+        moved: Option<Callback>,
+        user: Option<NonNull<c_void>>
+    ) -> bool {
+        step != 0 && space.compact_by(step, &mut calls(moved, user))
+    } else false;
 
     fn oag_make_room(
         [space: &mut GuardedSpace],

@@ -227,6 +227,36 @@ static void compacts(void) {
     oa_drop(space);
 }
 
+/* 30 units are three steps of 8, and 6 */
+static void compacts_by_steps(void) {
+    oa_allocator *space = oa_new(100, 16);
+    struct copied data = {{0}, 0, {0, 0}};
+    oa_allocation hole = oa_allocate(space, 30), a = oa_allocate(space, 10), b = oa_allocate_aligned(space, 8, 8);
+    CHECK(a.offset == 30 && b.offset == 40);
+    memset(data.bytes + 30, 'a', 10);
+    memset(data.bytes + 40, 'b', 8);
+    CHECK(oa_compact_by(space, 1, copy, &data) && oa_free(space, hole) && !oa_compact_by(space, 0, copy, &data));
+    CHECK(oa_compact_by(space, 31, copy, &data) && oa_compact_by(space, 4294967295u, copy, &data) && data.moves == 0);
+    CHECK(oa_compact_by(space, 8, copy, &data) && data.moves == 2);
+    CHECK(data.last.metadata == b.metadata && data.last.offset == 16);
+    CHECK(!memcmp(data.bytes + 6, "aaaaaaaaaabbbbbbbb", 18) && oa_is_live(space, a) && oa_is_live(space, b));
+    CHECK(oa_allocation_offset(space, a) == 6 && oa_allocation_offset(space, b) == 16 && oa_allocation_size(space, a) == 10);
+    CHECK(oa_block_count(space) == 4 && oa_storage_report(space).total_free_space == 82);
+    CHECK(oa_compact_by(space, 8, copy, &data) && data.moves == 2 && oa_compact_by(space, 1, NULL, NULL));
+    CHECK(oa_allocation_offset(space, a) == 0 && oa_allocation_offset(space, b) == 10 && oa_block_count(space) == 3);
+    oa_drop(space);
+    /* no node is left for a free block at the end */
+    space = oa_new(20, 4);
+    hole = oa_allocate(space, 12);
+    a = oa_allocate(space, 8);
+    oa_free(space, hole);
+    b = oa_allocate(space, 5);
+    CHECK(oa_is_full(space) && !oa_compact_by(space, 4, copy, &data) && data.moves == 2);
+    CHECK(oa_allocation_offset(space, a) == 12 && oa_block_count(space) == 3 && oa_compact_by(space, 8, copy, &data));
+    CHECK(oa_free(space, b) && oa_compact_by(space, 4, NULL, NULL) && oa_allocation_offset(space, a) == 0);
+    oa_drop(space);
+}
+
 /* the pieces of 20 units from 10 to 4: six at a time, so that no copy overlaps, and the two that are left */
 struct pieces {
     char bytes[40];
@@ -250,6 +280,19 @@ static void in_pieces(void) {
 }
 
 static bool same(oa_allocation a, oa_allocation b) { return a.offset == b.offset && a.metadata == b.metadata; }
+
+/* a range of 64 units finds 320 free ones before it, of which those from 256 on are aligned */
+static void to_a_multiple(void) {
+    oa_allocator *space = oa_new(1000, 8);
+    oa_allocate(space, 10);
+    oa_allocation hole = oa_allocate(space, 320), mesh = oa_allocate(space, 64);
+    CHECK(is_nothing(oa_relocate_aligned(space, mesh, 256)) && oa_free(space, hole));
+    CHECK(is_nothing(oa_relocate_aligned(space, mesh, 0)) && is_nothing(oa_relocate_aligned(space, mesh, 3)));
+    CHECK(is_nothing(oa_relocate_aligned(space, hole, 256)) && is_nothing(oa_relocate_aligned(space, mesh, 2147483648u)));
+    oa_allocation moved = oa_relocate_aligned(space, mesh, 256);
+    CHECK(moved.offset == 256 && oa_is_live(space, mesh) && oa_allocation_size(space, moved) == 64 && oa_block_count(space) == 6);
+    oa_drop(space);
+}
 
 /* three ranges of 10 units, of which the second is freed: the third finds room there, and then the end can go */
 static void from_the_end(void) {
@@ -342,10 +385,12 @@ static void nulls(void) {
     oa_allocation a = made(0, 0);
     oa_reset(NULL);
     oa_compact(NULL, copy, NULL);
+    CHECK(!oa_compact_by(NULL, 1, copy, NULL) && !oa_compact_by(NULL, 0, copy, NULL));
     CHECK(is_nothing(oa_allocate(NULL, 1)) && is_nothing(oa_allocate_aligned(NULL, 1, 1)));
     CHECK(is_nothing(oa_allocate_tight(NULL, 1)) && is_nothing(oa_allocate_tight_aligned(NULL, 1, 1)));
     CHECK(oa_refusal_tight(NULL, 0) == OA_BAD_CALL && oa_refusal_tight_aligned(NULL, 0, 1) == OA_BAD_CALL);
     CHECK(!oa_room_cost(NULL, 0).possible && !oa_make_room(NULL, 0, copy, NULL).possible);
+    CHECK(is_nothing(oa_relocate_aligned(NULL, a, 1)));
     CHECK(!oa_retract(NULL, 0) && is_nothing(oa_relocate(NULL, a)) && is_nothing(oa_last_live(NULL)) && is_nothing(oa_first_live(NULL)));
     CHECK(is_nothing(oa_live_before(NULL, a)) && is_nothing(oa_live_after(NULL, a)));
     CHECK(!oa_free(NULL, a) && !oa_is_live(NULL, a) && !oa_allocation_size(NULL, a));
@@ -447,7 +492,9 @@ int main(void) {
     resizes();
     reasons();
     compacts();
+    compacts_by_steps();
     in_pieces();
+    to_a_multiple();
     from_the_end();
     states();
     walks();

@@ -19,14 +19,14 @@ static void grows_and_drops(void) {
     /* 36 units remain of the first page's 40, which are filed as 40 */
     CHECK(c.refusal == OAH_GRANTED && !c.is_new && c.place.heap == 0 && oah_offset_of(heaps, c.place) == 60);
     CHECK(oah_allocate(heaps, 60).refusal == OAH_FULL && oah_allocate(heaps, 0).refusal == OAH_EMPTY);
-    oah_granted large = oah_allocate(heaps, 1000), odd = oah_allocate_aligned(heaps, 90, 64);
+    oah_granted large = oah_allocate(heaps, 1000), odd = oah_allocate_aligned(heaps, 97, 64);
     CHECK(large.is_new && large.place.heap == 2 && oah_size_of(heaps, large.place) == 1000);
-    /* 90 + 63 units are more than a page has */
+    /* 97 units are more than a fresh page grants */
     CHECK(odd.is_new && odd.place.heap == 3 && oah_offset_of(heaps, odd.place) == 0);
     CHECK(oah_allocate(heaps, 1000).refusal == OAH_FULL);
     CHECK(oah_allocate_aligned(heaps, 8, 3).refusal == OAH_BAD_CALL && oah_allocate_aligned(heaps, 8, 0).refusal == OAH_BAD_CALL);
     oah_all all = oah_totals(heaps);
-    CHECK(all.heaps == 4 && all.units == 1290 && all.live_units == 60 + 60 + 36 + 1000 + 90 && all.free_units == 44);
+    CHECK(all.heaps == 4 && all.units == 1297 && all.live_units == 60 + 60 + 36 + 1000 + 97 && all.free_units == 44);
     CHECK(all.largest_free_region == 40 && oah_storage_report(heaps, 1).largest_free_region == 40);
     CHECK(oah_statistics(heaps, 0).live_ranges == 2 && oah_statistics(heaps, 9).live_ranges == 0);
     /* nothing is empty yet */
@@ -58,6 +58,18 @@ static void grows_and_drops(void) {
     oah_drop(heaps);
 }
 
+/* The first range of a heap begins at 0, a multiple of every alignment: a page at an alignment fits a page. */
+static void aligned_pages(void) {
+    oah_limits limits = {1024, 8, 2, 1};
+    oah_heaps *heaps = oah_new(limits, 9);
+    oah_granted a = oah_allocate_aligned(heaps, 1024, 256), b = oah_allocate_aligned(heaps, 1024, 1u << 31);
+    CHECK(a.is_new && a.place.heap == 0 && oah_offset_of(heaps, a.place) == 0);
+    CHECK(b.is_new && b.place.heap == 1 && oah_offset_of(heaps, b.place) == 0);
+    CHECK(oah_allocate_aligned(heaps, 1024, 256).refusal == OAH_FULL && !oah_has(heaps, 2));
+    CHECK(oah_allocate_aligned(heaps, 1025, 256).place.heap == 2);
+    oah_drop(heaps);
+}
+
 static int same(oah_place a, oah_place b) {
     return a.ticket.serial == b.ticket.serial && a.ticket.name == b.ticket.name && a.ticket.realm == b.ticket.realm
         && a.heap == b.heap && a.realm == b.realm;
@@ -84,6 +96,21 @@ static void relocates(void) {
     CHECK(oah_emptiest(heaps) == 2 && !oah_relocate(heaps, d2).ticket.serial && !oah_relocate(heaps, e).ticket.serial);
     CHECK(!oah_relocate(NULL, e).ticket.serial && oah_emptiest(NULL) == OA_NO_SPACE);
     CHECK(!oah_last_live(NULL, 0).ticket.serial && !oah_live_before(NULL, e).ticket.serial);
+    oah_drop(heaps);
+}
+
+/* Two heaps of 96 units: behind 41 live ones a second range of 20 begins at 64, at a multiple of 32, and another at 41. */
+static void relocates_aligned(void) {
+    oah_limits limits = {96, 8, 2, 0};
+    oah_heaps *heaps = oah_new(limits, 9);
+    oah_place first = oah_allocate(heaps, 41).place, gone = oah_allocate(heaps, 52).place, c = oah_allocate(heaps, 20).place;
+    CHECK(first.heap == 0 && gone.heap == 0 && c.heap == 1 && oah_free(heaps, gone));
+    /* 55 units from 41 on are filed as 52: 20 + 31 units fit, 20 + 63 do not */
+    CHECK(!oah_relocate_aligned(heaps, c, 64).ticket.serial && !oah_relocate_aligned(heaps, c, 24).ticket.serial);
+    oah_place second = oah_relocate_aligned(heaps, c, 32);
+    CHECK(second.heap == 0 && oah_offset_of(heaps, second) == 64 && oah_size_of(heaps, second) == 20 && oah_is_live(heaps, c));
+    CHECK(!oah_relocate_aligned(heaps, c, 8).ticket.serial && oah_offset_of(heaps, oah_relocate_aligned(heaps, c, 1)) == 41);
+    CHECK(!oah_relocate_aligned(NULL, c, 1).ticket.serial && !oah_relocate_aligned(heaps, c, 0).ticket.serial);
     oah_drop(heaps);
 }
 
@@ -177,7 +204,9 @@ static void nulls(void) {
 
 int main(void) {
     grows_and_drops();
+    aligned_pages();
     relocates();
+    relocates_aligned();
     states();
     nulls();
     printf("C: %d checks of heaps pass\n", checks);

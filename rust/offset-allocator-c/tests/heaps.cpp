@@ -62,6 +62,11 @@ int main() {
     Heaps::Loaded lost = Heaps::load(bytes.data(), bytes.size() - 1, 6, 64);
     CHECK(!lost.heaps && lost.found == OA_BAD_PLACE && lost.at == 64 + 8 * 6);
     CHECK(Heaps::load(bytes.data(), bytes.size(), 5, 64).found == OA_BAD_LIMIT && !Heaps::load(nullptr, 0, 6, 64).heaps);
+    // a page at an alignment fits a page
+    Heaps pages({1024, 8, 1, 0});
+    Granted page = pages.allocateAligned(1024, 256);
+    CHECK(page.isNew && page.place.heap == 0 && pages.offsetOf(page.place) == 0);
+    CHECK(pages.allocateAligned(1024, 256).refusal == HeapRefusal::full && pages.allocateAligned(1025, 256).refusal == HeapRefusal::tooLarge);
     // heaps 0 and 1 have 70 and 30 live units of 96: the second is emptied into the first, as far as that has room
     Heaps two({96, 8, 2, 0}, 1);
     Place first = two.allocate(70).place, gone = two.allocate(26).place, old = two.allocate(20).place, last = two.allocate(10).place;
@@ -73,5 +78,11 @@ int main() {
     CHECK(two.relocate(old).ticket.serial == 0 && two.relocate(first).ticket.serial == 0 && two.relocate(last).ticket.serial == 0);
     CHECK(two.free(second) && two.relocate(old).heap == 0);
     CHECK(moved.emptiest() == Allocation::NO_SPACE && moved.relocate(old).ticket.serial == 0);
+    // 26 units from 70 on are filed as 26: 8 + 15 fit at a multiple of 16, which is 80
+    Heaps pair({96, 8, 2, 0}, 1);
+    Place front = pair.allocate(70).place, hole = pair.allocate(26).place, uniforms = pair.allocate(8).place;
+    CHECK(front.heap == 0 && pair.free(hole) && uniforms.heap == 1 && pair.relocateAligned(uniforms, 32).ticket.serial == 0);
+    Place aligned = pair.relocateAligned(uniforms, 16);
+    CHECK(aligned.heap == 0 && pair.offsetOf(aligned) == 80 && pair.relocateAligned(uniforms, 3).ticket.serial == 0);
     std::printf("C++: %d checks of heaps pass\n", checks);
 }

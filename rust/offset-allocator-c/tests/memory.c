@@ -99,6 +99,7 @@ int main(void) {
     oa_allocate(space, 20);
     oa_free(space, a);
     oa_extend(space, 50);
+    oa_compact_by(space, 8, NULL, NULL);
     oa_compact(space, NULL, NULL);
     oa_storage_report_full(space);
     oa_walk walk;
@@ -121,6 +122,7 @@ int main(void) {
     oag_ticket t = oag_allocate(tickets, 20);
     oag_allocate_aligned(tickets, 20, 8);
     oag_free(tickets, t);
+    oag_compact_by(tickets, 8, NULL, NULL);
     oag_compact(tickets, NULL, NULL);
     oag_storage_report_full(tickets);
     oag_walk_start(tickets, &walk);

@@ -135,6 +135,19 @@ template <class H, class A, class F> static void walkToTheEnd(const A &heap, F o
     CHECK(back == wanted);
 }
 
+// A range finds a multiple of 256 before it.
+static void relocateToAMultiple() {
+    Allocator a(1000, 8);
+    GuardedAllocator g(1000, 8, 3);
+    a.allocate(10), g.allocate(10);
+    Allocation hole = a.allocate(320), mesh = a.allocate(64);
+    Ticket space = g.allocate(320), range = g.allocate(64);
+    CHECK(a.relocateAligned(mesh, 256).offset == Allocation::NO_SPACE && !g.relocateAligned(range, 256));
+    CHECK(a.free(hole) && g.free(space));
+    CHECK(a.relocateAligned(mesh, 3).offset == Allocation::NO_SPACE && !g.relocateAligned(range, 3));
+    CHECK(a.relocateAligned(mesh, 256).offset == 256 && g.offsetOf(g.relocateAligned(range, 256)) == 256 && g.isLive(range));
+}
+
 // The end of a heap is emptied: each last range that finds a place before it is copied there, and the old one freed.
 static void emptyTheEnd() {
     Allocator heap(100, 16);
@@ -260,6 +273,13 @@ static void beside() {
     CHECK(made.possible && made.ranges == 1 && made.units == 24 && to == std::vector<uint32>{0} && copied.refusal(48) == Refusal::granted);
     CHECK(!copied.makeRoom(97, [](Move) {}).possible && copied.allocate(48).offset == 24);
     to.clear();
+    // steps of 16 units leave 8 of each hole
+    Allocator stepped = a.clone();
+    CHECK(stepped.compactBy(16, [&](Move m) { to.push_back(m.to); CHECK((m.from - m.to) % 16 == 0 && m.size == 24); }));
+    CHECK(to == (std::vector<uint32>{8, 40}) && stepped.allocationOffset(live[1]) == 8 && stepped.allocationOffset(live[3]) == 40);
+    CHECK(stepped.blockCount() == 5 && stepped.compactBy(16, [](Move) { CHECK(false); }) && !stepped.compactBy(0, [](Move) {}));
+    CHECK(!Allocator(0, 1).compactBy(1, [](Move) {}));
+    to.clear();
     a.compact([&](Move m) { to.push_back(m.to); CHECK(m.allocation.offset == m.to && m.size == 24 && m.to < m.from); });
     CHECK(to == (std::vector<uint32>{0, 24}) && a.refusal(48) == Refusal::granted);
     CHECK(a.allocationOffset(live[1]) == 0 && a.allocationOffset(live[0]) == Allocation::NO_SPACE);
@@ -353,6 +373,19 @@ static void tickets() {
     CHECK(g.free(u));
     std::vector<uint32> to;
     CHECK(g.makeRoom(1, [&](Move m) { to.push_back(m.to); }).ranges == 0 && to.empty());
+    // 32 units are three steps of 10, and 2
+    GuardedAllocator stepped = g.clone();
+    CHECK(stepped.compactBy(10, [&](Move m) { to.push_back(m.to); CHECK(m.from == 32 && m.size == 10); }));
+    CHECK(to == (std::vector<uint32>{2}) && stepped.isLive(v) && stepped.offsetOf(v) == 2 && !stepped.compactBy(0, [](Move) {}));
+    CHECK(stepped.compactBy(33, [](Move) { CHECK(false); }));
+    bool stopped = false;
+    try {
+        stepped.compactBy(1, [](Move) { throw std::runtime_error("stop"); });
+    } catch (const std::runtime_error &) {
+        stopped = true;
+    }
+    CHECK(stopped && stepped.offsetOf(v) == 0);
+    to.clear();
     g.compact([&](Move m) { to.push_back(m.to); CHECK(m.allocation.metadata == v.name); });
     CHECK(to == (std::vector<uint32>{0}) && g.isLive(v) && g.offsetOf(v) == 0);
     bool caught = false;
@@ -432,6 +465,7 @@ int main() {
     zeroFragmentation();
     minSize();
     sideTable();
+    relocateToAMultiple();
     emptyTheEnd();
     states();
     surface();

@@ -58,6 +58,43 @@ static void stale(void) {
 
 static bool same(oag_ticket a, oag_ticket b) { return a.serial == b.serial && a.name == b.name && a.realm == b.realm; }
 
+/* a range finds a multiple of 256 before it */
+static void to_a_multiple(void) {
+    oag_allocator *space = oag_new(1000, 16, 9);
+    oag_allocate(space, 10);
+    oag_ticket hole = oag_allocate(space, 320), mesh = oag_allocate(space, 64);
+    CHECK(!oag_relocate_aligned(space, mesh, 256).serial && oag_free(space, hole) && !oag_relocate_aligned(space, hole, 1).serial);
+    CHECK(!oag_relocate_aligned(space, mesh, 3).serial && !oag_relocate_aligned(NULL, mesh, 1).serial);
+    oag_ticket moved = oag_relocate_aligned(space, mesh, 256);
+    CHECK(moved.serial == 4 && oag_offset_of(space, moved) == 256 && oag_is_live(space, mesh) && oag_size_of(space, moved) == 64);
+    oag_drop(space);
+}
+
+static void count(void *user, oa_move range) {
+    CHECK(range.from == 300 && range.to == 44 && range.size == 100 && range.allocation.offset == 44);
+    ++*(int *) user;
+}
+
+/* 300 units are one step of 256, and 44 */
+static void by_steps(void) {
+    oag_allocator *space = oag_new(1000, 16, 9);
+    int moves = 0;
+    oag_ticket hole = oag_allocate(space, 300), mesh = oag_allocate(space, 100);
+    CHECK(oag_free(space, hole) && !oag_compact_by(space, 0, count, &moves) && oag_compact_by(space, 301, count, &moves) && !moves);
+    CHECK(oag_compact_by(space, 256, count, &moves) && moves == 1 && oag_is_live(space, mesh) && !oag_is_live(space, hole));
+    CHECK(oag_offset_of(space, mesh) == 44 && oag_size_of(space, mesh) == 100 && oag_allocate(space, 44).serial == 3);
+    CHECK(!oag_compact_by(NULL, 1, count, &moves) && moves == 1);
+    oag_drop(space);
+    /* no node is left for a free block at the end */
+    space = oag_new(20, 4, 9);
+    hole = oag_allocate(space, 12);
+    mesh = oag_allocate(space, 8);
+    oag_free(space, hole);
+    oag_allocate(space, 5);
+    CHECK(!oag_compact_by(space, 4, count, &moves) && oag_offset_of(space, mesh) == 12 && oag_compact_by(space, 8, NULL, NULL));
+    oag_drop(space);
+}
+
 /* the third range finds a place where the second one was, and the end can go */
 static void from_the_end(void) {
     oag_allocator *space = oag_new(64, 16, 9);
@@ -251,6 +288,8 @@ static void random_tickets(void) {
 
 int main(void) {
     stale();
+    to_a_multiple();
+    by_steps();
     from_the_end();
     states();
     tight();

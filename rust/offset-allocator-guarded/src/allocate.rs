@@ -146,8 +146,8 @@ impl<T: Tables> GuardedOf<T> {
     /// `None` is returned where that call returns `None`, where the ticket is not live, or where all serials
     /// are given; then all is as it was.
     ///
-    /// It makes at most 88 accesses to the tables of the allocator: 8 to see whether the name is live, which
-    /// the allocator does not count, and 80 that it counts.
+    /// It makes at most 75 accesses to the tables of the allocator: 8 to see whether the name is live, which
+    /// the allocator does not count, and 67 that it counts.
     ///
     /// ```
     /// # use offset_allocator_guarded::*;
@@ -167,6 +167,46 @@ impl<T: Tables> GuardedOf<T> {
             return None;
         }
         match self.space.relocate(handle) {
+            None => None,
+            Some(second) => Some(ticket_for(&self.space, &mut self.serials, self.realm, second)),
+        }
+    }
+
+    /// As `relocate`, and the second range begins at a multiple of `align`, a power of two: the one that
+    /// `Allocator::relocate_aligned` grants, with the next serial. The old ticket stays live until it is
+    /// freed.
+    ///
+    /// `None` is returned where that call returns `None`, where the ticket is not live, or where all serials
+    /// are given; then all is as it was.
+    ///
+    /// It makes at most 75 accesses to the tables of the allocator: 8 to see whether the name is live, which
+    /// the allocator does not count, and 67 that it counts.
+    ///
+    /// # Panics
+    ///
+    /// It panics unless `align` is a power of two.
+    ///
+    /// ```
+    /// # use offset_allocator_guarded::*;
+    /// # let alloc = Global;
+    /// let mut guarded = Guarded::<u32>::new(alloc, 1000, 1)?;
+    /// guarded.allocate(10);
+    /// let hole = guarded.allocate(320).unwrap();
+    /// let mesh = guarded.allocate(64).unwrap();
+    /// guarded.free(hole);
+    /// let moved = guarded.relocate_aligned(mesh, 256).unwrap();
+    /// assert_eq!((mesh.offset, moved.offset), (330, 256));
+    /// guarded.free(mesh);
+    /// # Ok::<(), AllocError>(())
+    /// ```
+    #[track_caller]
+    pub fn relocate_aligned(&mut self, ticket: Ticket, align: u32) -> Option<Ticket> {
+        assert!(align.is_power_of_two(), "align must be a power of two");
+        let handle = self.handle(ticket)?;
+        if self.serials.is_spent() {
+            return None;
+        }
+        match self.space.relocate_aligned(handle, align) {
             None => None,
             Some(second) => Some(ticket_for(&self.space, &mut self.serials, self.realm, second)),
         }

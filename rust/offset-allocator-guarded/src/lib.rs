@@ -32,7 +32,7 @@ pub use offset_allocator_memory::{AllocError, Global};
 
 mod allocate;
 mod beside;
-mod compact;
+mod moves;
 #[doc(hidden)]
 pub mod numbers;
 mod refusal;
@@ -244,8 +244,8 @@ impl<T: Tables> GuardedOf<T> {
     /// Where the range of a ticket begins, in units from the start of the space, or `None` where it is not
     /// live.
     ///
-    /// The `offset` of the ticket is where the range began when the ticket was made. `compact` does not
-    /// change it.
+    /// The `offset` of the ticket is where the range began when the ticket was made. A move does not change
+    /// it.
     ///
     /// ```
     /// # use offset_allocator_guarded::*;
@@ -264,10 +264,9 @@ impl<T: Tables> GuardedOf<T> {
         }
     }
 
-    /// The ticket of a live handle of the allocator, as its `blocks` and the moves of `compact` have them, or
-    /// `None` where the handle is not live. Its offset is where the range begins now: the ticket that the
-    /// grant returned has another one where `compact` moved the range, and is live as well, but not equal to
-    /// this one.
+    /// The ticket of a live handle of the allocator, as its `blocks` and moves have them, or `None` where
+    /// the handle is not live. Its offset is where the range begins now: the ticket that the grant returned
+    /// has another one where the range has moved, and is live as well, but not equal to this one.
     ///
     /// ```
     /// # use offset_allocator_guarded::*;

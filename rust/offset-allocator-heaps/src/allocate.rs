@@ -30,13 +30,13 @@ impl<T: Tables> HeapsOf<T> {
     }
 
     // Whether a fresh heap of the usual size has that many units for a request.
-    fn is_usual(&self, units: u64) -> bool {
-        let size = self.limits.size;
-        let class = uint_to_float_round_down(size);
-        if units > size as u64 {
+    fn is_usual(&self, size: u32) -> bool {
+        let all = self.limits.size;
+        let class = uint_to_float_round_down(all);
+        if size > all {
             return false;
         }
-        uint_to_float_round_up(units as u32) <= class
+        uint_to_float_round_up(size) <= class
     }
 
     // The first number of a heap of the usual size that has none.
@@ -86,7 +86,7 @@ impl<T: Tables> HeapsOf<T> {
         if self.made == u32::MAX {
             return Err(Refusal::Full);
         }
-        match fresh::usual(self.alloc, self.limits, self.made + 1, size, align) {
+        match fresh::usual(self.alloc, self.limits, self.made + 1, size) {
             Err(_) => Err(Refusal::Memory),
             Ok((slot, ticket)) => Ok(self.add(number, slot, ticket)),
         }
@@ -104,8 +104,8 @@ impl<T: Tables> HeapsOf<T> {
     }
 
     // Makes a heap for a request that none has room for.
-    fn grant_new(&mut self, size: u32, align: u32, units: u64) -> Result<Granted, Refusal> {
-        if self.is_usual(units) {
+    fn grant_new(&mut self, size: u32, align: u32) -> Result<Granted, Refusal> {
+        if self.is_usual(size) {
             return match self.spare_usual() {
                 None => Err(Refusal::Full),
                 Some(number) => self.grant_usual(number, size, align),
@@ -128,7 +128,7 @@ impl<T: Tables> HeapsOf<T> {
         let units = size as u64 + align as u64 - 1;
         match self.first_fit(units, align) {
             Some(number) => Ok(self.grant_at(number, size, align)),
-            None => self.grant_new(size, align, units),
+            None => self.grant_new(size, align),
         }
     }
 
@@ -154,11 +154,12 @@ impl<T: Tables> HeapsOf<T> {
 
     /// Grants `size` units of one heap that begin at a multiple of `align`, a power of two, in that heap.
     ///
-    /// The heap is the first one, by number, that has room: what `GuardedOf::allocate_aligned` grants there,
-    /// as it grants it. Where none has, another heap is made. If a fresh heap of the usual size has room, it
-    /// is such a heap, with the first number below `most` that no heap has; else a larger heap of exactly
-    /// `size` units, all of which are granted, with the first number from `most` on that no heap has. Only
-    /// then memory is requested.
+    /// The heap is the first one, by number, that has room, which it has for `size + align - 1` units: what
+    /// `GuardedOf::allocate_aligned` grants there, as it grants it. Where none has, another heap is made,
+    /// whose first range begins at 0, a multiple of every alignment: so it needs room for `size` units alone.
+    /// If a fresh heap of the usual size has that, it is such a heap, with the first number below `most` that
+    /// no heap has; else a larger heap of exactly `size` units, all of which are granted, with the first
+    /// number from `most` on that no heap has. Only then memory is requested.
     ///
     /// Where the request is refused, all is as it was, and the `Refusal` says why.
     ///
@@ -174,6 +175,8 @@ impl<T: Tables> HeapsOf<T> {
     /// heaps.allocate(10).unwrap();
     /// let uniforms = heaps.allocate_aligned(300, 256).unwrap().place;
     /// assert_eq!(heaps.offset_of(uniforms), Some(256));
+    /// let page = heaps.allocate_aligned(960, 256).unwrap().place;
+    /// assert_eq!((page.heap, heaps.offset_of(page)), (1, Some(0)));
     /// # Ok::<(), AllocError>(())
     /// ```
     #[track_caller]

@@ -17,10 +17,9 @@ pub(crate) fn usual<T: Tables>(
     limits: Limits,
     realm: u32,
     size: u32,
-    align: u32,
 ) -> Result<(Option<GuardedOf<T>>, Ticket), AllocError> {
     let mut slot = Some(GuardedOf::with_max_allocs(alloc, limits.size, limits.max_allocs, realm)?);
-    let ticket = slots::grant_in(&mut slot, size, align);
+    let ticket = slots::grant_in(&mut slot, size, 1);
     Ok((slot, ticket))
 }
 

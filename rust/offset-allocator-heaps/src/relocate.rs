@@ -17,11 +17,11 @@ pub fn emptiest_counted<T: Tables>(heaps: &HeapsOf<T>, count: &mut Accesses) -> 
 
 impl<T: Tables> HeapsOf<T> {
     // The first heap that takes units of another one, in which so many are live.
-    fn taker(&mut self, own: u32, units: u32, live: u32) -> Option<u32> {
-        let from = self.first_fit(units as u64, 1)?;
+    fn taker(&mut self, own: u32, units: u64, align: u32, live: u32) -> Option<u32> {
+        let from = self.first_fit(units, align)?;
         let numbers = self.limits.most + self.limits.most_larger;
         self.slots
-            .taker(from, numbers, own, units, live, &mut self.accesses)
+            .taker(from, numbers, own, units, align, live, &mut self.accesses)
     }
 
     /// Grants a second range of as many units as that of a live place, in another heap, and returns its
@@ -30,9 +30,12 @@ impl<T: Tables> HeapsOf<T> {
     /// `last_live` and `live_before`, it empties that heap, which `drop_empty` then drops.
     ///
     /// The heap is the first one, by number, that has room, other than the place's own, and in which at least
-    /// as many units are live: so calls of `relocate` alone never bring a range back, and none goes to an
-    /// empty heap. None is made, and no memory is taken. The range is what `GuardedOf::allocate` grants
-    /// there: one that was granted at an alignment is given none.
+    /// as many units are live: so none goes to an empty heap, and calls of `relocate`, each followed by the
+    /// release of its old range before the next one, come to an end, since the sum of the squares of the
+    /// heaps' live units grows at each: see `laws::relocations_end`. With later releases a range may go to
+    /// and fro: make one pass, free what it left, then begin the next. No heap is made, and no memory is
+    /// taken. The range is what `GuardedOf::allocate` grants there: for one at an alignment see
+    /// `relocate_aligned`.
     ///
     /// `None` is returned where no heap takes the range, and where the place is not live; then nothing
     /// changes. It looks for the first heap that has room as `allocate` does, and from there on reads each
@@ -52,17 +55,45 @@ impl<T: Tables> HeapsOf<T> {
     /// # Ok::<(), AllocError>(())
     /// ```
     pub fn relocate(&mut self, place: Place) -> Option<Place> {
+        self.relocate_aligned(place, 1)
+    }
+
+    /// As `relocate`, and the second range begins at a multiple of `align`, a power of two, in its heap: the
+    /// first other one that has room for an aligned request as `allocate_aligned` has it, for
+    /// `size + align - 1` units, and in which at least as many units are live.
+    ///
+    /// # Panics
+    ///
+    /// It panics unless `align` is a power of two.
+    ///
+    /// ```
+    /// # use offset_allocator_heaps::*;
+    /// # let alloc = Global;
+    /// let limits = Limits { size: 1000, max_allocs: 100, most: 2, most_larger: 1 };
+    /// let mut heaps = Heaps::<u32>::new(alloc, limits, 1)?;
+    /// heaps.allocate(500).unwrap();
+    /// let old = heaps.allocate(400).unwrap().place;
+    /// let uniforms = heaps.allocate_aligned(200, 256).unwrap().place;
+    /// heaps.free(old);
+    /// let moved = heaps.relocate_aligned(uniforms, 256).unwrap();
+    /// assert_eq!((moved.heap, heaps.offset_of(moved)), (0, Some(512)));
+    /// # Ok::<(), AllocError>(())
+    /// ```
+    #[track_caller]
+    pub fn relocate_aligned(&mut self, place: Place, align: u32) -> Option<Place> {
+        assert!(align.is_power_of_two(), "align must be a power of two");
         if place.realm != self.realm {
             return None;
         }
-        let (units, live) = self
+        let (size, live) = self
             .slots
             .units_at(place.heap, place.ticket, &mut self.accesses);
-        if units == 0 {
+        if size == 0 {
             return None;
         }
-        let number = self.taker(place.heap, units, live)?;
-        Some(self.grant_at(number, units, 1).place)
+        let units = size as u64 + align as u64 - 1;
+        let number = self.taker(place.heap, units, align, live)?;
+        Some(self.grant_at(number, size, align).place)
     }
 
     /// The number of the heap with the fewest live units of those that have a live range, the last such by

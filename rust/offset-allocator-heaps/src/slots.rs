@@ -14,6 +14,12 @@ pub(crate) struct Slots<T: Tables> {
     heaps: Vec<Option<GuardedOf<T>>>,
 }
 
+// The largest request at a multiple of `align` that a heap grants, or 0.
+fn room_at<T: Tables>(heap: &GuardedOf<T>, align: u32) -> u32 {
+    let (one, two) = rooms(Some(heap));
+    if align == 1 { one } else { two }
+}
+
 /// Grants a request in a heap that has room for it.
 pub(crate) fn grant_in<T: Tables>(slot: &mut Option<GuardedOf<T>>, size: u32, align: u32) -> Ticket {
     match slot {
@@ -164,11 +170,19 @@ impl<T: Tables> Slots<T> {
     }
 
     // Whether the heap of a number takes units of another one, in which so many are live.
-    fn takes(&self, number: u32, own: u32, units: u32, live: u32, count: &mut Accesses) -> bool {
+    fn takes(
+        &self,
+        number: u32,
+        own: u32,
+        units: u64,
+        align: u32,
+        live: u32,
+        count: &mut Accesses,
+    ) -> bool {
         match self.at(number, count) {
             None => false,
             Some(heap) => {
-                let (room, _) = rooms(Some(heap));
+                let room = room_at(heap, align) as u64;
                 number != own && room >= units && heap.allocator().live_units() >= live
             }
         }
@@ -180,12 +194,13 @@ impl<T: Tables> Slots<T> {
         from: u32,
         numbers: u32,
         own: u32,
-        units: u32,
+        units: u64,
+        align: u32,
         live: u32,
         count: &mut Accesses,
     ) -> Option<u32> {
         for number in from..numbers {
-            if self.takes(number, own, units, live, count) {
+            if self.takes(number, own, units, align, live, count) {
                 return Some(number);
             }
         }

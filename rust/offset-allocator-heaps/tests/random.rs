@@ -100,7 +100,8 @@ impl<T: Tables> Run<T> {
             return Ok((number, false));
         }
         let most = self.limits.most as usize;
-        if units <= class_value(self.limits.size) as u64 {
+        // a fresh heap begins at 0, a multiple of every alignment
+        if size <= class_value(self.limits.size) {
             return self.model[..most].iter().position(|h| h.is_none()).map(|n| (n, true)).ok_or(Refusal::Full);
         }
         if self.limits.most_larger == 0 {
@@ -159,16 +160,16 @@ impl<T: Tables> Run<T> {
     }
 
     // The first other heap that has room, and at least as many live units.
-    fn relocate(&mut self, place: Place) -> Option<Place> {
+    fn relocate(&mut self, place: Place, align: u32) -> Option<Place> {
         let live = self.live.get(&key(place)).copied();
         let own = place.heap as usize;
-        let takes = |n: usize, size: u32| n != own && self.fits(n, size as u64, 1) && self.live_units(n) >= self.live_units(own);
+        let takes = |n: usize, size: u32| n != own && self.fits(n, size as u64 + align as u64 - 1, align) && self.live_units(n) >= self.live_units(own);
         let expected = live.and_then(|(_, size)| (0..self.model.len()).find(|&n| takes(n, size)));
-        let second = self.heaps.relocate(place);
+        let second = if align == 1 { self.heaps.relocate(place) } else { self.heaps.relocate_aligned(place, align) };
         assert_eq!(second.map(|p| p.heap as usize), expected);
         if let (Some(second), Some((_, size))) = (second, live) {
             assert_eq!((second.realm, second.ticket.realm <= self.made), (REALM, true));
-            self.grant(second, size, 1);
+            self.grant(second, size, align);
             self.counts[8] += 1;
         }
         self.ask(place);
@@ -198,7 +199,7 @@ impl<T: Tables> Run<T> {
         assert_eq!(self.heaps.emptiest(), emptiest.map(|n| n as u32));
         let Some(number) = emptiest else { return };
         let places = self.walk(number as u32);
-        let moved: Vec<bool> = places.iter().map(|&place| self.relocate(place).is_some()).collect();
+        let moved: Vec<bool> = places.iter().map(|&place| self.relocate(place, 1).is_some()).collect();
         places.iter().zip(&moved).filter(|(_, &moved)| moved).for_each(|(&place, _)| self.free_place(place));
         let empty = moved.iter().all(|&moved| moved);
         assert_eq!(self.heaps.drop_heap(number as u32), empty);
@@ -328,7 +329,8 @@ impl<T: Tables> Run<T> {
                 98 if self.numbers.below(4) == 0 => self.pass(),
                 98 | 99 => {
                     let place = self.place();
-                    self.relocate(place);
+                    let align = if self.numbers.below(2) == 0 { 1 << self.numbers.below(6) } else { 1 };
+                    self.relocate(place, align);
                     let number = self.numbers.below(self.model.len() as u64 + 2) as u32;
                     self.walk(number);
                     let before = self.place();
@@ -416,6 +418,43 @@ fn larger_heaps() {
     assert!(!heaps.is_live(large.place));
     assert!(!heaps.free(large.place));
     assert!(heaps.is_live(next.place));
+}
+
+// A range may come back to a heap, where others have gone; the sum of the squares of the heaps' live units grows by
+// 2 u (b - a) + 2 u u at each, where u units go from a heap of a live units to one of b.
+#[test]
+fn a_range_comes_back() {
+    let limits = Limits { size: 16, max_allocs: 8, most: 3, most_larger: 0 };
+    let mut heaps = Heaps::<u32>::new(Global, limits, 3).unwrap();
+    let [r, a, gone, b, also, c] = [1, 4, 11, 5, 11, 10].map(|size| heaps.allocate(size).unwrap().place);
+    assert_eq!([r, a, gone, b, also, c].map(|place| place.heap), [0, 0, 0, 1, 1, 2]);
+    assert!(heaps.free(gone) && heaps.free(also));
+    let squares = |heaps: &Heaps<u32>| (0..3).map(|n| heaps.heap(n).unwrap().allocator().live_units().pow(2)).sum::<u32>();
+    let mut go = |place: Place| {
+        let second = heaps.relocate(place).unwrap();
+        assert!(heaps.free(place));
+        (second, second.heap, squares(&heaps))
+    };
+    // 5, 5 and 10 live units, then 4, 6 and 10, then 4, 1 and 15, then 5, 0 and 15
+    let (r, heap, sum) = go(r);
+    assert_eq!((heap, sum), (1, 25 + 25 + 100 + 2));
+    let (_, heap, sum) = go(b);
+    assert_eq!((heap, sum), (2, 152 + 2 * 5 * (10 - 6) + 2 * 5 * 5));
+    let (_, heap, sum) = go(r);
+    assert_eq!((heap, sum), (0, 242 + 2 * (4 - 1) + 2));
+}
+
+// The first range of a heap begins at 0, a multiple of every alignment: a page at an alignment fits a page.
+#[test]
+fn aligned_pages() {
+    let limits = Limits { size: 1_024, max_allocs: 4, most: 2, most_larger: 0 };
+    let mut heaps = Heaps::<u32>::new(Global, limits, 3).unwrap();
+    let first = heaps.allocate_aligned(1_024, 256).unwrap();
+    assert_eq!((first.place.heap, first.is_new, first.place.ticket.offset), (0, true, 0));
+    let second = heaps.allocate_aligned(1_024, 1 << 31).unwrap();
+    assert_eq!((second.place.heap, second.is_new, second.place.ticket.offset), (1, true, 0));
+    assert_eq!(heaps.allocate_aligned(1_024, 256), Err(Refusal::Full));
+    assert_eq!(heaps.allocate_aligned(1_025, 256), Err(Refusal::TooLarge));
 }
 
 #[test]

@@ -2,9 +2,11 @@
 
 //! Live ranges that slide, what that costs and copies, and what empties the end of a space.
 
+pub(crate) mod by_steps;
 pub(crate) mod compact;
 pub(crate) mod gap;
 pub(crate) mod make_room;
+pub(crate) mod one_move;
 pub(crate) mod pieces;
 pub(crate) mod relocate;
 pub(crate) mod retract;

@@ -42,17 +42,17 @@ fn numbered(found: Option<Ticket>) -> Reply {
 }
 
 // The reply to `First`.
-pub(crate) fn first<T: Tables>(desk: &Desk<T>) -> Reply {
+pub(crate) fn first_live<T: Tables>(desk: &Desk<T>) -> Reply {
     numbered(desk.space.first_live())
 }
 
 // The reply to `Last`.
-pub(crate) fn last<T: Tables>(desk: &Desk<T>) -> Reply {
+pub(crate) fn last_live<T: Tables>(desk: &Desk<T>) -> Reply {
     numbered(desk.space.last_live())
 }
 
 // The reply to `Before`.
-pub(crate) fn before<T: Tables>(desk: &Desk<T>, ticket: Option<Ticket>) -> Reply {
+pub(crate) fn live_before<T: Tables>(desk: &Desk<T>, ticket: Option<Ticket>) -> Reply {
     let Some(ticket) = ticket else {
         return Reply::Answer(Answer::Gone);
     };
@@ -63,7 +63,7 @@ pub(crate) fn before<T: Tables>(desk: &Desk<T>, ticket: Option<Ticket>) -> Reply
 }
 
 // The reply to `After`.
-pub(crate) fn after<T: Tables>(desk: &Desk<T>, ticket: Option<Ticket>) -> Reply {
+pub(crate) fn live_after<T: Tables>(desk: &Desk<T>, ticket: Option<Ticket>) -> Reply {
     let Some(ticket) = ticket else {
         return Reply::Answer(Answer::Gone);
     };

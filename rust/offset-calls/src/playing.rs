@@ -81,10 +81,10 @@ pub(crate) fn reply<T: Tables>(
         Call::RoomCost(size) => Ok(Reply::RoomCost(player.space.room_cost(size))),
         Call::Relocate(number) => ending::relocate(player, number),
         Call::Retract(less) => Ok(ending::retract(player, less)),
-        Call::First => ending::first(player, numbers),
-        Call::Last => ending::last(player, numbers),
-        Call::Before(number) => ending::before(player, numbers, number),
-        Call::After(number) => ending::after(player, numbers, number),
+        Call::First => ending::first_live(player, numbers),
+        Call::Last => ending::last_live(player, numbers),
+        Call::Before(number) => ending::live_before(player, numbers, number),
+        Call::After(number) => ending::live_after(player, numbers, number),
     }
 }
 

@@ -1,13 +1,16 @@
 // Printed by rust/erase from crates/offset_script/src/answer_text.rt: change it there.
 
 //! The text of the answers to a script (the lines of each by `answers`), collected while the script is
-//! played: no list of answers is kept, unless full reports have many rows. It plays by `playing`, and
-//! touches only its text.
+//! played: no list of answers is kept, unless full reports have many rows. It plays by `playing`, sends by
+//! `sending`, and touches only its text and the sink.
 
 use crate::answers::{Answer, put_answer};
+use crate::devices::Sink;
 use crate::listening::Listener;
 use crate::playing::play_script_to;
+use crate::running::Rendering;
 use crate::scripts::{Command, Script};
+use crate::sending::send_in_turn;
 use offset_allocator::{AllocatorOf, ByNode, Tables};
 use crate::memory::Vec;
 use crate::memory::{AllocError, Global};
@@ -132,13 +135,25 @@ impl Listener for Pieces {
     }
 }
 
-/// Plays a script on an allocator of its index width, and returns the text of its answers in pieces: a line
-/// for each, and after the line of a full report one for each of its rows.
-///
-/// # Errors
-///
-/// It fails only where an allocation fails.
-pub(crate) fn text_of_answers(alloc: Global, script: &Script) -> Result<Vec<Vec<u8>>, AllocError> {
+// Plays a script on an allocator of its index width, and returns the text of its answers in pieces: a line
+// for each, and after the line of a full report one for each of its rows. It fails only where an allocation
+// fails.
+fn text_of_answers(alloc: Global, script: &Script) -> Result<Vec<Vec<u8>>, AllocError> {
     let text: Pieces = play_script_to::<ByNode<u16>, ByNode<u32>, _>(alloc, script)?;
     text.pieces(alloc)
+}
+
+// The text of the answers to a script.
+pub(crate) struct AnswerText;
+
+impl Rendering for AnswerText {
+    fn send<K: Sink>(
+        &self,
+        alloc: Global,
+        script: &Script,
+        output: &mut K,
+    ) -> Result<bool, AllocError> {
+        let pieces = text_of_answers(alloc, script)?;
+        Ok(send_in_turn(output, &pieces))
+    }
 }

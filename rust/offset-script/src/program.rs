@@ -2,8 +2,9 @@
 
 //! What a program does: a run, its status, and the line of its fault. It touches the three streams alone.
 
+use crate::answer_text::AnswerText;
 use crate::devices::{Sink, Source};
-use crate::running::{AnswerText, Rendering, run_of};
+use crate::running::{Rendering, run_of};
 use crate::sending::send_fault;
 use crate::memory::Global;
 

@@ -3,12 +3,11 @@
 //! Runs a script from a source to a sink. It touches these and its own spaces; nothing is sent before all is
 //! read and made.
 
-use crate::answer_text::text_of_answers;
+use crate::answer_text::AnswerText;
 use crate::devices::{Sink, Source};
 use crate::faults::RunFault;
 use crate::parsing::{MAX_TEXT, parse};
 use crate::scripts::Script;
-use crate::sending::send_in_turn;
 use crate::memory::Vec;
 use crate::memory::{AllocError, Global};
 
@@ -74,21 +73,6 @@ pub fn run_of<X: Rendering, S: Source, K: Sink>(
         Ok(())
     } else {
         Err(RunFault::Write)
-    }
-}
-
-// The text of the answers to a script.
-pub(crate) struct AnswerText;
-
-impl Rendering for AnswerText {
-    fn send<K: Sink>(
-        &self,
-        alloc: Global,
-        script: &Script,
-        output: &mut K,
-    ) -> Result<bool, AllocError> {
-        let pieces = text_of_answers(alloc, script)?;
-        Ok(send_in_turn(output, &pieces))
     }
 }
 

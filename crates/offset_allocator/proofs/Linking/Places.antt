@@ -2,7 +2,7 @@
 use Rattle.offset_allocator.proofs.Common.{◌≡◌, ℕ, ◌+◌, ◌<◌, ◌^◌, true, false, Option, None, Some, IfSome, List, [], ◌∷◌, ◌++◌, length, refl, sym, ◌∙◌, ap, arith, append_assoc, length-append, down}
 use Rattle.offset_allocator.proofs.Common.{ChainCells, Node, node, first_or, last_or, IsChain, IsSpace, HasPlace, blocks, coalesced_before, coalesced_after, Block, Place, free_block, place_of, units}
 use Rattle.offset_allocator.proofs.{Common.free_end, Common.free_start, Common.remove, Common.remove_all, Common.common_steps, Tallies.one-eq, Tallies.times-append, Tallies.units-append}
-use Rattle.offset_allocator.proofs.{Linking.Rows.last_or-append, Linking.Rows.node_at, Linking.Exchange.there-below, Views.ViewSteps.place_at}
+use Rattle.offset_allocator.proofs.{Linking.Rows.last_or-append, Linking.Rows.node_at, Linking.Exchange.there-below, Views.ViewPlaces.place_at}
 use Rattle.offset_allocator.proofs.Linking.Ends.{ended, last_none, end_free, end_used, end_kept, start_kept}
 
 pub placed : {c : ChainCells} {m last count x : ℕ} {p : Place} → IsChain c m last count (p.before ++ p.block ∷ p.after) → p.block.name ≡ x → HasPlace c m last count x p

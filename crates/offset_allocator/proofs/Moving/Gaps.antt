@@ -1,5 +1,5 @@
 -- What the writes leave of a chain without one of its free blocks.
-use Rattle.offset_allocator.proofs.Common.{◌≡◌, ◌≢◌, ℕ, ◌+◌, ◌<◌, ◌≤◌, ◌^◌, false, Option, None, Some, MatchOption, IfSome, List, [], ◌∷◌, ◌++◌, length, refl, sym, ap, ap₂, subst, ◌∙◌, arith}
+use Rattle.offset_allocator.proofs.Common.{◌≡◌, ◌≢◌, ℕ, ◌+◌, ◌-◌, ◌<◌, ◌≤◌, ◌^◌, false, Option, None, Some, MatchOption, IfSome, List, [], ◌∷◌, ◌++◌, length, refl, sym, ap, ap₂, subst, ◌∙◌, arith}
 use Rattle.offset_allocator.proofs.{Common.nat_tests, Common.length-append, Common.length-set, Linking.Exchange.node_same, Linking.Nodes.nodes-with_spare, Linking.Nodes.reserved-with_spare}
 use Rattle.offset_allocator.proofs.{Linking.Writes.spare-with_spare, Tallies.one-eq, Tallies.one-other, Tallies.one-same, Tallies.times-append, Tallies.units-append, Linking.Places.placed}
 use Rattle.offset_allocator.proofs.Common.{cases_eq, inl, inr, take, nat_eq, one, times, ChainCells, Node, node, put, with_spare, first_or, last_or, IsRow, HasPlace, Block, Place, units, count_named}
@@ -88,45 +88,48 @@ module _ {c : ChainCells} {m last count x : ℕ} (fs : List Block) (g b : Block)
   pub next_fits : (units fs + g.size) + b.size < 2 ^ 32
   next_fits = omega (arith, h.fits, units-append fs (g ∷ b ∷ bs))
 
-  -- it slides to the front of the units
-  pub passed_by : {w d : ChainCells} → w ≡ put c b.name (record (node c b.name) { offset = units fs; size = b.size; before = last_or None fs })
-      → IsRelinked (last_or None fs) (on_to b.name) w d → HasGap d m last count x (record { before = fs ++ b ∷ []; block = g; after = bs })
-  passed_by {w} {d} e linked =
+  -- its first n units slide to the front of the units, and the others go into the gap
+  pub passed_by : (n : ℕ) → n ≤ b.size → {w d : ChainCells} → w ≡ put c b.name (record (node c b.name) { offset = units fs; size = n; before = last_or None fs })
+      → IsRelinked (last_or None fs) (on_to b.name) w d
+      → HasGap d m last count x (record { before = fs ++ record b { size = n } ∷ []; block = record g { size = g.size + (b.size - n) }; after = bs })
+  passed_by n few {w} {d} e linked =
+      let b₁ : Block = record b { size = n } in
+      let g₁ : Block = record g { size = g.size + (b.size - n) } in
       let s = wrote e next_below in
       let once : (k : ℕ) → (count_named k fs + (one (nat_eq k g.name) + (one (nat_eq k b.name) + count_named k bs))) ≤ 1 = λ k. omega (arith, seen fs g (b ∷ bs) h k) in
       let other : (k : ℕ) → k ≢ b.name → last_or None fs ≢ Some k → node d k ≡ node c k = λ k u v. relinked_other (on_to b.name) w d (last_or None fs) k linked v ∙ s.other k u in
       let apart : (k : ℕ) → 1 ≤ one (nat_eq k g.name) + count_named k bs → node d k ≡ node c k =
       λ k l. other k (λ q. omega (arith, once k, one-eq k b.name (sym q))) (λ q. omega (arith, once k, times-end k fs q)) in
-      let here : node d b.name ≡ record { offset = 0 + units fs; size = b.size; used = b.used; before = last_or None fs; after = first_or None bs } =
+      let here : node d b.name ≡ record { offset = 0 + units fs; size = n; used = b.used; before = last_or None fs; after = first_or None bs } =
       relinked_other (on_to b.name) w d (last_or None fs) b.name linked (λ q. omega (arith, once b.name, one-same b.name, times-end b.name fs q))
-      ∙ s.here ∙ ap (λ (v : Node). record v { offset = units fs; size = b.size; before = last_or None fs }) h.back.1.0
-      ∙ ap (λ o. record { offset = o; size = b.size; used = b.used; before = last_or None fs; after = first_or None bs }) (sym zero_is) in
+      ∙ s.here ∙ ap (λ (v : Node). record v { offset = units fs; size = n; before = last_or None fs }) h.back.1.0
+      ∙ ap (λ o. record { offset = o; size = n; used = b.used; before = last_or None fs; after = first_or None bs }) (sym zero_is) in
       let front : IsRow d None 0 fs (Some b.name) = IsRow-aimed c d None 0 fs h.front.0 (Some b.name) (λ k. omega (arith, once k))
       (λ z q. relinked_at (on_to b.name) w d (last_or None fs) z linked q (rw s.cells (before_below fs g (b ∷ bs) h z q))
       ∙ ap (on_to b.name) (s.other z (λ r. omega (arith, once z, times-end z fs q, one-eq z b.name (sym r)))))
       (λ k l ne. other k (λ q. omega (arith, once k, l, one-eq k b.name (sym q))) ne) h.front.1 in
       let cells : length d.nodes ≡ length c.nodes = relinked_length (on_to b.name) w d (last_or None fs) linked ∙ s.cells in
       let spare : d.spare ≡ c.spare = relinked_spare (on_to b.name) w d (last_or None fs) linked ∙ s.spare in
-      let offset : (units fs + g.size) + b.size ≡ units (fs ++ b ∷ []) + g.size = omega (arith, units-append fs (b ∷ [])) in
+      let offset : (units fs + g.size) + b.size ≡ units (fs ++ b₁ ∷ []) + (g.size + (b.size - n)) = omega (arith, few, units-append fs (b₁ ∷ [])) in
       record {
         memory = relinked_memory (on_to b.name) w d (last_or None fs) linked ∙ s.memory ∙ h.memory;
         within = omega (arith, cells, h.within);
         stack = ap (λ (l : List ℕ). length l) spare ∙ h.stack ∙ sym cells;
-        front = (first_or None bs, IsRow-append d None 0 fs (b ∷ []) (first_or None bs) front (here, tt));
+        front = (first_or None bs, IsRow-append d None 0 fs (b₁ ∷ []) (first_or None bs) front (here, tt));
         back = (Some b.name, IsRow-kept c d _ _ bs None (λ k l. apart k (omega arith)) (rw offset at h.back.1.1));
         ends = last_any last b.name bs h.ends;
-        each = λ k. rw cells (omega (arith, h.each k, times-append k fs (g ∷ b ∷ bs), times-append k (fs ++ b ∷ []) (g ∷ bs), times-append k fs (b ∷ []), kept_names c d count spare k));
+        each = λ k. rw cells (omega (arith, h.each k, times-append k fs (g ∷ b ∷ bs), times-append k (fs ++ b₁ ∷ []) (g₁ ∷ bs), times-append k fs (b₁ ∷ []), kept_names c d count spare k));
         idle = λ k none.
             let no : (count_named k fs ≡ 0) × (one (nat_eq k g.name) ≡ 0) × (one (nat_eq k b.name) ≡ 0) × (count_named k bs ≡ 0) = (
-              omega (arith, times-append k (fs ++ b ∷ []) (g ∷ bs), times-append k fs (b ∷ [])),
-              omega (arith, times-append k (fs ++ b ∷ []) (g ∷ bs), times-append k fs (b ∷ [])),
-              omega (arith, times-append k (fs ++ b ∷ []) (g ∷ bs), times-append k fs (b ∷ [])),
-              omega (arith, times-append k (fs ++ b ∷ []) (g ∷ bs), times-append k fs (b ∷ [])),
+              omega (arith, times-append k (fs ++ b₁ ∷ []) (g₁ ∷ bs), times-append k fs (b₁ ∷ [])),
+              omega (arith, times-append k (fs ++ b₁ ∷ []) (g₁ ∷ bs), times-append k fs (b₁ ∷ [])),
+              omega (arith, times-append k (fs ++ b₁ ∷ []) (g₁ ∷ bs), times-append k fs (b₁ ∷ [])),
+              omega (arith, times-append k (fs ++ b₁ ∷ []) (g₁ ∷ bs), times-append k fs (b₁ ∷ [])),
             ) in
             ap (λ (v : Node). v.used) (other k (λ q. omega (arith, no.2, one-eq k b.name (sym q))) (λ q. omega (arith, no.0, times-end k fs q)))
             ∙ h.idle k (omega (arith, no.0, no.1, no.2, no.3, times-append k fs (g ∷ b ∷ bs)));
-        full = omega (arith, cells, h.full, length-append fs (g ∷ b ∷ bs), length-append (fs ++ b ∷ []) (g ∷ bs), length-append fs (b ∷ []));
-        fits = omega (arith, h.fits, units-append fs (g ∷ b ∷ bs), units-append (fs ++ b ∷ []) (g ∷ bs), units-append fs (b ∷ []));
+        full = omega (arith, cells, h.full, length-append fs (g ∷ b ∷ bs), length-append (fs ++ b₁ ∷ []) (g₁ ∷ bs), length-append fs (b₁ ∷ []));
+        fits = omega (arith, few, h.fits, units-append fs (g ∷ b ∷ bs), units-append (fs ++ b₁ ∷ []) (g₁ ∷ bs), units-append fs (b₁ ∷ []));
         name = h.name;
         free = h.free;
         gone = ap (λ (v : Node). v.used) (apart x (omega (arith, one-eq x g.name h.name))) ∙ h.gone;

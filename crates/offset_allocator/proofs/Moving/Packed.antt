@@ -3,7 +3,7 @@ use Rattle.offset_allocator.proofs.{Classes.down_law, Moving.Compacting.live_are
 use Rattle.offset_allocator.proofs.{Tallies.hit_cases, Views.ViewFits.fits_exactly, Views.ViewFits.largest_small}
 use Rattle.offset_allocator.proofs.Common.{◌≡◌, sym, append-nil, ◌↔◌, ℕ, ◌+◌, ◌≤◌, Bool, true, false, Option, Some, None, List, [], ◌∷◌, ◌++◌, sum, if◌then◌else◌, nat_eq, option_map, option_and_then}
 use Rattle.offset_allocator.proofs.Common.{refl, ap, ◌∙◌, arith, AllByRecursion, cases_eq, nat_tests, sum_by-cons, value, down, largest, Block, View, Place, one, place_of, count_named, free_sizes}
-use Rattle.offset_allocator.proofs.Common.{units, IsWellFormed, CanGrant, HasRoomFor, Range, Move, live, moves, move_of, gathered, AreSafe, KeepsSizes, Compacts, common_steps}
+use Rattle.offset_allocator.proofs.Common.{units, IsWellFormed, CanGrant, HasRoomFor, Range, Move, live, moves, move_of, gathered, AreBetween, AreSafe, KeepsSizes, Compacts, common_steps}
 
 -- the units that a name holds, if it is live
 abbrev units_at : Option Place → Option ℕ
@@ -104,6 +104,17 @@ safe from to (b ∷ bs) l =
     let other = safe (from + b.size) to bs (omega (arith, l)) in
     let rest = later (to + b.size) (from + b.size) (to + b.size) bs (omega (arith, l)) in
     elim b.used as (λ u. AreSafe (if u then move_of from to b ++ moves (from + b.size) (to + b.size) bs else moves (from + b.size) to bs)) [
+      | true ↦ grind (arith, common_steps, cases_eq, nat_tests)
+      | false ↦ other
+    ]
+
+-- they lie between the first offset of the packed blocks and the end of those that they are of
+pub between : (first end from to : ℕ) (bs : List Block) → first ≤ to → to ≤ from → from + units bs ≤ end → AreBetween first end (moves from to bs)
+between first end from to [] l d e = tt
+between first end from to (b ∷ bs) l d e =
+    let ih = between first end (from + b.size) (to + b.size) bs (omega (arith, l)) (omega (arith, d)) (omega (arith, e)) in
+    let other = between first end (from + b.size) to bs l (omega (arith, d)) (omega (arith, e)) in
+    elim b.used as (λ u. AreBetween first end (if u then move_of from to b ++ moves (from + b.size) (to + b.size) bs else moves (from + b.size) to bs)) [
       | true ↦ grind (arith, common_steps, cases_eq, nat_tests)
       | false ↦ other
     ]

@@ -1,7 +1,7 @@
 -- Where the search for the first free block begins.
 use Rattle.offset_allocator.proofs.Common.{◌≡◌, ◌≢◌, ℕ, suc, ◌+◌, ◌≤◌, Bool, true, false, List, [], ◌∷◌, ◌++◌, length, Option, Some, None, if◌then◌else◌, refl, sym, ap, ◌∙◌, arith, not-true}
 use Rattle.offset_allocator.proofs.Common.{append-nil, append_assoc, Block, Place, times, count_named, count_in_bin, bin_at, place_of, last_or, first_free, first_of, AreInBins, down}
-use Rattle.offset_allocator.proofs.{Views.ViewSteps.place_at, Views.ViewSteps.no_place, Tallies.listed_named, Tallies.one-same, Taken.listed_block, Linking.Rows.last_or-append}
+use Rattle.offset_allocator.proofs.{Views.ViewPlaces.place_at, Views.ViewPlaces.no_place, Tallies.listed_named, Tallies.one-same, Taken.listed_block, Linking.Rows.last_or-append}
 use Rattle.offset_allocator.proofs.{Moving.Sliding.first_used, Moving.Sliding.first_idle, Moving.Compacting.AreUsed}
 use Rattle.offset_allocator.specs.Moving.Compacting.{IsStart, until_free}
 

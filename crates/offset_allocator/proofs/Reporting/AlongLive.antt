@@ -2,7 +2,7 @@
 use Rattle.offset_allocator.proofs.Common.{◌≡◌, ℕ, zero, suc, ◌+◌, ◌≤◌, ◌⊎◌, true, false, List, [], ◌∷◌, ◌++◌, Option, None, Some, nat_eq, option_map, length, length-append, reverse, reverse-append}
 use Rattle.offset_allocator.proofs.Common.{refl, sym, ap, subst, ◌∙◌, inl, inr, arith, append_assoc, append-nil, eq-eqb, ne_eqb, AllByRecursion, Block, View, Place, Handle, IsWellFormed, units}
 use Rattle.offset_allocator.proofs.{Common.placed, Common.place_of, Common.is_used_at, Common.count_named, Common.tally, Common.one, Reporting.Nearby.back, Reporting.Nearby.used_first}
-use Rattle.offset_allocator.proofs.{Reporting.Nearby.free_first, Views.ViewSteps.place_here, Tallies.hit_cases, Tallies.times-append, Tallies.units-append, Tallies.one-same, Reading.live_is}
+use Rattle.offset_allocator.proofs.{Reporting.Nearby.free_first, Views.ViewPlaces.place_here, Tallies.hit_cases, Tallies.times-append, Tallies.units-append, Tallies.one-same, Reading.live_is}
 use Rattle.std.proofs.lemmas.Bool.{cases_Bool}
 use Rattle.offset_allocator.specs.Reporting.Beside.{AreOfLive, HasOffset, IsWalk, first_handle, first_live, handles_from, last_live, live_after, live_before, live_handles}
 

@@ -1,6 +1,6 @@
 -- The live ranges up to a block, and from one on.
 use Rattle.offset_allocator.proofs.Common.{◌≡◌, ℕ, ◌+◌, ◌<◌, length, Bool, true, false, not, ◌&&◌, List, [], ◌∷◌, ◌++◌, Option, None, Some, reverse, reverse-append, refl, sym, ap, subst, ◌∙◌, arith}
-use Rattle.offset_allocator.proofs.{Common.append_assoc, Common.false≢true, Sound.Fields, Sound.AreSound, Sound.shown, Reading.live_used, Reading.used_live, Views.ViewSteps.place_at}
+use Rattle.offset_allocator.proofs.{Common.append_assoc, Common.false≢true, Sound.Fields, Sound.AreSound, Sound.shown, Reading.live_used, Reading.used_live, Views.ViewPlaces.place_at}
 use Rattle.offset_allocator.proofs.{Linking.Ends.ended, Linking.Places.end_place, Linking.Places.located, Reporting.Listing.placed-push, Linking.Ends.last_none, Linking.Places.at_place}
 use Rattle.offset_allocator.proofs.{Linking.Places.previous_place, Linking.Places.next_place, Views.ViewApart.left_false, Tallies.units-append}
 use Rattle.offset_allocator.proofs.Common.{ChainCells, Node, node, HasPlace, Block, Place, Handle, units, AreCoalesced, Placed, placed, placed_at, first_or, View, IsLive, place_of, is_used_at, blocks}

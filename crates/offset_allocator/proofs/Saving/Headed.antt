@@ -1,7 +1,7 @@
 -- The numbers that a state begins with, read one by one.
 use Rattle.offset_allocator.proofs.{Saving.Firsts.each_read, Saving.StateWords.length-words}
 use Rattle.offset_allocator.proofs.Common.{◌≡◌, ℕ, ◌+◌, ◌-◌, ◌*◌, ◌/◌, ◌<◌, List, length, take, drop, ap, ap₂, arith, get_or, subst, sym, length-take-le, Block, AreCoalesced, used_of, units, ◌∙◌}
-use Rattle.offset_allocator.specs.{Saving.Building.AreEach, Saving.Building.IsHeader, Saving.ListFaults.AreFreeNames, Saving.ListFaults.IsWrong, Saving.ListFaults.word, Saving.State.block_words}
+use Rattle.offset_allocator.specs.{Saving.Building.AreEach, Saving.State.IsHeader, Saving.ListFaults.AreFreeNames, Saving.ListFaults.IsWrong, Saving.ListFaults.word, Saving.State.block_words}
 use Rattle.offset_allocator.specs.{Saving.State.freed}
 use Rattle.offset_allocator.specs.Saving.StateFaults.{HasChecksum, HasCounts, HasForm, HasLength, HasLimit, IsHeaded, IsOverused, IsWrongIn, blocks_in, free_in, unused_in}
 use Rattle.std.proofs.lemmas.List.{length-drop}

@@ -4,7 +4,7 @@ use Rattle.offset_allocator.proofs.{Saving.Saved.names_bins}
 use Rattle.offset_allocator.proofs.Common.{◌≡◌, ℕ, suc, ◌+◌, ◌-◌, ◌*◌, ◌<◌, ◌≤◌, List, [], ◌∷◌, ◌++◌, length, take, drop, get_or, refl, sym, ap, ap₂, ◌∙◌, arith, append_assoc, length-append}
 use Rattle.offset_allocator.proofs.Common.{length-take-le, take-append-drop, Block, View, IsWellFormed, AreCoalesced, units, count_named, times, used_of, max_size}
 use Rattle.offset_allocator.proofs.Saving.StateWords.{length-words, count-freed, units-freed, length-freed, freed_same}
-use Rattle.offset_allocator.specs.{Saving.Building.AreEach, Saving.Building.AreOrdered, Saving.Building.IsHeader, Relations.SameState}
+use Rattle.offset_allocator.specs.{Saving.Building.AreEach, Saving.Building.AreOrdered, Saving.State.IsHeader, Relations.SameState}
 use Rattle.offset_allocator.specs.Saving.State.{block_words, checksum_from, filed, freed, state_text, state_words}
 use Rattle.std.proofs.Math.Seq.{drop-append_seam, take-append_seam, get_or-append_seam, take-add, drop-cons}
 use Rattle.std.proofs.lemmas.List.{length-drop}

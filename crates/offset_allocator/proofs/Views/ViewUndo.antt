@@ -3,7 +3,7 @@ use Rattle.offset_allocator.specs.Relations.{SameState}
 use Rattle.offset_allocator.proofs.Common.{◌≡◌, ℕ, zero, suc, ◌<◌, ◌≤◌, Bool, true, false, not, ◌&&◌, List, [], ◌∷◌, ◌++◌, length, Some, slice_set, refl, sym, ap, ap₂, subst, ◌∙◌, arith, append_assoc}
 use Rattle.offset_allocator.proofs.Common.{set-get_or, AllByRecursion, down, Block, View, Place, Handle, used_block, free_block, units, times, count_named, starts_free, AreCoalesced, bin_at, push}
 use Rattle.offset_allocator.proofs.{Common.remove, Served.split_as, Served.well_served, Linking.Walks.without_first, Ranges.beside, Released.idle_parts, Released.end_is, Released.start_is}
-use Rattle.offset_allocator.proofs.{Classes.down_small, Views.ViewBins.names_same, Views.ViewBins.length_remove, Views.ViewBins.times_remove, Views.ViewSteps.place_here, Tallies.listed_named}
+use Rattle.offset_allocator.proofs.{Classes.down_small, Views.ViewBins.names_same, Views.ViewBins.length_remove, Views.ViewBins.times_remove, Views.ViewPlaces.place_here, Tallies.listed_named}
 use Rattle.offset_allocator.proofs.Tallies.{part_sums, new_absent, one-same}
 use Rattle.offset_allocator.proofs.Common.{push_all, remove_all, replace, free_start, without_start, free_end, without_end, free_part, IsWellFormed, place_of, SameSpace, Splits, Frees, Allocates}
 use Rattle.offset_allocator.proofs.Views.ViewApart.{ends_free, apart_parts, left_false, right_false, no_end, no_start}

@@ -1,7 +1,7 @@
 -- What `compact` leaves: the live ranges at the front of the space, and all free units in one block after them.
 use Rattle.std.specs.Prelude.{◌≡◌, ℕ, zero, suc, ◌+◌, ◌<◌, ◌≤◌, List, [], ◌∷◌, ◌++◌, Option, Some, None, option_map, sum, replicate, nat_eq, nat_lt, if◌then◌else◌, drop, IfSome}
 use Rattle.std.specs.List.{AllByRecursion, filter}
-use Rattle.offset_allocator.specs.declared.moves.compact.Move.{Move as Moved}
+use Rattle.offset_allocator.specs.declared.moves.one_move.Move.{Move as Moved}
 use Rattle.offset_allocator.specs.Chain.{last_or}
 use Rattle.offset_allocator.specs.View.{View, Block, count_named, free_sizes, free_block, push_all, times}
 use Rattle.offset_allocator.specs.Ranges.{Range, range_of}
@@ -33,6 +33,10 @@ moves from to (b ∷ bs) = if b.used then move_of from to b ++ moves (from + b.s
 abbrev pub AreSafe : List Move → Type 0
 AreSafe [] = Unit {0}
 AreSafe (m ∷ ms) = (m.to < m.from) × AllByRecursion (λ k. m.to + m.size ≤ k.from) ms × AreSafe ms
+
+-- all units that these read and write lie between two offsets
+abbrev pub AreBetween : ℕ → ℕ → List Move → Type 0
+AreBetween first end ms = AllByRecursion (λ m. (first ≤ m.to) × (m.to + m.size ≤ end) × (m.from + m.size ≤ end)) ms
 
 -- each live range keeps its size, and no other name becomes live
 abbrev pub KeepsSizes : View → View → Type 0
@@ -76,8 +80,8 @@ gathered x [] = []
 gathered x (n ∷ ns) = free_block x (n + sum ns) ∷ []
 
 -- a step of a closure is a call with this move
-abbrev pub IsCalledWith : {A N M F : Type 0} → (N → ℕ) → (F → Moved A N M → F → Type 0) → F → Move → F → Type 0
-IsCalledWith {A} {N} {M} number step f x g = (m : Moved A N M)
+abbrev pub IsCalledWith : {A N F : Type 0} → (N → ℕ) → (F → Moved A N → F → Type 0) → F → Move → F → Type 0
+IsCalledWith {A} {N} number step f x g = (m : Moved A N)
     × (x ≡ record { name = number m.name; from = m.from; to = m.to; size = m.size }) × step f m g
 
 -- the used blocks are packed at the front, and the free units are one block at the end, alone in its bin, under the name

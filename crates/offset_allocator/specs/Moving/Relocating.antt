@@ -1,9 +1,9 @@
--- What `relocate` grants.
+-- What `relocate` and `relocate_aligned` grant.
 use Rattle.std.specs.Prelude.{◌≡◌, ℕ, ◌<◌, ◌≤◌, List, [], ◌∷◌, ◌++◌, Option, Some, None, option_map, unwrap_or}
 use Rattle.offset_allocator.specs.Classes.{up, down}
 use Rattle.offset_allocator.specs.Ranges.{Range, range_of, size_of}
-use Rattle.offset_allocator.specs.Relations.{Allocates, SameState}
-use Rattle.offset_allocator.specs.Requests.{HasRoomFor}
+use Rattle.offset_allocator.specs.Relations.{Aligns, Allocates, SameState}
+use Rattle.offset_allocator.specs.Requests.{HasRoomFor, blocks_needed, units_needed}
 use Rattle.offset_allocator.specs.View.{View, Block, Handle, bin_at, units}
 
 -- where the range of a name begins: 0 where it is not live
@@ -29,3 +29,10 @@ pub record WouldBegin (n : ℕ) (v : View) (offset : ℕ) : Type 0 where
 abbrev pub Relocates : ℕ → View → View → Option Handle → Type 0
 Relocates x v w None = ((o : ℕ) → WouldBegin (size_of x v) v o → offset_of x v ≤ o) × SameState v w
 Relocates x v w (Some g) = Allocates (size_of x v) v w (Some g) × (g.offset < offset_of x v)
+
+-- a request for the units of x from a multiple of align on, where the block that it takes begins before the range of x;
+-- nothing changes where that would begin after it, or the request be refused
+abbrev pub RelocatesAligned : ℕ → ℕ → View → View → Option Handle → Type 0
+RelocatesAligned x align v w None =
+    ((o : ℕ) → HasRoomFor (blocks_needed align) v → WouldBegin (units_needed (size_of x v) align) v o → offset_of x v ≤ o) × SameState v w
+RelocatesAligned x align v w (Some g) = (a : Aligns (size_of x v) align v w (Some g)) × (units a.1.before < offset_of x v)

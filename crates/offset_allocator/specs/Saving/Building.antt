@@ -1,12 +1,11 @@
 -- Tables on the way to those of a state that is read.
-use Rattle.std.specs.Prelude.{◌≡◌, ℕ, ◌+◌, ◌*◌, ◌<◌, ◌≤◌, List, [], ◌∷◌, None, drop, length, take, replicate, nat_lt, if◌then◌else◌}
+use Rattle.std.specs.Prelude.{◌≡◌, ℕ, ◌+◌, ◌≤◌, List, [], ◌∷◌, None, length, take, replicate, nat_lt, if◌then◌else◌}
 use Rattle.offset_allocator.specs.Classes.{down}
 use Rattle.offset_allocator.specs.Cells.{Cells, AreEmpty, node}
 use Rattle.offset_allocator.specs.Chain.{IsChain, IsRow}
 use Rattle.offset_allocator.specs.Store.{AreBinned, bins_of}
 use Rattle.offset_allocator.specs.declared.store.Store.{Store}
-use Rattle.offset_allocator.specs.declared.states.restoring.Header.{Header}
-use Rattle.offset_allocator.specs.Saving.State.{block_words, filed, freed, size_named, state_form, state_version}
+use Rattle.offset_allocator.specs.Saving.State.{block_words, filed, freed, size_named}
 use Rattle.offset_allocator.specs.View.{Block, AreCoalesced, count_named, one, times, units}
 
 -- the tables have n nodes, memory for `limit` nodes, and no name in a bin
@@ -57,14 +56,3 @@ pub record IsBuilt {A B C : Type 0} (cells : A → Cells) (max size limit : ℕ)
   pub once : (x : ℕ) → times x free ≤ count_named x all
   pub ordered : AreOrdered all 0 free
   pub apart : AreCoalesced (freed free all)
-
--- the sizes and counts that the words of a state begin with: as many words as they say, and as many nodes as the limit
--- admits, which `max` and `most` admit
-pub record IsHeader (max most : ℕ) (ws : List ℕ) (h : Header) : Type 0 where
-  pub words : ws ≡ state_form ∷ state_version ∷ h.size ∷ h.max_allocs ∷ h.blocks ∷ h.free ∷ h.unused ∷ drop 7 ws
-  pub long : length ws ≡ 8 + 2 * h.blocks + h.free + h.unused
-  pub some : 1 ≤ h.blocks
-  pub within : h.blocks + h.unused ≤ h.max_allocs
-  pub room : h.blocks + 1 ≤ h.max_allocs
-  pub admitted : h.max_allocs + 1 < max
-  pub asked : h.max_allocs ≤ most

@@ -1,8 +1,9 @@
 -- The numbers of a state: what is written of a space, and what is read back.
-use Rattle.std.specs.Prelude.{◌≡◌, ℕ, ◌+◌, ◌*◌, ◌%◌, ◌<◌, ◌≤◌, Bool, false, not, ◌||◌, List, [], ◌∷◌, ◌++◌, length, map, nat_eq, if◌then◌else◌, replicate}
+use Rattle.std.specs.Prelude.{◌≡◌, ℕ, ◌+◌, ◌*◌, ◌%◌, ◌<◌, ◌≤◌, Bool, false, not, ◌||◌, List, [], ◌∷◌, ◌++◌, drop, length, map, nat_eq, if◌then◌else◌, replicate}
 use Rattle.std.specs.List.{concat}
 use Rattle.std.specs.Int.{w32, from_le_bytes}
 use Rattle.offset_allocator.specs.Classes.{down}
+use Rattle.offset_allocator.specs.declared.states.restoring.Header.{Header}
 use Rattle.offset_allocator.specs.View.{View, Block, IsWellFormed, AreNames, push}
 
 -- bytes as numbers of 32 bits, the lowest byte of each first
@@ -64,6 +65,17 @@ state_text v = state_words v ++ checksum_from 0 (state_words v) ∷ []
 pub record IsStateOf (v : View) (bytes : List ℕ) : Type 0 where
   pub whole : length bytes % 4 ≡ 0
   pub text : words_in bytes ≡ state_text v
+
+-- the sizes and counts that the words of a state begin with: as many words as they say, and as many nodes as the limit
+-- admits, which `max` and `most` admit
+pub record IsHeader (max most : ℕ) (ws : List ℕ) (h : Header) : Type 0 where
+  pub words : ws ≡ state_form ∷ state_version ∷ h.size ∷ h.max_allocs ∷ h.blocks ∷ h.free ∷ h.unused ∷ drop 7 ws
+  pub long : length ws ≡ 8 + 2 * h.blocks + h.free + h.unused
+  pub some : 1 ≤ h.blocks
+  pub within : h.blocks + h.unused ≤ h.max_allocs
+  pub room : h.blocks + 1 ≤ h.max_allocs
+  pub admitted : h.max_allocs + 1 < max
+  pub asked : h.max_allocs ≤ most
 
 -- a space that was read: of these numbers, with a node limit that was admitted, and no access counted
 abbrev pub IsOfWords : List ℕ → ℕ → View → Type 0

@@ -36,7 +36,7 @@ impl<NI: NodeIndex> Model for ByField<NI> {
     ghost invariant = { λ t. AreLevel NI.MAX t };
 }
 
-#[tactic(auto, using(crate::proofs::Fields::cells))]
+#[tactic(auto, using(crate::proofs::Arranging::Fields::cells))]
 impl<NI: NodeIndex> Tables for ByField<NI> {
     type Index = NI;
 

@@ -63,7 +63,7 @@ pub(crate) fn blank<NI: NodeIndex>() -> Node<NI>
     }
 }
 
-#[tactic(auto, using(crate::proofs::Entries::cells))]
+#[tactic(auto, using(crate::proofs::Arranging::Entries::cells))]
 impl<NI: NodeIndex> Tables for ByNode<NI> {
     type Index = NI;
 

@@ -15,45 +15,13 @@ ghost use Rattle.offset_allocator.specs.Moving.Compacting.{newest, until, until_
 ghost use Rattle.offset_allocator.specs.Store.{IsPlaceIn, SameBins, unused_of};
 
 use crate::accesses::Accesses;
-use crate::handle::Allocation;
-use crate::index::{NodeIndex, NodeIndexNonMax, linked};
-use crate::moves::gap;
+use crate::index::{NodeIndex, linked};
 use crate::moves::gap::Gap;
+use crate::moves::{gap, one_move};
 use crate::small_float::uint_to_float_round_down;
 use crate::store::Store;
 use crate::tables::Tables;
-use crate::{AllocatorOf, bins, chain};
-use std::marker::PhantomData;
-
-/// A range that `compact` moves: `size` units from the offset `from` to the offset `to`, which is smaller.
-#[derive(Clone, Copy, Debug, PartialEq)]
-pub struct Move<NI: NodeIndex = u32, N: NodeIndexNonMax = <NI as NodeIndex>::NonMax> {
-    name: N,
-    /// The offset that the range had.
-    pub from: u32,
-    /// The offset that it has after the move.
-    pub to: u32,
-    /// Its units.
-    pub size: u32,
-    index: PhantomData<NI>,
-}
-
-impl<NI: NodeIndex, N: NodeIndexNonMax> Move<NI, N> {
-    /// The handle of the range as it is after the move. Every older handle of the range is live too; only its
-    /// `offset` is that of before.
-    ///
-    /// ```
-    /// let hole = space.allocate(300).unwrap();
-    /// let mesh = space.allocate(100).unwrap();
-    /// space.free(hole);
-    /// space.compact(&mut |it| assert_eq!(it.allocation().name(), mesh.name()));
-    /// ```
-    pub fn allocation(&self) -> Allocation<NI, N>
-        ensures { result ≡ record { name = N.number self.now.name; offset = self.now.to } }
-    {
-        Allocation::make(self.to, self.name)
-    }
-}
+use crate::{AllocatorOf, Move, bins, chain};
 
 // The most bins that are looked into for a free block near the start of the space.
 const MOST_BINS: u32 = 32;
@@ -128,6 +96,8 @@ pub(crate) fn report<NI: NodeIndex, F: FnMut(Move<NI>)>(
     size: u32,
 )
     requires named { name < NI.MAX }
+    requires down { to ≤ from }
+    requires within { from + size ≤ 4294967295 }
     requires callable { F.IsAlwaysCallable moved.old }
     ensures called { (used : Bool) → FoldsTo (IsCalledWith NI.NonMax.number
         (λ f range g. F.step f range tt g)) moved.old (move_of from to (record {
@@ -140,13 +110,7 @@ pub(crate) fn report<NI: NodeIndex, F: FnMut(Move<NI>)>(
     if from == to {
         return;
     }
-    moved(Move {
-        name: NI::from_u32(name).to_name(),
-        from,
-        to,
-        size,
-        index: PhantomData,
-    });
+    moved(one_move::Move::make(NI::from_u32(name).to_name(), from, to, size));
 }
 
 // Slides the used blocks after a free block to the front, and coalesces it with the free ones, until it is
@@ -206,9 +170,11 @@ impl<T: Tables> AllocatorOf<T> {
     /// that a later one reads.
     ///
     /// Every handle stays live, with its name and its size; only the public `offset` of a moved one is that
-    /// of before, and `allocation_offset` returns the new one. The free block at the end has the name of the
-    /// first one that there was. `moved` has to be callable with any move: its contract may require nothing of it. It makes at
-    /// most 10 accesses to the tables for each block, and 384, and takes no memory.
+    /// of before, and `allocation_offset` returns the new one. A moved range keeps no alignment: `compact_by`
+    /// keeps those that divide its step. The free block at the end has the name of the first one that there
+    /// was. `moved` has to be callable with any move: its contract may require nothing of it but what every
+    /// move is, to a smaller offset and within the offsets that there are. It makes at most 10 accesses to the
+    /// tables for each block, and 384, and takes no memory.
     ///
     /// ```
     /// let hole = space.allocate(300).unwrap();

@@ -1,7 +1,7 @@
-//! A free block that is out of the chain while the used blocks after it slide to the front of its units, and
-//! the free ones go into it: so each node is written once. It touches the chain, and leaves the bins as they
-//! are.
-ghost use Rattle.std.specs.Prelude.{ℕ, ◌≡◌, ◌+◌, List, ◌∷◌, ◌++◌, [], length, false};
+//! A free block that is out of the chain while the blocks after it slide to the front of its units, whole or
+//! in part, and the units of the others go into it: so each node is written once. It touches the chain, and
+//! leaves the bins as they are.
+ghost use Rattle.std.specs.Prelude.{ℕ, ◌≡◌, ◌+◌, ◌-◌, ◌≤◌, List, ◌∷◌, ◌++◌, [], length, false};
 ghost use Rattle.offset_allocator.specs.Accesses.{Costs};
 ghost use Rattle.offset_allocator.specs.Cells.{link_of, node};
 ghost use Rattle.offset_allocator.specs.Chain.{HasPlace, first_or};
@@ -50,8 +50,47 @@ pub(crate) fn open<T: Tables>(
     }
 }
 
-/// Slides the block `next` of `more` units, which is directly after the gap, to its front.
+/// Slides the first `keep` of the `more` units of the block `next`, which is directly after the gap, to its
+/// front; the others go into the gap.
 #[tactic(auto, using(crate::proofs::Linking::Nodes::lengths))]
+#[inline(always)]
+pub(crate) fn pass_part<T: Tables>(
+    store: &mut Store<T>,
+    gap: &mut Gap<T::Index>,
+    next: u32,
+    more: u32,
+    keep: u32,
+)
+    requires place { (limit : ℕ) × (p : Place) × (b : Block) × (bs : List Block)
+        × IsGap T.Index.MAX T.Index.number gap.old (T.cells store.old.tables).chain limit store.old.last
+        store.old.spare_count p × (p.after ≡ b ∷ bs) × (b.name ≡ next) }
+    requires more { more ≡ (node (T.cells store.old.tables).chain next).size }
+    requires within { keep ≤ more }
+    ensures gap { (limit : ℕ) (p : Place) (b : Block) (bs : List Block)
+        → IsGap T.Index.MAX T.Index.number gap.old (T.cells store.old.tables).chain limit store.old.last
+        store.old.spare_count p → p.after ≡ b ∷ bs → b.name ≡ next
+        → IsGap T.Index.MAX T.Index.number gap.new (T.cells store.new.tables).chain limit store.new.last
+        store.new.spare_count (record {
+          before = p.before ++ record b { size = keep } ∷ [];
+          block = record p.block { size = p.block.size + (b.size - keep) };
+          after = bs;
+        }) }
+    ensures name { gap.new.name ≡ gap.old.name }
+    ensures unused { unused_of T.cells store.new ≡ unused_of T.cells store.old }
+    ensures bins { SameBins T.cells store.old store.new }
+    ensures accesses { Costs 3 4 store.old.accesses store.new.accesses }
+{
+    store.tables.shape();
+    store
+        .tables
+        .set_start(next, gap.offset, keep, gap.before, &mut store.accesses);
+    point_on(&mut store.tables, gap.before, next, &mut store.accesses);
+    gap.before = store.tables.link_to(next);
+    gap.offset += keep;
+    gap.size += more - keep;
+}
+
+/// Slides the block `next` of `more` units, which is directly after the gap, to its front.
 pub(crate) fn pass<T: Tables>(store: &mut Store<T>, gap: &mut Gap<T::Index>, next: u32, more: u32)
     requires place { (limit : ℕ) × (p : Place) × (b : Block) × (bs : List Block)
         × IsGap T.Index.MAX T.Index.number gap.old (T.cells store.old.tables).chain limit store.old.last
@@ -67,13 +106,7 @@ pub(crate) fn pass<T: Tables>(store: &mut Store<T>, gap: &mut Gap<T::Index>, nex
     ensures bins { SameBins T.cells store.old store.new }
     ensures accesses { Costs 3 4 store.old.accesses store.new.accesses }
 {
-    store.tables.shape();
-    store
-        .tables
-        .set_start(next, gap.offset, more, gap.before, &mut store.accesses);
-    point_on(&mut store.tables, gap.before, next, &mut store.accesses);
-    gap.before = store.tables.link_to(next);
-    gap.offset += more;
+    pass_part(store, gap, next, more, more);
 }
 
 /// Coalesces the free block `next` of `more` units, which is directly after the gap and in no bin, with it.

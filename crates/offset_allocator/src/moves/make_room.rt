@@ -14,14 +14,14 @@ ghost use Rattle.offset_allocator.specs.View.{AreInBins};
 ghost use Rattle.offset_allocator.specs.Store.{AreBinned, IsPlaceIn, bins_of, unused_of};
 
 use crate::index::linked;
-use crate::moves::compact::{Move, report};
+use crate::moves::compact::report;
 use crate::moves::gap;
 use crate::moves::gap::Gap;
 use crate::moves::room::{RoomCost, cheapest};
 use crate::small_float::{float_to_uint, uint_to_float_round_down, uint_to_float_round_up};
 use crate::store::Store;
 use crate::tables::Tables;
-use crate::{AllocatorOf, bins, chain};
+use crate::{AllocatorOf, Move, bins, chain};
 
 // Slides the used blocks after a free block to the front, and coalesces it with the free ones, which leave
 // their bins, until the free block `end` is coalesced.
@@ -90,12 +90,14 @@ impl<T: Tables> AllocatorOf<T> {
     /// moves, in space order, as by `compact`: the units from `from` on are to be copied to `to`.
     ///
     /// Every handle stays live, with its name and its size; only the public `offset` of a moved one is that
-    /// of before. Nothing changes, and `moved` is not called, where no range has to move: where `None` is
-    /// returned, since all free units together are not enough, and where the cost has no ranges, since one
-    /// free block is large enough. Else the request is granted afterwards, also at the node limit. For an
-    /// aligned request ask with `size + align - 1`. Of several runs that cost as much it is the last in
-    /// space, and its free block keeps the name of its first one. It makes at most 6 accesses to the tables for each
-    /// block, 40 for each range that moves, and 20, and takes no memory.
+    /// of before, and `allocation_offset` returns the new one. A moved range keeps no alignment. Nothing
+    /// changes, and `moved` is not called, where no range has to move: where `None` is returned, since all
+    /// free units together are not enough, and where the cost has no ranges, since one free block is large
+    /// enough. Else the request is granted afterwards, also at the node limit. For an aligned request ask
+    /// with `size + align - 1`: it is granted where the limit admits two blocks more. Of several runs that
+    /// cost as much it is the last in space, and its free block keeps the name of its first one. It makes at
+    /// most 6 accesses to the tables for each block, 40 for each range that moves, and 20, and takes no
+    /// memory.
     ///
     /// ```
     /// let hole = space.allocate(300).unwrap();

@@ -4,7 +4,7 @@ ghost use Rattle.std.specs.Iterator.{YieldsFirst, item_count};
 ghost use Rattle.offset_allocator.specs.Moving.Pieces.{pieces};
 
 use crate::index::{NodeIndex, NodeIndexNonMax};
-use crate::moves::compact::Move;
+use crate::moves::one_move::Move;
 use std::alloc::AllocError;
 use std::iter::FusedIterator;
 use std::marker::Model;
@@ -134,8 +134,8 @@ impl<NI: NodeIndex, N: NodeIndexNonMax> Move<NI, N> {
     /// itself, and none is written on units that a later one reads. Each has as many units as it can: `most`,
     /// or as many as lie between `to` and `from`, the last one fewer.
     ///
-    /// The move has to be one to a smaller offset, with all its units below 4294967295, as those that
-    /// `compact` yields are; and `most` at least 1. It takes no memory.
+    /// `most` has to be at least 1. A move whose fields were written since has to go to a smaller offset still,
+    /// with all its units below 4294967295. It takes no memory.
     ///
     /// ```
     /// let hole = space.allocate(300).unwrap();
@@ -145,8 +145,6 @@ impl<NI: NodeIndex, N: NodeIndexNonMax> Move<NI, N> {
     /// ```
     pub fn pieces(&self, most: u32) -> MovePieces
         requires some { 0 < most }
-        requires down { self.now.to < self.now.from }
-        requires within { self.now.from + self.now.size ≤ 4294967295 }
         ensures { result ≡ pieces self.now.size
             (min most (self.now.from - self.now.to)) self.now.from self.now.to
             self.now.size }

@@ -1,10 +1,12 @@
 //! A second range for what a live one holds, nearer to the start of the space, so that the end of a heap can
 //! be emptied. It reads the tables, and changes them by a grant alone.
-ghost use Rattle.std.specs.Prelude.{◌≡◌, ◌+◌, ◌<◌, ◌≤◌, ℕ, None, Some, IfSome};
+ghost use Rattle.std.specs.Prelude.{◌≡◌, ◌+◌, ◌%◌, ◌<◌, ◌≤◌, ℕ, None, Some, IfSome};
 ghost use Rattle.offset_allocator.specs.Accesses.{Costs};
 ghost use Rattle.offset_allocator.specs.Ranges.{Grants, IsLive, size_of};
 ghost use Rattle.offset_allocator.specs.Relations.{SameState};
-ghost use Rattle.offset_allocator.specs.Moving.Relocating.{Relocates, WouldBegin, offset_of};
+ghost use Rattle.offset_allocator.specs.Requests.{IsAlignment, units_needed};
+ghost use Rattle.offset_allocator.specs.View.{IsWellFormed};
+ghost use Rattle.offset_allocator.specs.Moving.Relocating.{Relocates, RelocatesAligned, WouldBegin, offset_of};
 
 use crate::handle::Allocation;
 use crate::small_float::uint_to_float_round_up;
@@ -38,7 +40,8 @@ impl<T: Tables> AllocatorOf<T> {
     ///
     /// The block is the one that `allocate` takes for these units. `None` is returned where that would refuse
     /// them, or where the block begins after the range; then the space is as it was. The handle has to be
-    /// live, and only its name counts. It makes at most 80 accesses to the tables, and takes no memory.
+    /// live, and only its name counts. The second range begins at any multiple: for an alignment see
+    /// `relocate_aligned`. It makes at most 67 accesses to the tables, and takes no memory.
     ///
     /// ```
     /// let hole = space.allocate(320).unwrap();
@@ -58,18 +61,87 @@ impl<T: Tables> AllocatorOf<T> {
             ≤ offset_of allocation.name self.old) }
         // A refusal leaves the space as it was.
         ensures same { result ≡ None → SameState self.old self.new }
-        // At most 80 accesses to table cells, and at least 3.
-        ensures accesses { Costs 3 80 self.old.accesses self.new.accesses }
+        // At most 67 accesses to table cells, and at least 3.
+        ensures accesses { Costs 3 67 self.old.accesses self.new.accesses }
         // The step as a whole: it is the grant of `allocate` where that begins before the range, and only
         // there.
         ensures step { Relocates allocation.name self.old self.new result }
     {
+        self.relocate_to(allocation, 1)
+    }
+
+    /// As `relocate`, and the second range begins at a multiple of `align`, a power of two: for a range that
+    /// was granted so, since it is aligned again where it goes.
+    ///
+    /// The block is the one that `allocate_aligned` takes for these units and this alignment, of at least
+    /// `size + align - 1` units: where all ranges have one alignment, make that the unit, and call `relocate`.
+    /// `None` is returned where that would refuse them, or where the block begins after the range; then the space is as
+    /// it was. The handle has to be live, and only its name counts. With `align` 1 the call is `relocate`. It
+    /// makes at most 67 accesses to the tables, and takes no memory.
+    ///
+    /// ```
+    /// space.allocate(10);
+    /// let hole = space.allocate(320).unwrap();
+    /// let mesh = space.allocate(64).unwrap();
+    /// space.free(hole);
+    /// let moved = space.relocate_aligned(mesh, 256).unwrap();
+    /// assert_eq!((mesh.offset, moved.offset), (330, 256));
+    /// space.free(mesh);
+    /// ```
+    pub fn relocate_aligned(
+        &mut self,
+        allocation: Allocation<T::Index>,
+        align: u32,
+    ) -> Option<Allocation<T::Index>>
+        requires live { IsLive allocation.name self.old }
+        requires power { IsAlignment align }
+        // A grant as of `allocate_aligned`: under a name that was not live, with as many units, and all live
+        // ranges stay.
+        ensures grants { IfSome result (Grants (size_of allocation.name self.old) self.old self.new) }
+        // The range begins at a multiple of the alignment.
+        ensures aligned { IfSome result (λ h. h.offset % align ≡ 0) }
+        // It ends where the old range begins, or before.
+        ensures before { IfSome result (λ h. h.offset + size_of allocation.name self.old
+            ≤ offset_of allocation.name self.old) }
+        // A refusal leaves the space as it was.
+        ensures same { result ≡ None → SameState self.old self.new }
+        // At most 67 accesses to table cells, and at least 2; 3 where the units needed are at most 4294967295.
+        ensures accesses { Costs 2 67 self.old.accesses self.new.accesses }
+        ensures accesses_min { units_needed (size_of allocation.name self.old) align ≤ 4294967295
+            → self.old.accesses + 3 ≤ self.new.accesses }
+        // The step as a whole: it is the grant of `allocate_aligned` where the block of that begins before the
+        // range, and only there.
+        ensures step { RelocatesAligned allocation.name align self.old self.new result }
+    {
+        self.relocate_to(allocation, align)
+    }
+
+    // A second range from a multiple of `align` on, in a block before the range. With `align` 1, which is a
+    // constant where this is inlined into `relocate`, there is no padding.
+    #[inline(always)]
+    fn relocate_to(
+        &mut self,
+        allocation: Allocation<T::Index>,
+        align: u32,
+    ) -> Option<Allocation<T::Index>>
+        requires live { IsLive allocation.name self.old }
+        requires some { 1 ≤ align }
+        // the public clauses follow from the step and from this
+        ensures formed { IsWellFormed self.old }
+        ensures step { RelocatesAligned allocation.name align self.old self.new result }
+        ensures accesses { Costs 2 67 self.old.accesses self.new.accesses }
+        ensures accesses_min { units_needed (size_of allocation.name self.old) align ≤ 4294967295
+            → self.old.accesses + 3 ≤ self.new.accesses }
+    {
         let name = allocation.name();
         let size = self.store.tables.size(name, &mut self.store.accesses);
         let old = self.store.tables.offset(name, &mut self.store.accesses);
-        let begins = self.would_begin(size)?;
+        if size > u32::MAX - (align - 1) {
+            return None;
+        }
+        let begins = self.would_begin(size + (align - 1))?;
         if begins < old {
-            self.serve(size, 1)
+            self.serve(size, align)
         } else {
             None
         }

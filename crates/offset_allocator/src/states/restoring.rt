@@ -1,8 +1,7 @@
 //! A space from the bytes of its state, and what is wrong with bytes that are none. It makes tables.
 ghost use Rattle.std.specs.Prelude.{◌≡◌, ◌+◌, ◌*◌, ◌%◌, ◌<◌, ◌≤◌, ℕ, List, IfErr, IfOk, IsErr, length};
-ghost use Rattle.offset_allocator.specs.Saving.Building.{IsHeader};
 ghost use Rattle.offset_allocator.specs.Saving.ListFaults.{word};
-ghost use Rattle.offset_allocator.specs.Saving.State.{IsNoState, IsOfWords, IsRestored, state_text};
+ghost use Rattle.offset_allocator.specs.Saving.State.{IsHeader, IsNoState, IsOfWords, IsRestored, state_text};
 ghost use Rattle.offset_allocator.specs.Saving.StateFaults.{IsFault, IsFaultOf, IsHeaded, IsWrongIn};
 ghost use Rattle.offset_allocator.specs.View.{View, AreNames, IsWellFormed};
 

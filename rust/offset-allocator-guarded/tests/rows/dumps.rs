@@ -3,8 +3,7 @@
 use super::asserts::assert_same;
 use super::layouts::{check_each, Expectation, ALL};
 use offset_allocator::Global;
-use offset_allocator::{AllocatorOf, Tables};
-use offset_script::{json_of, vma_json_of};
+use offset_allocator::{json_of, vma_json_of, AllocatorOf, Tables};
 
 const VMA: &str =
     "{\"General\":{\"API\":\"Vulkan\"},\"DefaultPools\":{\"Type 0\":{\"PreferredBlockSize\":20,\

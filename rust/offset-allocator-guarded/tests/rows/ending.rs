@@ -4,13 +4,13 @@ use super::asserts::{assert_same, assert_that};
 use super::steps::Limit::{Few, Limited};
 use super::steps::Step::{
     Beside, Compacts, Counts, Extends, First, Frees, Grants, Is, Last, Lives, Refuses, Relocates,
-    Reports, Retracts, Stays,
+    RelocatesAligned, Reports, Retracts, Stays, StaysAligned,
 };
 use super::steps::{expect_all, Case};
 use offset_allocator::Global;
 use offset_allocator::{Allocator, MovePieces, Piece};
 
-const ENDED: [Case; 7] = [
+const ENDED: [Case; 9] = [
     Case {
         name: "takes units off a free last block",
         size: 100,
@@ -100,6 +100,45 @@ const ENDED: [Case; 7] = [
             Frees(2),
             Stays(1),
             Relocates(3, 0),
+        ],
+    },
+    // 64 units from a multiple of 256 need 319, which the block of 320 has; with 66 they need 321, which only the last
+    // block has.
+    Case {
+        name: "a second range begins at a multiple",
+        size: 1000,
+        limit: Limited(10),
+        steps: &[
+            Grants(10, 0),
+            Grants(320, 10),
+            Grants(64, 330),
+            Grants(66, 394),
+            StaysAligned(2, 256),
+            Frees(1),
+            StaysAligned(3, 256),
+            StaysAligned(2, 1 << 31),
+            RelocatesAligned(2, 256, 256),
+            Lives(2, 64),
+            Is(1000, 7, false),
+            // the remainder and the units after it are one block now
+            Frees(2),
+            RelocatesAligned(3, 1, 320),
+            StaysAligned(0, 1),
+        ],
+    },
+    // The block begins before the range, and has room for the padding alone: of no units, the second range begins where
+    // the first one does.
+    Case {
+        name: "a second range of no units",
+        size: 100,
+        limit: Limited(10),
+        steps: &[
+            Grants(1, 0),
+            Grants(3, 1),
+            Grants(0, 4),
+            Frees(1),
+            Stays(0),
+            RelocatesAligned(2, 4, 4),
         ],
     },
     Case {

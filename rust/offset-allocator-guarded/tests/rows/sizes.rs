@@ -3,9 +3,10 @@
 //! reached grant and report what they have to.
 
 use super::layouts::{check_each, Expectation, ALL};
+use offset_allocator::{json_of, vma_json_of};
 use offset_allocator::{AllocError, Allocation, AllocatorOf, Global, NodeIndex, StorageReport, Tables};
 use offset_allocator_guarded::{GuardedOf, Ticket};
-use offset_script::{full_answer, json_of, vma_json_of};
+use offset_script::full_answer;
 
 // Whether the index type admits a node limit.
 fn is_admitted<T: Tables>(limit: u32) -> bool {

@@ -50,6 +50,10 @@ pub enum Step {
     Relocates(usize, u32),
     /// The grant of this number gets no second range, and nothing changes.
     Stays(usize),
+    /// The grant of this number gets a second range at a multiple of the second number, at this offset.
+    RelocatesAligned(usize, u32, u32),
+    /// The grant of this number gets no second range at a multiple of this number, and nothing changes.
+    StaysAligned(usize, u32),
     /// The grant of this number is the first live range, or none is live.
     First(Option<usize>),
     /// The grant of this number is the last live range, or none is live.
@@ -67,6 +71,8 @@ pub enum Step {
     /// The grants of these numbers move, in this order and no others: each from an offset to another one, with this
     /// size.
     Compacts(&'static [(usize, u32, u32, u32)]),
+    /// The same by whole steps of this many units, or it is refused and nothing moves.
+    CompactsBy(u32, &'static [(usize, u32, u32, u32)], bool),
     /// Room is made for a request of this size: so many units move, in so many ranges, as with `Compacts`.
     Makes(u32, u32, u32, &'static [(usize, u32, u32, u32)]),
     /// No room can be made for a request of this size, and nothing moves.
@@ -343,6 +349,27 @@ fn expect_moves<T: Tables>(
     assert_same_at(at, &count, &wanted.len());
 }
 
+fn expect_steps<T: Tables>(
+    at: &Place,
+    allocator: &mut AllocatorOf<T>,
+    handles: &[Allocation<T::Index>],
+    step: u32,
+    done: bool,
+    wanted: &[(usize, u32, u32, u32)],
+) {
+    let mut count = 0usize;
+    let mut first_wrong = None;
+    let found = allocator.compact_by(step, &mut |range: Move<T::Index>| {
+        if first_wrong.is_none() && !is_wanted(&range, handles, wanted.get(count)) {
+            first_wrong = Some((count, range.from, range.to, range.size));
+        }
+        count = count.saturating_add(1);
+    });
+    assert_same_at(at, &found, &done);
+    assert_same_at(at, &first_wrong, &None);
+    assert_same_at(at, &count, &wanted.len());
+}
+
 fn expect_made<T: Tables>(
     at: &Place,
     allocator: &mut AllocatorOf<T>,
@@ -504,19 +531,23 @@ fn expect_beside<T: Tables>(
     assert_that_at(at, is_grant(counted, handles, after));
 }
 
-// A second range for a grant, which is kept, or none where no offset is wanted.
+// A second range for a grant, at a multiple where one is given, which is kept; or none where no offset is wanted.
 fn expect_second<T: Tables>(
     at: &Place,
     allocator: &mut AllocatorOf<T>,
     handles: &mut Vec<Allocation<T::Index>>,
     number: usize,
+    align: Option<u32>,
     wanted: Option<u32>,
 ) {
     let handle = grant_of(at, handles, number);
     assert_that_at(at, allocator.is_live(handle));
     let size = allocator.allocation_size(handle);
     let blocks = allocator.block_count();
-    let second = allocator.relocate(handle);
+    let second = match align {
+        None => allocator.relocate(handle),
+        Some(align) => allocator.relocate_aligned(handle, align),
+    };
     expect_live(at, allocator, handle, size);
     match wanted {
         Some(offset) => keep(at, allocator, handles, second, size, offset),
@@ -644,14 +675,23 @@ fn take<T: Tables>(
             assert_same_at(at, &allocator.retract(*less), done);
         }
         Step::Relocates(number, offset) => {
-            expect_second(at, allocator, handles, *number, Some(*offset));
+            expect_second(at, allocator, handles, *number, None, Some(*offset));
         }
-        Step::Stays(number) => expect_second(at, allocator, handles, *number, None),
+        Step::Stays(number) => expect_second(at, allocator, handles, *number, None, None),
+        Step::RelocatesAligned(number, align, offset) => {
+            expect_second(at, allocator, handles, *number, Some(*align), Some(*offset));
+        }
+        Step::StaysAligned(number, align) => {
+            expect_second(at, allocator, handles, *number, Some(*align), None);
+        }
         Step::Undoes(size, granted) => {
             assert_same_at(at, &undo(allocator, *size), granted);
         }
         Step::Resets => allocator.reset(),
         Step::Compacts(wanted) => expect_moves(at, allocator, &*handles, wanted),
+        Step::CompactsBy(step, wanted, done) => {
+            expect_steps(at, allocator, &*handles, *step, *done, wanted);
+        }
         Step::Makes(size, units, ranges, wanted) => {
             let (units, ranges) = (*units, *ranges);
             let cost = Some(RoomCost { units, ranges });

@@ -22,6 +22,7 @@ fn expect_dead<T: Tables>(space: &mut GuardedOf<T>, ticket: Ticket) {
     assert_same(&space.shrink(ticket, 0), &None);
     assert_same(&space.grow_in_place(ticket, 64), &None);
     assert_same(&space.relocate(ticket), &None);
+    assert_same(&space.relocate_aligned(ticket, 1), &None);
     assert_same(&space.live_before(ticket), &None);
     assert_same(&space.live_after(ticket), &None);
     assert_that(!space.free(ticket));
@@ -120,6 +121,76 @@ fn of_ranges_that_change<T: Tables>() {
     expect_ticket(third, 32, 3, 0);
 }
 
+// Counts the units that move by whole steps, all from one offset to another one, or finds that nothing does.
+fn compacted_by<T: Tables>(space: &mut GuardedOf<T>, step: u32, from: u32, to: u32) -> Option<u32> {
+    let mut moved = 0u32;
+    let mut wrong = false;
+    let done = space.compact_by(step, &mut |range: Move<T::Index>| {
+        wrong |= range.from != from || range.to != to;
+        moved = moved.wrapping_add(range.size);
+    });
+    assert_that(!wrong);
+    if done {
+        Some(moved)
+    } else {
+        assert_same(&moved, &0);
+        None
+    }
+}
+
+// 300 units are one step of 256, and 44.
+fn of_ranges_that_step<T: Tables>() {
+    let mut space = make::<T>(1000, 9);
+    let hole = grant(&mut space, 300);
+    let mesh = grant(&mut space, 100);
+    assert_same(&compacted_by(&mut space, 1, 0, 0), &Some(0));
+    assert_that(space.free(hole));
+    assert_same(&compacted_by(&mut space, 301, 0, 0), &Some(0));
+    assert_same(&compacted_by(&mut space, 256, 300, 44), &Some(100));
+    expect_ticket(mesh, 300, 2, 9);
+    assert_same(&space.offset_of(mesh), &Some(44));
+    assert_same(&space.size_of(mesh), &Some(100));
+    expect_dead(&mut space, hole);
+    let next = grant(&mut space, 44);
+    expect_ticket(next, 0, 3, 9);
+    expect_dead(&mut space, hole);
+    assert_that(space.free(next));
+    assert_same(&compacted_by(&mut space, 1, 44, 0), &Some(100));
+    assert_that(space.is_live(mesh));
+}
+
+// No node is left for a free block at the end.
+fn of_steps_that_are_refused<T: Tables>() {
+    let full = GuardedOf::<T>::with_max_allocs(Global, 20, 4, 9);
+    let mut full = full.expect("memory");
+    let first = grant(&mut full, 12);
+    let second = grant(&mut full, 8);
+    assert_that(full.free(first));
+    let third = grant(&mut full, 5);
+    assert_same(&compacted_by(&mut full, 4, 0, 0), &None);
+    assert_same(&full.offset_of(second), &Some(12));
+    assert_same(&full.offset_of(third), &Some(0));
+    assert_same(&full.allocator().block_count(), &3);
+    assert_that(full.free(third));
+    assert_same(&compacted_by(&mut full, 4, 12, 0), &Some(8));
+    expect_dead(&mut full, third);
+    expect_ticket(grant(&mut full, 12), 8, 4, 9);
+}
+
+// A range finds a multiple of 256 before it.
+fn of_ranges_at_multiples<T: Tables>() {
+    let mut space = make::<T>(1000, 9);
+    grant(&mut space, 10);
+    let hole = grant(&mut space, 320);
+    let mesh = grant(&mut space, 64);
+    assert_same(&space.relocate_aligned(mesh, 256), &None);
+    assert_that(space.free(hole));
+    let moved = space.relocate_aligned(mesh, 256).expect("a grant");
+    expect_ticket(moved, 256, 4, 9);
+    assert_that(space.is_live(mesh));
+    assert_same(&space.size_of(moved), &Some(64));
+}
+
 // The third range finds a place where the second one was, and the end can go.
 fn of_ranges_from_the_end<T: Tables>() {
     let mut space = make::<T>(64, 9);
@@ -212,6 +283,9 @@ impl Expectation for Guards {
         stale_or_altered::<T>();
         of_another_space::<T>();
         of_ranges_that_change::<T>();
+        of_ranges_that_step::<T>();
+        of_steps_that_are_refused::<T>();
+        of_ranges_at_multiples::<T>();
         of_ranges_from_the_end::<T>();
         of_a_walk::<T>();
         requests_that_are_refused::<T>();

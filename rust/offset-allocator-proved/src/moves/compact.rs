@@ -4,47 +4,13 @@
 //! changes the chain by `gap`, and makes the bins anew.
 
 use crate::accesses::Accesses;
-use crate::handle::Allocation;
-use crate::index::{NodeIndex, NodeIndexNonMax, linked};
-use crate::moves::gap;
+use crate::index::{NodeIndex, linked};
 use crate::moves::gap::Gap;
+use crate::moves::{gap, one_move};
 use crate::small_float::uint_to_float_round_down;
 use crate::store::Store;
 use crate::tables::Tables;
-use crate::{AllocatorOf, bins, chain};
-use core::marker::PhantomData;
-
-/// A range that `compact` moves: `size` units from the offset `from` to the offset `to`, which is smaller.
-#[derive(Clone, Copy, Debug, PartialEq)]
-pub struct Move<NI: NodeIndex = u32, N: NodeIndexNonMax = <NI as NodeIndex>::NonMax> {
-    name: N,
-    /// The offset that the range had.
-    pub from: u32,
-    /// The offset that it has after the move.
-    pub to: u32,
-    /// Its units.
-    pub size: u32,
-    index: PhantomData<NI>,
-}
-
-impl<NI: NodeIndex, N: NodeIndexNonMax> Move<NI, N> {
-    /// The handle of the range as it is after the move. Every older handle of the range is live too; only its
-    /// `offset` is that of before.
-    ///
-    /// ```
-    /// # use offset_allocator_proved::*;
-    /// # let alloc = Global;
-    /// let mut space = Allocator::<u32>::new(alloc, 1000)?;
-    /// let hole = space.allocate(300).unwrap();
-    /// let mesh = space.allocate(100).unwrap();
-    /// space.free(hole);
-    /// space.compact(&mut |it| assert_eq!(it.allocation().name(), mesh.name()));
-    /// # Ok::<(), AllocError>(())
-    /// ```
-    pub fn allocation(&self) -> Allocation<NI, N> {
-        Allocation::make(self.to, self.name)
-    }
-}
+use crate::{AllocatorOf, Move, bins, chain};
 
 // The most bins that are looked into for a free block near the start of the space.
 const MOST_BINS: u32 = 32;
@@ -100,13 +66,7 @@ pub(crate) fn report<NI: NodeIndex, F: FnMut(Move<NI>)>(
     if from == to {
         return;
     }
-    moved(Move {
-        name: NI::from_u32(name).to_name(),
-        from,
-        to,
-        size,
-        index: PhantomData,
-    });
+    moved(one_move::Move::make(NI::from_u32(name).to_name(), from, to, size));
 }
 
 // Slides the used blocks after a free block to the front, and coalesces it with the free ones, until it is
@@ -140,9 +100,11 @@ impl<T: Tables> AllocatorOf<T> {
     /// that a later one reads.
     ///
     /// Every handle stays live, with its name and its size; only the public `offset` of a moved one is that
-    /// of before, and `allocation_offset` returns the new one. The free block at the end has the name of the
-    /// first one that there was. `moved` has to be callable with any move: its contract may require nothing of it. It makes at
-    /// most 10 accesses to the tables for each block, and 384, and takes no memory.
+    /// of before, and `allocation_offset` returns the new one. A moved range keeps no alignment: `compact_by`
+    /// keeps those that divide its step. The free block at the end has the name of the first one that there
+    /// was. `moved` has to be callable with any move: its contract may require nothing of it but what every
+    /// move is, to a smaller offset and within the offsets that there are. It makes at most 10 accesses to the
+    /// tables for each block, and 384, and takes no memory.
     ///
     /// ```
     /// # use offset_allocator_proved::*;

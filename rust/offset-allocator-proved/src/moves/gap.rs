@@ -1,8 +1,8 @@
 // Printed by rust/erase from crates/offset_allocator/src/moves/gap.rt: change it there.
 
-//! A free block that is out of the chain while the used blocks after it slide to the front of its units, and
-//! the free ones go into it: so each node is written once. It touches the chain, and leaves the bins as they
-//! are.
+//! A free block that is out of the chain while the blocks after it slide to the front of its units, whole or
+//! in part, and the units of the others go into it: so each node is written once. It touches the chain, and
+//! leaves the bins as they are.
 
 use crate::accesses::Accesses;
 use crate::chain::{point_back, point_on};
@@ -35,14 +35,28 @@ pub(crate) fn open<T: Tables>(
     }
 }
 
-/// Slides the block `next` of `more` units, which is directly after the gap, to its front.
-pub(crate) fn pass<T: Tables>(store: &mut Store<T>, gap: &mut Gap<T::Index>, next: u32, more: u32) {
+/// Slides the first `keep` of the `more` units of the block `next`, which is directly after the gap, to its
+/// front; the others go into the gap.
+#[inline(always)]
+pub(crate) fn pass_part<T: Tables>(
+    store: &mut Store<T>,
+    gap: &mut Gap<T::Index>,
+    next: u32,
+    more: u32,
+    keep: u32,
+) {
     store
         .tables
-        .set_start(next, gap.offset, more, gap.before, &mut store.accesses);
+        .set_start(next, gap.offset, keep, gap.before, &mut store.accesses);
     point_on(&mut store.tables, gap.before, next, &mut store.accesses);
     gap.before = store.tables.link_to(next);
-    gap.offset += more;
+    gap.offset += keep;
+    gap.size += more - keep;
+}
+
+/// Slides the block `next` of `more` units, which is directly after the gap, to its front.
+pub(crate) fn pass<T: Tables>(store: &mut Store<T>, gap: &mut Gap<T::Index>, next: u32, more: u32) {
+    pass_part(store, gap, next, more, more);
 }
 
 /// Coalesces the free block `next` of `more` units, which is directly after the gap and in no bin, with it.

@@ -3,7 +3,7 @@
 //! The copies of a move, for devices whose copies may not overlap. It touches no table.
 
 use crate::index::{NodeIndex, NodeIndexNonMax};
-use crate::moves::compact::Move;
+use crate::moves::one_move::Move;
 use core::iter::FusedIterator;
 
 /// A piece of a move: `size` units from the offset `from` to the offset `to`. The two ranges have no unit in
@@ -118,13 +118,12 @@ impl<NI: NodeIndex, N: NodeIndexNonMax> Move<NI, N> {
     /// itself, and none is written on units that a later one reads. Each has as many units as it can: `most`,
     /// or as many as lie between `to` and `from`, the last one fewer.
     ///
-    /// The move has to be one to a smaller offset, with all its units below 4294967295, as those that
-    /// `compact` yields are; and `most` at least 1. It takes no memory.
+    /// `most` has to be at least 1. A move whose fields were written since has to go to a smaller offset still,
+    /// with all its units below 4294967295. It takes no memory.
     ///
     /// # Panics
     ///
-    /// It panics unless a piece has at least 1 unit, and a move goes to a smaller offset, and a move
-    /// ends at 4294967295 or before.
+    /// It panics unless a piece has at least 1 unit.
     ///
     /// ```
     /// # use offset_allocator_proved::*;
@@ -139,8 +138,6 @@ impl<NI: NodeIndex, N: NodeIndexNonMax> Move<NI, N> {
     #[track_caller]
     pub fn pieces(&self, most: u32) -> MovePieces {
         assert!(0 < most, "a piece must have at least 1 unit");
-        assert!(self.to < self.from, "a move must go to a smaller offset");
-        assert!(self.from.checked_add(self.size).is_some(), "a move must end at 4294967295 or before");
         MovePieces::of(self.from, self.to, self.size, most)
     }
 }

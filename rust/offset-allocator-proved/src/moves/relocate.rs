@@ -30,7 +30,8 @@ impl<T: Tables> AllocatorOf<T> {
     ///
     /// The block is the one that `allocate` takes for these units. `None` is returned where that would refuse
     /// them, or where the block begins after the range; then the space is as it was. The handle has to be
-    /// live, and only its name counts. It makes at most 80 accesses to the tables, and takes no memory.
+    /// live, and only its name counts. The second range begins at any multiple: for an alignment see
+    /// `relocate_aligned`. It makes at most 67 accesses to the tables, and takes no memory.
     ///
     /// # Panics
     ///
@@ -51,12 +52,63 @@ impl<T: Tables> AllocatorOf<T> {
     #[track_caller]
     pub fn relocate(&mut self, allocation: Allocation<T::Index>) -> Option<Allocation<T::Index>> {
         assert!(self.is_live(allocation), "the handle must be live: {:?}", { allocation });
+        self.relocate_to(allocation, 1)
+    }
+
+    /// As `relocate`, and the second range begins at a multiple of `align`, a power of two: for a range that
+    /// was granted so, since it is aligned again where it goes.
+    ///
+    /// The block is the one that `allocate_aligned` takes for these units and this alignment, of at least
+    /// `size + align - 1` units: where all ranges have one alignment, make that the unit, and call `relocate`.
+    /// `None` is returned where that would refuse them, or where the block begins after the range; then the space is as
+    /// it was. The handle has to be live, and only its name counts. With `align` 1 the call is `relocate`. It
+    /// makes at most 67 accesses to the tables, and takes no memory.
+    ///
+    /// # Panics
+    ///
+    /// It panics unless the handle is live, and `align` is a power of two.
+    ///
+    /// ```
+    /// # use offset_allocator_proved::*;
+    /// # let alloc = Global;
+    /// let mut space = Allocator::<u32>::new(alloc, 1000)?;
+    /// space.allocate(10);
+    /// let hole = space.allocate(320).unwrap();
+    /// let mesh = space.allocate(64).unwrap();
+    /// space.free(hole);
+    /// let moved = space.relocate_aligned(mesh, 256).unwrap();
+    /// assert_eq!((mesh.offset, moved.offset), (330, 256));
+    /// space.free(mesh);
+    /// # Ok::<(), AllocError>(())
+    /// ```
+    #[track_caller]
+    pub fn relocate_aligned(
+        &mut self,
+        allocation: Allocation<T::Index>,
+        align: u32,
+    ) -> Option<Allocation<T::Index>> {
+        assert!(self.is_live(allocation), "the handle must be live: {:?}", { allocation });
+        assert!(align.is_power_of_two(), "align must be a power of two");
+        self.relocate_to(allocation, align)
+    }
+
+    // A second range from a multiple of `align` on, in a block before the range. With `align` 1, which is a
+    // constant where this is inlined into `relocate`, there is no padding.
+    #[inline(always)]
+    fn relocate_to(
+        &mut self,
+        allocation: Allocation<T::Index>,
+        align: u32,
+    ) -> Option<Allocation<T::Index>> {
         let name = allocation.name();
         let size = self.store.tables.size(name, &mut self.store.accesses);
         let old = self.store.tables.offset(name, &mut self.store.accesses);
-        let begins = self.would_begin(size)?;
+        if size > u32::MAX - (align - 1) {
+            return None;
+        }
+        let begins = self.would_begin(size + (align - 1))?;
         if begins < old {
-            self.serve(size, 1)
+            self.serve(size, align)
         } else {
             None
         }

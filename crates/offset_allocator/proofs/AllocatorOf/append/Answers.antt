@@ -1,6 +1,6 @@
 use Rattle.offset_allocator.proofs.Common.{◌≡◌, ◌∙◌, ℕ, true, refl, sym, subst, ap, arith, length, take, List, [], ◌∷◌, ◌++◌, node, Block, Node, HasRoomFor, units}
 use Rattle.offset_allocator.proofs.{Sound.fields_of, Classes.down_small, Linking.Names.kept_unused, Linking.Names.next_taken, Linking.Names.ready_place, Linking.Places.at_place}
-use Rattle.offset_allocator.proofs.{Linking.Places.end_place, Linking.Places.last_place, Linking.Places.placed, Views.blocks-chain, Extending.Growth, Extending.Grown, Extending.end}
+use Rattle.offset_allocator.proofs.{Linking.Places.end_place, Linking.Places.last_place, Linking.Places.placed, Views.ViewChain.blocks-chain, Extending.Growth, Extending.Grown, Extending.end}
 use Rattle.offset_allocator.proofs.{Extending.end_held, Extending.free_fits, Extending.split_fits, Extending.append_unlisted, Extending.appended}
 use Rattle.offset_allocator.proofs.AllocatorOf.append.Goals as goal
 use Rattle.offset_allocator.proofs.AllocatorOf.append.{Goals.After-self, Goals.After-size-whole, Goals.After-push, Given.Over}

@@ -1,74 +1,21 @@
-use Rattle.offset_allocator.proofs.{Sound.fields_of, Sound.known_sound, Reading.live_below, Reading.live_size, Reading.live_offset}
-use Rattle.offset_allocator.proofs.Common.{◌≡◌, ℕ, Some, sym, ap, subst, ◌∙◌, arith, View, Handle, Aligns, IsLive, IsWellFormed, Option, unwrap_or, size_of}
-use Rattle.offset_allocator.proofs.Moving.Begins.{Begins, none_relocates, later_relocates, earlier_relocates, relocated_grants, relocated_before}
-use Rattle.offset_allocator.specs.{Moving.Relocating.WouldBegin, Moving.Relocating.offset_of, Moving.Relocating.Relocates, Relations.SameState}
+use Rattle.offset_allocator.proofs.Common.{arith}
+use Rattle.offset_allocator.proofs.Moving.Begins.{one_relocates, relocated_grants, relocated_before, relocated_same, live_small}
 use Rattle.offset_allocator.proofs.AllocatorOf.relocate.Goals as goal
-use Rattle.offset_allocator.proofs.AllocatorOf.relocate.{Goals.After-would_begin, Goals.After-serve, Given.Over}
 
-pub size-size-requires : goal.size-size-requires
-size-size-requires g c =
-    live_below (fields_of g.T.Tables.cells g.T.Index.NodeIndex.MAX c.self.inside) _ c.self.invariant _ c.self.view_is
-    (subst (λ (x : ℕ). IsLive x c.args.self.now) (sym c.name-name.ensures.number) c.requires.live)
+pub returns-clause-step : goal.returns-clause-step
+returns-clause-step g c = one_relocates c.args.allocation.name c.args.self.now c.relocate_to.new.self c.relocate_to.result c.relocate_to.ensures.step
 
-pub offset-old-requires : goal.offset-old-requires
-offset-old-requires g c =
-    live_below (fields_of g.T.Tables.cells g.T.Index.NodeIndex.MAX c.self.inside) _ c.self.invariant _ c.self.view_is
-    (subst (λ (x : ℕ). IsLive x c.args.self.now) (sym c.name-name.ensures.number) c.requires.live)
+pub returns-clause-grants : goal.returns-clause-grants
+returns-clause-grants g c = relocated_grants c.args.allocation.name 1 c.args.self.now c.relocate_to.new.self (omega arith) c.relocate_to.ensures.formed c.relocate_to.result c.relocate_to.ensures.step
 
--- the numbers that were read are those of the range
-its_size : (g : Over) (c : After-would_begin g) → c.size-size.result ≡ size_of c.args.allocation.name c.args.self.now
-its_size g c = c.size-size.ensures.cell
-    ∙ live_size (fields_of g.T.Tables.cells g.T.Index.NodeIndex.MAX c.self.inside) _ c.self.invariant _ c.self.view_is
-    (subst (λ (x : ℕ). IsLive x c.args.self.now) (sym c.name-name.ensures.number) c.requires.live)
-    ∙ ap (λ (i : ℕ). size_of i c.args.self.now) c.name-name.ensures.number
+pub returns-clause-before : goal.returns-clause-before
+returns-clause-before g c = relocated_before c.args.allocation.name 1 c.args.self.now c.relocate_to.new.self (omega arith) c.relocate_to.ensures.formed c.relocate_to.result c.relocate_to.ensures.step
 
-its_offset : (g : Over) (c : After-would_begin g) → c.offset-old.result ≡ offset_of c.args.allocation.name c.args.self.now
-its_offset g c = c.offset-old.ensures.cell
-    ∙ ap (λ (q : Option ℕ). unwrap_or q 0)
-    (live_offset (fields_of g.T.Tables.cells g.T.Index.NodeIndex.MAX c.self.inside) _ c.self.invariant _ c.self.view_is
-    (subst (λ (x : ℕ). IsLive x c.args.self.now) (sym c.name-name.ensures.number) c.requires.live))
-    ∙ ap (λ (i : ℕ). offset_of i c.args.self.now) c.name-name.ensures.number
+pub returns-clause-same : goal.returns-clause-same
+returns-clause-same g c = relocated_same c.args.allocation.name 1 c.args.self.now c.relocate_to.new.self (omega arith) c.relocate_to.ensures.formed c.relocate_to.result c.relocate_to.ensures.step
 
--- what was found of the block
-found : (g : Over) (c : After-would_begin g) → Begins c.args.self.now c.args.allocation.name c.size-size.result c.offset-old.result (its_size g c) (its_offset g c) c.would_begin.result
-found g c =
-    subst (λ (v : View). (k : ℕ) × ((m : ℕ) → WouldBegin c.size-size.result (record v { accesses = k }) m → c.would_begin.result ≡ Some m)) c.self.view_is
-    (_, c.would_begin.ensures.begins)
-
-the_same : (g : Over) (c : After-would_begin g) → SameState c.args.self.now c.would_begin.new.self
-the_same g c = subst (λ (v : View). SameState v c.would_begin.new.self) c.self.view_is c.would_begin.ensures.same
-
-pub returns-in_err-begins-clause-step : goal.returns-in_err-begins-clause-step
-returns-in_err-begins-clause-step g c =
-    let at = (goal.at.returns-in_err-begins-clause-step g c).After-would_begin in
-    subst (λ (h : Option Handle). Relocates c.args.allocation.name c.args.self.now c.would_begin.new.self h) (sym c.from_residual.ensures)
-    (none_relocates c.args.self.now c.args.allocation.name c.size-size.result c.offset-old.result (its_size g at) (its_offset g at) c.would_begin.result
-    (found g at) c.in_err-begins.was c.would_begin.new.self (the_same g at))
-
-pub returns-then-begins-old-clause-step : goal.returns-then-begins-old-clause-step
-returns-then-begins-old-clause-step g c =
-    let at = (goal.at.returns-then-begins-old-clause-step g c).After-would_begin in
-    earlier_relocates c.args.self.now c.args.allocation.name c.size-size.result c.offset-old.result (its_size g at) (its_offset g at) c.would_begin.result
-    (found g at) c.in_ok-begins.begins c.in_ok-begins.was c.if-begins-old.true
-    c.would_begin.new.self.accesses c.serve.new.self c.serve.result
-    (subst (λ (v : View). Aligns c.size-size.result 1 v c.serve.new.self c.serve.result) (the_same g at) c.serve.ensures.step)
-
-formed : (g : Over) (c : After-would_begin g) → IsWellFormed c.args.self.now
-formed g c = (known_sound (fields_of g.T.Tables.cells g.T.Index.NodeIndex.MAX c.self.inside) c.self.invariant c.args.self.now c.self.view_is).0
-
-pub returns-then-begins-old-clause-grants : goal.returns-then-begins-old-clause-grants
-returns-then-begins-old-clause-grants g c =
-    relocated_grants c.args.allocation.name c.args.self.now c.serve.new.self (formed g (goal.at.returns-then-begins-old-clause-grants g c).After-would_begin) c.serve.result
-    (returns-then-begins-old-clause-step g c)
-
-pub returns-then-begins-old-clause-before : goal.returns-then-begins-old-clause-before
-returns-then-begins-old-clause-before g c =
-    relocated_before c.args.allocation.name c.args.self.now c.serve.new.self (formed g (goal.at.returns-then-begins-old-clause-before g c).After-would_begin) c.requires.live c.serve.result
-    (returns-then-begins-old-clause-step g c)
-
-pub returns-else-begins-old-clause-step : goal.returns-else-begins-old-clause-step
-returns-else-begins-old-clause-step g c =
-    let at = (goal.at.returns-else-begins-old-clause-step g c).After-would_begin in
-    later_relocates c.args.self.now c.args.allocation.name c.size-size.result c.offset-old.result (its_size g at) (its_offset g at) c.would_begin.result
-    (found g at) c.in_ok-begins.begins c.in_ok-begins.was (omega (arith, c.if-begins-old.false))
-    c.would_begin.new.self (the_same g at)
+pub returns-clause-accesses : goal.returns-clause-accesses
+returns-clause-accesses g c =
+    let small = live_small c.args.allocation.name c.args.self.now c.relocate_to.ensures.formed in
+    let least = c.relocate_to.ensures.accesses_min (omega (arith, small)) in
+    (least, omega (arith, c.relocate_to.ensures.accesses.1))

@@ -1,4 +1,4 @@
-use Rattle.offset_allocator.proofs.{Views.blocks-chain, Linking.Places.at_place, Linking.Writes.grow_place, Tallies.units-append, Linking.Nodes.spare-put}
+use Rattle.offset_allocator.proofs.{Views.ViewChain.blocks-chain, Linking.Places.at_place, Linking.Writes.grow_place, Tallies.units-append, Linking.Nodes.spare-put}
 use Rattle.offset_allocator.proofs.Common.{ap, arith, [], ◌∷◌, Cells, Node, units, refl}
 use Rattle.offset_allocator.proofs.chain.grow.Goals as goal
 

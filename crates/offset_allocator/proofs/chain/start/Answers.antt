@@ -1,5 +1,5 @@
 use Rattle.offset_allocator.proofs.Common.{ℕ, ◌∙◌, [], ◌∷◌, Option, false, ap, ap₂, arith, Cells, put, free_block, IsChain, common_steps}
-use Rattle.offset_allocator.proofs.{Fresh.bare_idle, Fresh.bare_length, Fresh.start-chain, Views.blocks-chain, Views.space-chain}
+use Rattle.offset_allocator.proofs.{Fresh.bare_idle, Fresh.bare_length, Fresh.start-chain, Views.ViewChain.blocks-chain, Views.ViewChain.space-chain}
 use Rattle.offset_allocator.proofs.chain.start.Goals as goal
 use Rattle.offset_allocator.proofs.chain.start.Given.{Over}
 

@@ -1,5 +1,5 @@
-use Rattle.offset_allocator.proofs.{Decided.allocates_decided, Decided.aligns_decided, Decided.relocates_decided, Decided.tight_decided, Moving.DecidedRooms.least_decided}
-use Rattle.offset_allocator.proofs.{Moving.DecidedRooms.noted_decided}
+use Rattle.offset_allocator.proofs.{Decided.allocates_decided, Decided.aligns_decided, Decided.relocates_decided, Decided.relocates_aligned_decided, Decided.tight_decided, Moving.DecidedRooms.least_decided}
+use Rattle.offset_allocator.proofs.{Moving.DecidedRooms.noted_decided, Moving.DecidedSteps.compacts_by_decided}
 use Rattle.offset_allocator.proofs.DecidedChanges.{compacts_decided, extends_decided, frees_decided, grows_decided, resets_decided, retracts_decided, shrinks_decided}
 use Rattle.offset_allocator.proofs.laws.a_state_decides_each_step.Goals as goal
 
@@ -9,6 +9,7 @@ returns c = record {
   allocate_aligned = aligns_decided;
   allocate_tight = tight_decided;
   relocate = relocates_decided;
+  relocate_aligned = relocates_aligned_decided;
   free = frees_decided;
   reset = resets_decided;
   extend = extends_decided;
@@ -16,6 +17,7 @@ returns c = record {
   shrink = shrinks_decided;
   grow = grows_decided;
   compact = compacts_decided;
+  compact_by = compacts_by_decided;
   room_cost = least_decided;
   make_room = noted_decided;
 }

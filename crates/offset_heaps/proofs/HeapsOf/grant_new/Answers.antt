@@ -1,5 +1,4 @@
 use Rattle.std.proofs.Common.{◌≡◌, ◌≤◌, arith, inl, inr, rules}
-use Rattle.offset_allocator.specs.Requests.{units_needed}
 use Rattle.offset_heaps.specs.Heaps.{IsUsual}
 use Rattle.offset_heaps.proofs.Grants.{granted_if_since, next_larger, next_usual}
 use Rattle.offset_heaps.proofs.HeapsOf.grant_new.Goals as goal
@@ -10,7 +9,7 @@ returns-in-Some-spare_larger-clause-grants g c =
 
 pub returns-in-Some-spare_larger-clause-made : goal.returns-in-Some-spare_larger-clause-made
 returns-in-Some-spare_larger-clause-made g c =
-    next_larger (units_needed c.args.size c.args.align) c.in-Some-spare_larger.number c.args.self.now c.spare_larger.new.self c.grant_larger.result c.spare_larger.ensures.same
+    next_larger c.args.size c.in-Some-spare_larger.number c.args.self.now c.spare_larger.new.self c.grant_larger.result c.spare_larger.ensures.same
     (search rules) c.in-Some-spare_larger.ensures.first.0 c.in-Some-spare_larger.ensures.first.1 c.grant_larger.ensures.made
 
 pub returns-in-Some-clause-grants : goal.returns-in-Some-clause-grants
@@ -19,18 +18,18 @@ returns-in-Some-clause-grants g c =
 
 pub returns-in-Some-clause-made : goal.returns-in-Some-clause-made
 returns-in-Some-clause-made g c =
-    next_usual (units_needed c.args.size c.args.align) c.in-Some.number c.args.self.now c.spare_usual.new.self c.grant_usual.result c.spare_usual.ensures.same
+    next_usual c.args.size c.in-Some.number c.args.self.now c.spare_usual.new.self c.grant_usual.result c.spare_usual.ensures.same
     (search rules) c.in-Some.ensures.first.0 c.in-Some.ensures.first.1 c.grant_usual.ensures.made
 
 pub returns-then-self-eq0-clause-why : goal.returns-then-self-eq0-clause-why
 returns-then-self-eq0-clause-why g c =
-    let unusual : IsUsual (units_needed c.args.size c.args.align) c.args.self.now → ⊥ = search rules in
+    let unusual : IsUsual c.args.size c.args.self.now → ⊥ = search rules in
     let none : c.args.self.now.limits.most_larger ≡ 0 = search rules in
     ((c.requires.size, c.requires.none), λ may. elim may [ inl u ↦ unusual u | inr some ↦ omega (arith, some, none) ])
 
 pub returns-in-None-spare_larger-clause-why : goal.returns-in-None-spare_larger-clause-why
 returns-in-None-spare_larger-clause-why g c =
-    let unusual : IsUsual (units_needed c.args.size c.args.align) c.args.self.now → ⊥ = search rules in
+    let unusual : IsUsual c.args.size c.args.self.now → ⊥ = search rules in
     let some : 1 ≤ c.args.self.now.limits.most_larger = search (arith, rules) in (
       (c.requires.size, c.requires.none),
       inr some,

@@ -5,7 +5,7 @@ use Rattle.offset_heaps.proofs.HeapsOf.grant_usual.Goals as goal
 
 pub returns-in-Ok-clause-grants : goal.returns-in-Ok-clause-grants
 returns-in-Ok-clause-grants g c =
-    let w = c.in-Ok.ensures in
+    let w = c.in-Ok.ensures.grants in
     let spare = c.requires.spare.0 in
     let all = c.self.invariant.numbers in
     let same = ap (λ (h : Heaps). length h.slots) c.self.view_is in
@@ -17,8 +17,8 @@ returns-in-Ok-clause-grants g c =
 
 pub add-requires-clause-kind : goal.add-requires-clause-kind
 add-requires-clause-kind g c =
-    let w = c.in-Ok.ensures in
+    let w = c.in-Ok.ensures.grants in
     let most = ap (λ (h : Heaps). h.limits.most) c.self.view_is in
     let low : c.args.number < c.self.inside.limits.most = omega (arith, c.requires.spare.0, most) in
     subst (λ (h : Heaps). IfSome c.in-Ok.slot (IsOfKind h.limits c.args.number)) c.self.view_is
-    (kind_usual c.self.inside.limits c.args.number (c.self.inside.made + 1) c.args.size c.args.align w.0 c.in-Ok.slot c.in-Ok.ticket low w.1 w.2)
+    (kind_usual c.self.inside.limits c.args.number (c.self.inside.made + 1) c.args.size 1 w.0 c.in-Ok.slot c.in-Ok.ticket low w.1 w.2)

@@ -12,6 +12,6 @@ returns c =
       why = is.why;
       same = is.same;
       found = subst (λ n. IfOk c.allocate.result (λ g. g.is_new ≡ false → IsFirstFit 1 n g.place.heap old)) (sym (plain c.args.size)) is.found;
-      made = subst (λ n. IfOk c.allocate.result (λ g. g.is_new ≡ true → NoneFits 1 n old × IsNext n g.place.heap old)) (sym (plain c.args.size)) is.made;
+      made = subst (λ n. IfOk c.allocate.result (λ g. g.is_new ≡ true → NoneFits 1 n old × IsNext c.args.size g.place.heap old)) (sym (plain c.args.size)) is.made;
       grants = is.grants;
     }

@@ -62,6 +62,16 @@ report-requires-clause-named g c =
       c.shape.ensures.limit,
     )
 
+pub report-requires-clause-within : goal.report-requires-clause-within
+report-requires-clause-within g c =
+    let r = c.requires.place in
+    let s = (c.loop-next.invariant.at r.0 r.1 r.2 r.3).0 in
+    let q = sym c.linked.ensures ∙ c.in-Some.is in
+    let f = first_part s.rest (way_next s refl q) in
+    let t = (g.T.Tables.cells c.loop-next.store.tables).chain in
+    let size : c.size-more.result ≡ f.0.size = c.size-more.ensures.cell ∙ ap (λ k. (node t k).size) (sym (named s f.0 f.1 f.2 q)) ∙ next_node _ _ f.0 _ (held s f.0 f.1 f.2) in
+    omega (arith, size, s.there.offset, s.there.size, next_fits _ _ f.0 _ (held s f.0 f.1 f.2))
+
 pub pass-requires-clause-place : goal.pass-requires-clause-place
 pass-requires-clause-place g c =
     let r = c.requires.place in

@@ -74,6 +74,17 @@ report-requires-clause-named g c =
       c.shape.ensures.limit,
     )
 
+pub report-requires-clause-within : goal.report-requires-clause-within
+report-requires-clause-within g c =
+    let r = c.requires.place in
+    let i = c.loop-next.invariant.at r.0 r.1 r.2 r.3 r.4 r.5 r.6 in
+    let s = i.0 in
+    let f = first_part s.rest i.3 in
+    let n = named s f.0 f.1 f.2 (sym c.linked.ensures ∙ c.in-Some.is) in
+    let t = (g.T.Tables.cells c.loop-next.store.tables).chain in
+    let size : c.size-more.result ≡ f.0.size = c.size-more.ensures.cell ∙ ap (λ k. (node t k).size) (sym n) ∙ next_node _ _ f.0 _ (held s f.0 f.1 f.2) in
+    omega (arith, size, s.there.offset, s.there.size, next_fits _ _ f.0 _ (held s f.0 f.1 f.2))
+
 pub pass-requires-clause-place : goal.pass-requires-clause-place
 pass-requires-clause-place g c =
     let r = c.requires.place in

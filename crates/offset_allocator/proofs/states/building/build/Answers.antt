@@ -1,6 +1,6 @@
 use Rattle.offset_allocator.proofs.Common.{◌∙◌, ap, refl, sym, subst, length, arith, AreCoalesced, take}
 use Rattle.offset_allocator.proofs.{Saving.StateWords.length-words, Saving.StateWords.same_counts, Saving.StateWords.words_same, Saving.Saved.ordered_same, Saving.StateWords.freed_same}
-use Rattle.offset_allocator.proofs.{Saving.StateWords.length-freed, Views.blocks-chain, Views.space-chain, Saving.Firsts.each_read}
+use Rattle.offset_allocator.proofs.{Saving.StateWords.length-freed, Views.ViewChain.blocks-chain, Views.ViewChain.space-chain, Saving.Firsts.each_read}
 use Rattle.offset_allocator.specs.Saving.ListFaults.{IsNeighboursFault}
 use Rattle.offset_allocator.proofs.states.building.build.Goals as goal
 

@@ -1,10 +1,10 @@
 use Rattle.offset_allocator.proofs.{Saving.Restored.AreParts, Saving.Restored.text_parts, Saving.Restored.well_built, Saving.Restored.text_shown, Sound.well_unused, Saving.StateWords.freed_same}
-use Rattle.offset_allocator.proofs.{Saving.StateWords.length-words, Saving.StateWords.length-freed, Saving.StateWords.units-freed, Views.blocks-chain, Views.space-chain, Saving.Saved.names_once}
+use Rattle.offset_allocator.proofs.{Saving.StateWords.length-words, Saving.StateWords.length-freed, Saving.StateWords.units-freed, Views.ViewChain.blocks-chain, Views.ViewChain.space-chain, Saving.Saved.names_once}
 use Rattle.offset_allocator.proofs.{Saving.Saved.names_free, Saving.Saved.names_ordered}
 use Rattle.offset_allocator.proofs.Common.{◌+◌, ◌*◌, ◌-◌, ◌≤◌, ◌++◌, [], ◌≡◌, ◌∙◌, ap, ap₂, refl, sym, subst, take, drop, get_or, length, arith, ℕ, List, Block, View, AreCoalesced, used_of}
 use Rattle.offset_allocator.proofs.Common.{count_named, times, view_of, IsWellFormed, length-take-le, inr}
 use Rattle.offset_allocator.proofs.Saving.Headed.{counted, formed, headed, limited, long, overused, wrong_in}
-use Rattle.offset_allocator.specs.{Saving.Building.AreEach, Saving.Building.AreOrdered, Saving.Building.IsHeader, Saving.StateFaults.IsFaultOf}
+use Rattle.offset_allocator.specs.{Saving.Building.AreEach, Saving.Building.AreOrdered, Saving.State.IsHeader, Saving.StateFaults.IsFaultOf}
 use Rattle.offset_allocator.specs.Saving.State.{block_words, checksum_from, freed, state_text, state_words}
 use Rattle.std.specs.List.{concat}
 use Rattle.offset_allocator.specs.declared.states.restoring.Header.{Header}

@@ -1,4 +1,4 @@
-use Rattle.offset_allocator.proofs.{Common.◌∙◌, Common.ap, Common.sym, Common.get_or_default_zero, Fields.read, Fields.within}
+use Rattle.offset_allocator.proofs.{Common.◌∙◌, Common.ap, Common.sym, Common.get_or_default_zero, Arranging.Fields.read, Arranging.Fields.within}
 use Rattle.offset_allocator.proofs.layouts.by_field.ByFieldTables.offset.Goals as goal
 
 pub returns-clause-cell : goal.returns-clause-cell

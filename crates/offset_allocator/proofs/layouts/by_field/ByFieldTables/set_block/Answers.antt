@@ -1,5 +1,5 @@
 use Rattle.offset_allocator.proofs.Common.{◌≡◌, ◌≢◌, ◌∙◌, ℕ, Bool, map, set, refl, ap, arith, get_or-set_same, get_or-set_other, length-set, Node, node, put, link_of, FieldTables, node_in}
-use Rattle.offset_allocator.proofs.{Common.field_tables, Common.common_steps, Fields.other, Fields.at, Fields.within, Fields.wrote-chain}
+use Rattle.offset_allocator.proofs.{Common.field_tables, Common.common_steps, Arranging.Fields.other, Arranging.Fields.at, Arranging.Fields.within, Arranging.Fields.wrote-chain}
 use Rattle.offset_allocator.proofs.layouts.by_field.ByFieldTables.set_block.Goals as goal
 
 pub returns-clause-cells : goal.returns-clause-cells

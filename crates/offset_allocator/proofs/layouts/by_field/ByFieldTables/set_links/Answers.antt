@@ -1,5 +1,5 @@
 use Rattle.offset_allocator.proofs.Common.{◌<◌, ◌∙◌, ℕ, List, ap, length, map, set, arith, length-map, map-set, Cells, common_steps}
-use Rattle.offset_allocator.proofs.Fields.{length-nodes_in, wrote-newer}
+use Rattle.offset_allocator.proofs.Arranging.Fields.{length-nodes_in, wrote-newer}
 use Rattle.offset_allocator.proofs.layouts.by_field.ByFieldTables.set_links.Goals as goal
 
 pub returns-clause-cells : goal.returns-clause-cells

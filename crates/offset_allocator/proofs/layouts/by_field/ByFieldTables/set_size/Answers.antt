@@ -1,5 +1,5 @@
 use Rattle.offset_allocator.proofs.Common.{◌≡◌, ◌≢◌, ℕ, set, refl, arith, get_or-set_same, get_or-set_other, Node, FieldTables, node_in, field_tables}
-use Rattle.offset_allocator.proofs.Fields.{within, wrote-chain}
+use Rattle.offset_allocator.proofs.Arranging.Fields.{within, wrote-chain}
 use Rattle.offset_allocator.proofs.layouts.by_field.ByFieldTables.set_size.Goals as goal
 
 pub returns-clause-cells : goal.returns-clause-cells

@@ -1,5 +1,5 @@
 use Rattle.offset_allocator.proofs.Common.{◌≡◌, ◌≢◌, ℕ, map, set, refl, arith, get_or-set_same, get_or-set_other, length-set, Node, link_of, FieldTables, node_in, field_tables, common_steps}
-use Rattle.offset_allocator.proofs.Fields.{other, at, within, wrote-chain}
+use Rattle.offset_allocator.proofs.Arranging.Fields.{other, at, within, wrote-chain}
 use Rattle.offset_allocator.proofs.layouts.by_field.ByFieldTables.set_start.Goals as goal
 
 pub returns-clause-cells : goal.returns-clause-cells

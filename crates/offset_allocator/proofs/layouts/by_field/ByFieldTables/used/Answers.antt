@@ -1,4 +1,4 @@
-use Rattle.offset_allocator.proofs.{Common.◌∙◌, Common.ap, Common.sym, Common.arith, Common.get_or-map, Fields.read, Fields.within}
+use Rattle.offset_allocator.proofs.{Common.◌∙◌, Common.ap, Common.sym, Common.arith, Common.get_or-map, Arranging.Fields.read, Arranging.Fields.within}
 use Rattle.offset_allocator.proofs.layouts.by_field.ByFieldTables.used.Goals as goal
 
 pub returns-clause-cell : goal.returns-clause-cell

@@ -1,4 +1,4 @@
-use Rattle.offset_allocator.proofs.{Common.ap, Common.sym, Entries.read}
+use Rattle.offset_allocator.proofs.{Common.ap, Common.sym, Arranging.Entries.read}
 use Rattle.offset_allocator.proofs.layouts.by_node.ByNodeTables.offset.Goals as goal
 
 pub returns-clause-cell : goal.returns-clause-cell

@@ -1,4 +1,4 @@
-use Rattle.offset_allocator.proofs.{Common.◌∙◌, Common.Bool, Common.ap, Common.refl, Common.Node, Common.put, Common.link_of, Entries.wrote-chain}
+use Rattle.offset_allocator.proofs.{Common.◌∙◌, Common.Bool, Common.ap, Common.refl, Common.Node, Common.put, Common.link_of, Arranging.Entries.wrote-chain}
 use Rattle.offset_allocator.proofs.layouts.by_node.ByNodeTables.set_block.Goals as goal
 
 pub returns-clause-cells : goal.returns-clause-cells

@@ -1,4 +1,4 @@
-use Rattle.offset_allocator.proofs.{Common.refl, Common.Node, Common.link_of, Entries.wrote-chain}
+use Rattle.offset_allocator.proofs.{Common.refl, Common.Node, Common.link_of, Arranging.Entries.wrote-chain}
 use Rattle.offset_allocator.proofs.layouts.by_node.ByNodeTables.set_end.Goals as goal
 
 pub returns-clause-cells : goal.returns-clause-cells

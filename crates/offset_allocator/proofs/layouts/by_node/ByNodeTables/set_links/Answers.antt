@@ -1,4 +1,4 @@
-use Rattle.offset_allocator.proofs.Entries.{wrote-links}
+use Rattle.offset_allocator.proofs.Arranging.Entries.{wrote-links}
 use Rattle.offset_allocator.proofs.layouts.by_node.ByNodeTables.set_links.Goals as goal
 
 pub returns-clause-cells : goal.returns-clause-cells

@@ -1,4 +1,4 @@
-use Rattle.offset_allocator.proofs.Entries.{wrote-older}
+use Rattle.offset_allocator.proofs.Arranging.Entries.{wrote-older}
 use Rattle.offset_allocator.proofs.layouts.by_node.ByNodeTables.set_older.Goals as goal
 
 pub returns-clause-cells : goal.returns-clause-cells

@@ -1,4 +1,4 @@
-use Rattle.offset_allocator.proofs.{Common.arith, Entries.wrote-used}
+use Rattle.offset_allocator.proofs.{Common.arith, Arranging.Entries.wrote-used}
 use Rattle.offset_allocator.proofs.layouts.by_node.ByNodeTables.set_used.Goals as goal
 
 pub returns-clause-cells : goal.returns-clause-cells

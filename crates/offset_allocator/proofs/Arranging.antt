@@ -1,0 +1,3 @@
+-- The cells of the two layouts.
+pub mod Entries
+pub mod Fields

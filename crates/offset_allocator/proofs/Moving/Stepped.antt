@@ -1,0 +1,481 @@
+-- The whole allocator after its live ranges have moved by whole steps.
+use Rattle.offset_allocator.proofs.{Joints.free_units-append, Joints.free_units-free, Joints.free_units-used, Joints.free_part_units, Linking.Exchange.each-le, Linking.Exchange.there-below}
+use Rattle.offset_allocator.proofs.{Linking.Places.placed, Moving.Sliding.live_used, Moving.Sliding.live_idle, Moving.Compacting.live_append, Sound.Fields, Sound.AreSound, Sound.shown, Sound.well_counted}
+use Rattle.offset_allocator.proofs.{Moving.Stepping.stepped_used, Moving.Stepping.stepped_free, Moving.Stepping.given_used, Moving.Stepping.given_free, Moving.Stepping.moves_by_used, Moving.Stepping.moves_by_free}
+use Rattle.offset_allocator.proofs.{Moving.Stepping.first_here, Moving.Stepping.filed_put, Views.ViewBins.length_put}
+use Rattle.offset_allocator.proofs.Views.ViewApart.{apart_parts, apart_append, ends_free, left_false, right_false}
+use Rattle.offset_allocator.proofs.Tallies.{tally_append, units-append, free_units, free_sum, part_sums, times-append, one-same, one-eq}
+use Rattle.offset_allocator.proofs.Joints as joints
+use Rattle.offset_allocator.proofs.Common.{◌≡◌, ◌≢◌, ℕ, zero, suc, ◌+◌, ◌-◌, ◌*◌, ◌/◌, ◌%◌, ◌<◌, ◌≤◌, ◌⊎◌, Bool, true, false, not, ◌&&◌, nat_le, nat_lt, Some, None, List, [], ◌∷◌, ◌++◌, if◌then◌else◌, refl, sym}
+use Rattle.offset_allocator.proofs.Common.{ap, ap₂, subst, ◌∙◌, arith, inl, inr, append_assoc, append-nil, length, length-append, take, AllByRecursion, not-true, not-false, true≢false, leb-true, leb-false, common_steps}
+use Rattle.offset_allocator.proofs.Common.{nat_tests, nat_eq, cases_eq, eq-zero-or-pos, Cells, ChainCells, Block, View, Place, one, units, used_of, free_block, free_part, count_named, starts_free, ends_used, live, move_of}
+use Rattle.offset_allocator.proofs.Common.{down, push, AreInBins, AreCoalesced, IsWellFormed, HasRoomFor, SameSpace, HasPlace, IsChain, blocks, IsBinned, bins_in}
+use Rattle.offset_allocator.specs.Moving.BySteps.{first_whole, kept, stepped, given_up, used_up, rebinned, moves_by, CanStep, SlidesBy}
+use Rattle.offset_allocator.specs.{Names.IsTaken, Names.names_of}
+use Rattle.std.proofs.Math.Nat.{mod-le, mod-eq_of_lt, mod-mod, add-mod, add-mul-mod_self_right, mul_assoc}
+use Rattle.std.proofs.Math.Nat.{mod-add-div'}
+use Rattle.offset_allocator.specs.Moving.Compacting.{Move, AreBetween, AreSafe}
+
+kept_most : (s n : ℕ) (bs : List Block) → kept s n bs ≤ n
+kept_most s n [] = omega arith
+kept_most s n (b ∷ bs) = mod-le n s
+
+stays : (i : ℕ) (b : Block) → move_of i i b ≡ []
+stays i b = grind (arith, nat_tests)
+
+-- what is found first
+pub record IsWhole (s : ℕ) (bs : List Block) (x : ℕ) : Type 0 where
+  pub front : List Block
+  pub first : Block
+  pub rest : List Block
+  pub is : bs ≡ front ++ first ∷ rest
+  pub name : first.name ≡ x
+  pub few : AllByRecursion (λ b. b.used ≡ false → b.size < s) front
+  pub free : first.used ≡ false
+  pub whole : s ≤ first.size
+  pub more : rest ≢ []
+  pub moves : (i : ℕ) → moves_by s i i bs ≡ moves_by s (i + units front) (i + units front) (first ∷ rest)
+
+-- a block that is passed before the first one moves none
+module _ (s : ℕ) (b : Block) (bs : List Block) (some : bs ≢ []) (e : (not b.used && nat_le s b.size) ≡ false) where
+  pub less : b.used ≡ false → b.size < s
+  less u = leb-false s b.size (sym (ap (λ t. not t && nat_le s b.size) u) ∙ e)
+
+  still : (i : ℕ) → moves_by s i i (b ∷ bs) ≡ moves_by s (i + b.size) (i + b.size) bs
+  still i = go b.used refl
+    where
+      whole : (l : List Block) → bs ≡ l → b.size < s → kept s b.size l ≡ b.size
+      whole [] q l = absurd (some q)
+      whole (c ∷ cs) q l = mod-eq_of_lt l
+
+      go : (u : Bool) → b.used ≡ u → moves_by s i i (b ∷ bs) ≡ moves_by s (i + b.size) (i + b.size) bs
+      go true u = moves_by_used s b bs u i i ∙ ap (λ l. l ++ moves_by s (i + b.size) (i + b.size) bs) (stays i b)
+      go false u = moves_by_free s b bs u i i ∙ ap (λ n. moves_by s (i + b.size) (i + n) bs) (whole bs refl (less u))
+
+pub whole_is : (s : ℕ) (bs : List Block) (x : ℕ) → first_whole s bs ≡ Some x → IsWhole s bs x
+whole_is s [] x e = absurd (cc)
+whole_is s (b ∷ []) x e = absurd (cc)
+whole_is s (b ∷ c ∷ bs) x e = go (not b.used && nat_le s b.size) refl (λ h. whole_is s (c ∷ bs) x h)
+  where
+    some : c ∷ bs ≢ []
+    some q = absurd (cc)
+
+    go : (t : Bool) → (not b.used && nat_le s b.size) ≡ t → (first_whole s (c ∷ bs) ≡ Some x → IsWhole s (c ∷ bs) x) → IsWhole s (b ∷ c ∷ bs) x
+    go true t rest = record {
+      front = [];
+      first = b;
+      rest = c ∷ bs;
+      is = refl;
+      name = let h : Some b.name ≡ Some x = sym (first_here s b (c ∷ bs) some true (sym t)) ∙ e in cc;
+      few = tt;
+      free = not-true b.used (left b.used (nat_le s b.size) t);
+      whole = leb-true s b.size (right b.used (nat_le s b.size) t);
+      more = some;
+      moves = λ i. let same : i ≡ i + 0 = omega arith in ap (λ j. moves_by s j j (b ∷ c ∷ bs)) same;
+    }
+      where
+        left : (u v : Bool) → (not u && v) ≡ true → not u ≡ true
+        left true v q = q
+        left false v q = refl
+
+        right : (u v : Bool) → (not u && v) ≡ true → v ≡ true
+        right true v q = absurd (true≢false (sym q))
+        right false v q = q
+    go false t rest =
+        let o : IsWhole s (c ∷ bs) x = rest (sym (first_here s b (c ∷ bs) some false (sym t)) ∙ e) in
+        record {
+          front = b ∷ o.front;
+          first = o.first;
+          rest = o.rest;
+          is = ap (λ l. b ∷ l) o.is;
+          name = o.name;
+          few = (less s b (c ∷ bs) some t, o.few);
+          free = o.free;
+          whole = o.whole;
+          more = o.more;
+          moves = λ i. let same : (i + b.size) + units o.front ≡ i + (b.size + units o.front) = omega arith in
+              still s b (c ∷ bs) some t i ∙ o.moves (i + b.size) ∙ ap (λ j. moves_by s j j (o.first ∷ o.rest)) same;
+        }
+
+pub none_whole : (s : ℕ) (bs : List Block) → first_whole s bs ≡ None → (i : ℕ) → moves_by s i i bs ≡ []
+none_whole s [] e i = refl
+none_whole s (b ∷ []) e i = go b.used refl
+  where
+    go : (u : Bool) → b.used ≡ u → moves_by s i i (b ∷ []) ≡ []
+    go true u = moves_by_used s b [] u i i ∙ ap (λ l. l ++ []) (stays i b)
+    go false u = moves_by_free s b [] u i i
+none_whole s (b ∷ c ∷ bs) e i = go (not b.used && nat_le s b.size) refl (λ h. none_whole s (c ∷ bs) h (i + b.size))
+  where
+    some : c ∷ bs ≢ []
+    some q = absurd (cc)
+
+    go : (t : Bool) → (not b.used && nat_le s b.size) ≡ t → (first_whole s (c ∷ bs) ≡ None → moves_by s (i + b.size) (i + b.size) (c ∷ bs) ≡ []) → moves_by s i i (b ∷ c ∷ bs) ≡ []
+    go true t rest = let h : Some b.name ≡ None = sym (first_here s b (c ∷ bs) some true (sym t)) ∙ e in absurd (cc)
+    go false t rest = still s b (c ∷ bs) some t i ∙ rest (sym (first_here s b (c ∷ bs) some false (sym t)) ∙ e)
+
+-- what is left of a run
+pub stepped_units : (s : ℕ) (bs : List Block) → units (stepped s bs) + given_up s bs ≡ units bs
+stepped_units s [] = refl
+stepped_units s (b ∷ bs) = go b.used refl (stepped_units s bs)
+  where
+    go : (u : Bool) → b.used ≡ u → units (stepped s bs) + given_up s bs ≡ units bs → units (stepped s (b ∷ bs)) + given_up s (b ∷ bs) ≡ units (b ∷ bs)
+    go true u ih = omega (arith, ih, ap units (stepped_used s b bs u), given_used s b bs u)
+    go false u ih = omega (
+      arith,
+      ih,
+      ap units (stepped_free s b bs u),
+      units-append (free_part b.name (kept s b.size bs)) (stepped s bs),
+      (part_sums b.name (kept s b.size bs)).1,
+      given_free s b bs u,
+      kept_most s b.size bs,
+    )
+
+pub stepped_free_units : (s : ℕ) (bs : List Block) → free_units (stepped s bs) + given_up s bs ≡ free_units bs
+stepped_free_units s [] = refl
+stepped_free_units s (b ∷ bs) = go b.used refl (stepped_free_units s bs)
+  where
+    go : (u : Bool) → b.used ≡ u → free_units (stepped s bs) + given_up s bs ≡ free_units bs → free_units (stepped s (b ∷ bs)) + given_up s (b ∷ bs) ≡ free_units (b ∷ bs)
+    go true u ih = omega (arith, ih, ap free_units (stepped_used s b bs u), free_units-used b (stepped s bs) u, free_units-used b bs u, given_used s b bs u)
+    go false u ih = omega (
+      arith,
+      ih,
+      ap free_units (stepped_free s b bs u),
+      free_part_units b.name (kept s b.size bs) (stepped s bs),
+      free_units-free b bs u,
+      given_free s b bs u,
+      kept_most s b.size bs,
+    )
+
+pub stepped_used_of : (s : ℕ) (bs : List Block) → used_of (stepped s bs) ≡ used_of bs
+stepped_used_of s [] = refl
+stepped_used_of s (b ∷ bs) = go b.used refl (stepped_used_of s bs)
+  where
+    go : (u : Bool) → b.used ≡ u → used_of (stepped s bs) ≡ used_of bs → used_of (stepped s (b ∷ bs)) ≡ used_of (b ∷ bs)
+    go true u ih = omega (arith, ih, ap used_of (stepped_used s b bs u))
+    go false u ih = omega (
+      arith,
+      ih,
+      ap used_of (stepped_free s b bs u),
+      tally_append (λ (d : Block). one d.used) (free_part b.name (kept s b.size bs)) (stepped s bs),
+      (part_sums b.name (kept s b.size bs)).2,
+      ap one u,
+    )
+
+part_live : (x n : ℕ) (bs : List Block) → live (free_part x n ++ bs) ≡ live bs
+part_live x zero bs = refl
+part_live x (suc n) bs = refl
+
+pub stepped_live : (s : ℕ) (bs : List Block) → live (stepped s bs) ≡ live bs
+stepped_live s [] = refl
+stepped_live s (b ∷ bs) = go b.used refl (stepped_live s bs)
+  where
+    go : (u : Bool) → b.used ≡ u → live (stepped s bs) ≡ live bs → live (stepped s (b ∷ bs)) ≡ live (b ∷ bs)
+    go true u ih = ap live (stepped_used s b bs u) ∙ live_used b (stepped s bs) u ∙ ap (λ l. b ∷ l) ih ∙ sym (live_used b bs u)
+    go false u ih = ap live (stepped_free s b bs u) ∙ part_live b.name (kept s b.size bs) (stepped s bs) ∙ ih ∙ sym (live_idle b bs u)
+
+pub stepped_length : (s : ℕ) (bs : List Block) → length (stepped s bs) ≤ length bs
+stepped_length s [] = omega arith
+stepped_length s (b ∷ bs) = go b.used refl (stepped_length s bs)
+  where
+    go : (u : Bool) → b.used ≡ u → length (stepped s bs) ≤ length bs → length (stepped s (b ∷ bs)) ≤ length (b ∷ bs)
+    go true u ih = omega (arith, ih, ap (λ (l : List Block). length l) (stepped_used s b bs u))
+    go false u ih = omega (
+      arith,
+      ih,
+      ap (λ (l : List Block). length l) (stepped_free s b bs u),
+      length-append (free_part b.name (kept s b.size bs)) (stepped s bs),
+      (part_sums b.name (kept s b.size bs)).0,
+    )
+
+-- a free one at the end goes
+pub stepped_fewer : (s : ℕ) (bs : List Block) → bs ≢ [] → ends_used bs ≡ false → length (stepped s bs) + 1 ≤ length bs
+stepped_fewer s [] some e = absurd (some refl)
+stepped_fewer s (b ∷ []) some e = omega (arith, ap (λ (l : List Block). length l) (stepped_free s b [] e))
+stepped_fewer s (b ∷ c ∷ bs) some e = go b.used refl (stepped_fewer s (c ∷ bs) (λ q. absurd (cc)) e)
+  where
+    go : (u : Bool) → b.used ≡ u → length (stepped s (c ∷ bs)) + 1 ≤ length (c ∷ bs) → length (stepped s (b ∷ c ∷ bs)) + 1 ≤ length (b ∷ c ∷ bs)
+    go true u ih = omega (arith, ih, ap (λ (l : List Block). length l) (stepped_used s b (c ∷ bs) u))
+    go false u ih = omega (
+      arith,
+      ih,
+      ap (λ (l : List Block). length l) (stepped_free s b (c ∷ bs) u),
+      length-append (free_part b.name (kept s b.size (c ∷ bs))) (stepped s (c ∷ bs)),
+      (part_sums b.name (kept s b.size (c ∷ bs))).0,
+    )
+
+-- what free blocks keep is between used ones
+pub stepped_apart : (s : ℕ) (bs : List Block) (h : Block) → AreCoalesced bs → AreCoalesced (stepped s bs ++ h ∷ [])
+stepped_apart s [] h a = (end h.used, tt)
+  where
+    end : (u : Bool) → (not u && false) ≡ false
+    end true = refl
+    end false = refl
+stepped_apart s (b ∷ bs) h a = go b.used refl (stepped_apart s bs h a.1)
+  where
+    part : (n : ℕ) (l : List Block) → starts_free l ≡ false → AreCoalesced l → AreCoalesced (free_part b.name n ++ l)
+    part zero l e k = k
+    part (suc n) l e k = (e, k)
+
+    next : (l : List Block) → bs ≡ l → starts_free l ≡ false → (l ≡ [] → ⊥) → starts_free (stepped s l ++ h ∷ []) ≡ false
+    next [] q e some = absurd (some refl)
+    next (c ∷ cs) q e some = let used : c.used ≡ true = not-false c.used e in
+        ap (λ l. starts_free (l ++ h ∷ [])) (stepped_used s c cs used) ∙ e
+
+    none : (l : List Block) → bs ≡ l → kept s b.size l ≢ 0 → l ≡ [] → ⊥
+    none l q some e = some (ap (kept s b.size) e)
+
+    go : (u : Bool) → b.used ≡ u → AreCoalesced (stepped s bs ++ h ∷ []) → AreCoalesced (stepped s (b ∷ bs) ++ h ∷ [])
+    go true u ih = subst (λ l. AreCoalesced (l ++ h ∷ [])) (sym (stepped_used s b bs u)) (ap (λ t. not t && starts_free (stepped s bs ++ h ∷ [])) u, ih)
+    go false u ih = subst (λ l. AreCoalesced (l ++ h ∷ [])) (sym (stepped_free s b bs u))
+        (subst AreCoalesced (sym (append_assoc (free_part b.name (kept s b.size bs)) (stepped s bs) (h ∷ []))) (keeps (kept s b.size bs) refl))
+      where
+        before : starts_free bs ≡ false
+        before = right_false (not b.used) (starts_free bs) a.0 (ap not u)
+
+        keeps : (n : ℕ) → kept s b.size bs ≡ n → AreCoalesced (free_part b.name n ++ (stepped s bs ++ h ∷ []))
+        keeps zero q = ih
+        keeps (suc n) q = part (suc n) (stepped s bs ++ h ∷ []) (next bs refl before (none bs refl (λ z. absurd (omega (arith, q, z))))) ih
+
+-- a space with a block that has a step
+module _ (f : Fields) (s : AreSound f) (t : ℕ) (x : ℕ) (o : IsWhole t (blocks f.cells.chain f.last) x) where
+  abbrev v : View
+  v = shown f
+
+  abbrev run : List Block
+  run = o.first ∷ o.rest
+
+  w : IsWellFormed v
+  w = well_counted (shown (record f { accesses = 0 })) f.accesses s.well
+
+  pub first_place : HasPlace f.cells.chain f.cells.chain.reserved f.last f.count x (record { before = o.front; block = o.first; after = o.rest })
+  first_place = placed (rw o.is at s.space) o.name
+
+  pub run_filed : AreInBins (o.front ++ (o.first ∷ o.rest)) (bins_in f.max f.cells.bins)
+  run_filed = subst (λ l. AreInBins l (bins_in f.max f.cells.bins)) o.is w.binned
+
+  ends : (fs : List Block) → ends_used (fs ++ o.first ∷ o.rest) ≡ ends_used (o.first ∷ o.rest)
+  ends [] = refl
+  ends (b ∷ []) = refl
+  ends (b ∷ c ∷ fs) = ends (c ∷ fs)
+
+  -- what is left
+  module _ (can : CanStep (shown f)) (d : Cells) (last count y : ℕ)
+      (there : HasPlace d.chain f.cells.chain.reserved last count y (record { before = o.front ++ stepped t (o.first ∷ o.rest); block = free_block y (given_up t (o.first ∷ o.rest)); after = [] })) where
+    abbrev hole : Block
+    hole = free_block y (given_up t run)
+
+    abbrev left_view : View
+    left_view = record v { blocks = o.front ++ (stepped t run ++ hole ∷ []); bins = push (down (given_up t run)) y (rebinned t run v.bins) }
+
+    list_is : (o.front ++ stepped t run) ++ hole ∷ [] ≡ o.front ++ (stepped t run ++ hole ∷ [])
+    list_is = append_assoc o.front (stepped t run) (hole ∷ [])
+
+    fewer : length (o.front ++ (stepped t run ++ hole ∷ [])) + 1 ≤ f.limit
+    fewer = elim can [
+      | inl room ↦ omega (
+        arith,
+        room,
+        ap (λ (l : List Block). length l) o.is,
+        length-append o.front run,
+        length-append o.front (stepped t run ++ hole ∷ []),
+        length-append (stepped t run) (hole ∷ []),
+        stepped_length t run,
+      )
+      | inr e ↦ omega (
+        arith,
+        w.room,
+        ap (λ (l : List Block). length l) o.is,
+        length-append o.front run,
+        length-append o.front (stepped t run ++ hole ∷ []),
+        length-append (stepped t run) (hole ∷ []),
+        stepped_fewer t run (λ q. absurd (cc)) (sym (ends o.front) ∙ sym (ap ends_used o.is) ∙ e),
+      )
+    ]
+
+    parts : AreCoalesced o.front × AreCoalesced (o.first ∷ o.rest) × ((ends_free o.front && starts_free (o.first ∷ o.rest)) ≡ false)
+    parts = apart_parts o.front run (subst AreCoalesced o.is w.apart)
+
+    left_well : length (rebinned t (o.first ∷ o.rest) (bins_in f.max f.cells.bins)) ≡ 256 → AreInBins (o.front ++ stepped t (o.first ∷ o.rest)) (rebinned t (o.first ∷ o.rest) (bins_in f.max f.cells.bins))
+        → IsWellFormed left_view
+    left_well long filed = record {
+      some = omega (arith, length-append o.front (stepped t run ++ hole ∷ []), length-append (stepped t run) (hole ∷ []));
+      distinct = λ k. subst (λ l. count_named k l ≤ 1) list_is (omega (arith, each-le d.chain _ last count _ there.chain k));
+      below = λ k big. subst (λ l. count_named k l ≡ 0) list_is (elim (eq-zero-or-pos (count_named k ((o.front ++ stepped t run) ++ hole ∷ []))) [
+        | inl z ↦ z
+        | inr p ↦ absurd (omega (arith, big, there-below d.chain _ last count k _ there.chain (omega (arith, p)), there.chain.within, s.memory))
+      ]);
+      whole = omega (
+        arith,
+        w.whole,
+        ap units o.is,
+        units-append o.front run,
+        units-append o.front (stepped t run ++ hole ∷ []),
+        units-append (stepped t run) (hole ∷ []),
+        stepped_units t run,
+      );
+      fits = w.fits;
+      apart = apart_append o.front (stepped t run ++ hole ∷ []) parts.0 (stepped_apart t run hole parts.1)
+          (ap (λ u. u && starts_free (stepped t run ++ hole ∷ [])) (left_false (ends_free o.front) (starts_free run) parts.2 (ap not o.free)));
+      classes = length_put (down (given_up t run)) y (rebinned t run v.bins) ∙ long;
+      binned = subst (λ l. AreInBins l (push (down (given_up t run)) y (rebinned t run v.bins))) (append-nil ((o.front ++ stepped t run) ++ hole ∷ []) ∙ list_is)
+          (filed_put (o.front ++ stepped t run) [] hole (rebinned t run v.bins) refl long (subst (λ l. AreInBins l (rebinned t run v.bins)) (sym (append-nil (o.front ++ stepped t run))) filed));
+      room = fewer;
+      few_used = omega (
+        arith,
+        w.few_used,
+        ap used_of o.is,
+        tally_append (λ (b : Block). one b.used) o.front run,
+        tally_append (λ (b : Block). one b.used) o.front (stepped t run ++ hole ∷ []),
+        tally_append (λ (b : Block). one b.used) (stepped t run) (hole ∷ []),
+        stepped_used_of t run,
+      );
+    }
+
+    total : free_units ((o.front ++ stepped t run) ++ hole ∷ []) ≡ f.free
+    total = omega (
+      arith,
+      s.total,
+      free_sum (blocks f.cells.chain f.last),
+      ap free_units o.is,
+      free_units-append o.front run,
+      free_units-append (o.front ++ stepped t run) (hole ∷ []),
+      free_units-append o.front (stepped t run),
+      free_units-free hole [] refl,
+      stepped_free_units t run,
+    )
+
+    pub steps : {top accesses : ℕ} (left : List ℕ) → IsBinned f.max d.bins top
+        → bins_in f.max d.bins ≡ push (down (given_up t (o.first ∷ o.rest))) y (rebinned t (o.first ∷ o.rest) (bins_in f.max f.cells.bins))
+        → length (rebinned t (o.first ∷ o.rest) (bins_in f.max f.cells.bins)) ≡ 256
+        → AreInBins (o.front ++ stepped t (o.first ∷ o.rest)) (rebinned t (o.first ∷ o.rest) (bins_in f.max f.cells.bins))
+        → IsTaken (length (blocks f.cells.chain f.last)) (take f.count f.cells.chain.spare) y left → take count d.chain.spare ≡ left ++ names_of (used_up t (o.first ∷ o.rest))
+        → AreSound (record f { cells = d; last = last; count = count; top = top; accesses = accesses })
+        × SlidesBy t (shown f) (shown (record f { cells = d; last = last; count = count; top = top; accesses = accesses }))
+    steps {top} {accesses} left bins lists long filed taken unused =
+        let done = joints.stepped f s left_view d f.free accesses (left_well long filed) refl there.chain list_is bins lists total in (
+          done.0,
+          record {
+            front = o.front;
+            first = o.first;
+            rest = o.rest;
+            is = o.is;
+            few = o.few;
+            free = o.free;
+            whole = o.whole;
+            more = o.more;
+            name = y;
+            left = left;
+            taken = taken;
+            names = unused;
+            view = done.1;
+          },
+        )
+
+-- the live blocks stay
+pub steps_live : (t : ℕ) (v w : View) → SlidesBy t v w → live w.blocks ≡ live v.blocks
+steps_live t v w h =
+    let run : List Block = h.first ∷ h.rest in
+    ap (λ (u : View). live u.blocks) h.view ∙ live_append h.front (stepped t run ++ free_block h.name (given_up t run) ∷ [])
+    ∙ ap (λ l. live h.front ++ l) (live_append (stepped t run) (free_block h.name (given_up t run) ∷ []) ∙ append-nil (live (stepped t run)) ∙ stepped_live t run)
+    ∙ sym (live_append h.front run) ∙ sym (ap live h.is)
+
+-- whatever was counted before
+pub steps_counted : (t k : ℕ) (v w : View) → SlidesBy t (record v { accesses = k }) w → SlidesBy t v w
+steps_counted t k v w h = record {
+  front = h.front;
+  first = h.first;
+  rest = h.rest;
+  is = h.is;
+  few = h.few;
+  free = h.free;
+  whole = h.whole;
+  more = h.more;
+  name = h.name;
+  left = h.left;
+  taken = h.taken;
+  names = h.names;
+  view = h.view;
+}
+
+-- a block of no units before a block
+pub opened_place : {c : ChainCells} {m last count x : ℕ} (y : ℕ) (fs : List Block) (b : Block) (cs : List Block)
+    → HasPlace c m last count x (record { before = fs ++ free_block y 0 ∷ []; block = record b { size = b.size - 0 }; after = cs })
+    → HasPlace c m last count y (record { before = fs; block = free_block y 0; after = b ∷ cs })
+opened_place {c} {m} {last} {count} y fs b cs h =
+    let same : b.size - 0 ≡ b.size = omega arith in
+    placed (subst (λ (n : ℕ). IsChain c m last count (fs ++ free_block y 0 ∷ record b { size = n } ∷ cs)) same
+    (subst (λ l. IsChain c m last count l) (append_assoc fs (free_block y 0 ∷ []) (record b { size = b.size - 0 } ∷ cs)) h.chain)) refl
+
+-- moves: each goes to a smaller offset by whole steps, and can be copied before the later ones
+later : (s n from to : ℕ) (bs : List Block) → n ≤ from → AllByRecursion (λ (k : Move). n ≤ k.from) (moves_by s from to bs)
+later s n from to [] l = tt
+later s n from to (b ∷ bs) l =
+    let ih = later s n (from + b.size) (to + b.size) bs (omega (arith, l)) in
+    let other = later s n (from + b.size) (to + kept s b.size bs) bs (omega (arith, l)) in
+    elim b.used as (λ u. AllByRecursion (λ (k : Move). n ≤ k.from) (if u then move_of from to b ++ moves_by s (from + b.size) (to + b.size) bs else moves_by s (from + b.size) (to + kept s b.size bs) bs)) [
+      | true ↦ elim (nat_eq from to) as (λ t. AllByRecursion (λ (k : Move). n ≤ k.from)
+          ((if t then [] else record { name = b.name; from = from; to = to; size = b.size } ∷ []) ++ moves_by s (from + b.size) (to + b.size) bs)) [ true ↦ ih | false ↦ (l, ih) ]
+      | false ↦ other
+    ]
+
+pub safe_by : (s from to : ℕ) (bs : List Block) → to ≤ from → AreSafe (moves_by s from to bs)
+safe_by s from to [] l = tt
+safe_by s from to (b ∷ bs) l =
+    let ih = safe_by s (from + b.size) (to + b.size) bs (omega (arith, l)) in
+    let other = safe_by s (from + b.size) (to + kept s b.size bs) bs (omega (arith, l, kept_most s b.size bs)) in
+    let rest = later s (to + b.size) (from + b.size) (to + b.size) bs (omega (arith, l)) in
+    elim b.used as (λ u. AreSafe (if u then move_of from to b ++ moves_by s (from + b.size) (to + b.size) bs else moves_by s (from + b.size) (to + kept s b.size bs) bs)) [
+      | true ↦ grind (arith, common_steps, cases_eq, nat_tests)
+      | false ↦ other
+    ]
+
+pub between_by : (s first end from to : ℕ) (bs : List Block) → first ≤ to → to ≤ from → from + units bs ≤ end → AreBetween first end (moves_by s from to bs)
+between_by s first end from to [] l d e = tt
+between_by s first end from to (b ∷ bs) l d e =
+    let ih = between_by s first end (from + b.size) (to + b.size) bs (omega (arith, l)) (omega (arith, d)) (omega (arith, e)) in
+    let other = between_by s first end (from + b.size) (to + kept s b.size bs) bs (omega (arith, l)) (omega (arith, d, kept_most s b.size bs)) (omega (arith, e)) in
+    elim b.used as (λ u. AreBetween first end (if u then move_of from to b ++ moves_by s (from + b.size) (to + b.size) bs else moves_by s (from + b.size) (to + kept s b.size bs) bs)) [
+      | true ↦ elim (nat_eq from to) as (λ t. AreBetween first end
+          ((if t then [] else record { name = b.name; from = from; to = to; size = b.size } ∷ []) ++ moves_by s (from + b.size) (to + b.size) bs)) [
+            | true ↦ ih
+            | false ↦ ((l, omega (arith, d, e), omega (arith, e)), ih)
+          ]
+      | false ↦ other
+    ]
+
+-- what is added to numbers that leave the same of a step
+same_rest : (s i j n : ℕ) → i % s ≡ j % s → (i + n) % s ≡ (j + n) % s
+same_rest s i j n e = add-mod i n s ∙ ap (λ k. (k + n % s) % s) e ∙ sym (add-mod j n s)
+
+same_kept : (s i j n : ℕ) → i % s ≡ j % s → (i + n) % s ≡ (j + n % s) % s
+same_kept s i j n e = same_rest s i j n e ∙ add-mod j n s ∙ ap (λ k. (j % s + k) % s) (sym (mod-mod n s)) ∙ sym (add-mod j (n % s) s)
+
+moved_rests : (s from to : ℕ) (b : Block) (ms : List Move) → from % s ≡ to % s → AllByRecursion (λ (m : Move). m.from % s ≡ m.to % s) ms
+    → AllByRecursion (λ (m : Move). m.from % s ≡ m.to % s) (move_of from to b ++ ms)
+moved_rests s from to b ms e h = elim (nat_eq from to) as (λ t. AllByRecursion (λ (m : Move). m.from % s ≡ m.to % s)
+    ((if t then [] else record { name = b.name; from = from; to = to; size = b.size } ∷ []) ++ ms)) [ true ↦ h | false ↦ (e, h) ]
+
+pub rests_by : (s from to : ℕ) (bs : List Block) → from % s ≡ to % s → AllByRecursion (λ (m : Move). m.from % s ≡ m.to % s) (moves_by s from to bs)
+rests_by s from to [] e = tt
+rests_by s from to (b ∷ []) e =
+    elim b.used as (λ u. AllByRecursion (λ (m : Move). m.from % s ≡ m.to % s) (if u then move_of from to b ++ [] else [])) [ true ↦ moved_rests s from to b [] e tt | false ↦ tt ]
+rests_by s from to (b ∷ c ∷ bs) e =
+    let ih = rests_by s (from + b.size) (to + b.size) (c ∷ bs) (same_rest s from to b.size e) in
+    let other = rests_by s (from + b.size) (to + b.size % s) (c ∷ bs) (same_kept s from to b.size e) in
+    elim b.used as (λ u. AllByRecursion (λ (m : Move). m.from % s ≡ m.to % s)
+    (if u then move_of from to b ++ moves_by s (from + b.size) (to + b.size) (c ∷ bs) else moves_by s (from + b.size) (to + b.size % s) (c ∷ bs))) [
+      | true ↦ moved_rests s from to b (moves_by s (from + b.size) (to + b.size) (c ∷ bs)) e ih
+      | false ↦ other
+    ]
+
+-- and so keeps each alignment that divides the step
+pub aligned_by : (align k from to : ℕ) (bs : List Block) → from ≡ to → AllByRecursion (λ (m : Move). m.from % align ≡ m.to % align) (moves_by (k * align) from to bs)
+aligned_by align k from to bs e = each (moves_by (k * align) from to bs) (rests_by (k * align) from to bs (ap (λ n. n % (k * align)) e))
+  where
+    divides : (n : ℕ) → n % align ≡ (n % (k * align)) % align
+    divides n = ap (λ m. m % align) (sym (mod-add-div' n (k * align)) ∙ ap (λ m. n % (k * align) + m) (sym (mul_assoc (n / (k * align)) k align)))
+        ∙ add-mul-mod_self_right (n % (k * align)) (n / (k * align) * k) align
+
+    each : (ms : List Move) → AllByRecursion (λ (m : Move). m.from % (k * align) ≡ m.to % (k * align)) ms → AllByRecursion (λ (m : Move). m.from % align ≡ m.to % align) ms
+    each [] h = tt
+    each (m ∷ ms) h = (divides m.from ∙ ap (λ n. n % align) h.0 ∙ sym (divides m.to), each ms h.1)

@@ -1,0 +1,276 @@
+-- A slide by whole steps: what is found first, and how far it has come.
+use Rattle.offset_allocator.proofs.{Linking.Names.names-append, Linking.Parts.some_part, Filing.Filed.filed_in, Filing.Filed.filed_out, Filing.Filed.share, Moving.Gaps.follows}
+use Rattle.offset_allocator.proofs.{Moving.Gaps.next_after, Moving.Gaps.seen, Moving.Sliding.folds_append, Tallies.listed_named, Tallies.one-same, Tallies.tally_append, Tallies.times-append, Tallies.units-append}
+use Rattle.offset_allocator.proofs.{Views.ViewBins.hit, Views.ViewBins.length_remove, Views.ViewBins.times_put, Classes.down_small}
+use Rattle.offset_allocator.proofs.Common.{◌≡◌, ◌≢◌, ℕ, zero, suc, ◌+◌, ◌-◌, ◌*◌, ◌<◌, ◌≤◌, Bool, true, false, not, ◌&&◌, nat_le, nat_eq, Some, None, Option, List, [], ◌∷◌, ◌++◌, if◌then◌else◌, refl, sym}
+use Rattle.offset_allocator.proofs.Common.{ap, ap₂, subst, ◌∙◌, arith, append_assoc, append-nil, length, length-append, FoldsTo, ChainCells, node, Block, Place, free_block, free_part, units, first_or, Move, move_of, HasPlace}
+use Rattle.offset_allocator.proofs.Common.{AreInBins, IsAmong, IsUnlisted, ne_eqb, bin_at, down, remove, push, push_all, count_named, count_in_bin, one}
+use Rattle.offset_allocator.specs.Moving.BySteps.{first_whole, kept, stepped, given_up, used_up, rebinned, moves_by}
+use Rattle.offset_allocator.specs.{Moving.Gaps.HasGap, Moving.Gaps.IsGap, Names.names_of}
+use Rattle.offset_allocator.specs.declared.moves.gap.Gap.{Gap}
+
+-- one block more in front
+pub first_here : (s : ℕ) (b : Block) (bs : List Block) → bs ≢ [] → (u : Bool) → u ≡ (not b.used && nat_le s b.size)
+    → first_whole s (b ∷ bs) ≡ (if u then Some b.name else first_whole s bs)
+first_here s b [] some u e = absurd (some refl)
+first_here s b (c ∷ bs) some u e = ap (λ (t : Bool). if t then Some b.name else first_whole s (c ∷ bs)) (sym e)
+
+-- a used block stays as it is
+module _ (s : ℕ) (b : Block) (bs : List Block) (u : b.used ≡ true) where
+  pub stepped_used : stepped s (b ∷ bs) ≡ b ∷ stepped s bs
+  stepped_used = ap (λ (t : Bool). (if t then b ∷ [] else free_part b.name (kept s b.size bs)) ++ stepped s bs) u
+
+  pub given_used : given_up s (b ∷ bs) ≡ given_up s bs
+  given_used = ap (λ (t : Bool). (if t then 0 else b.size - kept s b.size bs) + given_up s bs) u ∙ omega arith
+
+  pub emptied_used : used_up s (b ∷ bs) ≡ used_up s bs
+  emptied_used = ap (λ (t : Bool). (if not t && nat_eq (kept s b.size bs) 0 then b ∷ [] else []) ++ used_up s bs) u
+
+  pub rebinned_used : (ls : List (List ℕ)) → rebinned s (b ∷ bs) ls ≡ rebinned s bs ls
+  rebinned_used ls = ap (λ (t : Bool). rebinned s bs (if t then ls else push_all (free_part b.name (kept s b.size bs)) (remove (down b.size) b.name ls))) u
+
+  pub moves_by_used : (i j : ℕ) → moves_by s i j (b ∷ bs) ≡ move_of i j b ++ moves_by s (i + b.size) (j + b.size) bs
+  moves_by_used i j = ap (λ (t : Bool). if t then move_of i j b ++ moves_by s (i + b.size) (j + b.size) bs else moves_by s (i + b.size) (j + kept s b.size bs) bs) u
+
+-- a free one keeps a part
+module _ (s : ℕ) (b : Block) (bs : List Block) (u : b.used ≡ false) where
+  pub stepped_free : stepped s (b ∷ bs) ≡ free_part b.name (kept s b.size bs) ++ stepped s bs
+  stepped_free = ap (λ (t : Bool). (if t then b ∷ [] else free_part b.name (kept s b.size bs)) ++ stepped s bs) u
+
+  pub given_free : given_up s (b ∷ bs) ≡ (b.size - kept s b.size bs) + given_up s bs
+  given_free = ap (λ (t : Bool). (if t then 0 else b.size - kept s b.size bs) + given_up s bs) u
+
+  pub emptied_free : (n : ℕ) → n ≡ kept s b.size bs → used_up s (b ∷ bs) ≡ (if nat_eq n 0 then b ∷ [] else []) ++ used_up s bs
+  emptied_free n e = ap (λ (t : Bool). (if not t && nat_eq (kept s b.size bs) 0 then b ∷ [] else []) ++ used_up s bs) u
+      ∙ ap (λ (m : ℕ). (if nat_eq m 0 then b ∷ [] else []) ++ used_up s bs) (sym e)
+
+  pub rebinned_free : (ls : List (List ℕ)) → rebinned s (b ∷ bs) ls ≡ rebinned s bs (push_all (free_part b.name (kept s b.size bs)) (remove (down b.size) b.name ls))
+  rebinned_free ls = ap (λ (t : Bool). rebinned s bs (if t then ls else push_all (free_part b.name (kept s b.size bs)) (remove (down b.size) b.name ls))) u
+
+  pub moves_by_free : (i j : ℕ) → moves_by s i j (b ∷ bs) ≡ moves_by s (i + b.size) (j + kept s b.size bs) bs
+  moves_by_free i j = ap (λ (t : Bool). if t then move_of i j b ++ moves_by s (i + b.size) (j + b.size) bs else moves_by s (i + b.size) (j + kept s b.size bs) bs) u
+
+-- a free block goes into its bin
+pub filed_put : (fs cs : List Block) (d : Block) (ls : List (List ℕ)) → d.used ≡ false → length ls ≡ 256 → AreInBins (fs ++ cs) ls → AreInBins ((fs ++ d ∷ []) ++ cs) (push (down d.size) d.name ls)
+filed_put fs cs d ls u long f k y =
+    let here : share k y d ≡ hit k (down d.size) y d.name = ap (λ (t : Bool). one (not t && (nat_eq k (down d.size) && nat_eq y d.name))) u in
+    omega (
+      arith,
+      f k y,
+      here,
+      times_put (down d.size) d.name k y ls long (down_small d.size),
+      tally_append (share k y) fs cs,
+      tally_append (share k y) (fs ++ d ∷ []) cs,
+      tally_append (share k y) fs (d ∷ []),
+    )
+
+-- how far a gap has come over the blocks of a run: `left` is what stays of those that were met, those in `rest` were not
+-- met yet, and `at` is the link to the next one
+pub record IsStepping {F A B : Type 0} (R : F → Move → F → Type 0) (s : ℕ) (front run : List Block) (f : F) (accesses : ℕ) (max : ℕ) (number : A → ℕ)
+    (t : ChainCells) (m last count : ℕ) (gap : Gap A B) (at : Option ℕ) (g : F) (used : ℕ) (ls₀ ls : List (List ℕ)) (u₀ u : List ℕ) : Type 0 where
+  pub left : List Block
+  pub rest : List Block
+  pub there : IsGap max number gap t m last count (record { before = front ++ left; block = free_block gap.name gap.size; after = rest })
+  pub next : at ≡ first_or None rest
+  pub blocks : left ++ stepped s rest ≡ stepped s run
+  pub sized : gap.size + given_up s rest ≡ given_up s run
+  pub moved : List Move
+  pub calls : FoldsTo R f moved g
+  pub all : moved ++ moves_by s (gap.offset + gap.size) gap.offset rest ≡ moves_by s (units front) (units front) run
+  pub bins : rebinned s rest ls ≡ rebinned s run ls₀
+  pub filed : AreInBins ((front ++ left) ++ rest) ls
+  pub put : List ℕ
+  pub unused : u ≡ u₀ ++ put
+  pub names : put ++ names_of (used_up s rest) ≡ names_of (used_up s run)
+  pub bounded : used + 18 * length rest ≤ accesses + 18 * length run
+
+-- at first
+pub stepping_start : {F A B : Type 0} {R : F → Move → F → Type 0} (s : ℕ) {front run : List Block} {x : ℕ} {f : F} {accesses : ℕ} {max : ℕ} {number : A → ℕ} {t : ChainCells} {m last count : ℕ}
+    {gap : Gap A B} {at : Option ℕ} {ls : List (List ℕ)} {u : List ℕ}
+    → IsGap max number gap t m last count (record { before = front; block = free_block x 0; after = run }) → at ≡ first_or None run → AreInBins (front ++ run) ls
+    → IsStepping R s front run f accesses max number t m last count gap at f accesses ls ls u u
+stepping_start s {front} {run} {x} {max = max} {number = number} {t = t} {m = m} {last = last} {count = count} {gap = gap} {ls = ls} {u = u} i at_is filed =
+    let zero_more : units front + 0 ≡ units front = omega arith in
+    record {
+      left = [];
+      rest = run;
+      there = subst (λ (l : List Block). IsGap max number gap t m last count (record { before = l; block = free_block gap.name gap.size; after = run })) (sym (append-nil front))
+          (subst (λ (b : Block). IsGap max number gap t m last count (record { before = front; block = b; after = run })) (ap₂ free_block i.there.name (sym i.size)) i);
+      next = at_is;
+      blocks = refl;
+      sized = omega (arith, i.size);
+      moved = [];
+      calls = refl;
+      all = rw (i.size, i.offset, zero_more) refl;
+      bins = refl;
+      filed = subst (λ (l : List Block). AreInBins (l ++ run) ls) (sym (append-nil front)) filed;
+      put = [];
+      unused = sym (append-nil u);
+      names = refl;
+      bounded = omega arith;
+    }
+
+module _ {F A B : Type 0} {R : F → Move → F → Type 0} {s : ℕ} {front run : List Block} {f : F} {accesses : ℕ} {max : ℕ} {number : A → ℕ} {t : ChainCells} {m last count : ℕ}
+    {gap : Gap A B} {at : Option ℕ} {g : F} {used : ℕ} {ls₀ ls : List (List ℕ)} {u₀ u : List ℕ}
+    (i : IsStepping R s front run f accesses max number t m last count gap at g used ls₀ ls u₀ u) where
+  -- a block is left where a link leads to it
+  pub stepping_next : {y : ℕ} → at ≡ Some y → (b : Block) × (bs : List Block) × (i.rest ≡ b ∷ bs) × (b.name ≡ y)
+  stepping_next {y} q = go i.rest refl (sym i.next ∙ q)
+    where
+      go : (l : List Block) → i.rest ≡ l → first_or None l ≡ Some y → (b : Block) × (bs : List Block) × (i.rest ≡ b ∷ bs) × (b.name ≡ y)
+      go [] e n = absurd (cc)
+      go (b ∷ bs) e n = (b, bs, e, cc)
+
+  -- none is left where it leads to none
+  pub stepping_end : at ≡ None → i.rest ≡ []
+  stepping_end q = go i.rest refl (sym i.next ∙ q)
+    where
+      go : (l : List Block) → i.rest ≡ l → first_or None l ≡ None → i.rest ≡ []
+      go [] e n = e
+      go (b ∷ bs) e n = absurd (cc)
+
+  pub stepping_within : {c : ChainCells} {last₀ count₀ x : ℕ} {b : Block} → HasPlace c m last₀ count₀ x (record { before = front; block = b; after = run }) → length run < length c.nodes
+  stepping_within {b = b} h = omega (arith, h.chain.full, length-append front (b ∷ run))
+
+  module _ (b : Block) (bs : List Block) (e : i.rest ≡ b ∷ bs) where
+    -- the gap, before the next block
+    pub gap_here : HasGap t m last count gap.name (record { before = front ++ i.left; block = free_block gap.name gap.size; after = b ∷ bs })
+    gap_here = follows i.there.there e
+
+    pub next_filed : b.used ≡ false → IsAmong b.name (bin_at ls (down b.size))
+    next_filed free = filed_in (front ++ i.left) bs b ls (subst (λ l. AreInBins ((front ++ i.left) ++ l) ls) e i.filed) free
+
+    pub next_gone : b.used ≡ false → length ls ≡ 256 → AreInBins ((front ++ i.left) ++ bs) (remove (down b.size) b.name ls)
+    next_gone free long = filed_out (front ++ i.left) bs b ls (subst (λ l. AreInBins ((front ++ i.left) ++ l) ls) e i.filed) free long
+        (λ y. omega (arith, seen _ _ (b ∷ bs) gap_here y, times-append y (front ++ i.left) (b ∷ bs)))
+
+    pub next_unlisted : b.used ≡ false → length ls ≡ 256 → IsUnlisted b.name (remove (down b.size) b.name ls)
+    next_unlisted free long k l a = omega (
+      arith,
+      next_gone free long k b.name,
+      listed_named k b.name ((front ++ i.left) ++ bs),
+      seen _ _ (b ∷ bs) gap_here b.name,
+      one-same b.name,
+      times-append b.name (front ++ i.left) bs,
+      a,
+    )
+
+    -- a used block passes it
+    pub step_past : {t' : ChainCells} {last' count' : ℕ} {gap' : Gap A B} {at' : Option ℕ} {g' : F} {used' : ℕ} {ls' : List (List ℕ)} {u' : List ℕ} → b.used ≡ true
+        → IsGap max number gap' t' m last' count' (record { before = (front ++ i.left) ++ b ∷ []; block = free_block gap.name gap.size; after = bs })
+        → at' ≡ (node t b.name).after → FoldsTo R g (move_of (gap.offset + gap.size) gap.offset b) g' → used' ≤ used + 18 → ls' ≡ ls → u' ≡ u
+        → IsStepping R s front run f accesses max number t' m last' count' gap' at' g' used' ls₀ ls' u₀ u'
+    step_past {t'} {last'} {count'} {gap'} {at'} {g'} {used'} {ls'} {u'} live h q call few same_bins same_names =
+        let offset : gap'.offset ≡ gap.offset + b.size = omega (arith, h.offset, i.there.offset, units-append (front ++ i.left) (b ∷ [])) in
+        let from : (gap.offset + gap.size) + b.size ≡ gap'.offset + gap'.size = omega (arith, offset, h.size) in
+        record {
+          left = i.left ++ b ∷ [];
+          rest = bs;
+          there = subst (λ (l : List Block). IsGap max number gap' t' m last' count' (record { before = l; block = free_block gap'.name gap'.size; after = bs })) (append_assoc front i.left (b ∷ []))
+              (subst (λ (d : Block). IsGap max number gap' t' m last' count' (record { before = (front ++ i.left) ++ b ∷ []; block = d; after = bs })) (ap₂ free_block h.there.name (sym h.size)) h);
+          next = q ∙ next_after _ _ b bs gap_here;
+          blocks = append_assoc i.left (b ∷ []) (stepped s bs) ∙ ap (λ l. i.left ++ l) (sym (ap (stepped s) e ∙ stepped_used s b bs live)) ∙ i.blocks;
+          sized = omega (arith, i.sized, h.size, ap (given_up s) e, given_used s b bs live);
+          moved = i.moved ++ move_of (gap.offset + gap.size) gap.offset b;
+          calls = folds_append R i.moved (move_of (gap.offset + gap.size) gap.offset b) f g g' i.calls call;
+          all = append_assoc i.moved (move_of (gap.offset + gap.size) gap.offset b) (moves_by s (gap'.offset + gap'.size) gap'.offset bs)
+              ∙ ap (λ l. i.moved ++ l) (ap₂ (λ k j. move_of (gap.offset + gap.size) gap.offset b ++ moves_by s k j bs) (sym from) offset
+              ∙ sym (ap (moves_by s (gap.offset + gap.size) gap.offset) e ∙ moves_by_used s b bs live (gap.offset + gap.size) gap.offset)) ∙ i.all;
+          bins = rw same_bins (sym (ap (λ l. rebinned s l ls) e ∙ rebinned_used s b bs live ls) ∙ i.bins);
+          filed = rw same_bins (subst (λ (l : List Block). AreInBins l ls)
+              (ap (λ l. (front ++ i.left) ++ l) e ∙ sym (append_assoc (front ++ i.left) (b ∷ []) bs) ∙ ap (λ l. l ++ bs) (append_assoc front i.left (b ∷ []))) i.filed);
+          put = i.put;
+          unused = same_names ∙ i.unused;
+          names = ap (λ l. i.put ++ names_of l) (sym (ap (used_up s) e ∙ emptied_used s b bs live)) ∙ i.names;
+          bounded = omega (arith, i.bounded, few, ap (λ (l : List Block). length l) e);
+        }
+
+    -- a free block keeps a part, which passes it
+    pub step_part : {t' : ChainCells} {last' count' : ℕ} {gap' : Gap A B} {at' : Option ℕ} {used' : ℕ} {ls' : List (List ℕ)} {u' : List ℕ} (n : ℕ) → b.used ≡ false → n ≡ kept s b.size bs → 0 < n → n ≤ b.size
+        → length ls ≡ 256
+        → IsGap max number gap' t' m last' count' (record {
+          before = (front ++ i.left) ++ record b { size = n } ∷ [];
+          block = record (free_block gap.name gap.size) { size = gap.size + (b.size - n) };
+          after = bs;
+        })
+        → at' ≡ (node t b.name).after → used' ≤ used + 18 → ls' ≡ push (down n) b.name (remove (down b.size) b.name ls) → u' ≡ u
+        → IsStepping R s front run f accesses max number t' m last' count' gap' at' g used' ls₀ ls' u₀ u'
+    step_part {t'} {last'} {count'} {gap'} {at'} {used'} {ls'} {u'} n free is some within long h q few new_bins same_names =
+        let d : Block = record b { size = n } in
+        let offset : gap'.offset ≡ gap.offset + n = omega (arith, h.offset, i.there.offset, units-append (front ++ i.left) (d ∷ [])) in
+        let from : (gap.offset + gap.size) + b.size ≡ gap'.offset + gap'.size = omega (arith, offset, h.size, within) in
+        let part : d ∷ [] ≡ free_part b.name (kept s b.size bs) = ap (λ (t : Bool). record { name = b.name; size = n; used = t } ∷ []) free ∙ some_part b.name n some ∙ ap (free_part b.name) is in
+        let pushed : ls' ≡ push_all (free_part b.name (kept s b.size bs)) (remove (down b.size) b.name ls) =
+        new_bins ∙ ap (λ (t : Bool). if t then remove (down b.size) b.name ls else push (down n) b.name (remove (down b.size) b.name ls)) (sym free)
+        ∙ ap (λ l. push_all l (remove (down b.size) b.name ls)) part in
+        record {
+          left = i.left ++ d ∷ [];
+          rest = bs;
+          there = subst (λ (l : List Block). IsGap max number gap' t' m last' count' (record { before = l; block = free_block gap'.name gap'.size; after = bs })) (append_assoc front i.left (d ∷ []))
+              (subst (λ (c : Block). IsGap max number gap' t' m last' count' (record { before = (front ++ i.left) ++ d ∷ []; block = c; after = bs })) (ap₂ free_block h.there.name (sym h.size)) h);
+          next = q ∙ next_after _ _ b bs gap_here;
+          blocks = append_assoc i.left (d ∷ []) (stepped s bs)
+              ∙ ap (λ l. i.left ++ l) (ap (λ l. l ++ stepped s bs) part ∙ sym (ap (stepped s) e ∙ stepped_free s b bs free)) ∙ i.blocks;
+          sized = omega (arith, i.sized, h.size, ap (given_up s) e, given_free s b bs free, is);
+          moved = i.moved;
+          calls = i.calls;
+          all = ap (λ l. i.moved ++ l) (ap₂ (λ k j. moves_by s k j bs) (sym from) (offset ∙ ap (λ k. gap.offset + k) is)
+              ∙ sym (ap (moves_by s (gap.offset + gap.size) gap.offset) e ∙ moves_by_free s b bs free (gap.offset + gap.size) gap.offset)) ∙ i.all;
+          bins = ap (rebinned s bs) pushed ∙ sym (ap (λ l. rebinned s l ls) e ∙ rebinned_free s b bs free ls) ∙ i.bins;
+          filed = rw new_bins (subst (λ (l : List Block). AreInBins (l ++ bs) (push (down n) b.name (remove (down b.size) b.name ls))) (append_assoc front i.left (d ∷ []))
+              (filed_put (front ++ i.left) bs d (remove (down b.size) b.name ls) free (length_remove _ _ ls ∙ long) (next_gone free long)));
+          put = i.put;
+          unused = same_names ∙ i.unused;
+          names = ap (λ l. i.put ++ names_of l) (sym (ap (used_up s) e ∙ emptied_free s b bs free n is ∙ none n some)) ∙ i.names;
+          bounded = omega (arith, i.bounded, few, ap (λ (l : List Block). length l) e);
+        }
+      where
+        none : (n : ℕ) → 0 < n → (if nat_eq n 0 then b ∷ [] else []) ++ used_up s bs ≡ used_up s bs
+        none n l = ap (λ (t : Bool). (if t then b ∷ [] else []) ++ used_up s bs) (ne_eqb n 0 (λ q. absurd (omega (arith, l, q))))
+
+    -- a free block goes into it
+    pub step_into : {t' : ChainCells} {last' count' : ℕ} {gap' : Gap A B} {at' : Option ℕ} {used' : ℕ} {ls' : List (List ℕ)} {u' : List ℕ} → b.used ≡ false → 0 ≡ kept s b.size bs → length ls ≡ 256
+        → IsGap max number gap' t' m last' count' (record { before = front ++ i.left; block = record (free_block gap.name gap.size) { size = gap.size + b.size }; after = bs })
+        → at' ≡ (node t b.name).after → used' ≤ used + 18 → ls' ≡ remove (down b.size) b.name ls → u' ≡ u ++ b.name ∷ []
+        → IsStepping R s front run f accesses max number t' m last' count' gap' at' g used' ls₀ ls' u₀ u'
+    step_into {t'} {last'} {count'} {gap'} {at'} {used'} {ls'} {u'} free is long h q few new_bins more_names =
+        let offset : gap'.offset ≡ gap.offset = omega (arith, h.offset, i.there.offset) in
+        let from : (gap.offset + gap.size) + b.size ≡ gap'.offset + gap'.size = omega (arith, offset, h.size) in
+        let zero_more : gap.offset + 0 ≡ gap'.offset = omega (arith, offset) in
+        record {
+          left = i.left;
+          rest = bs;
+          there = subst (λ (c : Block). IsGap max number gap' t' m last' count' (record { before = front ++ i.left; block = c; after = bs })) (ap₂ free_block h.there.name (sym h.size)) h;
+          next = q ∙ next_after _ _ b bs gap_here;
+          blocks = ap (λ l. i.left ++ l) (ap (λ n. free_part b.name n ++ stepped s bs) is ∙ sym (ap (stepped s) e ∙ stepped_free s b bs free)) ∙ i.blocks;
+          sized = omega (arith, i.sized, h.size, ap (given_up s) e, given_free s b bs free, is);
+          moved = i.moved;
+          calls = i.calls;
+          all = ap (λ l. i.moved ++ l) (ap₂ (λ k j. moves_by s k j bs) (sym from) (sym zero_more ∙ ap (λ k. gap.offset + k) is)
+              ∙ sym (ap (moves_by s (gap.offset + gap.size) gap.offset) e ∙ moves_by_free s b bs free (gap.offset + gap.size) gap.offset)) ∙ i.all;
+          bins = ap (rebinned s bs) (new_bins ∙ ap (λ n. push_all (free_part b.name n) (remove (down b.size) b.name ls)) is)
+              ∙ sym (ap (λ l. rebinned s l ls) e ∙ rebinned_free s b bs free ls) ∙ i.bins;
+          filed = rw new_bins (next_gone free long);
+          put = i.put ++ b.name ∷ [];
+          unused = more_names ∙ ap (λ l. l ++ b.name ∷ []) i.unused ∙ append_assoc u₀ i.put (b.name ∷ []);
+          names = append_assoc i.put (b.name ∷ []) (names_of (used_up s bs))
+              ∙ ap (λ l. i.put ++ names_of l) (sym (ap (used_up s) e ∙ emptied_free s b bs free 0 is)) ∙ i.names;
+          bounded = omega (arith, i.bounded, few, ap (λ (l : List Block). length l) e);
+        }
+
+  -- at the end
+  pub stepping_done : i.rest ≡ [] → IsGap max number gap t m last count (record { before = front ++ stepped s run; block = free_block gap.name gap.size; after = [] })
+      × (at ≡ first_or None []) × (gap.size ≡ given_up s run) × FoldsTo R f (moves_by s (units front) (units front) run) g × (ls ≡ rebinned s run ls₀)
+      × AreInBins (front ++ stepped s run) ls × (u ≡ u₀ ++ names_of (used_up s run)) × (used ≤ accesses + 18 * length run)
+  stepping_done none =
+      let left_is : i.left ≡ stepped s run = sym (append-nil i.left) ∙ ap (λ l. i.left ++ stepped s l) (sym none) ∙ i.blocks in (
+        subst (λ (l : List Block). IsGap max number gap t m last count (record { before = front ++ l; block = free_block gap.name gap.size; after = [] })) left_is
+            (subst (λ (l : List Block). IsGap max number gap t m last count (record { before = front ++ i.left; block = free_block gap.name gap.size; after = l })) none i.there),
+        i.next ∙ ap (first_or None) none,
+        omega (arith, i.sized, ap (given_up s) none),
+        subst (λ l. FoldsTo R f l g) (sym (append-nil i.moved) ∙ ap (λ l. i.moved ++ moves_by s (gap.offset + gap.size) gap.offset l) (sym none) ∙ i.all) i.calls,
+        sym (ap (λ l. rebinned s l ls) none) ∙ i.bins,
+        subst (λ (l : List Block). AreInBins l ls) (ap (λ l. (front ++ i.left) ++ l) none ∙ append-nil (front ++ i.left) ∙ ap (λ l. front ++ l) left_is) i.filed,
+        i.unused ∙ ap (λ l. u₀ ++ l) (sym (append-nil i.put) ∙ ap (λ l. i.put ++ names_of (used_up s l)) (sym none) ∙ i.names),
+        omega (arith, i.bounded, ap (λ (l : List Block). length l) none),
+      )

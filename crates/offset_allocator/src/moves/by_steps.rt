@@ -1,0 +1,206 @@
+//! Slides live ranges to the front by whole steps, so that each keeps what its offset leaves of one, and with
+//! it its alignment. It may make a node, changes the chain by one split and by `gap`, and the bins of the free
+//! blocks that are passed and of the one at the end.
+ghost use Rattle.std.specs.Prelude.{ℕ, IsTrue, ◌≡◌, ◌↔◌, ◌≢◌, ◌+◌, ◌*◌, ◌<◌, ◌≤◌, [], ◌∷◌, ◌++◌, List, Some, None, false};
+ghost use Rattle.std.specs.Prelude.{true, length, if◌then◌else◌, not, ◌&&◌, nat_le};
+ghost use Rattle.offset_allocator.specs.Cells.{node};
+ghost use Rattle.std.specs.List.{FoldsTo};
+ghost use Rattle.offset_allocator.specs.Accesses.{Costs};
+ghost use Rattle.offset_allocator.specs.Chain.{IsSpace, blocks, first_or};
+ghost use Rattle.offset_allocator.specs.Moving.BySteps.{CanStep, CompactsBy, used_up, first_whole, given_up, kept};
+ghost use Rattle.offset_allocator.specs.Moving.BySteps.{moves_by, rebinned, stepped};
+ghost use Rattle.offset_allocator.specs.Moving.Compacting.{IsCalledWith, KeepsSizes, live};
+ghost use Rattle.offset_allocator.specs.Names.{names_of};
+ghost use Rattle.offset_allocator.specs.Relations.{SameState};
+ghost use Rattle.offset_allocator.specs.Store.{AreBinned, IsPlaceIn, bins_of, unused_of};
+ghost use Rattle.offset_allocator.specs.View.{AreInBins, Block, free_block, units};
+
+use crate::accesses::Accesses;
+use crate::index::linked;
+use crate::moves::compact::report;
+use crate::moves::gap;
+use crate::moves::gap::Gap;
+use crate::small_float::uint_to_float_round_down;
+use crate::store::{Store, ensure_spare};
+use crate::tables::Tables;
+use crate::{AllocatorOf, Move, bins, chain};
+
+// Whether a block is free and has at least `step` units.
+fn has_step<T: Tables>(tables: &T, name: u32, step: u32, count: &mut Accesses) -> bool
+    requires { name < length (T.cells tables.now).chain.nodes }
+    ensures is { result ≡ (not (node (T.cells tables.now).chain name).used
+        && nat_le step (node (T.cells tables.now).chain name).size) }
+    ensures accesses { Costs 1 2 count.old count.new }
+{
+    if chain::is_used(tables, name, count) {
+        return false;
+    }
+    tables.size(name, count) >= step
+}
+
+// The name of the first free block of at least `step` units that has a block after it, if there is one.
+fn first_whole<T: Tables>(tables: &T, last: u32, step: u32, count: &mut Accesses) -> Option<u32>
+    requires space { (spare : ℕ) × IsSpace (T.cells tables.now).chain last spare }
+    ensures first { result ≡ first_whole step (blocks (T.cells tables.now).chain last) }
+    ensures accesses { Costs (length (blocks (T.cells tables.now).chain last))
+        (3 * length (blocks (T.cells tables.now).chain last)) count.old count.new }
+{
+    let mut first = None;
+    let mut at = chain::before(tables, last, count);
+    while let Some(name) = at {
+        if has_step(tables, name, step, count) {
+            first = Some(name);
+        }
+        at = chain::before(tables, name, count);
+    }
+    first
+}
+
+// What a free block of `size` units keeps, which has the block after it that a link names: what whole steps
+// leave of it, and nothing at the end.
+fn kept(size: u32, step: u32, after: Option<u32>) -> u32
+    requires { 1 ≤ step }
+    ensures kept { (bs : List Block) → after ≡ first_or None bs → result ≡ kept step size bs }
+    ensures within { result ≤ size }
+{
+    match after {
+        None => 0,
+        Some(_) => size % step,
+    }
+}
+
+// Slides the used blocks after a free block of no units to the front by whole steps, to the end of the space:
+// the free ones leave their bins, what they keep becomes the newest of its own, and what they give up goes into
+// the block.
+fn slide_by<T: Tables, F: FnMut(Move<T::Index>)>(
+    store: &mut Store<T>,
+    name: u32,
+    step: u32,
+    moved: &mut F,
+) -> Gap<T::Index>
+    requires some { 1 ≤ step }
+    requires place { (limit x : ℕ) × (front run : List Block)
+        × IsPlaceIn T.cells store.old limit name
+        (record { before = front; block = free_block x 0; after = run })
+        × AreInBins (front ++ run) (bins_of T.cells T.Index.MAX store.old) }
+    requires binned { AreBinned T.cells T.Index.MAX store.old }
+    requires callable { F.IsAlwaysCallable moved.old }
+    ensures place { (limit x : ℕ) (front run : List Block) → IsPlaceIn T.cells store.old limit name
+        (record { before = front; block = free_block x 0; after = run })
+        → AreInBins (front ++ run) (bins_of T.cells T.Index.MAX store.old)
+        → IsPlaceIn T.cells store.new limit result.name (record {
+          before = front ++ stepped step run;
+          block = free_block result.name result.size;
+          after = [];
+        })
+        × (result.size ≡ given_up step run)
+        × FoldsTo (IsCalledWith T.Index.NonMax.number (λ f range g. F.step f range tt g)) moved.old
+        (moves_by step (units front) (units front) run) moved.new
+        × (bins_of T.cells T.Index.MAX store.new ≡ rebinned step run (bins_of T.cells T.Index.MAX store.old))
+        × AreInBins (front ++ stepped step run) (bins_of T.cells T.Index.MAX store.new)
+        × (unused_of T.cells store.new ≡ unused_of T.cells store.old ++ names_of (used_up step run))
+        × (store.new.accesses ≤ store.old.accesses + 18 * length run + 9) }
+    ensures name { result.name ≡ name }
+    ensures binned { AreBinned T.cells T.Index.MAX store.new }
+    ensures callable { F.IsAlwaysCallable moved.new }
+    ensures accesses_min { store.old.accesses ≤ store.new.accesses }
+{
+    store.tables.shape();
+    let mut gap = gap::open(&store.tables, name, 0, &mut store.accesses);
+    let mut at = store.tables.after(name, &mut store.accesses);
+    while let Some(next) = linked(at) {
+        let more = store.tables.size(next, &mut store.accesses);
+        at = store.tables.after(next, &mut store.accesses);
+        if chain::is_used(&store.tables, next, &mut store.accesses) {
+            report(moved, next, gap.offset + gap.size, gap.offset, more);
+            gap::pass(store, &mut gap, next, more);
+        } else {
+            bins::remove(store, next, more);
+            let keep = kept(more, step, linked(at));
+            if keep == 0 {
+                gap::gather(store, &mut gap, next, more);
+            } else {
+                gap::pass_part(store, &mut gap, next, more, keep);
+                bins::push(store, next, uint_to_float_round_down(keep));
+            }
+        }
+    }
+    gap::close(store, gap, at);
+    gap
+}
+
+impl<T: Tables> AllocatorOf<T> {
+    // Whether there is a name for the block that is left at the end.
+    fn can_step(&mut self) -> bool
+        ensures is { IsTrue result ↔ CanStep self.old }
+        ensures same { SameState self.old self.new }
+        ensures accesses { Costs 0 1 self.old.accesses self.new.accesses }
+    {
+        if self.has_room_for(1) {
+            return true;
+        }
+        let last = self.store.last;
+        !chain::is_used(&self.store.tables, last, &mut self.store.accesses)
+    }
+
+    /// As `compact`, by whole steps: each live range moves to the front by a multiple of `step` units, by as
+    /// many as the free blocks before it have, and so keeps its alignment where that divides `step`. An
+    /// engine passes the least common multiple of the alignments that it uses. What whole steps leave of a
+    /// free block stays a free block, and all that the others give up is one free block at the end of the
+    /// space. `moved` is called for each range that gets another offset, in space order, as by `compact`.
+    ///
+    /// Every handle stays live, with its name and its size; only the public `offset` of a moved one is that
+    /// of before, and `allocation_offset` returns the new one. Nothing changes where no free block before
+    /// another block has a whole step. `false` is returned, and nothing changes, where there is such a block
+    /// but the last one is live and the node limit admits no further block, also where a free block would be
+    /// used up; `compact` is never refused.
+    ///
+    /// The step has to be at least 1. It makes at most 21 accesses to the tables for each block, and 40, and
+    /// takes no memory.
+    ///
+    /// ```
+    /// let hole = space.allocate(300).unwrap();
+    /// let mesh = space.allocate_aligned(256, 256).unwrap();
+    /// space.free(hole);
+    /// assert!(space.compact_by(256, &mut |it| assert_eq!((it.from, it.to, it.size), (512, 0, 256))));
+    /// assert_eq!(space.allocation_offset(mesh), Some(0));
+    /// ```
+    pub fn compact_by<F: FnMut(Move<T::Index>)>(&mut self, step: u32, moved: &mut F) -> bool
+        requires some { 1 ≤ step }
+        requires callable { F.IsAlwaysCallable moved.old }
+        // The live blocks keep their names, their sizes and their order: so every handle stays live, with its
+        // size.
+        ensures live { live self.new.blocks ≡ live self.old.blocks }
+        ensures sizes { KeepsSizes self.old self.new }
+        // The closure is called with the moves, in space order, each by whole steps.
+        ensures moved { FoldsTo (IsCalledWith T.Index.NonMax.number (λ f range g. F.step f range tt g)) moved.old
+            (if result then moves_by step 0 0 self.old.blocks else []) moved.new }
+        ensures accesses { Costs (length self.old.blocks)
+            (21 * length self.old.blocks + 40) self.old.accesses self.new.accesses }
+        // The step as a whole: what stays of the free blocks, and the one at the end.
+        ensures step { CompactsBy step self.old self.new result }
+    {
+        let can = self.can_step();
+        let last = self.store.last;
+        let Some(first) = first_whole(&self.store.tables, last, step, &mut self.store.accesses)
+        else {
+            return true;
+        };
+        if !can {
+            return false;
+        }
+        ensure_spare(
+            &mut self.store.tables,
+            &mut self.store.spare_count,
+            &mut self.store.accesses,
+        );
+        let name = chain::split_before(&mut self.store, first, 0);
+        let hole = slide_by(&mut self.store, name, step, moved);
+        bins::push(
+            &mut self.store,
+            hole.name,
+            uint_to_float_round_down(hole.size),
+        );
+        true
+    }
+}

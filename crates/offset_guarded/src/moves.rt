@@ -1,0 +1,100 @@
+//! Ranges that slide to the front of the space, all, by whole steps, or to make room. It changes the
+//! allocator, and no serial.
+ghost use Rattle.std.specs.Prelude.{◌≡◌, ◌+◌, ◌*◌, ◌≤◌, [], IfSome, length, if◌then◌else◌};
+ghost use Rattle.std.specs.List.{FoldsTo};
+ghost use Rattle.offset_allocator.specs.Classes.{up, value};
+ghost use Rattle.offset_allocator.specs.Moving.BySteps.{CompactsBy, moves_by};
+ghost use Rattle.offset_allocator.specs.Moving.Compacting.{Compacts, IsCalledWith, moves};
+ghost use Rattle.offset_allocator.specs.Requests.{CanGrant};
+ghost use Rattle.offset_allocator.specs.Moving.Room.{IsLeastCost, MakesRoom, ranges_of};
+ghost use Rattle.offset_guarded.specs.Guard.{KeepsSizes};
+
+use crate::GuardedOf;
+use offset_allocator::{Move, RoomCost, Tables};
+
+impl<T: Tables> GuardedOf<T> {
+    /// Slides every live range to the front of the space, as `Allocator::compact` does. Every ticket stays
+    /// live, with its size; `offset_of` returns where its range begins. A moved range keeps no alignment:
+    /// `compact_by` keeps those that divide its step.
+    ///
+    /// ```
+    /// let hole = guarded.allocate(300).unwrap();
+    /// let mesh = guarded.allocate(100).unwrap();
+    /// guarded.free(hole);
+    /// guarded.compact(&mut |it| assert_eq!((it.from, it.to, it.size), (300, 0, 100)));
+    /// assert_eq!(guarded.offset_of(mesh), Some(0));
+    /// ```
+    pub fn compact<F: FnMut(Move<T::Index>)>(&mut self, moved: &mut F)
+        requires callable { F.IsAlwaysCallable moved.old }
+        ensures sizes { KeepsSizes self.old self.new }
+        // The closure is called with the moves, in space order.
+        ensures moved { FoldsTo (IsCalledWith T.Index.NonMax.number (λ f range g. F.step f range tt g))
+            moved.old (moves 0 0 self.old.space.blocks) moved.new }
+        ensures step { Compacts self.old.space self.new.space }
+        ensures serials { self.new ≡ record self.old { space = self.new.space } }
+        ensures accesses_max { self.new.space.accesses
+            ≤ self.old.space.accesses + 10 * length self.old.space.blocks + 384 }
+    {
+        self.space.compact(moved);
+    }
+
+    /// Slides live ranges to the front of the space by whole steps, as `Allocator::compact_by` does: each keeps
+    /// its alignment where that divides `step`. Every ticket stays live, with its size; `offset_of` returns
+    /// where its range begins. `false` is returned, and nothing changes, where that call returns `false`.
+    ///
+    /// ```
+    /// let hole = guarded.allocate(300).unwrap();
+    /// let mesh = guarded.allocate_aligned(256, 256).unwrap();
+    /// guarded.free(hole);
+    /// assert!(guarded.compact_by(256, &mut |it| assert_eq!((it.from, it.to, it.size), (512, 0, 256))));
+    /// assert_eq!(guarded.offset_of(mesh), Some(0));
+    /// ```
+    pub fn compact_by<F: FnMut(Move<T::Index>)>(&mut self, step: u32, moved: &mut F) -> bool
+        requires some { 1 ≤ step }
+        requires callable { F.IsAlwaysCallable moved.old }
+        ensures sizes { KeepsSizes self.old self.new }
+        // The closure is called with the moves, in space order, each by whole steps.
+        ensures moved { FoldsTo (IsCalledWith T.Index.NonMax.number (λ f range g. F.step f range tt g))
+            moved.old (if result then moves_by step 0 0 self.old.space.blocks else []) moved.new }
+        // The step of the allocator. All serials stay.
+        ensures step { CompactsBy step self.old.space self.new.space result }
+        ensures serials { self.new ≡ record self.old { space = self.new.space } }
+        ensures accesses_max { self.new.space.accesses
+            ≤ self.old.space.accesses + 21 * length self.old.space.blocks + 40 }
+    {
+        self.space.compact_by(step, moved)
+    }
+
+    /// Makes room for a request of `size` units, where ranges have to move for it, as `Allocator::make_room`
+    /// does. Every ticket stays live, with its size; `offset_of` returns where its range begins. A moved range
+    /// keeps no alignment.
+    ///
+    /// ```
+    /// let hole = guarded.allocate(300).unwrap();
+    /// guarded.allocate(100);
+    /// guarded.free(hole);
+    /// assert!(guarded.allocate(800).is_none());
+    /// guarded.make_room(800, &mut |it| assert_eq!((it.from, it.to, it.size), (300, 0, 100)));
+    /// assert!(guarded.allocate(800).is_some());
+    /// ```
+    pub fn make_room<F: FnMut(Move<T::Index>)>(
+        &mut self,
+        size: u32,
+        moved: &mut F,
+    ) -> Option<RoomCost>
+        requires callable { F.IsAlwaysCallable moved.old }
+        // It returns what `room_cost` of the allocator would have returned before.
+        ensures cost { IsLeastCost (value (up size)) self.old.space.blocks result }
+        ensures sizes { KeepsSizes self.old self.new }
+        // Where ranges had to move, the allocator can grant the request then.
+        ensures granted { IfSome result (λ c. 1 ≤ c.ranges → CanGrant 1 size self.new.space) }
+        // The step of the allocator, with the moves. All serials stay.
+        ensures step { MakesRoom (IsCalledWith T.Index.NonMax.number (λ f range g. F.step f range tt g))
+            (value (up size)) self.old.space moved.old result self.new.space moved.new }
+        ensures serials { self.new ≡ record self.old { space = self.new.space } }
+        ensures accesses_max { self.new.space.accesses
+            ≤ self.old.space.accesses + 6 * length self.old.space.blocks + 40 * ranges_of result + 20 }
+    {
+        self.space.make_room(size, moved)
+    }
+}
