@@ -219,7 +219,9 @@ def brief(report):
             *pages.lines_of(["", "none", "where needed", "units by `compact`", "by `make_room`"],
                             [[row[k] for k in (0, 1, 3, 5, 7)] for row in moves[1:]]), "",
             "A `make_room` leaves all other free blocks where they are, so later requests may be refused: over a "
-            "whole program it may move more than `compact` would."]
+            "whole program it may move more than `compact` would.", "",
+            # what bench/frames wrote
+            *"".join((HERE / "CORPUS.md").read_text().partition("## Over frames")[1:]).splitlines()]
 
 
 if peers:

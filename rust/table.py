@@ -99,6 +99,7 @@ LINTS = {
         "clippy::redundant_field_names": "a field and the place that it is of have one name",
         "clippy::redundant_pattern_matching": "a `match` needs no call, whose contract a proof would need",
         "clippy::single_match": "both cases are proved",
+        "clippy::too_many_arguments": "each has a name in the contract",
         "unused_variables": "a parameter may be there for a contract only",
     },
     "offset_script": {
@@ -112,7 +113,6 @@ LINTS = {
     },
     "offset_pictures": {
         "clippy::collapsible_match": "an arm of a `match` and a test within it have a name each in the proof",
-        "clippy::needless_range_loop": "the proof speaks of the numbers of calls",
     },
 }
 

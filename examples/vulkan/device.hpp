@@ -1,5 +1,6 @@
-// What an engine has anyway: a device of Vulkan with one queue, buffers, fences and a barrier. The validation
-// layer is on, with synchronization validation; its messages are counted, and the first ones printed.
+// What an engine has anyway: a device of Vulkan with one queue, buffers, images, fences and barriers. The
+// validation layer is on, with synchronization validation; its messages are counted, and the first ones
+// printed.
 #pragma once
 
 #include <vulkan/vulkan.h>
@@ -92,24 +93,61 @@ public:
         MUST(vkCreateBuffer(device, &of_buffer, nullptr, &made.buffer));
         VkMemoryRequirements needs;
         vkGetBufferMemoryRequirements(device, made.buffer, &needs);
+        made.memory = memory(needs.size, needs.memoryTypeBits, wanted);
+        MUST(vkBindBufferMemory(device, made.buffer, made.memory, 0));
+        void *bytes = nullptr;
+        if (wanted == HOST) MUST(vkMapMemory(device, made.memory, 0, VK_WHOLE_SIZE, 0, &bytes));
+        made.bytes = static_cast<uint8_t *>(bytes);
+        return made;
+    }
+
+    // Of the first of `types`, one bit each, that has what is wanted.
+    VkDeviceMemory memory(VkDeviceSize size, uint32_t types, VkMemoryPropertyFlags wanted) {
         VkPhysicalDeviceMemoryProperties has;
         vkGetPhysicalDeviceMemoryProperties(physical, &has);
         const auto fits = [&](uint32_t type) {
             const VkMemoryPropertyFlags flags = has.memoryTypes[type].propertyFlags;
-            return (needs.memoryTypeBits >> type & 1) && (flags & wanted) == wanted;
+            return (types >> type & 1) && (flags & wanted) == wanted;
         };
         uint32_t type = 0;
         while (type < has.memoryTypeCount && !fits(type)) type++;
         must(type < has.memoryTypeCount, "to find a type of memory");
         const VkMemoryAllocateInfo of_memory{
             .sType = VK_STRUCTURE_TYPE_MEMORY_ALLOCATE_INFO,
-            .allocationSize = needs.size, .memoryTypeIndex = type};
-        MUST(vkAllocateMemory(device, &of_memory, nullptr, &made.memory));
-        MUST(vkBindBufferMemory(device, made.buffer, made.memory, 0));
-        void *bytes = nullptr;
-        if (wanted == HOST) MUST(vkMapMemory(device, made.memory, 0, VK_WHOLE_SIZE, 0, &bytes));
-        made.bytes = static_cast<uint8_t *>(bytes);
+            .allocationSize = size, .memoryTypeIndex = type};
+        VkDeviceMemory made;
+        MUST(vkAllocateMemory(device, &of_memory, nullptr, &made));
         return made;
+    }
+
+    // Of four bytes a texel. It has no memory until it is bound.
+    VkImage image(VkExtent2D extent) {
+        const VkImageCreateInfo of_image{
+            .sType = VK_STRUCTURE_TYPE_IMAGE_CREATE_INFO, .imageType = VK_IMAGE_TYPE_2D,
+            .format = VK_FORMAT_R8G8B8A8_UNORM, .extent = {extent.width, extent.height, 1},
+            .mipLevels = 1, .arrayLayers = 1, .samples = VK_SAMPLE_COUNT_1_BIT,
+            .tiling = VK_IMAGE_TILING_OPTIMAL,
+            .usage = VK_IMAGE_USAGE_TRANSFER_SRC_BIT | VK_IMAGE_USAGE_TRANSFER_DST_BIT};
+        VkImage made;
+        MUST(vkCreateImage(device, &of_image, nullptr, &made));
+        return made;
+    }
+
+    VkMemoryRequirements needs(VkImage image) {
+        VkMemoryRequirements asked;
+        vkGetImageMemoryRequirements(device, image, &asked);
+        return asked;
+    }
+
+    VkMemoryRequirements needs(VkExtent2D extent) {
+        const VkImage made = image(extent);
+        const VkMemoryRequirements asked = needs(made);
+        drop(made);
+        return asked;
+    }
+
+    void bind(VkImage image, VkDeviceMemory memory, VkDeviceSize offset) {
+        MUST(vkBindImageMemory(device, image, memory, offset));
     }
 
     VkCommandBuffer commands() {
@@ -129,9 +167,11 @@ public:
     }
 
     void drop(VkFence made) { vkDestroyFence(device, made, nullptr); }
+    void drop(VkImage made) { vkDestroyImage(device, made, nullptr); }
+    void drop(VkDeviceMemory made) { vkFreeMemory(device, made, nullptr); }
     void drop(const Buffer &made) {
         vkDestroyBuffer(device, made.buffer, nullptr);
-        vkFreeMemory(device, made.memory, nullptr);
+        drop(made.memory);
     }
 
     void begin(VkCommandBuffer commands) {
@@ -184,4 +224,61 @@ inline void barrier(VkCommandBuffer commands, VkPipelineStageFlags stage = VK_PI
                                   .srcAccessMask = VK_ACCESS_TRANSFER_WRITE_BIT, .dstAccessMask = access};
     const VkPipelineStageFlags copies = VK_PIPELINE_STAGE_TRANSFER_BIT;
     vkCmdPipelineBarrier(commands, copies, stage, 0, 1, &written, 0, nullptr, 0, nullptr);
+}
+
+const VkImageLayout NEW = VK_IMAGE_LAYOUT_UNDEFINED;
+const VkImageLayout WRITTEN = VK_IMAGE_LAYOUT_TRANSFER_DST_OPTIMAL;
+const VkImageLayout READ = VK_IMAGE_LAYOUT_TRANSFER_SRC_OPTIMAL;
+
+// Between copies, and the image goes from one layout to the other.
+inline void barrier(VkCommandBuffer commands, VkImage image, VkImageLayout before, VkImageLayout after) {
+    const VkAccessFlags any = VK_ACCESS_TRANSFER_READ_BIT | VK_ACCESS_TRANSFER_WRITE_BIT;
+    const VkMemoryBarrier written{.sType = VK_STRUCTURE_TYPE_MEMORY_BARRIER,
+                                  .srcAccessMask = VK_ACCESS_TRANSFER_WRITE_BIT, .dstAccessMask = any};
+    const VkImageMemoryBarrier turned{
+        .sType = VK_STRUCTURE_TYPE_IMAGE_MEMORY_BARRIER,
+        .srcAccessMask = VK_ACCESS_TRANSFER_WRITE_BIT, .dstAccessMask = any,
+        .oldLayout = before, .newLayout = after,
+        .srcQueueFamilyIndex = VK_QUEUE_FAMILY_IGNORED, .dstQueueFamilyIndex = VK_QUEUE_FAMILY_IGNORED,
+        .image = image, .subresourceRange = {VK_IMAGE_ASPECT_COLOR_BIT, 0, 1, 0, 1}};
+    const VkPipelineStageFlags copies = VK_PIPELINE_STAGE_TRANSFER_BIT;
+    vkCmdPipelineBarrier(commands, copies, copies, 0, 1, &written, 0, nullptr, 1, &turned);
+}
+
+// The bytes of a whole image, row by row, at a place of a buffer.
+inline VkBufferImageCopy whole(VkDeviceSize place, VkExtent2D extent) {
+    return {.bufferOffset = place, .imageSubresource = {VK_IMAGE_ASPECT_COLOR_BIT, 0, 0, 1},
+            .imageExtent = {extent.width, extent.height, 1}};
+}
+
+inline void copy(VkCommandBuffer commands, VkImage image, VkExtent2D extent, const Buffer &to,
+                 VkDeviceSize place) {
+    const VkBufferImageCopy region = whole(place, extent);
+    vkCmdCopyImageToBuffer(commands, image, READ, to.buffer, 1, &region);
+}
+
+inline void copy(VkCommandBuffer commands, const Buffer &from, VkDeviceSize place, VkImage image,
+                 VkExtent2D extent) {
+    const VkBufferImageCopy region = whole(place, extent);
+    vkCmdCopyBufferToImage(commands, from.buffer, image, WRITTEN, 1, &region);
+}
+
+// Whether the layer tells of a race, by one that is recorded and not submitted.
+inline bool listens() {
+    uint32_t messages = Device::PRINTED; // so that this one is not printed
+    {
+        Device gpu(messages);
+        const Buffer buffer = gpu.make(128, Device::LOCAL);
+        const VkCommandBuffer commands = gpu.commands();
+        gpu.begin(commands);
+        copy(commands, buffer, 0, buffer, 64, 64);
+        copy(commands, buffer, 64, buffer, 0, 64);
+        gpu.drop(buffer);
+    }
+    return messages > Device::PRINTED;
+}
+
+// The byte at place `i` of what has this number.
+inline uint8_t pattern(uint32_t number, uint32_t i) {
+    return uint8_t((number * 2654435761u ^ i * 2246822519u) >> 24);
 }

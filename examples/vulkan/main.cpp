@@ -64,11 +64,6 @@ struct Counts {
     uint64_t copied, compact, retracted, compared, differing; // bytes
 };
 
-// The byte at place `i` of what grant `number` holds.
-static uint8_t pattern(uint32_t number, uint32_t i) {
-    return uint8_t((number * 2654435761u ^ i * 2246822519u) >> 24);
-}
-
 class Heap {
 public:
     Counts counts = {};
@@ -318,21 +313,6 @@ static Counts play(Device &gpu, const Program &program, uint32_t size, uint32_t 
     }
     heap.check();
     return heap.counts;
-}
-
-// Whether the layer tells of a race, by one that is recorded and not submitted.
-static bool listens() {
-    uint32_t messages = Device::PRINTED; // so that this one is not printed
-    {
-        Device gpu(messages);
-        const Buffer buffer = gpu.make(128, Device::LOCAL);
-        const VkCommandBuffer commands = gpu.commands();
-        gpu.begin(commands);
-        copy(commands, buffer, 0, buffer, 64, 64);
-        copy(commands, buffer, 64, buffer, 0, 64);
-        gpu.drop(buffer);
-    }
-    return messages > Device::PRINTED;
 }
 
 int main(int count, char **arguments) {

@@ -1,18 +1,24 @@
 -- Live ranges that slide, what that costs and copies, and what empties the end of a space.
 pub mod Begins
 pub mod Compacting
+pub mod DecidedBudget
 pub mod DecidedRooms
+pub mod DecidedRoomsBySteps
 pub mod DecidedSteps
 pub mod Gaps
 pub mod InPieces
 pub mod Nearest
 pub mod Packed
+pub mod Refiled
 pub mod Retracted
 pub mod RoomAdvice
 pub mod Rooms
+pub mod RoomsBySteps
 pub mod Runs
+pub mod Searching
 pub mod Sliding
 pub mod Starts
+pub mod Budgeted
 pub mod Stepped
 pub mod Stepping
 pub mod Stretches

@@ -28,14 +28,19 @@ ghost use Rattle.offset_allocator.specs.declared.reports.statistics.Statistics.{
 ghost use Rattle.offset_allocator.specs.declared.reports.Refusal.{Refusal};
 ghost use Rattle.offset_allocator.specs.declared.reports.Refusal.TheVariants.{TooLarge, Space, Fragmented};
 ghost use Rattle.offset_allocator.specs.declared.moves.room.RoomCost.{RoomCost};
+ghost use Rattle.offset_allocator.specs.declared.moves.budget.Progress.{Progress};
+ghost use Rattle.offset_allocator.specs.Moving.Budget.{CompactsWithin};
 ghost use Rattle.offset_allocator.specs.Moving.BySteps.{CompactsBy, moves_by};
 ghost use Rattle.offset_allocator.specs.Moving.Room.{IsLeastCost, MakesRoom, ranges_of};
+ghost use Rattle.offset_allocator.specs.Moving.RoomBySteps.{IsLeastCostBy, MakesRoomBy, names_short};
 ghost use Rattle.offset_allocator.specs.Moving.Compacting.{moves, AreBetween, AreSafe, Compacts, Move};
 ghost use Rattle.offset_allocator.specs.Moving.Pieces.{pieces, copied, all_copied, ArePieces};
 
 use crate::AllocatorOf;
 use crate::accesses::Accesses;
 pub use crate::moves::room::room_cost_counted;
+pub use crate::moves::room_by_steps::room_cost_by_counted;
+pub use crate::reports::beginning::would_begin_counted;
 pub use crate::reports::beside::{
     first_live_counted, last_live_counted, live_after_counted, live_before_counted,
 };
@@ -284,7 +289,7 @@ pub fn each_live_range_is_met_once<T: Tables>(allocator: &AllocatorOf<T>)
 /// before all units that later moves have yet to read. It lies in the run, and so in the space.
 pub fn moves_are_safe()
     ensures compact { (bs : List Block) → AreSafe (moves 0 0 bs) }
-    ensures compact_within { (v : View) → IsWellFormed v → AreBetween 0 v.size (moves 0 0 v.blocks) }
+    ensures within { (v : View) → IsWellFormed v → AreBetween 0 v.size (moves 0 0 v.blocks) }
     ensures make_room { (front run : List Block) → AreSafe (moves (units front) (units front) run) }
     ensures make_room_within { (v : View) (front run back : List Block) → IsWellFormed v
         → v.blocks ≡ front ++ (run ++ back)
@@ -292,8 +297,9 @@ pub fn moves_are_safe()
         × (units (front ++ run) ≤ v.size) }
 {}
 
-/// Each move of `compact_by` goes to a smaller offset of the space by a multiple of the step, and ends before
-/// all units that later moves have yet to read. So a range keeps its alignment where that divides the step.
+/// Each move of `compact_by`, and of the run of blocks that `make_room_by` or `compact_within` slides, goes to a
+/// smaller offset by a multiple of the step, and ends before all units that later moves have yet to read. It lies in the run, and
+/// so in the space. So a range keeps its alignment where that divides the step.
 pub fn moves_by_steps_are_safe()
     ensures safe { (step : ℕ) (bs : List Block) → AreSafe (moves_by step 0 0 bs) }
     ensures within { (step : ℕ) (v : View) → IsWellFormed v
@@ -302,6 +308,18 @@ pub fn moves_by_steps_are_safe()
         → AllByRecursion (λ m. m.from % step ≡ m.to % step) (moves_by step 0 0 bs) }
     ensures aligned { (align k : ℕ) (bs : List Block)
         → AllByRecursion (λ m. m.from % align ≡ m.to % align) (moves_by (k * align) 0 0 bs) }
+    ensures make_room_by { (step : ℕ) (front run : List Block)
+        → AreSafe (moves_by step (units front) (units front) run) }
+    ensures make_room_by_within { (step : ℕ) (v : View) (front run back : List Block) → IsWellFormed v
+        → v.blocks ≡ front ++ (run ++ back)
+        → AreBetween (units front) (units (front ++ run)) (moves_by step (units front) (units front) run)
+        × (units (front ++ run) ≤ v.size) }
+    ensures make_room_by_steps { (step : ℕ) (front run : List Block)
+        → AllByRecursion (λ m. m.from % step ≡ m.to % step)
+        (moves_by step (units front) (units front) run) }
+    ensures make_room_by_aligned { (align k : ℕ) (front run : List Block)
+        → AllByRecursion (λ m. m.from % align ≡ m.to % align)
+        (moves_by (k * align) (units front) (units front) run) }
 {}
 
 /// The pieces of a move, copied one after the other, leave what the move at once leaves, whatever the units
@@ -365,11 +383,25 @@ pub fn a_state_decides_each_step()
         → (r r' : Bool) → CompactsBy s v w r → CompactsBy s v' w' r' → (r ≡ r') × SameState w w' }
     ensures room_cost { (want : ℕ) (bs : List Block) (r r' : Option RoomCost) → IsLeastCost want bs r
         → IsLeastCost want bs r' → r ≡ r' }
+    ensures room_cost_by { (s want short : ℕ) (bs : List Block) (r r' : Option RoomCost)
+        → IsLeastCostBy s want short bs r → IsLeastCostBy s want short bs r' → r ≡ r' }
     // the moves too, each noted after those before it
     ensures make_room { (want : ℕ) (v v' w w' : View) → IsWellFormed v → SameState v v'
         → (r r' : Option RoomCost) (ms ms' : List Move)
         → IsLeastCost want v.blocks r → IsLeastCost want v'.blocks r'
         → MakesRoom (λ ns m os. os ≡ ns ++ m ∷ []) want v [] r w ms
         → MakesRoom (λ ns m os. os ≡ ns ++ m ∷ []) want v' [] r' w' ms'
+        → (r ≡ r') × (ms ≡ ms') × SameState w w' }
+    ensures make_room_by { (s want k : ℕ) (v v' w w' : View) → IsWellFormed v → SameState v v'
+        → (r r' : Option RoomCost) (ms ms' : List Move)
+        → IsLeastCostBy s want (names_short k v) v.blocks r
+        → IsLeastCostBy s want (names_short k v') v'.blocks r'
+        → MakesRoomBy (λ ns m os. os ≡ ns ++ m ∷ []) s want (names_short k v) v [] r w ms
+        → MakesRoomBy (λ ns m os. os ≡ ns ++ m ∷ []) s want (names_short k v') v' [] r' w' ms'
+        → (r ≡ r') × (ms ≡ ms') × SameState w w' }
+    ensures compact_within { (s from u n : ℕ) (v v' w w' : View) → IsWellFormed v → SameState v v'
+        → (r r' : Option Progress) (ms ms' : List Move)
+        → CompactsWithin (λ ns m os. os ≡ ns ++ m ∷ []) s from u n v [] r w ms
+        → CompactsWithin (λ ns m os. os ≡ ns ++ m ∷ []) s from u n v' [] r' w' ms'
         → (r ≡ r') × (ms ≡ ms') × SameState w w' }
 {}

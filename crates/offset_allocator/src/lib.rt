@@ -56,6 +56,7 @@ pub use handle::Allocation;
 pub use index::{NodeIndex, NodeIndexNonMax};
 pub use layouts::by_field::ByField;
 pub use layouts::by_node::ByNode;
+pub use moves::budget::Progress;
 pub use moves::pieces::{MovePieces, Piece};
 pub use moves::room::RoomCost;
 pub use nonmax::{NonMaxU16, NonMaxU32};
@@ -73,7 +74,7 @@ pub use tables::Tables;
 /// The allocator of one space, with one table of nodes: a block's cells are in one or two cache lines.
 pub type Allocator<NI = u32> = AllocatorOf<ByNode<NI>>;
 
-/// A range that `compact`, `compact_by` or `make_room` moves: `size` units from the offset `from` to the offset
+/// A range that `compact` or `make_room` moves, by steps too: `size` units from the offset `from` to the offset
 /// `to`, which is smaller.
 pub type Move<NI = u32> = moves::one_move::Move<NI, <NI as NodeIndex>::NonMax>;
 
@@ -251,8 +252,8 @@ impl<T: Tables> AllocatorOf<T> {
     }
 
     /// Whether `max_allocs - 1` blocks exist. Then every request is refused, and the short report is 0, 0,
-    /// until blocks coalesce (by `free`, `compact`, `compact_by`, `make_room` or `reset`), or `grow_in_place`
-    /// or `retract` takes the whole of a free block.
+    /// until blocks coalesce (by `free`, `reset`, `compact` or `make_room`, by steps too), or `grow_in_place` or
+    /// `retract` takes the whole of a free block.
     ///
     /// ```
     /// let mut space = Allocator::<u32>::with_max_allocs(alloc, 1000, 3)?;

@@ -1,5 +1,6 @@
 //! Live ranges that slide, what that costs and copies, and what empties the end of a space.
 
+pub(crate) mod budget;
 pub(crate) mod by_steps;
 pub(crate) mod compact;
 pub(crate) mod gap;
@@ -9,3 +10,4 @@ pub(crate) mod pieces;
 pub(crate) mod relocate;
 pub(crate) mod retract;
 pub(crate) mod room;
+pub(crate) mod room_by_steps;

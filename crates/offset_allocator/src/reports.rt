@@ -9,6 +9,7 @@ ghost use Rattle.offset_allocator.specs.Ranges.{Range, range_of, size_of, IsLive
 ghost use Rattle.offset_allocator.specs.Requests.{IsAlignment, CanGrant, IsWhy, blocks_needed, units_needed};
 ghost use Rattle.offset_allocator.specs.Reporting.Reports.{IsReport, IsFullReport};
 
+pub(crate) mod beginning;
 pub(crate) mod beside;
 pub(crate) mod blocks;
 pub(crate) mod dumping;

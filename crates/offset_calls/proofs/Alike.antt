@@ -16,10 +16,17 @@ use Rattle.offset_calls.specs.Calls.{answered, Beside, beside, make_room, remake
 use Rattle.offset_calls.specs.Calls as plain
 use Rattle.offset_calls.specs.declared.calls.LiveRange.{LiveRange}
 use Rattle.offset_calls.specs.{Ending.first_live, Ending.last_live, Ending.live_before, Ending.live_after, Histories.raise_range, Room.Split, Room.cheapest, Room.slid}
-use Rattle.offset_calls.proofs.EndPairs.{same_can, retracted_alike, same_relocated, IsSent, AreSent, sent_first, sent_last}
+use Rattle.offset_calls.proofs.SteppedPairs.{AreSlid, both_slid, kept_right, same_full, steps_alike}
+use Rattle.offset_calls.specs.Stepped.{kept, slid_by}
+use Rattle.offset_calls.specs.Calls.{moves_by, step_by}
+use Rattle.offset_calls.proofs.EndPairs.{same_can, retracted_alike, same_relocated, same_relocated_aligned, IsSent, AreSent, sent_first, sent_last}
 use Rattle.offset_calls.specs.Tight.{holds, better, holding_place, request_tight, allocate_tight, lack, reason_held}
 use Rattle.offset_calls.specs.Room as room
-use Rattle.offset_calls.proofs.Splits.{IsSameSplit, no_split, same_split, same_cost, same_cheapest, same_room_cost}
+use Rattle.offset_calls.proofs.Splits.{IsSameSplit, no_split, same_split, same_cost, same_cheapest, same_room_cost, same_cheapest_by}
+use Rattle.std.specs.Prelude.{min}
+use Rattle.offset_script.specs.Histories.{raise_number}
+use Rattle.offset_script.specs.declared.scripts.Command.TheVariants as command
+use Rattle.offset_calls.specs.Calls.{begin_of}
 use Rattle.offset_script.specs.Machine as machine
 use Rattle.offset_calls.specs.declared.calls.Call.TheVariants as call
 
@@ -105,6 +112,18 @@ order_right k l i j e = search (arith)
 live_kind : (k : ℕ) (q : Kind) → has_number k (left_tag q) ≡ true → (i : ℕ) × (j : ℕ) × (q ≡ Lives i j)
 live_kind k (Lives i j) e = (i, j, refl)
 live_kind k (Frees s u) e = absurd (false≢true e)
+
+-- where a grant begins, whatever its number
+begin_raised : (g d : ℕ) (x : machine.Answer) → begin_of (raise_number d x) ≡ raise g d (begin_of x)
+begin_raised g d (machine.Grant k o) = refl
+begin_raised g d machine.Refused = refl
+begin_raised g d machine.Freed = refl
+begin_raised g d machine.Gone = refl
+begin_raised g d (machine.Size n) = refl
+begin_raised g d (machine.Report n m) = refl
+begin_raised g d (machine.Full rows) = refl
+begin_raised g d machine.Reset = refl
+begin_raised g d machine.Extended = refl
 
 module _ (r : ℕ → ℕ) (g d : ℕ) (back : (k : ℕ) → r (number_with g d k) ≡ k) (s t : State) (a : IsAlike r d s t) where
   quiet : (x y : Reply) → x ≡ raise g d y → AreSame r g d (replies_only s x) (replies_only t y)
@@ -200,6 +219,39 @@ module _ (r : ℕ → ℕ) (g d : ℕ) (back : (k : ℕ) → r (number_with g d 
           one false f = ap (λ b. if b then [] else record { number = number (left_tag q.kind); from = from; to = to; size = q.size } ∷ []) f
               ∙ ap (λ (k : ℕ). record { number = k; from = from; to = to; size = q.size } ∷ []) (number_back q (h q (inl refl)) e)
               ∙ sym (ap (λ b. map (raise_move g d) (if b then [] else record { number = number (right_tag q.kind); from = from; to = to; size = q.size } ∷ [])) f)
+
+  moves_by_same : (n from to : ℕ) (ps : List Pair) → ((q : Pair) → IsIn q ps → IsIn q a.pairs) → moves_by n from to (lefts ps) ≡ map (raise_move g d) (moves_by n from to (rights ps))
+  moves_by_same n from to [] h = refl
+  moves_by_same n from to (q ∷ ps) h = go (is_free (left_tag q.kind)) refl (nat_eq from to) refl (λ u. moves_by_same n (from + q.size) u ps (λ x i. h x (inr i)))
+    where
+      go : (x : Bool) → is_free (left_tag q.kind) ≡ x → (b : Bool) → nat_eq from to ≡ b
+          → ((u : ℕ) → moves_by n (from + q.size) u (lefts ps) ≡ map (raise_move g d) (moves_by n (from + q.size) u (rights ps)))
+          → moves_by n from to (lefts (q ∷ ps)) ≡ map (raise_move g d) (moves_by n from to (rights (q ∷ ps)))
+      go true e b f ih =
+          ap (λ x. if x then moves_by n (from + q.size) (to + kept n q.size (lefts ps)) (lefts ps) else move_of from to (left q) ++ moves_by n (from + q.size) (to + q.size) (lefts ps)) e
+          ∙ ih (to + kept n q.size (lefts ps)) ∙ ap (λ k. map (raise_move g d) (moves_by n (from + q.size) (to + k) (rights ps))) (kept_right n q.size ps)
+          ∙ sym (ap (λ x. map (raise_move g d) (if x then moves_by n (from + q.size) (to + kept n q.size (rights ps)) (rights ps)
+          else move_of from to (right q) ++ moves_by n (from + q.size) (to + q.size) (rights ps))) (sym (same_free q.kind) ∙ e))
+      go false e b f ih =
+          ap (λ x. if x then moves_by n (from + q.size) (to + kept n q.size (lefts ps)) (lefts ps) else move_of from to (left q) ++ moves_by n (from + q.size) (to + q.size) (lefts ps)) e
+          ∙ ap₂ (λ x y. x ++ y) (one b f) (ih (to + q.size)) ∙ sym (map-append (raise_move g d) (move_of from to (right q)) (moves_by n (from + q.size) (to + q.size) (rights ps)))
+          ∙ sym (ap (λ x. map (raise_move g d) (if x then moves_by n (from + q.size) (to + kept n q.size (rights ps)) (rights ps)
+          else move_of from to (right q) ++ moves_by n (from + q.size) (to + q.size) (rights ps))) (sym (same_free q.kind) ∙ e))
+        where
+          one : (b : Bool) → nat_eq from to ≡ b → move_of from to (left q) ≡ map (raise_move g d) (move_of from to (right q))
+          one true f = search (arith, left_tag, map, right_tag)
+          one false f = ap (λ b. if b then [] else record { number = number (left_tag q.kind); from = from; to = to; size = q.size } ∷ []) f
+              ∙ ap (λ (k : ℕ). record { number = k; from = from; to = to; size = q.size } ∷ []) (number_back q (h q (inl refl)) e)
+              ∙ sym (ap (λ b. map (raise_move g d) (if b then [] else record { number = number (right_tag q.kind); from = from; to = to; size = q.size } ∷ [])) f)
+
+  stepped_same : (n : ℕ) (o o' : Option (List machine.Block)) → AreSlid a.pairs (stamp_of_call s) (stamp_of_call t) o o' → AreSame r g d (step_by n s o) (step_by n t o')
+  stepped_same n None None p = quiet _ _ refl
+  stepped_same n None (Some cs) p = absurd p
+  stepped_same n (Some bs) None p = absurd p
+  stepped_same n (Some bs) (Some cs) p = if_same (AreSame r g d) _ _ _ _ _ _ (same_full r d s t a) (λ z. quiet _ _ refl) (record {
+    reply = ap Compacted (ap (moves_by n 0 0) a.left_blocks ∙ moves_by_same n 0 0 a.pairs (λ q i. i) ∙ ap (λ bs. map (raise_move g d) (moves_by n 0 0 bs)) (sym a.right_blocks));
+    state = steps_alike r d s t a bs cs p.0 p.1 p.2 p.3;
+  })
 
   compact_same : AreSame r g d (compact s) (compact t)
   compact_same = record {
@@ -337,15 +389,22 @@ module _ (r : ℕ → ℕ) (g d : ℕ) (back : (k : ℕ) → r (number_with g d 
       (λ xs q ys. ap₂ (λ x y. nat_le n q.size && (x || not y)) (same_starts ys) (same_short s t a.pairs a.limit a.left_blocks a.right_blocks 1))
   same_call (call.Grow k n) = resize_same k n _ _ _ _ refl (same_placed r d s t a k) (λ xs q ys. ap (λ f. nat_le q.size n && nat_le n (q.size + f)) (same_free_start ys))
   same_call call.Compact = compact_same
+  same_call (call.CompactBy n) = stepped_same n _ _
+      (subst₂ (λ x y. AreSlid a.pairs (stamp_of_call s) (stamp_of_call t) (slid_by n (stamp_of_call s) x) (slid_by n (stamp_of_call t) y)) (sym a.left_blocks) (sym a.right_blocks)
+      (both_slid n (stamp_of_call s) (stamp_of_call t) a.pairs))
   same_call (call.Offset k) = quiet _ _ (offset_same _ _ (same_placed r d s t a k))
   same_call (call.Refusal n) = quiet _ _ (ap Refusal (reason_same 1 n))
   same_call (call.Tight n) = tight_same n 1
   same_call (call.TightAligned n align) = tight_same n align
   same_call (call.RefusalTight n) = quiet _ _ (ap Refusal (held_reason 1 n 1))
   same_call (call.RefusalTightAligned n align) = quiet _ _ (ap Refusal (held_reason (if nat_le align 1 then 1 else 2) n align))
+  same_call (call.WouldBegin n align) = quiet _ _ (ap begin_of (alike_step r d (command.Align n align) s t a).answer ∙ begin_raised g d (machine.allocate_aligned n align t).answer)
   same_call (call.MakeRoom n) = made_same _ _ (runs_same (value (up n)))
   same_call (call.RoomCost n) = quiet _ _ (ap plain.RoomCost (same_room_cost a.pairs _ _ (runs_same (value (up n)))))
+  same_call (call.RoomCostBy n align m) = quiet _ _ (ap plain.RoomCost (same_room_cost a.pairs _ _ (same_cheapest_by s t a.pairs a.limit a.left_blocks a.right_blocks m (value (up (n + align - 1))) (min align 2))))
   same_call (call.Relocate k) = let o = same_relocated r d s t a _ _ (same_placed r d s t a k) in record { reply = ap Answer o.answer; state = o.state }
+  same_call (call.RelocateAligned k align) =
+      let o = same_relocated_aligned r d s t a align _ _ (same_placed r d s t a k) in record { reply = ap Answer o.answer; state = o.state }
   same_call (call.Retract n) = if_same (AreSame r g d) _ _ _ _ _ _ (same_can r d s t a n) (λ e. record { reply = refl; state = retracted_alike r d s t a n }) (quiet _ _ refl)
   same_call call.First = quiet _ _ (ap Beside (ap (first_live 0) a.left_blocks ∙ sent_first (number_with g d) 0 a.pairs sent_pairs
       ∙ ap (λ bs. option_map (raise_range g d) (first_live 0 bs)) (sym a.right_blocks)))

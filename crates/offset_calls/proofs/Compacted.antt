@@ -164,7 +164,7 @@ name_found k (m ∷ ls) l few (inr f) t = go (has_number k m.tag) refl (λ few. 
     go true h ih = absurd (let x = hits m.tag h in let y = there l ls f t in omega (arith, few))
     go false h ih = ap (λ b. if b then Some m.name else name_of k ls) h ∙ ih (omega (arith, few))
 
-same_move : (m : Move) (k from to size : ℕ) → m.number ≡ k → m.from ≡ from → m.to ≡ to → m.size ≡ size → m ≡ record { number = k; from = from; to = to; size = size }
+pub same_move : (m : Move) (k from to size : ℕ) → m.number ≡ k → m.from ≡ from → m.to ≡ to → m.size ≡ size → m ≡ record { number = k; from = from; to = to; size = size }
 same_move m k from to size e f g h = search (arith)
 
 -- the moves of a block and those after it

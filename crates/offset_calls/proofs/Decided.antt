@@ -4,12 +4,18 @@ use Rattle.offset_calls.proofs.Common.{option_map, if◌then◌else◌, cases_eq
 use Rattle.offset_calls.proofs.Common.{Range, Takes, AreNumbered, IsReason, size_of, blocks_needed, units_needed}
 use Rattle.offset_allocator.specs.Relations.{SameState, SameSpace, Splits, Allocates, Aligns, Extends}
 use Rattle.offset_allocator.specs.{Classes.value, Classes.up, Ranges.range_of, Ranges.Grants, Ranges.IsLive, Ranges.KeepsOthers, Moving.Relocating.Relocates, Resizing.Grows, Resizing.HasUnits}
+use Rattle.offset_allocator.specs.Moving.BySteps.{CompactsBy, moves_by}
+use Rattle.offset_allocator.specs.Moving.Relocating.{RelocatesAligned}
+use Rattle.offset_allocator.proofs.Decided.{relocates_aligned_decided}
+use Rattle.offset_allocator.proofs.{Moving.DecidedSteps.compacts_by_decided, Moving.Stepped.steps_live}
 use Rattle.offset_allocator.specs.{Resizing.Resizes, Resizing.Shrinks, Moving.Retracting.Retracts, Moving.Room.MakesRoom, Tight.AlignsTight, View.padding_to}
 use Rattle.offset_allocator.specs.declared.reports.Refusal.{Refusal}
 use Rattle.offset_allocator.specs.declared.moves.room.RoomCost.{RoomCost}
 use Rattle.offset_allocator.specs.Moving.Compacting as named
 use Rattle.offset_allocator.proofs.Decided.{aligns_decided, allocates_decided, filled_grants, relocates_decided, tight_decided}
 use Rattle.offset_allocator.proofs.DecidedChanges.{compacts_decided, extends_decided, frees_decided, grows_decided, resets_decided, retracts_decided, shrinks_decided}
+use Rattle.offset_allocator.specs.Moving.RoomBySteps.{names_short}
+use Rattle.offset_allocator.proofs.Moving.DecidedRoomsBySteps.{least_by_decided}
 use Rattle.offset_allocator.proofs.{Moving.DecidedRooms.least_decided, Moving.DecidedRooms.noted_decided, Advice.one_reason, Holding.tight_one_reason}
 use Rattle.offset_allocator.proofs.{Moving.Packed.compacts_sizes, Moving.Packed.live_sizes, Moving.Rooms.slides_live}
 use Rattle.offset_allocator.proofs.Ranges.{adds_keep, cuts_keep, frees_others, resizes_others, resizes_units, split_grants}
@@ -20,6 +26,8 @@ use Rattle.offset_script.specs.Machine as machine
 use Rattle.offset_script.specs.declared.scripts.Command.TheVariants as command
 use Rattle.offset_calls.specs.declared.calls.Call.TheVariants as call
 use Rattle.offset_calls.specs.declared.calls.LiveRange.{LiveRange}
+use Rattle.offset_calls.specs.Steps.{begins_at}
+use Rattle.offset_calls.proofs.Begun.{begin_counted, same_begin}
 use Rattle.offset_calls.specs.Calls as plain
 use Rattle.offset_calls.specs.{Histories.Runs, Slides.Notes, Steps.Finds, Steps.IsNumbered, Steps.IsReasonTight, Steps.TakesRoom, Steps.TakesTight}
 
@@ -140,6 +148,14 @@ module _ (v : View) (known : IsWellFormed v) (accesses : ℕ) (w w' : View) (hs 
       → AreSame r r' w w' left left'
   resized_taken d d' r r' e l l' s t = (s ∙ ap (λ (b : Bool). if b then plain.Resized else Answer machine.Refused) e.0 ∙ sym t, e.1, l ∙ sym l')
 
+  stepped_taken : (n : ℕ) (d d' : Bool) (r r' : Reply) → (d ≡ d') × SameState w w' → left ≡ hs → left' ≡ hs
+      → (ms : List Move) × AreNumbered hs (if d then moves_by n 0 0 v.blocks else []) ms × (r ≡ (if d then plain.Compacted ms else Answer machine.Refused))
+      → (ms : List Move) × AreNumbered hs (if d' then moves_by n 0 0 v.blocks else []) ms × (r' ≡ (if d' then plain.Compacted ms else Answer machine.Refused))
+      → AreSame r r' w w' left left'
+  stepped_taken n d d' r r' e l l' t k =
+      let same = same_moves hs apart (if d' then moves_by n 0 0 v.blocks else []) t.0 k.0 (subst (λ b. AreNumbered hs (if b then moves_by n 0 0 v.blocks else []) t.0) e.0 t.1) k.1 in
+      (t.2 ∙ ap₂ (λ (b : Bool) ms. if b then plain.Compacted ms else Answer machine.Refused) e.0 same ∙ sym k.2, e.1, l ∙ sym l')
+
   takes_same : (c : Call) (r r' : Reply) → Takes c v hs w left r → Takes c z hs w' left' r' → AreSame r r' w w' left left'
   takes_same (call.Command c) r r' t k = answered t.0 k.0 r r' t.2 k.2 (command_decided c t.0 k.0 t.1 k.1)
   takes_same (call.Shrink i n) r r' t k = both_named (kept_name hs i) _ _ _ _ _
@@ -151,6 +167,7 @@ module _ (v : View) (known : IsWellFormed v) (accesses : ℕ) (w w' : View) (hs 
     compacts_decided v z w w' refl t.0 k.0,
     t.1 ∙ sym k.1,
   )
+  takes_same (call.CompactBy n) r r' t k = stepped_taken n t.0 k.0 r r' (compacts_by_decided n v z w w' refl t.0 k.0 t.1 k.1) t.2 k.2 t.3 k.3
   takes_same (call.Offset i) r r' t k = stay r r'
       (both_named (kept_name hs i) _ _ _ _ _ (λ x f g. let same : f.0 ≡ g.0 = let q = sym f.1 ∙ g.1 in cc in f.2 ∙ ap plain.Offset same ∙ sym g.2) (λ f g. f ∙ sym g) t.1 k.1) t.0 k.0
   takes_same (call.Refusal n) r r' t k = stay r r' (t.1.2 ∙ ap plain.Refusal (same_reason v known 1 n t.1.0 k.1.0 t.1.1 k.1.1) ∙ sym k.1.2) t.0 k.0
@@ -160,10 +177,15 @@ module _ (v : View) (known : IsWellFormed v) (accesses : ℕ) (w w' : View) (hs 
   takes_same (call.TightAligned n align) r r' t k = tight_taken n align r r' t k
   takes_same (call.RefusalTight n) r r' t k = stay r r' (t.1.2 ∙ ap plain.Refusal (same_reason_tight v known n 1 t.1.0 k.1.0 t.1.1 k.1.1) ∙ sym k.1.2) t.0 k.0
   takes_same (call.RefusalTightAligned n align) r r' t k = stay r r' (t.1.2 ∙ ap plain.Refusal (same_reason_tight v known n align t.1.0 k.1.0 t.1.1 k.1.1) ∙ sym k.1.2) t.0 k.0
+  takes_same (call.WouldBegin n align) r r' t k = stay r r' (t.2.2 ∙ ap begins_at (same_begin v known n align t.1 t.2.0 k.2.0 t.2.1 (begin_counted n align v accesses k.2.0 k.2.1)) ∙ sym k.2.2) t.0 k.0
   takes_same (call.MakeRoom n) r r' t k = room_taken (value (up n)) r r' t.1 k.1 t.0 k.0
   takes_same (call.RoomCost n) r r' t k = stay r r' (t.1.2 ∙ ap plain.RoomCost (least_decided (value (up n)) v.blocks t.1.0 k.1.0 t.1.1 k.1.1) ∙ sym k.1.2) t.0 k.0
+  takes_same (call.RoomCostBy n align m) r r' t k = stay r r' (t.1.2
+      ∙ ap plain.RoomCost (least_by_decided m (value (up (units_needed n align))) (names_short (blocks_needed align) v) v.blocks t.1.0 k.1.0 t.1.1 k.1.1) ∙ sym k.1.2) t.0 k.0
   takes_same (call.Relocate i) r r' t k = both_named (kept_name hs i) _ _ _ _ _
       (λ x f g. answered f.1 g.1 r r' f.4 g.4 (granted f.0 g.0 (relocates_decided x v z w w' known refl f.0 g.0 f.2 g.2) f.1 g.1 f.3 g.3)) (λ f g. stay r r' (f.1 ∙ sym g.1) f.0 g.0) t k
+  takes_same (call.RelocateAligned i align) r r' t k = both_named (kept_name hs i) _ _ _ _ _
+      (λ x f g. answered f.1 g.1 r r' f.4 g.4 (granted f.0 g.0 (relocates_aligned_decided x align v z w w' t.0 known refl f.0 g.0 f.2 g.2) f.1 g.1 f.3 g.3)) (λ f g. stay r r' (f.1 ∙ sym g.1) f.0 g.0) t.1 k.1
   takes_same (call.Retract n) r r' t k = resized_taken t.0 k.0 r r' (retracts_decided n v z w w' refl t.0 k.0 t.1 k.1) t.2 k.2 t.3 k.3
   takes_same call.First r r' t k = stay r r' (finds_same hs apart _ r r' t.1 k.1) t.0 k.0
   takes_same call.Last r r' t k = stay r r' (finds_same hs apart _ r r' t.1 k.1) t.0 k.0
@@ -233,6 +255,10 @@ module _ (v w : View) (known : IsWellFormed v) (after : IsWellFormed w) (hs left
   relocated_held x None a t k = refusal_held a t.1 k
   relocated_held x (Some g) a t k = split_held (size_of x v) (size_of x v) (λ o. 0) g a t.0.1 k
 
+  aligned_relocated_held : (x align : ℕ) (r : Option Handle) (a : machine.Answer) → RelocatesAligned x align v w r → IsKept r hs left a → AreHeld w left
+  aligned_relocated_held x align None a t k = refusal_held a t.1 k
+  aligned_relocated_held x align (Some g) a t k = split_held (units_needed (size_of x v) align) (size_of x v) (padding_to align) g a t.0.1 k
+
   -- where nothing changes, or one range has another size
   state_held : SameState v w → AreHeld w hs
   state_held same = held_kept v w hs (λ x. ap (range_of x) same) h
@@ -267,6 +293,11 @@ module _ (v w : View) (known : IsWellFormed v) (after : IsWellFormed w) (hs left
   retracted_held less true (inr e) = held_kept v w hs (cuts_keep v w known after less e.1) h
   retracted_held less false e = state_held e.2
 
+  stepped_held : (n : ℕ) (d : Bool) → CompactsBy n v w d → AreHeld w hs
+  stepped_held n true (inl e) = state_held e.1
+  stepped_held n true (inr e) = held_sized v w hs (live_sizes v w known after (steps_live n v w e.1)) h
+  stepped_held n false e = state_held e.2
+
   room_held : {F : Type 0} (R : F → named.Move → F → Type 0) (want : ℕ) (f g : F) (c : Option RoomCost) → MakesRoom R want v f c w g → AreHeld w hs
   room_held R want f g None s = state_held s.0
   room_held R want f g (Some c) s = elim (cases_lt 0 c.ranges) [
@@ -290,6 +321,7 @@ module _ (v w : View) (known : IsWellFormed v) (after : IsWellFormed w) (hs left
   takes_held (call.Shrink i n) r t = either (kept_name hs i) _ _ _ (λ x e u. same_held u.2 (shrunk_held x n u.0 u.1)) (λ u. stays_held u.0) t
   takes_held (call.Grow i n) r t = either (kept_name hs i) _ _ _ (λ x e u. same_held u.2 (grown_held x n u.0 u.1)) (λ u. stays_held u.0) t
   takes_held call.Compact r t = same_held t.1 (held_sized v w hs (compacts_sizes v w known t.0) h)
+  takes_held (call.CompactBy n) r t = same_held t.2 (stepped_held n t.0 t.1)
   takes_held (call.Offset i) r t = stays_held t.0
   takes_held (call.Refusal n) r t = stays_held t.0
   takes_held (call.RefusalAligned n align) r t = stays_held t.0
@@ -298,8 +330,11 @@ module _ (v w : View) (known : IsWellFormed v) (after : IsWellFormed w) (hs left
   takes_held (call.RefusalTight n) r t = stays_held t.0
   takes_held (call.RefusalTightAligned n align) r t = stays_held t.0
   takes_held (call.MakeRoom n) r t = same_held t.1 (room_held Notes (value (up n)) [] t.0.2 t.0.0 t.0.3.made)
+  takes_held (call.WouldBegin n align) r t = stays_held t.0
   takes_held (call.RoomCost n) r t = stays_held t.0
+  takes_held (call.RoomCostBy n align m) r t = stays_held t.0
   takes_held (call.Relocate i) r t = either (kept_name hs i) _ _ _ (λ x e u. relocated_held x u.0 u.1 u.2 u.3) (λ u. stays_held u.0) t
+  takes_held (call.RelocateAligned i align) r t = either (kept_name hs i) _ _ _ (λ x e u. aligned_relocated_held x align u.0 u.1 u.2 u.3) (λ u. stays_held u.0) t.1
   takes_held (call.Retract n) r t = same_held t.2 (retracted_held n t.0 t.1)
   takes_held call.First r t = stays_held t.0
   takes_held call.Last r t = stays_held t.0

@@ -42,6 +42,7 @@ module _ (v w : View) (hs left : List (Option Handle)) where
   more_call (call.Shrink i n) r t = either (kept_name hs i) _ _ _ (λ x u. same u.2) (λ u. same u.0.1) t
   more_call (call.Grow i n) r t = either (kept_name hs i) _ _ _ (λ x u. same u.2) (λ u. same u.0.1) t
   more_call call.Compact r t = same t.1
+  more_call (call.CompactBy n) r t = same t.2
   more_call (call.Offset i) r t = same t.0.1
   more_call (call.Refusal n) r t = same t.0.1
   more_call (call.RefusalAligned n align) r t = same t.0.1
@@ -50,8 +51,11 @@ module _ (v w : View) (hs left : List (Option Handle)) where
   more_call (call.RefusalTight n) r t = same t.0.1
   more_call (call.RefusalTightAligned n align) r t = same t.0.1
   more_call (call.MakeRoom n) r t = same t.1
+  more_call (call.WouldBegin n align) r t = same t.0.1
   more_call (call.RoomCost n) r t = same t.0.1
+  more_call (call.RoomCostBy n align m) r t = same t.0.1
   more_call (call.Relocate i) r t = either (kept_name hs i) _ _ _ (λ x u. more u.0 u.1 u.3) (λ u. same u.0.1) t
+  more_call (call.RelocateAligned i align) r t = either (kept_name hs i) _ _ _ (λ x u. more u.0 u.1 u.3) (λ u. same u.0.1) t.1
   more_call (call.Retract n) r t = same t.2
   more_call call.First r t = same t.0.1
   more_call call.Last r t = same t.0.1

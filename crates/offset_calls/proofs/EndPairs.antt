@@ -8,7 +8,7 @@ use Rattle.offset_script.proofs.{Pairs.pair_free_part, Pairs.lefts_free_part, Pa
 use Rattle.offset_script.specs.Histories.{raise_number}
 use Rattle.offset_script.specs.declared.scripts.Command.TheVariants as command
 use Rattle.offset_calls.specs.declared.calls.LiveRange.{LiveRange}
-use Rattle.offset_calls.specs.Ending.{begins_before, relocate, can_retract, end_block, with_end, retracted, live_range, first_live, last_live}
+use Rattle.offset_calls.specs.Ending.{begins_before, relocate, relocate_aligned, can_retract, end_block, with_end, retracted, live_range, first_live, last_live}
 use Rattle.offset_script.specs.Machine as machine
 
 -- ---- lists of pairs without a free one at the end
@@ -99,6 +99,15 @@ module _ (r : ℕ → ℕ) (d : ℕ) (s t : State) (a : IsAlike r d s t) where
       if_same (IsSameOutcome r d) _ _ _ _ _ _
       (ap₂ begins_before (same_total xs) g.answer ∙ raised_before (total (rights xs)) (machine.allocate q.size t).answer)
       (λ z. g) (same_quiet r d s t a _ _ refl)
+
+  pub same_relocated_aligned : (align : ℕ) (o o' : Option machine.Place) → IsSamePlace (λ q. Unit {0}) a.pairs o o' → IsSameOutcome r d (relocate_aligned align s o) (relocate_aligned align t o')
+  same_relocated_aligned align None None neither = same_quiet r d s t a _ _ refl
+  same_relocated_aligned align o o' (both xs q ys e f) =
+      let n = q.size + align - 1 in
+      let g = alike_step r d (command.Alloc n) s t a in
+      if_same (IsSameOutcome r d) _ _ _ _ _ _
+      (ap₂ begins_before (same_total xs) g.answer ∙ raised_before (total (rights xs)) (machine.allocate n t).answer)
+      (λ z. alike_step r d (command.Align q.size align) s t a) (same_quiet r d s t a _ _ refl)
 
 -- ---- live ranges
 

@@ -1,10 +1,11 @@
 -- Calls at the end of the space, with tickets.
-use Rattle.offset_calls.proofs.Common.{◌≡◌, ℕ, Bool, List, Option, None, Some, IfSome, is_some, option_map, if◌then◌else◌, refl, ap, ◌∙◌, inl, Handle, Ticket, Guard, AreKept, Reply, Answer, Resized}
+use Rattle.offset_calls.proofs.Common.{◌≡◌, ◌≤◌, ℕ, Bool, List, Option, None, Some, IfSome, is_some, option_map, if◌then◌else◌, refl, ap, ◌∙◌, inl, Handle, Ticket, Guard, AreKept, Reply, Answer, Resized}
 use Rattle.offset_calls.proofs.Common.{Grants, IsLive, IsSame, KeepsAll, handle_in, kept_name, IfNamed, IsLedger, IsStored, Serves, IsNumberOf, handles_of}
 use Rattle.offset_allocator.specs.{Reporting.Beside.first_live, Reporting.Beside.last_live, Reporting.Beside.live_before, Reporting.Beside.live_after, Ranges.size_of, Moving.Relocating.Relocates}
-use Rattle.offset_allocator.specs.{Moving.Retracting.Retracts}
+use Rattle.offset_allocator.specs.{Moving.Retracting.Retracts, Moving.Relocating.RelocatesAligned}
 use Rattle.offset_guarded.specs.Guard.{ticket_at}
-use Rattle.offset_script.proofs.Simulation.{if_some}
+use Rattle.offset_script.proofs.Simulation.{if_none, if_some}
+use Rattle.offset_calls.proofs.Common.{live_name, range_of, true, false}
 use Rattle.offset_calls.specs.declared.calls.LiveRange.{LiveRange}
 use Rattle.offset_calls.specs.{Calls.Beside, Steps.Finds, Steps.IsKeptSome}
 use Rattle.offset_calls.proofs.{Beside.front_kept, Beside.last_kept, Beside.before_kept, Beside.after_kept, Beside.are_serials}
@@ -34,6 +35,33 @@ relocate_serves g h ts us t r a k is live number some none step kept =
       grown = s.2;
       realm = s.3;
     }
+
+-- a second grant from a multiple of an alignment on, for a live ticket
+pub relocate_aligned_serves : (g h : Guard) (ts us : List Ticket) (t : Ticket) (r : Option Ticket) (a : machine.Answer) (k align : ℕ) → 1 ≤ align → IsLedger g ts → IsLive t g → IsNumberOf k (Some t) g ts
+    → IfSome r (Grants (size_of t.name g.space) g h) → (r ≡ None → IsSame g h) → RelocatesAligned t.name align g.space h.space (option_map handle_in r) → IsStored r ts us a
+    → Serves (call.RelocateAligned k align) g ts h us (Answer a)
+relocate_aligned_serves g h ts us t r a k align least is live number some none step kept =
+    let s = stored (size_of t.name g.space) g h ts us r a is some none kept in
+    record {
+      takes = (least, if_some (kept_name (handles_of g ts) k) t.name _ _ (number ∙ live_named_by t g live) (option_map handle_in r, a, step, s.0, refl));
+      ledger = s.1;
+      grown = s.2;
+      realm = s.3;
+    }
+
+-- a ticket that is not live has no name
+pub dead_name : (t : Ticket) (g : Guard) → (IsLive t g → ⊥) → live_name (Some t) g ≡ None
+dead_name t g f = go (is_some (range_of t g)) refl
+  where
+    go : (b : Bool) → is_some (range_of t g) ≡ b → live_name (Some t) g ≡ None
+    go true e = absurd (f e)
+    go false e = ap (λ (b : Bool). option_map (λ (h : Handle). h.name) (if b then Some (handle_in t) else None)) e
+
+-- there is no live grant of this number
+pub relocate_aligned_gone : (g : Guard) (ts : List Ticket) (o : Option Ticket) (k align : ℕ) → 1 ≤ align → IsLedger g ts → IsNumberOf k o g ts → live_name o g ≡ None
+    → Serves (call.RelocateAligned k align) g ts g ts (Answer machine.Gone)
+relocate_aligned_gone g ts o k align least is number none = asked_serves (call.RelocateAligned k align) g ts (Answer machine.Gone) is
+    (least, if_none (kept_name (handles_of g ts) k) _ _ (number ∙ none) ((refl, refl), refl))
 
 -- the range of a ticket
 abbrev pub range_at : Ticket → LiveRange

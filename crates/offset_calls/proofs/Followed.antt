@@ -22,6 +22,12 @@ use Rattle.offset_calls.specs.Tight.{holding_place, request_tight, allocate_tigh
 use Rattle.offset_calls.proofs.{Held.held_at, Filled.held_spot, Filled.held_there, Filled.there, Filled.tight_agrees, Rooms.well_room, Rooms.room_cost_is, Rooms.room_taken, Common.IsKept}
 use Rattle.offset_calls.proofs.{Common.stamp_of_call, Beside.first_same, Beside.last_same, Beside.before_same, Beside.after_same, Relocated.relocated, Retracted.well_retract, Retracted.can_too}
 use Rattle.offset_calls.proofs.{Retracted.can_there, Retracted.cut_agrees, Compacted.well_compact, Compacted.compact_agrees, Compacted.moves_are}
+use Rattle.offset_allocator.specs.Moving.Relocating.{RelocatesAligned}
+use Rattle.offset_calls.specs.Ending.{relocate_aligned}
+use Rattle.offset_calls.specs.Stepped.{slid_by}
+use Rattle.offset_calls.proofs.{Relocated.relocated_aligned, Stepped.steps_taken, Stepped.well_steps}
+use Rattle.offset_calls.proofs.Begun.{aligned_begins}
+use Rattle.offset_calls.proofs.RunsBySteps.{room_cost_by_is}
 use Rattle.offset_calls.specs.Ending as plain
 use Rattle.offset_script.specs.declared.scripts.Command.TheVariants as command
 use Rattle.offset_calls.proofs.Resized.{well_resized, found, spot, size_found, can_shrink_is, shrink_can, can_grow_is, grow_can, resized_agrees}
@@ -116,15 +122,23 @@ well_relocate s w None = well_quiet s w machine.Gone
 well_relocate s w (Some p) = cond_both (begins_before (total p.before) (machine.allocate p.block.size s).answer) _ _ (λ (o : machine.Outcome). IsWell o.state)
     (λ e. well_step (command.Alloc p.block.size) s w) (λ e. well_quiet s w machine.Refused)
 
+well_relocate_aligned : (s : State) → IsWell s → (align : ℕ) (o : Option machine.Place) → IsWell (relocate_aligned align s o).state
+well_relocate_aligned s w align None = well_quiet s w machine.Gone
+well_relocate_aligned s w align (Some p) =
+    cond_both (begins_before (total p.before) (machine.allocate (p.block.size + align - 1) s).answer) _ _ (λ (o : machine.Outcome). IsWell o.state)
+    (λ e. well_step (command.Align p.block.size align) s w) (λ e. well_quiet s w machine.Refused)
+
 pub well_call : (c : Call) (s : State) → IsWell s → IsWell (step c s).state
 well_call (call.Command c) s w = well_step c s w
 well_call (call.Shrink k n) s w = well_resize s w k n (can_shrink n s) (λ p d c. shrink_fits s n p d c) (machine.place_of k s.blocks) refl
 well_call (call.Grow k n) s w = well_resize s w k n (can_grow n) (λ p d c. grow_fits s n p d c) (machine.place_of k s.blocks) refl
 well_call call.Compact s w = well_compact s w
+well_call (call.CompactBy n) s w = well_steps s w n (slid_by n (stamp_of_call s) s.blocks) refl
 well_call (call.Tight n) s w = well_tight s w n 1
 well_call (call.TightAligned n align) s w = well_tight s w n align
 well_call (call.MakeRoom n) s w = well_room s w (value (up n)) (cheapest (value (up n)) s.blocks) refl
 well_call (call.Relocate k) s w = well_relocate s w (machine.place_of k s.blocks)
+well_call (call.RelocateAligned k align) s w = well_relocate_aligned s w align (machine.place_of k s.blocks)
 well_call (call.Retract n) s w = well_retract s w n
 well_call other s w = well_quiet s w machine.Gone
 
@@ -368,6 +382,12 @@ module _ (v w : View) (hs left : List (Option Handle)) (r : Reply) (s : State) (
   relocate_step k None e t = quiet _ (Answer machine.Gone) (ap (λ o. answered (relocate s o)) (gone_there k e)) t.0 t.1
   relocate_step k (Some x) e t = relocated v w hs left r s formed ws p k x e t.0 t.1 t.2 t.3 t.4
 
+  relocate_aligned_step : (k align : ℕ) → 1 ≤ align → (o : Option ℕ) → kept_name hs k ≡ o
+      → IfNamed o (λ x. (g : Option Handle) × (a : machine.Answer) × RelocatesAligned x align v w g × IsKept g hs left a × (r ≡ Answer a)) (Stays v hs w left × (r ≡ Answer machine.Gone))
+      → Follows (step (call.RelocateAligned k align) s) w left r
+  relocate_aligned_step k align least None e t = quiet _ (Answer machine.Gone) (ap (λ o. answered (relocate_aligned align s o)) (gone_there k e)) t.0 t.1
+  relocate_aligned_step k align least (Some x) e t = relocated_aligned v w hs left r s formed ws p k x e align least t.0 t.1 t.2 t.3 t.4
+
   retract_if : (n : ℕ) (b : Bool) → can_retract n s.blocks ≡ b
       → step (call.Retract n) s ≡ (if b then remakes s (retracted n (stamp_of_call s) s.blocks) Resized else replies_only s (Answer machine.Refused))
   retract_if n b e = ap (λ b. if b then remakes s (retracted n (stamp_of_call s) s.blocks) Resized else replies_only s (Answer machine.Refused)) e
@@ -404,6 +424,7 @@ module _ (v w : View) (hs left : List (Option Handle)) (r : Reply) (s : State) (
       let agrees = compact_agrees v (kept_name hs) s p.agrees w t.0 in
       let moved = moves_are v hs s p.formed ws p.agrees t.2.0 t.2.1 in
       (t.2.2 ∙ ap Compacted moved, subst (λ l. IsAtState w l (compact s).state) (sym t.1) (record { formed = formed; agrees = agrees; grants = p.grants }))
+  follows (call.CompactBy n) valid t = steps_taken v w hs left r s formed ws p n t.2 t.0 t.1 t.3.0 t.3.1 t.3.2
   follows (call.Offset k) valid t = quiet _ _ refl t.0 (offset_step k (kept_name hs k) refl t.1)
   follows (call.Refusal n) valid t = quiet _ _ refl t.0 (t.1.2 ∙ ap reply.Refusal (reason_is 1 n t.1.0 t.1.1))
   follows (call.RefusalAligned n align) valid t = quiet _ _ refl t.0
@@ -412,9 +433,13 @@ module _ (v w : View) (hs left : List (Option Handle)) (r : Reply) (s : State) (
   follows (call.TightAligned n align) valid t = tight_step n align (not_zero align (inr (inl valid))) t
   follows (call.RefusalTight n) valid t = quiet _ _ refl t.0 (tight_reason_step n 1 (omega arith) t.1.0 t.1.1 t.1.2)
   follows (call.RefusalTightAligned n align) valid t = quiet _ _ refl t.0 (tight_reason_step n align (not_zero align (inr (inl valid))) t.1.0 t.1.1 t.1.2)
+  follows (call.WouldBegin n align) valid t = quiet _ _ refl t.0 (t.2.2 ∙ aligned_begins v (kept_name hs) s p.formed ws p.agrees n align t.1 t.2.0 t.2.1)
   follows (call.MakeRoom n) valid t = room_taken v w hs left r s formed ws p t.1 (value (up n)) t.0
+  follows (call.RoomCostBy n align m) valid t = quiet _ _ refl t.0
+      (t.1.2 ∙ ap reply.RoomCost (room_cost_by_is v (kept_name hs) s p.formed ws p.agrees m (value (up (units_needed n align))) (blocks_needed align) t.1.0 t.1.1))
   follows (call.RoomCost n) valid t = quiet _ _ refl t.0 (t.1.2 ∙ ap reply.RoomCost (room_cost_is v w hs left r s formed ws p t.0.1 (value (up n)) t.1.0 t.1.1))
   follows (call.Relocate k) valid t = relocate_step k (kept_name hs k) refl t
+  follows (call.RelocateAligned k align) valid t = relocate_aligned_step k align t.0 (kept_name hs k) refl t.1
   follows (call.Retract n) valid t = retract_step n t.0 t.1 t.2 t.3
   follows call.First valid t = quiet _ _ refl t.0 (t.1.2 ∙ ap Beside (first_same v hs s p.formed ws p.agrees t.1.0 t.1.1))
   follows call.Last valid t = quiet _ _ refl t.0 (t.1.2 ∙ ap Beside (last_same v hs s p.formed ws p.agrees t.1.0 t.1.1))

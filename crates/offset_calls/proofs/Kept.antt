@@ -4,7 +4,7 @@ use Rattle.offset_calls.proofs.Common.{slice_set, option_map, eq-eqb, ne_eqb, ca
 use Rattle.offset_calls.proofs.Common.{Call, Reply, Takes, Command, IsTrue, is_valid}
 use Rattle.std.specs.List.{slice_index}
 use Rattle.std.proofs.lemmas.List.{get_or_default, get_or-set_other, get_or-set_same, set_past, length-set}
-use Rattle.offset_allocator.specs.{Relations.Splits, Relations.Allocates, Relations.Aligns, Tight.AlignsTight, Moving.Relocating.Relocates}
+use Rattle.offset_allocator.specs.{Relations.Splits, Relations.Allocates, Relations.Aligns, Tight.AlignsTight, Moving.Relocating.Relocates, Moving.Relocating.RelocatesAligned}
 use Rattle.offset_allocator.proofs.{Holding.grants_tight, Powers.not_zero, Ranges.split_grants}
 use Rattle.offset_script.specs.Steps.{AreLive}
 use Rattle.offset_script.proofs.Simulation.{kept_push}
@@ -125,6 +125,10 @@ module _ (v w : View) (hs left : List (Option Handle)) (before : IsWellFormed v)
   next_relocated x a None t k = next_same hs left k.0
   next_relocated x a (Some h) t k = next_granted _ _ _ h t.0.1 k.0
 
+  next_relocated_aligned : (x align : ℕ) (a : machine.Answer) (r : Option Handle) → RelocatesAligned x align v w r → IsKept r hs left a → IsNext hs left
+  next_relocated_aligned x align a None t k = next_same hs left k.0
+  next_relocated_aligned x align a (Some h) t k = next_granted _ _ _ h t.0.1 k.0
+
   next_command : (c : Command) (a : machine.Answer) → script.Takes c v hs w left a → IsNext hs left
   next_command (command.Alloc n) a t = next_allocated n a t.0 t.1 t.2
   next_command (command.Free k) a t = either (kept_name hs k) _ _ _ (λ x u. next_without hs left (k - 1) u.1) (λ u. next_same hs left u.0.1) t
@@ -140,6 +144,7 @@ module _ (v w : View) (hs left : List (Option Handle)) (before : IsWellFormed v)
   next_call (call.Shrink k n) r valid t = either (kept_name hs k) _ _ _ (λ x u. next_same hs left u.2) (λ u. next_same hs left u.0.1) t
   next_call (call.Grow k n) r valid t = either (kept_name hs k) _ _ _ (λ x u. next_same hs left u.2) (λ u. next_same hs left u.0.1) t
   next_call call.Compact r valid t = next_same hs left t.1
+  next_call (call.CompactBy n) r valid t = next_same hs left t.2
   next_call (call.Offset k) r valid t = next_same hs left t.0.1
   next_call (call.Refusal n) r valid t = next_same hs left t.0.1
   next_call (call.RefusalAligned n align) r valid t = next_same hs left t.0.1
@@ -148,8 +153,11 @@ module _ (v w : View) (hs left : List (Option Handle)) (before : IsWellFormed v)
   next_call (call.RefusalTight n) r valid t = next_same hs left t.0.1
   next_call (call.RefusalTightAligned n align) r valid t = next_same hs left t.0.1
   next_call (call.MakeRoom n) r valid t = next_same hs left t.1
+  next_call (call.WouldBegin n align) r valid t = next_same hs left t.0.1
   next_call (call.RoomCost n) r valid t = next_same hs left t.0.1
+  next_call (call.RoomCostBy n align m) r valid t = next_same hs left t.0.1
   next_call (call.Relocate k) r valid t = either (kept_name hs k) _ _ _ (λ x u. next_relocated x u.1 u.0 u.2 u.3) (λ u. next_same hs left u.0.1) t
+  next_call (call.RelocateAligned k align) r valid t = either (kept_name hs k) _ _ _ (λ x u. next_relocated_aligned x align u.1 u.0 u.2 u.3) (λ u. next_same hs left u.0.1) t.1
   next_call (call.Retract n) r valid t = next_same hs left t.2
   next_call call.First r valid t = next_same hs left t.0.1
   next_call call.Last r valid t = next_same hs left t.0.1

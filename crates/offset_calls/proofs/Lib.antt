@@ -1,3 +1,4 @@
+mod Begun
 mod Beside
 mod Decided
 mod DecidedTickets
@@ -7,6 +8,7 @@ mod Kept
 mod Reached
 mod Relocated
 mod Retracted
+mod RunsBySteps
 mod Undone
 pub mod Alike
 pub mod Along
@@ -22,4 +24,6 @@ pub mod Rows
 pub mod Runs
 pub mod Slid
 pub mod Splits
+pub mod Stepped
+pub mod SteppedPairs
 pub mod Tickets

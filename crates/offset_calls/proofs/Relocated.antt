@@ -10,6 +10,12 @@ use Rattle.offset_calls.proofs.{Common.chosen_place, Common.is_short_of, Common.
 use Rattle.offset_script.proofs.{Agreed.agrees_but, Agreed.agrees_quiet, Agreed.room_for, Agreed.serve_agrees, Agreement.HasBlocksOf, Agreement.IsAtState, Chosen.Spot, Chosen.plain_place}
 use Rattle.offset_script.proofs.{Chosen.plain_spot, Chosen.listed_spot, Ends.total_units, Labels.names, Labels.tags, Found.chosen_at, Well.IsWell, Simulation.requested}
 use Rattle.offset_calls.specs.{Calls.answered, Ending.begins_before, Ending.relocate}
+use Rattle.offset_allocator.proofs.Served.{aligned_serves}
+use Rattle.offset_allocator.specs.{Relations.Aligns, Relations.Splits, Moving.Relocating.RelocatesAligned, Requests.units_needed, View.padding_to}
+use Rattle.offset_script.proofs.{Agreed.aligned_agrees, Agreed.has_room, Agreed.labelled, Chosen.chosen}
+use Rattle.offset_calls.proofs.Common.{subst₂, true≢false}
+use Rattle.std.proofs.lemmas.Bool.{cond_both}
+use Rattle.offset_calls.specs.Ending.{relocate_aligned}
 use Rattle.offset_allocator.specs.View as named
 use Rattle.offset_script.specs.Machine as machine
 
@@ -43,7 +49,7 @@ absent_too x y (b ∷ bs) d a = elim (cases_eq x b.name) [
 ]
 
 -- of more names than blocks, one is unused
-unused : (m : ℕ) (bs : List Block) → length bs < m → (x : ℕ) × (x < m) × AllByRecursion (λ (b : Block). b.name ≢ x) bs
+pub unused : (m : ℕ) (bs : List Block) → length bs < m → (x : ℕ) × (x < m) × AllByRecursion (λ (b : Block). b.name ≢ x) bs
 unused zero bs l = absurd (omega arith)
 unused (suc m) bs l = elim (cases_lt 0 (count_named m bs)) [
   | inr none ↦ (m, omega arith, absent m bs (omega (arith, none)))
@@ -54,7 +60,7 @@ unused (suc m) bs l = elim (cases_lt 0 (count_named m bs)) [
 
 -- ---- the smallest class from another on whose bin has a name
 
-abbrev IsLeast : List (List ℕ) → ℕ → ℕ → Type 0
+abbrev pub IsLeast : List (List ℕ) → ℕ → ℕ → Type 0
 IsLeast bins a c = (a ≤ c) × (bin_at bins c ≢ []) × ((e : ℕ) → a ≤ e → e < c → bin_at bins e ≡ [])
 
 least_step : (bins : List (List ℕ)) (a : ℕ) → ((c : ℕ) × IsLeast bins (a + 1) c) → (xs : List ℕ) → bin_at bins a ≡ xs → (c : ℕ) × IsLeast bins a c
@@ -68,7 +74,7 @@ least_step bins a r [] e = (
 )
 least_step bins a r (x ∷ xs) e = (a, (omega arith, λ z. let f : (x ∷ xs) ≡ [] = sym e ∙ z in cc, λ k l m. absurd (omega arith)))
 
-least : (bins : List (List ℕ)) (d a c : ℕ) → c ≡ a + d → bin_at bins c ≢ [] → (k : ℕ) × IsLeast bins a k
+pub least : (bins : List (List ℕ)) (d a c : ℕ) → c ≡ a + d → bin_at bins c ≢ [] → (k : ℕ) × IsLeast bins a k
 least bins zero a c e some = (c, (omega arith, some, λ k l m. absurd (omega arith)))
 least bins (suc d) a c e some = least_step bins a (least bins d (a + 1) c (omega arith) some) (bin_at bins a) refl
 
@@ -130,7 +136,7 @@ granted_from v w n c room y alone least (x ∷ xs) e =
 
 module _ (v : View) (kept_name : ℕ → Option ℕ) (s : State) (w : IsWellFormed v) (ws : IsWell s) (g : HasBlocksOf v kept_name s) (n : ℕ) where
   -- what the machine chooses is listed in a class that is large enough
-  fit_of : (p : machine.Place) → chosen_place n s.blocks ≡ Some p → (c : ℕ) × (up n ≤ c) × (bin_at v.bins c ≢ [])
+  pub fit_of : (p : machine.Place) → chosen_place n s.blocks ≡ Some p → (c : ℕ) × (up n ≤ c) × (bin_at v.bins c ≢ [])
   fit_of p e =
       let c = chosen_at n s.blocks p e in
       let r = plain_spot g.labels p (sym g.state ∙ c.0) in
@@ -225,3 +231,51 @@ module _ (v w : View) (hs left : List (Option Handle)) (r : Reply) (s : State) (
       → (r ≡ (answered (relocate s (machine.place_of k s.blocks))).reply) × IsAtState w left (relocate s (machine.place_of k s.blocks)).state
   relocated g a t kept is = subst (λ o. (r ≡ (answered (relocate s o)).reply) × IsAtState w left (relocate s o).state)
       (sym (found v (kept_name hs) s p.formed ws p.agrees k x e).placed) (relocates_there g a t kept is)
+
+  -- the machine begins where the allocator does
+  begins_at : (m : ℕ) (n align : ℕ) (h : Handle) → HasRoomFor 1 v → (t : Splits m n (padding_to align) v w h) → (machine.allocate m s).answer ≡ machine.Grant (s.grants + 1) (units t.before)
+  begins_at m n align h room t =
+      let c = chosen v p.formed p.agrees.labels (labelled v (kept_name hs) s p.formed ws p.agrees) m n (padding_to align) w h t in
+      let at : chosen_place m s.blocks ≡ Some (plain_place c.spot) = ap (chosen_place m) p.agrees.state ∙ c.is in
+      let here : total (tags c.spot.before) + 0 ≡ units t.before = omega (arith, total_units c.spot.before, ap (λ (q : Place). units q.before) c.place) in
+      ap₂ (λ b o. (if b then machine.returns_only s machine.Refused else machine.grant_or_refuse s m (λ o. 0) o).answer) (has_room v (kept_name hs) s p.formed ws p.agrees 1 room) at
+      ∙ ap (machine.Grant (s.grants + 1)) here
+
+  -- the same from a multiple of an alignment on
+  module _ (align : ℕ) (least : 1 ≤ align) where
+    abbrev Agrees : machine.Outcome → Type 0
+    Agrees o = (r ≡ (answered o).reply) × IsAtState w left o.state
+
+    -- as a request does
+    asked : (g : Option Handle) (a : machine.Answer) → Aligns at.label.size align v w g → IsKept g hs left a → r ≡ Answer a → Agrees (machine.allocate_aligned at.label.size align s)
+    asked g a al kept is =
+        let m = aligned_agrees v (kept_name hs) s p.formed ws p.agrees at.label.size align least w formed g (aligned_serves at.label.size align v w g al) in
+        let f = requested v w hs left a s formed ws p (machine.allocate_aligned at.label.size align s) g m kept in
+        (is ∙ ap Answer f.0, f.1)
+
+    rests : SameState v w → left ≡ hs → r ≡ Answer machine.Refused → Agrees (machine.returns_only s machine.Refused)
+    rests same f is =
+        let agrees = agrees_but v w (kept_name hs) _ same (agrees_quiet v (kept_name hs) s p.agrees machine.Refused) in
+        (is, subst (λ l. IsAtState w l (machine.returns_only s machine.Refused).state) (sym f) (record { formed = formed; agrees = agrees; grants = p.grants }))
+
+    abbrev would : Bool
+    would = begins_before (total (tags at.before)) (machine.allocate (at.label.size + align - 1) s).answer
+
+    aligned_there : (g : Option Handle) (a : machine.Answer) → RelocatesAligned x align v w g → IsKept g hs left a → r ≡ Answer a → Agrees (relocate_aligned align s (Some (plain_place at)))
+    aligned_there None a t kept is = cond_both would _ _ Agrees
+        (λ b. asked None a (
+          (λ can. absurd (true≢false (sym b ∙ not_before v (kept_name hs) s p.formed ws p.agrees (at.label.size + align - 1) (total (tags at.before))
+              (λ m begun. subst (λ o. o ≤ m) begins (t.0 m can.0 (subst (λ z. WouldBegin (units_needed z align) v m) (sym (size_found v (kept_name hs) s p.formed ws p.agrees k x e)) begun)))))),
+          t.1,
+        ) kept is)
+        (λ b. rests t.1 kept.0 (is ∙ ap Answer kept.1))
+    aligned_there (Some h) a t kept is =
+        let n = size_found v (kept_name hs) s p.formed ws p.agrees k x e in
+        let moved : (al : Aligns at.label.size align v w (Some h)) × (units al.1.before < total (tags at.before)) =
+        subst₂ (λ z o. (al : Aligns z align v w (Some h)) × (units al.1.before < o)) n begins t in
+        let room : HasRoomFor 1 v = let q = moved.0.0 in omega (arith, q, least) in
+        let b : would ≡ true = ap (begins_before (total (tags at.before))) (begins_at (at.label.size + align - 1) at.label.size align h room moved.0.1) ∙ lt-ltb (units moved.0.1.before) (total (tags at.before)) moved.1 in
+        subst (λ b. Agrees (if b then machine.allocate_aligned at.label.size align s else machine.returns_only s machine.Refused)) (sym b) (asked (Some h) a moved.0 kept is)
+
+    pub relocated_aligned : (g : Option Handle) (a : machine.Answer) → RelocatesAligned x align v w g → IsKept g hs left a → r ≡ Answer a → Agrees (relocate_aligned align s (machine.place_of k s.blocks))
+    relocated_aligned g a t kept is = subst (λ o. Agrees (relocate_aligned align s o)) (sym (found v (kept_name hs) s p.formed ws p.agrees k x e).placed) (aligned_there g a t kept is)

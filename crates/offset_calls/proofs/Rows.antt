@@ -11,11 +11,15 @@ use Rattle.offset_allocator.specs.{View.padding_to, Classes.value, Classes.up, d
 use Rattle.std.specs.Option.{option_or}
 use Rattle.offset_calls.specs.{Calls.answered, Calls.Beside, Calls.beside, Calls.make_room, Calls.RoomMade, Ending.first_live, Ending.last_live, Ending.live_before}
 use Rattle.offset_calls.specs.Calls as plain
-use Rattle.offset_calls.specs.{Ending.live_after, Histories.relocates, Room.Split, Room.cheapest}
+use Rattle.offset_calls.specs.{Ending.live_after, Histories.goes_by_begin, Room.Split, Room.cheapest}
 use Rattle.offset_calls.specs.declared.calls.LiveRange.{LiveRange}
+use Rattle.offset_calls.proofs.SteppedPairs.{AreSlid, both_slid, kept_right, same_last}
+use Rattle.offset_calls.specs.Stepped.{kept, slid_by}
+use Rattle.offset_calls.specs.Calls.{moves_by, step_by}
 use Rattle.offset_calls.proofs.EndPairs.{same_free_end, IsSent, AreSent, sent, sent_first, sent_last}
 use Rattle.offset_calls.specs.Tight.{holds, better, holding_place, request_tight, allocate_tight, lack, reason_held}
-use Rattle.offset_calls.proofs.Splits.{IsSameSplit, no_split, same_split, same_cost, same_cheapest, same_room_cost}
+use Rattle.offset_calls.proofs.Splits.{IsSameSplit, no_split, same_split, same_cost, same_cheapest, same_room_cost, same_cheapest_by}
+use Rattle.std.specs.Prelude.{min}
 use Rattle.offset_script.specs.Histories as script
 use Rattle.offset_script.specs.Machine as machine
 use Rattle.offset_calls.specs.declared.calls.Call.TheVariants as call
@@ -30,6 +34,14 @@ same_moves from to (q ∷ ps) h =
     let stay = same_moves (from + q.size) to ps (λ x i. h x (inr i)) in
     let move = same_moves (from + q.size) (to + q.size) ps (λ x i. h x (inr i)) in
     search (arith, stay, move, same_free, (same_moved q.kind (h q (inl refl))))
+
+same_moves_by : (n from to : ℕ) (ps : List Pair) → ((q : Pair) → IsIn q ps → HasSameNumber q.kind) → moves_by n from to (lefts ps) ≡ moves_by n from to (rights ps)
+same_moves_by n from to [] h = refl
+same_moves_by n from to (q ∷ ps) h =
+    let stay = same_moves_by n (from + q.size) (to + kept n q.size (lefts ps)) ps (λ x i. h x (inr i)) in
+    let move = same_moves_by n (from + q.size) (to + q.size) ps (λ x i. h x (inr i)) in
+    let more = ap (λ k. moves_by n (from + q.size) (to + k) (rights ps)) (kept_right n q.size ps) in
+    search (arith, stay, move, more, same_free, (same_moved q.kind (h q (inl refl))))
 
 some_better : (x : Bool) (b : machine.Block) (bs : List machine.Block) (o : Option machine.Place) → is_some (better x b bs o) ≡ (x || is_some o)
 some_better x b bs None = search (arith, is_some)
@@ -105,6 +117,15 @@ module _ (s t : State) (a : IsSameSpace s t) where
       (same_moves (total (lefts f)) (total (lefts f)) r (λ q i. a.blocks.numbers q (subst (IsIn q) (sym e) (in_right q f (r ++ b) (in_left q r b i))))
       ∙ ap (λ n. moves n n (rights r)) (same_total f)))
 
+  -- compacting by whole steps
+  stepped_reply : (n x y : ℕ) (o o' : Option (List machine.Block)) → AreSlid a.blocks.pairs x y o o' → without_offset (step_by n s o).reply ≡ without_offset (step_by n t o').reply
+  stepped_reply n x y None None p = refl
+  stepped_reply n x y None (Some cs) p = absurd p
+  stepped_reply n x y (Some bs) None p = absurd p
+  stepped_reply n x y (Some bs) (Some cs) p = if_same (λ (x y : Outcome). without_offset x.reply ≡ without_offset y.reply) _ _ _ _ _ _
+      (ap₂ (λ x y. x && y) (ap machine.ends_live a.blocks.left_blocks ∙ same_last a.blocks.pairs ∙ ap machine.ends_live (sym a.blocks.right_blocks)) (short 1)) (λ e. refl)
+      (ap Compacted (ap (moves_by n 0 0) a.blocks.left_blocks ∙ same_moves_by n 0 0 a.blocks.pairs a.blocks.numbers ∙ ap (moves_by n 0 0) (sym a.blocks.right_blocks)))
+
   sent_same : (k : Kind) → HasSameNumber k → IsSent (λ n. n) k
   sent_same (Lives i j) e = e
   sent_same (Frees x y) e = tt
@@ -123,20 +144,27 @@ module _ (s t : State) (a : IsSameSpace s t) where
   beside_reply f same None None neither = refl
   beside_reply f same o o' (both xs q ys e u) = ap Beside (same xs q ys (λ x i. subst (IsIn x) (sym e) (in_parts x xs q ys i)))
 
-  next_reply : (c : Call) → relocates c ≡ false → without_offset (step c s).reply ≡ without_offset (step c t).reply
+  next_reply : (c : Call) → goes_by_begin c ≡ false → without_offset (step c s).reply ≡ without_offset (step c t).reply
   next_reply (call.Command c) other = ap Answer (same_next s t a c)
   next_reply (call.Shrink k n) other = resize_reply n _ _ _ _ (placed k) (λ xs q ys. ap₂ (λ x y. nat_le n q.size && (x || not y)) (same_starts ys) (short 1))
   next_reply (call.Grow k n) other = resize_reply n _ _ _ _ (placed k) (λ xs q ys. ap (λ f. nat_le q.size n && nat_le n (q.size + f)) (same_free_start ys))
   next_reply call.Compact other = ap Compacted (ap (moves 0 0) a.blocks.left_blocks ∙ same_moves 0 0 a.blocks.pairs a.blocks.numbers ∙ ap (moves 0 0) (sym a.blocks.right_blocks))
+  next_reply (call.CompactBy n) other = stepped_reply n (machine.stamp_of_call s) (machine.stamp_of_call t) _ _
+      (subst₂ (λ x y. AreSlid a.blocks.pairs (machine.stamp_of_call s) (machine.stamp_of_call t) (slid_by n (machine.stamp_of_call s) x) (slid_by n (machine.stamp_of_call t) y))
+      (sym a.blocks.left_blocks) (sym a.blocks.right_blocks) (both_slid n (machine.stamp_of_call s) (machine.stamp_of_call t) a.blocks.pairs))
   next_reply (call.Offset k) other = ap without_offset (offset_reply _ _ (placed k))
   next_reply (call.Refusal n) other = ap Refusal (reason_reply 1 n)
   next_reply (call.Tight n) other = tight_reply n 1
   next_reply (call.TightAligned n align) other = tight_reply n align
   next_reply (call.RefusalTight n) other = ap Refusal (held_reason 1 n 1)
   next_reply (call.RefusalTightAligned n align) other = ap Refusal (held_reason (if nat_le align 1 then 1 else 2) n align)
+  next_reply (call.WouldBegin n align) other = absurd (true≢false other)
   next_reply (call.MakeRoom n) other = ap without_offset (made_reply _ _ (runs_same (value (up n))))
   next_reply (call.RoomCost n) other = ap plain.RoomCost (same_room_cost a.blocks.pairs _ _ (runs_same (value (up n))))
+  next_reply (call.RoomCostBy n align m) other = ap plain.RoomCost
+      (same_room_cost a.blocks.pairs _ _ (same_cheapest_by s t a.blocks.pairs a.limit a.blocks.left_blocks a.blocks.right_blocks m (value (up (n + align - 1))) (min align 2)))
   next_reply (call.Relocate k) other = absurd (true≢false other)
+  next_reply (call.RelocateAligned k align) other = absurd (true≢false other)
   next_reply (call.Retract n) other = if_same (λ (x y : Outcome). without_offset x.reply ≡ without_offset y.reply) _ _ _ _ _ _
       (ap (nat_le n) (ap machine.units_at_end a.blocks.left_blocks ∙ same_free_end a.blocks.pairs ∙ ap machine.units_at_end (sym a.blocks.right_blocks))) (λ z. refl) refl
   next_reply call.First other = ap Beside (ap (first_live 0) a.blocks.left_blocks ∙ sent_first (λ n. n) 0 a.blocks.pairs sent_all ∙ sent_none (first_live 0 (rights a.blocks.pairs))
@@ -154,7 +182,7 @@ pub rows_space : (size limit : ℕ) → 2 ≤ limit → (cs : List Call) (ks : L
 rows_space size limit h cs ks = releases_outline ks (after cs (start size limit)) (well_calls cs (start size limit) (well_start size limit h))
 
 pub rows_next : (size limit : ℕ) → 2 ≤ limit → (cs : List Call) (ks : List ℕ) (t : State) → let s = after cs (start size limit) in
-    IsCollapse ks s t → (c : Call) → relocates c ≡ false → without_offset (step c (machine.after (releases ks) s)).reply ≡ without_offset (step c t).reply
+    IsCollapse ks s t → (c : Call) → goes_by_begin c ≡ false → without_offset (step c (machine.after (releases ks) s)).reply ≡ without_offset (step c t).reply
 rows_next size limit h cs ks t is =
     let s = after cs (start size limit) in
     let scalars = releases_scalars ks s in

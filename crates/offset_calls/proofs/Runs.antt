@@ -19,7 +19,7 @@ use Rattle.offset_calls.specs.Room as plain
 less_not : (c d : RoomCost) → IsLess c d → IsAtMost d c → ⊥
 less_not c d l m = grind arith
 
-same_cost : (c d : RoomCost) → IsAtMost c d → IsAtMost d c → c ≡ d
+pub same_cost : (c d : RoomCost) → IsAtMost c d → IsAtMost d c → c ≡ d
 same_cost c d l m = go (units c d l m) (ranges c d l m)
   where
     units : (c d : RoomCost) → IsAtMost c d → IsAtMost d c → c.units ≡ d.units
@@ -31,10 +31,10 @@ same_cost c d l m = go (units c d l m) (ranges c d l m)
     go : c.units ≡ d.units → c.ranges ≡ d.ranges → c ≡ d
     go e f = ap₂ (λ (u r : ℕ). record { units = u; ranges = r }) e f
 
-is_less_is : (c d : RoomCost) → is_less c d ≡ true → IsLess c d
+pub is_less_is : (c d : RoomCost) → is_less c d ≡ true → IsLess c d
 is_less_is c d e = grind (arith, nat_tests)
 
-not_less_is : (c d : RoomCost) → is_less c d ≡ false → IsAtMost d c
+pub not_less_is : (c d : RoomCost) → is_less c d ≡ false → IsAtMost d c
 not_less_is c d e = grind (arith, nat_tests)
 
 -- ---- the run that slides

@@ -6,11 +6,15 @@ use Rattle.offset_allocator.specs.declared.moves.room.RoomCost.{RoomCost}
 use Rattle.offset_allocator.specs.Moving.Compacting.{Compacts, Move, moves, move_of}
 use Rattle.offset_allocator.specs.{Moving.Room.MakesRoom, Moving.Room.IsLeastCost, Moving.Room.SlidesRun, Moving.Room.cost_of, View.units, Classes.value, Classes.up}
 use Rattle.offset_allocator.proofs.Moving.Sliding.{moves_used, moves_idle}
+use Rattle.offset_allocator.proofs.Moving.Stepping.{moves_by_used, moves_by_free}
+use Rattle.offset_allocator.specs.Moving.BySteps.{CompactsBy, moves_by}
+use Rattle.offset_allocator.specs.Moving.BySteps as by
+use Rattle.offset_script.specs.Machine as machine
 use Rattle.offset_calls.specs.declared.calls.Moved.{Moved}
 use Rattle.std.specs.Prelude.{Result, Ok, Err, OnErr}
 use Rattle.std.proofs.lemmas.List.{get_or_default}
 use Rattle.offset_calls.specs.declared.calls.Call.TheVariants as call
-use Rattle.offset_calls.specs.Calls.{Move as Numbered, Compacted, RoomMade}
+use Rattle.offset_calls.specs.Calls.{Move as Numbered, Answer, Compacted, RoomMade}
 use Rattle.offset_calls.specs.{Calling.IsLost, Steps.AreKept, Steps.TakesRoom, Slides.IsMade, Slides.Notes, Slides.named_move, Slides.numbered_move}
 
 -- ---- the moves that a closure has seen
@@ -92,6 +96,19 @@ module _ (P : ℕ → Type 0) where
       go true e ih = subst (AllByRecursion (λ (m : Move). P m.name)) (sym (moves_used from to b bs e)) (move_named from to b _ (a.0 e) (ih (to + b.size)))
       go false e ih = subst (AllByRecursion (λ (m : Move). P m.name)) (sym (moves_idle from to b bs e)) (ih to)
 
+  moves_by_named : (n from to : ℕ) (bs : List Block) → AllByRecursion (λ (b : Block). b.used ≡ true → P b.name) bs → AllByRecursion (λ (m : Move). P m.name) (moves_by n from to bs)
+  moves_by_named n from to [] a = tt
+  moves_by_named n from to (b ∷ bs) a = go b.used refl (λ t. moves_by_named n (from + b.size) t bs a.1)
+    where
+      go : (u : Bool) → b.used ≡ u → ((t : ℕ) → AllByRecursion (λ (m : Move). P m.name) (moves_by n (from + b.size) t bs)) → AllByRecursion (λ (m : Move). P m.name) (moves_by n from to (b ∷ bs))
+      go true e ih = subst (AllByRecursion (λ (m : Move). P m.name)) (sym (moves_by_used n b bs e from to)) (move_named from to b _ (a.0 e) (ih (to + b.size)))
+      go false e ih = subst (AllByRecursion (λ (m : Move). P m.name)) (sym (moves_by_free n b bs e from to)) (ih (to + by.kept n b.size bs))
+
+  -- also where there are none because nothing was done
+  done_named : (n : ℕ) (d : Bool) (bs : List Block) → AllByRecursion (λ (b : Block). b.used ≡ true → P b.name) bs → AllByRecursion (λ (m : Move). P m.name) (if d then moves_by n 0 0 bs else [])
+  done_named n true bs a = moves_by_named n 0 0 bs a
+  done_named n false bs a = tt
+
   noted_named : (ms acc xs : List Move) → FoldsTo Notes acc ms xs → AllByRecursion (λ (m : Move). P m.name) acc
       → AllByRecursion (λ (m : Move). P m.name) ms → AllByRecursion (λ (m : Move). P m.name) xs
   noted_named [] acc xs f a b = subst (AllByRecursion (λ (m : Move). P m.name)) f a
@@ -162,6 +179,12 @@ compaction_lost v w hs left kept t e =
     let ms = numbered_some hs (moves 0 0 v.blocks) (moves_named (λ x. (k : ℕ) × (kept_name hs k ≡ Some x)) 0 0 v.blocks kept) in
     inr (refl, Compacted ms.0, (t, e, (ms.0, ms.1, refl)))
 
+-- so it is by steps, whether it was done or not
+pub steps_lost : (n : ℕ) (v w : View) (d : Bool) (hs left : List (Option Handle)) → AreKept v hs → CompactsBy n v w d → left ≡ hs → IsLost (call.CompactBy n) v hs w left
+steps_lost n v w d hs left kept t e =
+    let ms = numbered_some hs (if d then moves_by n 0 0 v.blocks else []) (done_named (λ x. (k : ℕ) × (kept_name hs k ≡ Some x)) n d v.blocks kept) in
+    inr (refl, (if d then Compacted ms.0 else Answer machine.Refused), (d, t, e, (ms.0, ms.1, refl)))
+
 pub room_lost : (n : ℕ) (v w : View) (c : Option RoomCost) (hs left : List (Option Handle)) → AreKept v hs → IsLeastCost (value (up n)) v.blocks c
     → (xs : List Move) × IsMade (value (up n)) v c w xs → left ≡ hs → IsLost (call.MakeRoom n) v hs w left
 room_lost n v w c hs left kept least m e =
@@ -176,6 +199,9 @@ module _ (v w : View) (hs : List (Option Handle)) (ss : List (Handle × Moved)) 
   pub compacted_numbers : map named_move ss ≡ moves 0 0 v.blocks → HaveNumbers
   compacted_numbers e = slides_named (λ x. (k : ℕ) × (kept_name hs k ≡ Some x)) ss _ e (moves_named (λ x. (k : ℕ) × (kept_name hs k ≡ Some x)) 0 0 v.blocks kept)
 
+  pub steps_numbers : (n : ℕ) (d : Bool) → map named_move ss ≡ (if d then moves_by n 0 0 v.blocks else []) → HaveNumbers
+  steps_numbers n d e = slides_named (λ x. (k : ℕ) × (kept_name hs k ≡ Some x)) ss _ e (done_named (λ x. (k : ℕ) × (kept_name hs k ≡ Some x)) n d v.blocks kept)
+
   pub room_numbers : (want : ℕ) (c : Option RoomCost) → IsMade want v c w (map named_move ss) → HaveNumbers
   room_numbers want c makes = slides_named (λ x. (k : ℕ) × (kept_name hs k ≡ Some x)) ss _ refl (room_named (λ x. (k : ℕ) × (kept_name hs k ≡ Some x)) want v w c _ makes.made kept)
 
@@ -183,6 +209,20 @@ module _ (v w : View) (hs : List (Option Handle)) (ss : List (Handle × Moved)) 
     -- the space is compacted, with the moves that were collected
     pub compact_takes : Compacts v w → map named_move ss ≡ moves 0 0 v.blocks → Takes call.Compact v hs w hs (Compacted ms)
     compact_takes t e = (t, refl, (_, subst (λ xs. AreNumbered hs xs (map (numbered_move number) ss)) e (all_numbered hs number each ss (compacted_numbers e)), ap Compacted is))
+
+    -- it is compacted by steps, or is not, with the moves that were collected
+    pub steps_take : (n : ℕ) (d : Bool) → CompactsBy n v w d → map named_move ss ≡ (if d then moves_by n 0 0 v.blocks else [])
+        → Takes (call.CompactBy n) v hs w hs (if d then Compacted ms else Answer machine.Refused)
+    steps_take n d t e = (
+      d,
+      t,
+      refl,
+      (
+        _,
+        subst (λ xs. AreNumbered hs xs (map (numbered_move number) ss)) e (all_numbered hs number each ss (steps_numbers n d e)),
+        ap (λ l. if d then Compacted l else Answer machine.Refused) is,
+      ),
+    )
 
     -- room is made, with the moves that were collected
     pub room_takes : (want : ℕ) (c : Option RoomCost) → IsLeastCost want v.blocks c → IsMade want v c w (map named_move ss) → TakesRoom want v hs w (RoomMade c ms)

@@ -1,7 +1,11 @@
 -- The run that is found to make room is at the same place in two lists that differ only in numbers and stamps.
-use Rattle.offset_calls.proofs.Common.{◌≡◌, ℕ, ◌-◌, not, List, [], ◌∷◌, ◌++◌, length, Option, Some, None, option_map, nat_le, if◌then◌else◌, refl, ap, ap₂, subst₂, arith, total}
+use Rattle.offset_calls.proofs.Common.{◌≡◌, ℕ, ◌-◌, not, List, [], ◌∷◌, ◌++◌, length, Option, Some, None, option_map, nat_eq, nat_le, if◌then◌else◌, refl, ap, ap₂, subst₂, arith, total}
 use Rattle.offset_script.proofs.{Pairs.Pair, Pairs.left, Pairs.right, Pairs.lefts, Pairs.rights, Pairs.same_free, Tests.if_same}
 use Rattle.offset_script.specs.Totals.{live}
+use Rattle.offset_calls.proofs.Common.{Bool, ◌&&◌, ◌+◌, ◌∙◌, sym, length-map, State}
+use Rattle.offset_calls.specs.RoomBySteps.{used_up, serves, shortest_that, cheapest_that, cheapest_by, blocks_short}
+use Rattle.offset_calls.proofs.SteppedPairs.{kept_right, given_pairs, same_last}
+use Rattle.offset_script.specs.Machine as machine
 use Rattle.offset_calls.specs.Room.{Split, from_first, free_units, shortest, cost_of, is_less, cheaper, cheapest}
 
 -- runs on both sides: of the same pairs, or none
@@ -56,3 +60,32 @@ same_cheapest n (q ∷ ps) = cheaper_same q ps _ _ _ _ (if_same (IsSameStart (q 
 pub same_room_cost : (ps : List Pair) (o o' : Option Split) → IsSameSplit ps o o' → option_map (λ (p : Split). cost_of p.run) o ≡ option_map (λ (p : Split). cost_of p.run) o'
 same_room_cost ps None None no_split = refl
 same_room_cost ps o o' (same_split f r b e) = ap Some (same_cost r)
+
+-- ---- runs by whole steps
+
+shortest_that_same : (test test' : List machine.Block → Bool) → ((k : List Pair) → test (lefts k) ≡ test' (rights k)) → (ps : List Pair) → IsSameStart ps (shortest_that test (lefts ps)) (shortest_that test' (rights ps))
+shortest_that_same test test' same [] = no_start
+shortest_that_same test test' same (q ∷ ps) = if_same (IsSameStart (q ∷ ps)) _ _ _ _ _ _ (same (q ∷ [])) (λ e. same_start (q ∷ []) ps refl)
+    (from_both q ps _ _ (shortest_that_same (λ r. test (left q ∷ r)) (λ r. test' (right q ∷ r)) (λ k. same (q ∷ k)) ps))
+
+same_cheapest_that : (test test' : List machine.Block → Bool) → ((k : List Pair) → test (lefts k) ≡ test' (rights k)) → (ps : List Pair)
+    → IsSameSplit ps (cheapest_that test (lefts ps)) (cheapest_that test' (rights ps))
+same_cheapest_that test test' same [] = no_split
+same_cheapest_that test test' same (q ∷ ps) = cheaper_same q ps _ _ _ _ (if_same (IsSameStart (q ∷ ps)) _ _ _ _ _ _ (same_free q.kind) (λ e. shortest_that_same test test' same (q ∷ ps)) no_start)
+    (same_cheapest_that test test' same ps)
+
+used_pairs : (n : ℕ) (ps : List Pair) → used_up n (lefts ps) ≡ used_up n (rights ps)
+used_pairs n [] = refl
+used_pairs n (q ∷ ps) = ap₂ (λ a b. a + b) (ap₂ (λ (t : Bool) k. if t && nat_eq k 0 then 1 else 0) (same_free q.kind) (kept_right n q.size ps)) (used_pairs n ps)
+
+serves_pairs : (n want i j : ℕ) → i ≡ j → (ps : List Pair) → serves n want i (lefts ps) ≡ serves n want j (rights ps)
+serves_pairs n want i j e ps = ap₂ (λ (x y : Bool). not x && y) (same_last ps)
+    (ap₂ (λ (x y : Bool). x && y) (ap (nat_le want) (given_pairs n ps)) (ap₂ nat_le e (used_pairs n ps)))
+
+pub same_cheapest_by : (s t : State) (ps : List Pair) → s.limit ≡ t.limit → s.blocks ≡ lefts ps → t.blocks ≡ rights ps → (n want spare : ℕ) → IsSameSplit ps (cheapest_by n want spare s) (cheapest_by n want spare t)
+same_cheapest_by s t ps limit is is' n want spare =
+    subst₂ (λ x y. IsSameSplit ps (cheapest_that (serves n want (blocks_short spare s.limit (length s.blocks))) x) (cheapest_that (serves n want (blocks_short spare t.limit (length t.blocks))) y)) (sym is) (sym is')
+    (same_cheapest_that (serves n want (blocks_short spare s.limit (length s.blocks))) (serves n want (blocks_short spare t.limit (length t.blocks))) (serves_pairs n want _ _ (ap₂ (blocks_short spare) limit long)) ps)
+  where
+    long : length s.blocks ≡ length t.blocks
+    long = ap (λ (l : List machine.Block). length l) is ∙ length-map ps left ∙ sym (ap (λ (l : List machine.Block). length l) is' ∙ length-map ps right)

@@ -31,6 +31,7 @@ pub record IsReached (v : View) (handles : List (Option Handle)) : Type 0 where
 -- whether a call slides ranges
 abbrev pub slides : Call → Bool
 slides call.Compact = true
+slides (call.CompactBy n) = true
 slides (call.MakeRoom n) = true
 slides other = false
 

@@ -1,13 +1,14 @@
 -- The plain stamped machine over every call: beside the commands of a script, the calls that resize a range, compact
--- the space, make room for a request, take any free block that is large enough, grant a second range, take units off the
--- end, and ask for an offset, for the reason of a refusal, for what room would cost, or for the live range beside one. States and stamps are those of the script's machine.
-use Rattle.std.specs.Prelude.{ℕ, ◌+◌, ◌-◌, max, Bool, true, false, not, ◌&&◌, ◌||◌, List, [], ◌∷◌, ◌++◌, length, map, sum, Option, Some, None, is_some, nat_eq, nat_lt, nat_le, if◌then◌else◌}
+-- the space, by whole steps too, make room for a request, take any free block that is large enough, grant a second range,
+-- take units off the end, and ask for an offset, for that of a grant, for the reason of a refusal, for what room would
+-- cost, by whole steps too, or for the live range beside one. States and stamps are those of the script's machine.
+use Rattle.std.specs.Prelude.{ℕ, ◌+◌, ◌-◌, max, min, Bool, true, false, not, ◌&&◌, ◌||◌, List, [], ◌∷◌, ◌++◌, length, map, sum, Option, Some, None, is_some, nat_eq, nat_lt, nat_le, if◌then◌else◌}
 use Rattle.std.specs.Int.{is_power_of_two}
 use Rattle.offset_allocator.specs.declared.reports.Refusal as allocator
 use Rattle.offset_allocator.specs.declared.reports.Refusal.TheVariants.{Nodes, TooLarge, Space, Fragmented}
 use Rattle.offset_allocator.specs.Classes.{value, up}
 use Rattle.offset_script.specs.Grammar.{has_valid_alignment}
-use Rattle.offset_script.specs.Machine.{Tag, Live, Free, Block, block, is_free, total, free_sizes, Place, place_of, chosen_place, free_part, units_at_start, without_start, State, is_short_of}
+use Rattle.offset_script.specs.Machine.{Tag, Live, Free, Block, block, is_free, total, free_sizes, Place, place_of, chosen_place, free_part, units_at_start, without_start, State, is_short_of, ends_live}
 use Rattle.offset_script.specs.Machine.{stamp_of_call, answer_view}
 use Rattle.offset_script.specs.Machine as machine
 use Rattle.offset_script.specs.Totals.{live}
@@ -16,8 +17,10 @@ use Rattle.offset_calls.specs.declared.calls.Call.TheVariants as call
 use Rattle.offset_calls.specs.declared.calls.Moved.{Moved}
 use Rattle.offset_allocator.specs.declared.moves.room.RoomCost as room
 use Rattle.offset_calls.specs.Room.{Split, cost_of, cheapest, room_cost, slid}
+use Rattle.offset_calls.specs.RoomBySteps.{room_cost_by}
 use Rattle.offset_calls.specs.Tight.{allocate_tight, reason_tight}
-use Rattle.offset_calls.specs.Ending.{relocate, can_retract, retracted, first_live, last_live, live_before, live_after}
+use Rattle.offset_calls.specs.Ending.{relocate, relocate_aligned, can_retract, retracted, first_live, last_live, live_before, live_after}
+use Rattle.offset_calls.specs.Stepped.{kept, slid_by}
 use Rattle.offset_calls.specs.declared.calls.LiveRange.{LiveRange}
 use Rattle.offset_calls.specs.declared.calls.Reply as program
 use Rattle.offset_calls.specs.declared.calls.Reply.TheVariants as program_reply
@@ -127,6 +130,28 @@ abbrev pub compact : State → Outcome
 compact s = remakes s (live s.blocks ++ gathered (stamp_of_call s) (free_sizes s.blocks))
     (Compacted (moves 0 0 s.blocks))
 
+-- ---- compacting by whole steps
+
+-- the moves of the live ones of blocks that begin at an offset, if they are packed from another offset on, with what
+-- the free ones keep between them
+abbrev pub moves_by : ℕ → ℕ → ℕ → List Block → List Move
+moves_by n from to [] = []
+moves_by n from to (b ∷ bs) =
+    if is_free b.tag then moves_by n (from + b.size) (to + kept n b.size bs) bs
+    else move_of from to b ++ moves_by n (from + b.size) (to + b.size) bs
+
+-- the live blocks slide by multiples of n units, unless a block is missing for what is left at the end; nothing changes
+-- where no free block before another has n units. Each block that is left free has a stamp of its own, so it counts as
+-- one call more than there are blocks
+abbrev pub step_by : ℕ → State → Option (List Block) → Outcome
+step_by n s None = replies_only s (Compacted [])
+step_by n s (Some bs) =
+    if ends_live s.blocks && is_short_of 1 s then replies_only s (Answer machine.Refused)
+    else record {
+      state = record s { calls = s.calls + length s.blocks + 1; blocks = bs };
+      reply = Compacted (moves_by n 0 0 s.blocks);
+    }
+
 -- ---- making room
 
 -- a run slides, where it has live blocks; else nothing changes
@@ -143,6 +168,11 @@ make_room s (Some p) =
 abbrev pub offset_at : Option Place → Reply
 offset_at None = Answer machine.Gone
 offset_at (Some p) = Offset (total p.before)
+
+-- where a grant begins with this answer, or that it is refused
+abbrev pub begin_of : machine.Answer → Reply
+begin_of (machine.Grant k o) = Offset o
+begin_of other = Answer machine.Refused
 
 -- the live range beside the block at a place
 abbrev pub beside : (Place → Option LiveRange) → Option Place → Reply
@@ -171,6 +201,7 @@ step (call.Command c) s = answered (machine.step c s)
 step (call.Shrink k n) s = resize (can_shrink n s) n s (place_of k s.blocks)
 step (call.Grow k n) s = resize (can_grow n) n s (place_of k s.blocks)
 step call.Compact s = compact s
+step (call.CompactBy n) s = step_by n s (slid_by n (stamp_of_call s) s.blocks)
 step (call.Offset k) s = replies_only s (offset_at (place_of k s.blocks))
 step (call.Refusal n) s = replies_only s (Refusal (reason 1 n s))
 step (call.RefusalAligned n align) s =
@@ -179,9 +210,13 @@ step (call.Tight n) s = answered (allocate_tight n 1 s)
 step (call.TightAligned n align) s = answered (allocate_tight n align s)
 step (call.RefusalTight n) s = replies_only s (Refusal (reason_tight n 1 s))
 step (call.RefusalTightAligned n align) s = replies_only s (Refusal (reason_tight n align s))
+step (call.WouldBegin n align) s = replies_only s (begin_of (machine.allocate_aligned n align s).answer)
 step (call.MakeRoom n) s = make_room s (cheapest (value (up n)) s.blocks)
 step (call.RoomCost n) s = replies_only s (RoomCost (room_cost (value (up n)) s.blocks))
+step (call.RoomCostBy n align m) s =
+    replies_only s (RoomCost (room_cost_by m (value (up (n + align - 1))) (min align 2) s))
 step (call.Relocate k) s = answered (relocate s (place_of k s.blocks))
+step (call.RelocateAligned k align) s = answered (relocate_aligned align s (place_of k s.blocks))
 step (call.Retract n) s = retract n s
 step call.First s = replies_only s (Beside (first_live 0 s.blocks))
 step call.Last s = replies_only s (Beside (last_live 0 s.blocks))
@@ -198,12 +233,16 @@ abbrev pub after : List Call → State → State
 after [] s = s
 after (c ∷ cs) s = after cs (step c s).state
 
--- each alignment is a power of two
+-- each alignment is a power of two, and each step at least 1
 abbrev pub is_valid : Call → Bool
 is_valid (call.Command c) = has_valid_alignment c
 is_valid (call.RefusalAligned n align) = is_power_of_two align
 is_valid (call.TightAligned n align) = is_power_of_two align
 is_valid (call.RefusalTightAligned n align) = is_power_of_two align
+is_valid (call.WouldBegin n align) = is_power_of_two align
+is_valid (call.RelocateAligned k align) = is_power_of_two align
+is_valid (call.CompactBy n) = nat_le 1 n
+is_valid (call.RoomCostBy n align m) = is_power_of_two align && nat_le 1 m
 is_valid other = true
 
 -- ---- the replies of the program

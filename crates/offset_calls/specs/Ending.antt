@@ -2,7 +2,7 @@
 -- are taken off, and the live ranges beside one another.
 use Rattle.std.specs.Prelude.{ℕ, zero, suc, ◌+◌, ◌-◌, Bool, false, List, [], ◌∷◌, ◌++◌, Option, Some, None, nat_lt, nat_le, if◌then◌else◌}
 use Rattle.std.specs.Option.{option_or}
-use Rattle.offset_script.specs.Machine.{Tag, Live, Free, Block, block, total, free_part, units_at_end, without_end, Place, State, Answer, Grant, Refused, Gone, Outcome, returns_only, allocate}
+use Rattle.offset_script.specs.Machine.{Tag, Live, Free, Block, block, total, free_part, units_at_end, without_end, Place, State, Answer, Grant, Refused, Gone, Outcome, returns_only, allocate, allocate_aligned}
 use Rattle.offset_calls.specs.declared.calls.LiveRange.{LiveRange}
 
 -- whether an answer is a grant that begins before an offset
@@ -16,6 +16,14 @@ abbrev pub relocate : State → Option Place → Outcome
 relocate s None = returns_only s Gone
 relocate s (Some p) =
     if begins_before (total p.before) (allocate p.block.size s).answer then allocate p.block.size s
+    else returns_only s Refused
+
+-- a second grant from a multiple of align on for the live block at a place: that of a request for as many units, where the
+-- units that the alignment needs would begin before the block; `Gone` where there is no such block
+abbrev pub relocate_aligned : ℕ → State → Option Place → Outcome
+relocate_aligned align s None = returns_only s Gone
+relocate_aligned align s (Some p) =
+    if begins_before (total p.before) (allocate (p.block.size + align - 1) s).answer then allocate_aligned p.block.size align s
     else returns_only s Refused
 
 -- whether n units can be taken off the end: the last block is free and has as many; 0 units always

@@ -19,6 +19,7 @@ renumber r (call.Shrink k n) = call.Shrink (r k) n
 renumber r (call.Grow k n) = call.Grow (r k) n
 renumber r (call.Offset k) = call.Offset (r k)
 renumber r (call.Relocate k) = call.Relocate (r k)
+renumber r (call.RelocateAligned k align) = call.RelocateAligned (r k) align
 renumber r (call.Before k) = call.Before (r k)
 renumber r (call.After k) = call.After (r k)
 renumber r other = other
@@ -56,7 +57,9 @@ IsQuestion (call.Refusal n) = Unit {0}
 IsQuestion (call.RefusalAligned n align) = Unit {0}
 IsQuestion (call.RefusalTight n) = Unit {0}
 IsQuestion (call.RefusalTightAligned n align) = Unit {0}
+IsQuestion (call.WouldBegin n align) = Unit {0}
 IsQuestion (call.RoomCost n) = Unit {0}
+IsQuestion (call.RoomCostBy n align m) = Unit {0}
 IsQuestion call.First = Unit {0}
 IsQuestion call.Last = Unit {0}
 IsQuestion (call.Before k) = Unit {0}
@@ -72,10 +75,12 @@ without_offset other = other
 abbrev pub retract_again : ℕ → State → Outcome
 retract_again n s = step (call.Retract n) (step (call.Command (command.Extend n)) s).state
 
--- whether a call is `Relocate`, which goes by where a grant would begin
-abbrev pub relocates : Call → Bool
-relocates (call.Relocate k) = true
-relocates other = false
+-- whether a call goes by where a grant would begin: `WouldBegin`, `Relocate` or `RelocateAligned`
+abbrev pub goes_by_begin : Call → Bool
+goes_by_begin (call.WouldBegin n align) = true
+goes_by_begin (call.Relocate k) = true
+goes_by_begin (call.RelocateAligned k align) = true
+goes_by_begin other = false
 
 -- calls with these replies, one step after the other: they begin at the view v, where the handles of the grants so far
 -- are those in `handles`, and leave the view w and the handles in `kept`

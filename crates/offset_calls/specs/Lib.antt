@@ -4,7 +4,9 @@ pub mod Ending
 pub mod Histories
 pub mod Playing
 pub mod Room
+pub mod RoomBySteps
 pub mod Slides
+pub mod Stepped
 pub mod Steps
 pub mod Tickets
 pub mod Tight

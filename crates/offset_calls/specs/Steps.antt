@@ -1,18 +1,20 @@
 -- The named step of each call.
-use Rattle.std.specs.Prelude.{◌≡◌, ◌≤◌, ◌↔◌, ℕ, Bool, true, List, [], ◌∷◌, length, Option, Some, None, IfSome, option_map, slice_index, if◌then◌else◌}
+use Rattle.std.specs.Prelude.{◌≡◌, ◌≤◌, ◌↔◌, ◌+◌, ℕ, IsSome, Bool, true, List, [], ◌∷◌, length, Option, Some, None, IfSome, option_map, slice_index, if◌then◌else◌}
 use Rattle.std.specs.List.{AllByRecursion}
 use Rattle.offset_allocator.specs.declared.reports.Refusal.{Refusal}
-use Rattle.offset_allocator.specs.View.{View, Block, Handle}
+use Rattle.offset_allocator.specs.View.{View, Block, Handle, padding_to}
 use Rattle.offset_allocator.specs.Ranges.{Range, range_of}
 use Rattle.offset_allocator.specs.Requests.{CanGrant, IsWhy, blocks_needed, units_needed}
 use Rattle.offset_allocator.specs.Resizing.{Shrinks, Grows}
+use Rattle.offset_allocator.specs.Moving.BySteps.{CompactsBy, moves_by}
 use Rattle.offset_allocator.specs.Moving.Compacting.{Compacts, moves}
 use Rattle.offset_allocator.specs.Moving.Compacting as named
 use Rattle.offset_allocator.specs.declared.moves.room.RoomCost.{RoomCost}
 use Rattle.offset_allocator.specs.Classes.{value, up}
 use Rattle.offset_allocator.specs.Moving.Room.{IsLeastCost}
+use Rattle.offset_allocator.specs.Moving.RoomBySteps.{IsLeastCostBy, names_short}
 use Rattle.offset_allocator.specs.Reporting.Beside as named_beside
-use Rattle.offset_allocator.specs.Moving.Relocating.{Relocates}
+use Rattle.offset_allocator.specs.Moving.Relocating.{Relocates, RelocatesAligned, WouldBegin}
 use Rattle.offset_allocator.specs.Moving.Retracting.{Retracts}
 use Rattle.offset_allocator.specs.Tight.{AlignsTight, CanHold, IsWhyTight}
 use Rattle.offset_script.specs.Steps.{kept_name, AreNamedApart, IfNamed, IsKept, Stays}
@@ -35,6 +37,16 @@ AreNumbered handles ms rs = ⊥
 -- why a request for these blocks and units is refused, or nothing where it is granted
 abbrev pub IsReason : ℕ → ℕ → View → Option Refusal → Type 0
 IsReason blocks units v r = (r ≡ None ↔ CanGrant blocks units v) × IfSome r (IsWhy blocks units v)
+
+-- where the grant of a request would begin, or nothing where it would be refused
+abbrev pub IsBegin : ℕ → ℕ → View → Option ℕ → Type 0
+IsBegin n align v b = (IsSome b ↔ CanGrant (blocks_needed align) (units_needed n align) v)
+    × ((o : ℕ) → CanGrant (blocks_needed align) (units_needed n align) v → WouldBegin (units_needed n align) v o → b ≡ Some (o + padding_to align o))
+
+-- the reply that says so
+abbrev pub begins_at : Option ℕ → Reply
+begins_at None = Answer machine.Refused
+begins_at (Some o) = Offset o
 
 -- the same of a request that takes any free block that holds it
 abbrev pub IsReasonTight : ℕ → ℕ → View → Option Refusal → Type 0
@@ -74,6 +86,9 @@ Takes (call.Grow k n) v handles w kept r = IfNamed (kept_name handles k)
     (Stays v handles w kept × (r ≡ Answer machine.Gone))
 Takes call.Compact v handles w kept r = Compacts v w × (kept ≡ handles)
     × ((ms : List Move) × AreNumbered handles (moves 0 0 v.blocks) ms × (r ≡ Compacted ms))
+Takes (call.CompactBy n) v handles w kept r = (done : Bool) × CompactsBy n v w done × (kept ≡ handles)
+    × ((ms : List Move) × AreNumbered handles (if done then moves_by n 0 0 v.blocks else []) ms
+    × (r ≡ (if done then Compacted ms else Answer machine.Refused)))
 Takes (call.Offset k) v handles w kept r = Stays v handles w kept × IfNamed (kept_name handles k)
     (λ x. (o : ℕ) × (option_map (λ (q : Range). q.offset) (range_of x v) ≡ Some o) × (r ≡ Offset o))
     (r ≡ Answer machine.Gone)
@@ -87,11 +102,20 @@ Takes (call.RefusalTight n) v handles w kept r = Stays v handles w kept
     × ((why : Option Refusal) × IsReasonTight n 1 v why × (r ≡ reply.Refusal why))
 Takes (call.RefusalTightAligned n align) v handles w kept r = Stays v handles w kept
     × ((why : Option Refusal) × IsReasonTight n align v why × (r ≡ reply.Refusal why))
+Takes (call.WouldBegin n align) v handles w kept r = Stays v handles w kept × (1 ≤ align)
+    × ((b : Option ℕ) × IsBegin n align v b × (r ≡ begins_at b))
 Takes (call.MakeRoom n) v handles w kept r = TakesRoom (value (up n)) v handles w r × (kept ≡ handles)
 Takes (call.RoomCost n) v handles w kept r = Stays v handles w kept
     × ((c : Option RoomCost) × IsLeastCost (value (up n)) v.blocks c × (r ≡ reply.RoomCost c))
+Takes (call.RoomCostBy n align m) v handles w kept r = Stays v handles w kept
+    × ((c : Option RoomCost) × IsLeastCostBy m (value (up (units_needed n align))) (names_short (blocks_needed align) v) v.blocks c
+    × (r ≡ reply.RoomCost c))
 Takes (call.Relocate k) v handles w kept r = IfNamed (kept_name handles k)
     (λ x. (g : Option Handle) × (a : machine.Answer) × Relocates x v w g
+    × IsKept g handles kept a × (r ≡ Answer a))
+    (Stays v handles w kept × (r ≡ Answer machine.Gone))
+Takes (call.RelocateAligned k align) v handles w kept r = (1 ≤ align) × IfNamed (kept_name handles k)
+    (λ x. (g : Option Handle) × (a : machine.Answer) × RelocatesAligned x align v w g
     × IsKept g handles kept a × (r ≡ Answer a))
     (Stays v handles w kept × (r ≡ Answer machine.Gone))
 Takes (call.Retract n) v handles w kept r = (done : Bool) × Retracts n v w done × (kept ≡ handles)

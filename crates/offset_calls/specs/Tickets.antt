@@ -50,6 +50,7 @@ number_in (call.Shrink k n) = k
 number_in (call.Grow k n) = k
 number_in (call.Offset k) = k
 number_in (call.Relocate k) = k
+number_in (call.RelocateAligned k align) = k
 number_in (call.Before k) = k
 number_in (call.After k) = k
 number_in other = 0

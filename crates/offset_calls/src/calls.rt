@@ -1,7 +1,8 @@
 //! Calls, and the replies to them. It touches no space.
 
 ghost use Rattle.std.specs.Prelude.{◌≡◌, ◌↔◌, All, IsTrue};
-ghost use Rattle.offset_calls.specs.Calls.{is_valid};
+ghost use Rattle.offset_calls.specs.Calls.{is_valid, reply_view};
+ghost use Rattle.offset_calls.specs.Steps.{begins_at};
 
 use offset_allocator::{Refusal, RoomCost};
 use offset_script::{Answer, Command};
@@ -18,6 +19,9 @@ pub enum Call {
     Grow(u32, u32),
     /// Slides every live range to the front of the space.
     Compact,
+    /// Slides live ranges to the front of the space by multiples of this many units, which are at least 1, as
+    /// `compact_by` does.
+    CompactBy(u32),
     /// Asks where the range of this number begins.
     Offset(u32),
     /// Asks why a request for this many units would be refused now.
@@ -34,13 +38,22 @@ pub enum Call {
     RefusalTight(u32),
     /// Asks why `TightAligned` of these numbers would be refused now.
     RefusalTightAligned(u32, u32),
+    /// Asks where the range would begin that `Align` of these numbers would grant now, as `would_begin` does;
+    /// with 1 as the second number that of `Alloc`.
+    WouldBegin(u32, u32),
     /// Slides the live ranges with the fewest units so that a request for this many units finds its block.
     MakeRoom(u32),
     /// Asks what `MakeRoom` of this many units would have to move now.
     RoomCost(u32),
+    /// Asks what would have to move at least, by multiples of the third number of units, which is at least 1, so
+    /// that a request for this many units from a multiple of the second number on, a power of two, finds its
+    /// block, as `room_cost_by` does.
+    RoomCostBy(u32, u32, u32),
     /// Requests a second range of as many units as that of this number, which begins before it, as
     /// `relocate` does. The old one stays live.
     Relocate(u32),
+    /// As `Relocate`, from a multiple of the second number on, which is a power of two.
+    RelocateAligned(u32, u32),
     /// Takes this many free units off the end of the space. Where `Extend` has just added as many, the
     /// blocks are as they were before both, but that a free one at the end is the newest of its bin, or
     /// gone where it has no units and is not the only one.
@@ -56,10 +69,11 @@ pub enum Call {
 }
 
 impl Call {
-    /// Whether its alignment is a power of two, where it has one.
+    /// Whether its alignment is a power of two, and its step at least 1, where it has them.
     ///
     /// ```
     /// assert!(!Call::TightAligned(300, 3).is_valid());
+    /// assert!(!Call::CompactBy(0).is_valid());
     /// ```
     pub fn is_valid(&self) -> bool
         ensures { result ≡ is_valid self.now }
@@ -69,12 +83,16 @@ impl Call {
             Call::RefusalAligned(_, align) => align.is_power_of_two(),
             Call::TightAligned(_, align) => align.is_power_of_two(),
             Call::RefusalTightAligned(_, align) => align.is_power_of_two(),
+            Call::WouldBegin(_, align) => align.is_power_of_two(),
+            Call::RelocateAligned(_, align) => align.is_power_of_two(),
+            Call::CompactBy(step) => *step >= 1,
+            Call::RoomCostBy(_, align, step) => align.is_power_of_two() && *step >= 1,
             _ => true,
         }
     }
 }
 
-/// Whether each alignment in these calls is a power of two.
+/// Whether each alignment in these calls is a power of two, and each step at least 1.
 ///
 /// ```
 /// assert!(are_valid(&[Call::TightAligned(300, 4), Call::Compact]));
@@ -85,7 +103,7 @@ pub fn are_valid(calls: &[Call]) -> bool
     calls.iter().all(|call| call.is_valid())
 }
 
-/// A range that `Call::Compact` or `Call::MakeRoom` moves to another offset.
+/// A range that `Call::Compact`, `Call::CompactBy` or `Call::MakeRoom` moves to another offset.
 #[derive(Clone, Copy, PartialEq, Debug)]
 pub struct Moved {
     /// The number of its grant.
@@ -111,22 +129,34 @@ pub struct LiveRange {
 #[derive(Drop, Debug)]
 pub enum Reply {
     /// The answer to a command. Of another call, `Grant`: the range that was requested; `Gone`: no grant of
-    /// that number is live; or `Refused`: no such range is granted, the range cannot shrink or grow to that
-    /// size, or the end has not that many free units. After `Gone` and `Refused` the space is as it was.
+    /// that number is live; or `Refused`: no such range is granted, or would be, the range cannot shrink or grow to that
+    /// size, the end has not that many free units, or the node limit admits no block for what a compaction by
+    /// steps leaves at the end. After `Gone` and `Refused` the space is as it was.
     Answer(Answer),
     /// The range, or the space, has the new size.
     Resized,
     /// The ranges that the compaction moved, in space order.
     Compacted(Vec<Moved>),
-    /// Where the range begins.
+    /// Where the range begins, or would begin.
     Offset(u32),
     /// Why the request would be refused, or `None` where it would be granted.
     Refusal(Option<Refusal>),
     /// What was moved to make room, or `None` where all free units together are not enough; and the ranges
     /// that were moved, in space order.
     RoomMade(Option<RoomCost>, Vec<Moved>),
-    /// What would have to be moved, or `None` where all free units together are not enough.
+    /// What would have to be moved, or `None` where all free units together are not enough, or by steps where no
+    /// run of blocks gives up enough units and nodes.
     RoomCost(Option<RoomCost>),
     /// The live range that was asked for, or `None` where there is none.
     Beside(Option<LiveRange>),
+}
+
+// The reply to `WouldBegin`.
+pub(crate) fn begins(offset: Option<u32>) -> Reply
+    ensures { reply_view result ≡ begins_at offset }
+{
+    match offset {
+        None => Reply::Answer(Answer::Refused),
+        Some(offset) => Reply::Offset(offset),
+    }
 }

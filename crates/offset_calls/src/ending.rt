@@ -1,9 +1,9 @@
 //! The replies of a player to calls at the end of a space.
 
-ghost use Rattle.std.specs.Prelude.{IfOk, OnErr};
+ghost use Rattle.std.specs.Prelude.{IfOk, IsTrue, OnErr};
 ghost use Rattle.offset_script.specs.Steps.{AreHeld, Stays};
 ghost use Rattle.offset_calls.specs.declared.calls.Call.{Call};
-ghost use Rattle.offset_calls.specs.Calls.{reply_view};
+ghost use Rattle.offset_calls.specs.Calls.{is_valid, reply_view};
 ghost use Rattle.offset_calls.specs.Steps.{AreKept, AreNumbers, Finds, IsKeptSome, Takes};
 
 use crate::calls::{LiveRange, Reply};
@@ -27,9 +27,30 @@ pub(crate) fn relocate<T: Tables>(
     let Some(handle) = player.handle(number) else {
         return Ok(Reply::Answer(Answer::Gone));
     };
-    player.handles.reserve(1)?;
+    player.handles.reserve(1)?; // where this is refused, nothing has changed
     let granted = player.space.relocate(handle);
     Ok(Reply::Answer(player.keep(granted)?))
+}
+
+// The reply to `RelocateAligned`. The handle of a grant is kept.
+pub(crate) fn relocate_aligned<T: Tables>(
+    player: &mut PlayerOf<T>,
+    number: u32,
+    align: u32,
+) -> Result<Reply, AllocError>
+    requires held { AreHeld player.old.space player.old.handles.items }
+    requires valid { IsTrue (is_valid (Call.RelocateAligned number align)) }
+    ensures takes { IfOk result (λ r. Takes (Call.RelocateAligned number align)
+        player.old.space player.old.handles.items player.new.space player.new.handles.items (reply_view r)) }
+    ensures same { OnErr result (Stays player.old.space player.old.handles.items
+        player.new.space player.new.handles.items) }
+{
+    let Some(handle) = player.handle(number) else {
+        return Ok(Reply::Answer(Answer::Gone));
+    };
+    player.handles.reserve(1)?;
+    let second = player.space.relocate_aligned(handle, align);
+    Ok(Reply::Answer(player.keep(second)?))
 }
 
 // The reply to `Retract`.

@@ -1,6 +1,7 @@
 //! The replies of a guarded allocator to calls at the end of a space.
 
 ghost use Rattle.std.specs.Prelude.{◌≡◌, IfOk, List, ℕ, option_map};
+ghost use Rattle.offset_allocator.specs.Requests.{IsAlignment};
 ghost use Rattle.offset_guarded.specs.declared.ticket.Ticket.{Ticket};
 ghost use Rattle.offset_guarded.specs.Guard.{HasSerialLeft};
 ghost use Rattle.offset_calls.specs.declared.calls.Call.{Call};
@@ -34,6 +35,29 @@ pub(crate) fn relocate<T: Tables>(
         return Ok(Reply::Answer(Answer::Gone));
     }
     let granted = desk.space.relocate(ticket);
+    Ok(Reply::Answer(keep(&mut desk.tickets, granted)?))
+}
+
+// The reply to `RelocateAligned`. The ticket of a grant is kept.
+pub(crate) fn relocate_aligned<T: Tables>(
+    desk: &mut Desk<T>,
+    ticket: Option<Ticket>,
+    align: u32,
+) -> Result<Reply, AllocError>
+    requires ledger { IsLedger desk.old.space desk.old.tickets.items }
+    requires left { HasSerialLeft desk.old.space }
+    requires power { IsAlignment align }
+    ensures { IfOk result (λ r. (k : ℕ) → IsNumberOf k ticket desk.old.space desk.old.tickets.items
+        → Serves (Call.RelocateAligned k align) desk.old.space desk.old.tickets.items
+        desk.new.space desk.new.tickets.items (reply_view r)) }
+{
+    let Some(ticket) = ticket else {
+        return Ok(Reply::Answer(Answer::Gone));
+    };
+    if !desk.space.is_live(ticket) {
+        return Ok(Reply::Answer(Answer::Gone));
+    }
+    let granted = desk.space.relocate_aligned(ticket, align);
     Ok(Reply::Answer(keep(&mut desk.tickets, granted)?))
 }
 

@@ -19,7 +19,7 @@ ghost use Rattle.offset_calls.specs.Calls.{after, replies, step};
 ghost use Rattle.offset_calls.specs.Ending.{with_end};
 ghost use Rattle.offset_calls.specs.Tickets.{AreServed, IsLedger};
 ghost use Rattle.offset_calls.specs.declared.guarded.TicketCall.{TicketCall};
-ghost use Rattle.offset_calls.specs.Histories.{IsQuestion, Runs, relocates, replies_renumbered, without_offset};
+ghost use Rattle.offset_calls.specs.Histories.{IsQuestion, Runs, goes_by_begin, replies_renumbered, without_offset};
 ghost use Rattle.offset_calls.specs.Histories.{retract_again};
 
 /// The replies to calls that are commands of a script are the answers to the script.
@@ -54,10 +54,11 @@ pub fn releases_commute()
         → let s = after cs (start size limit) in
         outline (machine.after (releases ks) s).blocks ≡ collapse ks (outline s.blocks) }
     // A next call, also one that resizes or compacts, has the same reply as there, except for the offset of a
-    // new grant. `Relocate` is granted or refused by such an offset, so it is not among them.
+    // new grant. `WouldBegin` asks for such an offset, and `Relocate` and `RelocateAligned` are granted or
+    // refused by one, so they are not among them.
     ensures next { (size limit : ℕ) → 2 ≤ limit → (cs : List Call) (ks : List ℕ) (t : State)
         → let s = after cs (start size limit) in
-        IsCollapse ks s t → (c : Call) → relocates c ≡ false
+        IsCollapse ks s t → (c : Call) → goes_by_begin c ≡ false
         → without_offset (step c (machine.after (releases ks) s)).reply ≡ without_offset (step c t).reply }
 {}
 

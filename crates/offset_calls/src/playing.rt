@@ -9,11 +9,11 @@ ghost use Rattle.offset_calls.specs.Calls as plain;
 ghost use Rattle.offset_calls.specs.Playing.{AreReplies};
 ghost use Rattle.offset_calls.specs.Steps.{AreKept, AreNumbers, Takes};
 
-use crate::calls::{Call, Reply};
+use crate::calls::{Call, Reply, begins};
 use crate::ending;
 use crate::numbers::Numbers;
 use crate::player::CallPlayerOf;
-use crate::sliding::{compact, make_room};
+use crate::sliding::{compact, compact_by, make_room};
 use offset_allocator::laws::is_well_formed;
 use offset_allocator::{ByNode, NodeIndex, Tables};
 use offset_script::{Answer, PlayerOf};
@@ -89,6 +89,7 @@ pub(crate) fn reply<T: Tables>(
         Call::Shrink(number, size) => Ok(shrink(player, number, size)),
         Call::Grow(number, size) => Ok(grow(player, number, size)),
         Call::Compact => compact(alloc, player, numbers),
+        Call::CompactBy(step) => compact_by(alloc, player, numbers, step),
         Call::Offset(number) => Ok(offset(player, number)),
         Call::Refusal(size) => Ok(Reply::Refusal(player.space.refusal(size))),
         Call::RefusalAligned(size, align) => Ok(Reply::Refusal(
@@ -108,9 +109,14 @@ pub(crate) fn reply<T: Tables>(
         Call::RefusalTightAligned(size, align) => Ok(Reply::Refusal(
             player.space.refusal_tight_aligned(size, align),
         )),
+        Call::WouldBegin(size, align) => Ok(begins(player.space.would_begin(size, align))),
         Call::MakeRoom(size) => make_room(alloc, player, numbers, size),
         Call::RoomCost(size) => Ok(Reply::RoomCost(player.space.room_cost(size))),
+        Call::RoomCostBy(size, align, step) => Ok(Reply::RoomCost(
+            player.space.room_cost_by(size, align, step),
+        )),
         Call::Relocate(number) => ending::relocate(player, number),
+        Call::RelocateAligned(number, align) => ending::relocate_aligned(player, number, align),
         Call::Retract(less) => Ok(ending::retract(player, less)),
         Call::First => ending::first_live(player, numbers),
         Call::Last => ending::last_live(player, numbers),
@@ -122,10 +128,10 @@ pub(crate) fn reply<T: Tables>(
 /// Plays calls on an allocator of `size` units with the node limit `max_allocs`, and returns the replies in
 /// order, one for each.
 ///
-/// The limit has to be 2 to `T::Index::MAX - 2`, and each alignment a power of two. All replies are kept in
-/// memory, and from the first `Compact`, `MakeRoom`, `First`, `Last`, `Before` or `After` on 8 bytes for each
-/// node that was made, twice that while a later one finds that there are more nodes. Each call costs what it
-/// costs in the allocator; these also read the grants since the last one of them.
+/// The limit has to be 2 to `T::Index::MAX - 2`, each alignment a power of two, and each step at least 1. All
+/// replies are kept in memory, and from the first `Compact`, `CompactBy`, `MakeRoom`, `First`, `Last`, `Before`
+/// or `After` on 8 bytes for each node that was made, twice that while a later one finds that there are more
+/// nodes. Each call costs what it costs in the allocator; these also read the grants since the last one of them.
 ///
 /// # Errors
 ///
@@ -146,7 +152,7 @@ pub fn play_calls_of<T: Tables>(
     requires low { 2 ≤ max_allocs }
     // The index type admits the node limit.
     requires high { max_allocs + 1 < T.Index.MAX }
-    // Each alignment is a power of two.
+    // Each alignment is a power of two, and each step at least 1.
     requires valid { All (λ c. IsTrue (is_valid c)) calls.now }
     // The replies are those of the plain machine to these calls, from one free block of `size` units, and of
     // a run of the allocator's named steps.

@@ -1,16 +1,19 @@
 //! Calls that slide ranges: the moves, and the numbers of the ranges that move.
 
-ghost use Rattle.std.specs.Prelude.{◌≡◌, ◌++◌, ◌∷◌, [], All, IfOk, List, None, OnErr, false, map};
-ghost use Rattle.std.specs.Prelude.{slice_index};
+ghost use Rattle.std.specs.Prelude.{◌≡◌, ◌≤◌, ◌++◌, ◌∷◌, [], All, IfOk, List, None, OnErr, false, map};
+ghost use Rattle.std.specs.Prelude.{slice_index, if◌then◌else◌};
 ghost use Rattle.offset_allocator.specs.Classes.{value, up};
+ghost use Rattle.offset_allocator.specs.Moving.BySteps.{CompactsBy, moves_by};
 ghost use Rattle.offset_allocator.specs.Moving.Compacting as named;
 ghost use Rattle.offset_allocator.specs.Moving.Compacting.{Compacts, moves};
 ghost use Rattle.offset_allocator.specs.Ranges.{range_of};
 ghost use Rattle.offset_allocator.specs.Moving.Room.{IsLeastCost};
 ghost use Rattle.offset_guarded.specs.Guard.{KeepsSizes, serial_of};
+ghost use Rattle.offset_script.specs.Machine as machine;
 ghost use Rattle.offset_calls.specs.declared.calls.Call.{Call};
 ghost use Rattle.offset_calls.specs.Calling.{IsLost};
 ghost use Rattle.offset_calls.specs.Calls.{move_view, reply_view};
+ghost use Rattle.offset_calls.specs.Calls as plain;
 ghost use Rattle.offset_calls.specs.Slides.{IsMade, named_move, numbered_move};
 ghost use Rattle.offset_calls.specs.Steps.{AreKept, AreNumbers, Takes};
 ghost use Rattle.offset_calls.specs.Tickets.{IsLedger, Serves, handles_of};
@@ -20,7 +23,7 @@ use crate::desk::Desk;
 use crate::numbers::Numbers;
 use offset_allocator::{Allocation, AllocatorOf, Move, NodeIndex, RoomCost, Tables};
 use offset_guarded::GuardedOf;
-use offset_script::PlayerOf;
+use offset_script::{Answer, PlayerOf};
 use std::alloc::{AllocError, Global};
 
 // The moves so far, without numbers, each with the handle of its range after it, unless memory for one was
@@ -76,6 +79,21 @@ fn compacted<NI: NodeIndex, T: Tables<Index = NI>>(
     ensures step { Compacts space.old space.new }
 {
     space.compact(&mut |range: Move<NI>| seen.add(range));
+}
+
+// Compacts a space by whole steps, and collects the moves.
+fn compacted_by<NI: NodeIndex, T: Tables<Index = NI>>(
+    space: &mut AllocatorOf<T>,
+    step: u32,
+    seen: &mut Slides<NI>,
+) -> bool
+    requires some { 1 ≤ step }
+    requires none { seen.old.found.items ≡ [] }
+    ensures moves { seen.new.is_refused ≡ false → map named_move seen.new.found.items
+        ≡ (if result then moves_by step 0 0 space.old.blocks else []) }
+    ensures step { CompactsBy step space.old space.new result }
+{
+    space.compact_by(step, &mut |range: Move<NI>| seen.add(range))
 }
 
 // Makes room in a space, and collects the moves.
@@ -137,6 +155,43 @@ pub(crate) fn compact<T: Tables>(
     Ok(Reply::Compacted(numbered(alloc, numbers, &seen.found)?))
 }
 
+// The reply to a compaction by whole steps, which has these moves where it is done.
+fn by_steps(done: bool, moves: Vec<Moved>) -> Reply
+    ensures { reply_view result ≡ (if done then plain.Compacted (map move_view moves.items)
+        else plain.Answer machine.Refused) }
+{
+    if done {
+        Reply::Compacted(moves)
+    } else {
+        Reply::Answer(Answer::Refused)
+    }
+}
+
+// The reply to `CompactBy`.
+pub(crate) fn compact_by<T: Tables>(
+    alloc: Global,
+    player: &mut PlayerOf<T>,
+    numbers: &mut Numbers,
+    step: u32,
+) -> Result<Reply, AllocError>
+    requires kept { AreKept player.old.space player.old.handles.items }
+    requires numbers { AreNumbers player.old.handles.items numbers.old.grants numbers.old.by_name.items }
+    requires some { 1 ≤ step }
+    ensures takes { IfOk result (λ r. Takes (Call.CompactBy step) player.old.space player.old.handles.items
+        player.new.space player.new.handles.items (reply_view r)) }
+    ensures lost { OnErr result (IsLost (Call.CompactBy step) player.old.space player.old.handles.items
+        player.new.space player.new.handles.items) }
+    ensures numbers { AreNumbers player.old.handles.items numbers.new.grants numbers.new.by_name.items }
+{
+    numbers.read(&player.handles, player.space.node_count())?;
+    let mut seen = Slides::new(alloc);
+    let done = compacted_by(&mut player.space, step, &mut seen);
+    if seen.is_refused {
+        return Err(AllocError);
+    }
+    Ok(by_steps(done, numbered(alloc, numbers, &seen.found)?))
+}
+
 // The reply to `MakeRoom`.
 pub(crate) fn make_room<T: Tables>(
     alloc: Global,
@@ -174,6 +229,23 @@ fn compacted_guarded<NI: NodeIndex, T: Tables<Index = NI>>(
     ensures serials { space.new ≡ record space.old { space = space.new.space } }
 {
     space.compact(&mut |range: Move<NI>| seen.add(range));
+}
+
+// Compacts a guarded space by whole steps, and collects the moves, as `compacted_by` does.
+fn compacted_by_guarded<NI: NodeIndex, T: Tables<Index = NI>>(
+    space: &mut GuardedOf<T>,
+    step: u32,
+    seen: &mut Slides<NI>,
+) -> bool
+    requires some { 1 ≤ step }
+    requires none { seen.old.found.items ≡ [] }
+    ensures moves { seen.new.is_refused ≡ false → map named_move seen.new.found.items
+        ≡ (if result then moves_by step 0 0 space.old.space.blocks else []) }
+    ensures step { CompactsBy step space.old.space space.new.space result }
+    ensures sizes { KeepsSizes space.old space.new }
+    ensures serials { space.new ≡ record space.old { space = space.new.space } }
+{
+    space.compact_by(step, &mut |it: Move<NI>| seen.add(it))
 }
 
 // Makes room in a guarded space, and collects the moves, as `collect` does.
@@ -231,6 +303,26 @@ pub(crate) fn compact_guarded<T: Tables>(
         return Err(AllocError);
     }
     Ok(Reply::Compacted(with_serials(alloc, &desk.space, &seen.found)?))
+}
+
+// The reply to `CompactBy` of a guarded space.
+pub(crate) fn compact_by_guarded<T: Tables>(
+    alloc: Global,
+    desk: &mut Desk<T>,
+    step: u32,
+) -> Result<Reply, AllocError>
+    requires ledger { IsLedger desk.old.space desk.old.tickets.items }
+    requires kept { AreKept desk.old.space.space (handles_of desk.old.space desk.old.tickets.items) }
+    requires some { 1 ≤ step }
+    ensures { IfOk result (λ r. Serves (Call.CompactBy step) desk.old.space desk.old.tickets.items
+        desk.new.space desk.new.tickets.items (reply_view r)) }
+{
+    let mut seen = Slides::new(alloc);
+    let done = compacted_by_guarded(&mut desk.space, step, &mut seen);
+    if seen.is_refused {
+        return Err(AllocError);
+    }
+    Ok(by_steps(done, with_serials(alloc, &desk.space, &seen.found)?))
 }
 
 // The reply to `MakeRoom` of a guarded space.

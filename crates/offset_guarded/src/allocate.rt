@@ -3,8 +3,8 @@ ghost use Rattle.std.specs.Prelude.{ℕ, ◌≡◌, ◌↔◌, ◌+◌, ◌*◌,
 ghost use Rattle.std.specs.Prelude.{if◌then◌else◌, length, nat_eq, option_map};
 ghost use Rattle.offset_allocator.specs.Ranges as named;
 ghost use Rattle.offset_allocator.specs.Ranges.{size_of};
-ghost use Rattle.offset_allocator.specs.Moving.Relocating.{Relocates, RelocatesAligned, offset_of};
-ghost use Rattle.offset_allocator.specs.View.{bin_at, reported_largest};
+ghost use Rattle.offset_allocator.specs.Moving.Relocating.{Relocates, RelocatesAligned, WouldBegin, offset_of};
+ghost use Rattle.offset_allocator.specs.View.{View, Handle, bin_at, padding_to, reported_largest};
 ghost use Rattle.offset_allocator.specs.Relations.{Aligns, Allocates};
 ghost use Rattle.offset_allocator.specs.Requests.{CanGrant, IsAlignment, blocks_needed, units_needed};
 ghost use Rattle.offset_allocator.specs.Classes.{down};
@@ -263,6 +263,32 @@ impl<T: Tables> GuardedOf<T> {
             None => None,
             Some(second) => Some(ticket_for(&self.space, &mut self.serials, self.realm, second)),
         }
+    }
+
+    /// Where the range would begin that `allocate_aligned(size, align)` would grant now, as
+    /// `Allocator::would_begin` says, or `None` exactly where it would be refused. Nothing is taken.
+    ///
+    /// ```
+    /// guarded.allocate(300);
+    /// assert_eq!(guarded.would_begin(100, 256), Some(512));
+    /// assert_eq!(guarded.allocate_aligned(100, 256).unwrap().offset, 512);
+    /// ```
+    pub fn would_begin(&self, size: u32, align: u32) -> Option<u32>
+        requires power { IsAlignment align }
+        ensures granted { IsSome result ↔ (HasSerialLeft self.now
+            × CanGrant (blocks_needed align) (units_needed size align) self.now.space) }
+        // Whatever a grant of the allocator leaves, it begins there.
+        ensures begins { HasSerialLeft self.now → (w : View) (h : Handle)
+            → Aligns size align self.now.space w (Some h) → result ≡ Some h.offset }
+        // The block that such a grant takes begins at o.
+        ensures starts { HasSerialLeft self.now → (o : ℕ)
+            → CanGrant (blocks_needed align) (units_needed size align) self.now.space
+            → WouldBegin (units_needed size align) self.now.space o → result ≡ Some (o + padding_to align o) }
+    {
+        if self.serials.is_spent() {
+            return None;
+        }
+        self.space.would_begin(size, align)
     }
 
     /// Why `allocate(size)` would be refused now, or `None` exactly where it would be granted.

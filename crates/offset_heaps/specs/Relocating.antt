@@ -30,8 +30,8 @@ square_of g = live_of g * live_of g
 abbrev pub squares : Heaps → ℕ
 squares hs = total square_of hs.slots
 
--- a heap takes units of another one, in which so many are live: it has room for them, and for the blocks, and as many are
--- live in it, or more
+-- a heap other than `own` takes a range of `own`, which has `live` live units: it has room for the units and the blocks,
+-- and at least as many live units
 pub record TakesUnits (own blocks units live : ℕ) (slots : List (Option Guard)) (k : ℕ) : Type 0 where
   pub other : k ≢ own
   pub room : units ≤ room_of blocks (slot k slots)

@@ -26,7 +26,7 @@ impl<T: Tables> HeapsOf<T> {
     ghost use Rattle.offset_heaps.specs.Heaps.{Grants, IsSame, KeepsOthers, range_of};
     ghost use Rattle.offset_heaps.specs.Relocating.{IsTaker, NoneTakes, granted, units_of};
 
-    // The first heap that takes units of another one, in which so many are live.
+    // The first heap that takes a range of the heap `own`, which has `live` live units.
     fn taker(&mut self, own: u32, units: u64, align: u32, live: u32) -> Option<u32>
         requires some { 1 ≤ units }
         requires power { 1 ≤ align }

@@ -402,6 +402,181 @@ const ENDING_AT_THE_LIMIT: List = List {
     ],
 };
 
+// A compaction by whole steps, and a second grant at an alignment.
+const STEPS: List = List {
+    size: 50,
+    limit: 16,
+    rows: &[
+        (
+            Call::Command(Command::Alloc(7)),
+            "Answer(Grant { number: 1, offset: 0 })",
+        ),
+        (
+            Call::Command(Command::Align(8, 8)),
+            "Answer(Grant { number: 2, offset: 8 })",
+        ),
+        (
+            Call::Command(Command::Alloc(4)),
+            "Answer(Grant { number: 3, offset: 16 })",
+        ),
+        (Call::Command(Command::Free(1)), "Answer(Freed)"),
+        // 8 free, 8 and 4 live, 30 free
+        (Call::WouldBegin(8, 1), "Offset(0)"),
+        (Call::WouldBegin(9, 1), "Offset(20)"),
+        (Call::WouldBegin(5, 4), "Offset(0)"),
+        // 13 units hold them wherever they begin
+        (Call::WouldBegin(6, 8), "Offset(24)"),
+        // rounded up to 32
+        (Call::WouldBegin(31, 1), "Answer(Refused)"),
+        (
+            Call::RoomCostBy(30, 1, 16),
+            "RoomCost(Some(RoomCost { units: 0, ranges: 0 }))",
+        ),
+        (Call::RoomCostBy(31, 1, 16), "RoomCost(None)"),
+        // 8 give up 5, or by steps of one all
+        (
+            Call::RoomCostBy(32, 1, 5),
+            "RoomCost(Some(RoomCost { units: 12, ranges: 2 }))",
+        ),
+        (
+            Call::RoomCostBy(29, 4, 5),
+            "RoomCost(Some(RoomCost { units: 12, ranges: 2 }))",
+        ),
+        (Call::RoomCostBy(33, 1, 5), "RoomCost(None)"),
+        (
+            Call::RoomCostBy(33, 1, 1),
+            "RoomCost(Some(RoomCost { units: 12, ranges: 2 }))",
+        ),
+        (Call::CompactBy(16), "Compacted([])"),
+        (
+            Call::CompactBy(5),
+            "Compacted([Moved { number: 2, from: 8, to: 3, size: 8 }, Moved { number: 3, from: 16, to: 11, size: 4 }])",
+        ),
+        (
+            Call::CompactBy(1),
+            "Compacted([Moved { number: 2, from: 3, to: 0, size: 8 }, Moved { number: 3, from: 11, to: 8, size: 4 }])",
+        ),
+        (
+            Call::Command(Command::Alloc(20)),
+            "Answer(Grant { number: 4, offset: 12 })",
+        ),
+        (Call::Command(Command::Free(2)), "Answer(Freed)"),
+        // 8 free, 4 and 20 live, 18 free; 4 units from a multiple of 4 on need 7
+        (
+            Call::RelocateAligned(3, 4),
+            "Answer(Grant { number: 5, offset: 0 })",
+        ),
+        (Call::RelocateAligned(3, 4), "Answer(Refused)"),
+        (Call::RelocateAligned(4, 16), "Answer(Refused)"),
+        (Call::RelocateAligned(2, 4), "Answer(Gone)"),
+        // 4 live, 4 free, 4 and 20 live, 18 free
+        (
+            Call::Command(Command::Alloc(12)),
+            "Answer(Grant { number: 6, offset: 32 })",
+        ),
+        (Call::Shrink(3, 2), "Resized"),
+        (Call::Shrink(6, 10), "Resized"),
+        (
+            Call::CompactBy(3),
+            "Compacted([Moved { number: 3, from: 8, to: 5, size: 2 }, Moved { number: 4, from: 12, to: 9, size: 20 }, Moved { number: 6, from: 32, to: 29, size: 10 }])",
+        ),
+        // 4 live, 1 free, 2 live, 2 free, 20 and 10 live, 11 free
+        (
+            Call::Command(Command::Alloc(2)),
+            "Answer(Grant { number: 7, offset: 7 })",
+        ),
+        (
+            Call::Command(Command::Alloc(1)),
+            "Answer(Grant { number: 8, offset: 4 })",
+        ),
+    ],
+};
+
+// Of blocks that a compaction by steps leaves in one bin, the later one in space is the newer.
+const STEPS_IN_ONE_BIN: List = List {
+    size: 39,
+    limit: 16,
+    rows: &[
+        (
+            Call::Command(Command::Alloc(5)),
+            "Answer(Grant { number: 1, offset: 0 })",
+        ),
+        (
+            Call::Command(Command::Alloc(1)),
+            "Answer(Grant { number: 2, offset: 5 })",
+        ),
+        (
+            Call::Command(Command::Alloc(8)),
+            "Answer(Grant { number: 3, offset: 6 })",
+        ),
+        (
+            Call::Command(Command::Alloc(1)),
+            "Answer(Grant { number: 4, offset: 14 })",
+        ),
+        (
+            Call::Command(Command::Alloc(24)),
+            "Answer(Grant { number: 5, offset: 15 })",
+        ),
+        (Call::Command(Command::Free(3)), "Answer(Freed)"),
+        (Call::Command(Command::Free(1)), "Answer(Freed)"),
+        // 5 free, 1 live, 8 free, 1 and 24 live
+        (
+            Call::CompactBy(3),
+            "Compacted([Moved { number: 2, from: 5, to: 2, size: 1 }, Moved { number: 4, from: 14, to: 5, size: 1 }, Moved { number: 5, from: 15, to: 6, size: 24 }])",
+        ),
+        // 2 free, 1 live, 2 free, 1 and 24 live, 9 free
+        (
+            Call::Command(Command::Alloc(2)),
+            "Answer(Grant { number: 6, offset: 3 })",
+        ),
+        (
+            Call::Command(Command::Alloc(2)),
+            "Answer(Grant { number: 7, offset: 0 })",
+        ),
+    ],
+};
+
+// There may be four blocks, and there are.
+const STEPS_AT_THE_LIMIT: List = List {
+    size: 30,
+    limit: 5,
+    rows: &[
+        (
+            Call::Command(Command::Alloc(10)),
+            "Answer(Grant { number: 1, offset: 0 })",
+        ),
+        (
+            Call::Command(Command::Alloc(10)),
+            "Answer(Grant { number: 2, offset: 10 })",
+        ),
+        (
+            Call::Command(Command::Alloc(10)),
+            "Answer(Grant { number: 3, offset: 20 })",
+        ),
+        (Call::Command(Command::Free(1)), "Answer(Freed)"),
+        (Call::Shrink(2, 5), "Resized"),
+        // 10 free, 5 live, 5 free, 10 live
+        (Call::WouldBegin(1, 1), "Answer(Refused)"),
+        // a request needs one block more, and so do the units that are given up: both free blocks are used up
+        (
+            Call::RoomCostBy(15, 1, 10),
+            "RoomCost(Some(RoomCost { units: 5, ranges: 1 }))",
+        ),
+        (Call::RoomCostBy(5, 1, 11), "RoomCost(None)"),
+        // with an alignment it needs two more
+        (Call::RoomCostBy(5, 2, 10), "RoomCost(None)"),
+        (Call::CompactBy(11), "Compacted([])"),
+        (Call::CompactBy(10), "Answer(Refused)"),
+        (Call::Offset(2), "Offset(10)"),
+        (Call::Command(Command::Free(3)), "Answer(Freed)"),
+        // the last block is free
+        (
+            Call::CompactBy(10),
+            "Compacted([Moved { number: 2, from: 10, to: 0, size: 5 }])",
+        ),
+    ],
+};
+
 // Room is made by the run with the fewest units to move, of several the last one.
 const ROOM: List = List {
     size: 100,
@@ -652,6 +827,9 @@ fn resizes_and_compacts(rt: HostRuntime) {
         ENDING,
         NEWEST_AT_THE_END,
         ENDING_AT_THE_LIMIT,
+        STEPS,
+        STEPS_IN_ONE_BIN,
+        STEPS_AT_THE_LIMIT,
         ROOM,
         COSTS,
         RANGES,

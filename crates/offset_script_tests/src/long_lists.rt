@@ -30,6 +30,7 @@ fn call_at(place: u32) -> Call {
         19 => Call::Command(Command::Align(5, 1u32.wrapping_shl(place / 32 % 32))),
         21 => Call::Command(Command::Extend(1)),
         22 => Call::Retract(1),
+        24 => Call::RelocateAligned(number, 1u32.wrapping_shl(place / 32 % 8)),
         23 => Call::Command(Command::Free(number)),
         25 => Call::Tight(place % 5),
         27 => Call::TightAligned(3, 1u32.wrapping_shl(place / 32 % 32)),
@@ -48,6 +49,9 @@ fn list(alloc: Global, count: u32) -> Result<Vec<Call>, AllocError> {
             400 => Call::Command(Command::Full),
             600 => Call::MakeRoom(place),
             800 => Call::RoomCost(place),
+            1000 => Call::CompactBy(7),
+            1200 => Call::RoomCostBy(place, 4, 7),
+            1400 => Call::WouldBegin(place % 7, 4),
             _ => call_at(place),
         })?;
     }

@@ -1,5 +1,5 @@
-//! The daily use of an allocator, as `CALLING.md` of `offset_allocator` lists it. Only `lacks_units`,
-//! `place_packed` and `defragment` have a proof file.
+//! The daily use of an allocator, as `CALLING.md` of `offset_allocator` lists it. `lacks_units`,
+//! `place_packed`, `place_aligned_within` and `defragment` have a proof file.
 
 ghost use Rattle.std.specs.Prelude.{ℕ, ◌≡◌, ◌≢◌, ◌↔◌, ◌⊎◌, ◌+◌, ◌-◌, ◌*◌, ◌<◌, ◌≤◌, ◌%◌, Some, None, false};
 ghost use Rattle.std.specs.Prelude.{not, min, IfSome, IfOk, IfErr, IsOk, IsSome, IsTrue, length};
@@ -7,7 +7,7 @@ ghost use Rattle.std.specs.Int.{is_power_of_two};
 ghost use Rattle.offset_allocator.specs.View.{used_units, reported_largest};
 ghost use Rattle.offset_allocator.specs.Ranges.{Range, range_of, size_of, KeepsAll, KeepsOthers, IsLive};
 ghost use Rattle.offset_allocator.specs.Relations.{Aligns, Allocates, Frees, SameState, Resets};
-ghost use Rattle.offset_allocator.specs.Requests.{CanGrant, IsWhy};
+ghost use Rattle.offset_allocator.specs.Requests.{CanGrant, IsAlignment, IsWhy, blocks_needed, units_needed};
 ghost use Rattle.offset_allocator.specs.Resizing.{CanShrink, CanGrow, HasUnits};
 ghost use Rattle.offset_allocator.specs.Moving.Compacting.{Compacts, KeepsSizes};
 ghost use Rattle.offset_uses.specs.Grants.{HasTooFewUnits, IsGrantOf};
@@ -222,6 +222,42 @@ pub fn place_within(
         Some(Refusal::TooLarge) => Err(Refusal::TooLarge),
         Some(Refusal::Space) => Err(Refusal::Space),
     }
+}
+
+/// The same from a multiple of `align` on, where ranges have alignments that they are to keep: they move by
+/// multiples of `step` units, which is a multiple of each alignment that is used.
+///
+/// The error says why the request is refused, where more units would have to move or no moves by such steps
+/// make room; then nothing has changed. It helps where too few nodes are left too.
+pub fn place_aligned_within(
+    space: &mut Allocator,
+    buffer: &mut [u32],
+    size: u32,
+    align: u32,
+    step: u32,
+    budget: u32,
+) -> Result<Allocation, Refusal>
+    requires power { IsAlignment align }
+    requires some { 1 ≤ step }
+    ensures aligned { IfOk result (λ h. h.offset % align ≡ 0) }
+    ensures range { IfOk result (λ h. IsGrantOf size h space.new) }
+    ensures why { IfErr result (IsWhy (blocks_needed align) (units_needed size align) space.old) }
+    ensures same { IfErr result (λ _. SameState space.old space.new) }
+{
+    let is_cheap = match space.room_cost_by(size, align, step) {
+        None => false,
+        Some(cost) => cost.units <= budget,
+    };
+    if !is_cheap {
+        return Err(space.refusal_aligned(size, align).unwrap());
+    }
+    space.make_room_by(
+        size,
+        align,
+        step,
+        &mut |range: Move| { copy_down(buffer, range.from, range.to, range.size) },
+    );
+    Ok(space.allocate_aligned(size, align).unwrap())
 }
 
 /// The byte at which the vertices of a mesh begin, with `stride` bytes each, as a draw call needs it, or

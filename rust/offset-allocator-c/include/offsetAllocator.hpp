@@ -81,6 +81,15 @@ struct Statistics {
     uint32 unusedNodes;
 };
 
+// How far compactWithin came: done, the ranges that moved, and, if there is more, where the next call goes on.
+struct Progress {
+    bool done;
+    bool more;
+    uint32 units;
+    uint32 ranges;
+    uint32 next;
+};
+
 // What has to move at least so that a request finds its block, where all free units together are enough for it.
 struct RoomCost {
     bool possible;
@@ -129,6 +138,8 @@ inline Statistics of(const oa_totals &from) {
     return {from.live_ranges,        from.live_units,          from.free_blocks, from.free_units,
             from.largest_free_block, from.largest_free_region, from.unused_nodes};
 }
+
+inline Progress of(oa_progress from) { return {from.done, from.more, from.units, from.ranges, from.next}; }
 
 inline RoomCost of(oa_room from) { return {from.possible, from.units, from.ranges}; }
 
@@ -345,8 +356,8 @@ public:
     }
 
     // Handles stay live; a range that moves begins at allocationOffset from then on, and keeps no alignment, or, by compactBy,
-    // those that divide step: that returns false, and nothing moves, where step is 0, or, as oa_compact_by says, a node is
-    // missing. moved(Move) is called for each range that moves. An exception of it goes on to the caller when
+    // compactWithin and makeRoomBy, those that divide step. With a step of 0 nothing moves; compactBy returns false there, and
+    // where, as oa_compact_by says, a node is missing, and compactWithin is not done; makeRoomBy is not possible there, nor where align is no power of two. moved(Move) is called for each range that moves. An exception of it goes on to the caller when
     // all ranges have moved; after it, moved is not called again.
     template <class F> void compact(F &&moved) {
         detail::Calling<F> each(moved);
@@ -359,9 +370,21 @@ public:
         each.finish();
         return done;
     }
+    template <class F> Progress compactWithin(uint32 step, uint32 from, uint32 mostUnits, uint32 mostRanges, F &&moved) {
+        detail::Calling<F> each(moved);
+        Progress done = detail::of(oa_compact_within(space, step, from, mostUnits, mostRanges, detail::Calling<F>::moved, &each));
+        each.finish();
+        return done;
+    }
     template <class F> RoomCost makeRoom(uint32 size, F &&moved) {
         detail::Calling<F> each(moved);
         RoomCost cost = detail::of(oa_make_room(space, size, detail::Calling<F>::moved, &each));
+        each.finish();
+        return cost;
+    }
+    template <class F> RoomCost makeRoomBy(uint32 size, uint32 align, uint32 step, F &&moved) {
+        detail::Calling<F> each(moved);
+        RoomCost cost = detail::of(oa_make_room_by(space, size, align, step, detail::Calling<F>::moved, &each));
         each.finish();
         return cost;
     }
@@ -390,6 +413,8 @@ public:
     Statistics statistics() const { return detail::of(oa_statistics(space)); }
     StorageReport storageReport() const { return detail::of(oa_storage_report(space)); }
     StorageReportFull storageReportFull() const { return detail::of(oa_storage_report_full(space)); }
+    // Allocation::NO_SPACE where allocateAligned would refuse, and where align is no power of two
+    uint32 wouldBegin(uint32 size, uint32 align) const { return oa_would_begin(space, size, align); }
     Refusal refusal(uint32 size) const { return Refusal(oa_refusal(space, size)); }
     Refusal refusalAligned(uint32 size, uint32 align) const { return Refusal(oa_refusal_aligned(space, size, align)); }
     Refusal refusalTight(uint32 size) const { return Refusal(oa_refusal_tight(space, size)); }
@@ -397,6 +422,9 @@ public:
         return Refusal(oa_refusal_tight_aligned(space, size, align));
     }
     RoomCost roomCost(uint32 size) const { return detail::of(oa_room_cost(space, size)); }
+    RoomCost roomCostBy(uint32 size, uint32 align, uint32 step) const {
+        return detail::of(oa_room_cost_by(space, size, align, step));
+    }
 
 private:
     explicit Allocator(oa_allocator *made) noexcept : space(made) {}
@@ -531,9 +559,21 @@ public:
         each.finish();
         return done;
     }
+    template <class F> Progress compactWithin(uint32 step, uint32 from, uint32 mostUnits, uint32 mostRanges, F &&moved) {
+        detail::Calling<F> each(moved);
+        Progress done = detail::of(oag_compact_within(space, step, from, mostUnits, mostRanges, detail::Calling<F>::moved, &each));
+        each.finish();
+        return done;
+    }
     template <class F> RoomCost makeRoom(uint32 size, F &&moved) {
         detail::Calling<F> each(moved);
         RoomCost cost = detail::of(oag_make_room(space, size, detail::Calling<F>::moved, &each));
+        each.finish();
+        return cost;
+    }
+    template <class F> RoomCost makeRoomBy(uint32 size, uint32 align, uint32 step, F &&moved) {
+        detail::Calling<F> each(moved);
+        RoomCost cost = detail::of(oag_make_room_by(space, size, align, step, detail::Calling<F>::moved, &each));
         each.finish();
         return cost;
     }
@@ -553,6 +593,7 @@ public:
     Statistics statistics() const { return detail::of(oag_statistics(space)); }
     StorageReport storageReport() const { return detail::of(oag_storage_report(space)); }
     StorageReportFull storageReportFull() const { return detail::of(oag_storage_report_full(space)); }
+    uint32 wouldBegin(uint32 size, uint32 align) const { return oag_would_begin(space, size, align); }
     Refusal refusal(uint32 size) const { return Refusal(oag_refusal(space, size)); }
     Refusal refusalAligned(uint32 size, uint32 align) const { return Refusal(oag_refusal_aligned(space, size, align)); }
     Refusal refusalTight(uint32 size) const { return Refusal(oag_refusal_tight(space, size)); }
@@ -560,6 +601,9 @@ public:
         return Refusal(oag_refusal_tight_aligned(space, size, align));
     }
     RoomCost roomCost(uint32 size) const { return detail::of(oag_room_cost(space, size)); }
+    RoomCost roomCostBy(uint32 size, uint32 align, uint32 step) const {
+        return detail::of(oag_room_cost_by(space, size, align, step));
+    }
 
     bool isSpent() const { return oag_is_spent(space); }
     uint32 realm() const { return oag_realm(space); }

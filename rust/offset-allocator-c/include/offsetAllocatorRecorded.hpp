@@ -122,6 +122,11 @@ public:
         tape.write("grow %u %u\n", number(handle), size);
         return space.growInPlace(handle, size);
     }
+    // As allocateAligned, for an alignment that is no power of two.
+    Handle relocateAligned(Handle handle, uint32 align) {
+        if (align != 0 && (align & (align - 1)) == 0) tape.write("relocate %u %u\n", number(handle), align);
+        return granted(space.relocateAligned(handle, align));
+    }
     bool extend(uint32 more) {
         tape.write("extend %u\n", more);
         return space.extend(more);
@@ -129,6 +134,11 @@ public:
     template <class F> void compact(F &&moved) {
         tape.write("compact\n");
         space.compact(std::forward<F>(moved));
+    }
+    // A step of 0 is refused, as by A, and not written.
+    template <class F> bool compactBy(uint32 step, F &&moved) {
+        if (step != 0) tape.write("compact %u\n", step);
+        return space.compactBy(step, std::forward<F>(moved));
     }
     void reset() {
         tape.write("reset\n");

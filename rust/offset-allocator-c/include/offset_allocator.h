@@ -74,8 +74,18 @@ typedef struct oa_totals {
     uint32_t unused_nodes;
 } oa_totals;
 
-/* What has to move at least so that a request finds its block. possible: whether all free units together are enough; if
- * not, the rest is 0. units, ranges: of the ranges that have to move. */
+/* How far oa_compact_within came. done: false where it was refused, and then the rest is 0. units, ranges: of the ranges that moved.
+ * more: whether `next` is where the next call goes on; if not, the end of the space was reached, and it is 0. */
+typedef struct oa_progress {
+    bool done;
+    bool more;
+    uint32_t units;
+    uint32_t ranges;
+    uint32_t next;
+} oa_progress;
+
+/* What has to move at least so that a request finds its block. possible: whether all free units together are enough, or, by
+ * steps, whether some run of blocks gives up enough units and nodes; if not, the rest is 0. units, ranges: of the ranges that have to move. */
 typedef struct oa_room {
     bool possible;
     uint32_t units;
@@ -103,7 +113,7 @@ typedef enum oa_reason {
     OA_SERIALS = 6     /* All serials are given (oag_refusal alone). Use another space. */
 } oa_reason;
 
-/* A range that oa_compact, oa_compact_by or oa_make_room moves: its units were at from, and have to be at to, which is
+/* A range that oa_compact or oa_make_room moves, by steps too: its units were at from, and have to be at to, which is
  * smaller. */
 typedef struct oa_move {
     uint32_t from;
@@ -270,6 +280,18 @@ void oa_compact(oa_allocator *space, void (*moved)(void *user, oa_move range), v
  * allocator is null. Cost: at most 21 accesses a block, and 40. */
 bool oa_compact_by(oa_allocator *space, uint32_t step, void (*moved)(void *user, oa_move range), void *user);
 
+/* The same for a part of the space, so that it can be done over several frames: moves the live ranges behind the first free
+ * block of at least a step that ends at the offset `from` or later, until the next one would take more than `most_units` units,
+ * or more than `most_ranges` ranges, in all; the first one moves in any case. Begin at 0, and go on from `next`, whatever is
+ * granted and freed between the calls; where there is no `more`, begin at 0 again. Where nothing has to move, done is true and
+ * the rest is 0. Handles, alignments and `moved` are as of oa_compact_by; all that the free blocks give up is one free block
+ * behind the last range that moved.
+ * Not done, and nothing changes, where the blocks that would slide end in a used one and no node is left: a larger budget, or
+ * oa_compact, may help; also where `step` is 0, or if the allocator is null. Cost: 5 accesses a block, 42 for each range that
+ * the budget allows, and 60; at most 26 a block, and 60. */
+oa_progress oa_compact_within(oa_allocator *space, uint32_t step, uint32_t from, uint32_t most_units, uint32_t most_ranges,
+                              void (*moved)(void *user, oa_move range), void *user);
+
 /* The copies that make a move of `size` units from `from` to `to` where a copy may not overlap, as on a device: `copy`, if it
  * is not null, is called with `user` and each, in the order in which they can be made. Each has at most `most` units, as many
  * as it can, and reads none that it writes. True if done. False, and nothing is called, where `most` is 0, where `to` is not
@@ -292,6 +314,16 @@ oa_allocation oa_live_after(const oa_allocator *space, oa_allocation allocation)
  * request afterwards, at the node limit too.
  * All 0 for null. Cost: 6 accesses a block, 40 a range that moves, and 20. */
 oa_room oa_make_room(oa_allocator *space, uint32_t size, void (*moved)(void *user, oa_move range), void *user);
+
+/* The same by whole steps, for oa_allocate_aligned of this size and alignment (1: for oa_allocate): slides the ranges of a
+ * run of blocks that costs what oa_room_cost_by returns to its front, each by a multiple of `step` units, so that it keeps
+ * its alignment where that divides `step`. What whole steps leave of a free block of the run stays a free block. Returns what
+ * oa_room_cost_by would have returned before; where that is not possible or has no ranges, nothing changes. Wherever it is
+ * possible, oa_allocate_aligned grants the request afterwards, at the node limit too.
+ * All 0 for null, where `align` is no power of two, or where `step` is 0. Cost: 7 accesses a block, 36 a range of the run, and
+ * 60. */
+oa_room oa_make_room_by(oa_allocator *space, uint32_t size, uint32_t align, uint32_t step,
+                        void (*moved)(void *user, oa_move range), void *user);
 
 /* The units of the space, with what oa_extend added; 0 for null. */
 uint32_t oa_size(const oa_allocator *space);
@@ -322,6 +354,10 @@ oa_report oa_storage_report(const oa_allocator *space);
 /* The free blocks by class; all 0 for null. Cost: 512 accesses, and 2 a free block. */
 oa_report_full oa_storage_report_full(const oa_allocator *space);
 
+/* Where the range would begin that oa_allocate_aligned would grant now; with an `align` of 1, oa_allocate. OA_NO_SPACE where it
+ * would refuse, and for null or an `align` that is no power of two. Nothing is taken. At most 4 accesses. */
+uint32_t oa_would_begin(const oa_allocator *space, uint32_t size, uint32_t align);
+
 /* Why oa_allocate would be refused now. At most 8 accesses. */
 oa_reason oa_refusal(const oa_allocator *space, uint32_t size);
 
@@ -340,6 +376,14 @@ oa_reason oa_refusal_tight_aligned(const oa_allocator *space, uint32_t size, uin
  * ranges. Both are 0 where a free block is large enough, though the request is refused at the node limit. For an aligned
  * request ask with size + align - 1. All 0 for null. Cost: 6 accesses a block, and 2. */
 oa_room oa_room_cost(const oa_allocator *space, uint32_t size);
+
+/* What has to move at least, by whole steps, so that oa_allocate_aligned of this size and alignment is granted: of all runs
+ * of blocks, from a free one to a free one, that leave one free block which is large enough and give back the nodes that the
+ * request needs, one whose ranges have the fewest units, and of these one with the fewest ranges. Not possible where there is
+ * no such run. Possible with both 0 exactly where the request would be granted now. At the node limit a cost may be too high: it
+ * counts ranges of the run that stay. All 0 for null, where `align` is no power of two, or where `step` is 0. Cost: 7 accesses a
+ * block, and 2. */
+oa_room oa_room_cost_by(const oa_allocator *space, uint32_t size, uint32_t align, uint32_t step);
 
 /* The smallest size of a fresh space that grants a request of this size; 0 above 4026531840, where none does. */
 uint32_t oa_min_allocator_size(uint32_t size);
@@ -457,13 +501,17 @@ oag_ticket oag_last_live(const oag_allocator *space);
 oag_ticket oag_live_before(const oag_allocator *space, oag_ticket ticket);
 oag_ticket oag_live_after(const oag_allocator *space, oag_ticket ticket);
 
-/* As oa_compact and oa_compact_by. Tickets stay live; a range that moves begins at oag_offset_of from then on, and keeps its
- * alignment by oag_compact_by alone, where it divides the step. metadata of a move is the name in the ticket. */
+/* As oa_compact, oa_compact_by and oa_compact_within. Tickets stay live; a range that moves begins at oag_offset_of from then on, and keeps its
+ * alignment by steps alone, where it divides the step. metadata of a move is the name in the ticket. */
 void oag_compact(oag_allocator *space, void (*moved)(void *user, oa_move range), void *user);
 bool oag_compact_by(oag_allocator *space, uint32_t step, void (*moved)(void *user, oa_move range), void *user);
+oa_progress oag_compact_within(oag_allocator *space, uint32_t step, uint32_t from, uint32_t most_units, uint32_t most_ranges,
+                               void (*moved)(void *user, oa_move range), void *user);
 
-/* As oa_make_room; the same of tickets. */
+/* As oa_make_room and oa_make_room_by; the same of tickets. */
 oa_room oag_make_room(oag_allocator *space, uint32_t size, void (*moved)(void *user, oa_move range), void *user);
+oa_room oag_make_room_by(oag_allocator *space, uint32_t size, uint32_t align, uint32_t step,
+                         void (*moved)(void *user, oa_move range), void *user);
 
 /* As the calls oa_* of these names. */
 uint32_t oag_size(const oag_allocator *space);
@@ -483,6 +531,9 @@ bool oag_is_spent(const oag_allocator *space);
 /* The realm of its tickets; 0 for null. */
 uint32_t oag_realm(const oag_allocator *space);
 
+/* As oa_would_begin. */
+uint32_t oag_would_begin(const oag_allocator *space, uint32_t size, uint32_t align);
+
 /* Why oag_allocate and oag_allocate_aligned would be refused now. */
 oa_reason oag_refusal(const oag_allocator *space, uint32_t size);
 oa_reason oag_refusal_aligned(const oag_allocator *space, uint32_t size, uint32_t align);
@@ -491,8 +542,9 @@ oa_reason oag_refusal_aligned(const oag_allocator *space, uint32_t size, uint32_
 oa_reason oag_refusal_tight(const oag_allocator *space, uint32_t size);
 oa_reason oag_refusal_tight_aligned(const oag_allocator *space, uint32_t size, uint32_t align);
 
-/* As oa_room_cost. */
+/* As oa_room_cost and oa_room_cost_by. */
 oa_room oag_room_cost(const oag_allocator *space, uint32_t size);
+oa_room oag_room_cost_by(const oag_allocator *space, uint32_t size, uint32_t align, uint32_t step);
 
 /* As oa_walk_start and oa_blocks_new, for oa_walk_next, oa_blocks_next and oa_blocks_drop. A block has a handle, which
  * oag_ticket_of makes a ticket. */

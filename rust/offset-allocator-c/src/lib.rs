@@ -14,7 +14,7 @@ use offset_allocator_guarded::{Guarded, Ticket};
 use offset_allocator_proved::ext::min_allocator_size;
 use offset_allocator_proved::small_float::{float_to_uint, uint_to_float_round_down, uint_to_float_round_up};
 use offset_allocator_proved::{
-    Allocation, Allocator, AllocatorOf, Global, Move, MovePieces, Piece, Refusal, RoomCost, StateFaultKind, Tables,
+    Allocation, Allocator, AllocatorOf, Global, Move, MovePieces, Piece, Progress, Refusal, RoomCost, StateFaultKind, Tables,
 };
 
 /// The value of a missing offset or name.
@@ -61,6 +61,17 @@ pub struct Totals {
     largest_free_block: u32,
     largest_free_region: u32,
     unused_nodes: u32,
+}
+
+/// How far a compaction within a budget came.
+#[repr(C)]
+#[derive(Default)]
+pub struct Progressed {
+    done: bool,
+    more: bool,
+    units: u32,
+    ranges: u32,
+    next: u32,
 }
 
 /// What has to move at least for a request.
@@ -242,6 +253,16 @@ fn totals<T: Tables>(space: &AllocatorOf<T>) -> Totals {
         largest_free_region: found.largest_free_region,
         unused_nodes: found.unused_nodes,
     }
+}
+
+fn progressed(found: Option<Progress>) -> Progressed {
+    found.map_or(Progressed::default(), |Progress { units, ranges, next }| Progressed {
+        done: true,
+        more: next.is_some(),
+        units,
+        ranges,
+        next: next.unwrap_or(0),
+    })
 }
 
 fn room(cost: Option<RoomCost>) -> Room {
@@ -470,6 +491,21 @@ exports! {
         step != 0 && space.compact_by(step, &mut calls(moved, user))
     } else false;
 
+    fn oa_compact_within(
+        [space: &mut Space],
+        step: u32,
+        from: u32,
+        most_units: u32,
+        most_ranges: u32,
+        moved: Option<Callback>,
+        user: Option<NonNull<c_void>>
+    ) -> Progressed {
+        if step == 0 {
+            return Progressed::default();
+        }
+        progressed(space.compact_within(step, from, most_units, most_ranges, &mut calls(moved, user)))
+    } else Progressed::default();
+
     fn oa_copy_in_pieces(
         from: u32,
         to: u32,
@@ -511,6 +547,20 @@ exports! {
         room(space.make_room(size, &mut calls(moved, user)))
     } else Room::default();
 
+    fn oa_make_room_by(
+        [space: &mut Space],
+        size: u32,
+        align: u32,
+        step: u32,
+        moved: Option<Callback>,
+        user: Option<NonNull<c_void>>
+    ) -> Room {
+        if !align.is_power_of_two() || step == 0 {
+            return Room::default();
+        }
+        room(space.make_room_by(size, align, step, &mut calls(moved, user)))
+    } else Room::default();
+
     fn oa_size([space: &Space],) -> u32 { space.size() } else 0;
 
     fn oa_max_allocs([space: &Space],) -> u32 { space.max_allocs() } else 0;
@@ -544,6 +594,17 @@ exports! {
     } else Reason::BadCall;
 
     fn oa_room_cost([space: &Space], size: u32) -> Room { room(space.room_cost(size)) } else Room::default();
+
+    fn oa_room_cost_by([space: &Space], size: u32, align: u32, step: u32) -> Room {
+        if !align.is_power_of_two() || step == 0 {
+            return Room::default();
+        }
+        room(space.room_cost_by(size, align, step))
+    } else Room::default();
+
+    fn oa_would_begin([space: &Space], size: u32, align: u32) -> u32 {
+        if align.is_power_of_two() { space.would_begin(size, align).unwrap_or(NO_SPACE) } else { NO_SPACE }
+    } else NO_SPACE;
 
     fn oa_min_allocator_size(size: u32) -> u32 {
         if size <= 4_026_531_840 { min_allocator_size(size) } else { 0 }
@@ -667,6 +728,21 @@ exports! {
         step != 0 && space.compact_by(step, &mut calls(moved, user))
     } else false;
 
+    fn oag_compact_within(
+        [space: &mut GuardedSpace],
+        step: u32,
+        from: u32,
+        most_units: u32,
+        most_ranges: u32,
+        moved: Option<Callback>,
+        user: Option<NonNull<c_void>>
+    ) -> Progressed {
+        if step == 0 {
+            return Progressed::default();
+        }
+        progressed(space.compact_within(step, from, most_units, most_ranges, &mut calls(moved, user)))
+    } else Progressed::default();
+
     fn oag_make_room(
         [space: &mut GuardedSpace],
         size: u32,
@@ -674,6 +750,20 @@ exports! {
         user: Option<NonNull<c_void>>
     ) -> Room {
         room(space.make_room(size, &mut calls(moved, user)))
+    } else Room::default();
+
+    fn oag_make_room_by(
+        [space: &mut GuardedSpace],
+        size: u32,
+        align: u32,
+        step: u32,
+        moved: Option<Callback>,
+        user: Option<NonNull<c_void>>
+    ) -> Room {
+        if !align.is_power_of_two() || step == 0 {
+            return Room::default();
+        }
+        room(space.make_room_by(size, align, step, &mut calls(moved, user)))
     } else Room::default();
 
     fn oag_size([space: &GuardedSpace],) -> u32 { space.allocator().size() } else 0;
@@ -727,4 +817,15 @@ exports! {
     } else Reason::BadCall;
 
     fn oag_room_cost([space: &GuardedSpace], size: u32) -> Room { room(space.allocator().room_cost(size)) } else Room::default();
+
+    fn oag_room_cost_by([space: &GuardedSpace], size: u32, align: u32, step: u32) -> Room {
+        if !align.is_power_of_two() || step == 0 {
+            return Room::default();
+        }
+        room(space.allocator().room_cost_by(size, align, step))
+    } else Room::default();
+
+    fn oag_would_begin([space: &GuardedSpace], size: u32, align: u32) -> u32 {
+        if align.is_power_of_two() { space.would_begin(size, align).unwrap_or(NO_SPACE) } else { NO_SPACE }
+    } else NO_SPACE;
 }

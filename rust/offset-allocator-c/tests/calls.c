@@ -257,6 +257,35 @@ static void compacts_by_steps(void) {
     oa_drop(space);
 }
 
+/* 30 free units, 10 live at 30, 8 at 40, 52 free: by steps of 8 the first goes to 6 in one call, and the second to 16 in the next,
+ * behind what was granted in the hole between them */
+static void compacts_within(void) {
+    oa_allocator *space = oa_new(100, 16);
+    struct copied data = {{0}, 0, {0, 0}};
+    oa_allocation hole = oa_allocate(space, 30), a = oa_allocate(space, 10), b = oa_allocate_aligned(space, 8, 8);
+    CHECK(a.offset == 30 && b.offset == 40 && oa_free(space, hole) && !oa_compact_within(space, 0, 0, 10, 10, copy, &data).done);
+    oa_progress far = oa_compact_within(space, 8, 41, 10, 10, copy, &data);
+    CHECK(far.done && !far.more && !far.units && !far.ranges && !far.next && data.moves == 0);
+    far = oa_compact_within(space, 8, 0, 10, 10, copy, &data);
+    CHECK(far.done && far.more && far.units == 10 && far.ranges == 1 && far.next == 40 && data.moves == 1);
+    CHECK(oa_allocation_offset(space, a) == 6 && oa_allocation_offset(space, b) == 40 && oa_block_count(space) == 5);
+    oa_allocation c = oa_allocate(space, 7);
+    CHECK(c.offset == 16);
+    far = oa_compact_within(space, 8, far.next, 0, 0, copy, &data);
+    CHECK(far.done && !far.more && far.units == 8 && far.ranges == 1 && far.next == 0 && data.last.offset == 24);
+    CHECK(oa_allocation_offset(space, b) == 24 && oa_allocation_offset(space, c) == 16 && oa_block_count(space) == 6);
+    CHECK(!oa_compact_within(space, 8, 0, 100, 100, copy, &data).ranges && oa_compact_within(space, 1, 0, 100, 100, NULL, NULL).ranges == 3);
+    oa_drop(space);
+    /* a free block behind the first range that moves has no node, and needs none where the last block is free */
+    space = oa_new(20, 5);
+    hole = oa_allocate(space, 6);
+    a = oa_allocate(space, 5);
+    b = oa_allocate(space, 4);
+    CHECK(oa_free(space, hole) && oa_is_full(space) && !oa_compact_within(space, 1, 0, 5, 8, copy, &data).done && data.moves == 2);
+    CHECK(oa_compact_within(space, 1, 0, 9, 8, NULL, NULL).ranges == 2 && oa_allocation_offset(space, b) == 5);
+    oa_drop(space);
+}
+
 /* the pieces of 20 units from 10 to 4: six at a time, so that no copy overlaps, and the two that are left */
 struct pieces {
     char bytes[40];
@@ -381,15 +410,53 @@ static void room(void) {
     oa_drop(space);
 }
 
+/* 30 free units, 10 live at 30, 8 live at 40, 52 free: steps of 8 give up 24 of the 30, so 76 are together */
+static void room_by_steps(void) {
+    oa_allocator *space = oa_new(100, 16);
+    struct copied data = {{0}, 0, {0, 0}};
+    oa_allocation hole = oa_allocate(space, 30), a = oa_allocate(space, 10), b = oa_allocate_aligned(space, 8, 8);
+    CHECK(a.offset == 30 && b.offset == 40 && oa_free(space, hole));
+    memset(data.bytes + 30, 'a', 10);
+    memset(data.bytes + 40, 'b', 8);
+    CHECK(costs(oa_room_cost_by(space, 52, 1, 8), 0, 0) && costs(oa_room_cost_by(space, 72, 1, 8), 18, 2));
+    CHECK(costs(oa_room_cost(space, 73), 18, 2) && costs(oa_room_cost_by(space, 73, 1, 1), 18, 2));
+    CHECK(!oa_room_cost_by(space, 73, 1, 8).possible && !oa_room_cost_by(space, 72, 1, 31).possible);
+    CHECK(costs(oa_room_cost_by(space, 57, 16, 8), 18, 2) && !oa_room_cost_by(space, 58, 16, 8).possible);
+    CHECK(!oa_room_cost_by(space, 4294967295u, 2, 8).possible && !oa_room_cost_by(space, 1, 2147483648u, 8).possible);
+    CHECK(!oa_room_cost_by(space, 1, 1, 0).possible && !oa_room_cost_by(space, 1, 0, 1).possible && !oa_room_cost_by(space, 1, 3, 1).possible);
+    CHECK(!oa_make_room_by(space, 1, 1, 0, copy, &data).possible && !oa_make_room_by(space, 1, 3, 1, copy, &data).possible);
+    CHECK(!oa_make_room_by(space, 73, 1, 8, copy, &data).possible && costs(oa_make_room_by(space, 37, 16, 8, copy, &data), 0, 0));
+    CHECK(!data.moves && oa_refusal_aligned(space, 57, 16) == OA_FRAGMENTED);
+    CHECK(costs(oa_make_room_by(space, 57, 16, 8, copy, &data), 18, 2) && data.moves == 2 && data.last.offset == 16);
+    CHECK(!memcmp(data.bytes + 6, "aaaaaaaaaabbbbbbbb", 18) && oa_allocation_offset(space, a) == 6 && oa_allocation_offset(space, b) == 16);
+    CHECK(oa_block_count(space) == 4 && oa_would_begin(space, 57, 16) == 32 && oa_allocate_aligned(space, 57, 16).offset == 32);
+    /* 57 units at a multiple of 16 are taken, from 32 on: 11 are free behind them, and 8 before */
+    CHECK(oa_would_begin(space, 11, 1) == 89 && oa_would_begin(space, 8, 1) == 24 && oa_would_begin(space, 4, 4) == 24);
+    CHECK(oa_would_begin(space, 12, 1) == OA_NO_SPACE && oa_would_begin(space, 1, 0) == OA_NO_SPACE && oa_would_begin(space, 1, 12) == OA_NO_SPACE);
+    CHECK(oa_would_begin(space, 5, 4) == 24 && oa_would_begin(space, 6, 4) == 92 && oa_allocate_aligned(space, 6, 4).offset == 92);
+    oa_drop(space);
+    /* 12 free units, 8 live, 20 free, at the node limit: a run that leaves one block gives back a node; one of the two that an
+     * alignment may need is still missing, and by steps of 5 two units stay before the range */
+    space = oa_new(40, 4);
+    hole = oa_allocate(space, 12);
+    a = oa_allocate(space, 8);
+    CHECK(oa_free(space, hole) && oa_is_full(space) && oa_refusal(space, 8) == OA_NODES && costs(oa_room_cost(space, 8), 0, 0));
+    CHECK(!oa_room_cost_by(space, 8, 4, 4).possible && !oa_room_cost_by(space, 8, 1, 5).possible);
+    CHECK(costs(oa_make_room_by(space, 8, 1, 4, NULL, NULL), 8, 1) && oa_allocation_offset(space, a) == 0);
+    CHECK(oa_allocate(space, 8).offset == 8);
+    oa_drop(space);
+}
+
 static void nulls(void) {
     oa_allocation a = made(0, 0);
     oa_reset(NULL);
     oa_compact(NULL, copy, NULL);
-    CHECK(!oa_compact_by(NULL, 1, copy, NULL) && !oa_compact_by(NULL, 0, copy, NULL));
+    CHECK(!oa_compact_by(NULL, 1, copy, NULL) && !oa_compact_by(NULL, 0, copy, NULL) && !oa_compact_within(NULL, 1, 0, 1, 1, copy, NULL).done);
     CHECK(is_nothing(oa_allocate(NULL, 1)) && is_nothing(oa_allocate_aligned(NULL, 1, 1)));
     CHECK(is_nothing(oa_allocate_tight(NULL, 1)) && is_nothing(oa_allocate_tight_aligned(NULL, 1, 1)));
     CHECK(oa_refusal_tight(NULL, 0) == OA_BAD_CALL && oa_refusal_tight_aligned(NULL, 0, 1) == OA_BAD_CALL);
     CHECK(!oa_room_cost(NULL, 0).possible && !oa_make_room(NULL, 0, copy, NULL).possible);
+    CHECK(oa_would_begin(NULL, 0, 1) == OA_NO_SPACE && !oa_room_cost_by(NULL, 0, 1, 1).possible && !oa_make_room_by(NULL, 0, 1, 1, copy, NULL).possible);
     CHECK(is_nothing(oa_relocate_aligned(NULL, a, 1)));
     CHECK(!oa_retract(NULL, 0) && is_nothing(oa_relocate(NULL, a)) && is_nothing(oa_last_live(NULL)) && is_nothing(oa_first_live(NULL)));
     CHECK(is_nothing(oa_live_before(NULL, a)) && is_nothing(oa_live_after(NULL, a)));
@@ -487,12 +554,14 @@ int main(void) {
     grants();
     statistics();
     room();
+    room_by_steps();
     tight();
     aligned();
     resizes();
     reasons();
     compacts();
     compacts_by_steps();
+    compacts_within();
     in_pieces();
     to_a_multiple();
     from_the_end();

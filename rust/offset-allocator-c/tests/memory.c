@@ -99,6 +99,8 @@ int main(void) {
     oa_allocate(space, 20);
     oa_free(space, a);
     oa_extend(space, 50);
+    oa_make_room_by(space, 900, 1, 8, NULL, NULL);
+    oa_compact_within(space, 8, 0, 20, 1, NULL, NULL);
     oa_compact_by(space, 8, NULL, NULL);
     oa_compact(space, NULL, NULL);
     oa_storage_report_full(space);
@@ -122,6 +124,8 @@ int main(void) {
     oag_ticket t = oag_allocate(tickets, 20);
     oag_allocate_aligned(tickets, 20, 8);
     oag_free(tickets, t);
+    oag_make_room_by(tickets, 900, 1, 8, NULL, NULL);
+    oag_compact_within(tickets, 8, 0, 20, 1, NULL, NULL);
     oag_compact_by(tickets, 8, NULL, NULL);
     oag_compact(tickets, NULL, NULL);
     oag_storage_report_full(tickets);

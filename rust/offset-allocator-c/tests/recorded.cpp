@@ -45,11 +45,18 @@ static void byHand(const std::string &path) {
         int moves = 0;
         moved.compact([&](Move) { moves++; });
         check(moves == 1 && moved->offsetOf(other) == 0 && moved.extend(24), "compacted");
+        Ticket again = moved.allocate(1), aligned = moved.allocateAligned(32, 32);
+        check(moved.free(other) && !moved.relocateAligned(aligned, 3), "no power of two");
+        Ticket second = moved.relocateAligned(aligned, 16);
+        check(second && moved->offsetOf(second) == 0 && moved->offsetOf(aligned) == 64 && moved.free(second), "relocated");
+        auto step = [&](Move move) { check(move.from == move.to + 48, "a multiple of 16"); };
+        check(!moved.compactBy(0, step) && moved.compactBy(16, step), "compacted by 16");
+        check(moved->offsetOf(again) == 2 && moved->offsetOf(aligned) == 16, "both moved");
         moved.reset();
         check(!moved.isFailed() && moved->size() == 1024, "reset");
     }
     std::fclose(file);
-    check(read(path) == "space 1000 nodes 32 index 32\n# texture: rock albedo\nalloc 100\nalign 50 64\nshrink 1 40\ngrow 1 60\nalloc 5000\nfree 1\nfree 0\ncompact\nextend 24\nreset\n", "all lines");
+    check(read(path) == "space 1000 nodes 32 index 32\n# texture: rock albedo\nalloc 100\nalign 50 64\nshrink 1 40\ngrow 1 60\nalloc 5000\nfree 1\nfree 0\ncompact\nextend 24\nalloc 1\nalign 32 32\nfree 2\nrelocate 4 16\nfree 5\ncompact 16\nreset\n", "all lines");
     // no file, and a file that cannot be written
     Recorded<Allocator> none(nullptr, 100u, 8u);
     check(none.isFailed() && none.allocate(10).offset == 0, "without a file calls go on");
@@ -73,16 +80,22 @@ template <class A, class H> static void randomCalls(uint64_t seed, const std::st
     std::vector<H> live;
     {
         Recorded<A> heap(file, 100 + below(state, 5000), 4 + below(state, 60));
+        auto granted = [&](H found) {
+            if (detail::isGranted(found)) {
+                live.push_back(found);
+                std::fprintf(answers, "grant %u at ", ++grants);
+                for (Block block : heap->blocks())
+                    if (block.used && block.allocation.metadata == detail::nameOf(found)) std::fprintf(answers, "%u\n", block.offset);
+            } else std::fputs("none\n", answers);
+        };
         for (int i = 0; i < 500; i++) {
-            uint32_t kind = below(state, 16);
+            uint32_t kind = below(state, 18);
             if (kind < 8 || live.empty()) {
-                H found = kind < 2 ? heap.allocateAligned(below(state, 200), 1u << below(state, 7)) : heap.allocate(below(state, 300));
-                if (detail::isGranted(found)) {
-                    live.push_back(found);
-                    std::fprintf(answers, "grant %u at ", ++grants);
-                    for (Block block : heap->blocks())
-                        if (block.used && block.allocation.metadata == detail::nameOf(found)) std::fprintf(answers, "%u\n", block.offset);
-                } else std::fputs("none\n", answers);
+                granted(kind < 2 ? heap.allocateAligned(below(state, 200), 1u << below(state, 7)) : heap.allocate(below(state, 300)));
+            } else if (kind == 17) {
+                std::fputs(heap.compactBy(1 + below(state, 99), [](Move) {}) ? "compacted\n" : "none\n", answers);
+            } else if (kind == 16) {
+                granted(heap.relocateAligned(live[below(state, uint32_t(live.size()))], 1u << below(state, 7)));
             } else if (kind == 15) {
                 heap.compact([](Move) {});
                 std::fputs("compacted\n", answers);

@@ -280,6 +280,21 @@ static void beside() {
     CHECK(stepped.blockCount() == 5 && stepped.compactBy(16, [](Move) { CHECK(false); }) && !stepped.compactBy(0, [](Move) {}));
     CHECK(!Allocator(0, 1).compactBy(1, [](Move) {}));
     to.clear();
+    // the same a range at a time
+    Allocator bit = a.clone();
+    Progress far = bit.compactWithin(16, 0, 24, 8, [&](Move m) { to.push_back(m.to); CHECK(m.from == 24); });
+    CHECK(far.done && far.more && far.units == 24 && far.ranges == 1 && far.next == 72);
+    far = bit.compactWithin(16, far.next, 1, 1, [&](Move m) { to.push_back(m.to); CHECK(m.from == 72); });
+    CHECK(far.done && !far.more && far.ranges == 1 && to == (std::vector<uint32>{8, 40}) && !bit.compactWithin(0, 0, 1, 1, [](Move) {}).done);
+    to.clear();
+    // two steps of 8 units, and all 24 of the second hole: 40 are needed for 33 at a multiple of 8
+    Allocator aligned = a.clone();
+    CHECK(aligned.roomCostBy(33, 8, 16).ranges == 1 && !aligned.roomCostBy(33, 8, 0).possible && !aligned.roomCostBy(42, 1, 16).possible);
+    made = aligned.makeRoomBy(33, 8, 16, [&](Move m) { to.push_back(m.to); CHECK(m.from == 24 && m.size == 24); });
+    CHECK(made.possible && made.units == 24 && to == std::vector<uint32>{8} && aligned.wouldBegin(33, 8) == 32);
+    CHECK(aligned.allocateAligned(33, 8).offset == 32 && aligned.wouldBegin(33, 8) == Allocation::NO_SPACE && aligned.wouldBegin(1, 3) == Allocation::NO_SPACE);
+    CHECK(!aligned.makeRoomBy(1, 3, 1, [](Move) {}).possible);
+    to.clear();
     a.compact([&](Move m) { to.push_back(m.to); CHECK(m.allocation.offset == m.to && m.size == 24 && m.to < m.from); });
     CHECK(to == (std::vector<uint32>{0, 24}) && a.refusal(48) == Refusal::granted);
     CHECK(a.allocationOffset(live[1]) == 0 && a.allocationOffset(live[0]) == Allocation::NO_SPACE);
@@ -373,7 +388,11 @@ static void tickets() {
     CHECK(g.free(u));
     std::vector<uint32> to;
     CHECK(g.makeRoom(1, [&](Move m) { to.push_back(m.to); }).ranges == 0 && to.empty());
+    CHECK(g.roomCostBy(1, 1, 1).possible && g.makeRoomBy(1, 1, 1, [&](Move m) { to.push_back(m.to); }).ranges == 0 && to.empty());
+    CHECK(g.wouldBegin(1, 1) == 0 && g.wouldBegin(1, 0) == Allocation::NO_SPACE);
     // 32 units are three steps of 10, and 2
+    GuardedAllocator bit = g.clone();
+    CHECK(bit.compactWithin(10, 0, 1, 1, [&](Move m) { CHECK(m.to == 2); }).units == 10 && bit.offsetOf(v) == 2);
     GuardedAllocator stepped = g.clone();
     CHECK(stepped.compactBy(10, [&](Move m) { to.push_back(m.to); CHECK(m.from == 32 && m.size == 10); }));
     CHECK(to == (std::vector<uint32>{2}) && stepped.isLive(v) && stepped.offsetOf(v) == 2 && !stepped.compactBy(0, [](Move) {}));

@@ -85,6 +85,17 @@ static void by_steps(void) {
     CHECK(oag_offset_of(space, mesh) == 44 && oag_size_of(space, mesh) == 100 && oag_allocate(space, 44).serial == 3);
     CHECK(!oag_compact_by(NULL, 1, count, &moves) && moves == 1);
     oag_drop(space);
+    /* the same within a budget */
+    space = oag_new(1000, 16, 9);
+    hole = oag_allocate(space, 300), mesh = oag_allocate(space, 100);
+    oag_ticket next = oag_allocate(space, 50);
+    CHECK(oag_free(space, hole) && !oag_compact_within(space, 0, 0, 100, 1, count, &moves).done && !oag_compact_within(NULL, 1, 0, 1, 1, count, &moves).done);
+    oa_progress far = oag_compact_within(space, 256, 0, 149, 8, count, &moves);
+    CHECK(far.done && far.more && far.units == 100 && far.ranges == 1 && far.next == 400 && moves == 2);
+    CHECK(oag_offset_of(space, mesh) == 44 && oag_offset_of(space, next) == 400);
+    far = oag_compact_within(space, 256, far.next, 49, 0, NULL, NULL);
+    CHECK(far.done && !far.more && far.units == 50 && far.next == 0 && oag_offset_of(space, next) == 144);
+    oag_drop(space);
     /* no node is left for a free block at the end */
     space = oag_new(20, 4, 9);
     hole = oag_allocate(space, 12);
@@ -92,6 +103,23 @@ static void by_steps(void) {
     oag_free(space, hole);
     oag_allocate(space, 5);
     CHECK(!oag_compact_by(space, 4, count, &moves) && oag_offset_of(space, mesh) == 12 && oag_compact_by(space, 8, NULL, NULL));
+    oag_drop(space);
+}
+
+/* 300 free units, 100 live, 600 free: a step of 256 leaves 44, and 856 are together, the class of 832 */
+static void room_by_steps(void) {
+    oag_allocator *space = oag_new(1000, 16, 9);
+    int moves = 0;
+    oag_ticket hole = oag_allocate(space, 300), mesh = oag_allocate(space, 100);
+    CHECK(oag_free(space, hole) && !oag_room_cost_by(space, 833, 1, 256).possible && !oag_room_cost_by(space, 700, 256, 256).possible);
+    oa_room room = oag_room_cost_by(space, 700, 64, 256);
+    CHECK(room.possible && room.units == 100 && room.ranges == 1 && !oag_room_cost_by(space, 700, 64, 0).possible);
+    CHECK(!oag_make_room_by(space, 700, 24, 256, count, &moves).possible && !oag_make_room_by(space, 700, 64, 0, count, &moves).possible);
+    room = oag_make_room_by(space, 700, 64, 256, count, &moves);
+    CHECK(room.possible && room.ranges == 1 && moves == 1 && oag_offset_of(space, mesh) == 44);
+    CHECK(oag_would_begin(space, 700, 64) == 192 && oag_offset_of(space, oag_allocate_aligned(space, 700, 64)) == 192);
+    CHECK(oag_would_begin(space, 700, 64) == OA_NO_SPACE && oag_would_begin(space, 1, 3) == OA_NO_SPACE && oag_would_begin(NULL, 1, 1) == OA_NO_SPACE);
+    CHECK(!oag_room_cost_by(NULL, 0, 1, 1).possible && !oag_make_room_by(NULL, 0, 1, 1, count, &moves).possible && moves == 1);
     oag_drop(space);
 }
 
@@ -290,6 +318,7 @@ int main(void) {
     stale();
     to_a_multiple();
     by_steps();
+    room_by_steps();
     from_the_end();
     states();
     tight();

@@ -212,6 +212,31 @@ impl<T: Tables> GuardedOf<T> {
         }
     }
 
+    /// Where the range would begin that `allocate_aligned(size, align)` would grant now, as
+    /// `Allocator::would_begin` says, or `None` exactly where it would be refused. Nothing is taken.
+    ///
+    /// # Panics
+    ///
+    /// It panics unless `align` is a power of two.
+    ///
+    /// ```
+    /// # use offset_allocator_guarded::*;
+    /// # let alloc = Global;
+    /// let mut guarded = Guarded::<u32>::new(alloc, 1000, 1)?;
+    /// guarded.allocate(300);
+    /// assert_eq!(guarded.would_begin(100, 256), Some(512));
+    /// assert_eq!(guarded.allocate_aligned(100, 256).unwrap().offset, 512);
+    /// # Ok::<(), AllocError>(())
+    /// ```
+    #[track_caller]
+    pub fn would_begin(&self, size: u32, align: u32) -> Option<u32> {
+        assert!(align.is_power_of_two(), "align must be a power of two");
+        if self.serials.is_spent() {
+            return None;
+        }
+        self.space.would_begin(size, align)
+    }
+
     /// Why `allocate(size)` would be refused now, or `None` exactly where it would be granted.
     ///
     /// ```

@@ -16,7 +16,7 @@ pub fn emptiest_counted<T: Tables>(heaps: &HeapsOf<T>, count: &mut Accesses) -> 
 }
 
 impl<T: Tables> HeapsOf<T> {
-    // The first heap that takes units of another one, in which so many are live.
+    // The first heap that takes a range of the heap `own`, which has `live` live units.
     fn taker(&mut self, own: u32, units: u64, align: u32, live: u32) -> Option<u32> {
         let from = self.first_fit(units, align)?;
         let numbers = self.limits.most + self.limits.most_larger;

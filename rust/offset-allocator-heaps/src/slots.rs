@@ -169,7 +169,7 @@ impl<T: Tables> Slots<T> {
         }
     }
 
-    // Whether the heap of a number takes units of another one, in which so many are live.
+    // Whether the heap of a number takes a range of the heap `own`, which has `live` live units.
     fn takes(
         &self,
         number: u32,
@@ -188,7 +188,7 @@ impl<T: Tables> Slots<T> {
         }
     }
 
-    /// The first heap, from a number on, that takes units of another one, in which so many are live.
+    /// The first heap, from a number on, that takes a range of the heap `own`, which has `live` live units.
     pub(crate) fn taker(
         &self,
         from: u32,

@@ -57,6 +57,17 @@ impl<T: Tables, W: Write> Recorded<AllocatorOf<T>, W> {
         self.space.grow_in_place(allocation, size)
     }
 
+    /// `AllocatorOf::relocate_aligned`: `align` has to be a power of two. For another one it panics, and writes nothing; for
+    /// a handle that is not live, `relocate 0` is written, and it panics.
+    #[track_caller]
+    pub fn relocate_aligned(&mut self, allocation: Allocation<T::Index>, align: u32) -> Option<Allocation<T::Index>> {
+        assert!(align.is_power_of_two(), "align must be a power of two");
+        self.tape.write(format_args!("relocate {} {align}", self.number(allocation)));
+        let found = self.space.relocate_aligned(allocation, align)?;
+        self.tape.grant(found.to_parts().1);
+        Some(found)
+    }
+
     /// `AllocatorOf::extend`.
     pub fn extend(&mut self, more: u32) -> bool {
         self.tape.write(format_args!("extend {more}"));
@@ -67,6 +78,14 @@ impl<T: Tables, W: Write> Recorded<AllocatorOf<T>, W> {
     pub fn compact<F: FnMut(Move<T::Index>)>(&mut self, moved: &mut F) {
         self.tape.write(format_args!("compact"));
         self.space.compact(moved);
+    }
+
+    /// `AllocatorOf::compact_by`: `step` has to be at least 1. For 0 it panics, and writes nothing.
+    #[track_caller]
+    pub fn compact_by<F: FnMut(Move<T::Index>)>(&mut self, step: u32, moved: &mut F) -> bool {
+        assert!(step >= 1, "step must be at least 1");
+        self.tape.write(format_args!("compact {step}"));
+        self.space.compact_by(step, moved)
     }
 
     /// `AllocatorOf::reset`.

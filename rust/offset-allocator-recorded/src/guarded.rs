@@ -54,6 +54,17 @@ impl<T: Tables, W: Write> Recorded<GuardedOf<T>, W> {
         self.space.grow_in_place(ticket, size)
     }
 
+    /// `GuardedOf::relocate_aligned`: `align` has to be a power of two. For another one it panics, and writes nothing; for a
+    /// ticket that is not live, `relocate 0` is written.
+    #[track_caller]
+    pub fn relocate_aligned(&mut self, ticket: Ticket, align: u32) -> Option<Ticket> {
+        assert!(align.is_power_of_two(), "align must be a power of two");
+        self.tape.write(format_args!("relocate {} {align}", self.number(ticket)));
+        let found = self.space.relocate_aligned(ticket, align)?;
+        self.tape.grant(found.name);
+        Some(found)
+    }
+
     /// `GuardedOf::extend`.
     pub fn extend(&mut self, more: u32) -> bool {
         self.tape.write(format_args!("extend {more}"));
@@ -64,6 +75,14 @@ impl<T: Tables, W: Write> Recorded<GuardedOf<T>, W> {
     pub fn compact<F: FnMut(Move<T::Index>)>(&mut self, moved: &mut F) {
         self.tape.write(format_args!("compact"));
         self.space.compact(moved);
+    }
+
+    /// `GuardedOf::compact_by`: `step` has to be at least 1. For 0 it panics, and writes nothing.
+    #[track_caller]
+    pub fn compact_by<F: FnMut(Move<T::Index>)>(&mut self, step: u32, moved: &mut F) -> bool {
+        assert!(step >= 1, "step must be at least 1");
+        self.tape.write(format_args!("compact {step}"));
+        self.space.compact_by(step, moved)
     }
 
     /// `GuardedOf::reset`.

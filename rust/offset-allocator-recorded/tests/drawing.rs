@@ -131,6 +131,27 @@ fn calls_that_scripts_lack() {
 }
 
 #[test]
+fn moves_by_steps_and_to_an_alignment() {
+    // 8 free units keep 3; then 11 units hold 4 from a multiple of 8 on, before grant 3, and after that no block before it does
+    let (lives, refused) = rows(
+        "space 50 nodes 16 index 32\nalloc 7\nalign 8 8\nalloc 4\nfree 1\ncompact 5\nalloc 20\nfree 2\nrelocate 3 8\nrelocate 3 8\n",
+    );
+    assert_eq!(
+        lives,
+        [
+            (1, 0, 7, 0, 3, 3),
+            (2, 8, 8, 1, 4, 5),
+            (3, 16, 4, 2, 4, 7),
+            (2, 3, 8, 4, 6, 5),
+            (3, 11, 4, 4, 9, 7),
+            (4, 15, 20, 5, 9, 4),
+            (5, 0, 4, 7, 9, 2),
+        ]
+    );
+    assert_eq!(refused, []);
+}
+
+#[test]
 fn refused_for_lack_of_nodes() {
     // used 20, used 5, free 15, used 20: as many blocks as there may be
     let text = "space 60 nodes 5 index 16\nalloc 20\nalloc 20\nalloc 20\nfree 2\nalloc 5\nextend 5\nshrink 3 10\n\

@@ -100,9 +100,9 @@ fn the_commands_that_scripts_lack() {
     let text = b"space 100 nodes 16 index 32\nalloc 10\nalloc 20\nshrink 1 5\nshrink 1 6\ngrow 1 10\ngrow 1 11\nfree 1\ncompact\ngrow 2 100\nshrink 9 1\ngrow 1 1\n";
     let expected = "grant 1 at 0\ngrant 2 at 10\nshrunk\nnone\ngrown\nnone\nfreed\ncompacted\ngrown\ngone\ngone\n";
     assert_eq!(String::from_utf8(ours(text).unwrap()).unwrap(), expected);
-    for line in ["shrink 1", "grow 1", "compact 1", "shrink 1 2 3", "grow x 1", "shrink 1 4294967296", "shrink  1 2", "tight", "tight 1 3",
-        "tight 1 2 4", "room", "room 1 2", "relocate", "relocate -1", "retract x", "first 1", "last 1", "before", "after 1 2", "offset",
-        "cost", "why", "why 1", "why alloc", "why align 1", "why align 1 3", "why tight 1 0", "why tight 1 2 4", "why free 1"] {
+    for line in ["shrink 1", "grow 1", "compact 0", "compact 1 2", "shrink 1 2 3", "grow x 1", "shrink 1 4294967296", "shrink  1 2", "tight", "tight 1 3",
+        "tight 1 2 4", "room", "room 1 2", "relocate", "relocate -1", "relocate 1 0", "relocate 1 3", "relocate 1 2 4", "retract x", "first 1", "last 1", "before", "after 1 2", "offset",
+        "where", "where 1 0", "where 1 3", "where 1 2 4", "cost", "cost 1 2", "cost 1 3 1", "cost 1 0 1", "cost 1 2 0", "why", "why 1", "why alloc", "why align 1", "why align 1 3", "why tight 1 0", "why tight 1 2 4", "why free 1"] {
         let text = format!("space 100 nodes 16 index 32\n{line}\n");
         assert_eq!(ours(text.as_bytes()).unwrap_err().to_string(), "line 2: bad command", "{line}");
     }
@@ -138,6 +138,13 @@ const ROWS: &[(&str, &str)] = &[
     ("why tight 40", "granted"),
     ("why tight 41", "no free block is large enough until the space is compacted"),
     ("why tight 8 8", "granted"),
+    ("where 10", "offset 0"),
+    ("where 11", "offset 60"),
+    ("where 40 1", "offset 60"),
+    ("where 41", "none"),
+    // of 40 units at 60, since 10 need not hold 8 from a multiple of 8 on
+    ("where 8 8", "offset 64"),
+    ("where 10 64", "none"),
     ("extend 2", "extended"),
     // 42 units at the end
     ("alloc 41", "none"),
@@ -152,6 +159,16 @@ const ROWS: &[(&str, &str)] = &[
     ("cost 30", "ranges 0 units 0"),
     ("cost 40", "ranges 1 units 20"),
     ("cost 41", "none"),
+    // by steps of 8 the first 10 give up 8, with the 30 at the end 38; by steps of 5 all 10
+    ("cost 30 1 8", "ranges 0 units 0"),
+    ("cost 36 1 8", "ranges 1 units 20"),
+    ("cost 36 1 16", "none"),
+    // rounded up to 40
+    ("cost 37 1 8", "none"),
+    ("cost 40 1 5", "ranges 1 units 20"),
+    // 40 units hold it wherever they begin
+    ("cost 37 4 5", "ranges 1 units 20"),
+    ("cost 37 4 8", "none"),
     ("room 41", "none"),
     ("offset 2", "offset 10"),
     ("room 40", "ranges 1 units 20"),
@@ -170,7 +187,37 @@ const ROWS: &[(&str, &str)] = &[
     ("free 6", "freed"),
     ("first", "none"),
     ("report", "free 50 largest 48"),
+    ("alloc 7", "grant 7 at 0"),
+    ("align 8 8", "grant 8 at 8"),
+    ("alloc 4", "grant 9 at 16"),
+    ("free 7", "freed"),
+    // free: 8 at 0, 30 at 20; nothing moves by 16
+    ("compact 16", "compacted"),
+    ("offset 8", "offset 8"),
+    ("compact 5", "compacted"),
+    // 8 units keep 3
+    ("offset 8", "offset 3"),
+    ("offset 9", "offset 11"),
+    ("compact 1", "compacted"),
+    ("offset 9", "offset 8"),
+    // free: 38 at 12
+    ("alloc 20", "grant 10 at 12"),
+    ("free 8", "freed"),
+    // free: 8 at 0, 18 at 32; 4 units from a multiple of 4 on need 7
+    ("relocate 9 4", "grant 11 at 0"),
+    ("relocate 9 4", "none"),
+    ("relocate 10 16", "none"),
+    ("relocate 8 4", "gone"),
 ];
+
+#[test]
+fn a_compaction_by_steps_can_be_refused() {
+    // four blocks at most, and there are four: free 10, grant 2, free 5, grant 3
+    let text = b"space 30 nodes 5 index 16\nalloc 10\nalloc 10\nalloc 10\nfree 1\nshrink 2 5\ncompact 11\ncompact 10\noffset 2\n\
+        free 3\ncompact 10\nfirst\n";
+    let expected = "grant 1 at 0\ngrant 2 at 10\ngrant 3 at 20\nfreed\nshrunk\ncompacted\nnone\noffset 10\nfreed\ncompacted\nrange 2 at 0\n";
+    assert_eq!(String::from_utf8(ours(text).unwrap()).unwrap(), expected);
+}
 
 #[test]
 fn each_call_has_a_line() {

@@ -70,6 +70,14 @@ fn each_call_is_a_line() {
     heap.compact(&mut |_| moves += 1);
     assert_eq!((moves, heap.allocation_offset(other)), (1, Some(0)));
     let again = heap.name("two\nlines\r").allocate(1).unwrap();
+    let aligned = heap.allocate_aligned(32, 32).unwrap();
+    heap.free(other);
+    let second = heap.relocate_aligned(aligned, 16).unwrap();
+    assert_eq!((aligned.offset, second.offset), (64, 0));
+    heap.free(second);
+    let mut moved = Vec::new();
+    assert!(heap.compact_by(16, &mut |it| moved.push((it.from, it.to))));
+    assert_eq!(moved, [(50, 2), (64, 16)]);
     heap.free(again);
     heap.reset();
     // questions are the allocator's own, and are not written
@@ -79,10 +87,10 @@ fn each_call_is_a_line() {
     assert_eq!(space.size(), 1024);
     assert!(out.is_ok());
     let expected = "space 1000 nodes 32 index 16\n# texture: rock_albedo\nalloc 100\nalign 50 64\nshrink 1 40\ngrow 1 60\n\
-        alloc 5000\nfree 1\nextend 24\ncompact\n# two lines \nalloc 1\nfree 3\nreset\n";
+        alloc 5000\nfree 1\nextend 24\ncompact\n# two lines \nalloc 1\nalign 32 32\nfree 2\nrelocate 4 16\nfree 5\ncompact 16\nfree 3\nreset\n";
     assert_eq!(seen.text(), expected);
     assert_eq!(answers(expected), ["grant 1 at 0", "grant 2 at 128", "shrunk", "grown", "none", "freed", "extended", "compacted",
-        "grant 3 at 50", "freed", "reset"]);
+        "grant 3 at 50", "grant 4 at 64", "freed", "grant 5 at 0", "freed", "compacted", "freed", "reset"]);
 }
 
 #[test]
@@ -97,11 +105,14 @@ fn tickets_that_are_not_live_have_no_number() {
     assert!(!heap.free(first));
     assert_eq!(heap.shrink(first, 1), None);
     assert_eq!(heap.grow_in_place(first, 20), None);
+    assert_eq!(heap.relocate_aligned(first, 4), None);
+    assert_eq!(heap.relocate_aligned(second, 4), None);
+    assert!(heap.compact_by(4, &mut |_| ()));
     assert_eq!(heap.grow_in_place(second, 20), Some(true));
     assert!(heap.free(second));
-    let text = "space 1000 nodes 32 index 32\nalloc 10\nfree 1\nalloc 10\nfree 0\nshrink 0 1\ngrow 0 20\ngrow 2 20\nfree 2\n";
+    let text = "space 1000 nodes 32 index 32\nalloc 10\nfree 1\nalloc 10\nfree 0\nshrink 0 1\ngrow 0 20\nrelocate 0 4\nrelocate 2 4\ncompact 4\ngrow 2 20\nfree 2\n";
     assert_eq!(seen.text(), text);
-    assert_eq!(answers(text), ["grant 1 at 0", "freed", "grant 2 at 0", "gone", "gone", "gone", "grown", "freed"]);
+    assert_eq!(answers(text), ["grant 1 at 0", "freed", "grant 2 at 0", "gone", "gone", "gone", "gone", "none", "compacted", "grown", "freed"]);
 }
 
 #[test]
@@ -120,6 +131,8 @@ fn a_line_is_flushed_before_its_call() {
     assert!(written.is_flushed());
     // a call that could not be read again is not written
     assert!(catch_unwind(AssertUnwindSafe(|| heap.allocate_aligned(10, 3))).is_err());
+    assert!(catch_unwind(AssertUnwindSafe(|| heap.relocate_aligned(range, 3))).is_err());
+    assert!(catch_unwind(AssertUnwindSafe(|| heap.compact_by(0, &mut |_| ()))).is_err());
     assert!(written.text().ends_with("free 0\n"));
 }
 
@@ -189,7 +202,7 @@ fn random_calls<T: Tables>(seed: u64) {
                 format!("grant {grants} at {}", handle.offset)
             }
         };
-        expected.push(match random.below(20) {
+        expected.push(match random.below(22) {
             0..=7 => granted(heap.allocate(random.below(size / 8)), &mut live, &mut grants),
             8..=9 => granted(heap.allocate_aligned(random.below(size / 8), 1 << random.below(8)), &mut live, &mut grants),
             10..=14 if !live.is_empty() => {
@@ -208,6 +221,11 @@ fn random_calls<T: Tables>(seed: u64) {
             18 => {
                 heap.compact(&mut |_| ());
                 "compacted".to_owned()
+            }
+            20 => if heap.compact_by(1 << random.below(7), &mut |_| ()) { "compacted" } else { "none" }.to_owned(),
+            21 if !live.is_empty() => {
+                let handle = live[random.below(live.len() as u32) as usize];
+                granted(heap.relocate_aligned(handle, 1 << random.below(6)), &mut live, &mut grants)
             }
             19 if random.below(8) == 0 => {
                 heap.reset();
@@ -241,7 +259,7 @@ fn random_tickets<T: Tables>(seed: u64) {
             Some(false) => "none".to_owned(),
             Some(true) => word.to_owned(),
         };
-        expected.push(match (random.below(5), of(&mut random, &tickets)) {
+        expected.push(match (random.below(7), of(&mut random, &tickets)) {
             (0..=1, _) | (_, None) => match heap.allocate(random.below(400)) {
                 None => "none".to_owned(),
                 Some(ticket) => {
@@ -251,6 +269,17 @@ fn random_tickets<T: Tables>(seed: u64) {
             },
             (2, Some(ticket)) => if heap.free(ticket) { "freed" } else { "gone" }.to_owned(),
             (3, Some(ticket)) => done(heap.shrink(ticket, random.below(300)), "shrunk"),
+            (5, _) => done(Some(heap.compact_by(random.below(99) + 1, &mut |_| ())), "compacted"),
+            (6, Some(ticket)) => {
+                let is_live = heap.is_live(ticket);
+                match heap.relocate_aligned(ticket, 1 << random.below(6)) {
+                    None => if is_live { "none" } else { "gone" }.to_owned(),
+                    Some(second) => {
+                        tickets.push(second);
+                        format!("grant {} at {}", tickets.len(), second.offset)
+                    }
+                }
+            }
             (_, Some(ticket)) => done(heap.grow_in_place(ticket, random.below(600)), "grown"),
         });
     }

@@ -2,10 +2,10 @@
 
 //! The reply of a guarded allocator to one call, with the ticket that the call passes.
 
-use crate::calls::{Call, Reply};
+use crate::calls::{Call, Reply, begins};
 use crate::ending_desk;
 use crate::playing::resized;
-use crate::sliding::{compact_guarded, make_room_guarded};
+use crate::sliding::{compact_by_guarded, compact_guarded, make_room_guarded};
 use offset_allocator::Tables;
 use offset_guarded::{GuardedOf, Ticket};
 use offset_script::{Answer, Command, full_answer};
@@ -166,6 +166,7 @@ pub(crate) fn reply<T: Tables>(
         Call::Shrink(_, size) => Ok(shrink(&mut desk.space, ticket, size)),
         Call::Grow(_, size) => Ok(grow(&mut desk.space, ticket, size)),
         Call::Compact => compact_guarded(alloc, desk),
+        Call::CompactBy(step) => compact_by_guarded(alloc, desk, step),
         Call::Offset(_) => Ok(offset_of(&desk.space, ticket)),
         Call::Refusal(size) => Ok(Reply::Refusal(desk.space.allocator().refusal(size))),
         Call::RefusalAligned(size, align) => Ok(Reply::Refusal(
@@ -177,9 +178,16 @@ pub(crate) fn reply<T: Tables>(
         Call::RefusalTightAligned(size, align) => Ok(Reply::Refusal(
             desk.space.allocator().refusal_tight_aligned(size, align),
         )),
+        Call::WouldBegin(size, align) => Ok(begins(
+            desk.space.allocator().would_begin(size, align),
+        )),
         Call::MakeRoom(size) => make_room_guarded(alloc, desk, size),
         Call::RoomCost(size) => Ok(Reply::RoomCost(desk.space.allocator().room_cost(size))),
+        Call::RoomCostBy(size, align, step) => Ok(Reply::RoomCost(
+            desk.space.allocator().room_cost_by(size, align, step),
+        )),
         Call::Relocate(_) => ending_desk::relocate(desk, ticket),
+        Call::RelocateAligned(_, align) => ending_desk::relocate_aligned(desk, ticket, align),
         Call::Retract(less) => Ok(ending_desk::retract(&mut desk.space, less)),
         Call::First => Ok(ending_desk::first_live(desk)),
         Call::Last => Ok(ending_desk::last_live(desk)),

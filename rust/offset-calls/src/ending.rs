@@ -17,9 +17,23 @@ pub(crate) fn relocate<T: Tables>(
     let Some(handle) = player.handle(number) else {
         return Ok(Reply::Answer(Answer::Gone));
     };
-    player.handles.reserve(1)?;
+    player.handles.reserve(1)?; // where this is refused, nothing has changed
     let granted = player.space.relocate(handle);
     Ok(Reply::Answer(player.keep(granted)?))
+}
+
+// The reply to `RelocateAligned`. The handle of a grant is kept.
+pub(crate) fn relocate_aligned<T: Tables>(
+    player: &mut PlayerOf<T>,
+    number: u32,
+    align: u32,
+) -> Result<Reply, AllocError> {
+    let Some(handle) = player.handle(number) else {
+        return Ok(Reply::Answer(Answer::Gone));
+    };
+    player.handles.reserve(1)?;
+    let second = player.space.relocate_aligned(handle, align);
+    Ok(Reply::Answer(player.keep(second)?))
 }
 
 // The reply to `Retract`.

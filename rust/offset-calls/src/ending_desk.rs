@@ -25,6 +25,22 @@ pub(crate) fn relocate<T: Tables>(
     Ok(Reply::Answer(keep(&mut desk.tickets, granted)?))
 }
 
+// The reply to `RelocateAligned`. The ticket of a grant is kept.
+pub(crate) fn relocate_aligned<T: Tables>(
+    desk: &mut Desk<T>,
+    ticket: Option<Ticket>,
+    align: u32,
+) -> Result<Reply, AllocError> {
+    let Some(ticket) = ticket else {
+        return Ok(Reply::Answer(Answer::Gone));
+    };
+    if !desk.space.is_live(ticket) {
+        return Ok(Reply::Answer(Answer::Gone));
+    }
+    let granted = desk.space.relocate_aligned(ticket, align);
+    Ok(Reply::Answer(keep(&mut desk.tickets, granted)?))
+}
+
 // The reply to `Retract`.
 pub(crate) fn retract<T: Tables>(space: &mut GuardedOf<T>, less: u32) -> Reply {
     resized(space.retract(less))

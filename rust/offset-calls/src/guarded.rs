@@ -38,6 +38,7 @@ fn number_in(call: &Call) -> u32 {
         Call::Grow(number, _) => *number,
         Call::Offset(number) => *number,
         Call::Relocate(number) => *number,
+        Call::RelocateAligned(number, _) => *number,
         Call::Before(number) => *number,
         Call::After(number) => *number,
         _ => 0,
@@ -67,7 +68,8 @@ fn passed(tickets: &[Ticket], call: &TicketCall) -> Option<Ticket> {
 /// returns the replies in order, one for each, and the tickets of the grants.
 ///
 /// The calls may pass any tickets: live ones, those of ranges that were freed or reset, altered ones, random
-/// numbers. The limit has to be 2 to `T::Index::MAX - 2`, and each alignment a power of two.
+/// numbers. The limit has to be 2 to `T::Index::MAX - 2`, each alignment a power of two, and each step at
+/// least 1.
 ///
 /// # Errors
 ///

@@ -7,7 +7,7 @@ use crate::desk::Desk;
 use crate::numbers::Numbers;
 use offset_allocator::{Allocation, AllocatorOf, Move, NodeIndex, RoomCost, Tables};
 use offset_guarded::GuardedOf;
-use offset_script::PlayerOf;
+use offset_script::{Answer, PlayerOf};
 use crate::memory::Vec;
 use crate::memory::{AllocError, Global};
 
@@ -48,6 +48,15 @@ fn compacted<NI: NodeIndex, T: Tables<Index = NI>>(
     seen: &mut Slides<NI>,
 ) {
     space.compact(&mut |range: Move<NI>| seen.add(range));
+}
+
+// Compacts a space by whole steps, and collects the moves.
+fn compacted_by<NI: NodeIndex, T: Tables<Index = NI>>(
+    space: &mut AllocatorOf<T>,
+    step: u32,
+    seen: &mut Slides<NI>,
+) -> bool {
+    space.compact_by(step, &mut |range: Move<NI>| seen.add(range))
 }
 
 // Makes room in a space, and collects the moves.
@@ -91,6 +100,31 @@ pub(crate) fn compact<T: Tables>(
     Ok(Reply::Compacted(numbered(alloc, numbers, &seen.found)?))
 }
 
+// The reply to a compaction by whole steps, which has these moves where it is done.
+fn by_steps(done: bool, moves: Vec<Moved>) -> Reply {
+    if done {
+        Reply::Compacted(moves)
+    } else {
+        Reply::Answer(Answer::Refused)
+    }
+}
+
+// The reply to `CompactBy`.
+pub(crate) fn compact_by<T: Tables>(
+    alloc: Global,
+    player: &mut PlayerOf<T>,
+    numbers: &mut Numbers,
+    step: u32,
+) -> Result<Reply, AllocError> {
+    numbers.read(&player.handles, player.space.node_count())?;
+    let mut seen = Slides::new(alloc);
+    let done = compacted_by(&mut player.space, step, &mut seen);
+    if seen.is_refused {
+        return Err(AllocError);
+    }
+    Ok(by_steps(done, numbered(alloc, numbers, &seen.found)?))
+}
+
 // The reply to `MakeRoom`.
 pub(crate) fn make_room<T: Tables>(
     alloc: Global,
@@ -113,6 +147,15 @@ fn compacted_guarded<NI: NodeIndex, T: Tables<Index = NI>>(
     seen: &mut Slides<NI>,
 ) {
     space.compact(&mut |range: Move<NI>| seen.add(range));
+}
+
+// Compacts a guarded space by whole steps, and collects the moves, as `compacted_by` does.
+fn compacted_by_guarded<NI: NodeIndex, T: Tables<Index = NI>>(
+    space: &mut GuardedOf<T>,
+    step: u32,
+    seen: &mut Slides<NI>,
+) -> bool {
+    space.compact_by(step, &mut |it: Move<NI>| seen.add(it))
 }
 
 // Makes room in a guarded space, and collects the moves, as `collect` does.
@@ -154,6 +197,20 @@ pub(crate) fn compact_guarded<T: Tables>(
         return Err(AllocError);
     }
     Ok(Reply::Compacted(with_serials(alloc, &desk.space, &seen.found)?))
+}
+
+// The reply to `CompactBy` of a guarded space.
+pub(crate) fn compact_by_guarded<T: Tables>(
+    alloc: Global,
+    desk: &mut Desk<T>,
+    step: u32,
+) -> Result<Reply, AllocError> {
+    let mut seen = Slides::new(alloc);
+    let done = compacted_by_guarded(&mut desk.space, step, &mut seen);
+    if seen.is_refused {
+        return Err(AllocError);
+    }
+    Ok(by_steps(done, with_serials(alloc, &desk.space, &seen.found)?))
 }
 
 // The reply to `MakeRoom` of a guarded space.

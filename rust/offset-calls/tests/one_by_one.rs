@@ -12,7 +12,7 @@ fn below(state: &mut u64, n: u32) -> u32 {
 
 fn random_call(state: &mut u64) -> Call {
     let (n, k, align) = (below(state, 60), below(state, 30), 1 << below(state, 6));
-    match below(state, 34) {
+    match below(state, 38) {
         0..=5 => Call::Command(Command::Alloc(n)),
         6 => Call::Command(Command::Align(n, align)),
         7..=11 => Call::Command(Command::Free(k)),
@@ -38,6 +38,10 @@ fn random_call(state: &mut u64) -> Call {
         30 => Call::First,
         31 => Call::Last,
         32 => Call::Before(k),
+        33 => Call::CompactBy(n + 1),
+        34 => Call::RelocateAligned(k, align),
+        35 => Call::RoomCostBy(3 * n, align, k + 1),
+        36 => Call::WouldBegin(n, align),
         _ => Call::After(k),
     }
 }
@@ -70,6 +74,13 @@ fn conditions() {
     let start = || CallPlayer::<u16>::start(Global, 100, 16).unwrap();
     assert!(catch_unwind(|| start().call(Global, Call::TightAligned(1, 2))).is_ok());
     assert!(catch_unwind(|| start().call(Global, Call::TightAligned(1, 3))).is_err());
+    assert!(catch_unwind(|| start().call(Global, Call::RelocateAligned(1, 3))).is_err());
+    assert!(catch_unwind(|| start().call(Global, Call::WouldBegin(1, 3))).is_err());
+    assert!(catch_unwind(|| start().call(Global, Call::RoomCostBy(1, 1, 0))).is_err());
+    assert!(catch_unwind(|| start().call(Global, Call::RoomCostBy(1, 3, 1))).is_err());
+    assert!(catch_unwind(|| start().call(Global, Call::RoomCostBy(1, 1, 1))).is_ok());
+    assert!(catch_unwind(|| start().call(Global, Call::CompactBy(0))).is_err());
+    assert!(catch_unwind(|| start().call(Global, Call::CompactBy(1))).is_ok());
     assert!(catch_unwind(|| CallPlayer::<u16>::start(Global, 100, 1)).is_err());
     assert!(catch_unwind(|| CallPlayer::<u16>::start(Global, 100, 65534)).is_err());
     assert!(CallPlayer::<u16>::start(Global, 100, 65533).is_ok());

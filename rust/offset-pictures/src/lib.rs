@@ -5,7 +5,6 @@
 #![doc = include_str!("../README.md")]
 #![forbid(unsafe_code)]
 #![expect(clippy::collapsible_match)] // an arm of a `match` and a test within it have a name each in the proof
-#![expect(clippy::needless_range_loop)] // the proof speaks of the numbers of calls
 
 pub use offset_allocator_memory as memory;
 pub use offset_allocator_memory::{AllocError, Global};

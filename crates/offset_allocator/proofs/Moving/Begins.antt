@@ -3,7 +3,7 @@ use Rattle.offset_allocator.proofs.{Sound.Fields, Sound.AreSound, Sound.shown, C
 use Rattle.offset_allocator.proofs.Served.{one_aligns, aligns_counted, aligned_serves, grants, multiple}
 use Rattle.offset_allocator.proofs.{Refusals.fit_small, Taken.HasFit, Views.ViewPlaces.place_at, Ranges.live_inside}
 use Rattle.offset_allocator.proofs.Common.{◌-◌, ◌%◌, ◌++◌, Bool, true, false, option_map, option_and_then, unwrap_or, if◌then◌else◌, units, place_of, padding_to, blocks_needed, units_needed}
-use Rattle.offset_allocator.proofs.Common.{Block, Place, Splits, HasRoomFor, max_size}
+use Rattle.offset_allocator.proofs.Common.{Block, Place, Splits, HasRoomFor, CanGrant, max_size}
 use Rattle.offset_allocator.proofs.Common.{◌≡◌, ℕ, ◌+◌, ◌<◌, ◌≤◌, List, [], ◌∷◌, length, Option, None, Some, IfSome, refl, sym, ap, subst, ◌∙◌, arith, inl, inr, cases_lt, up, down, Node, node, View}
 use Rattle.offset_allocator.proofs.Common.{Handle, HasPlace, IsChain, IsFoundFrom, IsLinked, first_of, bin_at, bins_in, Allocates, Aligns, IsWellFormed, Range, range_of}
 use Rattle.offset_allocator.specs.{Relations.SameState, Moving.Relocating.WouldBegin, Moving.Relocating.offset_of, Moving.Relocating.Relocates, Moving.Relocating.RelocatesAligned}
@@ -64,6 +64,14 @@ aligned_begins n align v w g some a = split_begins (let r = a.0 in omega (arith,
 pub begins_fits : (n o : ℕ) (v : View) → WouldBegin n v o → HasFit n v
 begins_fits n o v b = (down b.block.size, b.fits, λ q. let f = sym b.newest ∙ q in absurd (cc))
 
+-- so a grant could be made
+pub aligned_can : (n align : ℕ) (v w : View) (g : Handle) → 1 ≤ align → Aligns n align v w (Some g) → CanGrant (blocks_needed align) (units_needed n align) v
+aligned_can n align v w g some a = (a.0, begins_fits (units_needed n align) (units a.1.before) v (aligned_begins n align v w g some a))
+
+-- it begins at the padded start of its block
+pub aligned_start : (n align : ℕ) (v w : View) (g : Handle) (a : Aligns n align v w (Some g)) → g.offset ≡ units a.1.before + padding_to align (units a.1.before)
+aligned_start n align v w g a = ap (λ (h : Handle). h.offset) a.1.grant ∙ ap (λ (p : ℕ). units a.1.before + p) a.1.padded
+
 -- whichever names are unused, and however many accesses were counted
 pub begins_still : (n o : ℕ) (v : View) (unused : List ℕ) (k : ℕ) → WouldBegin n v o → WouldBegin n (record v { unused = unused; accesses = k }) o
 begins_still n o v unused k b = record {
@@ -78,6 +86,15 @@ begins_still n o v unused k b = record {
   newest = b.newest;
   begins = b.begins;
 }
+
+-- the newest name of a bin that has some is its head
+pub head_first : (it : Fields) → AreSound it → (c : ℕ) → c < 256 → (bin_at (bins_in it.max it.cells.bins) c ≡ [] → ⊥)
+    → (older : List ℕ) × (bin_at (bins_in it.max it.cells.bins) c ≡ slice_index it.cells.bins.heads c ∷ older)
+head_first it s c l some = go (bin_at (bins_in it.max it.cells.bins) c) refl
+  where
+    go : (xs : List ℕ) → bin_at (bins_in it.max it.cells.bins) c ≡ xs → (older : List ℕ) × (bin_at (bins_in it.max it.cells.bins) c ≡ slice_index it.cells.bins.heads c ∷ older)
+    go [] e = absurd (some e)
+    go (x ∷ xs) e = (xs, e ∙ ap (λ (y : ℕ). y ∷ xs) (sym (s.bins.linked.heads c l ∙ ap (first_of it.max) e)))
 
 -- the newest name of a bin that has some is that of a node
 pub head_below : (it : Fields) → AreSound it → length it.cells.bins.newer ≡ length it.cells.chain.nodes → (c : ℕ) → c < 256 → (bin_at (bins_in it.max it.cells.bins) c ≡ [] → ⊥)

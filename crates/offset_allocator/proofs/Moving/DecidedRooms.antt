@@ -8,7 +8,7 @@ use Rattle.offset_allocator.specs.{Moving.Room.SlidesRun, Moving.Room.cost_of}
 use Rattle.offset_allocator.specs.declared.moves.room.RoomCost.{RoomCost}
 
 -- ---- costs
-one_most : (c d : RoomCost) → IsAtMost c d → IsAtMost d c → c ≡ d
+pub one_most : (c d : RoomCost) → IsAtMost c d → IsAtMost d c → c ≡ d
 one_most c d (inl l) (inl m) = absurd (omega (arith, l, m))
 one_most c d (inl l) (inr m) = absurd (omega (arith, l, m.0))
 one_most c d (inr l) (inl m) = absurd (omega (arith, l.0, m))
@@ -23,22 +23,22 @@ least_decided want bs (Some c) None a b = absurd (omega (arith, a.0.2, b a.0.0 a
 least_decided want bs (Some c) (Some d) a b =
     ap Some (one_most c d (subst (IsAtMost c) (sym b.0.3) (a.1 b.0.0 b.0.1 b.0.2)) (subst (IsAtMost d) (sym a.0.3) (b.1 a.0.0 a.0.1 a.0.2)))
 
-none_less : (c : RoomCost) → IsLess c c → ⊥
+pub none_less : (c : RoomCost) → IsLess c c → ⊥
 none_less c (inl l) = omega (arith, l)
 none_less c (inr l) = omega (arith, l.1)
 
 -- ---- two splits of one list
 -- the second begins later: after fs comes b, which is before gs ends
-record IsPast (fs xs gs ys : List Block) : Type 0 where
-  block : Block
-  between : List Block
-  front : gs ≡ fs ++ block ∷ between
-  back : xs ≡ block ∷ (between ++ ys)
+pub record IsPast (fs xs gs ys : List Block) : Type 0 where
+  pub block : Block
+  pub between : List Block
+  pub front : gs ≡ fs ++ block ∷ between
+  pub back : xs ≡ block ∷ (between ++ ys)
 
-abbrev Meet : List Block → List Block → List Block → List Block → Type 0
+abbrev pub Meet : List Block → List Block → List Block → List Block → Type 0
 Meet fs xs gs ys = ((fs ≡ gs) × (xs ≡ ys)) ⊎ (IsPast fs xs gs ys ⊎ IsPast gs ys fs xs)
 
-meet : (fs xs gs ys : List Block) → fs ++ xs ≡ gs ++ ys → Meet fs xs gs ys
+pub meet : (fs xs gs ys : List Block) → fs ++ xs ≡ gs ++ ys → Meet fs xs gs ys
 meet [] xs [] ys e = inl (refl, e)
 meet [] xs (g ∷ gs) ys e = inr (inl (record { block = g; between = gs; front = refl; back = e }))
 meet (f ∷ fs) xs [] ys e = inr (inr (record { block = f; between = fs; front = refl; back = sym e }))
@@ -68,7 +68,7 @@ ends_of : (b : Block) (bs : List Block) → ends_free (b ∷ bs) ≡ not (ends_u
 ends_of b [] = refl
 ends_of b (d ∷ bs) = ends_of d bs
 
-ends_some : (bs : List Block) → starts_free bs ≡ true → ends_used bs ≡ false → ends_free bs ≡ true
+pub ends_some : (bs : List Block) → starts_free bs ≡ true → ends_used bs ≡ false → ends_free bs ≡ true
 ends_some [] s e = absurd (true≢false (sym s))
 ends_some (b ∷ bs) s e = ends_of b bs ∙ ap not e
 
@@ -77,7 +77,7 @@ taken_one true e = refl
 taken_one false e = absurd (true≢false e)
 
 -- nor does one of two that begin at one block end later, since it would have one live range more
-ends_later : (run back run' back' : List Block) → IsPast run back run' back' → cost_of run ≡ cost_of run' → starts_free run ≡ true → ends_used run ≡ false → AreCoalesced (run ++ back) → ⊥
+pub ends_later : (run back run' back' : List Block) → IsPast run back run' back' → cost_of run ≡ cost_of run' → starts_free run ≡ true → ends_used run ≡ false → AreCoalesced (run ++ back) → ⊥
 ends_later run back run' back' p same begins ends apart =
     let sides = apart_parts run (p.block ∷ (p.between ++ back')) (subst (λ l. AreCoalesced (run ++ l)) p.back apart) in
     let used : one p.block.used ≡ 1 = taken_one p.block.used (right_false (ends_free run) (not p.block.used) sides.2 (ends_some run begins ends)) in
@@ -118,7 +118,7 @@ module _ (want : ℕ) (v : View) (known : IsWellFormed v) (a : ℕ) (w w' : View
   same_moves = ap₂ (λ (front run : List Block). moves (units front) (units front) run) begins_same.0 ends_same.0
 
 -- steps that are each decided are so one after the other
-folds_same : {F A : Type 0} (R : F → A → F → Type 0) → ((f g h : F) (x : A) → R f x g → R f x h → g ≡ h) → (f : F) (xs : List A) (g h : F) → FoldsTo R f xs g → FoldsTo R f xs h → g ≡ h
+pub folds_same : {F A : Type 0} (R : F → A → F → Type 0) → ((f g h : F) (x : A) → R f x g → R f x h → g ≡ h) → (f : F) (xs : List A) (g h : F) → FoldsTo R f xs g → FoldsTo R f xs h → g ≡ h
 folds_same R one f [] g h a b = sym a ∙ b
 folds_same R one f (x ∷ xs) g h a b = folds_same R one a.0 xs g h a.2 (subst (λ j. FoldsTo R j xs h) (sym (one f a.0 b.0 x a.1 b.1)) b.2)
 

@@ -1,8 +1,8 @@
 -- A compaction by whole steps: in the same state it leaves the same state.
 use Rattle.offset_allocator.proofs.{Decided.both_leave, Decided.both_stay, Decided.one_name, Moving.Stepping.first_here}
 use Rattle.offset_allocator.proofs.Common.{◌≡◌, ◌≢◌, ℕ, ◌+◌, ◌<◌, ◌≤◌, Bool, true, false, not, ◌&&◌, nat_le, Some, None, List, [], ◌∷◌, ◌++◌, length, refl, sym, ap, ap₂, subst, ◌∙◌, arith, inl, inr, AllByRecursion, le-leb}
-use Rattle.offset_allocator.proofs.Common.{lt-leb, Block, View, free_block, down, push, if◌then◌else◌}
-use Rattle.offset_allocator.specs.Moving.BySteps.{first_whole, stepped, given_up, rebinned, used_up, SlidesBy, CompactsBy}
+use Rattle.offset_allocator.proofs.Common.{lt-leb, Block, View, free_block, replace, if◌then◌else◌}
+use Rattle.offset_allocator.specs.Moving.BySteps.{first_whole, stepped, given_up, used_up, SlidesBy, CompactsBy}
 use Rattle.offset_allocator.specs.{Names.names_of, Relations.SameState}
 
 same_split : (s : ℕ) (fs gs : List Block) (b c : Block) (bs cs : List Block) → fs ++ b ∷ bs ≡ gs ++ c ∷ cs → AllByRecursion (λ d. d.used ≡ false → d.size < s) fs
@@ -51,10 +51,7 @@ module _ (s : ℕ) (v : View) (a : ℕ) (w w' : View) (f : SlidesBy s v w) (k : 
   name = one_name (length v.blocks) v.unused f.name k.name f.left k.left f.taken k.taken
 
   abbrev moved : View → List Block → List Block → ℕ → View
-  moved z front bs x = record z {
-    blocks = front ++ (stepped s bs ++ free_block x (given_up s bs) ∷ []);
-    bins = push (down (given_up s bs)) x (rebinned s bs v.bins);
-  }
+  moved z front bs x = replace z front bs (stepped s bs ++ free_block x (given_up s bs) ∷ []) []
 
   steps_same : SameState w w'
   steps_same = both_leave (moved v f.front (f.first ∷ f.rest) f.name) (moved (record v { accesses = a }) k.front (k.first ∷ k.rest) k.name) w w' f.view k.view

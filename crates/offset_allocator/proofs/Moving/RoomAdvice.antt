@@ -6,6 +6,9 @@ use Rattle.offset_allocator.proofs.{Moving.Compacting.first_is, Moving.Runs.sing
 use Rattle.offset_allocator.proofs.Common.{◌≡◌, ℕ, ◌^◌, ◌<◌, ◌≤◌, ◌⊎◌, Bool, true, false, not, ◌&&◌, Option, Some, None, List, [], ◌∷◌, ◌++◌, sum, if◌then◌else◌, refl, sym, ap, ap₂, subst, ◌∙◌, arith}
 use Rattle.offset_allocator.proofs.Common.{inl, inr, eq-zero-or-pos, true≢false, not-true, Block, View, IsWellFormed, AreCoalesced, CanGrant, IsWhy, free_sizes, starts_free, ends_used, used_of, one}
 use Rattle.offset_allocator.proofs.Common.{value, up, down, times, units, first_free}
+use Rattle.offset_allocator.proofs.{Common.HasRoomFor, Common.length, Common.◌↔◌, Moving.DecidedRoomsBySteps.least_by_decided, Moving.Rooms.apart_few, Moving.RoomsBySteps.fit_of, Moving.RoomsBySteps.found_by}
+use Rattle.offset_allocator.proofs.{Moving.Stepping.emptied_free, Moving.Stepping.given_free}
+use Rattle.offset_allocator.specs.Moving.RoomBySteps.{IsLeastCostBy, Serves, names_short}
 use Rattle.offset_allocator.specs.Moving.Room.{IsRun, IsAtMost, IsLeastCost, ranges_of}
 use Rattle.offset_allocator.specs.declared.reports.Refusal.TheVariants.{TooLarge, Space, Fragmented}
 use Rattle.offset_allocator.specs.declared.moves.room.RoomCost.{RoomCost}
@@ -171,3 +174,28 @@ module _ (v : View) (w : IsWellFormed v) (n : ℕ) (why : IsWhy 1 n v Fragmented
     | inl z ↦ absurd (not_alone h.0.0 h.0.1 (omega (arith, z, ap (λ (c : RoomCost). c.ranges) h.0.3)) h.0.2)
     | inr k ↦ omega (arith, k)
   ]
+
+-- by steps, nothing has to move exactly where the request is granted
+module _ (v : View) (w : IsWellFormed v) (t k n : ℕ) where
+  short_room : names_short k v ≤ 1 → HasRoomFor k v
+  short_room l = omega (arith, l)
+
+  none_moves : (run : List Block) → IsRun run v.blocks → Serves t (value (up n)) (names_short k v) run → used_of run ≡ 0 → CanGrant k n v
+  none_moves [] r h z = absurd (true≢false (sym r.begins))
+  none_moves (b ∷ d ∷ run) r h z =
+      let apart = (apart_parts (b ∷ d ∷ run) r.back (apart_parts r.front ((b ∷ d ∷ run) ++ r.back) (subst AreCoalesced r.is w.apart)).1).0 in
+      absurd (omega (arith, apart_few (b ∷ d ∷ run) apart, z))
+  none_moves (b ∷ []) r h z =
+      let free = not-true b.used r.begins in (
+        short_room (omega (arith, h.names, ap (λ (l : List Block). length l) (emptied_free t b [] free 0 refl))),
+        fit_of v w r.front b r.back r.is free n (omega (arith, h.units, given_free t b [] free)),
+      )
+
+  pub granted_by : (c : Option RoomCost) → IsLeastCostBy t (value (up n)) (names_short k v) v.blocks c → (c ≡ Some (record { units = 0; ranges = 0 })) ↔ CanGrant k n v
+  granted_by c h = (to c h, λ g. least_by_decided t (value (up n)) (names_short k v) v.blocks c (Some (record { units = 0; ranges = 0 })) h (found_by t k n v w g.0 g.1))
+    where
+      to : (c : Option RoomCost) → IsLeastCostBy t (value (up n)) (names_short k v) v.blocks c → c ≡ Some (record { units = 0; ranges = 0 }) → CanGrant k n v
+      to None h e = absurd (cc)
+      to (Some d) h e =
+          let none : d ≡ record { units = 0; ranges = 0 } = cc in
+          none_moves h.0.0 h.0.1 h.0.2 (ap (λ (c : RoomCost). c.ranges) (sym h.0.3 ∙ none))

@@ -105,7 +105,7 @@ ends_free_is b (d ∷ []) k e h = ap not h
 ends_free_is b (d ∷ c ∷ bs) k e h = ends_free_is d (c ∷ bs) k e h
 
 -- blocks of which no two neighbours are free are at most twice as many as the used ones, and one
-apart_few : (bs : List Block) → AreCoalesced bs → length bs ≤ 2 * used_of bs + 1
+pub apart_few : (bs : List Block) → AreCoalesced bs → length bs ≤ 2 * used_of bs + 1
 apart_few [] h = omega arith
 apart_few (b ∷ []) h = omega arith
 apart_few (b ∷ d ∷ bs) h = go b.used refl (apart_few (d ∷ bs) h.1) (apart_few bs h.1.1)

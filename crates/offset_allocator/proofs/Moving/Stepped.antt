@@ -2,15 +2,15 @@
 use Rattle.offset_allocator.proofs.{Joints.free_units-append, Joints.free_units-free, Joints.free_units-used, Joints.free_part_units, Linking.Exchange.each-le, Linking.Exchange.there-below}
 use Rattle.offset_allocator.proofs.{Linking.Places.placed, Moving.Sliding.live_used, Moving.Sliding.live_idle, Moving.Compacting.live_append, Sound.Fields, Sound.AreSound, Sound.shown, Sound.well_counted}
 use Rattle.offset_allocator.proofs.{Moving.Stepping.stepped_used, Moving.Stepping.stepped_free, Moving.Stepping.given_used, Moving.Stepping.given_free, Moving.Stepping.moves_by_used, Moving.Stepping.moves_by_free}
-use Rattle.offset_allocator.proofs.{Moving.Stepping.first_here, Moving.Stepping.filed_put, Views.ViewBins.length_put}
+use Rattle.offset_allocator.proofs.{Moving.Refiled.push_all-append, Moving.Stepping.emptied_used, Moving.Stepping.emptied_free, Linking.Rows.last_or-append, Moving.Stepping.first_here, Moving.Stepping.filed_put, Views.ViewBins.length_put}
 use Rattle.offset_allocator.proofs.Views.ViewApart.{apart_parts, apart_append, ends_free, left_false, right_false}
-use Rattle.offset_allocator.proofs.Tallies.{tally_append, units-append, free_units, free_sum, part_sums, times-append, one-same, one-eq}
+use Rattle.offset_allocator.proofs.Tallies.{tally_append, units-append, free_units, free_sum, part_sums}
 use Rattle.offset_allocator.proofs.Joints as joints
-use Rattle.offset_allocator.proofs.Common.{◌≡◌, ◌≢◌, ℕ, zero, suc, ◌+◌, ◌-◌, ◌*◌, ◌/◌, ◌%◌, ◌<◌, ◌≤◌, ◌⊎◌, Bool, true, false, not, ◌&&◌, nat_le, nat_lt, Some, None, List, [], ◌∷◌, ◌++◌, if◌then◌else◌, refl, sym}
-use Rattle.offset_allocator.proofs.Common.{ap, ap₂, subst, ◌∙◌, arith, inl, inr, append_assoc, append-nil, length, length-append, take, AllByRecursion, not-true, not-false, true≢false, leb-true, leb-false, common_steps}
-use Rattle.offset_allocator.proofs.Common.{nat_tests, nat_eq, cases_eq, eq-zero-or-pos, Cells, ChainCells, Block, View, Place, one, units, used_of, free_block, free_part, count_named, starts_free, ends_used, live, move_of}
-use Rattle.offset_allocator.proofs.Common.{down, push, AreInBins, AreCoalesced, IsWellFormed, HasRoomFor, SameSpace, HasPlace, IsChain, blocks, IsBinned, bins_in}
-use Rattle.offset_allocator.specs.Moving.BySteps.{first_whole, kept, stepped, given_up, used_up, rebinned, moves_by, CanStep, SlidesBy}
+use Rattle.offset_allocator.proofs.Common.{◌≡◌, ◌≢◌, ℕ, zero, suc, ◌+◌, ◌-◌, ◌*◌, ◌/◌, ◌%◌, ◌<◌, ◌≤◌, Bool, true, false, not, ◌&&◌, nat_le, Some, None, List, [], ◌∷◌, ◌++◌, if◌then◌else◌, refl, sym}
+use Rattle.offset_allocator.proofs.Common.{ap, subst, ◌∙◌, arith, inl, inr, append_assoc, append-nil, length, length-append, take, AllByRecursion, not-true, not-false, true≢false, leb-true, leb-false, common_steps, last_or, ne_eqb, push_all, remove_all, replace}
+use Rattle.offset_allocator.proofs.Common.{nat_tests, nat_eq, cases_eq, eq-zero-or-pos, Cells, ChainCells, Block, View, one, units, used_of, free_block, free_part, count_named, starts_free, ends_used, live, move_of}
+use Rattle.offset_allocator.proofs.Common.{down, push, AreInBins, AreCoalesced, IsWellFormed, SameSpace, HasPlace, IsChain, blocks, IsBinned, bins_in}
+use Rattle.offset_allocator.specs.Moving.BySteps.{first_whole, kept, stepped, given_up, used_up, moves_by, CanStep, SlidesBy}
 use Rattle.offset_allocator.specs.{Names.IsTaken, Names.names_of}
 use Rattle.std.proofs.Math.Nat.{mod-le, mod-eq_of_lt, mod-mod, add-mod, add-mul-mod_self_right, mul_assoc}
 use Rattle.std.proofs.Math.Nat.{mod-add-div'}
@@ -204,54 +204,197 @@ stepped_fewer s (b ∷ c ∷ bs) some e = go b.used refl (stepped_fewer s (c ∷
     )
 
 -- what free blocks keep is between used ones
-pub stepped_apart : (s : ℕ) (bs : List Block) (h : Block) → AreCoalesced bs → AreCoalesced (stepped s bs ++ h ∷ [])
-stepped_apart s [] h a = (end h.used, tt)
-  where
-    end : (u : Bool) → (not u && false) ≡ false
-    end true = refl
-    end false = refl
-stepped_apart s (b ∷ bs) h a = go b.used refl (stepped_apart s bs h a.1)
+pub stepped_apart : (s : ℕ) (bs : List Block) (h : Block) (cs : List Block) → AreCoalesced bs → AreCoalesced (h ∷ cs) → AreCoalesced (stepped s bs ++ h ∷ cs)
+stepped_apart s [] h cs a k = k
+stepped_apart s (b ∷ bs) h cs a k = go b.used refl (stepped_apart s bs h cs a.1 k)
   where
     part : (n : ℕ) (l : List Block) → starts_free l ≡ false → AreCoalesced l → AreCoalesced (free_part b.name n ++ l)
     part zero l e k = k
     part (suc n) l e k = (e, k)
 
-    next : (l : List Block) → bs ≡ l → starts_free l ≡ false → (l ≡ [] → ⊥) → starts_free (stepped s l ++ h ∷ []) ≡ false
+    next : (l : List Block) → bs ≡ l → starts_free l ≡ false → (l ≡ [] → ⊥) → starts_free (stepped s l ++ h ∷ cs) ≡ false
     next [] q e some = absurd (some refl)
-    next (c ∷ cs) q e some = let used : c.used ≡ true = not-false c.used e in
-        ap (λ l. starts_free (l ++ h ∷ [])) (stepped_used s c cs used) ∙ e
+    next (d ∷ ds) q e some = let used : d.used ≡ true = not-false d.used e in
+        ap (λ l. starts_free (l ++ h ∷ cs)) (stepped_used s d ds used) ∙ e
 
     none : (l : List Block) → bs ≡ l → kept s b.size l ≢ 0 → l ≡ [] → ⊥
     none l q some e = some (ap (kept s b.size) e)
 
-    go : (u : Bool) → b.used ≡ u → AreCoalesced (stepped s bs ++ h ∷ []) → AreCoalesced (stepped s (b ∷ bs) ++ h ∷ [])
-    go true u ih = subst (λ l. AreCoalesced (l ++ h ∷ [])) (sym (stepped_used s b bs u)) (ap (λ t. not t && starts_free (stepped s bs ++ h ∷ [])) u, ih)
-    go false u ih = subst (λ l. AreCoalesced (l ++ h ∷ [])) (sym (stepped_free s b bs u))
-        (subst AreCoalesced (sym (append_assoc (free_part b.name (kept s b.size bs)) (stepped s bs) (h ∷ []))) (keeps (kept s b.size bs) refl))
+    go : (u : Bool) → b.used ≡ u → AreCoalesced (stepped s bs ++ h ∷ cs) → AreCoalesced (stepped s (b ∷ bs) ++ h ∷ cs)
+    go true u ih = subst (λ l. AreCoalesced (l ++ h ∷ cs)) (sym (stepped_used s b bs u)) (ap (λ t. not t && starts_free (stepped s bs ++ h ∷ cs)) u, ih)
+    go false u ih = subst (λ l. AreCoalesced (l ++ h ∷ cs)) (sym (stepped_free s b bs u))
+        (subst AreCoalesced (sym (append_assoc (free_part b.name (kept s b.size bs)) (stepped s bs) (h ∷ cs))) (keeps (kept s b.size bs) refl))
       where
         before : starts_free bs ≡ false
         before = right_false (not b.used) (starts_free bs) a.0 (ap not u)
 
-        keeps : (n : ℕ) → kept s b.size bs ≡ n → AreCoalesced (free_part b.name n ++ (stepped s bs ++ h ∷ []))
+        keeps : (n : ℕ) → kept s b.size bs ≡ n → AreCoalesced (free_part b.name n ++ (stepped s bs ++ h ∷ cs))
         keeps zero q = ih
-        keeps (suc n) q = part (suc n) (stepped s bs ++ h ∷ []) (next bs refl before (none bs refl (λ z. absurd (omega (arith, q, z))))) ih
+        keeps (suc n) q = part (suc n) (stepped s bs ++ h ∷ cs) (next bs refl before (none bs refl (λ z. absurd (omega (arith, q, z))))) ih
 
--- a space with a block that has a step
-module _ (f : Fields) (s : AreSound f) (t : ℕ) (x : ℕ) (o : IsWhole t (blocks f.cells.chain f.last) x) where
+-- each block stays, or is used up
+pub used_up_length : (s : ℕ) (bs : List Block) → length (stepped s bs) + length (used_up s bs) ≡ length bs
+used_up_length s [] = refl
+used_up_length s (b ∷ bs) = go b.used refl (used_up_length s bs)
+  where
+    part : (n : ℕ) → length (free_part b.name n) + length (if nat_eq n 0 then b ∷ [] else []) ≡ 1
+    part zero = refl
+    part (suc n) = omega (arith, ap (λ (t : Bool). length (if t then b ∷ [] else [])) (ne_eqb (suc n) 0 (λ q. absurd (omega (arith, q)))))
+
+    go : (u : Bool) → b.used ≡ u → length (stepped s bs) + length (used_up s bs) ≡ length bs → length (stepped s (b ∷ bs)) + length (used_up s (b ∷ bs)) ≡ length (b ∷ bs)
+    go true u ih = omega (arith, ih, ap (λ (l : List Block). length l) (stepped_used s b bs u), ap (λ (l : List Block). length l) (emptied_used s b bs u))
+    go false u ih = omega (
+      arith,
+      ih,
+      ap (λ (l : List Block). length l) (stepped_free s b bs u),
+      ap (λ (l : List Block). length l) (emptied_free s b bs u (kept s b.size bs) refl),
+      length-append (free_part b.name (kept s b.size bs)) (stepped s bs),
+      length-append (if nat_eq (kept s b.size bs) 0 then b ∷ [] else []) (used_up s bs),
+      part (kept s b.size bs),
+    )
+
+-- the bins, once the free ones have left theirs, and what they keep is in its own
+abbrev pub refiled : ℕ → List Block → List (List ℕ) → List (List ℕ)
+refiled s bs ls = push_all (stepped s bs) (remove_all bs ls)
+
+-- a space with a run of blocks that begins with a free one
+module _ (f : Fields) (s : AreSound f) (t : ℕ) (front run back : List Block) (is : blocks f.cells.chain f.last ≡ front ++ (run ++ back)) where
   abbrev v : View
   v = shown f
-
-  abbrev run : List Block
-  run = o.first ∷ o.rest
 
   w : IsWellFormed v
   w = well_counted (shown (record f { accesses = 0 })) f.accesses s.well
 
-  pub first_place : HasPlace f.cells.chain f.cells.chain.reserved f.last f.count x (record { before = o.front; block = o.first; after = o.rest })
-  first_place = placed (rw o.is at s.space) o.name
+  pub split_filed : AreInBins (front ++ (run ++ back)) (bins_in f.max f.cells.bins)
+  split_filed = subst (λ l. AreInBins l (bins_in f.max f.cells.bins)) is w.binned
 
-  pub run_filed : AreInBins (o.front ++ (o.first ∷ o.rest)) (bins_in f.max f.cells.bins)
-  run_filed = subst (λ l. AreInBins l (bins_in f.max f.cells.bins)) o.is w.binned
+  pub split_length : length v.blocks ≡ length front + (length run + length back)
+  split_length = omega (arith, ap (λ (l : List Block). length l) is, length-append front (run ++ back), length-append run back)
+
+  -- not all nodes that may be made are those of blocks
+  pub split_few : length (front ++ (run ++ back)) < f.cells.chain.reserved
+  split_few = omega (arith, w.room, ap (λ (l : List Block). length l) is, s.memory)
+
+  -- what is left
+  module _ (begins : starts_free run ≡ true) (apart : starts_free back ≡ false) (few : length front + (length (stepped t run) + length back) + 2 ≤ f.limit) (d : Cells) (last count y : ℕ)
+      (there : HasPlace d.chain f.cells.chain.reserved last count y (record { before = front ++ stepped t run; block = free_block y (given_up t run); after = back })) where
+    abbrev hole : Block
+    hole = free_block y (given_up t run)
+
+    abbrev left_blocks : List Block
+    left_blocks = front ++ ((stepped t run ++ hole ∷ []) ++ back)
+
+    abbrev left_view : View
+    left_view = record v { blocks = left_blocks; bins = push (down (given_up t run)) y (refiled t run v.bins) }
+
+    inner_is : stepped t run ++ (hole ∷ back) ≡ (stepped t run ++ hole ∷ []) ++ back
+    inner_is = sym (append_assoc (stepped t run) (hole ∷ []) back)
+
+    list_is : (front ++ stepped t run) ++ (hole ∷ back) ≡ left_blocks
+    list_is = append_assoc front (stepped t run) (hole ∷ back) ∙ ap (λ l. front ++ l) inner_is
+
+    left_length : length left_blocks ≡ length front + (length (stepped t run) + length back) + 1
+    left_length = omega (
+      arith,
+      length-append front ((stepped t run ++ hole ∷ []) ++ back),
+      length-append (stepped t run ++ hole ∷ []) back,
+      length-append (stepped t run) (hole ∷ []),
+    )
+
+    starts : (l : List Block) → starts_free l ≡ true → starts_free (l ++ back) ≡ true
+    starts [] e = absurd (true≢false (sym e))
+    starts (b ∷ l) e = e
+
+    parts : AreCoalesced front × AreCoalesced (run ++ back) × ((ends_free front && starts_free (run ++ back)) ≡ false)
+    parts = apart_parts front (run ++ back) (subst AreCoalesced is w.apart)
+
+    inner_parts : AreCoalesced run × AreCoalesced back × ((ends_free run && starts_free back) ≡ false)
+    inner_parts = apart_parts run back parts.1
+
+    pub split_apart : AreCoalesced run
+    split_apart = inner_parts.0
+
+    left_well : length (refiled t run (bins_in f.max f.cells.bins)) ≡ 256 → AreInBins ((front ++ stepped t run) ++ back) (refiled t run (bins_in f.max f.cells.bins))
+        → IsWellFormed left_view
+    left_well long filed = record {
+      some = omega (arith, left_length);
+      distinct = λ k. subst (λ l. count_named k l ≤ 1) list_is (omega (arith, each-le d.chain _ last count _ there.chain k));
+      below = λ k big. subst (λ l. count_named k l ≡ 0) list_is (elim (eq-zero-or-pos (count_named k ((front ++ stepped t run) ++ (hole ∷ back)))) [
+        | inl z ↦ z
+        | inr p ↦ absurd (omega (arith, big, there-below d.chain _ last count k _ there.chain (omega (arith, p)), there.chain.within, s.memory))
+      ]);
+      whole = omega (
+        arith,
+        w.whole,
+        ap units is,
+        units-append front (run ++ back),
+        units-append run back,
+        units-append front ((stepped t run ++ hole ∷ []) ++ back),
+        units-append (stepped t run ++ hole ∷ []) back,
+        units-append (stepped t run) (hole ∷ []),
+        stepped_units t run,
+      );
+      fits = w.fits;
+      apart = subst (λ l. AreCoalesced (front ++ l)) inner_is (apart_append front (stepped t run ++ (hole ∷ back)) parts.0 (stepped_apart t run hole back inner_parts.0 (apart, inner_parts.1))
+          (ap (λ u. u && starts_free (stepped t run ++ (hole ∷ back))) (left_false (ends_free front) (starts_free (run ++ back)) parts.2 (starts run begins))));
+      classes = length_put (down (given_up t run)) y (refiled t run v.bins) ∙ long;
+      binned = subst (λ l. AreInBins l (push (down (given_up t run)) y (refiled t run v.bins))) (append_assoc (front ++ stepped t run) (hole ∷ []) back ∙ list_is)
+          (filed_put (front ++ stepped t run) back hole (refiled t run v.bins) refl long filed);
+      room = omega (arith, few, left_length);
+      few_used = omega (
+        arith,
+        w.few_used,
+        ap used_of is,
+        tally_append (λ (b : Block). one b.used) front (run ++ back),
+        tally_append (λ (b : Block). one b.used) run back,
+        tally_append (λ (b : Block). one b.used) front ((stepped t run ++ hole ∷ []) ++ back),
+        tally_append (λ (b : Block). one b.used) (stepped t run ++ hole ∷ []) back,
+        tally_append (λ (b : Block). one b.used) (stepped t run) (hole ∷ []),
+        stepped_used_of t run,
+      );
+    }
+
+    total : free_units ((front ++ stepped t run) ++ (hole ∷ back)) ≡ f.free
+    total = omega (
+      arith,
+      s.total,
+      free_sum (blocks f.cells.chain f.last),
+      ap free_units is,
+      free_units-append front (run ++ back),
+      free_units-append run back,
+      free_units-append (front ++ stepped t run) (hole ∷ back),
+      free_units-append front (stepped t run),
+      free_units-free hole back refl,
+      stepped_free_units t run,
+    )
+
+    pub split_steps : {top accesses : ℕ} → IsBinned f.max d.bins top
+        → bins_in f.max d.bins ≡ push (down (given_up t run)) y (refiled t run (bins_in f.max f.cells.bins))
+        → AreInBins ((front ++ stepped t run) ++ back) (refiled t run (bins_in f.max f.cells.bins))
+        → AreSound (record f { cells = d; last = last; count = count; top = top; accesses = accesses })
+        × SameSpace (replace (shown f) front run (stepped t run ++ free_block y (given_up t run) ∷ []) back) (shown (record f { cells = d; last = last; count = count; top = top; accesses = accesses }))
+    split_steps {top} {accesses} bins lists filed =
+        let long : length (refiled t run (bins_in f.max f.cells.bins)) ≡ 256 =
+        sym (length_put (down (given_up t run)) y (refiled t run (bins_in f.max f.cells.bins))) ∙ ap (λ (l : List (List ℕ)). length l) (sym lists) ∙ bins.linked.lists_len in
+        let r = joints.stepped f s left_view d f.free accesses (left_well long filed) refl there.chain list_is bins lists total in (
+          r.0,
+          subst (λ (ls : List (List ℕ)). SameSpace (record (shown f) { blocks = left_blocks; bins = ls }) (shown (record f { cells = d; last = last; count = count; top = top; accesses = accesses })))
+              (sym (push_all-append (stepped t run) (hole ∷ []) (remove_all run v.bins))) r.1,
+        )
+
+-- a space with a block that has a step
+module _ (f : Fields) (s : AreSound f) (t : ℕ) (x : ℕ) (o : IsWhole t (blocks f.cells.chain f.last) x) where
+  abbrev run : List Block
+  run = o.first ∷ o.rest
+
+  pub whole_split : blocks f.cells.chain f.last ≡ o.front ++ ((o.first ∷ o.rest) ++ [])
+  whole_split = o.is ∙ ap (λ l. o.front ++ l) (sym (append-nil run))
+
+  pub first_place : HasPlace f.cells.chain f.cells.chain.reserved f.last f.count x (record { before = o.front; block = o.first; after = o.rest ++ [] })
+  first_place = placed (rw whole_split at s.space) o.name
+
+  pub run_ends : last_or None (o.first ∷ o.rest) ≡ Some f.last
+  run_ends = sym (ap (last_or None) o.is ∙ last_or-append None o.front run) ∙ s.space.ends
 
   ends : (fs : List Block) → ends_used (fs ++ o.first ∷ o.rest) ≡ ends_used (o.first ∷ o.rest)
   ends [] = refl
@@ -259,124 +402,45 @@ module _ (f : Fields) (s : AreSound f) (t : ℕ) (x : ℕ) (o : IsWhole t (block
   ends (b ∷ c ∷ fs) = ends (c ∷ fs)
 
   -- what is left
-  module _ (can : CanStep (shown f)) (d : Cells) (last count y : ℕ)
-      (there : HasPlace d.chain f.cells.chain.reserved last count y (record { before = o.front ++ stepped t (o.first ∷ o.rest); block = free_block y (given_up t (o.first ∷ o.rest)); after = [] })) where
-    abbrev hole : Block
-    hole = free_block y (given_up t run)
-
-    abbrev left_view : View
-    left_view = record v { blocks = o.front ++ (stepped t run ++ hole ∷ []); bins = push (down (given_up t run)) y (rebinned t run v.bins) }
-
-    list_is : (o.front ++ stepped t run) ++ hole ∷ [] ≡ o.front ++ (stepped t run ++ hole ∷ [])
-    list_is = append_assoc o.front (stepped t run) (hole ∷ [])
-
-    fewer : length (o.front ++ (stepped t run ++ hole ∷ [])) + 1 ≤ f.limit
-    fewer = elim can [
-      | inl room ↦ omega (
-        arith,
-        room,
-        ap (λ (l : List Block). length l) o.is,
-        length-append o.front run,
-        length-append o.front (stepped t run ++ hole ∷ []),
-        length-append (stepped t run) (hole ∷ []),
-        stepped_length t run,
-      )
-      | inr e ↦ omega (
-        arith,
-        w.room,
-        ap (λ (l : List Block). length l) o.is,
-        length-append o.front run,
-        length-append o.front (stepped t run ++ hole ∷ []),
-        length-append (stepped t run) (hole ∷ []),
-        stepped_fewer t run (λ q. absurd (cc)) (sym (ends o.front) ∙ sym (ap ends_used o.is) ∙ e),
-      )
-    ]
-
-    parts : AreCoalesced o.front × AreCoalesced (o.first ∷ o.rest) × ((ends_free o.front && starts_free (o.first ∷ o.rest)) ≡ false)
-    parts = apart_parts o.front run (subst AreCoalesced o.is w.apart)
-
-    left_well : length (rebinned t (o.first ∷ o.rest) (bins_in f.max f.cells.bins)) ≡ 256 → AreInBins (o.front ++ stepped t (o.first ∷ o.rest)) (rebinned t (o.first ∷ o.rest) (bins_in f.max f.cells.bins))
-        → IsWellFormed left_view
-    left_well long filed = record {
-      some = omega (arith, length-append o.front (stepped t run ++ hole ∷ []), length-append (stepped t run) (hole ∷ []));
-      distinct = λ k. subst (λ l. count_named k l ≤ 1) list_is (omega (arith, each-le d.chain _ last count _ there.chain k));
-      below = λ k big. subst (λ l. count_named k l ≡ 0) list_is (elim (eq-zero-or-pos (count_named k ((o.front ++ stepped t run) ++ hole ∷ []))) [
-        | inl z ↦ z
-        | inr p ↦ absurd (omega (arith, big, there-below d.chain _ last count k _ there.chain (omega (arith, p)), there.chain.within, s.memory))
-      ]);
-      whole = omega (
-        arith,
-        w.whole,
-        ap units o.is,
-        units-append o.front run,
-        units-append o.front (stepped t run ++ hole ∷ []),
-        units-append (stepped t run) (hole ∷ []),
-        stepped_units t run,
-      );
-      fits = w.fits;
-      apart = apart_append o.front (stepped t run ++ hole ∷ []) parts.0 (stepped_apart t run hole parts.1)
-          (ap (λ u. u && starts_free (stepped t run ++ hole ∷ [])) (left_false (ends_free o.front) (starts_free run) parts.2 (ap not o.free)));
-      classes = length_put (down (given_up t run)) y (rebinned t run v.bins) ∙ long;
-      binned = subst (λ l. AreInBins l (push (down (given_up t run)) y (rebinned t run v.bins))) (append-nil ((o.front ++ stepped t run) ++ hole ∷ []) ∙ list_is)
-          (filed_put (o.front ++ stepped t run) [] hole (rebinned t run v.bins) refl long (subst (λ l. AreInBins l (rebinned t run v.bins)) (sym (append-nil (o.front ++ stepped t run))) filed));
-      room = fewer;
-      few_used = omega (
-        arith,
-        w.few_used,
-        ap used_of o.is,
-        tally_append (λ (b : Block). one b.used) o.front run,
-        tally_append (λ (b : Block). one b.used) o.front (stepped t run ++ hole ∷ []),
-        tally_append (λ (b : Block). one b.used) (stepped t run) (hole ∷ []),
-        stepped_used_of t run,
-      );
-    }
-
-    total : free_units ((o.front ++ stepped t run) ++ hole ∷ []) ≡ f.free
-    total = omega (
+  pub fewer : CanStep (shown f) → length o.front + (length (stepped t (o.first ∷ o.rest)) + 0) + 2 ≤ f.limit
+  fewer can = elim can [
+    | inl room ↦ omega (arith, room, ap (λ (l : List Block). length l) o.is, length-append o.front run, stepped_length t run)
+    | inr e ↦ omega (
       arith,
-      s.total,
-      free_sum (blocks f.cells.chain f.last),
-      ap free_units o.is,
-      free_units-append o.front run,
-      free_units-append (o.front ++ stepped t run) (hole ∷ []),
-      free_units-append o.front (stepped t run),
-      free_units-free hole [] refl,
-      stepped_free_units t run,
+      (well_counted (shown (record f { accesses = 0 })) f.accesses s.well).room,
+      ap (λ (l : List Block). length l) o.is,
+      length-append o.front run,
+      stepped_fewer t run (λ q. absurd (cc)) (sym (ends o.front) ∙ sym (ap ends_used o.is) ∙ e),
     )
+  ]
 
-    pub steps : {top accesses : ℕ} (left : List ℕ) → IsBinned f.max d.bins top
-        → bins_in f.max d.bins ≡ push (down (given_up t (o.first ∷ o.rest))) y (rebinned t (o.first ∷ o.rest) (bins_in f.max f.cells.bins))
-        → length (rebinned t (o.first ∷ o.rest) (bins_in f.max f.cells.bins)) ≡ 256
-        → AreInBins (o.front ++ stepped t (o.first ∷ o.rest)) (rebinned t (o.first ∷ o.rest) (bins_in f.max f.cells.bins))
-        → IsTaken (length (blocks f.cells.chain f.last)) (take f.count f.cells.chain.spare) y left → take count d.chain.spare ≡ left ++ names_of (used_up t (o.first ∷ o.rest))
-        → AreSound (record f { cells = d; last = last; count = count; top = top; accesses = accesses })
-        × SlidesBy t (shown f) (shown (record f { cells = d; last = last; count = count; top = top; accesses = accesses }))
-    steps {top} {accesses} left bins lists long filed taken unused =
-        let done = joints.stepped f s left_view d f.free accesses (left_well long filed) refl there.chain list_is bins lists total in (
-          done.0,
-          record {
-            front = o.front;
-            first = o.first;
-            rest = o.rest;
-            is = o.is;
-            few = o.few;
-            free = o.free;
-            whole = o.whole;
-            more = o.more;
-            name = y;
-            left = left;
-            taken = taken;
-            names = unused;
-            view = done.1;
-          },
-        )
+  pub steps : {y : ℕ} {left : List ℕ} {w : View} → IsTaken (length (o.front ++ o.first ∷ (o.rest ++ []))) (take f.count f.cells.chain.spare) y left
+      → w.unused ≡ left ++ names_of (used_up t (o.first ∷ o.rest))
+      → SameSpace (replace (shown f) o.front (o.first ∷ o.rest) (stepped t (o.first ∷ o.rest) ++ free_block y (given_up t (o.first ∷ o.rest)) ∷ []) []) w
+      → SlidesBy t (shown f) w
+  steps {y} {left} {w} taken unused view = record {
+    front = o.front;
+    first = o.first;
+    rest = o.rest;
+    is = o.is;
+    few = o.few;
+    free = o.free;
+    whole = o.whole;
+    more = o.more;
+    name = y;
+    left = left;
+    taken = subst (λ l. IsTaken (length l) (take f.count f.cells.chain.spare) y left) (sym whole_split) taken;
+    names = unused;
+    view = view;
+  }
 
 -- the live blocks stay
 pub steps_live : (t : ℕ) (v w : View) → SlidesBy t v w → live w.blocks ≡ live v.blocks
 steps_live t v w h =
     let run : List Block = h.first ∷ h.rest in
-    ap (λ (u : View). live u.blocks) h.view ∙ live_append h.front (stepped t run ++ free_block h.name (given_up t run) ∷ [])
-    ∙ ap (λ l. live h.front ++ l) (live_append (stepped t run) (free_block h.name (given_up t run) ∷ []) ∙ append-nil (live (stepped t run)) ∙ stepped_live t run)
+    let new : List Block = stepped t run ++ free_block h.name (given_up t run) ∷ [] in
+    ap (λ (u : View). live u.blocks) h.view ∙ live_append h.front (new ++ [])
+    ∙ ap (λ l. live h.front ++ l) (ap live (append-nil new) ∙ live_append (stepped t run) (free_block h.name (given_up t run) ∷ []) ∙ append-nil (live (stepped t run)) ∙ stepped_live t run)
     ∙ sym (live_append h.front run) ∙ sym (ap live h.is)
 
 -- whatever was counted before

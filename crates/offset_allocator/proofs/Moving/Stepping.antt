@@ -1,13 +1,18 @@
 -- A slide by whole steps: what is found first, and how far it has come.
-use Rattle.offset_allocator.proofs.{Linking.Names.names-append, Linking.Parts.some_part, Filing.Filed.filed_in, Filing.Filed.filed_out, Filing.Filed.share, Moving.Gaps.follows}
+use Rattle.offset_allocator.proofs.{Linking.Rows.times-end, Linking.Parts.some_part, Filing.Filed.filed_in, Filing.Filed.filed_out, Filing.Filed.share, Moving.Gaps.follows}
 use Rattle.offset_allocator.proofs.{Moving.Gaps.next_after, Moving.Gaps.seen, Moving.Sliding.folds_append, Tallies.listed_named, Tallies.one-same, Tallies.tally_append, Tallies.times-append, Tallies.units-append}
 use Rattle.offset_allocator.proofs.{Views.ViewBins.hit, Views.ViewBins.length_remove, Views.ViewBins.times_put, Classes.down_small}
-use Rattle.offset_allocator.proofs.Common.{◌≡◌, ◌≢◌, ℕ, zero, suc, ◌+◌, ◌-◌, ◌*◌, ◌<◌, ◌≤◌, Bool, true, false, not, ◌&&◌, nat_le, nat_eq, Some, None, Option, List, [], ◌∷◌, ◌++◌, if◌then◌else◌, refl, sym}
-use Rattle.offset_allocator.proofs.Common.{ap, ap₂, subst, ◌∙◌, arith, append_assoc, append-nil, length, length-append, FoldsTo, ChainCells, node, Block, Place, free_block, free_part, units, first_or, Move, move_of, HasPlace}
-use Rattle.offset_allocator.proofs.Common.{AreInBins, IsAmong, IsUnlisted, ne_eqb, bin_at, down, remove, push, push_all, count_named, count_in_bin, one}
-use Rattle.offset_allocator.specs.Moving.BySteps.{first_whole, kept, stepped, given_up, used_up, rebinned, moves_by}
+use Rattle.offset_allocator.proofs.Common.{◌≡◌, ◌≢◌, ℕ, ◌+◌, ◌-◌, ◌*◌, ◌<◌, ◌≤◌, Bool, true, false, not, ◌&&◌, nat_le, nat_eq, Some, None, Option, List, [], ◌∷◌, ◌++◌, if◌then◌else◌, refl, sym}
+use Rattle.offset_allocator.proofs.Common.{ap, ap₂, subst, ◌∙◌, arith, append_assoc, append-nil, length, length-append, FoldsTo, ChainCells, node, Block, free_block, free_part, units, first_or, Move, move_of, HasPlace}
+use Rattle.offset_allocator.proofs.Common.{AreInBins, IsAmong, IsUnlisted, ne_eqb, eq-eqb, bin_at, last_or, down, remove, push, push_all, count_named, one}
+use Rattle.offset_allocator.specs.Moving.BySteps.{first_whole, kept, stepped, given_up, used_up, moves_by}
 use Rattle.offset_allocator.specs.{Moving.Gaps.HasGap, Moving.Gaps.IsGap, Names.names_of}
 use Rattle.offset_allocator.specs.declared.moves.gap.Gap.{Gap}
+
+-- each free one leaves its bin, and what it keeps is then the newest of its own
+abbrev pub rebinned : ℕ → List Block → List (List ℕ) → List (List ℕ)
+rebinned s [] bins = bins
+rebinned s (b ∷ bs) bins = rebinned s bs (if b.used then bins else push_all (free_part b.name (kept s b.size bs)) (remove (down b.size) b.name bins))
 
 -- one block more in front
 pub first_here : (s : ℕ) (b : Block) (bs : List Block) → bs ≢ [] → (u : Bool) → u ≡ (not b.used && nat_le s b.size)
@@ -65,55 +70,67 @@ filed_put fs cs d ls u long f k y =
     )
 
 -- how far a gap has come over the blocks of a run: `left` is what stays of those that were met, those in `rest` were not
--- met yet, and `at` is the link to the next one
-pub record IsStepping {F A B : Type 0} (R : F → Move → F → Type 0) (s : ℕ) (front run : List Block) (f : F) (accesses : ℕ) (max : ℕ) (number : A → ℕ)
-    (t : ChainCells) (m last count : ℕ) (gap : Gap A B) (at : Option ℕ) (g : F) (used : ℕ) (ls₀ ls : List (List ℕ)) (u₀ u : List ℕ) : Type 0 where
+-- met yet, `at` is the next one, and `link` names the block after those that were met
+pub record IsStepping {F A B : Type 0} (R : F → Move → F → Type 0) (s : ℕ) (front run back : List Block) (end : ℕ) (f : F) (accesses : ℕ) (max : ℕ) (number : A → ℕ)
+    (t : ChainCells) (m last count : ℕ) (gap : Gap A B) (at link : Option ℕ) (g : F) (used : ℕ) (ls₀ ls : List (List ℕ)) (u₀ u : List ℕ) : Type 0 where
   pub left : List Block
   pub rest : List Block
-  pub there : IsGap max number gap t m last count (record { before = front ++ left; block = free_block gap.name gap.size; after = rest })
+  pub there : IsGap max number gap t m last count (record { before = front ++ left; block = free_block gap.name gap.size; after = rest ++ back })
   pub next : at ≡ first_or None rest
+  pub linked : link ≡ first_or None (rest ++ back)
+  pub ends : last_or (Some end) rest ≡ Some end
   pub blocks : left ++ stepped s rest ≡ stepped s run
   pub sized : gap.size + given_up s rest ≡ given_up s run
   pub moved : List Move
   pub calls : FoldsTo R f moved g
   pub all : moved ++ moves_by s (gap.offset + gap.size) gap.offset rest ≡ moves_by s (units front) (units front) run
   pub bins : rebinned s rest ls ≡ rebinned s run ls₀
-  pub filed : AreInBins ((front ++ left) ++ rest) ls
+  pub filed : AreInBins ((front ++ left) ++ (rest ++ back)) ls
   pub put : List ℕ
   pub unused : u ≡ u₀ ++ put
   pub names : put ++ names_of (used_up s rest) ≡ names_of (used_up s run)
   pub bounded : used + 18 * length rest ≤ accesses + 18 * length run
 
 -- at first
-pub stepping_start : {F A B : Type 0} {R : F → Move → F → Type 0} (s : ℕ) {front run : List Block} {x : ℕ} {f : F} {accesses : ℕ} {max : ℕ} {number : A → ℕ} {t : ChainCells} {m last count : ℕ}
-    {gap : Gap A B} {at : Option ℕ} {ls : List (List ℕ)} {u : List ℕ}
-    → IsGap max number gap t m last count (record { before = front; block = free_block x 0; after = run }) → at ≡ first_or None run → AreInBins (front ++ run) ls
-    → IsStepping R s front run f accesses max number t m last count gap at f accesses ls ls u u
-stepping_start s {front} {run} {x} {max = max} {number = number} {t = t} {m = m} {last = last} {count = count} {gap = gap} {ls = ls} {u = u} i at_is filed =
+pub stepping_start : {F A B : Type 0} {R : F → Move → F → Type 0} (s : ℕ) {front run back : List Block} {end x : ℕ} {f : F} {accesses : ℕ} {max : ℕ} {number : A → ℕ} {t : ChainCells} {m last count : ℕ}
+    {gap : Gap A B} {at link : Option ℕ} {ls : List (List ℕ)} {u : List ℕ}
+    → IsGap max number gap t m last count (record { before = front; block = free_block x 0; after = run ++ back }) → at ≡ link → link ≡ first_or None (run ++ back) → last_or None run ≡ Some end
+    → AreInBins (front ++ (run ++ back)) ls → IsStepping R s front run back end f accesses max number t m last count gap at link f accesses ls ls u u
+stepping_start s {front} {run} {back} {end} {x} {max = max} {number = number} {t = t} {m = m} {last = last} {count = count} {gap = gap} {ls = ls} {u = u} i at_is link_is ends filed =
     let zero_more : units front + 0 ≡ units front = omega arith in
     record {
       left = [];
       rest = run;
-      there = subst (λ (l : List Block). IsGap max number gap t m last count (record { before = l; block = free_block gap.name gap.size; after = run })) (sym (append-nil front))
-          (subst (λ (b : Block). IsGap max number gap t m last count (record { before = front; block = b; after = run })) (ap₂ free_block i.there.name (sym i.size)) i);
-      next = at_is;
+      there = subst (λ (l : List Block). IsGap max number gap t m last count (record { before = l; block = free_block gap.name gap.size; after = run ++ back })) (sym (append-nil front))
+          (subst (λ (b : Block). IsGap max number gap t m last count (record { before = front; block = b; after = run ++ back })) (ap₂ free_block i.there.name (sym i.size)) i);
+      next = at_is ∙ link_is ∙ first run ends;
+      linked = link_is;
+      ends = kept_end run ends;
       blocks = refl;
       sized = omega (arith, i.size);
       moved = [];
       calls = refl;
       all = rw (i.size, i.offset, zero_more) refl;
       bins = refl;
-      filed = subst (λ (l : List Block). AreInBins (l ++ run) ls) (sym (append-nil front)) filed;
+      filed = subst (λ (l : List Block). AreInBins (l ++ (run ++ back)) ls) (sym (append-nil front)) filed;
       put = [];
       unused = sym (append-nil u);
       names = refl;
       bounded = omega arith;
     }
+  where
+    first : (l : List Block) → last_or None l ≡ Some end → first_or None (l ++ back) ≡ first_or None l
+    first [] e = absurd (cc)
+    first (b ∷ bs) e = refl
 
-module _ {F A B : Type 0} {R : F → Move → F → Type 0} {s : ℕ} {front run : List Block} {f : F} {accesses : ℕ} {max : ℕ} {number : A → ℕ} {t : ChainCells} {m last count : ℕ}
-    {gap : Gap A B} {at : Option ℕ} {g : F} {used : ℕ} {ls₀ ls : List (List ℕ)} {u₀ u : List ℕ}
-    (i : IsStepping R s front run f accesses max number t m last count gap at g used ls₀ ls u₀ u) where
-  -- a block is left where a link leads to it
+    kept_end : (l : List Block) → last_or None l ≡ Some end → last_or (Some end) l ≡ Some end
+    kept_end [] e = absurd (cc)
+    kept_end (b ∷ bs) e = e
+
+module _ {F A B : Type 0} {R : F → Move → F → Type 0} {s : ℕ} {front run back : List Block} {end : ℕ} {f : F} {accesses : ℕ} {max : ℕ} {number : A → ℕ} {t : ChainCells} {m last count : ℕ}
+    {gap : Gap A B} {at link : Option ℕ} {g : F} {used : ℕ} {ls₀ ls : List (List ℕ)} {u₀ u : List ℕ}
+    (i : IsStepping R s front run back end f accesses max number t m last count gap at link g used ls₀ ls u₀ u) where
+  -- a block is left where there is a next one
   pub stepping_next : {y : ℕ} → at ≡ Some y → (b : Block) × (bs : List Block) × (i.rest ≡ b ∷ bs) × (b.name ≡ y)
   stepping_next {y} q = go i.rest refl (sym i.next ∙ q)
     where
@@ -121,7 +138,7 @@ module _ {F A B : Type 0} {R : F → Move → F → Type 0} {s : ℕ} {front run
       go [] e n = absurd (cc)
       go (b ∷ bs) e n = (b, bs, e, cc)
 
-  -- none is left where it leads to none
+  -- none is left where there is none
   pub stepping_end : at ≡ None → i.rest ≡ []
   stepping_end q = go i.rest refl (sym i.next ∙ q)
     where
@@ -129,46 +146,77 @@ module _ {F A B : Type 0} {R : F → Move → F → Type 0} {s : ℕ} {front run
       go [] e n = e
       go (b ∷ bs) e n = absurd (cc)
 
-  pub stepping_within : {c : ChainCells} {last₀ count₀ x : ℕ} {b : Block} → HasPlace c m last₀ count₀ x (record { before = front; block = b; after = run }) → length run < length c.nodes
-  stepping_within {b = b} h = omega (arith, h.chain.full, length-append front (b ∷ run))
+  pub stepping_within : {c : ChainCells} {last₀ count₀ x : ℕ} {b : Block} → HasPlace c m last₀ count₀ x (record { before = front; block = b; after = run ++ back }) → length run < length c.nodes
+  stepping_within {b = b} h = omega (arith, h.chain.full, length-append front (b ∷ (run ++ back)), length-append run back)
 
   module _ (b : Block) (bs : List Block) (e : i.rest ≡ b ∷ bs) where
+    after_is : i.rest ++ back ≡ b ∷ (bs ++ back)
+    after_is = ap (λ l. l ++ back) e
+
     -- the gap, before the next block
-    pub gap_here : HasGap t m last count gap.name (record { before = front ++ i.left; block = free_block gap.name gap.size; after = b ∷ bs })
-    gap_here = follows i.there.there e
+    pub gap_here : HasGap t m last count gap.name (record { before = front ++ i.left; block = free_block gap.name gap.size; after = b ∷ (bs ++ back) })
+    gap_here = follows i.there.there after_is
+
+    pub gap_after : i.rest ++ back ≡ b ∷ (bs ++ back)
+    gap_after = after_is
+
+    ends_here : last_or (Some b.name) bs ≡ Some end
+    ends_here = sym (ap (last_or (Some end)) e) ∙ i.ends
+
+    pub ends_after : last_or (Some end) bs ≡ Some end
+    ends_after = go bs ends_here
+      where
+        go : (l : List Block) → last_or (Some b.name) l ≡ Some end → last_or (Some end) l ≡ Some end
+        go [] h = refl
+        go (d ∷ l) h = h
+
+    -- the block after it, where it is not the last one
+    pub next_within : {r link' : Option ℕ} → r ≡ (if nat_eq b.name end then None else link') → link' ≡ first_or None (bs ++ back) → r ≡ first_or None bs
+    next_within {r} {link'} is l = go bs refl ends_here
+      where
+        go : (ds : List Block) → bs ≡ ds → last_or (Some b.name) ds ≡ Some end → r ≡ first_or None bs
+        go [] q h = let same : b.name ≡ end = cc in is ∙ ap (λ (t : Bool). if t then None else link') (eq-eqb b.name end same) ∙ sym (ap (first_or None) q)
+        go (d ∷ ds) q h = is ∙ ap (λ (t : Bool). if t then None else link') (ne_eqb b.name end (λ same. twice same)) ∙ l ∙ ap (λ k. first_or None (k ++ back)) q ∙ sym (ap (first_or None) q)
+          where
+            twice : b.name ≡ end → ⊥
+            twice same =
+                let two = times-end b.name (d ∷ ds) (h ∙ ap (λ n. Some n) (sym same)) in
+                omega (arith, two, seen _ _ (b ∷ (bs ++ back)) gap_here b.name, ap (λ k. count_named b.name (k ++ back)) q, times-append b.name (d ∷ ds) back, one-same b.name)
 
     pub next_filed : b.used ≡ false → IsAmong b.name (bin_at ls (down b.size))
-    next_filed free = filed_in (front ++ i.left) bs b ls (subst (λ l. AreInBins ((front ++ i.left) ++ l) ls) e i.filed) free
+    next_filed free = filed_in (front ++ i.left) (bs ++ back) b ls (subst (λ l. AreInBins ((front ++ i.left) ++ l) ls) after_is i.filed) free
 
-    pub next_gone : b.used ≡ false → length ls ≡ 256 → AreInBins ((front ++ i.left) ++ bs) (remove (down b.size) b.name ls)
-    next_gone free long = filed_out (front ++ i.left) bs b ls (subst (λ l. AreInBins ((front ++ i.left) ++ l) ls) e i.filed) free long
-        (λ y. omega (arith, seen _ _ (b ∷ bs) gap_here y, times-append y (front ++ i.left) (b ∷ bs)))
+    pub next_gone : b.used ≡ false → length ls ≡ 256 → AreInBins ((front ++ i.left) ++ (bs ++ back)) (remove (down b.size) b.name ls)
+    next_gone free long = filed_out (front ++ i.left) (bs ++ back) b ls (subst (λ l. AreInBins ((front ++ i.left) ++ l) ls) after_is i.filed) free long
+        (λ y. omega (arith, seen _ _ (b ∷ (bs ++ back)) gap_here y, times-append y (front ++ i.left) (b ∷ (bs ++ back))))
 
     pub next_unlisted : b.used ≡ false → length ls ≡ 256 → IsUnlisted b.name (remove (down b.size) b.name ls)
     next_unlisted free long k l a = omega (
       arith,
       next_gone free long k b.name,
-      listed_named k b.name ((front ++ i.left) ++ bs),
-      seen _ _ (b ∷ bs) gap_here b.name,
+      listed_named k b.name ((front ++ i.left) ++ (bs ++ back)),
+      seen _ _ (b ∷ (bs ++ back)) gap_here b.name,
       one-same b.name,
-      times-append b.name (front ++ i.left) bs,
+      times-append b.name (front ++ i.left) (bs ++ back),
       a,
     )
 
     -- a used block passes it
-    pub step_past : {t' : ChainCells} {last' count' : ℕ} {gap' : Gap A B} {at' : Option ℕ} {g' : F} {used' : ℕ} {ls' : List (List ℕ)} {u' : List ℕ} → b.used ≡ true
-        → IsGap max number gap' t' m last' count' (record { before = (front ++ i.left) ++ b ∷ []; block = free_block gap.name gap.size; after = bs })
-        → at' ≡ (node t b.name).after → FoldsTo R g (move_of (gap.offset + gap.size) gap.offset b) g' → used' ≤ used + 18 → ls' ≡ ls → u' ≡ u
-        → IsStepping R s front run f accesses max number t' m last' count' gap' at' g' used' ls₀ ls' u₀ u'
-    step_past {t'} {last'} {count'} {gap'} {at'} {g'} {used'} {ls'} {u'} live h q call few same_bins same_names =
+    pub step_past : {t' : ChainCells} {last' count' : ℕ} {gap' : Gap A B} {at' link' : Option ℕ} {g' : F} {used' : ℕ} {ls' : List (List ℕ)} {u' : List ℕ} → b.used ≡ true
+        → IsGap max number gap' t' m last' count' (record { before = (front ++ i.left) ++ b ∷ []; block = free_block gap.name gap.size; after = bs ++ back })
+        → at' ≡ (if nat_eq b.name end then None else link') → link' ≡ (node t b.name).after → FoldsTo R g (move_of (gap.offset + gap.size) gap.offset b) g' → used' ≤ used + 18 → ls' ≡ ls → u' ≡ u
+        → IsStepping R s front run back end f accesses max number t' m last' count' gap' at' link' g' used' ls₀ ls' u₀ u'
+    step_past {t'} {last'} {count'} {gap'} {at'} {link'} {g'} {used'} {ls'} {u'} live h w q call few same_bins same_names =
         let offset : gap'.offset ≡ gap.offset + b.size = omega (arith, h.offset, i.there.offset, units-append (front ++ i.left) (b ∷ [])) in
         let from : (gap.offset + gap.size) + b.size ≡ gap'.offset + gap'.size = omega (arith, offset, h.size) in
         record {
           left = i.left ++ b ∷ [];
           rest = bs;
-          there = subst (λ (l : List Block). IsGap max number gap' t' m last' count' (record { before = l; block = free_block gap'.name gap'.size; after = bs })) (append_assoc front i.left (b ∷ []))
-              (subst (λ (d : Block). IsGap max number gap' t' m last' count' (record { before = (front ++ i.left) ++ b ∷ []; block = d; after = bs })) (ap₂ free_block h.there.name (sym h.size)) h);
-          next = q ∙ next_after _ _ b bs gap_here;
+          there = subst (λ (l : List Block). IsGap max number gap' t' m last' count' (record { before = l; block = free_block gap'.name gap'.size; after = bs ++ back })) (append_assoc front i.left (b ∷ []))
+              (subst (λ (d : Block). IsGap max number gap' t' m last' count' (record { before = (front ++ i.left) ++ b ∷ []; block = d; after = bs ++ back })) (ap₂ free_block h.there.name (sym h.size)) h);
+          next = next_within w (q ∙ next_after _ _ b (bs ++ back) gap_here);
+          linked = q ∙ next_after _ _ b (bs ++ back) gap_here;
+          ends = ends_after;
           blocks = append_assoc i.left (b ∷ []) (stepped s bs) ∙ ap (λ l. i.left ++ l) (sym (ap (stepped s) e ∙ stepped_used s b bs live)) ∙ i.blocks;
           sized = omega (arith, i.sized, h.size, ap (given_up s) e, given_used s b bs live);
           moved = i.moved ++ move_of (gap.offset + gap.size) gap.offset b;
@@ -178,7 +226,7 @@ module _ {F A B : Type 0} {R : F → Move → F → Type 0} {s : ℕ} {front run
               ∙ sym (ap (moves_by s (gap.offset + gap.size) gap.offset) e ∙ moves_by_used s b bs live (gap.offset + gap.size) gap.offset)) ∙ i.all;
           bins = rw same_bins (sym (ap (λ l. rebinned s l ls) e ∙ rebinned_used s b bs live ls) ∙ i.bins);
           filed = rw same_bins (subst (λ (l : List Block). AreInBins l ls)
-              (ap (λ l. (front ++ i.left) ++ l) e ∙ sym (append_assoc (front ++ i.left) (b ∷ []) bs) ∙ ap (λ l. l ++ bs) (append_assoc front i.left (b ∷ []))) i.filed);
+              (ap (λ l. (front ++ i.left) ++ l) after_is ∙ sym (append_assoc (front ++ i.left) (b ∷ []) (bs ++ back)) ∙ ap (λ l. l ++ (bs ++ back)) (append_assoc front i.left (b ∷ []))) i.filed);
           put = i.put;
           unused = same_names ∙ i.unused;
           names = ap (λ l. i.put ++ names_of l) (sym (ap (used_up s) e ∙ emptied_used s b bs live)) ∙ i.names;
@@ -186,16 +234,16 @@ module _ {F A B : Type 0} {R : F → Move → F → Type 0} {s : ℕ} {front run
         }
 
     -- a free block keeps a part, which passes it
-    pub step_part : {t' : ChainCells} {last' count' : ℕ} {gap' : Gap A B} {at' : Option ℕ} {used' : ℕ} {ls' : List (List ℕ)} {u' : List ℕ} (n : ℕ) → b.used ≡ false → n ≡ kept s b.size bs → 0 < n → n ≤ b.size
+    pub step_part : {t' : ChainCells} {last' count' : ℕ} {gap' : Gap A B} {at' link' : Option ℕ} {used' : ℕ} {ls' : List (List ℕ)} {u' : List ℕ} (n : ℕ) → b.used ≡ false → n ≡ kept s b.size bs → 0 < n → n ≤ b.size
         → length ls ≡ 256
         → IsGap max number gap' t' m last' count' (record {
           before = (front ++ i.left) ++ record b { size = n } ∷ [];
           block = record (free_block gap.name gap.size) { size = gap.size + (b.size - n) };
-          after = bs;
+          after = bs ++ back;
         })
-        → at' ≡ (node t b.name).after → used' ≤ used + 18 → ls' ≡ push (down n) b.name (remove (down b.size) b.name ls) → u' ≡ u
-        → IsStepping R s front run f accesses max number t' m last' count' gap' at' g used' ls₀ ls' u₀ u'
-    step_part {t'} {last'} {count'} {gap'} {at'} {used'} {ls'} {u'} n free is some within long h q few new_bins same_names =
+        → at' ≡ (if nat_eq b.name end then None else link') → link' ≡ (node t b.name).after → used' ≤ used + 18 → ls' ≡ push (down n) b.name (remove (down b.size) b.name ls) → u' ≡ u
+        → IsStepping R s front run back end f accesses max number t' m last' count' gap' at' link' g used' ls₀ ls' u₀ u'
+    step_part {t'} {last'} {count'} {gap'} {at'} {link'} {used'} {ls'} {u'} n free is some within long h w q few new_bins same_names =
         let d : Block = record b { size = n } in
         let offset : gap'.offset ≡ gap.offset + n = omega (arith, h.offset, i.there.offset, units-append (front ++ i.left) (d ∷ [])) in
         let from : (gap.offset + gap.size) + b.size ≡ gap'.offset + gap'.size = omega (arith, offset, h.size, within) in
@@ -206,9 +254,11 @@ module _ {F A B : Type 0} {R : F → Move → F → Type 0} {s : ℕ} {front run
         record {
           left = i.left ++ d ∷ [];
           rest = bs;
-          there = subst (λ (l : List Block). IsGap max number gap' t' m last' count' (record { before = l; block = free_block gap'.name gap'.size; after = bs })) (append_assoc front i.left (d ∷ []))
-              (subst (λ (c : Block). IsGap max number gap' t' m last' count' (record { before = (front ++ i.left) ++ d ∷ []; block = c; after = bs })) (ap₂ free_block h.there.name (sym h.size)) h);
-          next = q ∙ next_after _ _ b bs gap_here;
+          there = subst (λ (l : List Block). IsGap max number gap' t' m last' count' (record { before = l; block = free_block gap'.name gap'.size; after = bs ++ back })) (append_assoc front i.left (d ∷ []))
+              (subst (λ (c : Block). IsGap max number gap' t' m last' count' (record { before = (front ++ i.left) ++ d ∷ []; block = c; after = bs ++ back })) (ap₂ free_block h.there.name (sym h.size)) h);
+          next = next_within w (q ∙ next_after _ _ b (bs ++ back) gap_here);
+          linked = q ∙ next_after _ _ b (bs ++ back) gap_here;
+          ends = ends_after;
           blocks = append_assoc i.left (d ∷ []) (stepped s bs)
               ∙ ap (λ l. i.left ++ l) (ap (λ l. l ++ stepped s bs) part ∙ sym (ap (stepped s) e ∙ stepped_free s b bs free)) ∙ i.blocks;
           sized = omega (arith, i.sized, h.size, ap (given_up s) e, given_free s b bs free, is);
@@ -217,8 +267,8 @@ module _ {F A B : Type 0} {R : F → Move → F → Type 0} {s : ℕ} {front run
           all = ap (λ l. i.moved ++ l) (ap₂ (λ k j. moves_by s k j bs) (sym from) (offset ∙ ap (λ k. gap.offset + k) is)
               ∙ sym (ap (moves_by s (gap.offset + gap.size) gap.offset) e ∙ moves_by_free s b bs free (gap.offset + gap.size) gap.offset)) ∙ i.all;
           bins = ap (rebinned s bs) pushed ∙ sym (ap (λ l. rebinned s l ls) e ∙ rebinned_free s b bs free ls) ∙ i.bins;
-          filed = rw new_bins (subst (λ (l : List Block). AreInBins (l ++ bs) (push (down n) b.name (remove (down b.size) b.name ls))) (append_assoc front i.left (d ∷ []))
-              (filed_put (front ++ i.left) bs d (remove (down b.size) b.name ls) free (length_remove _ _ ls ∙ long) (next_gone free long)));
+          filed = rw new_bins (subst (λ (l : List Block). AreInBins (l ++ (bs ++ back)) (push (down n) b.name (remove (down b.size) b.name ls))) (append_assoc front i.left (d ∷ []))
+              (filed_put (front ++ i.left) (bs ++ back) d (remove (down b.size) b.name ls) free (length_remove _ _ ls ∙ long) (next_gone free long)));
           put = i.put;
           unused = same_names ∙ i.unused;
           names = ap (λ l. i.put ++ names_of l) (sym (ap (used_up s) e ∙ emptied_free s b bs free n is ∙ none n some)) ∙ i.names;
@@ -229,19 +279,21 @@ module _ {F A B : Type 0} {R : F → Move → F → Type 0} {s : ℕ} {front run
         none n l = ap (λ (t : Bool). (if t then b ∷ [] else []) ++ used_up s bs) (ne_eqb n 0 (λ q. absurd (omega (arith, l, q))))
 
     -- a free block goes into it
-    pub step_into : {t' : ChainCells} {last' count' : ℕ} {gap' : Gap A B} {at' : Option ℕ} {used' : ℕ} {ls' : List (List ℕ)} {u' : List ℕ} → b.used ≡ false → 0 ≡ kept s b.size bs → length ls ≡ 256
-        → IsGap max number gap' t' m last' count' (record { before = front ++ i.left; block = record (free_block gap.name gap.size) { size = gap.size + b.size }; after = bs })
-        → at' ≡ (node t b.name).after → used' ≤ used + 18 → ls' ≡ remove (down b.size) b.name ls → u' ≡ u ++ b.name ∷ []
-        → IsStepping R s front run f accesses max number t' m last' count' gap' at' g used' ls₀ ls' u₀ u'
-    step_into {t'} {last'} {count'} {gap'} {at'} {used'} {ls'} {u'} free is long h q few new_bins more_names =
+    pub step_into : {t' : ChainCells} {last' count' : ℕ} {gap' : Gap A B} {at' link' : Option ℕ} {used' : ℕ} {ls' : List (List ℕ)} {u' : List ℕ} → b.used ≡ false → 0 ≡ kept s b.size bs → length ls ≡ 256
+        → IsGap max number gap' t' m last' count' (record { before = front ++ i.left; block = record (free_block gap.name gap.size) { size = gap.size + b.size }; after = bs ++ back })
+        → at' ≡ (if nat_eq b.name end then None else link') → link' ≡ (node t b.name).after → used' ≤ used + 18 → ls' ≡ remove (down b.size) b.name ls → u' ≡ u ++ b.name ∷ []
+        → IsStepping R s front run back end f accesses max number t' m last' count' gap' at' link' g used' ls₀ ls' u₀ u'
+    step_into {t'} {last'} {count'} {gap'} {at'} {link'} {used'} {ls'} {u'} free is long h w q few new_bins more_names =
         let offset : gap'.offset ≡ gap.offset = omega (arith, h.offset, i.there.offset) in
         let from : (gap.offset + gap.size) + b.size ≡ gap'.offset + gap'.size = omega (arith, offset, h.size) in
         let zero_more : gap.offset + 0 ≡ gap'.offset = omega (arith, offset) in
         record {
           left = i.left;
           rest = bs;
-          there = subst (λ (c : Block). IsGap max number gap' t' m last' count' (record { before = front ++ i.left; block = c; after = bs })) (ap₂ free_block h.there.name (sym h.size)) h;
-          next = q ∙ next_after _ _ b bs gap_here;
+          there = subst (λ (c : Block). IsGap max number gap' t' m last' count' (record { before = front ++ i.left; block = c; after = bs ++ back })) (ap₂ free_block h.there.name (sym h.size)) h;
+          next = next_within w (q ∙ next_after _ _ b (bs ++ back) gap_here);
+          linked = q ∙ next_after _ _ b (bs ++ back) gap_here;
+          ends = ends_after;
           blocks = ap (λ l. i.left ++ l) (ap (λ n. free_part b.name n ++ stepped s bs) is ∙ sym (ap (stepped s) e ∙ stepped_free s b bs free)) ∙ i.blocks;
           sized = omega (arith, i.sized, h.size, ap (given_up s) e, given_free s b bs free, is);
           moved = i.moved;
@@ -259,18 +311,18 @@ module _ {F A B : Type 0} {R : F → Move → F → Type 0} {s : ℕ} {front run
         }
 
   -- at the end
-  pub stepping_done : i.rest ≡ [] → IsGap max number gap t m last count (record { before = front ++ stepped s run; block = free_block gap.name gap.size; after = [] })
-      × (at ≡ first_or None []) × (gap.size ≡ given_up s run) × FoldsTo R f (moves_by s (units front) (units front) run) g × (ls ≡ rebinned s run ls₀)
-      × AreInBins (front ++ stepped s run) ls × (u ≡ u₀ ++ names_of (used_up s run)) × (used ≤ accesses + 18 * length run)
+  pub stepping_done : i.rest ≡ [] → IsGap max number gap t m last count (record { before = front ++ stepped s run; block = free_block gap.name gap.size; after = back })
+      × (link ≡ first_or None back) × (gap.size ≡ given_up s run) × FoldsTo R f (moves_by s (units front) (units front) run) g × (ls ≡ rebinned s run ls₀)
+      × AreInBins ((front ++ stepped s run) ++ back) ls × (u ≡ u₀ ++ names_of (used_up s run)) × (used ≤ accesses + 18 * length run)
   stepping_done none =
       let left_is : i.left ≡ stepped s run = sym (append-nil i.left) ∙ ap (λ l. i.left ++ stepped s l) (sym none) ∙ i.blocks in (
-        subst (λ (l : List Block). IsGap max number gap t m last count (record { before = front ++ l; block = free_block gap.name gap.size; after = [] })) left_is
-            (subst (λ (l : List Block). IsGap max number gap t m last count (record { before = front ++ i.left; block = free_block gap.name gap.size; after = l })) none i.there),
-        i.next ∙ ap (first_or None) none,
+        subst (λ (l : List Block). IsGap max number gap t m last count (record { before = front ++ l; block = free_block gap.name gap.size; after = back })) left_is
+            (subst (λ (l : List Block). IsGap max number gap t m last count (record { before = front ++ i.left; block = free_block gap.name gap.size; after = l ++ back })) none i.there),
+        i.linked ∙ ap (λ l. first_or None (l ++ back)) none,
         omega (arith, i.sized, ap (given_up s) none),
         subst (λ l. FoldsTo R f l g) (sym (append-nil i.moved) ∙ ap (λ l. i.moved ++ moves_by s (gap.offset + gap.size) gap.offset l) (sym none) ∙ i.all) i.calls,
         sym (ap (λ l. rebinned s l ls) none) ∙ i.bins,
-        subst (λ (l : List Block). AreInBins l ls) (ap (λ l. (front ++ i.left) ++ l) none ∙ append-nil (front ++ i.left) ∙ ap (λ l. front ++ l) left_is) i.filed,
+        subst (λ (l : List Block). AreInBins ((front ++ l) ++ back) ls) left_is (subst (λ (l : List Block). AreInBins ((front ++ i.left) ++ (l ++ back)) ls) none i.filed),
         i.unused ∙ ap (λ l. u₀ ++ l) (sym (append-nil i.put) ∙ ap (λ l. i.put ++ names_of (used_up s l)) (sym none) ∙ i.names),
         omega (arith, i.bounded, ap (λ (l : List Block). length l) none),
       )

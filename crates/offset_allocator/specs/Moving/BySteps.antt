@@ -1,12 +1,11 @@
 -- What `compact_by` leaves: each live range moves by whole steps, so that it keeps what its offset leaves of one.
 use Rattle.std.specs.Prelude.{◌≡◌, ◌≢◌, ℕ, ◌+◌, ◌-◌, ◌%◌, ◌<◌, ◌≤◌, ◌⊎◌, Bool, true, false, not, ◌&&◌, List, [], ◌∷◌, ◌++◌, Option, Some, None, length, nat_eq, nat_le, if◌then◌else◌}
 use Rattle.std.specs.List.{AllByRecursion}
-use Rattle.offset_allocator.specs.Classes.{down}
 use Rattle.offset_allocator.specs.Moving.Compacting.{Move, move_of}
 use Rattle.offset_allocator.specs.Names.{IsTaken, names_of}
 use Rattle.offset_allocator.specs.Relations.{SameSpace, SameState}
 use Rattle.offset_allocator.specs.Requests.{HasRoomFor}
-use Rattle.offset_allocator.specs.View.{View, Block, ends_used, free_block, free_part, push, push_all, remove}
+use Rattle.offset_allocator.specs.View.{View, Block, ends_used, free_block, free_part, replace}
 
 -- what a free block of n units keeps, which has these blocks after it: what whole steps leave of it, and nothing at the end
 abbrev pub kept : ℕ → ℕ → List Block → ℕ
@@ -28,11 +27,6 @@ abbrev pub used_up : ℕ → List Block → List Block
 used_up s [] = []
 used_up s (b ∷ bs) = (if not b.used && nat_eq (kept s b.size bs) 0 then b ∷ [] else []) ++ used_up s bs
 
--- each free one leaves its bin, and what it keeps is then the newest of its own
-abbrev pub rebinned : ℕ → List Block → List (List ℕ) → List (List ℕ)
-rebinned s [] bins = bins
-rebinned s (b ∷ bs) bins = rebinned s bs (if b.used then bins else push_all (free_part b.name (kept s b.size bs)) (remove (down b.size) b.name bins))
-
 -- the moves of the used ones of blocks that begin at an offset, if they begin at another one then
 abbrev pub moves_by : ℕ → ℕ → ℕ → List Block → List Move
 moves_by s from to [] = []
@@ -49,7 +43,8 @@ abbrev pub CanStep : View → Type 0
 CanStep v = HasRoomFor 1 v ⊎ (ends_used v.blocks ≡ false)
 
 -- from the first free block of at least a step on, the free ones keep what whole steps leave of them, and what they give
--- up is one free block at the end, the newest of its bin
+-- up is one free block at the end. Each free one leaves its bin, and what it keeps is then the newest of its own, and at
+-- last the one at the end
 pub record SlidesBy (s : ℕ) (v w : View) : Type 0 where
   pub front : List Block
   pub first : Block
@@ -63,10 +58,7 @@ pub record SlidesBy (s : ℕ) (v w : View) : Type 0 where
   pub left : List ℕ
   pub taken : IsTaken (length v.blocks) v.unused name left
   pub names : w.unused ≡ left ++ names_of (used_up s (first ∷ rest))
-  pub view : SameSpace (record v {
-    blocks = front ++ (stepped s (first ∷ rest) ++ free_block name (given_up s (first ∷ rest)) ∷ []);
-    bins = push (down (given_up s (first ∷ rest))) name (rebinned s (first ∷ rest) v.bins);
-  }) w
+  pub view : SameSpace (replace v front (first ∷ rest) (stepped s (first ∷ rest) ++ free_block name (given_up s (first ∷ rest)) ∷ []) []) w
 
 -- a compaction by steps; it is refused where a name is missing, and nothing changes where no free block has a step
 abbrev pub CompactsBy : ℕ → View → View → Bool → Type 0

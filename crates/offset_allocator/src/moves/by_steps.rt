@@ -1,32 +1,38 @@
-//! Slides live ranges to the front by whole steps, so that each keeps what its offset leaves of one, and with
-//! it its alignment. It may make a node, changes the chain by one split and by `gap`, and the bins of the free
-//! blocks that are passed and of the one at the end.
+//! Slides live ranges to the front by whole steps, of the space or of a run of blocks that makes room, so that
+//! each keeps what its offset leaves of a step, and with it its alignment. It may make a node, changes the chain
+//! by one split and by `gap`, and the bins of the free blocks that are passed and of the one at the end.
 ghost use Rattle.std.specs.Prelude.{ℕ, IsTrue, ◌≡◌, ◌↔◌, ◌≢◌, ◌+◌, ◌*◌, ◌<◌, ◌≤◌, [], ◌∷◌, ◌++◌, List, Some, None, false};
-ghost use Rattle.std.specs.Prelude.{true, length, if◌then◌else◌, not, ◌&&◌, nat_le};
+ghost use Rattle.std.specs.Prelude.{IfSome, true, length, if◌then◌else◌, not, ◌&&◌, nat_eq, nat_le};
 ghost use Rattle.offset_allocator.specs.Cells.{node};
 ghost use Rattle.std.specs.List.{FoldsTo};
 ghost use Rattle.offset_allocator.specs.Accesses.{Costs};
-ghost use Rattle.offset_allocator.specs.Chain.{IsSpace, blocks, first_or};
+ghost use Rattle.offset_allocator.specs.Chain.{IsSpace, blocks, first_or, last_or};
 ghost use Rattle.offset_allocator.specs.Moving.BySteps.{CanStep, CompactsBy, used_up, first_whole, given_up, kept};
-ghost use Rattle.offset_allocator.specs.Moving.BySteps.{moves_by, rebinned, stepped};
+ghost use Rattle.offset_allocator.specs.Moving.BySteps.{moves_by, stepped};
 ghost use Rattle.offset_allocator.specs.Moving.Compacting.{IsCalledWith, KeepsSizes, live};
-ghost use Rattle.offset_allocator.specs.Names.{names_of};
+ghost use Rattle.offset_allocator.specs.Classes.{down, up, value};
+ghost use Rattle.offset_allocator.specs.Moving.Room.{ranges_of};
+ghost use Rattle.offset_allocator.specs.Moving.RoomBySteps.{IsLeastCostBy, MakesRoomBy, names_short};
+ghost use Rattle.offset_allocator.specs.Names.{IsTaken, names_of};
 ghost use Rattle.offset_allocator.specs.Relations.{SameState};
+ghost use Rattle.offset_allocator.specs.Requests.{CanGrant, IsAlignment, blocks_needed, units_needed};
 ghost use Rattle.offset_allocator.specs.Store.{AreBinned, IsPlaceIn, bins_of, unused_of};
-ghost use Rattle.offset_allocator.specs.View.{AreInBins, Block, free_block, units};
+ghost use Rattle.offset_allocator.specs.View.{AreInBins, Block, free_block, push, push_all, remove_all, units};
 
 use crate::accesses::Accesses;
 use crate::index::linked;
 use crate::moves::compact::report;
 use crate::moves::gap;
 use crate::moves::gap::Gap;
-use crate::small_float::uint_to_float_round_down;
+use crate::moves::room::RoomCost;
+use crate::moves::room_by_steps::cheapest_by;
+use crate::small_float::{float_to_uint, uint_to_float_round_down, uint_to_float_round_up};
 use crate::store::{Store, ensure_spare};
 use crate::tables::Tables;
 use crate::{AllocatorOf, Move, bins, chain};
 
 // Whether a block is free and has at least `step` units.
-fn has_step<T: Tables>(tables: &T, name: u32, step: u32, count: &mut Accesses) -> bool
+pub(crate) fn has_step<T: Tables>(tables: &T, name: u32, step: u32, count: &mut Accesses) -> bool
     requires { name < length (T.cells tables.now).chain.nodes }
     ensures is { result ≡ (not (node (T.cells tables.now).chain name).used
         && nat_le step (node (T.cells tables.now).chain name).size) }
@@ -69,35 +75,46 @@ fn kept(size: u32, step: u32, after: Option<u32>) -> u32
     }
 }
 
-// Slides the used blocks after a free block of no units to the front by whole steps, to the end of the space:
-// the free ones leave their bins, what they keep becomes the newest of its own, and what they give up goes into
-// the block.
+// The block after `next`, which `after` names, of blocks up to `end`: that has none.
+fn within(next: u32, end: u32, after: Option<u32>) -> Option<u32>
+    ensures { result ≡ (if nat_eq next end then None else after) }
+{
+    if next == end { None } else { after }
+}
+
+// Slides the used blocks after a free block of no units to the front by whole steps, up to the block `end`: the
+// free ones leave their bins, what they keep becomes the newest of its own, and what they give up goes into the
+// block. The blocks after `end` stay.
 fn slide_by<T: Tables, F: FnMut(Move<T::Index>)>(
     store: &mut Store<T>,
     name: u32,
+    end: u32,
     step: u32,
     moved: &mut F,
 ) -> Gap<T::Index>
     requires some { 1 ≤ step }
-    requires place { (limit x : ℕ) × (front run : List Block)
+    requires place { (limit x : ℕ) × (front run back : List Block)
         × IsPlaceIn T.cells store.old limit name
-        (record { before = front; block = free_block x 0; after = run })
-        × AreInBins (front ++ run) (bins_of T.cells T.Index.MAX store.old) }
+        (record { before = front; block = free_block x 0; after = run ++ back })
+        × (last_or None run ≡ Some end)
+        × AreInBins (front ++ (run ++ back)) (bins_of T.cells T.Index.MAX store.old) }
     requires binned { AreBinned T.cells T.Index.MAX store.old }
     requires callable { F.IsAlwaysCallable moved.old }
-    ensures place { (limit x : ℕ) (front run : List Block) → IsPlaceIn T.cells store.old limit name
-        (record { before = front; block = free_block x 0; after = run })
-        → AreInBins (front ++ run) (bins_of T.cells T.Index.MAX store.old)
+    ensures place { (limit x : ℕ) (front run back : List Block) → IsPlaceIn T.cells store.old limit name
+        (record { before = front; block = free_block x 0; after = run ++ back })
+        → last_or None run ≡ Some end
+        → AreInBins (front ++ (run ++ back)) (bins_of T.cells T.Index.MAX store.old)
         → IsPlaceIn T.cells store.new limit result.name (record {
           before = front ++ stepped step run;
           block = free_block result.name result.size;
-          after = [];
+          after = back;
         })
         × (result.size ≡ given_up step run)
         × FoldsTo (IsCalledWith T.Index.NonMax.number (λ f range g. F.step f range tt g)) moved.old
         (moves_by step (units front) (units front) run) moved.new
-        × (bins_of T.cells T.Index.MAX store.new ≡ rebinned step run (bins_of T.cells T.Index.MAX store.old))
-        × AreInBins (front ++ stepped step run) (bins_of T.cells T.Index.MAX store.new)
+        × (bins_of T.cells T.Index.MAX store.new
+        ≡ push_all (stepped step run) (remove_all run (bins_of T.cells T.Index.MAX store.old)))
+        × AreInBins ((front ++ stepped step run) ++ back) (bins_of T.cells T.Index.MAX store.new)
         × (unused_of T.cells store.new ≡ unused_of T.cells store.old ++ names_of (used_up step run))
         × (store.new.accesses ≤ store.old.accesses + 18 * length run + 9) }
     ensures name { result.name ≡ name }
@@ -107,16 +124,18 @@ fn slide_by<T: Tables, F: FnMut(Move<T::Index>)>(
 {
     store.tables.shape();
     let mut gap = gap::open(&store.tables, name, 0, &mut store.accesses);
-    let mut at = store.tables.after(name, &mut store.accesses);
-    while let Some(next) = linked(at) {
+    let mut after = store.tables.after(name, &mut store.accesses);
+    let mut at = linked(after);
+    while let Some(next) = at {
         let more = store.tables.size(next, &mut store.accesses);
-        at = store.tables.after(next, &mut store.accesses);
+        after = store.tables.after(next, &mut store.accesses);
+        at = within(next, end, linked(after));
         if chain::is_used(&store.tables, next, &mut store.accesses) {
             report(moved, next, gap.offset + gap.size, gap.offset, more);
             gap::pass(store, &mut gap, next, more);
         } else {
             bins::remove(store, next, more);
-            let keep = kept(more, step, linked(at));
+            let keep = kept(more, step, at);
             if keep == 0 {
                 gap::gather(store, &mut gap, next, more);
             } else {
@@ -125,8 +144,60 @@ fn slide_by<T: Tables, F: FnMut(Move<T::Index>)>(
             }
         }
     }
-    gap::close(store, gap, at);
+    gap::close(store, gap, after);
     gap
+}
+
+// Slides the used blocks of a run, from the block `first` to the block `end`, to its front by whole steps. What
+// its free blocks give up is one free block at its end, the newest of its bin.
+pub(crate) fn slide_run<T: Tables, F: FnMut(Move<T::Index>)>(
+    store: &mut Store<T>,
+    first: u32,
+    end: u32,
+    step: u32,
+    moved: &mut F,
+)
+    requires some { 1 ≤ step }
+    requires place { (limit : ℕ) × (front : List Block) × (b : Block) × (rest back : List Block)
+        × IsPlaceIn T.cells store.old limit first
+        (record { before = front; block = b; after = rest ++ back })
+        × (last_or None (b ∷ rest) ≡ Some end)
+        × (length (front ++ b ∷ (rest ++ back)) < limit)
+        × AreInBins (front ++ b ∷ (rest ++ back)) (bins_of T.cells T.Index.MAX store.old) }
+    requires binned { AreBinned T.cells T.Index.MAX store.old }
+    requires callable { F.IsAlwaysCallable moved.old }
+    ensures place { (limit : ℕ) (front : List Block) (b : Block) (rest back : List Block)
+        → IsPlaceIn T.cells store.old limit first
+        (record { before = front; block = b; after = rest ++ back })
+        → last_or None (b ∷ rest) ≡ Some end
+        → AreInBins (front ++ b ∷ (rest ++ back)) (bins_of T.cells T.Index.MAX store.old)
+        → (name : ℕ) × (left : List ℕ)
+        × IsTaken (length (front ++ b ∷ (rest ++ back))) (unused_of T.cells store.old) name left
+        × IsPlaceIn T.cells store.new limit name (record {
+          before = front ++ stepped step (b ∷ rest);
+          block = free_block name (given_up step (b ∷ rest));
+          after = back;
+        })
+        × (unused_of T.cells store.new ≡ left ++ names_of (used_up step (b ∷ rest)))
+        × (bins_of T.cells T.Index.MAX store.new ≡ push (down (given_up step (b ∷ rest))) name
+        (push_all (stepped step (b ∷ rest)) (remove_all (b ∷ rest) (bins_of T.cells T.Index.MAX store.old))))
+        × AreInBins ((front ++ stepped step (b ∷ rest)) ++ back)
+        (push_all (stepped step (b ∷ rest)) (remove_all (b ∷ rest) (bins_of T.cells T.Index.MAX store.old)))
+        × FoldsTo (IsCalledWith T.Index.NonMax.number (λ f range g. F.step f range tt g)) moved.old
+        (moves_by step (units front) (units front) (b ∷ rest)) moved.new
+        × (store.new.accesses ≤ store.old.accesses + 18 * length (b ∷ rest) + 36) }
+    ensures binned { AreBinned T.cells T.Index.MAX store.new }
+    ensures callable { F.IsAlwaysCallable moved.new }
+    ensures accesses_min { store.old.accesses ≤ store.new.accesses }
+{
+    ensure_spare(
+        &mut store.tables,
+        &mut store.spare_count,
+        &mut store.accesses,
+    );
+    let name = chain::split_before(store, first, 0);
+    let hole = slide_by(store, name, end, step, moved);
+    bins::push(store, hole.name, uint_to_float_round_down(hole.size));
 }
 
 impl<T: Tables> AllocatorOf<T> {
@@ -189,18 +260,103 @@ impl<T: Tables> AllocatorOf<T> {
         if !can {
             return false;
         }
-        ensure_spare(
-            &mut self.store.tables,
-            &mut self.store.spare_count,
+        slide_run(&mut self.store, first, last, step, moved);
+        true
+    }
+
+    /// As `make_room`, by whole steps: makes room for `allocate_aligned(size, align)` where ranges have to move
+    /// for it, and then as few units as possible. For `allocate` ask with `align` 1. The live ranges of a run of blocks
+    /// slide to its front as by `compact_by`, each by a multiple of `step` units, so that it keeps its alignment
+    /// where that divides `step`; what the free blocks of the run give up is one free block at its end, which is
+    /// large enough. The run is one that costs what `room_cost_by(size, align, step)` returns, which this returns
+    /// too: ask that first where a budget has to be kept. `moved` is called for each range that gets another
+    /// offset, in space order, as by `compact`.
+    ///
+    /// Wherever a cost is returned, the request is granted afterwards, also at the node limit: there the run has
+    /// free blocks that are used up, and the request takes their nodes. Every handle stays live, with its name
+    /// and its size; only the public `offset` of a moved one is that of before, and `allocation_offset` returns
+    /// the new one. Nothing changes, and `moved` is not called, where `None` is returned, since no run of
+    /// blocks gives up enough units and nodes by such steps, and where the cost has no ranges, since the request
+    /// is granted as it is. Of several runs that cost as much it is the last in space.
+    /// At the node limit a cost may count ranges of the run that stay, since the free blocks before them have no
+    /// units.
+    ///
+    /// The step has to be at least 1, and `align` a power of two. It makes at most 7 accesses to the tables for
+    /// each block, 36 for each range of the run, and 60, and takes no memory.
+    ///
+    /// ```
+    /// let hole = space.allocate(300).unwrap();
+    /// space.allocate_aligned(100, 4);
+    /// space.free(hole);
+    /// assert!(space.allocate_aligned(800, 4).is_none());
+    /// // 18 steps: the first 12 units stay free
+    /// let cost = space.make_room_by(800, 4, 16, &mut |it| assert_eq!((it.from, it.to, it.size), (300, 12, 100)));
+    /// assert_eq!(cost, Some(RoomCost { units: 100, ranges: 1 }));
+    /// assert!(space.allocate_aligned(800, 4).is_some());
+    /// ```
+    pub fn make_room_by<F: FnMut(Move<T::Index>)>(
+        &mut self,
+        size: u32,
+        align: u32,
+        step: u32,
+        moved: &mut F,
+    ) -> Option<RoomCost>
+        requires power { IsAlignment align }
+        requires some { 1 ≤ step }
+        requires callable { F.IsAlwaysCallable moved.old }
+        // It returns what `room_cost_by` would have returned before.
+        ensures cost { IsLeastCostBy step (value (up (units_needed size align)))
+            (names_short (blocks_needed align) self.old) self.old.blocks result }
+        // The live blocks keep their names, their sizes and their order: so every handle stays live, with its
+        // size.
+        ensures live { live self.new.blocks ≡ live self.old.blocks }
+        ensures sizes { KeepsSizes self.old self.new }
+        // Where a cost is returned, the request is granted then.
+        ensures granted { IfSome result
+            (λ c. CanGrant (blocks_needed align) (units_needed size align) self.new) }
+        ensures accesses { Costs 0 (7 * length self.old.blocks + 36 * ranges_of result + 60)
+            self.old.accesses self.new.accesses }
+        // The step as a whole, with the moves: the last run of this cost slides; or nothing changes.
+        ensures step { MakesRoomBy (IsCalledWith T.Index.NonMax.number (λ f range g. F.step f range tt g))
+            step (value (up (units_needed size align))) (names_short (blocks_needed align) self.old)
+            self.old moved.old result self.new moved.new }
+    {
+        self.formed();
+        if size > u32::MAX - (align - 1) {
+            return None;
+        }
+        let blocks = align.min(2);
+        let unused = self.unused_nodes();
+        let class = uint_to_float_round_up(size + (align - 1));
+        let found = bins::find_at_or_above(
+            &self.store.tables,
+            self.store.top_mask,
+            class,
             &mut self.store.accesses,
         );
-        let name = chain::split_before(&mut self.store, first, 0);
-        let hole = slide_by(&mut self.store, name, step, moved);
-        bins::push(
-            &mut self.store,
-            hole.name,
-            uint_to_float_round_down(hole.size),
-        );
-        true
+        if unused > blocks && found.is_some() {
+            return Some(RoomCost {
+                units: 0,
+                ranges: 0,
+            });
+        }
+        // where the class of all free units in one block is too small
+        if uint_to_float_round_down(self.free_total) < class {
+            return None;
+        }
+        let short = (blocks + 2).saturating_sub(unused);
+        let run = cheapest_by(
+            &self.store.tables,
+            self.store.last,
+            step,
+            float_to_uint(class),
+            short,
+            &mut self.store.accesses,
+        )?;
+        if run.cost.ranges == 0 {
+            return Some(run.cost);
+        }
+        slide_run(&mut self.store, run.first, run.end, step, moved);
+        Some(run.cost)
     }
 }

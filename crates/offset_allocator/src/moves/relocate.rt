@@ -16,7 +16,7 @@ use crate::{AllocatorOf, bins};
 impl<T: Tables> AllocatorOf<T> {
     // Where the block begins that a request for `size` units would take, if there is one: where it is
     // granted, its range begins there.
-    fn would_begin(&mut self, size: u32) -> Option<u32>
+    fn block_begin(&mut self, size: u32) -> Option<u32>
         ensures same { SameState self.old self.new }
         ensures begins { (offset : ℕ) → WouldBegin size self.old offset → result ≡ Some offset }
         ensures accesses { Costs 1 4 self.old.accesses self.new.accesses }
@@ -139,7 +139,7 @@ impl<T: Tables> AllocatorOf<T> {
         if size > u32::MAX - (align - 1) {
             return None;
         }
-        let begins = self.would_begin(size + (align - 1))?;
+        let begins = self.block_begin(size + (align - 1))?;
         if begins < old {
             self.serve(size, align)
         } else {

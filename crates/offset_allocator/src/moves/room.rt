@@ -136,7 +136,7 @@ fn shorten<T: Tables>(tables: &T, want: u32, mut window: Window, count: &mut Acc
 }
 
 // The cheaper of two runs, or the only one; the known one where they cost as much.
-fn cheaper(known: Option<Run>, run: Run) -> Run
+pub(crate) fn cheaper(known: Option<Run>, run: Run) -> Run
     ensures one { ((result ≡ run) × IfSome known (λ k. IsLess run.cost k.cost)) ⊎ (known ≡ Some result) }
     ensures cost { IsAtMost result.cost run.cost }
     ensures known { IfSome known (λ k. IsAtMost result.cost k.cost) }

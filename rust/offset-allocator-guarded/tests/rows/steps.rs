@@ -6,7 +6,7 @@ use offset_allocator::laws::{
     allocation_offset_counted, first_live_counted, is_empty_counted, last_live_counted,
     live_after_counted, live_before_counted, next_block_counted, refusal_aligned_counted,
     refusal_counted, refusal_tight_aligned_counted, refusal_tight_counted, room_cost_counted,
-    statistics_counted, undo,
+    statistics_counted, undo, would_begin_counted,
 };
 use offset_allocator::AllocError;
 use offset_allocator::Global;
@@ -223,6 +223,20 @@ fn expect_cost<T: Tables>(
     assert_same_at(at, &allocator.room_cost(size), &wanted);
     let counted = room_cost_counted(allocator, size, &mut Accesses::new());
     assert_same_at(at, &counted, &wanted);
+}
+
+// Where a request would begin, by both calls that say so.
+fn expect_begin<T: Tables>(
+    at: &Place,
+    allocator: &AllocatorOf<T>,
+    size: u32,
+    align: u32,
+    offset: Option<u32>,
+) {
+    assert_that_at(at, align.is_power_of_two());
+    assert_same_at(at, &allocator.would_begin(size, align), &offset);
+    let counted = would_begin_counted(allocator, size, align, &mut Accesses::new());
+    assert_same_at(at, &counted, &offset);
 }
 
 fn request<T: Tables>(
@@ -643,18 +657,22 @@ fn take<T: Tables>(
     match step {
         Step::Grants(size, offset) => {
             assert_same_at(at, &refusal(at, allocator, *size, 1), &None);
+            expect_begin(at, allocator, *size, 1, Some(*offset));
             let granted = allocator.allocate(*size);
             keep(at, allocator, handles, granted, *size, *offset);
         }
         Step::Refuses(size) => {
             assert_that_at(at, allocator.refusal(*size).is_some());
+            expect_begin(at, allocator, *size, 1, None);
             assert_that_at(at, allocator.allocate(*size).is_none());
         }
         Step::Aligns(size, align, offset) => {
+            expect_begin(at, allocator, *size, *align, Some(*offset));
             let granted = request(at, allocator, *size, *align);
             keep(at, allocator, handles, granted, *size, *offset);
         }
         Step::RefusesAligned(size, align) => {
+            expect_begin(at, allocator, *size, *align, None);
             let granted = request(at, allocator, *size, *align);
             assert_that_at(at, granted.is_none());
         }

@@ -1,21 +1,23 @@
 // Printed by rust/erase from crates/offset_allocator/src/moves/by_steps.rt: change it there.
 
-//! Slides live ranges to the front by whole steps, so that each keeps what its offset leaves of one, and with
-//! it its alignment. It may make a node, changes the chain by one split and by `gap`, and the bins of the free
-//! blocks that are passed and of the one at the end.
+//! Slides live ranges to the front by whole steps, of the space or of a run of blocks that makes room, so that
+//! each keeps what its offset leaves of a step, and with it its alignment. It may make a node, changes the chain
+//! by one split and by `gap`, and the bins of the free blocks that are passed and of the one at the end.
 
 use crate::accesses::Accesses;
 use crate::index::linked;
 use crate::moves::compact::report;
 use crate::moves::gap;
 use crate::moves::gap::Gap;
-use crate::small_float::uint_to_float_round_down;
+use crate::moves::room::RoomCost;
+use crate::moves::room_by_steps::cheapest_by;
+use crate::small_float::{float_to_uint, uint_to_float_round_down, uint_to_float_round_up};
 use crate::store::{Store, ensure_spare};
 use crate::tables::Tables;
 use crate::{AllocatorOf, Move, bins, chain};
 
 // Whether a block is free and has at least `step` units.
-fn has_step<T: Tables>(tables: &T, name: u32, step: u32, count: &mut Accesses) -> bool {
+pub(crate) fn has_step<T: Tables>(tables: &T, name: u32, step: u32, count: &mut Accesses) -> bool {
     if chain::is_used(tables, name, count) {
         return false;
     }
@@ -44,26 +46,34 @@ fn kept(size: u32, step: u32, after: Option<u32>) -> u32 {
     }
 }
 
-// Slides the used blocks after a free block of no units to the front by whole steps, to the end of the space:
-// the free ones leave their bins, what they keep becomes the newest of its own, and what they give up goes into
-// the block.
+// The block after `next`, which `after` names, of blocks up to `end`: that has none.
+fn within(next: u32, end: u32, after: Option<u32>) -> Option<u32> {
+    if next == end { None } else { after }
+}
+
+// Slides the used blocks after a free block of no units to the front by whole steps, up to the block `end`: the
+// free ones leave their bins, what they keep becomes the newest of its own, and what they give up goes into the
+// block. The blocks after `end` stay.
 fn slide_by<T: Tables, F: FnMut(Move<T::Index>)>(
     store: &mut Store<T>,
     name: u32,
+    end: u32,
     step: u32,
     moved: &mut F,
 ) -> Gap<T::Index> {
     let mut gap = gap::open(&store.tables, name, 0, &mut store.accesses);
-    let mut at = store.tables.after(name, &mut store.accesses);
-    while let Some(next) = linked(at) {
+    let mut after = store.tables.after(name, &mut store.accesses);
+    let mut at = linked(after);
+    while let Some(next) = at {
         let more = store.tables.size(next, &mut store.accesses);
-        at = store.tables.after(next, &mut store.accesses);
+        after = store.tables.after(next, &mut store.accesses);
+        at = within(next, end, linked(after));
         if chain::is_used(&store.tables, next, &mut store.accesses) {
             report(moved, next, gap.offset + gap.size, gap.offset, more);
             gap::pass(store, &mut gap, next, more);
         } else {
             bins::remove(store, next, more);
-            let keep = kept(more, step, linked(at));
+            let keep = kept(more, step, at);
             if keep == 0 {
                 gap::gather(store, &mut gap, next, more);
             } else {
@@ -72,8 +82,27 @@ fn slide_by<T: Tables, F: FnMut(Move<T::Index>)>(
             }
         }
     }
-    gap::close(store, gap, at);
+    gap::close(store, gap, after);
     gap
+}
+
+// Slides the used blocks of a run, from the block `first` to the block `end`, to its front by whole steps. What
+// its free blocks give up is one free block at its end, the newest of its bin.
+pub(crate) fn slide_run<T: Tables, F: FnMut(Move<T::Index>)>(
+    store: &mut Store<T>,
+    first: u32,
+    end: u32,
+    step: u32,
+    moved: &mut F,
+) {
+    ensure_spare(
+        &mut store.tables,
+        &mut store.spare_count,
+        &mut store.accesses,
+    );
+    let name = chain::split_before(store, first, 0);
+    let hole = slide_by(store, name, end, step, moved);
+    bins::push(store, hole.name, uint_to_float_round_down(hole.size));
 }
 
 impl<T: Tables> AllocatorOf<T> {
@@ -128,18 +157,93 @@ impl<T: Tables> AllocatorOf<T> {
         if !can {
             return false;
         }
-        ensure_spare(
-            &mut self.store.tables,
-            &mut self.store.spare_count,
+        slide_run(&mut self.store, first, last, step, moved);
+        true
+    }
+
+    /// As `make_room`, by whole steps: makes room for `allocate_aligned(size, align)` where ranges have to move
+    /// for it, and then as few units as possible. For `allocate` ask with `align` 1. The live ranges of a run of blocks
+    /// slide to its front as by `compact_by`, each by a multiple of `step` units, so that it keeps its alignment
+    /// where that divides `step`; what the free blocks of the run give up is one free block at its end, which is
+    /// large enough. The run is one that costs what `room_cost_by(size, align, step)` returns, which this returns
+    /// too: ask that first where a budget has to be kept. `moved` is called for each range that gets another
+    /// offset, in space order, as by `compact`.
+    ///
+    /// Wherever a cost is returned, the request is granted afterwards, also at the node limit: there the run has
+    /// free blocks that are used up, and the request takes their nodes. Every handle stays live, with its name
+    /// and its size; only the public `offset` of a moved one is that of before, and `allocation_offset` returns
+    /// the new one. Nothing changes, and `moved` is not called, where `None` is returned, since no run of
+    /// blocks gives up enough units and nodes by such steps, and where the cost has no ranges, since the request
+    /// is granted as it is. Of several runs that cost as much it is the last in space.
+    /// At the node limit a cost may count ranges of the run that stay, since the free blocks before them have no
+    /// units.
+    ///
+    /// The step has to be at least 1, and `align` a power of two. It makes at most 7 accesses to the tables for
+    /// each block, 36 for each range of the run, and 60, and takes no memory.
+    ///
+    /// # Panics
+    ///
+    /// It panics unless `align` is a power of two, and the step is at least 1.
+    ///
+    /// ```
+    /// # use offset_allocator_proved::*;
+    /// # let alloc = Global;
+    /// let mut space = Allocator::<u32>::new(alloc, 1000)?;
+    /// let hole = space.allocate(300).unwrap();
+    /// space.allocate_aligned(100, 4);
+    /// space.free(hole);
+    /// assert!(space.allocate_aligned(800, 4).is_none());
+    /// // 18 steps: the first 12 units stay free
+    /// let cost = space.make_room_by(800, 4, 16, &mut |it| assert_eq!((it.from, it.to, it.size), (300, 12, 100)));
+    /// assert_eq!(cost, Some(RoomCost { units: 100, ranges: 1 }));
+    /// assert!(space.allocate_aligned(800, 4).is_some());
+    /// # Ok::<(), AllocError>(())
+    /// ```
+    #[track_caller]
+    pub fn make_room_by<F: FnMut(Move<T::Index>)>(
+        &mut self,
+        size: u32,
+        align: u32,
+        step: u32,
+        moved: &mut F,
+    ) -> Option<RoomCost> {
+        assert!(align.is_power_of_two(), "align must be a power of two");
+        assert!(1 <= step, "the step must be at least 1");
+        if size > u32::MAX - (align - 1) {
+            return None;
+        }
+        let blocks = align.min(2);
+        let unused = self.unused_nodes();
+        let class = uint_to_float_round_up(size + (align - 1));
+        let found = bins::find_at_or_above(
+            &self.store.tables,
+            self.store.top_mask,
+            class,
             &mut self.store.accesses,
         );
-        let name = chain::split_before(&mut self.store, first, 0);
-        let hole = slide_by(&mut self.store, name, step, moved);
-        bins::push(
-            &mut self.store,
-            hole.name,
-            uint_to_float_round_down(hole.size),
-        );
-        true
+        if unused > blocks && found.is_some() {
+            return Some(RoomCost {
+                units: 0,
+                ranges: 0,
+            });
+        }
+        // where the class of all free units in one block is too small
+        if uint_to_float_round_down(self.free_total) < class {
+            return None;
+        }
+        let short = (blocks + 2).saturating_sub(unused);
+        let run = cheapest_by(
+            &self.store.tables,
+            self.store.last,
+            step,
+            float_to_uint(class),
+            short,
+            &mut self.store.accesses,
+        )?;
+        if run.cost.ranges == 0 {
+            return Some(run.cost);
+        }
+        slide_run(&mut self.store, run.first, run.end, step, moved);
+        Some(run.cost)
     }
 }

@@ -11,7 +11,7 @@ use crate::{AllocatorOf, bins};
 impl<T: Tables> AllocatorOf<T> {
     // Where the block begins that a request for `size` units would take, if there is one: where it is
     // granted, its range begins there.
-    fn would_begin(&mut self, size: u32) -> Option<u32> {
+    fn block_begin(&mut self, size: u32) -> Option<u32> {
         let smallest = uint_to_float_round_up(size);
         let class = bins::find_at_or_above(
             &self.store.tables,
@@ -106,7 +106,7 @@ impl<T: Tables> AllocatorOf<T> {
         if size > u32::MAX - (align - 1) {
             return None;
         }
-        let begins = self.would_begin(size + (align - 1))?;
+        let begins = self.block_begin(size + (align - 1))?;
         if begins < old {
             self.serve(size, align)
         } else {

@@ -103,7 +103,7 @@ fn shorten<T: Tables>(tables: &T, want: u32, mut window: Window, count: &mut Acc
 }
 
 // The cheaper of two runs, or the only one; the known one where they cost as much.
-fn cheaper(known: Option<Run>, run: Run) -> Run {
+pub(crate) fn cheaper(known: Option<Run>, run: Run) -> Run {
     match known {
         None => run,
         Some(known) => {

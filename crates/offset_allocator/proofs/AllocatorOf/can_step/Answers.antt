@@ -1,6 +1,4 @@
-use Rattle.offset_allocator.proofs.Common.{◌≡◌, ◌∙◌, refl, sym, ap, subst, inl, inr, true, false, not, not-true, false≢true, Bool, View, ends_used, blocks, ◌↔◌, HasRoomFor}
-use Rattle.std.specs.Bool.{IsTrue}
-use Rattle.offset_allocator.specs.Moving.BySteps.{CanStep}
+use Rattle.offset_allocator.proofs.Common.{◌≡◌, ◌∙◌, sym, ap, inl, inr, not, not-true, false≢true, View, ends_used}
 use Rattle.offset_allocator.proofs.{Sound.fields_of, Extending.used_at_end, Linking.Places.end_place}
 use Rattle.offset_allocator.proofs.AllocatorOf.can_step.Goals as goal
 

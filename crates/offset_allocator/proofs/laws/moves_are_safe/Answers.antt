@@ -4,8 +4,8 @@ use Rattle.offset_allocator.proofs.laws.moves_are_safe.Goals as goal
 pub returns-clause-compact : goal.returns-clause-compact
 returns-clause-compact c bs = safe 0 0 bs (omega arith)
 
-pub returns-clause-compact_within : goal.returns-clause-compact_within
-returns-clause-compact_within c v well = between 0 v.size 0 0 v.blocks (omega arith) (omega arith) (omega (arith, well.whole))
+pub returns-clause-within : goal.returns-clause-within
+returns-clause-within c v well = between 0 v.size 0 0 v.blocks (omega arith) (omega arith) (omega (arith, well.whole))
 
 pub returns-clause-make_room : goal.returns-clause-make_room
 returns-clause-make_room c front run = safe (units front) (units front) run (omega arith)

@@ -1,5 +1,5 @@
-use Rattle.offset_allocator.proofs.Common.{◌≡◌, ◌≢◌, ◌+◌, ◌≤◌, Bool, true, false, not, ◌&&◌, nat_le, List, [], ◌∷◌, ◌++◌, Some, None, if◌then◌else◌, length, refl, sym, ap, ap₂, ◌∙◌, arith, append-nil, append_assoc, length-append, Node, Block}
-use Rattle.offset_allocator.proofs.Common.{last_or, blocks, node, ChainCells}
+use Rattle.offset_allocator.proofs.Common.{◌≡◌, true, false, not, ◌&&◌, nat_le, List, [], ◌∷◌, ◌++◌, Some, None, length, refl, sym, ap, ◌∙◌, arith, append-nil, append_assoc, Node, Block}
+use Rattle.offset_allocator.proofs.Common.{last_or, blocks}
 use Rattle.offset_allocator.proofs.{Linking.Ends.Ended, Linking.Ends.ended, Linking.Ends.last_none, Linking.Places.at_place, Moving.Sliding.walked, Moving.Stepping.first_here}
 use Rattle.offset_allocator.specs.Moving.BySteps.{first_whole}
 use Rattle.offset_allocator.proofs.moves.by_steps.first_whole.Goals.{then-has_step, else-has_step}

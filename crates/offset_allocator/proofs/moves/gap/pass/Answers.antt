@@ -1,4 +1,4 @@
-use Rattle.offset_allocator.proofs.Common.{◌≡◌, ℕ, ◌+◌, ◌-◌, ◌∷◌, [], ◌++◌, ◌∙◌, ap, sym, subst, arith, node, Block, Place}
+use Rattle.offset_allocator.proofs.Common.{◌≡◌, ℕ, ◌+◌, ◌-◌, ◌∷◌, [], ◌++◌, ◌∙◌, ap, sym, subst, arith, node, Place}
 use Rattle.offset_allocator.proofs.Moving.Gaps.{follows, next_node}
 use Rattle.offset_allocator.specs.Moving.Gaps.{IsGap}
 use Rattle.offset_allocator.proofs.moves.gap.pass.Goals as goal

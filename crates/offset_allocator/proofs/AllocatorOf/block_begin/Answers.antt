@@ -1,7 +1,7 @@
 use Rattle.offset_allocator.proofs.Common.{◌≡◌, ◌<◌, ℕ, None, Some, Option, length, sym, ap, subst, ◌∙◌, arith, node, View, IsFoundFrom, bins_in}
 use Rattle.offset_allocator.proofs.{Sound.fields_of, Classes.below_value_up, Moving.Begins.head_below, Moving.Begins.some_begins, Moving.Begins.none_begins}
 use Rattle.offset_allocator.specs.Moving.Relocating.{WouldBegin}
-use Rattle.offset_allocator.proofs.AllocatorOf.would_begin.Goals as goal
+use Rattle.offset_allocator.proofs.AllocatorOf.block_begin.Goals as goal
 
 pub find_at_or_above-requires-clause-classed : goal.find_at_or_above-requires-clause-classed
 find_at_or_above-requires-clause-classed g c = grind (arith, below_value_up)

@@ -1,0 +1,211 @@
+-- A compaction within a budget: where it begins, and how far it comes.
+use Rattle.offset_allocator.proofs.Common.{◌≡◌, ◌≢◌, ℕ, ◌+◌, ◌<◌, ◌≤◌, Bool, true, false, not, ◌&&◌, nat_le, List, [], ◌∷◌, ◌++◌, Some, None, if◌then◌else◌, refl, sym, ap, subst, ◌∙◌, arith, nat_tests, Block, units}
+use Rattle.offset_allocator.proofs.Common.{◌⊎◌, inl, inr, cases_lt, ends_used, first_or, last_or, one, true≢false, used_of, used_units, append_assoc, ChainCells, IsChain, IsSpace, HasPlace, blocks, Option}
+use Rattle.offset_allocator.proofs.{Linking.Places.placed, Tallies.tally_append}
+use Rattle.offset_allocator.proofs.{Sound.Fields, Moving.Rooms.apart_few, Views.ViewApart.apart_parts, Common.AreCoalesced, Common.max, Common.◌*◌, Moving.Compacting.live_append, Moving.Stepped.stepped_fewer, Moving.Stepped.stepped_length, Moving.Stepped.stepped_live}
+use Rattle.offset_allocator.proofs.Common.{View, HasRoomFor, IsWellFormed, append-nil, free_block, length, length-append, live, starts_free}
+use Rattle.offset_allocator.specs.declared.moves.budget.{Progress.Progress, Reach.Reach}
+use Rattle.offset_allocator.specs.Moving.{BySteps.given_up, BySteps.stepped}
+use Rattle.offset_allocator.specs.Moving.Budget.{first_from, start_of, IsWithin, IsReached, SlidesWithin, StopsAt}
+
+-- one block more in front
+pub from_here : (s from o : ℕ) (b : Block) (bs : List Block) → bs ≢ [] → (t : Bool) → t ≡ (not b.used && (nat_le s b.size && nat_le from (o + b.size)))
+    → first_from s from o (b ∷ bs) ≡ (if t then Some b.name else first_from s from (o + b.size) bs)
+from_here s from o b [] some t e = absurd (some refl)
+from_here s from o b (c ∷ bs) some t e = ap (λ (t : Bool). if t then Some b.name else first_from s from (o + b.size) (c ∷ bs)) (sym e)
+
+below : (u v : Bool) → (not u && (v && false)) ≡ false
+below true v = refl
+below false true = refl
+below false false = refl
+
+some_met : (fs met : List Block) → met ≢ [] → fs ++ met ≢ []
+some_met [] met some e = some e
+some_met (b ∷ fs) met some e = absurd (cc)
+
+-- those that end before the offset are not looked at
+pub from_past : (s from o : ℕ) (front met : List Block) → met ≢ [] → o + units front < from → first_from s from o (front ++ met) ≡ first_from s from (o + units front) met
+from_past s from o [] met some l = let same : o ≡ o + 0 = omega arith in ap (λ (k : ℕ). first_from s from k met) same
+from_past s from o (b ∷ front) met some l =
+    let late : nat_le from (o + b.size) ≡ false = grind (arith, nat_tests) in
+    let same : (o + b.size) + units front ≡ o + (b.size + units front) = omega arith in
+    from_here s from o b (front ++ met) (some_met front met some) false (sym (ap (λ (v : Bool). not b.used && (nat_le s b.size && v)) late ∙ below b.used (nat_le s b.size)))
+    ∙ from_past s from (o + b.size) front met some (omega (arith, l)) ∙ ap (λ (k : ℕ). first_from s from k met) same
+
+-- a block that ends at the offset or behind it is looked at
+pub behind : (from end : ℕ) → from ≤ end → nat_le from end ≡ true
+behind from end l = grind (arith, nat_tests)
+
+pub both : (u v : Bool) → (u && (v && true)) ≡ (u && v)
+both true true = refl
+both true false = refl
+both false v = refl
+
+-- a block more at the end
+pub last_added : (p : Option ℕ) (bs : List Block) (c : Block) → last_or p (bs ++ c ∷ []) ≡ Some c.name
+last_added p [] c = refl
+last_added p (b ∷ bs) c = last_added (Some b.name) bs c
+
+module _ (rest : List Block) (c : Block) where
+  added_units : used_units (rest ++ c ∷ []) ≡ used_units rest + (if c.used then c.size else 0)
+  added_units = omega (arith, tally_append (λ (b : Block). if b.used then b.size else 0) rest (c ∷ []))
+
+  added_ranges : used_of (rest ++ c ∷ []) ≡ used_of rest + one c.used
+  added_ranges = omega (arith, tally_append (λ (b : Block). one b.used) rest (c ∷ []))
+
+  -- a free one
+  pub free_added : c.used ≡ false → (used_units (rest ++ c ∷ []) ≡ used_units rest) × (used_of (rest ++ c ∷ []) ≡ used_of rest)
+  free_added u = (omega (arith, added_units, ap (λ (t : Bool). if t then c.size else 0) u), omega (arith, added_ranges, ap one u))
+
+  -- a live one
+  pub live_added : c.used ≡ true → (used_units (rest ++ c ∷ []) ≡ used_units rest + c.size) × (used_of (rest ++ c ∷ []) ≡ used_of rest + 1)
+  live_added u = (omega (arith, added_units, ap (λ (t : Bool). if t then c.size else 0) u), omega (arith, added_ranges, ap one u))
+
+  module _ (u r : ℕ) where
+    pub free_within : c.used ≡ false → IsWithin u r rest → IsWithin u r (rest ++ c ∷ [])
+    free_within e w = let a = free_added e in elim w [ inl one ↦ inl (a.1 ∙ one) | inr few ↦ inr (omega (arith, a.0, few.0), omega (arith, a.1, few.1)) ]
+
+    pub live_within : c.used ≡ true → ((1 ≤ used_of rest) × ((u < used_units rest + c.size) ⊎ (r ≤ used_of rest)) → ⊥) → IsWithin u r (rest ++ c ∷ [])
+    live_within e h = let a = live_added e in elim (cases_lt 0 (used_of rest)) [
+      | inl some ↦ elim (cases_lt u (used_units rest + c.size)) [
+        | inl l ↦ absurd (h (some, inl l))
+        | inr m ↦ elim (cases_lt (used_of rest) r) [
+          | inl k ↦ inr (omega (arith, a.0, m), omega (arith, a.1, k))
+          | inr k ↦ absurd (h (some, inr k))
+        ]
+      ]
+      | inr none ↦ inl (omega (arith, a.1, none))
+    ]
+
+    pub not_within : c.used ≡ true → (1 ≤ used_of rest) × ((u < used_units rest + c.size) ⊎ (r ≤ used_of rest)) → IsWithin u r (rest ++ c ∷ []) → ⊥
+    not_within e h w = let a = live_added e in elim w [
+      | inl one ↦ absurd (omega (arith, a.1, one, h.0))
+      | inr few ↦ elim h.1 [ inl l ↦ absurd (omega (arith, l, a.0, few.0)) | inr l ↦ absurd (omega (arith, l, a.1, few.1)) ]
+    ]
+
+-- the block that a link names is the first of those that are left
+pub record Started (bs : List Block) (x : ℕ) : Type 0 where
+  pub first : Block
+  pub rest : List Block
+  pub is : bs ≡ first ∷ rest
+  pub name : first.name ≡ x
+
+pub started : (bs : List Block) (x : ℕ) → first_or None bs ≡ Some x → Started bs x
+started [] x e = absurd (cc)
+started (b ∷ bs) x e = record { first = b; rest = bs; is = refl; name = cc }
+
+pub none_left : (bs : List Block) → first_or None bs ≡ None → bs ≡ []
+none_left [] e = refl
+none_left (b ∷ bs) e = absurd (cc)
+
+-- its place
+pub started_place : {c : ChainCells} {last count x : ℕ} → IsSpace c last count → (front : List Block) (b : Block) (rest left : List Block) → blocks c last ≡ front ++ b ∷ (rest ++ left) → (s : Started left x)
+    → HasPlace c c.reserved last count x (record { before = front ++ b ∷ rest; block = s.first; after = s.rest })
+started_place {c} {last} {count} h front b rest left is s = placed (subst (λ (l : List Block). IsChain c c.reserved last count l) (is ∙ ap (λ (l : List Block). front ++ b ∷ (rest ++ l)) s.is ∙ sym (append_assoc front (b ∷ rest) (s.first ∷ s.rest))) h) s.name
+
+-- live units are units, and so fit
+pub used_fit : (rest : List Block) → used_units rest ≤ units rest
+used_fit [] = omega arith
+used_fit (b ∷ rest) = go b.used (used_fit rest)
+  where
+    go : (t : Bool) → used_units rest ≤ units rest → (if t then b.size else 0) + used_units rest ≤ b.size + units rest
+    go true h = omega (arith, h)
+    go false h = omega (arith, h)
+
+-- what is found first
+pub record IsBegun (bs : List Block) (x : ℕ) : Type 0 where
+  pub front : List Block
+  pub first : Block
+  pub rest : List Block
+  pub is : bs ≡ front ++ first ∷ rest
+  pub name : first.name ≡ x
+  pub free : first.used ≡ false
+
+pub begun : (s from o : ℕ) (bs : List Block) (x : ℕ) → first_from s from o bs ≡ Some x → IsBegun bs x
+begun s from o [] x e = absurd (cc)
+begun s from o (b ∷ []) x e = absurd (cc)
+begun s from o (b ∷ c ∷ bs) x e = go (not b.used && (nat_le s b.size && nat_le from (o + b.size))) refl (λ h. begun s from (o + b.size) (c ∷ bs) x h)
+  where
+    some : c ∷ bs ≢ []
+    some q = absurd (cc)
+
+    left : (u v : Bool) → (not u && v) ≡ true → u ≡ false
+    left true v q = absurd (true≢false (sym q))
+    left false v q = refl
+
+    go : (t : Bool) → (not b.used && (nat_le s b.size && nat_le from (o + b.size))) ≡ t → (first_from s from (o + b.size) (c ∷ bs) ≡ Some x → IsBegun (c ∷ bs) x) → IsBegun (b ∷ c ∷ bs) x
+    go true t rest = record {
+      front = [];
+      first = b;
+      rest = c ∷ bs;
+      is = refl;
+      name = let h : Some b.name ≡ Some x = sym (from_here s from o b (c ∷ bs) some true (sym t)) ∙ e in cc;
+      free = left b.used (nat_le s b.size && nat_le from (o + b.size)) t;
+    }
+    go false t rest =
+        let i : IsBegun (c ∷ bs) x = rest (sym (from_here s from o b (c ∷ bs) some false (sym t)) ∙ e) in
+        record { front = b ∷ i.front; first = i.first; rest = i.rest; is = ap (λ l. b ∷ l) i.is; name = i.name; free = i.free }
+
+-- after a run comes no free block
+pub stops_apart : (u r : ℕ) (bs back : List Block) → StopsAt u r bs back → starts_free back ≡ false
+stops_apart u r bs [] s = refl
+stops_apart u r bs (b ∷ back) s = ap not s.0
+
+-- a free block after it has a node
+pub few_left : (t m : ℕ) (v : View) → IsWellFormed v → v.max_allocs ≡ m → (front run back : List Block) → v.blocks ≡ front ++ (run ++ back) → run ≢ [] → HasRoomFor 1 v ⊎ (ends_used run ≡ false)
+    → length front + (length (stepped t run) + length back) + 2 ≤ m
+few_left t m v w limit front run back is some can =
+    let n : length v.blocks ≡ length front + (length run + length back) = omega (arith, ap (λ (l : List Block). length l) is, length-append front (run ++ back), length-append run back) in
+    elim can [
+      | inl room ↦ omega (arith, room, n, limit, stepped_length t run)
+      | inr e ↦ omega (arith, w.room, n, limit, stepped_fewer t run some e)
+    ]
+
+module _ (s from u r : ℕ) where
+  -- whatever was counted before
+  pub slides_counted : (k : ℕ) (v w : View) (p : Progress) → SlidesWithin s from u r (record v { accesses = k }) w p → SlidesWithin s from u r v w p
+  slides_counted k v w p h = record {
+    front = h.front;
+    first = h.first;
+    rest = h.rest;
+    back = h.back;
+    reached = record { is = h.reached.is; begins = h.reached.begins; within = h.reached.within; stops = h.reached.stops };
+    progress = h.progress;
+    name = h.name;
+    left = h.left;
+    taken = h.taken;
+    names = h.names;
+    view = h.view;
+  }
+
+  -- the live blocks stay
+  pub slides_live : (v w : View) (p : Progress) → SlidesWithin s from u r v w p → live w.blocks ≡ live v.blocks
+  slides_live v w p h =
+      let run : List Block = h.first ∷ h.rest in
+      ap (λ (q : View). live q.blocks) h.view ∙ live_append h.front ((stepped s run ++ free_block h.name (given_up s run) ∷ []) ++ h.back)
+      ∙ ap (λ l. live h.front ++ l) (live_append (stepped s run ++ free_block h.name (given_up s run) ∷ []) h.back
+      ∙ ap (λ l. l ++ live h.back) (live_append (stepped s run) (free_block h.name (given_up s run) ∷ []) ∙ append-nil (live (stepped s run)) ∙ stepped_live s run)
+      ∙ sym (live_append run h.back)) ∙ sym (live_append h.front (run ++ h.back)) ∙ sym (ap live h.reached.is)
+
+-- the run that was found in sound fields
+pub record Run (f : Fields) (x : ℕ) (reach : Reach) (v : View) (s from u r : ℕ) : Type 0 where
+  pub front : List Block
+  pub first : Block
+  pub rest : List Block
+  pub back : List Block
+  pub is : blocks f.cells.chain f.last ≡ front ++ ((first ∷ rest) ++ back)
+  pub place : HasPlace f.cells.chain f.cells.chain.reserved f.last f.count x (record { before = front; block = first; after = rest ++ back })
+  pub free : first.used ≡ false
+  pub end : last_or None (first ∷ rest) ≡ Some reach.end
+  pub end_used : ends_used (first ∷ rest) ≡ reach.end_used
+  pub reached : IsReached s from u r v front first rest back
+  pub progress : reach.progress ≡ record { units = used_units rest; ranges = used_of rest; next = start_of (units (front ++ first ∷ rest)) back }
+
+-- the run is no longer than the budget allows
+pub few_rest : (u r : ℕ) (v : View) → IsWellFormed v → (front : List Block) (b : Block) (rest back : List Block) → v.blocks ≡ front ++ ((b ∷ rest) ++ back) → b.used ≡ false → IsWithin u r rest
+    → length rest ≤ 2 * max 1 r
+few_rest u r v w front b rest back is free within =
+    let n = apart_few (b ∷ rest) (apart_parts (b ∷ rest) back (apart_parts front ((b ∷ rest) ++ back) (subst AreCoalesced is w.apart)).1).0 in elim within [
+      | inl alone ↦ omega (arith, n, alone, ap one free)
+      | inr few ↦ omega (arith, n, few.1, ap one free)
+    ]

@@ -1,0 +1,517 @@
+-- A compaction by whole steps: what is left agrees with the plain machine, and the moves are the same.
+use Rattle.offset_calls.proofs.Common.{◌≡◌, ◌≢◌, ℕ, zero, suc, ◌+◌, ◌-◌, ◌<◌, ◌≤◌, Bool, true, false, not, ◌&&◌, List, [], ◌∷◌, ◌++◌, map, length, Option, Some, None, is_some, nat_eq, nat_le, if◌then◌else◌, refl, sym}
+use Rattle.offset_calls.proofs.Common.{ap, ap₂, subst, subst₂, ◌∙◌, inl, inr, arith, le-leb, lt-leb, leb-false, cases_lt, true≢false, false≢true, and_parts, and_right, append-nil, length-append, length-map, map-append}
+use Rattle.offset_calls.proofs.Common.{option_map, AllByRecursion, Block, View, Handle, replace, IsWellFormed, SameSpace, kept_name, Tag, Live, Free, State, is_free, is_short_of}
+use Rattle.offset_calls.proofs.Common.{free_part, stamp_of_call, stamp_of_padding, Move, number, AreNumbered, Reply, Answer, Compacted, Outcome, replies_only}
+use Rattle.offset_allocator.specs.{View.free_block, View.ends_used, View.AreCoalesced, Relations.SameState}
+use Rattle.offset_allocator.specs.Moving.BySteps.{CanStep, CompactsBy, SlidesBy, first_whole}
+use Rattle.offset_allocator.specs.Moving.BySteps as by
+use Rattle.offset_allocator.specs.Moving.Compacting as named_moves
+use Rattle.offset_allocator.specs.View as named
+use Rattle.offset_allocator.proofs.{Tallies.hit_cases, Views.ViewApart.left_false}
+use Rattle.offset_allocator.proofs.Moving.Stepped.{stepped_apart, none_whole}
+use Rattle.std.specs.{Option.option_or}
+use Rattle.std.proofs.lemmas.Bool.{and_cases, cond_both}
+use Rattle.offset_script.proofs.Agreed.{agrees_replaced, agrees_but, agrees_quiet, has_room, room_for}
+use Rattle.offset_script.proofs.Agreement.{Label, by_name, by_tag, name_of, HasBlocksOf, IsAtState}
+use Rattle.offset_script.proofs.Ends.{apart_tagged, name_append, or_none}
+use Rattle.offset_script.proofs.Labels.{names, tags, AreRising}
+use Rattle.offset_script.proofs.Lists.{AreApart, apart_append, apart_parts, count, count-append, count_free_part, ends_free, hit, starts_free}
+use Rattle.offset_script.proofs.{Members.IsIn, Members.map_parts, Members.map_first, Well.IsWell, Well.IsOld, Well.not_there, Well.well_quiet, Well.free_part_is, Tests.same_some}
+use Rattle.offset_calls.specs.Stepped.{kept, stepped, given_up, slid, slid_by}
+use Rattle.offset_calls.specs.Calls.{moves_by, step_by}
+use Rattle.offset_calls.proofs.Compacted.{one_number, same_move}
+use Rattle.offset_script.specs.Machine as machine
+
+-- ---- labels
+
+pub kept_same : (n m : ℕ) (ls : List Label) → by.kept n m (names ls) ≡ kept n m (tags ls)
+kept_same n m [] = refl
+kept_same n m (l ∷ ls) = refl
+
+-- the label of what a free block keeps
+abbrev part_label : ℕ → ℕ → ℕ → List Label
+part_label x zero s = []
+part_label x (suc m) s = (record { name = x; size = suc m; tag = Free s }) ∷ []
+
+part_names : (x m s : ℕ) → names (part_label x m s) ≡ named.free_part x m
+part_names x zero s = refl
+part_names x (suc m) s = refl
+
+part_tags : (x m s : ℕ) → tags (part_label x m s) ≡ free_part m s
+part_tags x zero s = refl
+part_tags x (suc m) s = refl
+
+part_name_of : (k x m s : ℕ) → name_of k (part_label x m s) ≡ None
+part_name_of k x zero s = refl
+part_name_of k x (suc m) s = refl
+
+-- the labels of what is left
+abbrev left_label : ℕ → ℕ → Label → List Label → List Label
+left_label n s l ls = if is_free l.tag then part_label l.name (kept n l.size (tags ls)) s else l ∷ []
+
+abbrev pub stepped_labels : ℕ → ℕ → List Label → List Label
+stepped_labels n s [] = []
+stepped_labels n s (l ∷ ls) = left_label n s l ls ++ stepped_labels n (s + 1) ls
+
+stepped_names : (n s : ℕ) (ls : List Label) → names (stepped_labels n s ls) ≡ by.stepped n (names ls)
+stepped_names n s [] = refl
+stepped_names n s (l ∷ ls) = map-append by_name (left_label n s l ls) (stepped_labels n (s + 1) ls) ∙ ap₂ (λ a b. a ++ b) (go (is_free l.tag)) (stepped_names n (s + 1) ls)
+  where
+    go : (t : Bool) → names (if t then part_label l.name (kept n l.size (tags ls)) s else l ∷ []) ≡ (if not t then by_name l ∷ [] else named.free_part l.name (by.kept n l.size (names ls)))
+    go true = part_names l.name _ s ∙ ap (named.free_part l.name) (sym (kept_same n l.size ls))
+    go false = refl
+
+stepped_tags : (n s : ℕ) (ls : List Label) → tags (stepped_labels n s ls) ≡ stepped n s (tags ls)
+stepped_tags n s [] = refl
+stepped_tags n s (l ∷ ls) = map-append by_tag (left_label n s l ls) (stepped_labels n (s + 1) ls) ∙ ap₂ (λ a b. a ++ b) (go (is_free l.tag)) (stepped_tags n (s + 1) ls)
+  where
+    go : (t : Bool) → tags (if t then part_label l.name (kept n l.size (tags ls)) s else l ∷ []) ≡ (if t then free_part (kept n l.size (tags ls)) s else by_tag l ∷ [])
+    go true = part_tags l.name _ s
+    go false = refl
+
+pub given_same : (n : ℕ) (ls : List Label) → by.given_up n (names ls) ≡ given_up n (tags ls)
+given_same n [] = refl
+given_same n (l ∷ ls) = ap₂ (λ a b. a + b) (go (is_free l.tag)) (given_same n ls)
+  where
+    go : (t : Bool) → (if not t then 0 else l.size - by.kept n l.size (names ls)) ≡ (if t then l.size - kept n l.size (tags ls) else 0)
+    go true = ap (λ k. l.size - k) (kept_same n l.size ls)
+    go false = refl
+
+no_number : (k : ℕ) (t : Tag) → is_free t ≡ true → machine.has_number k t ≡ false
+no_number k (Live j) e = absurd (false≢true e)
+no_number k (Free s) e = refl
+
+stepped_name_of : (k n s : ℕ) (ls : List Label) → name_of k (stepped_labels n s ls) ≡ name_of k ls
+stepped_name_of k n s [] = refl
+stepped_name_of k n s (l ∷ ls) = go (is_free l.tag) refl (stepped_name_of k n (s + 1) ls)
+  where
+    go : (t : Bool) → is_free l.tag ≡ t → name_of k (stepped_labels n (s + 1) ls) ≡ name_of k ls
+        → name_of k ((if t then part_label l.name (kept n l.size (tags ls)) s else l ∷ []) ++ stepped_labels n (s + 1) ls) ≡ name_of k (l ∷ ls)
+    go true e ih = name_append k (part_label l.name (kept n l.size (tags ls)) s) (stepped_labels n (s + 1) ls)
+        ∙ ap (λ o. option_or o (name_of k (stepped_labels n (s + 1) ls))) (part_name_of k l.name _ s) ∙ ih
+        ∙ sym (ap (λ b. if b then Some l.name else name_of k ls) (no_number k l.tag e))
+    go false e ih = ap (λ o. if machine.has_number k l.tag then Some l.name else o) ih
+
+-- their stamps rise
+rises_stepped : (t n s : ℕ) (ls : List Label) (m : Label) → t ≤ s → s + length ls ≤ machine.stamp m.tag → AreRising t (stepped_labels n s ls ++ m ∷ [])
+rises_stepped t n s [] m l e = (λ f. tt, λ f. (omega (arith, l, e), tt))
+rises_stepped t n s (k ∷ ls) m l e = go (is_free k.tag) refl (λ u h. rises_stepped u n (s + 1) ls m h (omega (arith, e)))
+  where
+    part : (p : ℕ) → ((u : ℕ) → u ≤ s + 1 → AreRising u (stepped_labels n (s + 1) ls ++ m ∷ [])) → AreRising t ((part_label k.name p s ++ stepped_labels n (s + 1) ls) ++ m ∷ [])
+    part zero ih = ih t (omega (arith, l))
+    part (suc p) ih = (λ g. absurd (true≢false g), λ g. (l, ih (s + 1) (omega arith)))
+
+    go : (b : Bool) → is_free k.tag ≡ b → ((u : ℕ) → u ≤ s + 1 → AreRising u (stepped_labels n (s + 1) ls ++ m ∷ []))
+        → AreRising t (((if b then part_label k.name (kept n k.size (tags ls)) s else k ∷ []) ++ stepped_labels n (s + 1) ls) ++ m ∷ [])
+    go true f ih = part (kept n k.size (tags ls)) ih
+    go false f ih = (λ g. ih t (omega (arith, l)), λ g. absurd (true≢false (sym g ∙ f)))
+
+-- ---- where blocks slide
+
+some_not_nil : {A : Type 0} (x : A) (xs : List A) → (x ∷ xs) ≢ []
+some_not_nil x xs e = absurd (cc)
+
+slid_here : (n s : ℕ) (b : machine.Block) (bs : List machine.Block) → bs ≢ [] → (t : Bool) → (is_free b.tag && nat_le n b.size) ≡ t
+    → slid_by n s (b ∷ bs) ≡ (if t then Some (slid n s (b ∷ bs)) else option_map (λ l. b ∷ l) (slid_by n s bs))
+slid_here n s b [] some t e = absurd (some refl)
+slid_here n s b (c ∷ bs) some t e = ap (λ (x : Bool). if x then Some (slid n s (b ∷ c ∷ bs)) else option_map (λ l. b ∷ l) (slid_by n s (c ∷ bs))) e
+
+-- a free block of fewer units is passed
+passed : (n : ℕ) (b : machine.Block) → (is_free b.tag ≡ true → b.size < n) → (is_free b.tag && nat_le n b.size) ≡ false
+passed n b few = go (is_free b.tag) refl
+  where
+    go : (t : Bool) → is_free b.tag ≡ t → (t && nat_le n b.size) ≡ false
+    go true e = lt-leb n b.size (few e)
+    go false e = refl
+
+slid_there : (n s : ℕ) (fs : List machine.Block) (b : machine.Block) (bs : List machine.Block) → AllByRecursion (λ (d : machine.Block). is_free d.tag ≡ true → d.size < n) fs
+    → is_free b.tag ≡ true → n ≤ b.size → bs ≢ [] → slid_by n s (fs ++ b ∷ bs) ≡ Some (fs ++ slid n s (b ∷ bs))
+slid_there n s [] b bs few free whole more = slid_here n s b bs more true (ap (λ t. t && nat_le n b.size) free ∙ le-leb n b.size whole)
+slid_there n s (f ∷ fs) b bs few free whole more =
+    slid_here n s f (fs ++ b ∷ bs) (some fs) false (passed n f few.0) ∙ ap (option_map (λ l. f ∷ l)) (slid_there n s fs b bs few.1 free whole more)
+  where
+    some : (gs : List machine.Block) → (gs ++ b ∷ bs) ≢ []
+    some [] e = absurd (cc)
+    some (g ∷ gs) e = absurd (cc)
+
+-- there is such a block where the allocator finds one
+same_whole : (n s : ℕ) (ls : List Label) → is_some (slid_by n s (tags ls)) ≡ is_some (first_whole n (names ls))
+same_whole n s [] = refl
+same_whole n s (l ∷ []) = refl
+same_whole n s (l ∷ m ∷ ls) = go (is_free l.tag) (nat_le n l.size) (same_whole n s (m ∷ ls))
+  where
+    some_map : (o : Option (List machine.Block)) → is_some (option_map (λ k. by_tag l ∷ k) o) ≡ is_some o
+    some_map None = refl
+    some_map (Some k) = refl
+
+    go : (t u : Bool) → is_some (slid_by n s (tags (m ∷ ls))) ≡ is_some (first_whole n (names (m ∷ ls)))
+        → is_some (if t && u then Some (slid n s (tags (l ∷ m ∷ ls))) else option_map (λ k. by_tag l ∷ k) (slid_by n s (tags (m ∷ ls))))
+        ≡ is_some (if not (not t) && u then Some l.name else first_whole n (names (m ∷ ls)))
+    go true true ih = refl
+    go true false ih = some_map _ ∙ ih
+    go false u ih = some_map _ ∙ ih
+
+pub same_end : (ls : List Label) → machine.ends_live (tags ls) ≡ ends_used (names ls)
+same_end [] = refl
+same_end (l ∷ []) = refl
+same_end (l ∷ m ∷ ls) = same_end (m ∷ ls)
+
+-- ---- moves
+
+abbrev named_step : ℕ → ℕ → ℕ → Label → List Label → Bool → Bool → List named_moves.Move
+named_step n from to l ls u b = if u then (if b then [] else record { name = l.name; from = from; to = to; size = l.size } ∷ [])
+    ++ by.moves_by n (from + l.size) (to + l.size) (names ls) else by.moves_by n (from + l.size) (to + by.kept n l.size (names ls)) (names ls)
+
+abbrev plain_step : ℕ → ℕ → ℕ → Label → List Label → Tag → Bool → List Move
+plain_step n from to l ls t b = if is_free t then moves_by n (from + l.size) (to + kept n l.size (tags ls)) (tags ls) else (if b then [] else record { number = number t; from = from; to = to; size = l.size } ∷ [])
+    ++ moves_by n (from + l.size) (to + l.size) (tags ls)
+
+-- the moves are those of the plain machine, where the name of each label has one number
+moves_agree : (n : ℕ) (handles : List (Option Handle)) (from to : ℕ) (ls : List Label) (ms : List Move)
+    → ((l : Label) → IsIn l ls → (k : ℕ) → l.tag ≡ Live k → (j : ℕ) → kept_name handles j ≡ Some l.name → j ≡ k)
+    → AreNumbered handles (by.moves_by n from to (names ls)) ms → ms ≡ moves_by n from to (tags ls)
+moves_agree n handles from to [] [] h a = refl
+moves_agree n handles from to [] (m ∷ ms) h a = absurd a
+moves_agree n handles from to (l ∷ ls) ms h a = go l.tag refl (nat_eq from to) refl ms a (λ t r. moves_agree n handles (from + l.size) t ls r (λ x i. h x (inr i)))
+  where
+    first : (k : ℕ) → l.tag ≡ Live k → (ms : List Move)
+        → ((r : List Move) → AreNumbered handles (by.moves_by n (from + l.size) (to + l.size) (names ls)) r → r ≡ moves_by n (from + l.size) (to + l.size) (tags ls))
+        → AreNumbered handles (record { name = l.name; from = from; to = to; size = l.size } ∷ by.moves_by n (from + l.size) (to + l.size) (names ls)) ms
+        → ms ≡ record { number = k; from = from; to = to; size = l.size } ∷ moves_by n (from + l.size) (to + l.size) (tags ls)
+    first k t [] ih a = absurd a
+    first k t (m ∷ ms) ih a = ap₂ (λ (x : Move) y. x ∷ y) (same_move m k from to l.size (h l (inl refl) k t m.number a.0) a.1 a.2 a.3) (ih ms a.4)
+
+    go : (t : Tag) → l.tag ≡ t → (b : Bool) → nat_eq from to ≡ b → (ms : List Move) → AreNumbered handles (named_step n from to l ls (not (is_free l.tag)) (nat_eq from to)) ms
+        → ((t : ℕ) (r : List Move) → AreNumbered handles (by.moves_by n (from + l.size) t (names ls)) r → r ≡ moves_by n (from + l.size) t (tags ls))
+        → ms ≡ plain_step n from to l ls l.tag (nat_eq from to)
+    go (Free s) t b e ms a ih = ih (to + kept n l.size (tags ls)) ms (subst (λ k. AreNumbered handles (by.moves_by n (from + l.size) (to + k) (names ls)) ms) (kept_same n l.size ls)
+        (subst₂ (λ y b. AreNumbered handles (named_step n from to l ls (not (is_free y)) b) ms) t e a)) ∙ sym (ap₂ (plain_step n from to l ls) t e)
+    go (Live k) t true e ms a ih = ih (to + l.size) ms (subst₂ (λ y b. AreNumbered handles (named_step n from to l ls (not (is_free y)) b) ms) t e a) ∙ sym (ap₂ (plain_step n from to l ls) t e)
+    go (Live k) t false e ms a ih = first k t ms (ih (to + l.size)) (subst₂ (λ y b. AreNumbered handles (named_step n from to l ls (not (is_free y)) b) ms) t e a)
+        ∙ sym (ap₂ (plain_step n from to l ls) t e)
+
+none_numbered : (handles : List (Option Handle)) (xs : List named_moves.Move) (ms : List Move) → xs ≡ [] → AreNumbered handles xs ms → ms ≡ []
+none_numbered handles [] [] e a = refl
+none_numbered handles [] (m ∷ ms) e a = absurd a
+none_numbered handles (x ∷ xs) ms e a = absurd (cc)
+
+-- ---- what is left
+
+few_tags : (n : ℕ) (ls : List Label) → AllByRecursion (λ (b : Block). b.used ≡ false → b.size < n) (names ls) → AllByRecursion (λ (d : machine.Block). is_free d.tag ≡ true → d.size < n) (tags ls)
+few_tags n [] a = tt
+few_tags n (l ∷ ls) a = (λ e. a.0 (ap not e), few_tags n ls a.1)
+
+module _ (v : View) (hs : List (Option Handle)) (s : State) (w : IsWellFormed v) (ws : IsWell s) (g : HasBlocksOf v (kept_name hs) s) (n : ℕ) where
+  module _ (u : View) (w' : IsWellFormed u) (h : SlidesBy n v u) where
+    pub parts : (front : List Label) × (back : List Label) × (g.labels ≡ front ++ back) × (names front ≡ h.front) × (names back ≡ h.first ∷ h.rest)
+    parts = map_parts by_name g.labels h.front (h.first ∷ h.rest) (sym g.view ∙ h.is)
+
+    abbrev f : List Label
+    f = parts.0
+
+    abbrev r : List Label
+    r = parts.1
+
+    abbrev last : Label
+    last = record { name = h.name; size = given_up n (tags r); tag = Free (stamp_of_call s + length (tags r)) }
+
+    abbrev new : List Label
+    new = stepped_labels n (stamp_of_call s) r ++ last ∷ []
+
+    new_names : names new ≡ by.stepped n (names r) ++ free_block h.name (by.given_up n (names r)) ∷ []
+    new_names = map-append by_name (stepped_labels n (stamp_of_call s) r) (last ∷ []) ∙ ap₂ (λ l (m : ℕ). l ++ free_block h.name m ∷ []) (stepped_names n (stamp_of_call s) r) (sym (given_same n r))
+
+    new_tags : tags new ≡ slid n (stamp_of_call s) (tags r)
+    new_tags = map-append by_tag (stepped_labels n (stamp_of_call s) r) (last ∷ []) ∙ ap (λ l. l ++ by_tag last ∷ []) (stepped_tags n (stamp_of_call s) r)
+
+    same : SameSpace (replace v (names f) (names r) (names new) []) u
+    same = subst (λ z. SameSpace z u) (ap₂ (λ (fs bs : List Block). replace v fs bs (by.stepped n bs ++ free_block h.name (by.given_up n bs) ∷ []) []) (sym parts.3) (sym parts.4)
+        ∙ ap (λ ns. replace v (names f) (names r) ns []) (sym new_names)) h.view
+
+    list_is : g.labels ≡ f ++ (r ++ [])
+    list_is = parts.2 ∙ ap (λ l. f ++ l) (sym (append-nil r))
+
+    -- the blocks that the machine leaves
+    abbrev pub left_blocks : List machine.Block
+    left_blocks = tags f ++ slid n (stamp_of_call s) (tags r)
+
+    pub slides_there : slid_by n (stamp_of_call s) s.blocks ≡ Some left_blocks
+    slides_there =
+        let q = map_first by_name r h.first h.rest parts.4 in
+        let whole : n ≤ q.0.size = subst (λ (b : Block). n ≤ b.size) (sym q.3) h.whole in
+        ap (slid_by n (stamp_of_call s)) (g.state ∙ ap tags parts.2 ∙ map-append by_tag f r ∙ ap (λ l. tags f ++ tags l) q.2)
+        ∙ slid_there n (stamp_of_call s) (tags f) (by_tag q.0) (tags q.1) (few_tags n f (subst (AllByRecursion (λ (b : Block). b.used ≡ false → b.size < n)) (sym parts.3) h.few))
+        (free (is_free q.0.tag) (ap (λ (b : Block). b.used) q.3 ∙ h.free)) whole (rest_there q.1 q.4)
+        ∙ ap (λ l. Some (tags f ++ slid n (stamp_of_call s) (tags l))) (sym q.2)
+      where
+        free : (t : Bool) → not t ≡ false → t ≡ true
+        free true e = refl
+        free false e = absurd (true≢false e)
+
+        rest_there : (ls : List Label) → names ls ≡ h.rest → tags ls ≢ []
+        rest_there [] e z = h.more (sym e)
+        rest_there (l ∷ ls) e z = absurd (cc)
+
+    pub steps_agree : (t : State) → t.limit ≡ s.limit → t.blocks ≡ left_blocks → HasBlocksOf u (kept_name hs) t
+    steps_agree t limit e = agrees_replaced v (kept_name hs) s w ws g u w' v.size f r new [] list_is same t limit
+        (e ∙ ap (λ l. tags f ++ l) (sym new_tags) ∙ sym (map-append by_tag f new) ∙ ap (λ l. tags (f ++ l)) (sym (append-nil new)))
+        (rises_stepped (stamp_of_padding s) n (stamp_of_call s) r last (omega arith) (omega (arith, length-map r by_tag)))
+        (kept_name hs)
+        (λ j. g.handles j ∙ ap (name_of j) parts.2 ∙ name_append j f r ∙ ap (λ o. option_or (name_of j f) o) (same_names j)
+        ∙ sym (name_append j f (new ++ [])))
+      where
+        same_names : (j : ℕ) → name_of j r ≡ name_of j (new ++ [])
+        same_names j = sym (ap (name_of j) (append-nil new) ∙ name_append j (stepped_labels n (stamp_of_call s) r) (last ∷ []) ∙ or_none _ ∙ stepped_name_of j n (stamp_of_call s) r)
+
+-- ---- every state stays well-formed
+
+-- a run that slides, and what is before it
+record IsSlid (n s : ℕ) (bs left : List machine.Block) : Type 0 where
+  front : List machine.Block
+  first : machine.Block
+  rest : List machine.Block
+  is : bs ≡ front ++ first ∷ rest
+  left_is : left ≡ front ++ slid n s (first ∷ rest)
+  begins : is_free first.tag ≡ true
+
+slid_parts : (n s : ℕ) (bs left : List machine.Block) → slid_by n s bs ≡ Some left → IsSlid n s bs left
+slid_parts n s [] left e = absurd (cc)
+slid_parts n s (b ∷ []) left e = absurd (cc)
+slid_parts n s (b ∷ c ∷ bs) left e = go (is_free b.tag && nat_le n b.size) refl (slid_by n s (c ∷ bs)) refl (λ l q. slid_parts n s (c ∷ bs) l q)
+  where
+    go : (t : Bool) → (is_free b.tag && nat_le n b.size) ≡ t → (o : Option (List machine.Block)) → slid_by n s (c ∷ bs) ≡ o → ((l : List machine.Block) → slid_by n s (c ∷ bs) ≡ Some l → IsSlid n s (c ∷ bs) l)
+        → IsSlid n s (b ∷ c ∷ bs) left
+    go true t o q ih =
+        let same : Some (slid n s (b ∷ c ∷ bs)) ≡ Some left = sym (slid_here n s b (c ∷ bs) (some_not_nil c bs) true t) ∙ e in
+        record { front = []; first = b; rest = c ∷ bs; is = refl; left_is = sym (same_some _ _ same); begins = (and_parts (is_free b.tag) (nat_le n b.size) t).0 }
+    go false t None q ih =
+        let none : None ≡ Some left = sym (slid_here n s b (c ∷ bs) (some_not_nil c bs) false t ∙ ap (option_map (λ l. b ∷ l)) q) ∙ e in
+        absurd (cc)
+    go false t (Some l) q ih =
+        let same : Some (b ∷ l) ≡ Some left = sym (slid_here n s b (c ∷ bs) (some_not_nil c bs) false t ∙ ap (option_map (λ l. b ∷ l)) q) ∙ e in
+        let p = ih l q in
+        record { front = b ∷ p.front; first = p.first; rest = p.rest; is = ap (λ l. b ∷ l) p.is; left_is = sym (same_some _ _ same) ∙ ap (λ l. b ∷ l) p.left_is; begins = p.begins }
+
+stepped_few : (n s : ℕ) (bs : List machine.Block) → length (stepped n s bs) ≤ length bs
+stepped_few n s [] = omega arith
+stepped_few n s (b ∷ bs) = go (is_free b.tag) (stepped_few n (s + 1) bs)
+  where
+    go : (t : Bool) → length (stepped n (s + 1) bs) ≤ length bs → length ((if t then free_part (kept n b.size bs) s else b ∷ []) ++ stepped n (s + 1) bs) ≤ suc (length bs)
+    go true l = omega (arith, l, length-append (free_part (kept n b.size bs) s) (stepped n (s + 1) bs), (free_part_is (kept n b.size bs) s).3)
+    go false l = omega (arith, l)
+
+-- a last block that is free keeps nothing
+stepped_less : (n s : ℕ) (b : machine.Block) (bs : List machine.Block) → ends_free (b ∷ bs) ≡ true → length (stepped n s (b ∷ bs)) ≤ length bs
+stepped_less n s b [] e = subst (λ (t : Bool). length ((if t then [] else b ∷ []) ++ []) ≤ 0) (sym e) (omega arith)
+stepped_less n s b (c ∷ bs) e = go (is_free b.tag) (stepped_less n (s + 1) c bs e)
+  where
+    go : (t : Bool) → length (stepped n (s + 1) (c ∷ bs)) ≤ length bs → length ((if t then free_part (kept n b.size (c ∷ bs)) s else b ∷ []) ++ stepped n (s + 1) (c ∷ bs)) ≤ suc (length bs)
+    go true l = omega (arith, l, length-append (free_part (kept n b.size (c ∷ bs)) s) (stepped n (s + 1) (c ∷ bs)), (free_part_is (kept n b.size (c ∷ bs)) s).3)
+    go false l = omega (arith, l)
+
+ends_there : (fs : List machine.Block) (b : machine.Block) (bs : List machine.Block) → machine.ends_live (fs ++ b ∷ bs) ≡ false → ends_free (b ∷ bs) ≡ true
+ends_there [] b bs e = ends b bs e
+  where
+    free : (t : Bool) → not t ≡ false → t ≡ true
+    free true e = refl
+    free false e = absurd (true≢false e)
+
+    ends : (b : machine.Block) (bs : List machine.Block) → machine.ends_live (b ∷ bs) ≡ false → ends_free (b ∷ bs) ≡ true
+    ends b [] e = free (is_free b.tag) e
+    ends b (c ∷ bs) e = ends c bs e
+ends_there (f ∷ []) b bs e = ends_there [] b bs e
+ends_there (f ∷ g ∷ fs) b bs e = ends_there (g ∷ fs) b bs e
+
+-- neighbours
+not_not : (t : Bool) → t ≡ not (not t)
+not_not true = refl
+not_not false = refl
+
+apart_named : (ls : List Label) → AreApart (tags ls) → AreCoalesced (names ls)
+apart_named [] a = tt
+apart_named (l ∷ []) a = (subst (λ x. (x && false) ≡ false) (not_not (is_free l.tag)) a.0, tt)
+apart_named (l ∷ m ∷ ls) a = (subst₂ (λ x y. (x && y) ≡ false) (not_not (is_free l.tag)) (not_not (is_free m.tag)) a.0, apart_named (m ∷ ls) a.1)
+
+abbrev with_names : List machine.Block → List Label
+with_names bs = map (λ (b : machine.Block). let l : Label = record { name = 0; size = b.size; tag = b.tag } in l) bs
+
+tags_with_names : (bs : List machine.Block) → tags (with_names bs) ≡ bs
+tags_with_names [] = refl
+tags_with_names (b ∷ bs) = ap (λ l. b ∷ l) (tags_with_names bs)
+
+slid_apart : (n s : ℕ) (bs : List machine.Block) → AreApart bs → AreApart (slid n s bs)
+slid_apart n s bs a =
+    let ls = with_names bs in
+    let last : Label = record { name = 0; size = given_up n bs; tag = Free (s + length bs) } in
+    let named_apart : AreCoalesced (names (stepped_labels n s ls ++ last ∷ [])) =
+    subst AreCoalesced (sym (map-append by_name (stepped_labels n s ls) (last ∷ []) ∙ ap (λ l. l ++ by_name last ∷ []) (stepped_names n s ls)))
+    (stepped_apart n (names ls) (by_name last) [] (apart_named ls (subst AreApart (sym (tags_with_names bs)) a)) (refl, tt)) in
+    subst AreApart (map-append by_tag (stepped_labels n s ls) (last ∷ []) ∙ ap (λ l. l ++ by_tag last ∷ []) (stepped_tags n s ls ∙ ap (stepped n s) (tags_with_names bs)))
+    (apart_tagged (stepped_labels n s ls ++ last ∷ []) named_apart)
+
+-- tags
+count_live_stepped : (k n s : ℕ) (bs : List machine.Block) → count (Live k) (stepped n s bs) ≤ count (Live k) bs
+count_live_stepped k n s [] = omega arith
+count_live_stepped k n s (b ∷ bs) = go (is_free b.tag) (count_live_stepped k n (s + 1) bs)
+  where
+    go : (t : Bool) → count (Live k) (stepped n (s + 1) bs) ≤ count (Live k) bs
+        → count (Live k) ((if t then free_part (kept n b.size bs) s else b ∷ []) ++ stepped n (s + 1) bs) ≤ hit (Live k) b.tag + count (Live k) bs
+    go true l = omega (arith, l, count-append (Live k) (free_part (kept n b.size bs) s) (stepped n (s + 1) bs), count_free_part (Live k) (kept n b.size bs) s)
+    go false l = omega (arith, l)
+
+no_stamp : (x : ℕ) (t : Tag) → is_free t ≡ false → hit (Free x) t ≡ 0
+no_stamp x (Live k) e = refl
+no_stamp x (Free s) e = absurd (true≢false e)
+
+-- each stamp is there once, and in its order
+abbrev IsOnce : ℕ → ℕ → ℕ → ℕ → Type 0
+IsOnce x s l m = (m ≤ 1) × (1 ≤ m → (s ≤ x) × (x < s + l))
+
+count_free_stepped : (x n s : ℕ) (bs : List machine.Block) → IsOnce x s (length bs) (count (Free x) (stepped n s bs))
+count_free_stepped x n s [] = (omega arith, λ l. absurd (omega (arith, l)))
+count_free_stepped x n s (b ∷ bs) = go (is_free b.tag) refl (count_free_stepped x n (s + 1) bs)
+  where
+    go : (t : Bool) → is_free b.tag ≡ t → IsOnce x (s + 1) (length bs) (count (Free x) (stepped n (s + 1) bs))
+        → IsOnce x s (suc (length bs)) (count (Free x) ((if t then free_part (kept n b.size bs) s else b ∷ []) ++ stepped n (s + 1) bs))
+    go true e ih =
+        let sum = count-append (Free x) (free_part (kept n b.size bs) s) (stepped n (s + 1) bs) in
+        let part = count_free_part (Free x) (kept n b.size bs) s in
+        elim (hit_cases x s) [
+          | inl h ↦ elim (cases_lt 0 (count (Free x) (stepped n (s + 1) bs))) [
+            | inl some ↦ let q = (ih.1 some).0 in absurd (omega (arith, q, h.0))
+            | inr none ↦ (omega (arith, sum, part, none, h.1), λ l. (omega (arith, h.0), omega (arith, h.0)))
+          ]
+          | inr h ↦ (omega (arith, sum, part, ih.0, h.1), λ l. let q = ih.1 (omega (arith, l, sum, part, h.1)) in (omega (arith, q.0), omega (arith, q.1)))
+        ]
+    go false e ih =
+        let none = no_stamp x b.tag e in
+        (omega (arith, none, ih.0), λ l. let q = ih.1 (omega (arith, l, none)) in (omega (arith, q.0), omega (arith, q.1)))
+
+-- what slides has no tag twice
+module _ (s : State) (w : IsWell s) (left front run : List machine.Block) (n : ℕ) (fits : length run ≤ length s.blocks) (old_count : (t : Tag) → count t s.blocks ≡ count t front + count t run)
+    (new_count : (t : Tag) → count t left ≡ count t front + (count t (stepped n (stamp_of_call s) run) + (hit t (Free (stamp_of_call s + length run)) + 0))) where
+  abbrev fresh : ℕ → ℕ
+  fresh x = count (Free x) (stepped n (stamp_of_call s) run) + (hit (Free x) (Free (stamp_of_call s + length run)) + 0)
+
+  new_tag : (x : ℕ) → IsOnce x (stamp_of_call s) (length run + 1) (fresh x)
+  new_tag x =
+      let c = count_free_stepped x n (stamp_of_call s) run in
+      elim (hit_cases x (stamp_of_call s + length run)) [
+        | inl h ↦ elim (cases_lt 0 (count (Free x) (stepped n (stamp_of_call s) run))) [
+          | inl some ↦ let q = (c.1 some).1 in absurd (omega (arith, q, h.0))
+          | inr none ↦ (omega (arith, none, h.1), λ l. (omega (arith, h.0), omega (arith, h.0)))
+        ]
+        | inr h ↦ (omega (arith, c.0, h.1), λ l. let q = c.1 (omega (arith, l, h.1)) in (q.0, omega (arith, q.1)))
+      ]
+
+  once_left : (t : Tag) → count t left ≤ 1
+  once_left (Live k) = omega (arith, old_count (Live k), new_count (Live k), count_live_stepped k n (stamp_of_call s) run, w.once (Live k))
+  once_left (Free x) = elim (cases_lt x (stamp_of_padding s)) [
+    | inl low ↦ elim (cases_lt 0 (fresh x)) [
+      | inl some ↦ let q = ((new_tag x).1 some).0 in absurd (omega (arith, q, low))
+      | inr none ↦ omega (arith, none, old_count (Free x), new_count (Free x), w.once (Free x))
+    ]
+    | inr high ↦ let none = not_there s w (Free x) (λ o. omega (arith, o, high)) in let few = (new_tag x).0 in omega (arith, none, few, old_count (Free x), new_count (Free x))
+  ]
+
+  old_left : (t : Tag) → 1 ≤ count t left → IsOld (record s { calls = s.calls + length s.blocks + 1; blocks = left }) t
+  old_left (Live k) l = w.old (Live k) (omega (arith, l, old_count (Live k), new_count (Live k), count_live_stepped k n (stamp_of_call s) run))
+  old_left (Free x) l = elim (cases_lt 0 (fresh x)) [
+    | inl some ↦ let q = ((new_tag x).1 some).1 in omega (arith, q, fits)
+    | inr none ↦ let q = w.old (Free x) (omega (arith, l, none, old_count (Free x), new_count (Free x))) in omega (arith, q)
+  ]
+
+well_slid : (s : State) → IsWell s → (n : ℕ) (left : List machine.Block) → slid_by n (stamp_of_call s) s.blocks ≡ Some left → (machine.ends_live s.blocks && is_short_of 1 s) ≡ false
+    → IsWell (record s { calls = s.calls + length s.blocks + 1; blocks = left })
+well_slid s w n left e fits =
+    let p = slid_parts n (stamp_of_call s) s.blocks left e in
+    let run = p.first ∷ p.rest in
+    let last : machine.Block = machine.block (given_up n run) (Free (stamp_of_call s + length run)) in
+    let steps = stepped n (stamp_of_call s) run in
+    let old_length : length s.blocks ≡ length p.front + length run = ap (λ (l : List machine.Block). length l) p.is ∙ length-append p.front run in
+    let new_length : length left ≡ length p.front + (length steps + 1) =
+    ap (λ (l : List machine.Block). length l) p.left_is ∙ length-append p.front (steps ++ last ∷ []) ∙ ap (λ m. length p.front + m) (length-append steps (last ∷ [])) in
+    let old_count : (t : Tag) → count t s.blocks ≡ count t p.front + count t run = λ t. ap (count t) p.is ∙ count-append t p.front run in
+    let new_count : (t : Tag) → count t left ≡ count t p.front + (count t steps + (hit t last.tag + 0)) =
+    λ t. ap (count t) p.left_is ∙ count-append t p.front (steps ++ last ∷ []) ∙ ap (λ m. count t p.front + m) (count-append t steps (last ∷ [])) in
+    let parts = apart_parts p.front run (subst AreApart p.is w.apart) in
+    let front_live : ends_free p.front ≡ false = left_false (ends_free p.front) (is_free p.first.tag) parts.2 p.begins in
+    let few = stepped_few n (stamp_of_call s) run in
+    let room : length left + 1 ≤ s.limit = elim (and_cases (machine.ends_live s.blocks) (is_short_of 1 s) fits) [
+      | inl free ↦ let less = stepped_less n (stamp_of_call s) p.first p.rest (ends_there p.front p.first p.rest (ap machine.ends_live (sym p.is) ∙ free)) in omega (arith, new_length, old_length, less, w.room)
+      | inr spare ↦ omega (arith, new_length, old_length, few, leb-false s.limit (length s.blocks + 1) spare)
+    ] in
+    let within : length run ≤ length s.blocks = omega (arith, old_length) in
+    record {
+      some = omega (arith, new_length);
+      apart = subst AreApart (sym p.left_is) (apart_append p.front (slid n (stamp_of_call s) run) parts.0 (slid_apart n (stamp_of_call s) run parts.1)
+          (ap (λ x. x && starts_free (slid n (stamp_of_call s) run)) front_live));
+      once = once_left s w left p.front run n within old_count new_count;
+      old = old_left s w left p.front run n within old_count new_count;
+      room = room;
+    }
+
+pub well_steps : (s : State) → IsWell s → (n : ℕ) (o : Option (List machine.Block)) → slid_by n (stamp_of_call s) s.blocks ≡ o → IsWell (step_by n s o).state
+well_steps s w n None e = well_quiet s w machine.Gone
+well_steps s w n (Some left) e = cond_both (machine.ends_live s.blocks && is_short_of 1 s) _ _ (λ (o : Outcome). IsWell o.state) (λ z. well_quiet s w machine.Gone) (λ z. well_slid s w n left e z)
+
+-- ---- the step
+
+module _ (v w : View) (hs left : List (Option Handle)) (r : Reply) (s : State) (formed : IsWellFormed w) (ws : IsWell s) (p : IsAtState v hs s) (n : ℕ) (e : left ≡ hs) where
+  -- the machine has this reply, and leaves what the allocator does
+  abbrev Agrees : Outcome → Type 0
+  Agrees o = (r ≡ o.reply) × IsAtState w left o.state
+
+  stays : (x : Reply) → SameState v w → r ≡ x → Agrees (replies_only s x)
+  stays x same is = (
+    is,
+    subst (λ l. IsAtState w l (replies_only s x).state) (sym e)
+        (record { formed = formed; agrees = agrees_but v w (kept_name hs) _ same (agrees_quiet v (kept_name hs) s p.agrees machine.Gone); grants = p.grants }),
+  )
+
+  moves_are : (ms : List Move) → AreNumbered hs (by.moves_by n 0 0 v.blocks) ms → ms ≡ moves_by n 0 0 s.blocks
+  moves_are ms a = moves_agree n hs 0 0 p.agrees.labels ms (one_number v hs s p.formed ws p.agrees) (subst (λ bs. AreNumbered hs (by.moves_by n 0 0 bs) ms) p.agrees.view a)
+      ∙ ap (moves_by n 0 0) (sym p.agrees.state)
+
+  whole_too : is_some (slid_by n (stamp_of_call s) s.blocks) ≡ is_some (first_whole n v.blocks)
+  whole_too = ap (λ bs. is_some (slid_by n (stamp_of_call s) bs)) p.agrees.state ∙ same_whole n (stamp_of_call s) p.agrees.labels ∙ sym (ap (λ bs. is_some (first_whole n bs)) p.agrees.view)
+
+  same_ends : ends_used v.blocks ≡ machine.ends_live s.blocks
+  same_ends = ap ends_used p.agrees.view ∙ sym (same_end p.agrees.labels) ∙ ap machine.ends_live (sym p.agrees.state)
+
+  can : CanStep v → (machine.ends_live s.blocks && is_short_of 1 s) ≡ false
+  can (inl room) = ap (λ b. machine.ends_live s.blocks && b) (has_room v (kept_name hs) s p.formed ws p.agrees 1 room) ∙ and_right (machine.ends_live s.blocks) false refl
+  can (inr free) = ap (λ b. b && is_short_of 1 s) (sym same_ends ∙ free)
+
+  cannot : (CanStep v → ⊥) → (machine.ends_live s.blocks && is_short_of 1 s) ≡ true
+  cannot none = go (machine.ends_live s.blocks) refl (is_short_of 1 s) refl
+    where
+      go : (b : Bool) → machine.ends_live s.blocks ≡ b → (c : Bool) → is_short_of 1 s ≡ c → (machine.ends_live s.blocks && is_short_of 1 s) ≡ true
+      go true f true h = ap₂ (λ x y. x && y) f h
+      go false f c h = absurd (none (inr (same_ends ∙ f)))
+      go true f false h = absurd (none (inl (room_for v (kept_name hs) s p.formed ws p.agrees 1 h)))
+
+  none_if : {A : Type 0} (o : Option A) → is_some o ≡ false → o ≡ None
+  none_if None f = refl
+  none_if (Some x) f = absurd (true≢false f)
+
+  pub steps_taken : (d : Bool) → CompactsBy n v w d → (ms : List Move) → AreNumbered hs (if d then by.moves_by n 0 0 v.blocks else []) ms → r ≡ (if d then Compacted ms else Answer machine.Refused)
+      → Agrees (step_by n s (slid_by n (stamp_of_call s) s.blocks))
+  steps_taken true (inl t) ms a is = subst (λ o. Agrees (step_by n s o)) (sym (none_if _ (whole_too ∙ ap is_some t.0)))
+      (stays (Compacted []) t.1 (is ∙ ap Compacted (none_numbered hs _ ms (none_whole n v.blocks t.0 0) a)))
+  steps_taken true (inr t) ms a is =
+      let at = left_blocks v hs s p.formed ws p.agrees n w formed t.1 in
+      let now : State = record s { calls = s.calls + length s.blocks + 1; blocks = at } in
+      subst (λ o. Agrees (step_by n s o)) (sym (slides_there v hs s p.formed ws p.agrees n w formed t.1))
+      (subst (λ b. Agrees (if b then replies_only s (Answer machine.Refused) else record { state = now; reply = Compacted (moves_by n 0 0 s.blocks) })) (sym (can t.0)) (
+        is ∙ ap Compacted (moves_are ms a),
+        subst (λ l. IsAtState w l now) (sym e)
+            (record { formed = formed; agrees = steps_agree v hs s p.formed ws p.agrees n w formed t.1 now refl refl; grants = p.grants }),
+      ))
+  steps_taken false t ms a is = go (slid_by n (stamp_of_call s) s.blocks) refl
+    where
+      go : (o : Option (List machine.Block)) → slid_by n (stamp_of_call s) s.blocks ≡ o → Agrees (step_by n s o)
+      go None f = absurd (t.0 (none_if _ (sym whole_too ∙ ap is_some f)))
+      go (Some bs) f = subst (λ b. Agrees (if b then replies_only s (Answer machine.Refused)
+          else record { state = record s { calls = s.calls + length s.blocks + 1; blocks = bs }; reply = Compacted (moves_by n 0 0 s.blocks) })) (sym (cannot t.1)) (stays (Answer machine.Refused) t.2 is)

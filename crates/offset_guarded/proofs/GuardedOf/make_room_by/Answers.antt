@@ -1,0 +1,6 @@
+use Rattle.std.proofs.Common.{sym, ap}
+use Rattle.offset_guarded.specs.Guard.{Guard}
+use Rattle.offset_guarded.proofs.GuardedOf.make_room_by.Goals as goal
+
+pub returns-clause-step : goal.returns-clause-step
+returns-clause-step g c = rw (ap (λ (g : Guard). g.space) (sym c.self.view_is)) c.make_room_by.ensures.step
