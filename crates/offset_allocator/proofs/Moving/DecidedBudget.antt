@@ -1,7 +1,7 @@
 -- A compaction within a budget: in the same state it comes as far, by the same moves, and leaves the same state.
 use Rattle.offset_allocator.proofs.{Decided.both_leave, Decided.both_stay, Decided.one_name, Moving.DecidedRooms.IsPast, Moving.DecidedRooms.Notes, Moving.DecidedRooms.folds_same, Moving.DecidedRooms.meet}
 use Rattle.offset_allocator.proofs.{Tallies.tally_append, Tallies.one-same}
-use Rattle.offset_allocator.proofs.Common.{◌≡◌, ◌≢◌, ℕ, ◌+◌, ◌≤◌, ◌⊎◌, Bool, true, false, List, [], ◌∷◌, ◌++◌, Option, Some, None, nat_eq, refl, sym, ap, ap₂, subst, ◌∙◌, inl, inr, arith, length, FoldsTo}
+use Rattle.offset_allocator.proofs.Common.{◌≡◌, ℕ, ◌+◌, ◌≤◌, true, List, [], ◌∷◌, ◌++◌, Option, Some, None, nat_eq, refl, sym, ap, ap₂, subst, ◌∙◌, inl, inr, arith, length, FoldsTo}
 use Rattle.offset_allocator.proofs.Common.{Block, View, units, one, used_of, used_units, count_named, free_block, replace, append_assoc, IsWellFormed, Move, if◌then◌else◌}
 use Rattle.offset_allocator.specs.Moving.BySteps.{given_up, moves_by, stepped, used_up}
 use Rattle.offset_allocator.specs.Moving.Budget.{CanFollow, CompactsWithin, IsReached, IsWithin, SlidesWithin, StopsAt, first_from, start_of}

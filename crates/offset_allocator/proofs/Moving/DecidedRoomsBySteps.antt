@@ -2,7 +2,7 @@
 -- state.
 use Rattle.offset_allocator.proofs.{Decided.both_leave, Decided.both_stay, Decided.one_name, Views.ViewApart.apart_parts}
 use Rattle.offset_allocator.proofs.Moving.DecidedRooms.{IsPast, Notes, ends_later, folds_same, meet, none_less, one_most}
-use Rattle.offset_allocator.proofs.Common.{◌≡◌, ℕ, ◌≤◌, true, false, List, [], ◌∷◌, ◌++◌, Option, Some, None, refl, sym, ap, ap₂, subst, ◌∙◌, inl, inr, arith, drop, length, FoldsTo}
+use Rattle.offset_allocator.proofs.Common.{◌≡◌, ℕ, true, false, List, [], ◌∷◌, ◌++◌, Option, Some, None, refl, sym, ap, ap₂, subst, ◌∙◌, inl, inr, arith, drop, length, FoldsTo}
 use Rattle.offset_allocator.proofs.Common.{cases_lt, Block, View, units, free_block, replace, starts_free, ends_used, AreCoalesced, IsWellFormed, Move}
 use Rattle.offset_allocator.specs.Moving.BySteps.{given_up, moves_by, stepped, used_up}
 use Rattle.offset_allocator.specs.Moving.Room.{IsAtMost, IsLess, cost_of}

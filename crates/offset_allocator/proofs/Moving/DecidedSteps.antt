@@ -1,7 +1,7 @@
 -- A compaction by whole steps: in the same state it leaves the same state.
 use Rattle.offset_allocator.proofs.{Decided.both_leave, Decided.both_stay, Decided.one_name, Moving.Stepping.first_here}
-use Rattle.offset_allocator.proofs.Common.{◌≡◌, ◌≢◌, ℕ, ◌+◌, ◌<◌, ◌≤◌, Bool, true, false, not, ◌&&◌, nat_le, Some, None, List, [], ◌∷◌, ◌++◌, length, refl, sym, ap, ap₂, subst, ◌∙◌, arith, inl, inr, AllByRecursion, le-leb}
-use Rattle.offset_allocator.proofs.Common.{lt-leb, Block, View, free_block, replace, if◌then◌else◌}
+use Rattle.offset_allocator.proofs.Common.{◌≡◌, ◌≢◌, ℕ, ◌<◌, ◌≤◌, Bool, true, false, not, ◌&&◌, nat_le, Some, None, List, [], ◌∷◌, ◌++◌, length, refl, sym, ap, ap₂, subst, ◌∙◌, arith, inl, inr, AllByRecursion, le-leb}
+use Rattle.offset_allocator.proofs.Common.{lt-leb, Block, View, free_block, replace}
 use Rattle.offset_allocator.specs.Moving.BySteps.{first_whole, stepped, given_up, used_up, SlidesBy, CompactsBy}
 use Rattle.offset_allocator.specs.{Names.names_of, Relations.SameState}
 

@@ -1,13 +1,13 @@
 -- The whole allocator after a run has slid to its front by whole steps.
-use Rattle.offset_allocator.proofs.{Advice.free_within, Classes.below_value_up, Classes.down_law, Classes.past_words, Classes.value_down, Classes.value_grows, Filing.Filed.filed_in, Linking.Places.placed}
+use Rattle.offset_allocator.proofs.{Advice.free_within, Classes.down_law, Classes.past_words, Classes.value_down, Classes.value_grows, Filing.Filed.filed_in, Linking.Places.placed}
 use Rattle.offset_allocator.proofs.{Moving.Compacting.live_append, Moving.DecidedRooms.ends_some, Moving.Rooms.apart_few, Moving.Runs.few_units, Moving.Runs.run_within, Moving.Runs.want_is}
-use Rattle.offset_allocator.proofs.{Moving.Stepping.emptied_free, Moving.Stepping.given_free, Refusals.total_is, Sound.AreSound, Sound.Fields, Sound.known_sound, Sound.shown, Sound.well_counted, Taken.HasFit, Taken.fitting}
+use Rattle.offset_allocator.proofs.{Moving.Stepping.emptied_free, Moving.Stepping.given_free, Refusals.total_is, Sound.AreSound, Sound.Fields, Sound.shown, Sound.well_counted, Taken.HasFit, Taken.fitting}
 use Rattle.offset_allocator.proofs.{Tallies.free_sum, Tallies.units-append, Views.ViewApart.apart_parts, Views.ViewApart.ends_free, Views.ViewApart.right_false}
-use Rattle.offset_allocator.proofs.Moving.Stepped.{split_length, stepped_free_units, stepped_live, stepped_length, used_up_length}
-use Rattle.offset_allocator.proofs.Common.{◌≡◌, ◌≢◌, ℕ, ◌+◌, ◌-◌, ◌*◌, ◌%◌, ◌^◌, ◌<◌, ◌≤◌, ◌⊎◌, Bool, true, false, not, ◌&&◌, Some, None, Option, List, [], ◌∷◌, ◌++◌, if◌then◌else◌, nat_eq, refl, sym, ap, ap₂, subst}
-use Rattle.offset_allocator.proofs.Common.{◌∙◌, arith, inl, inr, append_assoc, append-nil, cases_lt, length, length-append, sum, take, true≢false, not-true, common_steps, Block, View, one, units, used_of, used_units}
-use Rattle.offset_allocator.proofs.Common.{free_block, free_sizes, starts_free, ends_used, bin_at, times, down, up, value, live, replace, FoldsTo, AreCoalesced, AreInBins, IsWellFormed, HasRoomFor, CanGrant, SameSpace, HasPlace, blocks, first_or, last_or, drop}
-use Rattle.offset_allocator.specs.Moving.BySteps.{kept, stepped, given_up, used_up, moves_by}
+use Rattle.offset_allocator.proofs.Moving.Stepped.{split_length, stepped_free_units, stepped_live, used_up_length}
+use Rattle.offset_allocator.proofs.Common.{◌≡◌, ◌≢◌, ℕ, ◌+◌, ◌-◌, ◌*◌, ◌%◌, ◌^◌, ◌<◌, ◌≤◌, false, not, ◌&&◌, Some, None, Option, List, [], ◌∷◌, ◌++◌, refl, sym, ap, ap₂, subst}
+use Rattle.offset_allocator.proofs.Common.{◌∙◌, arith, inl, inr, append_assoc, append-nil, cases_lt, length, length-append, sum, take, true≢false, not-true, common_steps, Block, View, units, used_units}
+use Rattle.offset_allocator.proofs.Common.{free_block, free_sizes, starts_free, ends_used, times, down, up, value, live, replace, FoldsTo, AreCoalesced, AreInBins, IsWellFormed, HasRoomFor, CanGrant, SameSpace, HasPlace, blocks, first_or, last_or, drop}
+use Rattle.offset_allocator.specs.Moving.BySteps.{stepped, given_up, used_up, moves_by}
 use Rattle.offset_allocator.specs.Moving.Compacting.{Move}
 use Rattle.offset_allocator.specs.Moving.Room.{IsRun, IsAtMost, cost_of}
 use Rattle.offset_allocator.specs.Moving.RoomBySteps.{CostMoreBy, IsCheapestBy, IsLeastCostBy, MakesRoomBy, Serves, SlidesRunBy, names_short}

@@ -42,9 +42,9 @@ first_whole s (b ∷ c ∷ bs) = if not b.used && nat_le s b.size then Some b.na
 abbrev pub CanStep : View → Type 0
 CanStep v = HasRoomFor 1 v ⊎ (ends_used v.blocks ≡ false)
 
--- from the first free block of at least a step on, the free ones keep what whole steps leave of them, and what they give
--- up is one free block at the end. Each free one leaves its bin, and what it keeps is then the newest of its own, and at
--- last the one at the end
+-- from the first free block of at least a step on, each free block keeps what whole steps leave of its units, and the
+-- units that they give up are one free block at the end. Each of these free blocks leaves its bin; what it keeps becomes
+-- the newest block of the bin for its new size, one after the other in space order, and last of all the block at the end
 pub record SlidesBy (s : ℕ) (v w : View) : Type 0 where
   pub front : List Block
   pub first : Block

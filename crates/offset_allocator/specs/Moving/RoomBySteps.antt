@@ -42,9 +42,10 @@ IsCheapestBy s want short bs (Some r) =
     × CostMoreBy s want short r.cost (drop 1 (run ++ k.back)))
     × ((run : List Block) → IsRun run bs → Serves s want short run → IsAtMost r.cost (cost_of run))
 
--- a run that serves slides to its front by whole steps, and each such run that begins later costs more. What it gives up
--- is one free block at its end. Each free one of the run leaves its bin, and what it keeps is then the newest of its own,
--- and at last the one at the end; all else stays
+-- a run that serves slides to its front by whole steps, and each such run that begins later costs more. The units that
+-- its free blocks give up are one free block at its end. Each free block of the run leaves its bin; what it keeps becomes
+-- the newest block of the bin for its new size, one after the other in space order, and last of all the block at the end.
+-- All else stays
 pub record SlidesRunBy (s want short : ℕ) (v w : View) : Type 0 where
   pub front : List Block
   pub run : List Block

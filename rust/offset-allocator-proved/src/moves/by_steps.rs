@@ -51,9 +51,9 @@ fn within(next: u32, end: u32, after: Option<u32>) -> Option<u32> {
     if next == end { None } else { after }
 }
 
-// Slides the used blocks after a free block of no units to the front by whole steps, up to the block `end`: the
-// free ones leave their bins, what they keep becomes the newest of its own, and what they give up goes into the
-// block. The blocks after `end` stay.
+// Slides the used blocks after a free block of no units to the front by whole steps, up to the block `end`. Each
+// free block on the way leaves its bin, what it keeps becomes the newest block of the bin for its new size, and
+// the units that it gives up go to the block of no units, which comes last. The blocks after `end` stay.
 fn slide_by<T: Tables, F: FnMut(Move<T::Index>)>(
     store: &mut Store<T>,
     name: u32,

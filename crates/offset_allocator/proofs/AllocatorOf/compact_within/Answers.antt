@@ -1,7 +1,7 @@
 use Rattle.offset_allocator.proofs.{Moving.Packed.live_sizes, Sound.AreSound, Sound.Fields, Sound.shown, Sound.fields_of, Sound.known_sound, Linking.Places.placed}
 use Rattle.offset_allocator.proofs.Moving.Stepped.{split_filed, split_few, split_steps}
 use Rattle.offset_allocator.proofs.Moving.Budgeted.{IsBegun, Run, begun, slides_live, few_left, few_rest, stops_apart}
-use Rattle.offset_allocator.proofs.Common.{◌≡◌, ℕ, ◌+◌, ◌*◌, ◌≤◌, ◌⊎◌, Bool, true, false, List, [], ◌∷◌, ◌++◌, Some, length, refl, sym, ap, subst, ◌∙◌, arith, inl, inr, length-append, not, Block, View, blocks, units, ends_used, HasRoomFor, IsChain, IsCalledWith, true≢false}
+use Rattle.offset_allocator.proofs.Common.{◌≡◌, ℕ, ◌+◌, ◌*◌, ◌≤◌, ◌⊎◌, true, false, List, [], ◌∷◌, ◌++◌, Some, length, refl, sym, ap, subst, ◌∙◌, arith, inl, inr, length-append, not, Block, View, blocks, units, ends_used, HasRoomFor, IsChain, IsCalledWith, true≢false}
 use Rattle.offset_allocator.proofs.Common.{max, free_block, replace, take, SameSpace}
 use Rattle.std.specs.List.{FoldsTo}
 use Rattle.offset_allocator.specs.Names.{IsTaken}

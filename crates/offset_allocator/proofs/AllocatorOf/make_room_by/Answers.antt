@@ -2,9 +2,9 @@ use Rattle.offset_allocator.proofs.{Classes.below_value_up, Moving.Packed.live_s
 use Rattle.offset_allocator.proofs.Moving.Stepped.{split_filed, split_few, split_steps}
 use Rattle.offset_allocator.proofs.Moving.RoomsBySteps.{class_few, class_needed, found_by, found_cost, found_none, found_run, opened_at, opened_back, opened_few, opened_granted, opened_grants, opened_makes}
 use Rattle.offset_allocator.proofs.Moving.RoomsBySteps.{opened_short, opened_slides, past_by, slides_by_live}
-use Rattle.offset_allocator.proofs.Common.{◌≡◌, ◌≤◌, ◌+◌, ◌-◌, ◌*◌, ◌∙◌, ◌∷◌, ℕ, List, Option, Some, None, is_some, true, bin_at, refl, sym, ap, subst, arith, not, length, up, value, live, Block, View, HasRoomFor, CanGrant, KeepsSizes, blocks_needed, units_needed}
+use Rattle.offset_allocator.proofs.Common.{◌≡◌, ◌+◌, ◌-◌, ◌∙◌, ◌∷◌, ℕ, List, Option, Some, None, is_some, true, bin_at, refl, sym, ap, subst, arith, not, length, up, value, live, Block, View, HasRoomFor, KeepsSizes, blocks_needed, units_needed}
 use Rattle.offset_allocator.specs.Bins.{IsFoundFrom}
-use Rattle.offset_allocator.specs.Moving.RoomBySteps.{IsLeastCostBy, names_short}
+use Rattle.offset_allocator.specs.Moving.RoomBySteps.{names_short}
 use Rattle.offset_allocator.proofs.AllocatorOf.make_room_by.Goals as goal
 
 pub overflow_sub-align : goal.overflow_sub-align

@@ -1,4 +1,4 @@
-use Rattle.offset_allocator.proofs.Common.{◌≡◌, ◌∙◌, ◌+◌, ◌<◌, ◌^◌, ◌++◌, ◌∷◌, List, [], None, Some, false, length, length-append, refl, sym, ap, subst, arith, append-nil, true≢false, Block, Node, blocks, units}
+use Rattle.offset_allocator.proofs.Common.{◌≡◌, ◌∙◌, ◌<◌, ◌^◌, ◌++◌, ◌∷◌, List, [], None, Some, false, length, length-append, refl, sym, ap, subst, arith, append-nil, true≢false, Block, Node, blocks}
 use Rattle.offset_allocator.proofs.{Linking.Places.at_place, Moving.Runs.block_is}
 use Rattle.offset_allocator.proofs.Moving.Searching.{IsBest, IsTurned, next_block, next_there, met_whole, none_next, turned_found, turned_few, turned_used, turned_fits, turned_on, turned_less, serves_is, serves_in, named_end, cheaper_of, first_there, no_run, best_is}
 use Rattle.offset_allocator.specs.{Moving.RoomBySteps.IsCheapestBy, Moving.Spans.IsSpan, Moving.Spans.IsBefore, Moving.Spans.AreSums}

@@ -1,4 +1,4 @@
-use Rattle.offset_allocator.proofs.Common.{◌∙◌, ◌+◌, ◌++◌, ◌∷◌, List, [], refl, sym, ap, subst, arith, inl, inr, drop, true≢false, Block}
+use Rattle.offset_allocator.proofs.Common.{◌∙◌, ◌++◌, ◌∷◌, List, [], refl, sym, ap, subst, arith, inl, inr, drop, true≢false, Block}
 use Rattle.offset_allocator.proofs.Moving.Searching.{none_before, head, sums_here, here, after_some, next, one_less, serves_is, serves_in}
 use Rattle.offset_allocator.specs.{Moving.RoomBySteps.Serves, Moving.Spans.head_of}
 use Rattle.offset_allocator.proofs.moves.room_by_steps.shorten.Goals as goal
