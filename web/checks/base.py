@@ -56,7 +56,7 @@ def play(b, text):
     """Puts a text into the text area, and presses the button below it."""
     b.run("$('text').value = arguments[0]", text)
     b.click("#load")
-    b.run("return new Promise(r => { const f = () => window.Work && Work.now ? setTimeout(f, 10) : r(0); setTimeout(f, 30); })")
+    b.run("return new Promise(r => { const f = () => Work.now ? setTimeout(f, 10) : r(0); setTimeout(f, 30); })")
 
 
 def row(b):

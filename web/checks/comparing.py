@@ -4,6 +4,12 @@ from .base import TRACES, holds, recorded, row, same, to
 from .refusals import FRAGMENTED
 
 
+REQUESTS = ("alloc", "align", "tight", "relocate")
+# of the lines that scripts lack, what a larger unit does to their numbers
+SCALED = {"tight": "na", "room": "nas", "relocate": "ka", "retract": "d", "offset": "k", "where": "na", "first": "", "last": "",
+          "before": "k", "after": "k", "cost": "nas", "why": "na", "compact": "sddc"}
+
+
 def other(text, size, nodes, unit, compact):
     """For each call of a text what the other run's last answer to it is; and its refusals after that."""
     lines = [line for line in text.splitlines() if line and line[0] != "#"][1:]
@@ -11,6 +17,7 @@ def other(text, size, nodes, unit, compact):
     made, of, places, grants = [f"space {size // unit} nodes {nodes} index 32"], {}, [], 0
     # the grants of the other run are known only as it is played: so again from the start where one is refused
     up = lambda n: -(-int(n) // unit)
+    number = {"n": up, "s": up, "d": lambda n: int(n) // unit, "c": int, "a": lambda n: max(1, int(n) // unit), "k": lambda k: of.get(k, 0)}
     refused, answers = set(), []
     while True:
         made, of, places, grants = made[:1], {}, [], 0
@@ -19,11 +26,14 @@ def other(text, size, nodes, unit, compact):
             call = {"alloc": lambda: f"alloc {up(n[0])}", "free": lambda: f"free {of.get(n[0], 0)}", "report": lambda: "report",
                     "align": lambda: f"align {up(n[0])} {int(n[1]) // unit}" if int(n[1]) > unit else f"alloc {up(n[0])}",
                     "extend": lambda: f"extend {int(n[0]) // unit}", "size": lambda: f"size {of.get(n[0], 0)}", "reset": lambda: "reset",
-                    "shrink": lambda: f"shrink {of.get(n[0], 0)} {up(n[1])}", "grow": lambda: f"grow {of.get(n[0], 0)} {up(n[1])}",
-                    "compact": lambda: "report" if compact == 2 else "compact"}[name]()
+                    "shrink": lambda: f"shrink {of.get(n[0], 0)} {up(n[1])}", "grow": lambda: f"grow {of.get(n[0], 0)} {up(n[1])}"}.get(name, lambda: "")()
+            if not call:
+                words = [word for word in line.split() if not word.isdigit()]
+                call = " ".join([*words, *(str(number[kind](v)) for kind, v in zip(SCALED[name], n[len(words) - 1:]))])
+                call = "report" if compact == 2 and name in ("compact", "room") else call
             made.append(call)
-            if name in ("alloc", "align"):
-                if i in refused and compact == 1:
+            if name in REQUESTS:
+                if i in refused and compact == 1 and name != "relocate":
                     made += ["compact", call]
                 is_granted = (i, "last") not in refused if i in refused and compact == 1 else i not in refused
                 grants += is_granted
@@ -34,11 +44,11 @@ def other(text, size, nodes, unit, compact):
         wrong = None
         for i, line in enumerate(lines):
             begin = places[i - 1] + 1 if i else 0
-            if line[:2] != "al":
+            if line.split()[0] not in REQUESTS:
                 continue
-            if answers[begin] == "none" and i not in refused:
+            if answers[begin] in ("none", "gone") and i not in refused:
                 wrong = i
-            elif answers[places[i]] == "none" and compact == 1 and (i, "last") not in refused:
+            elif answers[places[i]] in ("none", "gone") and compact == 1 and (i, "last") not in refused:
                 wrong = (i, "last")
             if wrong is not None:
                 break
@@ -47,6 +57,30 @@ def other(text, size, nodes, unit, compact):
         refused.add(wrong)
 
 
+MOVES = FRAGMENTED + """tight 60
+tight 30 64
+why alloc 10
+why tight 10 16
+cost 10
+first
+last
+relocate 9
+free 9
+offset 2
+after 2
+room 150
+room 200 64 8
+compact 16 0 200 1
+relocate 8 16
+alloc 150
+compact 16
+free 12
+relocate 13
+retract 60
+compact 8
+retract 60
+alloc 90
+"""
 OFTEN = FRAGMENTED.replace("alloc 300", "shrink 2 50\ncompact\nalloc 300\ngrow 10 350\nshrink 4 60\ncompact\ngrow 10 360")
 
 
@@ -79,6 +113,10 @@ def two_runs(b):
             ("fewer nodes", FRAGMENTED, (1000, 9, 1, 0)),
             ("a unit of 64", FRAGMENTED + "extend 100\nextend 30\nalloc 260\n", (1000, 32, 64, 0)),
             ("never compacted", OFTEN, (1000, 32, 1, 2)),
+            ("ranges that slide, in more space", MOVES, (1200, 32, 1, 0)),
+            ("ranges that slide, with a unit of 16", MOVES, (1000, 32, 16, 0)),
+            ("ranges that slide, compacted where a request is refused", MOVES, (900, 32, 1, 1)),
+            ("ranges that slide no more", MOVES, (1000, 32, 1, 2)),
             ("a unit of 8, never compacted", OFTEN, (1000, 32, 8, 2)),
             ("as many nodes as 16 bits name", FRAGMENTED.replace("index 32", "index 16"), (1000, 65533, 1, 0)),
             ("more nodes than 16 bits name", FRAGMENTED.replace("index 32", "index 16"), (1000, 65534, 1, 0)),

@@ -3,7 +3,7 @@ program, and with a plain list of live ranges that is made of them here."""
 
 import re
 
-from .base import TRACES, give, holds, play, program, row, same, to, until
+from .base import TRACES, give, holds, play, program, recorded, row, same, to, until
 
 
 def live_at(text, p):
@@ -30,7 +30,7 @@ def answers_are_the_program_s(b):
     for name, path in TRACES.items():
         b.run("$('trace').value = arguments[0]; return $('trace').onchange()", name)
         found = b.run("S.saved = null; return $('answers').onclick().then(() => S.saved.text())")
-        same(found, program(path.read_text())[0], f"answers of {name}")
+        same(found, recorded(path.read_text())[0], f"answers of {name}")
         times = b.run("const t = []; for (let i = 0; i <= 100; i++) { go(Math.floor(S.run.count * i / 100)); t.push(frameTime); } return t.sort((a, b) => a - b)")
         print(f"frames of {name}: median {times[50]:.1f} ms, largest {times[-1]:.1f} ms")
         holds(times[50] < 60, "half the frames take less than 60 ms", times)
@@ -131,22 +131,25 @@ def one_word_for_a_class(b):
 
 
 def moved_ranges_keep_their_age(b):
-    """Grant 2 is live for 50 calls: 25 before `compact` moves it, and 25 after; then grant 3 likewise, resized."""
-    lines = ["space 100 nodes 16 index 32", "alloc 10", "alloc 10", "free 1", *["report"] * 23, "compact", *["report"] * 24, "free 2"]
-    lines += ["alloc 10", *["report"] * 24, "grow 3 20", *["report"] * 24, "free 3"]
-    b.open()
-    give(b, "\n".join(lines) + "\n", "ages.script")
-    found = b.run("const c = colors().ages, t = pictured(S.run, 800, 400); return c.map(a => (t.split(`<path fill='${a}' d='`)[1] || '').split(\"'\")[0].split('z').length - 1)")
-    # grant 1 is live for 2 calls; the ranges of grants 2 and 3 are of 31 to 100 calls, two each
-    same(found[:3], [1, 0, 4], "ranges that were moved or resized are of one age")
-    b.run("go(S.run.count)")
-    b.run("return new Promise(r => { const f = () => S.run.picture && S.run.picture.next === S.run.lk.length ? r() : setTimeout(f, 20); f(); })")
-    pixels = b.run("""const s = S.run.picture.sheet, g = s.getContext('2d'), at = (p, o) => [...g.getImageData(
-        Math.round(p / (S.run.count + 1) * s.width), Math.round(s.height - o / S.run.top * s.height), 1, 1).data.slice(0, 3)].join();
-        return [at(15, 15), at(38, 5), at(60, 5), at(90, 15)]""")
-    same(len(set(pixels)), 1, "and have one colour in the lives")
-    b.run("edit(30, [[2, 2, 0]])")
-    same(b.run("return [S.run.lived(1, 31), S.run.lived(2, 31)]"), [29, 29], "in a branch that ends the grant earlier too")
+    """Grant 2 is live for 50 calls: 25 before a call moves it, and 25 after; then grant 3 likewise, resized."""
+    for slide in ("compact", "compact 5", "compact 1 0 10 1", "room 88", "room 88 1 10"):
+        lines = ["space 100 nodes 16 index 32", "alloc 10", "# moved", "alloc 10", "free 1", *["report"] * 23, slide, *["report"] * 24, "free 2"]
+        lines += ["alloc 10", *["report"] * 24, "grow 3 20", *["report"] * 24, "free 3"]
+        b.open()
+        give(b, "\n".join(lines) + "\n", "ages.script")
+        found = b.run("const c = colors().ages, t = pictured(S.run, 800, 400); return c.map(a => (t.split(`<path fill='${a}' d='`)[1] || '').split(\"'\")[0].split('z').length - 1)")
+        # grant 1 is live for 2 calls; the ranges of grants 2 and 3 are of 31 to 100 calls, two each
+        same(found[:3], [1, 0, 4], f"{slide}: ranges that were moved or resized are of one age")
+        b.run("go(27)")
+        same(b.run(ROWS, "#ranges"), [["2", "0", "10", "2", "moved"]], "a moved range keeps its number, its row and its name")
+        b.run("go(S.run.count)")
+        b.run("return new Promise(r => { const f = () => S.run.picture && S.run.picture.next === S.run.lk.length ? r() : setTimeout(f, 20); f(); })")
+        pixels = b.run("""const s = S.run.picture.sheet, g = s.getContext('2d'), at = (p, o) => [...g.getImageData(
+            Math.round(p / (S.run.count + 1) * s.width), Math.round(s.height - o / S.run.top * s.height), 1, 1).data.slice(0, 3)].join();
+            return [at(15, 15), at(38, 5), at(60, 5), at(90, 15)]""")
+        same(len(set(pixels)), 1, "and its colour in the lives")
+        b.run("edit(30, [[2, 2, 0]])")
+        same(b.run("return [S.run.lived(1, 31), S.run.lived(2, 31)]"), [29, 29], "in a branch that ends the grant earlier too")
 
 
 ALL = [answers_are_the_program_s, ranges_are_listed, bins_are_listed, ways_to_a_row, one_word_for_a_class, moved_ranges_keep_their_age]

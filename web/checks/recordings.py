@@ -2,9 +2,10 @@
 his own to a link that shows its first refusal."""
 
 import random
+import re
 import subprocess
 
-from .base import RUST, give, holds, program, recorded, row, same, until
+from .base import RUST, TRACES, WEB, give, holds, program, recorded, row, same, until
 
 
 def saved_answers(b):
@@ -44,7 +45,7 @@ def long_ones(b):
         b.run("go(arguments[0])", p)
     same(row(b), count // 2, "each of its rows is reached")
     # the blocks at a row, after going back and on: those of a fresh run up to there
-    fresh = "const r = new Run(S.run.head, S.run.calls.list.slice(0, 3 * S.p), new Map(), S.run.lines); return r.survey(new Work('x')).then(() => JSON.stringify(r.view(S.p).blocks) === JSON.stringify(S.run.view(S.p).blocks))"
+    fresh = "const r = new Run(S.run.head, S.run.calls.list.slice(0, WIDE * S.p), new Map(), S.run.lines); return r.survey(new Work('x')).then(() => JSON.stringify(r.view(S.p).blocks) === JSON.stringify(S.run.view(S.p).blocks))"
     same(b.run(fresh), True, "with the blocks of a run that ends there")
     b.run("let x = 1; for (let i = 0; i < 400; i++) { x = x * 48271 % 2147483647; S.run.view(x % (S.run.count + 1)); }")
     same(b.run(fresh), True, "again after many seeks")
@@ -73,8 +74,47 @@ def names_and_commands(b):
     b.click("#export")
     until(b, "S.saved", "the edited text")
     same(b.run("return S.saved.text()"), "space 1000 nodes 32 index 16\n# texture: rock_albedo\nalloc 100\nalloc 50\ncompact\n", "an edited recording is exported with its names")
-    give(b, "space 9 nodes 8 index 32\ngrow 1\n", "bad.script")
-    same(b.run("return $('fault').textContent"), "bad.script, line 2: bad command: “grow 1”", "a faulty recording")
+    for bad in ("grow 1", "compact 0", "compact 1 2 3", "room 8 3 1", "where", "why free 1"):
+        give(b, f"space 9 nodes 8 index 32\n{bad}\n", "bad.script")
+        same(b.run("return $('fault').textContent"), f"bad.script, line 2: bad command: “{bad}”", "a faulty recording")
+
+
+def form(line):
+    """The words of a line, and how many numbers are after them."""
+    words = [word for word in line.split() if word.islower()]
+    return " ".join(words), len(line.split()) - len(words)
+
+
+def each_line_is_played(b):
+    """Each line of the tables of docs/RECORDINGS.md is read and listed with its answer, and after each of them the ranges are
+    where the program, asked for the offset of each grant, says that they are."""
+    text = TRACES["every"].read_text()
+    table = re.findall(r"^\| (`.*?) \| ", (WEB / "../docs/RECORDINGS.md").read_text(), re.M)
+    forms = {form(line) for cell in table for line in re.findall("`([^`]*)`", cell)}
+    lines = [line for line in text.splitlines() if line and line[0] != "#"]
+    calls = lines[1:]
+    holds(len(forms) == 25, "the forms of docs/RECORDINGS.md", forms)
+    same(sorted(forms - {form(line) for line in calls}), [], "each is in every.script")
+    b.open("#t=every&p=0")
+    same(b.run("return [S.run.count, $('fault').textContent]"), [len(calls), ""], "every.script is read")
+    same(saved_answers(b), recorded(text)[0], "its answers are the program's")
+    rows = re.findall(r"^(?!bin|class)[a-z].*", recorded(text)[0], re.M)
+    listed = b.run("return [...Array(S.run.count).keys()].map(i => { const d = document.createElement('div'); drawCall(d, i); "
+                   "return [...d.children].slice(0, 3).map(e => e.textContent.split(': ')[0]); })")
+    same(listed, [[f"{i + 1}", call, answer] for i, (call, answer) in enumerate(zip(calls, rows))], "each is listed with its answer")
+    state = "go(arguments[0]); const r = S.run, p = S.p, v = r.view(p), live = {}, lives = {}; for (const x of v.blocks) if (x.k) live[x.k] = x.o; " \
+        "for (let l = 0; l < r.lk.length; l++) if (r.lf.list[l] <= p && p < r.lt.list[l]) lives[r.lk.list[l]] = r.lo.list[l]; " \
+        "return [live, lives, v.blocks.reduce((s, x) => s + x.n, 0) - r.sizeAt(p), $('now').textContent.startsWith(`Row ${p}: ${arguments[1]}: ${arguments[2]}`)]"
+    grants = sum(answer.startswith("grant ") for answer in rows)
+    for p, (call, answer) in enumerate(zip(calls, rows), 1):
+        asked = recorded("\n".join(lines[:p + 1] + [f"offset {k}" for k in range(1, grants + 1)]) + "\n")[0].splitlines()[-grants:]
+        live = {str(k): int(found.split()[1]) for k, found in enumerate(asked, 1) if found != "gone"}
+        assert b.run(state, p, call, answer) == [live, live, 0, True], (p, call, live, b.run(state, p, call, answer))
+    print("passed: after each the ranges, their lives and the size of the space are the program's", flush=True)
+    # room was made: both slid by 96 units, a multiple of 32
+    b.run("go(42)")
+    same(b.run("return [...document.querySelectorAll('#ranges .row')].map(r => [...r.children].map(c => c.textContent))"),
+         [["9", "4", "60", "20", "texture: rock"], ["10", "64", "96", "21", ""]], "ranges that moved keep their numbers, rows and names")
 
 
 def five_minutes(b):
@@ -136,4 +176,4 @@ def links_keep_the_view(b):
         same([b.run("return $('fault').textContent.startsWith('The link is faulty')"), b.run("return [S.p, S.zoom]")], [True, [9000, None]], "a faulty link: " + bad)
 
 
-ALL = [long_ones, names_and_commands, five_minutes, links_keep_edits, links_keep_the_view]
+ALL = [long_ones, names_and_commands, each_line_is_played, five_minutes, links_keep_edits, links_keep_the_view]

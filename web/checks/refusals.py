@@ -46,7 +46,7 @@ def tried(head, before, call, helps, what):
         assert is_done(head, [*before, f"alloc {n}"]) and not is_done(head, [*before, f"alloc {n + 1}"]), (what, n)
     for n in re.findall(r"another range: alloc (\d+) is granted", said):
         assert is_done(head, [*before, f"alloc {n}"]), (what, n)
-    for other in re.findall(r"((?:grow|shrink) \d+ \d+) in its place", said):
+    for other in re.findall(r"((?:grow|shrink|tight)(?: \d+)+) in its place", said):
         assert is_done(head, [*before, other]), (what, other)
     for kind in ("grow", "shrink"):
         if name == kind and "in its place" not in said and ("is more" in what or "is fewer" in what):
@@ -58,6 +58,10 @@ def tried(head, before, call, helps, what):
         for n in re.findall(r"^at most ([\d,]+) units? more", said):
             n = int(n.replace(",", ""))
             assert is_done(head, [*before, f"extend {n}"]) and not is_done(head, [*before, f"extend {n + 1}"]), what
+    if name == "retract":
+        for n in re.findall(r"^at most ([\d,]+) units? fewer", said):
+            n = int(n.replace(",", ""))
+            assert is_done(head, [*before, f"retract {n}"]) and not is_done(head, [*before, f"retract {n + 1}"]), what
     assert space >= 0
 
 
@@ -106,7 +110,7 @@ def tight_is_named(b):
     b.keys("r")
     same(b.run("return [...$('helps').children].map(e => e.textContent)"),
          ["4 units more space (extend 4): then it is granted",
-          "allocate_tight, a call that recordings lack: a free block has the 100 units, but not the rounded ones",
+          "tight 100 in its place: a free block has the 100 units, but not the rounded ones",
           "a smaller request: at most 96 units"], "a tight request is named where a free block has the units")
 
 
@@ -133,6 +137,26 @@ def extension_lacks_a_node(b):
     tried(lines[0], lines[1:-1], lines[-1], found[1], "an extension that lacks a node")
 
 
+def others_are_explained(b):
+    b.open()
+    # 60 live, 40 free; 41 are rounded up to 44 for room, and not for a tight request
+    found = explanations(b, "space 100 nodes 16 index 32\nalloc 60\nretract 50\ntight 41\nroom 41\nrelocate 1\nfirst\nafter 1\ncost 41\n")
+    same([[title.split(": ", 1)[1], facts, helps] for _, title, facts, helps in found],
+         [["retract 50 is refused", ["at its end 40 units are free"], ["at most 40 units fewer (retract 40)"]],
+          ["tight 41 is refused", ["too few units are free", "asked: 41 units, not rounded up", "largest free block: 40 units; free in all: 40 units",
+                                   "blocks: 2 of at most 15"], ["1 unit more space (extend 1): then it is granted"]],
+          ["room 41 is refused", ["free in all: 40 units; no moves make a block of them that serves alloc 41", "blocks: 2 of at most 15"],
+           ["4 units more space (extend 4): then room is made"]],
+          ["relocate 1 is refused", ["grant 1 has 60 units, at 0", "no second range of as many is granted before it; blocks: 2 of at most 15"],
+           ["nothing that was tried: a space that began larger, or other calls before"]]], "refusals of other calls; a question is refused nothing")
+    # 1 live, 3 free, 6 live: a step of 2 leaves 1 and gives up 2, for which a fourth block is missing
+    found = explanations(b, "space 10 nodes 4 index 32\nalloc 4\nalloc 6\nfree 1\nalloc 1\ncompact 2\ncompact 2 0 9 9\n")
+    same([[title, facts, helps] for _, title, facts, helps in found],
+         [[f"Row {p}: {call} is refused", ["no further block may exist for the units that the ranges leave: 3 of at most 3"],
+           ["more nodes: a limit of 5", "compact: after it nothing is left to slide"]] for p, call in ((5, "compact 2"), (6, "compact 2 0 9 9"))],
+         "a compaction by steps that lacks a node")
+
+
 def are_marked(b):
     b.open()
     b.run("return take(new TextEncoder().encode(arguments[0]))", MANY)
@@ -157,8 +181,12 @@ def random_text(seed):
     lines, grants = [f"space {size} nodes {nodes} index 32"], 0
     for _ in range(60):
         kind = r.random()
-        if kind < 0.5:
+        if kind < 0.4:
             lines.append(f"alloc {r.randrange(1, size // r.choice((2, 5, 12)))}")
+        elif kind < 0.5:
+            n, align, step = r.randrange(1, size // r.choice((2, 5, 12))), 2 ** r.randrange(0, 9), r.choice((1, 16, 50))
+            lines.append(r.choice((f"tight {n}", f"tight {n} {align}", f"relocate {r.randrange(1, 30)}", f"relocate {r.randrange(1, 30)} {align}",
+                                   f"retract {n}", f"room {2 * n}", f"room {2 * n} {align} {step}", f"compact {step}", f"compact {step} 0 {n} 3")))
         elif kind < 0.62:
             lines.append(f"align {r.randrange(1, size // 8)} {2 ** r.randrange(0, 9)}")
         elif kind < 0.78:
@@ -187,7 +215,7 @@ def helps_help(b):
             tried(lines[0], lines[1:p], call, helps, f"seed {seed}, row {p}, {call}: {facts} {helps}")
             count += 1
             kinds |= {(call.split()[0], facts[0].split(" (")[0] if call[:2] == "al" else "") }
-    holds(count > 250 and {name for name, _ in kinds} >= {"alloc", "align", "grow", "shrink", "extend"}, f"what helps does help, at {count} refusals", kinds)
+    holds(count > 250 and {name for name, _ in kinds} >= {"alloc", "align", "grow", "shrink", "extend", "tight", "relocate", "retract", "room", "compact"}, f"what helps does help, at {count} refusals", kinds)
 
 
 def gone_is_told(b):
@@ -199,4 +227,4 @@ def gone_is_told(b):
     same(b.run("return $('facts').textContent"), "no grant has the number 7 there", "a number of no grant")
 
 
-ALL = [are_found, are_marked, helps_help, tight_is_named, smaller_is_smaller, extension_lacks_a_node, gone_is_told]
+ALL = [are_found, others_are_explained, are_marked, helps_help, tight_is_named, smaller_is_smaller, extension_lacks_a_node, gone_is_told]

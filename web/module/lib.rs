@@ -5,19 +5,25 @@
 
 use offset_allocator::{AllocatorOf, ByNode, NodeIndex, Refusal};
 use offset_allocator_recorded::{put_reply, Call, CallPlayer, Command, Global, Header, IndexWidth, Line, Reader, Reply, RunFault};
-use offset_script::ScriptFault;
 use std::sync::Mutex;
 
 type Text = offset_script::memory::Vec<u8>;
 
-// The numbers of a call that was played: the kind of its answer, the number of the grant, its offset and its units, the
-// free units and the largest request of the report, the number of blocks, and why it was refused.
+// The numbers of a call that was played: the kind of its answer, the number of the grant or of moved ranges, an offset and
+// units, the free units and the largest request of the report, the number of blocks, and why it was refused.
 type Row = [u32; 8];
 
-/// A space, and the number of the grant that had a node last, by the node.
+// A call: its kind, and its numbers.
+const WIDE: usize = 5;
+// in place of the kind of a call
+const HEADER: u32 = 255;
+
+/// A space; the number of the grant that had a node last, by the node; and of each range that the last call moved its
+/// grant's number, and where it begins now.
 struct Space<NI: NodeIndex> {
     player: CallPlayer<NI>,
     grants: Vec<u32>,
+    moved: Vec<u32>,
 }
 
 enum Held {
@@ -84,25 +90,46 @@ pub extern "C" fn words_len() -> usize {
     with(|s| s.words.len())
 }
 
-// A call as numbers, if the page has it.
-fn numbers(call: Call) -> Option<[u32; 3]> {
-    Some(match call {
-        Call::Command(Command::Alloc(n)) => [0, n, 0],
-        Call::Command(Command::Align(n, a)) => [1, n, a],
-        Call::Command(Command::Free(k)) => [2, k, 0],
-        Call::Command(Command::Size(k)) => [3, k, 0],
-        Call::Command(Command::Report) => [4, 0, 0],
-        Call::Command(Command::Full) => [5, 0, 0],
-        Call::Command(Command::Reset) => [6, 0, 0],
-        Call::Command(Command::Extend(n)) => [7, n, 0],
-        Call::Shrink(k, n) => [8, k, n],
-        Call::Grow(k, n) => [9, k, n],
-        Call::Compact => [10, 0, 0],
-        _ => return None,
-    })
+// A call as numbers. The kinds are the places in the list of `reading.js`.
+fn numbers(call: Call) -> [u32; WIDE] {
+    match call {
+        Call::Command(Command::Alloc(n)) => [0, n, 0, 0, 0],
+        Call::Command(Command::Align(n, a)) => [1, n, a, 0, 0],
+        Call::Command(Command::Free(k)) => [2, k, 0, 0, 0],
+        Call::Command(Command::Size(k)) => [3, k, 0, 0, 0],
+        Call::Command(Command::Report) => [4, 0, 0, 0, 0],
+        Call::Command(Command::Full) => [5, 0, 0, 0, 0],
+        Call::Command(Command::Reset) => [6, 0, 0, 0, 0],
+        Call::Command(Command::Extend(n)) => [7, n, 0, 0, 0],
+        Call::Shrink(k, n) => [8, k, n, 0, 0],
+        Call::Grow(k, n) => [9, k, n, 0, 0],
+        Call::Compact => [10, 0, 0, 0, 0],
+        Call::CompactBy(s) => [11, s, 0, 0, 0],
+        Call::CompactWithin(s, o, u, r) => [12, s, o, u, r],
+        Call::Tight(n) => [13, n, 0, 0, 0],
+        Call::TightAligned(n, a) => [14, n, a, 0, 0],
+        Call::MakeRoom(n) => [15, n, 0, 0, 0],
+        Call::MakeRoomBy(n, a, s) => [16, n, a, s, 0],
+        Call::Relocate(k) => [17, k, 0, 0, 0],
+        Call::RelocateAligned(k, a) => [18, k, a, 0, 0],
+        Call::Retract(n) => [19, n, 0, 0, 0],
+        Call::Offset(k) => [20, k, 0, 0, 0],
+        Call::WouldBegin(n, 1) => [21, n, 0, 0, 0],
+        Call::WouldBegin(n, a) => [22, n, a, 0, 0],
+        Call::First => [23, 0, 0, 0, 0],
+        Call::Last => [24, 0, 0, 0, 0],
+        Call::Before(k) => [25, k, 0, 0, 0],
+        Call::After(k) => [26, k, 0, 0, 0],
+        Call::RoomCost(n) => [27, n, 0, 0, 0],
+        Call::RoomCostBy(n, a, s) => [28, n, a, s, 0],
+        Call::Refusal(n) => [29, n, 0, 0, 0],
+        Call::RefusalAligned(n, a) => [30, n, a, 0, 0],
+        Call::RefusalTight(n) => [31, n, 0, 0, 0],
+        Call::RefusalTightAligned(n, a) => [32, n, a, 0, 0],
+    }
 }
 
-fn call_of([kind, a, b]: [u32; 3]) -> Call {
+fn call_of([kind, a, b, c, d]: [u32; WIDE]) -> Call {
     match kind {
         0 => Call::Command(Command::Alloc(a)),
         1 => Call::Command(Command::Align(a, b)),
@@ -114,8 +141,40 @@ fn call_of([kind, a, b]: [u32; 3]) -> Call {
         7 => Call::Command(Command::Extend(a)),
         8 => Call::Shrink(a, b),
         9 => Call::Grow(a, b),
-        _ => Call::Compact,
+        10 => Call::Compact,
+        11 => Call::CompactBy(a),
+        12 => Call::CompactWithin(a, b, c, d),
+        13 => Call::Tight(a),
+        14 => Call::TightAligned(a, b),
+        15 => Call::MakeRoom(a),
+        16 => Call::MakeRoomBy(a, b, c),
+        17 => Call::Relocate(a),
+        18 => Call::RelocateAligned(a, b),
+        19 => Call::Retract(a),
+        20 => Call::Offset(a),
+        21 => Call::WouldBegin(a, 1),
+        22 => Call::WouldBegin(a, b),
+        23 => Call::First,
+        24 => Call::Last,
+        25 => Call::Before(a),
+        26 => Call::After(a),
+        27 => Call::RoomCost(a),
+        28 => Call::RoomCostBy(a, b, c),
+        29 => Call::Refusal(a),
+        30 => Call::RefusalAligned(a, b),
+        31 => Call::RefusalTight(a),
+        _ => Call::RefusalTightAligned(a, b),
     }
+}
+
+// Whether a call may slide ranges.
+fn slides(call: Call) -> bool {
+    matches!(call, Call::Compact | Call::CompactBy(_) | Call::CompactWithin(..) | Call::MakeRoom(_) | Call::MakeRoomBy(..))
+}
+
+// Whether a call is a question, as those of the kinds from 20 on: a `none` to it refuses nothing.
+fn asks(call: Call) -> bool {
+    numbers(call)[0] >= 20
 }
 
 // The length of a piece of a text is below that of the memory of a wasm module.
@@ -126,9 +185,9 @@ fn word(n: usize) -> u32 {
 /// Reads the bytes as the next lines of a recording; `part` is 0 for its first piece, 1 for a later one. All pieces but
 /// the last end with a line end; with `last` 1 it is the last.
 ///
-/// 0: the numbers are six for each line that is neither empty nor a comment: 11 and the size, node limit and bits, or a
-/// call as `play` takes it and 0; the number of the line; and the length of its name, the comment directly before it. The
-/// bytes are these names. 1: the line is faulty, and ends the reading: the numbers are its number, and where it begins and
+/// 0: the numbers are seven for each line that is neither empty nor a comment: 255, the size, node limit and bits, and 0, or
+/// a call as `play` takes it; the number of the line; and the length of its name, the comment directly before it. The bytes
+/// are these names. 1: the line is faulty, and ends the reading: the numbers are its number, and where it begins and
 /// ends in the bytes that were given; the bytes are the fault.
 #[unsafe(no_mangle)]
 pub extern "C" fn read(part: u32, last: u32) -> u32 {
@@ -153,12 +212,9 @@ pub extern "C" fn read(part: u32, last: u32) -> u32 {
                 }
                 Ok(Line::Header(Header { size, max_allocs, index })) => {
                     let bits = if index == IndexWidth::Bits16 { 16 } else { 32 };
-                    Some([11, size, max_allocs, bits])
+                    Some([HEADER, size, max_allocs, bits, 0])
                 }
-                Ok(Line::Call(call)) => match numbers(call) {
-                    Some([kind, a, b]) => Some([kind, a, b, 0]),
-                    None => return s.fault(RunFault::Script(ScriptFault::BadCommand(s.reader.line())), at, end),
-                },
+                Ok(Line::Call(call)) => Some(numbers(call)),
             };
             if let Some(row) = row {
                 s.words.extend_from_slice(&row);
@@ -206,13 +262,15 @@ fn why<NI: NodeIndex>(space: &AllocatorOf<ByNode<NI>>, call: Call) -> Option<Ref
     match call {
         Call::Command(Command::Alloc(n)) => space.refusal(n),
         Call::Command(Command::Align(n, a)) => space.refusal_aligned(n, a),
+        Call::Tight(n) => space.refusal_tight(n),
+        Call::TightAligned(n, a) => space.refusal_tight_aligned(n, a),
         _ => None,
     }
 }
 
 impl<NI: NodeIndex> Space<NI> {
     fn start(size: u32, max_allocs: u32) -> Option<Self> {
-        Some(Space { player: CallPlayer::start(Global, size, max_allocs).ok()?, grants: Vec::new() })
+        Some(Space { player: CallPlayer::start(Global, size, max_allocs).ok()?, grants: Vec::new(), moved: Vec::new() })
     }
 
     // Plays a call; `None` where an allocation fails.
@@ -232,17 +290,33 @@ impl<NI: NodeIndex> Space<NI> {
                 self.grants[name] = *number as u32;
                 [1, *number as u32, *offset, space.allocation_size(handle)]
             }
-            (Reply::Answer(A::Refused), _) => [2, 0, 0, 0],
+            (Reply::Answer(A::Refused) | Reply::RoomMade(None, _) | Reply::RoomCost(None) | Reply::Beside(None), _) => {
+                [if asks(call) { 12 } else { 2 }, 0, 0, 0]
+            }
             (Reply::Answer(A::Freed), Call::Command(Command::Free(k))) => [3, k, 0, 0],
             (Reply::Resized, Call::Shrink(k, n) | Call::Grow(k, n)) => [4, k, resized(k), n],
-            (Reply::Compacted(_), _) => [5, 0, 0, 0],
+            (Reply::Compacted(moves), _) => [5, word(moves.len()), 0, 0],
             (Reply::Answer(A::Gone), _) => [6, 0, 0, 0],
             (Reply::Answer(A::Reset), _) => [7, 0, 0, 0],
             (Reply::Answer(A::Extended), _) => [8, 0, 0, 0],
             (Reply::Answer(A::Full(rows)), _) => [9, 0, 0, word(rows.len())],
             (Reply::Answer(A::Size(n)), _) => [10, 0, 0, *n],
+            (Reply::RoomMade(Some(cost), _), _) => [13, cost.ranges, 0, cost.units],
+            (Reply::RoomCost(Some(cost)), _) => [14, cost.ranges, 0, cost.units],
+            (Reply::CompactedWithin(pass, _), _) => match pass.next {
+                Some(next) => [15, pass.ranges, next, pass.units],
+                None => [16, pass.ranges, 0, pass.units],
+            },
+            (Reply::Resized, _) => [17, 0, 0, 0],
+            (Reply::Offset(n), _) => [18, 0, *n, 0],
+            (Reply::Beside(Some(range)), _) => [19, range.number as u32, range.offset, 0],
+            (Reply::Refusal(why), _) => [20, 0, 0, why.map_or(0, |w| w as u32 + 1)],
             _ => [11, 0, 0, 0],
         };
+        self.moved.clear();
+        if let Reply::Compacted(moves) | Reply::RoomMade(_, moves) | Reply::CompactedWithin(_, moves) = &reply {
+            self.moved.extend(moves.iter().flat_map(|range| [range.number as u32, range.to]));
+        }
         if let Some(text) = text {
             put_reply(text, call, &reply).ok()?;
         }
@@ -265,8 +339,8 @@ impl<NI: NodeIndex> Space<NI> {
     }
 }
 
-/// Plays the calls in the bytes, three numbers of four bytes each, little-endian, and returns how many were played: all;
-/// or up to the first `compact`, with it; or fewer, where an allocation failed. The numbers are then eight for each. With
+/// Plays the calls in the bytes, five numbers of four bytes each, little-endian, and returns how many were played: all;
+/// or up to the first that may slide ranges, with it; or fewer, where an allocation failed. The numbers are then eight for each. With
 /// `text` 1 the bytes are the lines of the answers.
 #[unsafe(no_mangle)]
 pub extern "C" fn play(text: u32) -> u32 {
@@ -275,9 +349,9 @@ pub extern "C" fn play(text: u32) -> u32 {
         s.words.clear();
         let mut lines = Text::new(Global);
         let mut count = 0;
-        for call in given.chunks_exact(12) {
+        for call in given.chunks_exact(4 * WIDE) {
             let at = |i: usize| u32::from_le_bytes([call[i], call[i + 1], call[i + 2], call[i + 3]]);
-            let call = call_of([at(0), at(4), at(8)]);
+            let call = call_of([at(0), at(4), at(8), at(12), at(16)]);
             let to = (text == 1).then_some(&mut lines);
             let row = match &mut s.held {
                 Held::None => None,
@@ -287,12 +361,25 @@ pub extern "C" fn play(text: u32) -> u32 {
             let Some(row) = row else { break };
             s.words.extend_from_slice(&row);
             count += 1;
-            if call == Call::Compact {
+            if slides(call) {
                 break;
             }
         }
         s.bytes = lines.to_vec();
         count
+    })
+}
+
+/// The numbers are two for each range that the call that was played last has moved: its grant, and where it begins now.
+#[unsafe(no_mangle)]
+pub extern "C" fn moved() {
+    with(|s| {
+        s.words.clear();
+        match &s.held {
+            Held::None => (),
+            Held::Narrow(space) => s.words.extend_from_slice(&space.moved),
+            Held::Wide(space) => s.words.extend_from_slice(&space.moved),
+        }
     })
 }
 

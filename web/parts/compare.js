@@ -6,19 +6,19 @@ const COMPACT = { asIs: 0, whereRefused: 1, never: 2 };
 async function another(run, [size, nodes, unit, compact], work) {
   const b = new Run([Math.floor(size / unit), nodes, nodes > 65533 ? 32 : run.head[2]], new Uint32Array(0), new Map(), run.lines);
   b.start(run.count);
-  const at = new Uint32Array(run.count + 1), of = new Map(), scaled = n => Math.ceil(n / unit);
-  const one = (...call) => { b.calls.push(...call); b.step(1); return b.row(b.count - 1); };
+  const at = new Uint32Array(run.count + 1), of = new Map();
+  const scaled = { n: v => Math.ceil(v / unit), a: v => Math.max(1, v / unit), k: v => of.get(v) || 0, d: v => Math.floor(v / unit), c: v => v };
+  scaled.s = scaled.n;
+  const one = (...call) => { b.calls.push(...filled(call)); b.step(1); return b.row(b.count - 1); };
   let extra = 0;
   for (let i = 0; i < run.count; i++) {
-    const [op, x, y] = run.call(i), r = run.row(i), grant = of.get(x) || 0;
-    const isRequest = op <= 1, name = run.names.get(i);
-    const call = op === 0 ? [0, scaled(x), 0] : op === 1 ? (y <= unit ? [0, scaled(x), 0] : [1, scaled(x), y / unit]) :
-      op === 2 || op === 3 ? [op, grant, 0] : op === 7 ? [7, Math.floor(x / unit), 0] : op === 8 || op === 9 ? [op, grant, scaled(y)] :
-      // a report changes nothing
-      op === 10 && compact === COMPACT.never ? [4, 0, 0] : [op, 0, 0];
+    const [op, ...numbers] = run.call(i), r = run.row(i), name = run.names.get(i);
+    const isServed = op <= 1 || isTight(op), isRequest = isServed || isRelocation(op);
+    // a report changes nothing
+    const call = isSlide(op) && compact === COMPACT.never ? [4] : [op, ...[...KINDS[op]].map((kind, j) => scaled[kind](numbers[j]))];
     if (name) b.names.set(b.count, name);
     let found = one(...call);
-    if (compact === COMPACT.whereRefused && isRequest && found[0] === ANSWER.refused) { one(10, 0, 0); found = one(...call); }
+    if (compact === COMPACT.whereRefused && isServed && found[0] === ANSWER.refused) { one(OP.compact); found = one(...call); }
     if (isRequest && r[0] === ANSWER.grant) of.set(r[1], found[0] === ANSWER.grant ? found[1] : 0);
     else if (isRequest && found[0] === ANSWER.grant) extra++;
     at[i + 1] = b.count;

@@ -45,10 +45,10 @@ class List {
 const cell = (row, text, name) => { const s = document.createElement('span'); s.textContent = text; if (name) s.className = name; row.append(s); };
 // A row of the calls: its number, the call, its answer, and its name.
 function drawCall(row, i) {
-  const run = S.run, p = run.shown ? run.refusals[i] - 1 : i, [op, a, b] = run.call(p), r = run.row(p);
-  cell(row, whole(p + 1), 'n'); cell(row, said(op, a, b), 'c');
+  const run = S.run, p = run.shown ? run.refusals[i] - 1 : i, [op, ...of] = run.call(p), r = run.row(p);
+  cell(row, whole(p + 1), 'n'); cell(row, said(op, ...of), 'c');
   cell(row, answered(run, p) + (r[7] ? `: ${REASONS[r[7]]}` : ''), r[0] === ANSWER.refused ? 'bad' : '');
-  const name = run.names.get(p) || (op === 2 || op === 3 || op === 8 || op === 9 ? run.nameOf(a) : '');
+  const name = run.names.get(p) || (isOnGrant(op) ? run.nameOf(of[0]) : '');
   if (name) cell(row, name, 'dim');
   if (p >= S.p) row.classList.add('later');
 }

@@ -13,7 +13,7 @@ class Module {
     const at = this.e.room(bytes.length) >>> 0;
     new Uint8Array(this.e.memory.buffer, at, bytes.length).set(bytes);
   }
-  // A piece of a text as rows of six numbers, and the bytes of their names.
+  // A piece of a text as rows of seven numbers, and the bytes of their names.
   read(bytes, part, last) {
     this.put(bytes);
     if (!this.e.read(part, last ? 1 : 0)) return [this.words(), this.bytes()];
@@ -21,7 +21,7 @@ class Module {
     throw new Fault(this.text(), line, from, to);
   }
   start(head) { if (this.e.start(...head)) throw new Fault(this.text()); }
-  // Plays calls, three numbers each, up to the first compact; eight numbers for each that was played, or the answers.
+  // Plays calls, five numbers each, up to the first that may slide ranges; eight numbers for each that was played, or the answers.
   play(calls, asText = false) {
     this.put(new Uint8Array(calls.buffer, calls.byteOffset, calls.byteLength));
     const count = this.e.play(asText ? 1 : 0);
@@ -35,6 +35,8 @@ class Module {
     for (let i = w.length - 3; i >= 256; i -= 3) blocks.push({ o: w[i], n: w[i + 1], k: w[i + 2] });
     return { bins: w.slice(0, 256), blocks };
   }
+  // The ranges that the call played last has moved: the number of each grant, and its offset.
+  moved() { this.e.moved(); return this.words(); }
   size() { return this.e.memory.buffer.byteLength; }
   saved() { return new Uint8Array(this.e.memory.buffer).slice(); }
   // The memory never becomes smaller, and what was taken since is not known there: from time to time it begins anew.

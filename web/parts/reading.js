@@ -1,8 +1,17 @@
-// Texts to calls. A text is a script, or a recording: a script of any length with `shrink`, `grow` and `compact` too.
-const PIECE = 1 << 18;
-const NAMES = ['alloc', 'align', 'free', 'size', 'report', 'full', 'reset', 'extend', 'shrink', 'grow', 'compact'];
-const ARGS = [1, 2, 1, 1, 0, 0, 0, 1, 2, 2, 0];
-const said = (op, a, b) => [NAMES[op], a, b].slice(0, 1 + ARGS[op]).join(' ');
+// Texts to calls. A text is a script, or a recording: a script of any length with a line for each other call too.
+const PIECE = 1 << 18, WIDE = 5, HEADER = 255;
+// Each call by its kind: its word, and a letter for each of its numbers: units `n`, alignment `a`, grant `k`, step `s`, units
+// or an offset that a larger unit rounds down `d`, and a count `c`.
+const CALLS = [['alloc', 'n'], ['align', 'na'], ['free', 'k'], ['size', 'k'], ['report', ''], ['full', ''], ['reset', ''],
+  ['extend', 'd'], ['shrink', 'kn'], ['grow', 'kn'], ['compact', ''], ['compact', 's'], ['compact', 'sddc'], ['tight', 'n'],
+  ['tight', 'na'], ['room', 'n'], ['room', 'nas'], ['relocate', 'k'], ['relocate', 'ka'], ['retract', 'd'], ['offset', 'k'],
+  ['where', 'n'], ['where', 'na'], ['first', ''], ['last', ''], ['before', 'k'], ['after', 'k'], ['cost', 'n'], ['cost', 'nas'],
+  ['why alloc', 'n'], ['why align', 'na'], ['why tight', 'n'], ['why tight', 'na']];
+const NAMES = CALLS.map(c => c[0]), KINDS = CALLS.map(c => c[1]), OP = { compact: 10, tight: 13, tightAligned: 14, room: 15 };
+const isOnGrant = op => KINDS[op][0] === 'k', isTight = op => op === OP.tight || op === OP.tightAligned;
+const isRelocation = op => NAMES[op] === 'relocate', isSlide = op => ['compact', 'room'].includes(NAMES[op]);
+const said = (op, ...of) => [NAMES[op], ...of.slice(0, KINDS[op].length)].join(' ');
+const filled = call => [...call, 0, 0, 0, 0].slice(0, WIDE);
 class Growing {
   constructor(type, size) { this.list = new type(size); this.length = 0; }
   push(...values) {
@@ -19,9 +28,9 @@ class Growing {
     return c;
   }
 }
-// The header and the calls of a text: three numbers for each, the line of each, and the names of those that have one.
+// The header and the calls of a text: five numbers for each, the line of each, and the names of those that have one.
 async function readText(bytes, work) {
-  const m = new Module(), calls = new Growing(Uint32Array, 3072), lines = new Growing(Uint32Array, 1024), names = new Map();
+  const m = new Module(), calls = new Growing(Uint32Array, 1024 * WIDE), lines = new Growing(Uint32Array, 1024), names = new Map();
   let head = null, at = 0, part = 0;
   do {
     let end = Math.min(bytes.length, at + PIECE);
@@ -35,13 +44,14 @@ async function readText(bytes, work) {
       throw fault;
     }
     const [rows, text] = found;
-    for (let i = 0, t = 0; i < rows.length; i += 6) {
-      if (rows[i] === 11) head = [rows[i + 1], rows[i + 2], rows[i + 3]];
+    for (let i = 0, t = 0; i < rows.length; i += WIDE + 2) {
+      const [line, name] = rows.subarray(i + WIDE);
+      if (rows[i] === HEADER) head = [rows[i + 1], rows[i + 2], rows[i + 3]];
       else {
-        if (rows[i + 5]) names.set(lines.length, new TextDecoder().decode(text.subarray(t, t + rows[i + 5])));
-        calls.push(rows[i], rows[i + 1], rows[i + 2]); lines.push(rows[i + 4]);
+        if (name) names.set(lines.length, new TextDecoder().decode(text.subarray(t, t + name)));
+        calls.push(...rows.subarray(i, i + WIDE)); lines.push(line);
       }
-      t += rows[i + 5];
+      t += name;
     }
     at = end; part = 1;
     await work.turn(at, bytes.length);
@@ -66,8 +76,8 @@ const mended = bytes => {
 async function writeText(run, work) {
   const parts = [`space ${run.head[0]} nodes ${run.head[1]} index ${run.head[2]}\n`];
   for (let i = 0; i < run.count; i++) {
-    const name = run.names.get(i), c = run.calls.list;
-    parts.push((name ? `# ${name}\n` : '') + said(c[3 * i], c[3 * i + 1], c[3 * i + 2]) + '\n');
+    const name = run.names.get(i);
+    parts.push((name ? `# ${name}\n` : '') + said(...run.call(i)) + '\n');
     if (i % 4096 === 0) await work.turn(i, run.count);
   }
   return parts.join('');

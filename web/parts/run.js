@@ -1,7 +1,8 @@
 // A run: the calls of a text, played. It keeps eight numbers for each call, the life of each range, and copies of the
 // module's memory, from which a position is reached again.
 const EVERY = 2048, MARKED = 1 << 29, ALIVE = 0xffffffff;
-const ANSWER = { grant: 1, refused: 2, freed: 3, resized: 4, compacted: 5, gone: 6, reset: 7, extended: 8, full: 9, size: 10 };
+const ANSWER = { grant: 1, refused: 2, freed: 3, resized: 4, compacted: 5, gone: 6, reset: 7, extended: 8, full: 9, size: 10, none: 12,
+  roomMade: 13, cost: 14, within: 15, toTheEnd: 16, retracted: 17, offset: 18, beside: 19, why: 20 };
 const REASONS = ['', 'too few nodes are left', 'the request is too large for the space', 'too few units are free',
   'no free block is large enough until the space is compacted'];
 class Run {
@@ -9,8 +10,8 @@ class Run {
     Object.assign(this, { head, names, lines, count: 0, at: 0, held: null, m: new Module(), marks: [], kept: 0, edits: [] });
     this.calls = new Growing(Uint32Array, 0);
     this.calls.list = calls; this.calls.length = calls.length;
-    this.rows = new Growing(Uint32Array, 8 * calls.length / 3 + 8);
-    this.used = new Growing(Uint32Array, calls.length / 3 + 1);
+    this.rows = new Growing(Uint32Array, 8 * this.all + 8);
+    this.used = new Growing(Uint32Array, this.all + 1);
     // lives, one number each: grant, offset, units, first and last row, row of the grant
     for (const c of ['lk', 'lo', 'ln', 'lf', 'lt', 'lb']) this[c] = new Growing(Uint32Array, 1024);
     // by grant: the row that granted it, and the one that ended it
@@ -18,7 +19,7 @@ class Run {
     this.died = new Growing(Uint32Array, 1024); this.died.push(0);
     this.live = new Map(); this.refusals = []; this.sizes = [[0, head[0]]]; this.top = 1; this.inUse = 0;
   }
-  get all() { return this.calls.length / 3; }
+  get all() { return this.calls.length / WIDE; }
   // Plays all calls from the start.
   async survey(work) {
     this.start(this.all);
@@ -38,21 +39,24 @@ class Run {
   step(n) {
     const m = this.m, i = this.count, mark = i / this.every;
     if (i % this.every === 0 && !this.marks[mark] && this.left >= m.size()) { this.marks[mark] = m.saved(); this.left -= m.size(); }
-    const rows = m.play(this.calls.list.subarray(3 * i, 3 * Math.min(i + n, Math.ceil((i + 1) / this.every) * this.every)));
+    const rows = m.play(this.calls.list.subarray(WIDE * i, WIDE * Math.min(i + n, Math.ceil((i + 1) / this.every) * this.every)));
     for (let r = 0; r < rows.length; r += 8) this.track(rows.subarray(r, r + 8));
     this.at = this.count; this.held = null;
   }
   track(r) {
-    const i = this.count++, now = this.count, k = r[1], [op, a] = this.calls.list.subarray(3 * i, 3 * i + 2);
+    const i = this.count++, now = this.count, k = r[1], [, a] = this.call(i);
     if (r[0] === ANSWER.grant) { while (this.born.length <= k) { this.born.push(now); this.died.push(ALIVE); } this.open(k, r[2], r[3], now, now); }
     else if (r[0] === ANSWER.refused) this.refusals.push(now);
     else if (r[0] === ANSWER.freed) this.die(k, now);
     else if (r[0] === ANSWER.resized) { const born = this.born.list[k]; this.close(k, now); this.open(k, r[2], r[3], now, born); }
-    else if (r[0] === ANSWER.compacted) {
-      for (const b of this.m.view().blocks) if (b.k && this.lo.list[this.live.get(b.k)] !== b.o) {
-        this.close(b.k, now); this.open(b.k, b.o, b.n, now, this.born.list[b.k]); }
+    else if ([ANSWER.compacted, ANSWER.roomMade, ANSWER.within, ANSWER.toTheEnd].includes(r[0])) {
+      const moved = k ? this.m.moved() : [];
+      for (let j = 0; j < moved.length; j += 2) {
+        const [k, o] = moved.subarray(j), n = this.ln.list[this.live.get(k)];
+        this.close(k, now); this.open(k, o, n, now, this.born.list[k]); }
     } else if (r[0] === ANSWER.reset) for (const k of [...this.live.keys()]) this.die(k, now);
-    else if (r[0] === ANSWER.extended && op === 7) this.sizes.push([now, this.sizes.at(-1)[1] + a]);
+    else if (r[0] === ANSWER.extended) this.sizes.push([now, this.sizes.at(-1)[1] + a]);
+    else if (r[0] === ANSWER.retracted) this.sizes.push([now, this.sizes.at(-1)[1] - a]);
     this.rows.push(...r); this.used.push(this.inUse);
   }
   open(k, o, n, from, born) {
@@ -67,7 +71,7 @@ class Run {
   die(k, now) { this.close(k, now); this.died.list[k] = now; }
   // How many of so many calls the grant of a life is live: a range that is moved or resized keeps its age.
   lived(l, n) { return Math.min(this.died.list[this.lk.list[l]], n) - this.lb.list[l]; }
-  call(i) { return this.calls.list.subarray(3 * i, 3 * i + 3); }
+  call(i) { return this.calls.list.subarray(WIDE * i, WIDE * i + WIDE); }
   row(i) { return this.rows.list.subarray(8 * i, 8 * i + 8); }
   // The units of the space after so many calls.
   sizeAt(p) { let s = this.head[0]; for (const [at, size] of this.sizes) if (at <= p) s = size; return s; }
@@ -81,7 +85,7 @@ class Run {
       if (this.marks[mark]) { this.m.restore(this.marks[mark]); this.at = mark * this.every; }
       else { this.m.start(this.head); this.at = 0; }
     }
-    while (this.at < p) this.at += this.m.play(this.calls.list.subarray(3 * this.at, 3 * Math.min(p, this.at + 4096))).length / 8;
+    while (this.at < p) this.at += this.m.play(this.calls.list.subarray(WIDE * this.at, WIDE * Math.min(p, this.at + 4096))).length / 8;
   }
   // The blocks and bins after so many calls.
   view(p) {
@@ -93,13 +97,13 @@ class Run {
     this.seek(p);
     const saved = this.m.saved(), rows = [];
     try {
-      for (const c of calls) rows.push(this.m.play(Uint32Array.from([c[0], c[1] || 0, c[2] || 0])).slice(0, 8));
+      for (const c of calls) rows.push(this.m.play(Uint32Array.from(filled(c))).slice(0, 8));
     } finally { this.m.restore(saved); }
     return rows;
   }
   // This run, left after so many calls, and others from there on.
   branch(kept, edits) {
-    const b = new Run(this.head, this.calls.list.slice(0, 3 * kept), new Map([...this.names].filter(([i]) => i < kept)), this.lines);
+    const b = new Run(this.head, this.calls.list.slice(0, WIDE * kept), new Map([...this.names].filter(([i]) => i < kept)), this.lines);
     Object.assign(b, { kept, edits, count: kept, every: this.every, base: this.base || this });
     b.rows = this.rows.copy(8 * kept); b.used = this.used.copy(kept); b.inUse = this.usedAt(kept);
     b.refusals = this.refusals.filter(p => p <= kept); b.sizes = this.sizes.filter(([p]) => p <= kept);
@@ -114,7 +118,7 @@ class Run {
     for (let k = 0; k < this.born.length && this.born.list[k] <= kept; k++) {
       b.born.push(this.born.list[k]); b.died.push(this.died.list[k] > kept ? ALIVE : this.died.list[k]); }
     b.m.start(b.head); b.at = 0; b.left = MARKED; b.seek(kept);
-    for (const e of edits) { b.calls.push(...e); b.step(1); }
+    for (const e of edits) { b.calls.push(...filled(e)); b.step(1); }
     return b;
   }
   // The answers of all calls, as the program writes them.
@@ -122,7 +126,7 @@ class Run {
     const m = new Module(), parts = [];
     m.start(this.head);
     for (let i = 0; i < this.count;) {
-      const [n, text] = m.play(this.calls.list.subarray(3 * i, 3 * Math.min(this.count, i + 256)), true);
+      const [n, text] = m.play(this.calls.list.subarray(WIDE * i, WIDE * Math.min(this.count, i + 256)), true);
       parts.push(text); i += n;
       await work.turn(i, this.count);
     }
@@ -133,5 +137,7 @@ class Run {
 function answered(run, i) {
   const r = run.row(i), op = run.call(i)[0];
   return ['', `grant ${r[1]} at ${r[2]}`, 'none', 'freed', op === 9 ? 'grown' : 'shrunk', 'compacted', 'gone', 'reset', 'extended',
-    `full ${r[3]}`, `size ${r[3]}`, `free ${r[4]} largest ${r[5]}`][r[0]];
+    `full ${r[3]}`, `size ${r[3]}`, `free ${r[4]} largest ${r[5]}`, 'none', `ranges ${r[1]} units ${r[3]}`, `ranges ${r[1]} units ${r[3]}`,
+    `ranges ${r[1]} units ${r[3]} next ${r[2]}`, `ranges ${r[1]} units ${r[3]} end`, 'retracted', `offset ${r[2]}`,
+    `range ${r[1]} at ${r[2]}`, REASONS[r[3]] || 'granted'][r[0]];
 }

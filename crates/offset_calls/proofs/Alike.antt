@@ -16,13 +16,13 @@ use Rattle.offset_calls.specs.Calls.{answered, Beside, beside, make_room, remake
 use Rattle.offset_calls.specs.Calls as plain
 use Rattle.offset_calls.specs.declared.calls.LiveRange.{LiveRange}
 use Rattle.offset_calls.specs.{Ending.first_live, Ending.last_live, Ending.live_before, Ending.live_after, Histories.raise_range, Room.Split, Room.cheapest, Room.slid}
-use Rattle.offset_calls.proofs.SteppedPairs.{AreSlid, both_slid, kept_right, same_full, steps_alike}
-use Rattle.offset_calls.specs.Stepped.{kept, slid_by}
-use Rattle.offset_calls.specs.Calls.{moves_by, step_by}
+use Rattle.offset_calls.proofs.SteppedPairs.{kept_right, run_alike, same_last}
+use Rattle.offset_calls.specs.{Stepped.kept, Stepped.first_run, Stepped.to_the_end, Budget.is_within, Budget.longest_that}
+use Rattle.offset_calls.specs.Calls.{CompactedWithin, moves_by, moves_of_run, slides_run, compact_by, compact_within, make_room_by}
 use Rattle.offset_calls.proofs.EndPairs.{same_can, retracted_alike, same_relocated, same_relocated_aligned, IsSent, AreSent, sent_first, sent_last}
 use Rattle.offset_calls.specs.Tight.{holds, better, holding_place, request_tight, allocate_tight, lack, reason_held}
 use Rattle.offset_calls.specs.Room as room
-use Rattle.offset_calls.proofs.Splits.{IsSameSplit, no_split, same_split, same_cost, same_cheapest, same_room_cost, same_cheapest_by}
+use Rattle.offset_calls.proofs.Splits.{IsSameSplit, no_split, same_split, same_cost, same_cheapest, same_room_cost, same_cheapest_by, same_to_the_end, same_within, same_progress}
 use Rattle.std.specs.Prelude.{min}
 use Rattle.offset_script.specs.Histories.{raise_number}
 use Rattle.offset_script.specs.declared.scripts.Command.TheVariants as command
@@ -244,14 +244,25 @@ module _ (r : ℕ → ℕ) (g d : ℕ) (back : (k : ℕ) → r (number_with g d 
               ∙ ap (λ (k : ℕ). record { number = k; from = from; to = to; size = q.size } ∷ []) (number_back q (h q (inl refl)) e)
               ∙ sym (ap (λ b. map (raise_move g d) (if b then [] else record { number = number (right_tag q.kind); from = from; to = to; size = q.size } ∷ [])) f)
 
-  stepped_same : (n : ℕ) (o o' : Option (List machine.Block)) → AreSlid a.pairs (stamp_of_call s) (stamp_of_call t) o o' → AreSame r g d (step_by n s o) (step_by n t o')
-  stepped_same n None None p = quiet _ _ refl
-  stepped_same n None (Some cs) p = absurd p
-  stepped_same n (Some bs) None p = absurd p
-  stepped_same n (Some bs) (Some cs) p = if_same (AreSame r g d) _ _ _ _ _ _ (same_full r d s t a) (λ z. quiet _ _ refl) (record {
-    reply = ap Compacted (ap (moves_by n 0 0) a.left_blocks ∙ moves_by_same n 0 0 a.pairs (λ q i. i) ∙ ap (λ bs. map (raise_move g d) (moves_by n 0 0 bs)) (sym a.right_blocks));
-    state = steps_alike r d s t a bs cs p.0 p.1 p.2 p.3;
-  })
+  -- a run that slides by whole steps
+  run_moves_same : (n : ℕ) (f k b : List Pair) → a.pairs ≡ f ++ (k ++ b)
+      → moves_of_run n (record { front = lefts f; run = lefts k; back = lefts b }) ≡ map (raise_move g d) (moves_of_run n (record { front = rights f; run = rights k; back = rights b }))
+  run_moves_same n f k b e = moves_by_same n (total (lefts f)) (total (lefts f)) k (λ q i. subst (IsIn q) (sym e) (in_right q f (k ++ b) (in_left q k b i)))
+      ∙ ap (λ m. map (raise_move g d) (moves_by n m m (rights k))) (same_total f)
+
+  slides_same : (n : ℕ) (x y : Reply) (f k b : List Pair) → a.pairs ≡ f ++ (k ++ b) → x ≡ raise g d y
+      → AreSame r g d (slides_run n s x (record { front = lefts f; run = lefts k; back = lefts b })) (slides_run n t y (record { front = rights f; run = rights k; back = rights b }))
+  slides_same n x y f k b e is = if_same (AreSame r g d) _ _ _ _ _ _
+      (ap₂ (λ (x y : Bool). x && y) (same_last k) (same_short s t a.pairs a.limit a.left_blocks a.right_blocks 1)) (λ z. quiet _ _ refl) (record { reply = is; state = run_alike r d s t a n f k b e })
+
+  stepped_same : (n : ℕ) (o o' : Option Split) → IsSameSplit a.pairs o o' → AreSame r g d (compact_by n s o) (compact_by n t o')
+  stepped_same n None None no_split = quiet _ _ refl
+  stepped_same n o o' (same_split f k b e) = slides_same n _ _ f k b e
+      (ap Compacted (ap (moves_by n 0 0) a.left_blocks ∙ moves_by_same n 0 0 a.pairs (λ q i. i) ∙ ap (λ bs. map (raise_move g d) (moves_by n 0 0 bs)) (sym a.right_blocks)))
+
+  within_same : (n : ℕ) (o o' : Option Split) → IsSameSplit a.pairs o o' → AreSame r g d (compact_within n s o) (compact_within n t o')
+  within_same n None None no_split = quiet _ _ refl
+  within_same n o o' (same_split f k b e) = slides_same n _ _ f k b e (ap₂ (λ p l. CompactedWithin p l) (same_progress f k b) (run_moves_same n f k b e))
 
   compact_same : AreSame r g d (compact s) (compact t)
   compact_same = record {
@@ -368,6 +379,15 @@ module _ (r : ℕ → ℕ) (g d : ℕ) (back : (k : ℕ) → r (number_with g d 
   made_same o o' (same_split f k b e) = if_same (AreSame r g d) _ _ _ _ _ _ (ap (λ (c : RoomCost). nat_eq c.ranges 0) (same_cost k))
       (λ z. quiet _ _ (ap (λ c. RoomMade (Some c) []) (same_cost k))) (slid_same f k b e)
 
+  made_by_same : (n : ℕ) (o o' : Option Split) → IsSameSplit a.pairs o o' → AreSame r g d (make_room_by n s o) (make_room_by n t o')
+  made_by_same n None None no_split = quiet _ _ refl
+  made_by_same n o o' (same_split f k b e) = if_same (AreSame r g d) _ _ _ _ _ _ (ap (λ (c : RoomCost). nat_eq c.ranges 0) (same_cost k)) (λ z. quiet _ _ (ap (λ c. RoomMade (Some c) []) (same_cost k)))
+      (record { reply = ap₂ (λ c l. RoomMade (Some c) l) (same_cost k) (run_moves_same n f k b e); state = run_alike r d s t a n f k b e })
+
+  -- a list of the blocks of one side
+  both_sides : (find : List machine.Block → Option Split) → IsSameSplit a.pairs (find (lefts a.pairs)) (find (rights a.pairs)) → IsSameSplit a.pairs (find s.blocks) (find t.blocks)
+  both_sides find h = subst₂ (λ x y. IsSameSplit a.pairs (find x) (find y)) (sym a.left_blocks) (sym a.right_blocks) h
+
   -- live ranges beside one another
   sent_kind : (k : Kind) → (is_free (left_tag k) ≡ false → number (left_tag k) ≡ number_with g d (number (right_tag k))) → IsSent (number_with g d) k
   sent_kind (Lives i j) h = h refl
@@ -389,9 +409,8 @@ module _ (r : ℕ → ℕ) (g d : ℕ) (back : (k : ℕ) → r (number_with g d 
       (λ xs q ys. ap₂ (λ x y. nat_le n q.size && (x || not y)) (same_starts ys) (same_short s t a.pairs a.limit a.left_blocks a.right_blocks 1))
   same_call (call.Grow k n) = resize_same k n _ _ _ _ refl (same_placed r d s t a k) (λ xs q ys. ap (λ f. nat_le q.size n && nat_le n (q.size + f)) (same_free_start ys))
   same_call call.Compact = compact_same
-  same_call (call.CompactBy n) = stepped_same n _ _
-      (subst₂ (λ x y. AreSlid a.pairs (stamp_of_call s) (stamp_of_call t) (slid_by n (stamp_of_call s) x) (slid_by n (stamp_of_call t) y)) (sym a.left_blocks) (sym a.right_blocks)
-      (both_slid n (stamp_of_call s) (stamp_of_call t) a.pairs))
+  same_call (call.CompactBy n) = stepped_same n _ _ (both_sides (first_run to_the_end n 0 0) (same_to_the_end n 0 0 a.pairs))
+  same_call (call.CompactWithin n from u m) = within_same n _ _ (both_sides (first_run (longest_that (is_within u m)) n from 0) (same_within u m n from 0 a.pairs))
   same_call (call.Offset k) = quiet _ _ (offset_same _ _ (same_placed r d s t a k))
   same_call (call.Refusal n) = quiet _ _ (ap Refusal (reason_same 1 n))
   same_call (call.Tight n) = tight_same n 1
@@ -400,6 +419,8 @@ module _ (r : ℕ → ℕ) (g d : ℕ) (back : (k : ℕ) → r (number_with g d 
   same_call (call.RefusalTightAligned n align) = quiet _ _ (ap Refusal (held_reason (if nat_le align 1 then 1 else 2) n align))
   same_call (call.WouldBegin n align) = quiet _ _ (ap begin_of (alike_step r d (command.Align n align) s t a).answer ∙ begin_raised g d (machine.allocate_aligned n align t).answer)
   same_call (call.MakeRoom n) = made_same _ _ (runs_same (value (up n)))
+  same_call (call.MakeRoomBy n align m) =
+      made_by_same m _ _ (same_cheapest_by s t a.pairs a.limit a.left_blocks a.right_blocks m (value (up (n + align - 1))) (min align 2))
   same_call (call.RoomCost n) = quiet _ _ (ap plain.RoomCost (same_room_cost a.pairs _ _ (runs_same (value (up n)))))
   same_call (call.RoomCostBy n align m) = quiet _ _ (ap plain.RoomCost (same_room_cost a.pairs _ _ (same_cheapest_by s t a.pairs a.limit a.left_blocks a.right_blocks m (value (up (n + align - 1))) (min align 2))))
   same_call (call.Relocate k) = let o = same_relocated r d s t a _ _ (same_placed r d s t a k) in record { reply = ap Answer o.answer; state = o.state }

@@ -14,8 +14,13 @@ use Rattle.offset_allocator.specs.declared.moves.room.RoomCost.{RoomCost}
 use Rattle.offset_allocator.specs.Moving.Compacting as named
 use Rattle.offset_allocator.proofs.Decided.{aligns_decided, allocates_decided, filled_grants, relocates_decided, tight_decided}
 use Rattle.offset_allocator.proofs.DecidedChanges.{compacts_decided, extends_decided, frees_decided, grows_decided, resets_decided, retracts_decided, shrinks_decided}
-use Rattle.offset_allocator.specs.Moving.RoomBySteps.{names_short}
-use Rattle.offset_allocator.proofs.Moving.DecidedRoomsBySteps.{least_by_decided}
+use Rattle.offset_allocator.specs.Moving.Budget.{CompactsWithin}
+use Rattle.offset_allocator.specs.Moving.RoomBySteps.{MakesRoomBy, names_short}
+use Rattle.offset_allocator.specs.declared.moves.budget.Progress.{Progress}
+use Rattle.offset_allocator.proofs.Moving.Budgeted as budget
+use Rattle.offset_allocator.proofs.Moving.DecidedBudget.{within_decided}
+use Rattle.offset_allocator.proofs.Moving.DecidedRoomsBySteps.{least_by_decided, noted_by_decided}
+use Rattle.offset_allocator.proofs.Moving.RoomsBySteps.{slides_by_live}
 use Rattle.offset_allocator.proofs.{Moving.DecidedRooms.least_decided, Moving.DecidedRooms.noted_decided, Advice.one_reason, Holding.tight_one_reason}
 use Rattle.offset_allocator.proofs.{Moving.Packed.compacts_sizes, Moving.Packed.live_sizes, Moving.Rooms.slides_live}
 use Rattle.offset_allocator.proofs.Ranges.{adds_keep, cuts_keep, frees_others, resizes_others, resizes_units, split_grants}
@@ -26,10 +31,10 @@ use Rattle.offset_script.specs.Machine as machine
 use Rattle.offset_script.specs.declared.scripts.Command.TheVariants as command
 use Rattle.offset_calls.specs.declared.calls.Call.TheVariants as call
 use Rattle.offset_calls.specs.declared.calls.LiveRange.{LiveRange}
-use Rattle.offset_calls.specs.Steps.{begins_at}
+use Rattle.offset_calls.specs.Steps.{begins_at, comes_so_far}
 use Rattle.offset_calls.proofs.Begun.{begin_counted, same_begin}
 use Rattle.offset_calls.specs.Calls as plain
-use Rattle.offset_calls.specs.{Histories.Runs, Slides.Notes, Steps.Finds, Steps.IsNumbered, Steps.IsReasonTight, Steps.TakesRoom, Steps.TakesTight}
+use Rattle.offset_calls.specs.{Histories.Runs, Slides.Notes, Steps.Finds, Steps.IsNumbered, Steps.IsReasonTight, Steps.TakesRoom, Steps.TakesRoomBy, Steps.TakesTight, Steps.TakesWithin}
 
 -- ---- parts of steps
 -- where a name is kept, and where none is
@@ -144,6 +149,18 @@ module _ (v : View) (known : IsWellFormed v) (accesses : ℕ) (w w' : View) (hs 
       let same = same_moves hs apart k.2 t.4 k.4 (subst (λ xs. AreNumbered hs xs t.4) s.1 t.5) k.5 in
       (t.6 ∙ ap₂ plain.RoomMade s.0 same ∙ sym k.6, s.2, e ∙ sym f)
 
+  room_by_taken : (m want k : ℕ) (r r' : Reply) → left ≡ hs → left' ≡ hs → TakesRoomBy m want (names_short k v) v hs w r → TakesRoomBy m want (names_short k z) z hs w' r' → AreSame r r' w w' left left'
+  room_by_taken m want k r r' e f t q =
+      let s = noted_by_decided m want k v z w w' known refl t.0 q.0 t.2 q.2 t.1 q.1 t.3.made q.3.made in
+      let same = same_moves hs apart q.2 t.4 q.4 (subst (λ xs. AreNumbered hs xs t.4) s.1 t.5) q.5 in
+      (t.6 ∙ ap₂ plain.RoomMade s.0 same ∙ sym q.6, s.2, e ∙ sym f)
+
+  within_taken : (n from u k : ℕ) (r r' : Reply) → left ≡ hs → left' ≡ hs → TakesWithin n from u k v hs w r → TakesWithin n from u k z hs w' r' → AreSame r r' w w' left left'
+  within_taken n from u k r r' e f t q =
+      let s = within_decided n from u k v z w w' known refl t.0 q.0 t.1 q.1 t.2.moved q.2.moved in
+      let same = same_moves hs apart q.1 t.3 q.3 (subst (λ xs. AreNumbered hs xs t.3) s.1 t.4) q.4 in
+      (t.5 ∙ ap₂ comes_so_far s.0 same ∙ sym q.5, s.2, e ∙ sym f)
+
   resized_taken : (d d' : Bool) (r r' : Reply) → (d ≡ d') × SameState w w' → left ≡ hs → left' ≡ hs → r ≡ (if d then plain.Resized else Answer machine.Refused) → r' ≡ (if d' then plain.Resized else Answer machine.Refused)
       → AreSame r r' w w' left left'
   resized_taken d d' r r' e l l' s t = (s ∙ ap (λ (b : Bool). if b then plain.Resized else Answer machine.Refused) e.0 ∙ sym t, e.1, l ∙ sym l')
@@ -168,6 +185,7 @@ module _ (v : View) (known : IsWellFormed v) (accesses : ℕ) (w w' : View) (hs 
     t.1 ∙ sym k.1,
   )
   takes_same (call.CompactBy n) r r' t k = stepped_taken n t.0 k.0 r r' (compacts_by_decided n v z w w' refl t.0 k.0 t.1 k.1) t.2 k.2 t.3 k.3
+  takes_same (call.CompactWithin n from u m) r r' t k = within_taken n from u m r r' t.1 k.1 t.0 k.0
   takes_same (call.Offset i) r r' t k = stay r r'
       (both_named (kept_name hs i) _ _ _ _ _ (λ x f g. let same : f.0 ≡ g.0 = let q = sym f.1 ∙ g.1 in cc in f.2 ∙ ap plain.Offset same ∙ sym g.2) (λ f g. f ∙ sym g) t.1 k.1) t.0 k.0
   takes_same (call.Refusal n) r r' t k = stay r r' (t.1.2 ∙ ap plain.Refusal (same_reason v known 1 n t.1.0 k.1.0 t.1.1 k.1.1) ∙ sym k.1.2) t.0 k.0
@@ -179,6 +197,7 @@ module _ (v : View) (known : IsWellFormed v) (accesses : ℕ) (w w' : View) (hs 
   takes_same (call.RefusalTightAligned n align) r r' t k = stay r r' (t.1.2 ∙ ap plain.Refusal (same_reason_tight v known n align t.1.0 k.1.0 t.1.1 k.1.1) ∙ sym k.1.2) t.0 k.0
   takes_same (call.WouldBegin n align) r r' t k = stay r r' (t.2.2 ∙ ap begins_at (same_begin v known n align t.1 t.2.0 k.2.0 t.2.1 (begin_counted n align v accesses k.2.0 k.2.1)) ∙ sym k.2.2) t.0 k.0
   takes_same (call.MakeRoom n) r r' t k = room_taken (value (up n)) r r' t.1 k.1 t.0 k.0
+  takes_same (call.MakeRoomBy n align m) r r' t k = room_by_taken m (value (up (units_needed n align))) (blocks_needed align) r r' t.1 k.1 t.0 k.0
   takes_same (call.RoomCost n) r r' t k = stay r r' (t.1.2 ∙ ap plain.RoomCost (least_decided (value (up n)) v.blocks t.1.0 k.1.0 t.1.1 k.1.1) ∙ sym k.1.2) t.0 k.0
   takes_same (call.RoomCostBy n align m) r r' t k = stay r r' (t.1.2
       ∙ ap plain.RoomCost (least_by_decided m (value (up (units_needed n align))) (names_short (blocks_needed align) v) v.blocks t.1.0 k.1.0 t.1.1 k.1.1) ∙ sym k.1.2) t.0 k.0
@@ -305,6 +324,18 @@ module _ (v w : View) (known : IsWellFormed v) (after : IsWellFormed w) (hs left
     | inr l ↦ state_held (s.0 (omega (arith, l))).0
   ]
 
+  room_by_held : {F : Type 0} (R : F → named.Move → F → Type 0) (m want short : ℕ) (f g : F) (c : Option RoomCost) → MakesRoomBy R m want short v f c w g → AreHeld w hs
+  room_by_held R m want short f g None s = state_held s.0
+  room_by_held R m want short f g (Some c) s = elim (cases_lt 0 c.ranges) [
+    | inl l ↦ held_sized v w hs (live_sizes v w known after (slides_by_live m want short v w (s.1 l).0)) h
+    | inr l ↦ state_held (s.0 (omega (arith, l))).0
+  ]
+
+  within_held : {F : Type 0} (R : F → named.Move → F → Type 0) (n from u k : ℕ) (f g : F) (c : Option Progress) → CompactsWithin R n from u k v f c w g → AreHeld w hs
+  within_held R n from u k f g None s = state_held s.0
+  within_held R n from u k f g (Some c) (inl s) = state_held s.2
+  within_held R n from u k f g (Some c) (inr s) = held_sized v w hs (live_sizes v w known after (budget.slides_live n from u k v w c s.0)) h
+
   command_held : (c : Command) (a : machine.Answer) → script.Takes c v hs w left a → AreHeld w left
   command_held (command.Alloc n) a t = allocated_held n t.0 a t.1 t.2
   command_held (command.Free i) a t =
@@ -322,6 +353,7 @@ module _ (v w : View) (known : IsWellFormed v) (after : IsWellFormed w) (hs left
   takes_held (call.Grow i n) r t = either (kept_name hs i) _ _ _ (λ x e u. same_held u.2 (grown_held x n u.0 u.1)) (λ u. stays_held u.0) t
   takes_held call.Compact r t = same_held t.1 (held_sized v w hs (compacts_sizes v w known t.0) h)
   takes_held (call.CompactBy n) r t = same_held t.2 (stepped_held n t.0 t.1)
+  takes_held (call.CompactWithin n from u k) r t = same_held t.1 (within_held Notes n from u k [] t.0.1 t.0.0 t.0.2.moved)
   takes_held (call.Offset i) r t = stays_held t.0
   takes_held (call.Refusal n) r t = stays_held t.0
   takes_held (call.RefusalAligned n align) r t = stays_held t.0
@@ -330,6 +362,8 @@ module _ (v w : View) (known : IsWellFormed v) (after : IsWellFormed w) (hs left
   takes_held (call.RefusalTight n) r t = stays_held t.0
   takes_held (call.RefusalTightAligned n align) r t = stays_held t.0
   takes_held (call.MakeRoom n) r t = same_held t.1 (room_held Notes (value (up n)) [] t.0.2 t.0.0 t.0.3.made)
+  takes_held (call.MakeRoomBy n align m) r t =
+      same_held t.1 (room_by_held Notes m (value (up (units_needed n align))) (names_short (blocks_needed align) v) [] t.0.2 t.0.0 t.0.3.made)
   takes_held (call.WouldBegin n align) r t = stays_held t.0
   takes_held (call.RoomCost n) r t = stays_held t.0
   takes_held (call.RoomCostBy n align m) r t = stays_held t.0

@@ -23,11 +23,11 @@ use Rattle.offset_calls.proofs.{Held.held_at, Filled.held_spot, Filled.held_ther
 use Rattle.offset_calls.proofs.{Common.stamp_of_call, Beside.first_same, Beside.last_same, Beside.before_same, Beside.after_same, Relocated.relocated, Retracted.well_retract, Retracted.can_too}
 use Rattle.offset_calls.proofs.{Retracted.can_there, Retracted.cut_agrees, Compacted.well_compact, Compacted.compact_agrees, Compacted.moves_are}
 use Rattle.offset_allocator.specs.Moving.Relocating.{RelocatesAligned}
+use Rattle.std.specs.Prelude.{min}
 use Rattle.offset_calls.specs.Ending.{relocate_aligned}
-use Rattle.offset_calls.specs.Stepped.{slid_by}
 use Rattle.offset_calls.proofs.{Relocated.relocated_aligned, Stepped.steps_taken, Stepped.well_steps}
 use Rattle.offset_calls.proofs.Begun.{aligned_begins}
-use Rattle.offset_calls.proofs.RunsBySteps.{room_cost_by_is}
+use Rattle.offset_calls.proofs.{RunsBySteps.room_cost_by_is, RoomsBySteps.room_by_taken, RoomsBySteps.well_room_by, Within.within_taken, Within.well_within}
 use Rattle.offset_calls.specs.Ending as plain
 use Rattle.offset_script.specs.declared.scripts.Command.TheVariants as command
 use Rattle.offset_calls.proofs.Resized.{well_resized, found, spot, size_found, can_shrink_is, shrink_can, can_grow_is, grow_can, resized_agrees}
@@ -133,10 +133,12 @@ well_call (call.Command c) s w = well_step c s w
 well_call (call.Shrink k n) s w = well_resize s w k n (can_shrink n s) (λ p d c. shrink_fits s n p d c) (machine.place_of k s.blocks) refl
 well_call (call.Grow k n) s w = well_resize s w k n (can_grow n) (λ p d c. grow_fits s n p d c) (machine.place_of k s.blocks) refl
 well_call call.Compact s w = well_compact s w
-well_call (call.CompactBy n) s w = well_steps s w n (slid_by n (stamp_of_call s) s.blocks) refl
+well_call (call.CompactBy n) s w = well_steps s w n
+well_call (call.CompactWithin n from u m) s w = well_within s w n from u m
 well_call (call.Tight n) s w = well_tight s w n 1
 well_call (call.TightAligned n align) s w = well_tight s w n align
 well_call (call.MakeRoom n) s w = well_room s w (value (up n)) (cheapest (value (up n)) s.blocks) refl
+well_call (call.MakeRoomBy n align m) s w = well_room_by s w m (value (up (n + align - 1))) (min align 2)
 well_call (call.Relocate k) s w = well_relocate s w (machine.place_of k s.blocks)
 well_call (call.RelocateAligned k align) s w = well_relocate_aligned s w align (machine.place_of k s.blocks)
 well_call (call.Retract n) s w = well_retract s w n
@@ -425,6 +427,7 @@ module _ (v w : View) (hs left : List (Option Handle)) (r : Reply) (s : State) (
       let moved = moves_are v hs s p.formed ws p.agrees t.2.0 t.2.1 in
       (t.2.2 ∙ ap Compacted moved, subst (λ l. IsAtState w l (compact s).state) (sym t.1) (record { formed = formed; agrees = agrees; grants = p.grants }))
   follows (call.CompactBy n) valid t = steps_taken v w hs left r s formed ws p n t.2 t.0 t.1 t.3.0 t.3.1 t.3.2
+  follows (call.CompactWithin n from u m) valid t = within_taken v w hs left r s formed ws p t.1 n from u m t.0
   follows (call.Offset k) valid t = quiet _ _ refl t.0 (offset_step k (kept_name hs k) refl t.1)
   follows (call.Refusal n) valid t = quiet _ _ refl t.0 (t.1.2 ∙ ap reply.Refusal (reason_is 1 n t.1.0 t.1.1))
   follows (call.RefusalAligned n align) valid t = quiet _ _ refl t.0
@@ -435,6 +438,7 @@ module _ (v w : View) (hs left : List (Option Handle)) (r : Reply) (s : State) (
   follows (call.RefusalTightAligned n align) valid t = quiet _ _ refl t.0 (tight_reason_step n align (not_zero align (inr (inl valid))) t.1.0 t.1.1 t.1.2)
   follows (call.WouldBegin n align) valid t = quiet _ _ refl t.0 (t.2.2 ∙ aligned_begins v (kept_name hs) s p.formed ws p.agrees n align t.1 t.2.0 t.2.1)
   follows (call.MakeRoom n) valid t = room_taken v w hs left r s formed ws p t.1 (value (up n)) t.0
+  follows (call.MakeRoomBy n align m) valid t = room_by_taken v w hs left r s formed ws p t.1 n align m t.0
   follows (call.RoomCostBy n align m) valid t = quiet _ _ refl t.0
       (t.1.2 ∙ ap reply.RoomCost (room_cost_by_is v (kept_name hs) s p.formed ws p.agrees m (value (up (units_needed n align))) (blocks_needed align) t.1.0 t.1.1))
   follows (call.RoomCost n) valid t = quiet _ _ refl t.0 (t.1.2 ∙ ap reply.RoomCost (room_cost_is v w hs left r s formed ws p t.0.1 (value (up n)) t.1.0 t.1.1))

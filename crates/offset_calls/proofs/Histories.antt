@@ -5,7 +5,7 @@ use Rattle.offset_calls.proofs.Common.{Option, Some, None, option_map}
 use Rattle.offset_calls.proofs.{Along.replies-append, Alike.same_replies, Alike.number_back_again, Followed.well_call, Followed.well_calls}
 use Rattle.offset_script.proofs.{Fresh.IsOneFree, Fresh.one_free, Fresh.alike_fresh, Fresh.raise_none, Fresh.renumber_same, Members.map_same, Nests.AreTraceless, Nests.traceless, Nests.alike_after}
 use Rattle.offset_script.proofs.{Nests.number_without_none, Similar.similar_refl, Lists.count, Lists.hit_self, Well.IsWell, Well.well_start, Well.well_after}
-use Rattle.offset_calls.specs.{Calls.RoomMade, Calls.Beside, Histories.raise_range}
+use Rattle.offset_calls.specs.{Calls.CompactedWithin, Calls.Move, Calls.RoomMade, Calls.Beside, Histories.raise_range}
 use Rattle.offset_calls.specs.declared.calls.LiveRange.{LiveRange}
 use Rattle.offset_script.specs.declared.scripts.Command.TheVariants as command
 use Rattle.offset_script.specs.Machine as machine
@@ -33,11 +33,14 @@ nest_law size limit h cs nest n = search (arith, well_calls, well_start, tracele
 with_none : (g k : ℕ) → number_with g 0 k ≡ k
 with_none g k = search (arith, cases_lt, lt-leb, le-leb)
 
+moves_none : (g : ℕ) (ms : List Move) → map (raise_move g 0) ms ≡ ms
+moves_none g ms = map_same (raise_move g 0) (λ m. ap (λ (k : ℕ). record { number = k; from = m.from; to = m.to; size = m.size }) (with_none g m.number)) ms
+
 raised_none : (g : ℕ) (r : Reply) → raise g 0 r ≡ r
 raised_none g (Answer a) = ap Answer (raise_none a)
-raised_none g (Compacted ms) = ap Compacted (map_same (raise_move g 0) (λ m. ap (λ (k : ℕ). record { number = k; from = m.from; to = m.to; size = m.size }) (with_none g m.number)) ms)
-raised_none g (RoomMade c ms) =
-    ap (RoomMade c) (map_same (raise_move g 0) (λ m. ap (λ (k : ℕ). record { number = k; from = m.from; to = m.to; size = m.size }) (with_none g m.number)) ms)
+raised_none g (Compacted ms) = ap Compacted (moves_none g ms)
+raised_none g (CompactedWithin p ms) = ap (CompactedWithin p) (moves_none g ms)
+raised_none g (RoomMade c ms) = ap (RoomMade c) (moves_none g ms)
 raised_none g (Beside r) = ap Beside (same_range r)
   where
     same_range : (r : Option LiveRange) → option_map (raise_range g 0) r ≡ r

@@ -145,6 +145,7 @@ module _ (v w : View) (hs left : List (Option Handle)) (before : IsWellFormed v)
   next_call (call.Grow k n) r valid t = either (kept_name hs k) _ _ _ (λ x u. next_same hs left u.2) (λ u. next_same hs left u.0.1) t
   next_call call.Compact r valid t = next_same hs left t.1
   next_call (call.CompactBy n) r valid t = next_same hs left t.2
+  next_call (call.CompactWithin n from u m) r valid t = next_same hs left t.1
   next_call (call.Offset k) r valid t = next_same hs left t.0.1
   next_call (call.Refusal n) r valid t = next_same hs left t.0.1
   next_call (call.RefusalAligned n align) r valid t = next_same hs left t.0.1
@@ -153,6 +154,7 @@ module _ (v w : View) (hs left : List (Option Handle)) (before : IsWellFormed v)
   next_call (call.RefusalTight n) r valid t = next_same hs left t.0.1
   next_call (call.RefusalTightAligned n align) r valid t = next_same hs left t.0.1
   next_call (call.MakeRoom n) r valid t = next_same hs left t.1
+  next_call (call.MakeRoomBy n align m) r valid t = next_same hs left t.1
   next_call (call.WouldBegin n align) r valid t = next_same hs left t.0.1
   next_call (call.RoomCost n) r valid t = next_same hs left t.0.1
   next_call (call.RoomCostBy n align m) r valid t = next_same hs left t.0.1

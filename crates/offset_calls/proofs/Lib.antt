@@ -8,8 +8,10 @@ mod Kept
 mod Reached
 mod Relocated
 mod Retracted
+mod RoomsBySteps
 mod RunsBySteps
 mod Undone
+mod Within
 pub mod Alike
 pub mod Along
 pub mod Common

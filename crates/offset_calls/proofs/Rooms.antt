@@ -16,7 +16,7 @@ use Rattle.offset_script.specs.Totals.{live}
 use Rattle.offset_calls.specs.{Calls.make_room, Calls.remakes, Calls.RoomMade, Room.Split, Room.cheapest, Room.room_cost, Room.slid, Slides.Notes, Steps.TakesRoom}
 use Rattle.offset_calls.specs.Room as plain
 use Rattle.offset_calls.proofs.Compacted.{count_live, length_live, apart_live, ends_of_live, live_labels, live_names, live_tags, live_name_of, moves_agree, one_number}
-use Rattle.offset_calls.proofs.Runs.{IsChosen, IsBest, IsLabelledRun, best, chosen_is, cost_is, cost_same, ends_free_is}
+use Rattle.offset_calls.proofs.Runs.{IsChosen, IsChosenOf, IsBest, IsLabelledRun, best, chosen_is, cost_is, cost_same, ends_free_is}
 use Rattle.offset_allocator.specs.Moving.Compacting as named_moves
 use Rattle.offset_allocator.specs.View as named
 use Rattle.offset_script.specs.Machine as machine
@@ -24,16 +24,16 @@ use Rattle.offset_script.specs.Machine as machine
 -- ---- every state stays well-formed
 
 -- a run that is found in a list
-record IsFound (bs : List machine.Block) (p : Split) : Type 0 where
-  is : bs ≡ p.front ++ (p.run ++ p.back)
-  begins : starts_free p.run ≡ true
-  ends : ends_free p.run ≡ true
+pub record IsFound (bs : List machine.Block) (p : Split) : Type 0 where
+  pub is : bs ≡ p.front ++ (p.run ++ p.back)
+  pub begins : starts_free p.run ≡ true
+  pub ends : ends_free p.run ≡ true
 
 -- a block with any name
-abbrev with_name : machine.Block → Label
+abbrev pub with_name : machine.Block → Label
 with_name b = record { name = 0; size = b.size; tag = b.tag }
 
-tags_with_names : (bs : List machine.Block) → tags (map with_name bs) ≡ bs
+pub tags_with_names : (bs : List machine.Block) → tags (map with_name bs) ≡ bs
 tags_with_names [] = refl
 tags_with_names (b ∷ bs) = ap (λ l. b ∷ l) (tags_with_names bs)
 
@@ -54,16 +54,21 @@ ends_tags (l ∷ []) e = free (is_free l.tag) e
     free false e = e
 ends_tags (l ∷ m ∷ ls) e = ends_tags (m ∷ ls) e
 
+-- a run that none costs less than, by its labels, is found
+pub found_there : {Serves : List Block → Type 0} (bs : List machine.Block) (p : Split) (f r b : List Label) → map with_name bs ≡ f ++ (r ++ b) → p ≡ record { front = tags f; run = tags r; back = tags b }
+    → IsChosenOf Serves (names (map with_name bs)) (names f) (names r) (names b) → IsFound bs p
+found_there bs p f r b is e h = subst (IsFound bs) (sym e) (record {
+  is = sym (tags_with_names bs) ∙ ap tags is ∙ map_three by_tag f r b;
+  begins = starts_tags r h.begins;
+  ends = ends_tags r (ends_free_is (names r) h.begins h.ends);
+})
+
 found_run : (want : ℕ) (bs : List machine.Block) (p : Split) → cheapest want bs ≡ Some p → IsFound bs p
 found_run want bs p e =
     let ls = map with_name bs in
     let same : cheapest want (tags ls) ≡ Some p = ap (cheapest want) (tags_with_names bs) ∙ e in
     let b : IsBest want ls (Some p) = subst (IsBest want ls) same (best want ls) in
-    subst (IsFound bs) (sym b.4) (record {
-      is = sym (tags_with_names bs) ∙ ap tags b.3 ∙ map_three by_tag b.0 b.1 b.2;
-      begins = starts_tags b.1 b.5.begins;
-      ends = ends_tags b.1 (ends_free_is (names b.1) b.5.begins b.5.ends);
-    })
+    found_there bs p b.0 b.1 b.2 b.3 b.4 b.5
 
 -- a run that starts free has a free block
 some_free : (bs : List machine.Block) → starts_free bs ≡ true → 1 ≤ length (machine.free_sizes bs)
@@ -73,6 +78,12 @@ some_free (b ∷ bs) e = subst (λ x. 1 ≤ length (if x then b.size ∷ machine
 starts_append : (xs ys : List machine.Block) → starts_free xs ≡ true → starts_free (xs ++ ys) ≡ true
 starts_append [] ys e = absurd (false≢true e)
 starts_append (x ∷ xs) ys e = e
+
+-- what comes after it starts live
+pub back_live : (s : State) → IsWell s → (p : Split) → IsFound s.blocks p → starts_free p.back ≡ false
+back_live s w p f =
+    let rest = apart_parts p.run p.back (apart_parts p.front (p.run ++ p.back) (subst AreApart f.is w.apart)).1 in
+    right_false (ends_free p.run) (starts_free p.back) rest.2 f.ends
 
 well_slid : (s : State) → IsWell s → (p : Split) → IsFound s.blocks p → IsWell (machine.leaves s (slid (stamp_of_call s) p) machine.Freed).state
 well_slid s w p f =
@@ -85,8 +96,7 @@ well_slid s w p f =
     let parts = apart_parts p.front (p.run ++ p.back) (subst AreApart f.is w.apart) in
     let rest = apart_parts p.run p.back parts.1 in
     let front_live : ends_free p.front ≡ false = left_false (ends_free p.front) (starts_free (p.run ++ p.back)) parts.2 (starts_append p.run p.back f.begins) in
-    let back_live : starts_free p.back ≡ false = right_false (ends_free p.run) (starts_free p.back) rest.2 f.ends in
-    let apart_inner = apart_append (live p.run) (free ∷ p.back) (apart_live p.run) (back_live, rest.1) (ap (λ x. x && true) (ends_of_live p.run)) in
+    let apart_inner = apart_append (live p.run) (free ∷ p.back) (apart_live p.run) (back_live s w p f, rest.1) (ap (λ x. x && true) (ends_of_live p.run)) in
     well_leaves s w (slid (stamp_of_call s) p) machine.Freed (omega (arith, long)) (omega (arith, long, old, w.room, length_live p.run, some_free p.run f.begins))
     (apart_append p.front inner parts.0 apart_inner (ap (λ x. x && starts_free inner) front_live))
     (λ t. omega (
@@ -116,11 +126,11 @@ rises_live t (x ∷ ls) m l = go (is_free x.tag) refl (rises_live t ls m l)
     go false e h = (λ f. h, λ f. absurd (true≢false (sym f ∙ e)))
 
 -- moves that are noted
-noted : (ms acc xs : List named_moves.Move) → FoldsTo Notes acc ms xs → xs ≡ acc ++ ms
+pub noted : (ms acc xs : List named_moves.Move) → FoldsTo Notes acc ms xs → xs ≡ acc ++ ms
 noted [] acc xs h = sym h ∙ sym (Rattle.offset_calls.proofs.Common.append-nil acc)
 noted (m ∷ ms) acc xs h = noted ms h.0 xs h.2 ∙ ap (λ l. l ++ ms) h.1 ∙ append_assoc acc (m ∷ []) ms
 
-none_numbered : (handles : List (Option Handle)) (xs : List named_moves.Move) (ms : List Move) → xs ≡ [] → AreNumbered handles xs ms → ms ≡ []
+pub none_numbered : (handles : List (Option Handle)) (xs : List named_moves.Move) (ms : List Move) → xs ≡ [] → AreNumbered handles xs ms → ms ≡ []
 none_numbered handles [] [] e a = refl
 none_numbered handles [] (m ∷ ms) e a = absurd a
 none_numbered handles (x ∷ xs) ms e a = absurd (cc)
@@ -141,7 +151,7 @@ module _ (v : View) (hs : List (Option Handle)) (s : State) (w : IsWellFormed v)
       later = h.later;
     })
 
-    pub labelled_run : IsLabelledRun want g.labels h.front h.run h.back
+    pub labelled_run : IsLabelledRun (cheapest want (tags g.labels)) g.labels h.front h.run h.back
     labelled_run = chosen_is want g.labels blocks_apart h.front h.run h.back chosen
 
     abbrev f : List Label
@@ -222,11 +232,11 @@ module _ (v : View) (hs : List (Option Handle)) (s : State) (w : IsWellFormed v)
 
 module _ (v w : View) (hs left : List (Option Handle)) (r : Reply) (s : State) (formed : IsWellFormed w) (ws : IsWell s) (p : IsAtState v hs s) (e : left ≡ hs) where
   -- the machine has this reply, and leaves what the allocator does
-  abbrev Agrees : Outcome → Type 0
+  abbrev pub Agrees : Outcome → Type 0
   Agrees o = (r ≡ o.reply) × IsAtState w left o.state
 
   -- where nothing changes
-  stays : (x : Reply) → SameState v w → r ≡ x → Agrees (replies_only s x)
+  pub stays : (x : Reply) → SameState v w → r ≡ x → Agrees (replies_only s x)
   stays x same is = (
     is,
     subst (λ l. IsAtState w l (replies_only s x).state) (sym e)

@@ -13,12 +13,12 @@ use Rattle.offset_calls.specs.{Calls.answered, Calls.Beside, Calls.beside, Calls
 use Rattle.offset_calls.specs.Calls as plain
 use Rattle.offset_calls.specs.{Ending.live_after, Histories.goes_by_begin, Room.Split, Room.cheapest}
 use Rattle.offset_calls.specs.declared.calls.LiveRange.{LiveRange}
-use Rattle.offset_calls.proofs.SteppedPairs.{AreSlid, both_slid, kept_right, same_last}
-use Rattle.offset_calls.specs.Stepped.{kept, slid_by}
-use Rattle.offset_calls.specs.Calls.{moves_by, step_by}
+use Rattle.offset_calls.proofs.SteppedPairs.{kept_right, same_last}
+use Rattle.offset_calls.specs.{Stepped.kept, Stepped.first_run, Stepped.to_the_end, Budget.is_within, Budget.longest_that}
+use Rattle.offset_calls.specs.Calls.{moves_by, moves_of_run, slides_run, compact_by, compact_within, make_room_by}
 use Rattle.offset_calls.proofs.EndPairs.{same_free_end, IsSent, AreSent, sent, sent_first, sent_last}
 use Rattle.offset_calls.specs.Tight.{holds, better, holding_place, request_tight, allocate_tight, lack, reason_held}
-use Rattle.offset_calls.proofs.Splits.{IsSameSplit, no_split, same_split, same_cost, same_cheapest, same_room_cost, same_cheapest_by}
+use Rattle.offset_calls.proofs.Splits.{IsSameSplit, no_split, same_split, same_cost, same_cheapest, same_room_cost, same_cheapest_by, same_to_the_end, same_within, same_progress}
 use Rattle.std.specs.Prelude.{min}
 use Rattle.offset_script.specs.Histories as script
 use Rattle.offset_script.specs.Machine as machine
@@ -117,14 +117,33 @@ module _ (s t : State) (a : IsSameSpace s t) where
       (same_moves (total (lefts f)) (total (lefts f)) r (λ q i. a.blocks.numbers q (subst (IsIn q) (sym e) (in_right q f (r ++ b) (in_left q r b i))))
       ∙ ap (λ n. moves n n (rights r)) (same_total f)))
 
-  -- compacting by whole steps
-  stepped_reply : (n x y : ℕ) (o o' : Option (List machine.Block)) → AreSlid a.blocks.pairs x y o o' → without_offset (step_by n s o).reply ≡ without_offset (step_by n t o').reply
-  stepped_reply n x y None None p = refl
-  stepped_reply n x y None (Some cs) p = absurd p
-  stepped_reply n x y (Some bs) None p = absurd p
-  stepped_reply n x y (Some bs) (Some cs) p = if_same (λ (x y : Outcome). without_offset x.reply ≡ without_offset y.reply) _ _ _ _ _ _
-      (ap₂ (λ x y. x && y) (ap machine.ends_live a.blocks.left_blocks ∙ same_last a.blocks.pairs ∙ ap machine.ends_live (sym a.blocks.right_blocks)) (short 1)) (λ e. refl)
+  -- sliding by whole steps
+  both_sides : (find : List machine.Block → Option Split) → IsSameSplit a.blocks.pairs (find (lefts a.blocks.pairs)) (find (rights a.blocks.pairs)) → IsSameSplit a.blocks.pairs (find s.blocks) (find t.blocks)
+  both_sides find h = subst₂ (λ x y. IsSameSplit a.blocks.pairs (find x) (find y)) (sym a.blocks.left_blocks) (sym a.blocks.right_blocks) h
+
+  run_moves_same : (n : ℕ) (f k b : List Pair) → a.blocks.pairs ≡ f ++ (k ++ b)
+      → moves_of_run n (record { front = lefts f; run = lefts k; back = lefts b }) ≡ moves_of_run n (record { front = rights f; run = rights k; back = rights b })
+  run_moves_same n f k b e = same_moves_by n (total (lefts f)) (total (lefts f)) k (λ q i. a.blocks.numbers q (subst (IsIn q) (sym e) (in_right q f (k ++ b) (in_left q k b i))))
+      ∙ ap (λ m. moves_by n m m (rights k)) (same_total f)
+
+  slides_reply : (n : ℕ) (x y : plain.Reply) (f k b : List Pair) → x ≡ y → without_offset (slides_run n s x (record { front = lefts f; run = lefts k; back = lefts b })).reply
+      ≡ without_offset (slides_run n t y (record { front = rights f; run = rights k; back = rights b })).reply
+  slides_reply n x y f k b is = if_same (λ (x y : Outcome). without_offset x.reply ≡ without_offset y.reply) _ _ _ _ _ _ (ap₂ (λ (x y : Bool). x && y) (same_last k) (short 1)) (λ e. refl)
+      (ap without_offset is)
+
+  stepped_reply : (n : ℕ) (o o' : Option Split) → IsSameSplit a.blocks.pairs o o' → without_offset (compact_by n s o).reply ≡ without_offset (compact_by n t o').reply
+  stepped_reply n None None no_split = refl
+  stepped_reply n o o' (same_split f k b e) = slides_reply n _ _ f k b
       (ap Compacted (ap (moves_by n 0 0) a.blocks.left_blocks ∙ same_moves_by n 0 0 a.blocks.pairs a.blocks.numbers ∙ ap (moves_by n 0 0) (sym a.blocks.right_blocks)))
+
+  within_reply : (n : ℕ) (o o' : Option Split) → IsSameSplit a.blocks.pairs o o' → without_offset (compact_within n s o).reply ≡ without_offset (compact_within n t o').reply
+  within_reply n None None no_split = refl
+  within_reply n o o' (same_split f k b e) = slides_reply n _ _ f k b (ap₂ (λ p l. plain.CompactedWithin p l) (same_progress f k b) (run_moves_same n f k b e))
+
+  made_by_reply : (n : ℕ) (o o' : Option Split) → IsSameSplit a.blocks.pairs o o' → (make_room_by n s o).reply ≡ (make_room_by n t o').reply
+  made_by_reply n None None no_split = refl
+  made_by_reply n o o' (same_split f k b e) = if_same (λ (x y : Outcome). x.reply ≡ y.reply) _ _ _ _ _ _ (ap (λ (c : RoomCost). nat_eq c.ranges 0) (same_cost k))
+      (λ z. ap (λ c. RoomMade (Some c) []) (same_cost k)) (ap₂ (λ c l. RoomMade (Some c) l) (same_cost k) (run_moves_same n f k b e))
 
   sent_same : (k : Kind) → HasSameNumber k → IsSent (λ n. n) k
   sent_same (Lives i j) e = e
@@ -149,9 +168,8 @@ module _ (s t : State) (a : IsSameSpace s t) where
   next_reply (call.Shrink k n) other = resize_reply n _ _ _ _ (placed k) (λ xs q ys. ap₂ (λ x y. nat_le n q.size && (x || not y)) (same_starts ys) (short 1))
   next_reply (call.Grow k n) other = resize_reply n _ _ _ _ (placed k) (λ xs q ys. ap (λ f. nat_le q.size n && nat_le n (q.size + f)) (same_free_start ys))
   next_reply call.Compact other = ap Compacted (ap (moves 0 0) a.blocks.left_blocks ∙ same_moves 0 0 a.blocks.pairs a.blocks.numbers ∙ ap (moves 0 0) (sym a.blocks.right_blocks))
-  next_reply (call.CompactBy n) other = stepped_reply n (machine.stamp_of_call s) (machine.stamp_of_call t) _ _
-      (subst₂ (λ x y. AreSlid a.blocks.pairs (machine.stamp_of_call s) (machine.stamp_of_call t) (slid_by n (machine.stamp_of_call s) x) (slid_by n (machine.stamp_of_call t) y))
-      (sym a.blocks.left_blocks) (sym a.blocks.right_blocks) (both_slid n (machine.stamp_of_call s) (machine.stamp_of_call t) a.blocks.pairs))
+  next_reply (call.CompactBy n) other = stepped_reply n _ _ (both_sides (first_run to_the_end n 0 0) (same_to_the_end n 0 0 a.blocks.pairs))
+  next_reply (call.CompactWithin n from u m) other = within_reply n _ _ (both_sides (first_run (longest_that (is_within u m)) n from 0) (same_within u m n from 0 a.blocks.pairs))
   next_reply (call.Offset k) other = ap without_offset (offset_reply _ _ (placed k))
   next_reply (call.Refusal n) other = ap Refusal (reason_reply 1 n)
   next_reply (call.Tight n) other = tight_reply n 1
@@ -160,6 +178,8 @@ module _ (s t : State) (a : IsSameSpace s t) where
   next_reply (call.RefusalTightAligned n align) other = ap Refusal (held_reason (if nat_le align 1 then 1 else 2) n align)
   next_reply (call.WouldBegin n align) other = absurd (true≢false other)
   next_reply (call.MakeRoom n) other = ap without_offset (made_reply _ _ (runs_same (value (up n))))
+  next_reply (call.MakeRoomBy n align m) other = ap without_offset
+      (made_by_reply m _ _ (same_cheapest_by s t a.blocks.pairs a.limit a.blocks.left_blocks a.blocks.right_blocks m (value (up (n + align - 1))) (min align 2)))
   next_reply (call.RoomCost n) other = ap plain.RoomCost (same_room_cost a.blocks.pairs _ _ (runs_same (value (up n))))
   next_reply (call.RoomCostBy n align m) other = ap plain.RoomCost
       (same_room_cost a.blocks.pairs _ _ (same_cheapest_by s t a.blocks.pairs a.limit a.blocks.left_blocks a.blocks.right_blocks m (value (up (n + align - 1))) (min align 2)))

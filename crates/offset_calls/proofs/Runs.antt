@@ -39,16 +39,20 @@ not_less_is c d e = grind (arith, nat_tests)
 
 -- ---- the run that slides
 
--- a run with so many free units that none costs less than, and each later one more
-pub record IsChosen (want : ℕ) (bs front run back : List Block) : Type 0 where
+-- a run that serves, where none that serves costs less, and each such run that begins later costs more
+pub record IsChosenOf (Serves : List Block → Type 0) (bs front run back : List Block) : Type 0 where
   pub is : bs ≡ front ++ (run ++ back)
   pub begins : starts_free run ≡ true
   pub ends : ends_used run ≡ false
-  pub serves : want ≤ sum (free_sizes run)
-  pub least : (other : List Block) → IsRun other bs → want ≤ sum (free_sizes other) → IsAtMost (cost_of run) (cost_of other)
-  pub later : CostMore want (cost_of run) (drop 1 (run ++ back))
+  pub serves : Serves run
+  pub least : (other : List Block) → IsRun other bs → Serves other → IsAtMost (cost_of run) (cost_of other)
+  pub later : (other : List Block) → IsRun other (drop 1 (run ++ back)) → Serves other → IsLess (cost_of run) (cost_of other)
 
-pub run_of : {want : ℕ} {bs front run back : List Block} → IsChosen want bs front run back → IsRun run bs
+-- a run serves where it has at least `want` free units
+abbrev pub IsChosen : ℕ → List Block → List Block → List Block → List Block → Type 0
+IsChosen want bs front run back = IsChosenOf (λ run. want ≤ sum (free_sizes run)) bs front run back
+
+pub run_of : {Serves : List Block → Type 0} {bs front run back : List Block} → IsChosenOf Serves bs front run back → IsRun run bs
 run_of {front = front} {back = back} h = record { front = front; back = back; is = h.is; begins = h.begins; ends = h.ends }
 
 -- a list that starts free and does not end used ends free
@@ -61,9 +65,9 @@ ends_free_is (b ∷ c ∷ bs) s e = last c bs e
     last c [] e = ap not e
     last c (d ∷ bs) e = last d bs e
 
-module _ (want : ℕ) (bs : List Block) (apart : AreCoalesced bs) where
+module _ (Serves : List Block → Type 0) (bs : List Block) (apart : AreCoalesced bs) where
   -- of two of them none begins before the other
-  not_before : (f r b f' r' b' : List Block) → IsChosen want bs f r b → IsChosen want bs f' r' b' → (z : Block) (zs : List Block) → f' ≡ f ++ z ∷ zs → ⊥
+  not_before : (f r b f' r' b' : List Block) → IsChosenOf Serves bs f r b → IsChosenOf Serves bs f' r' b' → (z : Block) (zs : List Block) → f' ≡ f ++ z ∷ zs → ⊥
   not_before f r b f' r' b' h k z zs e =
       let rest : r ++ b ≡ z ∷ (zs ++ (r' ++ b')) = append_cancel_left f (r ++ b) (z ∷ (zs ++ (r' ++ b')))
       (sym h.is ∙ k.is ∙ ap (λ l. l ++ (r' ++ b')) e ∙ append_assoc f (z ∷ zs) (r' ++ b')) in
@@ -71,7 +75,7 @@ module _ (want : ℕ) (bs : List Block) (apart : AreCoalesced bs) where
       less_not (cost_of r) (cost_of r') (h.later r' there k.serves) (k.least r (run_of h) h.serves)
 
   -- and none is longer
-  not_longer : (f r b r' b' : List Block) → IsChosen want bs f r b → IsChosen want bs f r' b' → (z : Block) (zs : List Block) → r ≡ r' ++ z ∷ zs → ⊥
+  not_longer : (f r b r' b' : List Block) → IsChosenOf Serves bs f r b → IsChosenOf Serves bs f r' b' → (z : Block) (zs : List Block) → r ≡ r' ++ z ∷ zs → ⊥
   not_longer f r b r' b' h k z zs e =
       let whole : bs ≡ f ++ (r' ++ ((z ∷ zs) ++ b)) = h.is ∙ ap (λ l. f ++ l) (ap (λ l. l ++ b) e ∙ append_assoc r' (z ∷ zs) b) in
       let parts = apart_parts r' ((z ∷ zs) ++ b) (apart_parts f (r' ++ ((z ∷ zs) ++ b)) (subst AreCoalesced whole apart)).1 in
@@ -88,13 +92,13 @@ module _ (want : ℕ) (bs : List Block) (apart : AreCoalesced bs) where
       none m n u = grind arith
 
   -- so there is only one
-  pub only_one : (f r b f' r' b' : List Block) → IsChosen want bs f r b → IsChosen want bs f' r' b' → (f ≡ f') × (r ≡ r') × (b ≡ b')
+  pub only_one : (f r b f' r' b' : List Block) → IsChosenOf Serves bs f r b → IsChosenOf Serves bs f' r' b' → (f ≡ f') × (r ≡ r') × (b ≡ b')
   only_one f r b f' r' b' h k = elim (begins_cases f f' (r ++ b) (r' ++ b') (sym h.is ∙ k.is)) [
     | inr a ↦ absurd (not_before f r b f' r' b' h k a.0 a.1 a.2)
     | inl a ↦ front a.0 a.1
   ]
     where
-      same : (r' b' : List Block) → IsChosen want bs f r' b' → (r ≡ r') × (b ≡ b')
+      same : (r' b' : List Block) → IsChosenOf Serves bs f r' b' → (r ≡ r') × (b ≡ b')
       same r' b' k =
           let e : r ++ b ≡ r' ++ b' = append_cancel_left f (r ++ b) (r' ++ b') (sym h.is ∙ k.is) in
           elim (begins_cases r r' b b' e) [
@@ -109,7 +113,7 @@ module _ (want : ℕ) (bs : List Block) (apart : AreCoalesced bs) where
       front : (zs : List Block) → f ≡ f' ++ zs → (f ≡ f') × (r ≡ r') × (b ≡ b')
       front [] e =
           let s : f' ≡ f = sym (e ∙ append-nil f') in
-          let t = same r' b' (subst (λ l. IsChosen want bs l r' b') s k) in
+          let t = same r' b' (subst (λ l. IsChosenOf Serves bs l r' b') s k) in
           (sym s, t.0, t.1)
       front (z ∷ zs) e = absurd (not_before f' r' b' f r b k h z zs e)
 
@@ -333,8 +337,8 @@ cost_is want ls c h = go (cheapest want (tags ls)) (best want ls) c h
     go (Some q) b (Some c) h = ap Some (same_cost c (cost_of (names b.1)) (h.1 (names b.1) (run_of b.5) b.5.serves)
         (subst (IsAtMost (cost_of (names b.1))) (sym h.0.3) (b.5.least h.0.0 h.0.1 h.0.2)) ∙ sym (ap (λ (p : Split). plain.cost_of p.run) b.4 ∙ cost_same b.1))
 
--- a run that slides, with its labels
-pub record IsLabelledRun (want : ℕ) (ls : List Label) (front run back : List Block) : Type 0 where
+-- a run that slides, with its labels, is the one that was found
+pub record IsLabelledRun (found_run : Option Split) (ls : List Label) (front run back : List Block) : Type 0 where
   pub f : List Label
   pub r : List Label
   pub b : List Label
@@ -342,14 +346,15 @@ pub record IsLabelledRun (want : ℕ) (ls : List Label) (front run back : List B
   pub front_is : names f ≡ front
   pub run_is : names r ≡ run
   pub back_is : names b ≡ back
-  pub found : cheapest want (tags ls) ≡ Some (record { front = tags f; run = tags r; back = tags b })
+  pub found : found_run ≡ Some (record { front = tags f; run = tags r; back = tags b })
 
 -- the run that slides is the one that the machine finds
-pub chosen_is : (want : ℕ) (ls : List Label) → AreCoalesced (names ls) → (front run back : List Block) → IsChosen want (names ls) front run back → IsLabelledRun want ls front run back
+pub chosen_is : (want : ℕ) (ls : List Label) → AreCoalesced (names ls) → (front run back : List Block) → IsChosen want (names ls) front run back
+    → IsLabelledRun (cheapest want (tags ls)) ls front run back
 chosen_is want ls apart front run back h = go (cheapest want (tags ls)) refl (best want ls)
   where
-    go : (o : Option Split) → cheapest want (tags ls) ≡ o → IsBest want ls o → IsLabelledRun want ls front run back
+    go : (o : Option Split) → cheapest want (tags ls) ≡ o → IsBest want ls o → IsLabelledRun (cheapest want (tags ls)) ls front run back
     go None e b = absurd (omega (arith, b run (run_of h), h.serves))
     go (Some q) e b =
-        let same = only_one want (names ls) apart (names b.0) (names b.1) (names b.2) front run back b.5 h in
+        let same = only_one (λ run. want ≤ sum (free_sizes run)) (names ls) apart (names b.0) (names b.1) (names b.2) front run back b.5 h in
         record { f = b.0; r = b.1; b = b.2; is = b.3; front_is = same.0; run_is = same.1; back_is = same.2; found = e ∙ ap Some b.4 }

@@ -1,6 +1,6 @@
 -- The run by whole steps that the plain machine chooses is the cheapest one of the allocator, and of several the last.
 use Rattle.offset_calls.proofs.Common.{◌≡◌, ℕ, ◌+◌, ◌≤◌, ◌⊎◌, ◌&&◌, Bool, true, false, not, List, [], ◌∷◌, ◌++◌, length, Option, Some, None, option_map, nat_eq, nat_le, if◌then◌else◌}
-use Rattle.offset_calls.proofs.Common.{refl, sym, ap, ap₂, subst, ◌∙◌, inl, inr, arith, drop, leb-true, le-leb, map-append, true≢false, false≢true, and_parts, is_free, subst₂, ◌-◌, View, IsWellFormed, State}
+use Rattle.offset_calls.proofs.Common.{refl, sym, ap, ap₂, subst, ◌∙◌, inl, inr, arith, drop, leb-true, le-leb, map-append, true≢false, false≢true, and_parts, is_free, subst₂, ◌-◌, View, IsWellFormed, AreCoalesced, State}
 use Rattle.offset_allocator.specs.declared.moves.room.RoomCost.{RoomCost}
 use Rattle.offset_allocator.specs.Moving.BySteps as by
 use Rattle.offset_allocator.specs.Moving.Room.{IsRun, IsAtMost, IsLess, cost_of}
@@ -8,14 +8,14 @@ use Rattle.offset_allocator.specs.Moving.RoomBySteps.{IsLeastCostBy, Serves, nam
 use Rattle.offset_allocator.specs.View.{starts_free, ends_used}
 use Rattle.offset_allocator.specs.View as named
 use Rattle.offset_allocator.proofs.Moving.Runs.{at_most_trans, less_trans, longer}
-use Rattle.offset_script.proofs.{Agreement.Label, Agreement.by_name, Agreement.by_tag, Labels.names, Labels.tags, Members.map_parts, Agreement.HasBlocksOf, Agreed.same_length, Well.IsWell}
+use Rattle.offset_script.proofs.{Agreement.Label, Agreement.by_name, Agreement.by_tag, Labels.names, Labels.tags, Labels.map_three, Members.map_parts, Agreement.HasBlocksOf, Agreed.same_length, Well.IsWell}
 use Rattle.offset_script.specs.Machine as machine
 use Rattle.offset_calls.specs.Room.{Split, from_first, after_first, is_less, cheaper}
 use Rattle.offset_calls.specs.Room as plain
 use Rattle.offset_calls.specs.Stepped.{given_up}
 use Rattle.offset_calls.specs.Stepped as step
-use Rattle.offset_calls.specs.RoomBySteps.{used_up, serves, shortest_that, cheapest_that, blocks_short, room_cost_by}
-use Rattle.offset_calls.proofs.Runs.{cost_same, is_less_is, not_less_is, same_cost}
+use Rattle.offset_calls.specs.RoomBySteps.{used_up, serves, shortest_that, cheapest_that, blocks_short, cheapest_by, room_cost_by}
+use Rattle.offset_calls.proofs.Runs.{IsChosenOf, IsLabelledRun, cost_same, is_less_is, not_less_is, only_one, run_of, same_cost}
 use Rattle.offset_calls.proofs.Stepped.{given_same, kept_same, same_end}
 
 -- ---- lists
@@ -288,6 +288,36 @@ module _ (n want short : ℕ) where
           (subst (IsAtMost (cost b.1)) (ap cost_of k.4 ∙ sym h.0.3) (b.7 k.0 k.1 k.2 k.3 k.5 k.6))
           ∙ sym (ap (λ (p : Split). plain.cost_of p.run) b.4 ∙ cost_same b.1))
 
+  drop_names : (r b : List Label) → drop 1 (names r ++ names b) ≡ names (drop 1 (r ++ b))
+  drop_names [] [] = refl
+  drop_names [] (l ∷ b) = refl
+  drop_names (l ∷ r) b = sym (map-append by_name r b)
+
+  -- what is found is one that none costs less than, and each later one more
+  pub found_chosen : (ls : List Label) (q : Split) (h : IsBest (serves n want short) ls (Some q)) → IsChosenOf (Serves n want short) (names ls) (names h.0) (names h.1) (names h.2)
+  found_chosen ls q h = record {
+    is = ap names h.3 ∙ map_three by_name h.0 h.1 h.2;
+    begins = starts_same h.1 ∙ h.5;
+    ends = (served h.1 h.6).0;
+    serves = (served h.1 h.6).1;
+    least = λ other r m. let k = labelled ls other r m in subst (λ bs. IsAtMost (cost h.1) (cost_of bs)) k.4 (h.7 k.0 k.1 k.2 k.3 k.5 k.6);
+    later = λ other r m.
+        let k = labelled (drop 1 (h.1 ++ h.2)) other (subst (IsRun other) (drop_names h.1 h.2) r) m in
+        subst (λ bs. IsLess (cost h.1) (cost_of bs)) k.4 (h.8 k.0 k.1 k.2 k.3 k.5 k.6);
+  }
+
+  -- such a run is the one that the machine finds
+  pub chosen_by_is : (ls : List Label) → AreCoalesced (names ls) → (front run back : List named.Block) → IsChosenOf (Serves n want short) (names ls) front run back
+      → IsLabelledRun (cheapest_that (serves n want short) (tags ls)) ls front run back
+  chosen_by_is ls apart front run back h = go (cheapest_that (serves n want short) (tags ls)) refl (best (serves n want short) ls)
+    where
+      go : (o : Option Split) → cheapest_that (serves n want short) (tags ls) ≡ o → IsBest (serves n want short) ls o
+          → IsLabelledRun (cheapest_that (serves n want short) (tags ls)) ls front run back
+      go None e b = let k = labelled ls run (run_of h) h.serves in absurd (b k.0 k.1 k.2 k.3 k.5 k.6)
+      go (Some q) e b =
+          let same = only_one (Serves n want short) (names ls) apart (names b.0) (names b.1) (names b.2) front run back (found_chosen ls q b) h in
+          record { f = b.0; r = b.1; b = b.2; is = b.3; front_is = same.0; run_is = same.1; back_is = same.2; found = e ∙ ap Some b.4 }
+
 module _ (v : View) (kept_name : ℕ → Option ℕ) (s : State) (w : IsWellFormed v) (ws : IsWell s) (g : HasBlocksOf v kept_name s) where
   short_same : (spare : ℕ) → names_short spare v ≡ blocks_short spare s.limit (length s.blocks)
   short_same spare = ap₂ (λ l m. (l + spare + 2) - m) (same_length v kept_name s w ws g) (sym g.limit)
@@ -295,3 +325,13 @@ module _ (v : View) (kept_name : ℕ → Option ℕ) (s : State) (w : IsWellForm
   pub room_cost_by_is : (n want spare : ℕ) (c : Option RoomCost) → IsLeastCostBy n want (names_short spare v) v.blocks c → c ≡ room_cost_by n want spare s
   room_cost_by_is n want spare c l = cost_by_is n want (blocks_short spare s.limit (length s.blocks)) g.labels c (subst₂ (λ i bs. IsLeastCostBy n want i bs c) (short_same spare) g.view l)
       ∙ ap (λ bs. option_map (λ (p : Split). plain.cost_of p.run) (cheapest_that (serves n want (blocks_short spare s.limit (length s.blocks))) bs)) (sym g.state)
+
+  -- a run that slides is the one that the machine finds
+  pub slid_by_is : (n want spare : ℕ) (front run back : List named.Block) → IsChosenOf (Serves n want (names_short spare v)) v.blocks front run back
+      → IsLabelledRun (cheapest_by n want spare s) g.labels front run back
+  slid_by_is n want spare front run back h =
+      let short = blocks_short spare s.limit (length s.blocks) in
+      let there : IsLabelledRun (cheapest_that (serves n want short) (tags g.labels)) g.labels front run back =
+      chosen_by_is n want short g.labels (subst AreCoalesced g.view w.apart) front run back
+      (subst₂ (λ i bs. IsChosenOf (Serves n want i) bs front run back) (short_same spare) g.view h) in
+      subst (λ bs. IsLabelledRun (cheapest_that (serves n want short) bs) g.labels front run back) (sym g.state) there

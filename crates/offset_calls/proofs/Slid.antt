@@ -8,6 +8,10 @@ use Rattle.offset_allocator.specs.{Moving.Room.MakesRoom, Moving.Room.IsLeastCos
 use Rattle.offset_allocator.proofs.Moving.Sliding.{moves_used, moves_idle}
 use Rattle.offset_allocator.proofs.Moving.Stepping.{moves_by_used, moves_by_free}
 use Rattle.offset_allocator.specs.Moving.BySteps.{CompactsBy, moves_by}
+use Rattle.offset_allocator.specs.Moving.RoomBySteps.{IsLeastCostBy, MakesRoomBy, names_short}
+use Rattle.offset_allocator.specs.Moving.Budget.{CompactsWithin}
+use Rattle.offset_allocator.specs.Requests.{blocks_needed, units_needed}
+use Rattle.offset_allocator.specs.declared.moves.budget.Progress.{Progress}
 use Rattle.offset_allocator.specs.Moving.BySteps as by
 use Rattle.offset_script.specs.Machine as machine
 use Rattle.offset_calls.specs.declared.calls.Moved.{Moved}
@@ -16,6 +20,7 @@ use Rattle.std.proofs.lemmas.List.{get_or_default}
 use Rattle.offset_calls.specs.declared.calls.Call.TheVariants as call
 use Rattle.offset_calls.specs.Calls.{Move as Numbered, Answer, Compacted, RoomMade}
 use Rattle.offset_calls.specs.{Calling.IsLost, Steps.AreKept, Steps.TakesRoom, Slides.IsMade, Slides.Notes, Slides.named_move, Slides.numbered_move}
+use Rattle.offset_calls.specs.{Steps.TakesRoomBy, Steps.TakesWithin, Steps.comes_so_far, Slides.IsMadeBy, Slides.IsMovedWithin}
 
 -- ---- the moves that a closure has seen
 
@@ -70,6 +75,27 @@ room_some R want v w (Some c) p q m = elim (cases_eq c.ranges 0) [
       let ms = moves (units t.0.front) (units t.0.front) t.0.run in
       (ms, record { made = (λ e. absurd (z e), λ l. (t.0, t.1, notes_all [] ms)) })
 ]
+
+-- room by steps is made with moves, each of which the closure is called with
+pub room_by_folds : {P : Type 0} (R : P → Move → P → Type 0) (n want short : ℕ) (v w : View) (c : Option RoomCost) (p q : P) → MakesRoomBy R n want short v p c w q
+    → (xs : List Move) × FoldsTo R p xs q × IsMadeBy n want short v c w xs
+room_by_folds R n want short v w None p q m = ([], sym m.1, record { made = (m.0, refl) })
+room_by_folds R n want short v w (Some c) p q m = elim (cases_eq c.ranges 0) [
+  | inl z ↦ ([], sym (m.0 z).1, record { made = (λ e. ((m.0 e).0, refl), λ l. absurd (omega (arith, z, l))) })
+  | inr z ↦
+      let t = m.1 (omega (arith, z)) in
+      let ms = moves_by n (units t.0.front) (units t.0.front) t.0.run in
+      (ms, t.2, record { made = (λ e. absurd (z e), λ l. (t.0, t.1, notes_all [] ms)) })
+]
+
+-- and so is a compaction within a budget
+pub within_folds : {P : Type 0} (R : P → Move → P → Type 0) (n from u k : ℕ) (v w : View) (o : Option Progress) (p q : P) → CompactsWithin R n from u k v p o w q
+    → (xs : List Move) × FoldsTo R p xs q × IsMovedWithin n from u k v o w xs
+within_folds R n from u k v w None p q m = ([], sym m.1, record { moved = (m.0, refl, m.2) })
+within_folds R n from u k v w (Some o) p q (inl m) = ([], sym m.3, record { moved = inl (m.0, m.1, m.2, refl) })
+within_folds R n from u k v w (Some o) p q (inr m) =
+    let ms = moves_by n (units m.0.front) (units m.0.front) (m.0.first ∷ m.0.rest) in
+    (ms, m.2, record { moved = inr (m.0, m.1, notes_all [] ms) })
 
 -- what follows from a fact that is long to write out
 pub given : {A B : Type 0} → A → (A → B) → B
@@ -128,6 +154,26 @@ module _ (P : ℕ → Type 0) where
         let parts = all_split t.0.front (t.0.run ++ t.0.back) (subst (AllByRecursion (λ (b : Block). b.used ≡ true → P b.name)) t.0.is a) in
         noted_named _ [] xs t.2 tt (moves_named _ _ t.0.run (all_split t.0.run t.0.back parts.1).0)
   ]
+
+  room_by_named : (n want short : ℕ) (v w : View) (c : Option RoomCost) (xs : List Move) → MakesRoomBy Notes n want short v [] c w xs → AllByRecursion (λ (b : Block). b.used ≡ true → P b.name) v.blocks
+      → AllByRecursion (λ (m : Move). P m.name) xs
+  room_by_named n want short v w None xs m a = subst (AllByRecursion (λ (m : Move). P m.name)) (sym m.1) tt
+  room_by_named n want short v w (Some c) xs m a = elim (cases_eq c.ranges 0) [
+    | inl z ↦ subst (AllByRecursion (λ (m : Move). P m.name)) (sym (m.0 z).1) tt
+    | inr z ↦
+        let t = m.1 (omega (arith, z)) in
+        let parts = all_split t.0.front (t.0.run ++ t.0.back) (subst (AllByRecursion (λ (b : Block). b.used ≡ true → P b.name)) t.0.is a) in
+        noted_named _ [] xs t.2 tt (moves_by_named n _ _ t.0.run (all_split t.0.run t.0.back parts.1).0)
+  ]
+
+  within_named : (n from u k : ℕ) (v w : View) (o : Option Progress) (xs : List Move) → CompactsWithin Notes n from u k v [] o w xs → AllByRecursion (λ (b : Block). b.used ≡ true → P b.name) v.blocks
+      → AllByRecursion (λ (m : Move). P m.name) xs
+  within_named n from u k v w None xs m a = subst (AllByRecursion (λ (m : Move). P m.name)) (sym m.1) tt
+  within_named n from u k v w (Some o) xs (inl m) a = subst (AllByRecursion (λ (m : Move). P m.name)) (sym m.3) tt
+  within_named n from u k v w (Some o) xs (inr m) a =
+      let run = m.0.first ∷ m.0.rest in
+      let parts = all_split m.0.front (run ++ m.0.back) (subst (AllByRecursion (λ (b : Block). b.used ≡ true → P b.name)) m.0.reached.is a) in
+      noted_named _ [] xs m.2 tt (moves_by_named n _ _ run (all_split run m.0.back parts.1).0)
 
   slides_named : (ss : List (Handle × Moved)) (xs : List Move) → map named_move ss ≡ xs → AllByRecursion (λ (m : Move). P m.name) xs → AllByRecursion (λ (s : Handle × Moved). P s.0.name) ss
   slides_named [] xs e a = tt
@@ -191,6 +237,19 @@ room_lost n v w c hs left kept least m e =
     let ms = numbered_some hs m.0 (room_named (λ x. (k : ℕ) × (kept_name hs k ≡ Some x)) (value (up n)) v w c m.0 m.1.made kept) in
     inr (refl, RoomMade c ms.0, ((c, least, m.0, m.1, ms.0, ms.1, refl), e))
 
+pub room_by_lost : (n align m : ℕ) (v w : View) (c : Option RoomCost) (hs left : List (Option Handle)) → AreKept v hs
+    → IsLeastCostBy m (value (up (units_needed n align))) (names_short (blocks_needed align) v) v.blocks c
+    → (xs : List Move) × IsMadeBy m (value (up (units_needed n align))) (names_short (blocks_needed align) v) v c w xs → left ≡ hs → IsLost (call.MakeRoomBy n align m) v hs w left
+room_by_lost n align m v w c hs left kept least made e =
+    let ms = numbered_some hs made.0 (room_by_named (λ x. (k : ℕ) × (kept_name hs k ≡ Some x)) m (value (up (units_needed n align))) (names_short (blocks_needed align) v) v w c made.0 made.1.made kept) in
+    inr (refl, RoomMade c ms.0, ((c, least, made.0, made.1, ms.0, ms.1, refl), e))
+
+pub within_lost : (n from u k : ℕ) (v w : View) (o : Option Progress) (hs left : List (Option Handle)) → AreKept v hs
+    → (xs : List Move) × IsMovedWithin n from u k v o w xs → left ≡ hs → IsLost (call.CompactWithin n from u k) v hs w left
+within_lost n from u k v w o hs left kept moved e =
+    let ms = numbered_some hs moved.0 (within_named (λ x. (j : ℕ) × (kept_name hs j ≡ Some x)) n from u k v w o moved.0 moved.1.moved kept) in
+    inr (refl, comes_so_far o ms.0, ((o, moved.0, moved.1, ms.0, ms.1, refl), e))
+
 module _ (v w : View) (hs : List (Option Handle)) (ss : List (Handle × Moved)) (kept : AreKept v hs) where
   -- each range that moves has a number
   abbrev pub HaveNumbers : Type 0
@@ -204,6 +263,12 @@ module _ (v w : View) (hs : List (Option Handle)) (ss : List (Handle × Moved)) 
 
   pub room_numbers : (want : ℕ) (c : Option RoomCost) → IsMade want v c w (map named_move ss) → HaveNumbers
   room_numbers want c makes = slides_named (λ x. (k : ℕ) × (kept_name hs k ≡ Some x)) ss _ refl (room_named (λ x. (k : ℕ) × (kept_name hs k ≡ Some x)) want v w c _ makes.made kept)
+
+  pub room_by_numbers : (n want short : ℕ) (c : Option RoomCost) → IsMadeBy n want short v c w (map named_move ss) → HaveNumbers
+  room_by_numbers n want short c makes = slides_named (λ x. (k : ℕ) × (kept_name hs k ≡ Some x)) ss _ refl (room_by_named (λ x. (k : ℕ) × (kept_name hs k ≡ Some x)) n want short v w c _ makes.made kept)
+
+  pub within_numbers : (n from u k : ℕ) (o : Option Progress) → IsMovedWithin n from u k v o w (map named_move ss) → HaveNumbers
+  within_numbers n from u k o t = slides_named (λ x. (j : ℕ) × (kept_name hs j ≡ Some x)) ss _ refl (within_named (λ x. (j : ℕ) × (kept_name hs j ≡ Some x)) n from u k v w o _ t.moved kept)
 
   module _ (number : ℕ → ℕ) (ms : List Numbered) (each : (k x : ℕ) → kept_name hs k ≡ Some x → number x ≡ k) (is : ms ≡ map (numbered_move number) ss) where
     -- the space is compacted, with the moves that were collected
@@ -227,6 +292,14 @@ module _ (v w : View) (hs : List (Option Handle)) (ss : List (Handle × Moved)) 
     -- room is made, with the moves that were collected
     pub room_takes : (want : ℕ) (c : Option RoomCost) → IsLeastCost want v.blocks c → IsMade want v c w (map named_move ss) → TakesRoom want v hs w (RoomMade c ms)
     room_takes want c least makes = (c, least, map named_move ss, makes, _, all_numbered hs number each ss (room_numbers want c makes), ap (RoomMade c) is)
+
+    -- and so by steps
+    pub room_by_takes : (n want short : ℕ) (c : Option RoomCost) → IsLeastCostBy n want short v.blocks c → IsMadeBy n want short v c w (map named_move ss) → TakesRoomBy n want short v hs w (RoomMade c ms)
+    room_by_takes n want short c least makes = (c, least, map named_move ss, makes, _, all_numbered hs number each ss (room_by_numbers n want short c makes), ap (RoomMade c) is)
+
+    -- ranges have moved within a budget
+    pub within_takes : (n from u k : ℕ) (o : Option Progress) → IsMovedWithin n from u k v o w (map named_move ss) → TakesWithin n from u k v hs w (comes_so_far o ms)
+    within_takes n from u k o t = (o, map named_move ss, t, _, all_numbered hs number each ss (within_numbers n from u k o t), ap (comes_so_far o) is)
 
 -- each range that moves has a live name then
 pub slides_live : (hs : List (Option Handle)) (P : ℕ → Type 0) → ((k x : ℕ) → kept_name hs k ≡ Some x → P x)

@@ -1,12 +1,14 @@
--- The run that is found to make room is at the same place in two lists that differ only in numbers and stamps.
+-- The run that slides is at the same place in two lists that differ only in numbers and stamps.
 use Rattle.offset_calls.proofs.Common.{◌≡◌, ℕ, ◌-◌, not, List, [], ◌∷◌, ◌++◌, length, Option, Some, None, option_map, nat_eq, nat_le, if◌then◌else◌, refl, ap, ap₂, subst₂, arith, total}
-use Rattle.offset_script.proofs.{Pairs.Pair, Pairs.left, Pairs.right, Pairs.lefts, Pairs.rights, Pairs.same_free, Tests.if_same}
+use Rattle.offset_script.proofs.{Pairs.Pair, Pairs.left, Pairs.right, Pairs.lefts, Pairs.rights, Pairs.same_free, Pairs.same_total, Tests.if_same}
 use Rattle.offset_script.specs.Totals.{live}
-use Rattle.offset_calls.proofs.Common.{Bool, ◌&&◌, ◌+◌, ◌∙◌, sym, length-map, State}
+use Rattle.offset_calls.proofs.Common.{Bool, ◌&&◌, ◌||◌, ◌+◌, ◌∙◌, sym, append-nil, length-map, State}
+use Rattle.offset_allocator.specs.declared.moves.budget.Progress.{Progress}
+use Rattle.offset_calls.specs.{Stepped.first_run, Stepped.to_the_end, Budget.is_within, Budget.longest_that, Budget.start_of, Budget.progress_of}
 use Rattle.offset_calls.specs.RoomBySteps.{used_up, serves, shortest_that, cheapest_that, cheapest_by, blocks_short}
 use Rattle.offset_calls.proofs.SteppedPairs.{kept_right, given_pairs, same_last}
 use Rattle.offset_script.specs.Machine as machine
-use Rattle.offset_calls.specs.Room.{Split, from_first, free_units, shortest, cost_of, is_less, cheaper, cheapest}
+use Rattle.offset_calls.specs.Room.{Split, from_first, after_first, free_units, shortest, cost_of, is_less, cheaper, cheapest}
 
 -- runs on both sides: of the same pairs, or none
 pub data IsSameSplit (ps : List Pair) : Option Split → Option Split → Type 0 where
@@ -89,3 +91,47 @@ same_cheapest_by s t ps limit is is' n want spare =
   where
     long : length s.blocks ≡ length t.blocks
     long = ap (λ (l : List machine.Block). length l) is ∙ length-map ps left ∙ sym (ap (λ (l : List machine.Block). length l) is' ∙ length-map ps right)
+
+-- ---- the first run
+
+start_split : (ps : List Pair) (o o' : Option Split) → IsSameStart ps o o' → IsSameSplit ps o o'
+start_split ps None None no_start = no_split
+start_split ps o o' (same_start r b e) = same_split [] r b e
+
+after_both : (q : Pair) (ps : List Pair) (o o' : Option Split) → IsSameSplit ps o o' → IsSameSplit (q ∷ ps) (option_map (after_first (left q)) o) (option_map (after_first (right q)) o')
+after_both q ps None None no_split = no_split
+after_both q ps o o' (same_split f r b e) = same_split (q ∷ f) r b (ap (λ l. q ∷ l) e)
+
+-- it is of the same pairs, where it goes on as far on both sides
+first_run_same : (reach reach' : List machine.Block → Split) → ((ps : List Pair) → IsSameStart ps (Some (reach (lefts ps))) (Some (reach' (rights ps)))) → (n from o : ℕ) (ps : List Pair)
+    → IsSameSplit ps (first_run reach n from o (lefts ps)) (first_run reach' n from o (rights ps))
+first_run_same reach reach' same n from o [] = no_split
+first_run_same reach reach' same n from o (q ∷ []) = no_split
+first_run_same reach reach' same n from o (q ∷ x ∷ ps) = if_same (IsSameSplit (q ∷ x ∷ ps)) _ _ _ _ _ _ (ap (λ b. b && (nat_le n q.size && nat_le from (o + q.size))) (same_free q.kind))
+    (λ e. start_split (q ∷ x ∷ ps) _ _ (from_both q (x ∷ ps) _ _ (same (x ∷ ps)))) (after_both q (x ∷ ps) _ _ (first_run_same reach reach' same n from (o + q.size) (x ∷ ps)))
+
+pub same_to_the_end : (n from o : ℕ) (ps : List Pair) → IsSameSplit ps (first_run to_the_end n from o (lefts ps)) (first_run to_the_end n from o (rights ps))
+same_to_the_end n from o ps = first_run_same to_the_end to_the_end (λ qs. same_start qs [] (sym (append-nil qs))) n from o ps
+
+longest_that_same : (test test' : List machine.Block → Bool) → ((k : List Pair) → test (lefts k) ≡ test' (rights k)) → (ps : List Pair)
+    → IsSameStart ps (Some (longest_that test (lefts ps))) (Some (longest_that test' (rights ps)))
+longest_that_same test test' same [] = same_start [] [] refl
+longest_that_same test test' same (q ∷ ps) = if_same (λ x y. IsSameStart (q ∷ ps) (Some x) (Some y)) _ _ _ _ _ _ (same (q ∷ []))
+    (λ e. from_both q ps _ _ (longest_that_same (λ r. test (left q ∷ r)) (λ r. test' (right q ∷ r)) (λ k. same (q ∷ k)) ps)) (same_start [] (q ∷ ps) refl)
+
+within_pairs : (u r : ℕ) (ps : List Pair) → is_within u r (lefts ps) ≡ is_within u r (rights ps)
+within_pairs u r ps = ap₂ (λ (m l : ℕ). nat_eq l 1 || (nat_le m u && nat_le l r)) (live_total ps) (live_length ps)
+
+pub same_within : (u r n from o : ℕ) (ps : List Pair) → IsSameSplit ps (first_run (longest_that (is_within u r)) n from o (lefts ps)) (first_run (longest_that (is_within u r)) n from o (rights ps))
+same_within u r n from o ps = first_run_same (longest_that (is_within u r)) (longest_that (is_within u r)) (longest_that_same (is_within u r) (is_within u r) (within_pairs u r)) n from o ps
+
+-- how far a compaction within a budget comes
+start_same : (o : ℕ) (ps : List Pair) → start_of o (lefts ps) ≡ start_of o (rights ps)
+start_same o [] = refl
+start_same o (q ∷ ps) = refl
+
+pub same_progress : (f k b : List Pair) → progress_of (record { front = lefts f; run = lefts k; back = lefts b }) ≡ progress_of (record { front = rights f; run = rights k; back = rights b })
+same_progress f k b =
+    ap₂ (λ (u r : ℕ). let p : Progress = record { units = u; ranges = r; next = start_of (total (lefts f) + total (lefts k)) (lefts b) } in p) (live_total k) (live_length k)
+    ∙ ap (λ (o : Option ℕ). let p : Progress = record { units = total (live (rights k)); ranges = length (live (rights k)); next = o } in p)
+    (start_same (total (lefts f) + total (lefts k)) b ∙ ap₂ (λ (x y : ℕ). start_of (x + y) (rights b)) (same_total f) (same_total k))

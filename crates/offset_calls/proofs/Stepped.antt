@@ -1,6 +1,7 @@
--- A compaction by whole steps: what is left agrees with the plain machine, and the moves are the same.
+-- Sliding by whole steps: what a run leaves agrees with the plain machine, and the moves are the same; and a compaction
+-- by whole steps.
 use Rattle.offset_calls.proofs.Common.{◌≡◌, ◌≢◌, ℕ, zero, suc, ◌+◌, ◌-◌, ◌<◌, ◌≤◌, Bool, true, false, not, ◌&&◌, List, [], ◌∷◌, ◌++◌, map, length, Option, Some, None, is_some, nat_eq, nat_le, if◌then◌else◌, refl, sym}
-use Rattle.offset_calls.proofs.Common.{ap, ap₂, subst, subst₂, ◌∙◌, inl, inr, arith, le-leb, lt-leb, leb-false, cases_lt, true≢false, false≢true, and_parts, and_right, append-nil, length-append, length-map, map-append}
+use Rattle.offset_calls.proofs.Common.{◌⊎◌, units, ap, ap₂, subst, subst₂, ◌∙◌, inl, inr, arith, le-leb, lt-leb, leb-false, cases_lt, true≢false, false≢true, and_parts, and_right, append-nil, length-append, length-map, map-append}
 use Rattle.offset_calls.proofs.Common.{option_map, AllByRecursion, Block, View, Handle, replace, IsWellFormed, SameSpace, kept_name, Tag, Live, Free, State, is_free, is_short_of}
 use Rattle.offset_calls.proofs.Common.{free_part, stamp_of_call, stamp_of_padding, Move, number, AreNumbered, Reply, Answer, Compacted, Outcome, replies_only}
 use Rattle.offset_allocator.specs.{View.free_block, View.ends_used, View.AreCoalesced, Relations.SameState}
@@ -12,14 +13,15 @@ use Rattle.offset_allocator.proofs.{Tallies.hit_cases, Views.ViewApart.left_fals
 use Rattle.offset_allocator.proofs.Moving.Stepped.{stepped_apart, none_whole}
 use Rattle.std.specs.{Option.option_or}
 use Rattle.std.proofs.lemmas.Bool.{and_cases, cond_both}
-use Rattle.offset_script.proofs.Agreed.{agrees_replaced, agrees_but, agrees_quiet, has_room, room_for}
+use Rattle.offset_script.proofs.Agreed.{agrees_replaced, agrees_but, agrees_quiet, has_room, name_replaced, room_for}
 use Rattle.offset_script.proofs.Agreement.{Label, by_name, by_tag, name_of, HasBlocksOf, IsAtState}
-use Rattle.offset_script.proofs.Ends.{apart_tagged, name_append, or_none}
-use Rattle.offset_script.proofs.Labels.{names, tags, AreRising}
+use Rattle.offset_script.proofs.Ends.{apart_tagged, name_append, or_none, total_units}
+use Rattle.offset_script.proofs.Labels.{names, tags, map_three, AreRising}
 use Rattle.offset_script.proofs.Lists.{AreApart, apart_append, apart_parts, count, count-append, count_free_part, ends_free, hit, starts_free}
-use Rattle.offset_script.proofs.{Members.IsIn, Members.map_parts, Members.map_first, Well.IsWell, Well.IsOld, Well.not_there, Well.well_quiet, Well.free_part_is, Tests.same_some}
-use Rattle.offset_calls.specs.Stepped.{kept, stepped, given_up, slid, slid_by}
-use Rattle.offset_calls.specs.Calls.{moves_by, step_by}
+use Rattle.offset_script.proofs.{Members.IsIn, Members.in_left, Members.in_right, Members.map_parts, Members.map_first, Well.IsWell, Well.IsOld, Well.not_there, Well.well_quiet, Well.free_part_is, Tests.same_some}
+use Rattle.offset_calls.specs.Room.{Split, from_first, after_first}
+use Rattle.offset_calls.specs.Stepped.{kept, stepped, given_up, slid, slid_run, first_run, to_the_end}
+use Rattle.offset_calls.specs.Calls.{moves_by, moves_of_run, slides_run, compact_by}
 use Rattle.offset_calls.proofs.Compacted.{one_number, same_move}
 use Rattle.offset_script.specs.Machine as machine
 
@@ -107,51 +109,6 @@ rises_stepped t n s (k ∷ ls) m l e = go (is_free k.tag) refl (λ u h. rises_st
     go true f ih = part (kept n k.size (tags ls)) ih
     go false f ih = (λ g. ih t (omega (arith, l)), λ g. absurd (true≢false (sym g ∙ f)))
 
--- ---- where blocks slide
-
-some_not_nil : {A : Type 0} (x : A) (xs : List A) → (x ∷ xs) ≢ []
-some_not_nil x xs e = absurd (cc)
-
-slid_here : (n s : ℕ) (b : machine.Block) (bs : List machine.Block) → bs ≢ [] → (t : Bool) → (is_free b.tag && nat_le n b.size) ≡ t
-    → slid_by n s (b ∷ bs) ≡ (if t then Some (slid n s (b ∷ bs)) else option_map (λ l. b ∷ l) (slid_by n s bs))
-slid_here n s b [] some t e = absurd (some refl)
-slid_here n s b (c ∷ bs) some t e = ap (λ (x : Bool). if x then Some (slid n s (b ∷ c ∷ bs)) else option_map (λ l. b ∷ l) (slid_by n s (c ∷ bs))) e
-
--- a free block of fewer units is passed
-passed : (n : ℕ) (b : machine.Block) → (is_free b.tag ≡ true → b.size < n) → (is_free b.tag && nat_le n b.size) ≡ false
-passed n b few = go (is_free b.tag) refl
-  where
-    go : (t : Bool) → is_free b.tag ≡ t → (t && nat_le n b.size) ≡ false
-    go true e = lt-leb n b.size (few e)
-    go false e = refl
-
-slid_there : (n s : ℕ) (fs : List machine.Block) (b : machine.Block) (bs : List machine.Block) → AllByRecursion (λ (d : machine.Block). is_free d.tag ≡ true → d.size < n) fs
-    → is_free b.tag ≡ true → n ≤ b.size → bs ≢ [] → slid_by n s (fs ++ b ∷ bs) ≡ Some (fs ++ slid n s (b ∷ bs))
-slid_there n s [] b bs few free whole more = slid_here n s b bs more true (ap (λ t. t && nat_le n b.size) free ∙ le-leb n b.size whole)
-slid_there n s (f ∷ fs) b bs few free whole more =
-    slid_here n s f (fs ++ b ∷ bs) (some fs) false (passed n f few.0) ∙ ap (option_map (λ l. f ∷ l)) (slid_there n s fs b bs few.1 free whole more)
-  where
-    some : (gs : List machine.Block) → (gs ++ b ∷ bs) ≢ []
-    some [] e = absurd (cc)
-    some (g ∷ gs) e = absurd (cc)
-
--- there is such a block where the allocator finds one
-same_whole : (n s : ℕ) (ls : List Label) → is_some (slid_by n s (tags ls)) ≡ is_some (first_whole n (names ls))
-same_whole n s [] = refl
-same_whole n s (l ∷ []) = refl
-same_whole n s (l ∷ m ∷ ls) = go (is_free l.tag) (nat_le n l.size) (same_whole n s (m ∷ ls))
-  where
-    some_map : (o : Option (List machine.Block)) → is_some (option_map (λ k. by_tag l ∷ k) o) ≡ is_some o
-    some_map None = refl
-    some_map (Some k) = refl
-
-    go : (t u : Bool) → is_some (slid_by n s (tags (m ∷ ls))) ≡ is_some (first_whole n (names (m ∷ ls)))
-        → is_some (if t && u then Some (slid n s (tags (l ∷ m ∷ ls))) else option_map (λ k. by_tag l ∷ k) (slid_by n s (tags (m ∷ ls))))
-        ≡ is_some (if not (not t) && u then Some l.name else first_whole n (names (m ∷ ls)))
-    go true true ih = refl
-    go true false ih = some_map _ ∙ ih
-    go false u ih = some_map _ ∙ ih
-
 pub same_end : (ls : List Label) → machine.ends_live (tags ls) ≡ ends_used (names ls)
 same_end [] = refl
 same_end (l ∷ []) = refl
@@ -196,102 +153,54 @@ none_numbered handles [] [] e a = refl
 none_numbered handles [] (m ∷ ms) e a = absurd a
 none_numbered handles (x ∷ xs) ms e a = absurd (cc)
 
--- ---- what is left
+-- ---- what a run leaves
 
-few_tags : (n : ℕ) (ls : List Label) → AllByRecursion (λ (b : Block). b.used ≡ false → b.size < n) (names ls) → AllByRecursion (λ (d : machine.Block). is_free d.tag ≡ true → d.size < n) (tags ls)
-few_tags n [] a = tt
-few_tags n (l ∷ ls) a = (λ e. a.0 (ap not e), few_tags n ls a.1)
+-- a run of the allocator has slid by steps of n, and what it gave up is one free block after it
+pub record IsSlidRun (n : ℕ) (v u : View) (front run back : List Block) : Type 0 where
+  pub is : v.blocks ≡ front ++ (run ++ back)
+  pub name : ℕ
+  pub view : SameSpace (replace v front run (by.stepped n run ++ free_block name (by.given_up n run) ∷ []) back) u
 
-module _ (v : View) (hs : List (Option Handle)) (s : State) (w : IsWellFormed v) (ws : IsWell s) (g : HasBlocksOf v (kept_name hs) s) (n : ℕ) where
-  module _ (u : View) (w' : IsWellFormed u) (h : SlidesBy n v u) where
-    pub parts : (front : List Label) × (back : List Label) × (g.labels ≡ front ++ back) × (names front ≡ h.front) × (names back ≡ h.first ∷ h.rest)
-    parts = map_parts by_name g.labels h.front (h.first ∷ h.rest) (sym g.view ∙ h.is)
+module _ (v : View) (hs : List (Option Handle)) (s : State) (w : IsWellFormed v) (ws : IsWell s) (g : HasBlocksOf v (kept_name hs) s) (n : ℕ) (u : View) (w' : IsWellFormed u)
+    (front run back : List Block) (h : IsSlidRun n v u front run back) (f r b : List Label) (is : g.labels ≡ f ++ (r ++ b)) (front_is : names f ≡ front) (run_is : names r ≡ run) (back_is : names b ≡ back) where
+  abbrev run_split : Split
+  run_split = record { front = tags f; run = tags r; back = tags b }
 
-    abbrev f : List Label
-    f = parts.0
+  abbrev last : Label
+  last = record { name = h.name; size = given_up n (tags r); tag = Free (stamp_of_call s + length (tags r)) }
 
-    abbrev r : List Label
-    r = parts.1
+  abbrev new : List Label
+  new = stepped_labels n (stamp_of_call s) r ++ last ∷ []
 
-    abbrev last : Label
-    last = record { name = h.name; size = given_up n (tags r); tag = Free (stamp_of_call s + length (tags r)) }
+  new_names : names new ≡ by.stepped n run ++ free_block h.name (by.given_up n run) ∷ []
+  new_names = map-append by_name (stepped_labels n (stamp_of_call s) r) (last ∷ []) ∙ ap₂ (λ l (m : ℕ). l ++ free_block h.name m ∷ []) (stepped_names n (stamp_of_call s) r) (sym (given_same n r))
+      ∙ ap (λ bs. by.stepped n bs ++ free_block h.name (by.given_up n bs) ∷ []) run_is
 
-    abbrev new : List Label
-    new = stepped_labels n (stamp_of_call s) r ++ last ∷ []
+  new_tags : tags new ≡ slid n (stamp_of_call s) (tags r)
+  new_tags = map-append by_tag (stepped_labels n (stamp_of_call s) r) (last ∷ []) ∙ ap (λ l. l ++ by_tag last ∷ []) (stepped_tags n (stamp_of_call s) r)
 
-    new_names : names new ≡ by.stepped n (names r) ++ free_block h.name (by.given_up n (names r)) ∷ []
-    new_names = map-append by_name (stepped_labels n (stamp_of_call s) r) (last ∷ []) ∙ ap₂ (λ l (m : ℕ). l ++ free_block h.name m ∷ []) (stepped_names n (stamp_of_call s) r) (sym (given_same n r))
+  same : SameSpace (replace v (names f) (names r) (names new) (names b)) u
+  same = rw (front_is, run_is, new_names, back_is) h.view
 
-    new_tags : tags new ≡ slid n (stamp_of_call s) (tags r)
-    new_tags = map-append by_tag (stepped_labels n (stamp_of_call s) r) (last ∷ []) ∙ ap (λ l. l ++ by_tag last ∷ []) (stepped_tags n (stamp_of_call s) r)
+  same_names : (j : ℕ) → name_of j r ≡ name_of j new
+  same_names j = sym (name_append j (stepped_labels n (stamp_of_call s) r) (last ∷ []) ∙ or_none _ ∙ stepped_name_of j n (stamp_of_call s) r)
 
-    same : SameSpace (replace v (names f) (names r) (names new) []) u
-    same = subst (λ z. SameSpace z u) (ap₂ (λ (fs bs : List Block). replace v fs bs (by.stepped n bs ++ free_block h.name (by.given_up n bs) ∷ []) []) (sym parts.3) (sym parts.4)
-        ∙ ap (λ ns. replace v (names f) (names r) ns []) (sym new_names)) h.view
+  pub run_agrees : HasBlocksOf u (kept_name hs) (slid_run n s run_split)
+  run_agrees = agrees_replaced v (kept_name hs) s w ws g u w' v.size f r new b is same (slid_run n s run_split) refl
+      (ap (λ l. tags f ++ (l ++ tags b)) (sym new_tags) ∙ sym (map_three by_tag f new b))
+      (rises_stepped (stamp_of_padding s) n (stamp_of_call s) r last (omega arith) (omega (arith, length-map r by_tag))) (kept_name hs)
+      (λ j. g.handles j ∙ ap (name_of j) is ∙ name_replaced j f r new b (same_names j))
 
-    list_is : g.labels ≡ f ++ (r ++ [])
-    list_is = parts.2 ∙ ap (λ l. f ++ l) (sym (append-nil r))
+  at : units front ≡ machine.total (tags f)
+  at = sym (total_units f ∙ ap units front_is)
 
-    -- the blocks that the machine leaves
-    abbrev pub left_blocks : List machine.Block
-    left_blocks = tags f ++ slid n (stamp_of_call s) (tags r)
+  in_run : (l : Label) → IsIn l r → IsIn l g.labels
+  in_run l i = subst (IsIn l) (sym is) (in_right l f (r ++ b) (in_left l r b i))
 
-    pub slides_there : slid_by n (stamp_of_call s) s.blocks ≡ Some left_blocks
-    slides_there =
-        let q = map_first by_name r h.first h.rest parts.4 in
-        let whole : n ≤ q.0.size = subst (λ (b : Block). n ≤ b.size) (sym q.3) h.whole in
-        ap (slid_by n (stamp_of_call s)) (g.state ∙ ap tags parts.2 ∙ map-append by_tag f r ∙ ap (λ l. tags f ++ tags l) q.2)
-        ∙ slid_there n (stamp_of_call s) (tags f) (by_tag q.0) (tags q.1) (few_tags n f (subst (AllByRecursion (λ (b : Block). b.used ≡ false → b.size < n)) (sym parts.3) h.few))
-        (free (is_free q.0.tag) (ap (λ (b : Block). b.used) q.3 ∙ h.free)) whole (rest_there q.1 q.4)
-        ∙ ap (λ l. Some (tags f ++ slid n (stamp_of_call s) (tags l))) (sym q.2)
-      where
-        free : (t : Bool) → not t ≡ false → t ≡ true
-        free true e = refl
-        free false e = absurd (true≢false e)
-
-        rest_there : (ls : List Label) → names ls ≡ h.rest → tags ls ≢ []
-        rest_there [] e z = h.more (sym e)
-        rest_there (l ∷ ls) e z = absurd (cc)
-
-    pub steps_agree : (t : State) → t.limit ≡ s.limit → t.blocks ≡ left_blocks → HasBlocksOf u (kept_name hs) t
-    steps_agree t limit e = agrees_replaced v (kept_name hs) s w ws g u w' v.size f r new [] list_is same t limit
-        (e ∙ ap (λ l. tags f ++ l) (sym new_tags) ∙ sym (map-append by_tag f new) ∙ ap (λ l. tags (f ++ l)) (sym (append-nil new)))
-        (rises_stepped (stamp_of_padding s) n (stamp_of_call s) r last (omega arith) (omega (arith, length-map r by_tag)))
-        (kept_name hs)
-        (λ j. g.handles j ∙ ap (name_of j) parts.2 ∙ name_append j f r ∙ ap (λ o. option_or (name_of j f) o) (same_names j)
-        ∙ sym (name_append j f (new ++ [])))
-      where
-        same_names : (j : ℕ) → name_of j r ≡ name_of j (new ++ [])
-        same_names j = sym (ap (name_of j) (append-nil new) ∙ name_append j (stepped_labels n (stamp_of_call s) r) (last ∷ []) ∙ or_none _ ∙ stepped_name_of j n (stamp_of_call s) r)
+  pub run_moves : (ms : List Move) → AreNumbered hs (by.moves_by n (units front) (units front) run) ms → ms ≡ moves_of_run n run_split
+  run_moves ms a = moves_agree n hs (machine.total (tags f)) (machine.total (tags f)) r ms (λ l i k t j e. one_number v hs s w ws g l (in_run l i) k t j e) (rw (← at, run_is) a)
 
 -- ---- every state stays well-formed
-
--- a run that slides, and what is before it
-record IsSlid (n s : ℕ) (bs left : List machine.Block) : Type 0 where
-  front : List machine.Block
-  first : machine.Block
-  rest : List machine.Block
-  is : bs ≡ front ++ first ∷ rest
-  left_is : left ≡ front ++ slid n s (first ∷ rest)
-  begins : is_free first.tag ≡ true
-
-slid_parts : (n s : ℕ) (bs left : List machine.Block) → slid_by n s bs ≡ Some left → IsSlid n s bs left
-slid_parts n s [] left e = absurd (cc)
-slid_parts n s (b ∷ []) left e = absurd (cc)
-slid_parts n s (b ∷ c ∷ bs) left e = go (is_free b.tag && nat_le n b.size) refl (slid_by n s (c ∷ bs)) refl (λ l q. slid_parts n s (c ∷ bs) l q)
-  where
-    go : (t : Bool) → (is_free b.tag && nat_le n b.size) ≡ t → (o : Option (List machine.Block)) → slid_by n s (c ∷ bs) ≡ o → ((l : List machine.Block) → slid_by n s (c ∷ bs) ≡ Some l → IsSlid n s (c ∷ bs) l)
-        → IsSlid n s (b ∷ c ∷ bs) left
-    go true t o q ih =
-        let same : Some (slid n s (b ∷ c ∷ bs)) ≡ Some left = sym (slid_here n s b (c ∷ bs) (some_not_nil c bs) true t) ∙ e in
-        record { front = []; first = b; rest = c ∷ bs; is = refl; left_is = sym (same_some _ _ same); begins = (and_parts (is_free b.tag) (nat_le n b.size) t).0 }
-    go false t None q ih =
-        let none : None ≡ Some left = sym (slid_here n s b (c ∷ bs) (some_not_nil c bs) false t ∙ ap (option_map (λ l. b ∷ l)) q) ∙ e in
-        absurd (cc)
-    go false t (Some l) q ih =
-        let same : Some (b ∷ l) ≡ Some left = sym (slid_here n s b (c ∷ bs) (some_not_nil c bs) false t ∙ ap (option_map (λ l. b ∷ l)) q) ∙ e in
-        let p = ih l q in
-        record { front = b ∷ p.front; first = p.first; rest = p.rest; is = ap (λ l. b ∷ l) p.is; left_is = sym (same_some _ _ same) ∙ ap (λ l. b ∷ l) p.left_is; begins = p.begins }
 
 stepped_few : (n s : ℕ) (bs : List machine.Block) → length (stepped n s bs) ≤ length bs
 stepped_few n s [] = omega arith
@@ -310,8 +219,11 @@ stepped_less n s b (c ∷ bs) e = go (is_free b.tag) (stepped_less n (s + 1) c b
     go true l = omega (arith, l, length-append (free_part (kept n b.size (c ∷ bs)) s) (stepped n (s + 1) (c ∷ bs)), (free_part_is (kept n b.size (c ∷ bs)) s).3)
     go false l = omega (arith, l)
 
-ends_there : (fs : List machine.Block) (b : machine.Block) (bs : List machine.Block) → machine.ends_live (fs ++ b ∷ bs) ≡ false → ends_free (b ∷ bs) ≡ true
-ends_there [] b bs e = ends b bs e
+-- the last block of a list that starts free
+pub ends_free_too : (bs : List machine.Block) → starts_free bs ≡ true → machine.ends_live bs ≡ false → ends_free bs ≡ true
+ends_free_too [] begins e = absurd (false≢true begins)
+ends_free_too (b ∷ []) begins e = begins
+ends_free_too (b ∷ c ∷ bs) begins e = ends c bs e
   where
     free : (t : Bool) → not t ≡ false → t ≡ true
     free true e = refl
@@ -320,8 +232,6 @@ ends_there [] b bs e = ends b bs e
     ends : (b : machine.Block) (bs : List machine.Block) → machine.ends_live (b ∷ bs) ≡ false → ends_free (b ∷ bs) ≡ true
     ends b [] e = free (is_free b.tag) e
     ends b (c ∷ bs) e = ends c bs e
-ends_there (f ∷ []) b bs e = ends_there [] b bs e
-ends_there (f ∷ g ∷ fs) b bs e = ends_there (g ∷ fs) b bs e
 
 -- neighbours
 not_not : (t : Bool) → t ≡ not (not t)
@@ -389,10 +299,10 @@ count_free_stepped x n s (b ∷ bs) = go (is_free b.tag) refl (count_free_steppe
         (omega (arith, none, ih.0), λ l. let q = ih.1 (omega (arith, l, none)) in (omega (arith, q.0), omega (arith, q.1)))
 
 -- what slides has no tag twice
-module _ (s : State) (w : IsWell s) (left front run : List machine.Block) (n : ℕ) (fits : length run ≤ length s.blocks) (old_count : (t : Tag) → count t s.blocks ≡ count t front + count t run)
-    (new_count : (t : Tag) → count t left ≡ count t front + (count t (stepped n (stamp_of_call s) run) + (hit t (Free (stamp_of_call s + length run)) + 0))) where
+module _ (s : State) (w : IsWell s) (left run : List machine.Block) (n : ℕ) (others : Tag → ℕ) (old_count : (t : Tag) → count t s.blocks ≡ others t + count t run)
+    (new_count : (t : Tag) → count t left ≡ others t + (count t (stepped n (stamp_of_call s) run) + hit t (Free (stamp_of_call s + length run)))) where
   abbrev fresh : ℕ → ℕ
-  fresh x = count (Free x) (stepped n (stamp_of_call s) run) + (hit (Free x) (Free (stamp_of_call s + length run)) + 0)
+  fresh x = count (Free x) (stepped n (stamp_of_call s) run) + hit (Free x) (Free (stamp_of_call s + length run))
 
   new_tag : (x : ℕ) → IsOnce x (stamp_of_call s) (length run + 1) (fresh x)
   new_tag x =
@@ -415,46 +325,209 @@ module _ (s : State) (w : IsWell s) (left front run : List machine.Block) (n : �
     | inr high ↦ let none = not_there s w (Free x) (λ o. omega (arith, o, high)) in let few = (new_tag x).0 in omega (arith, none, few, old_count (Free x), new_count (Free x))
   ]
 
-  old_left : (t : Tag) → 1 ≤ count t left → IsOld (record s { calls = s.calls + length s.blocks + 1; blocks = left }) t
+  old_left : (t : Tag) → 1 ≤ count t left → IsOld (record s { calls = s.calls + length run + 1; blocks = left }) t
   old_left (Live k) l = w.old (Live k) (omega (arith, l, old_count (Live k), new_count (Live k), count_live_stepped k n (stamp_of_call s) run))
   old_left (Free x) l = elim (cases_lt 0 (fresh x)) [
-    | inl some ↦ let q = ((new_tag x).1 some).1 in omega (arith, q, fits)
+    | inl some ↦ let q = ((new_tag x).1 some).1 in omega (arith, q)
     | inr none ↦ let q = w.old (Free x) (omega (arith, l, none, old_count (Free x), new_count (Free x))) in omega (arith, q)
   ]
 
-well_slid : (s : State) → IsWell s → (n : ℕ) (left : List machine.Block) → slid_by n (stamp_of_call s) s.blocks ≡ Some left → (machine.ends_live s.blocks && is_short_of 1 s) ≡ false
-    → IsWell (record s { calls = s.calls + length s.blocks + 1; blocks = left })
-well_slid s w n left e fits =
-    let p = slid_parts n (stamp_of_call s) s.blocks left e in
-    let run = p.first ∷ p.rest in
+starts_append : (xs ys : List machine.Block) → starts_free xs ≡ true → starts_free (xs ++ ys) ≡ true
+starts_append [] ys e = absurd (false≢true e)
+starts_append (x ∷ xs) ys e = e
+
+less_with_end : (n s : ℕ) (bs : List machine.Block) → ends_free bs ≡ true → length (stepped n s bs) + 1 ≤ length bs
+less_with_end n s [] e = absurd (false≢true e)
+less_with_end n s (b ∷ bs) e = omega (arith, stepped_less n s b bs e)
+
+pub well_slid : (s : State) → IsWell s → (n : ℕ) (p : Split) → s.blocks ≡ p.front ++ (p.run ++ p.back) → starts_free p.run ≡ true → starts_free p.back ≡ false
+    → (ends_free p.run ≡ true) ⊎ (is_short_of 1 s ≡ false) → IsWell (slid_run n s p)
+well_slid s w n p is begins live fits =
+    let run = p.run in
     let last : machine.Block = machine.block (given_up n run) (Free (stamp_of_call s + length run)) in
     let steps = stepped n (stamp_of_call s) run in
-    let old_length : length s.blocks ≡ length p.front + length run = ap (λ (l : List machine.Block). length l) p.is ∙ length-append p.front run in
-    let new_length : length left ≡ length p.front + (length steps + 1) =
-    ap (λ (l : List machine.Block). length l) p.left_is ∙ length-append p.front (steps ++ last ∷ []) ∙ ap (λ m. length p.front + m) (length-append steps (last ∷ [])) in
-    let old_count : (t : Tag) → count t s.blocks ≡ count t p.front + count t run = λ t. ap (count t) p.is ∙ count-append t p.front run in
-    let new_count : (t : Tag) → count t left ≡ count t p.front + (count t steps + (hit t last.tag + 0)) =
-    λ t. ap (count t) p.left_is ∙ count-append t p.front (steps ++ last ∷ []) ∙ ap (λ m. count t p.front + m) (count-append t steps (last ∷ [])) in
-    let parts = apart_parts p.front run (subst AreApart p.is w.apart) in
-    let front_live : ends_free p.front ≡ false = left_false (ends_free p.front) (is_free p.first.tag) parts.2 p.begins in
+    let inner = slid n (stamp_of_call s) run ++ p.back in
+    let left = p.front ++ inner in
+    let others : Tag → ℕ = λ t. count t p.front + count t p.back in
+    let old_length : length s.blocks ≡ length p.front + (length run + length p.back) =
+    ap (λ (l : List machine.Block). length l) is ∙ length-append p.front (run ++ p.back) ∙ ap (λ m. length p.front + m) (length-append run p.back) in
+    let new_length : length left ≡ length p.front + ((length steps + 1) + length p.back) =
+    length-append p.front inner ∙ ap (λ m. length p.front + m) (length-append (slid n (stamp_of_call s) run) p.back ∙ ap (λ m. m + length p.back) (length-append steps (last ∷ []))) in
+    let old_count : (t : Tag) → count t s.blocks ≡ others t + count t run =
+    λ t. omega (arith, ap (count t) is, count-append t p.front (run ++ p.back), count-append t run p.back) in
+    let new_count : (t : Tag) → count t left ≡ others t + (count t steps + hit t last.tag) =
+    λ t. omega (arith, count-append t p.front inner, count-append t (slid n (stamp_of_call s) run) p.back, count-append t steps (last ∷ [])) in
+    let parts = apart_parts p.front (run ++ p.back) (subst AreApart is w.apart) in
+    let rest = apart_parts run p.back parts.1 in
+    let front_live : ends_free p.front ≡ false = left_false (ends_free p.front) (starts_free (run ++ p.back)) parts.2 (starts_append run p.back begins) in
+    let apart_inner = apart_append (slid n (stamp_of_call s) run) p.back (slid_apart n (stamp_of_call s) run rest.0) rest.1 (and_right (ends_free (slid n (stamp_of_call s) run)) (starts_free p.back) live) in
     let few = stepped_few n (stamp_of_call s) run in
-    let room : length left + 1 ≤ s.limit = elim (and_cases (machine.ends_live s.blocks) (is_short_of 1 s) fits) [
-      | inl free ↦ let less = stepped_less n (stamp_of_call s) p.first p.rest (ends_there p.front p.first p.rest (ap machine.ends_live (sym p.is) ∙ free)) in omega (arith, new_length, old_length, less, w.room)
+    let room : length left + 1 ≤ s.limit = elim fits [
+      | inl free ↦ let less = less_with_end n (stamp_of_call s) run free in omega (arith, new_length, old_length, less, w.room)
       | inr spare ↦ omega (arith, new_length, old_length, few, leb-false s.limit (length s.blocks + 1) spare)
     ] in
-    let within : length run ≤ length s.blocks = omega (arith, old_length) in
     record {
       some = omega (arith, new_length);
-      apart = subst AreApart (sym p.left_is) (apart_append p.front (slid n (stamp_of_call s) run) parts.0 (slid_apart n (stamp_of_call s) run parts.1)
-          (ap (λ x. x && starts_free (slid n (stamp_of_call s) run)) front_live));
-      once = once_left s w left p.front run n within old_count new_count;
-      old = old_left s w left p.front run n within old_count new_count;
+      apart = apart_append p.front inner parts.0 apart_inner (ap (λ x. x && starts_free inner) front_live);
+      once = once_left s w left run n others old_count new_count;
+      old = old_left s w left run n others old_count new_count;
       room = room;
     }
 
-pub well_steps : (s : State) → IsWell s → (n : ℕ) (o : Option (List machine.Block)) → slid_by n (stamp_of_call s) s.blocks ≡ o → IsWell (step_by n s o).state
-well_steps s w n None e = well_quiet s w machine.Gone
-well_steps s w n (Some left) e = cond_both (machine.ends_live s.blocks && is_short_of 1 s) _ _ (λ (o : Outcome). IsWell o.state) (λ z. well_quiet s w machine.Gone) (λ z. well_slid s w n left e z)
+-- a run slides, or is refused
+pub well_slides : (s : State) → IsWell s → (n : ℕ) (r : Reply) (p : Split) → s.blocks ≡ p.front ++ (p.run ++ p.back) → starts_free p.run ≡ true → starts_free p.back ≡ false
+    → IsWell (slides_run n s r p).state
+well_slides s w n r p is begins live = cond_both (machine.ends_live p.run && is_short_of 1 s) _ _ (λ (o : Outcome). IsWell o.state) (λ z. well_quiet s w machine.Gone)
+    (λ z. well_slid s w n p is begins live (fits z))
+  where
+    fits : (machine.ends_live p.run && is_short_of 1 s) ≡ false → (ends_free p.run ≡ true) ⊎ (is_short_of 1 s ≡ false)
+    fits z = elim (and_cases (machine.ends_live p.run) (is_short_of 1 s) z) [ inl free ↦ inl (ends_free_too p.run begins free) | inr spare ↦ inr spare ]
+
+-- ---- the first run
+
+-- how far a run goes from the start of a list: P holds of what is after it
+pub record IsReach (P : List machine.Block → Type 0) (bs : List machine.Block) (p : Split) : Type 0 where
+  pub front : p.front ≡ []
+  pub is : bs ≡ p.run ++ p.back
+  pub back : P p.back
+
+-- a run in a list, which begins with a free block; P holds of what is after it
+pub record IsRunIn (P : List machine.Block → Type 0) (bs : List machine.Block) (p : Split) : Type 0 where
+  pub is : bs ≡ p.front ++ (p.run ++ p.back)
+  pub begins : starts_free p.run ≡ true
+  pub back : P p.back
+
+some_not_nil : {A : Type 0} (x : A) (xs : List A) → (x ∷ xs) ≢ []
+some_not_nil x xs e = absurd (cc)
+
+pub run_here : (reach : List machine.Block → Split) (n from o : ℕ) (b : machine.Block) (bs : List machine.Block) → bs ≢ [] → (t : Bool)
+    → (is_free b.tag && (nat_le n b.size && nat_le from (o + b.size))) ≡ t
+    → first_run reach n from o (b ∷ bs) ≡ (if t then Some (from_first b (reach bs)) else option_map (after_first b) (first_run reach n from (o + b.size) bs))
+run_here reach n from o b [] some t e = absurd (some refl)
+run_here reach n from o b (c ∷ bs) some t e = ap (λ (x : Bool). if x then Some (from_first b (reach (c ∷ bs))) else option_map (after_first b) (first_run reach n from (o + b.size) (c ∷ bs))) e
+
+pub first_run_in : (P : List machine.Block → Type 0) (reach : List machine.Block → Split) → ((bs : List machine.Block) → IsReach P bs (reach bs)) → (n from o : ℕ) (bs : List machine.Block) (p : Split)
+    → first_run reach n from o bs ≡ Some p → IsRunIn P bs p
+first_run_in P reach reached n from o [] p e = absurd (cc)
+first_run_in P reach reached n from o (b ∷ []) p e = absurd (cc)
+first_run_in P reach reached n from o (b ∷ c ∷ bs) p e =
+    go (is_free b.tag && (nat_le n b.size && nat_le from (o + b.size))) refl (first_run reach n from (o + b.size) (c ∷ bs)) refl (λ q f. first_run_in P reach reached n from (o + b.size) (c ∷ bs) q f)
+  where
+    go : (t : Bool) → (is_free b.tag && (nat_le n b.size && nat_le from (o + b.size))) ≡ t → (x : Option Split) → first_run reach n from (o + b.size) (c ∷ bs) ≡ x
+        → ((q : Split) → first_run reach n from (o + b.size) (c ∷ bs) ≡ Some q → IsRunIn P (c ∷ bs) q) → IsRunIn P (b ∷ c ∷ bs) p
+    go true t x f ih =
+        let same : Some (from_first b (reach (c ∷ bs))) ≡ Some p = sym (run_here reach n from o b (c ∷ bs) (some_not_nil c bs) true t) ∙ e in
+        let k = reached (c ∷ bs) in
+        subst (IsRunIn P (b ∷ c ∷ bs)) (same_some _ _ same) (record {
+          is = ap (λ l. b ∷ l) k.is ∙ sym (ap (λ l. l ++ (b ∷ ((reach (c ∷ bs)).run ++ (reach (c ∷ bs)).back))) k.front);
+          begins = (and_parts (is_free b.tag) _ t).0;
+          back = k.back;
+        })
+    go false t None f ih =
+        let none : None ≡ Some p = sym (run_here reach n from o b (c ∷ bs) (some_not_nil c bs) false t ∙ ap (option_map (after_first b)) f) ∙ e in
+        absurd (cc)
+    go false t (Some q) f ih =
+        let same : Some (after_first b q) ≡ Some p = sym (run_here reach n from o b (c ∷ bs) (some_not_nil c bs) false t ∙ ap (option_map (after_first b)) f) ∙ e in
+        let k = ih q f in
+        subst (IsRunIn P (b ∷ c ∷ bs)) (same_some _ _ same) (record { is = ap (λ l. b ∷ l) k.is; begins = k.begins; back = k.back })
+
+-- ---- all blocks from the first free one of a step on
+
+-- a free block of fewer units is passed
+passed : (n : ℕ) (b : machine.Block) (t : Bool) → (is_free b.tag ≡ true → b.size < n) → (is_free b.tag && (nat_le n b.size && t)) ≡ false
+passed n b t few = go (is_free b.tag) refl
+  where
+    go : (x : Bool) → is_free b.tag ≡ x → (x && (nat_le n b.size && t)) ≡ false
+    go true e = ap (λ x. x && t) (lt-leb n b.size (few e))
+    go false e = refl
+
+abbrev IsNil : List machine.Block → Type 0
+IsNil bs = bs ≡ []
+
+to_the_end_in : (bs : List machine.Block) → IsReach IsNil bs (to_the_end bs)
+to_the_end_in bs = record { front = refl; is = sym (append-nil bs); back = refl }
+
+run_there : (n o : ℕ) (fs : List machine.Block) (b : machine.Block) (bs : List machine.Block) → AllByRecursion (λ (d : machine.Block). is_free d.tag ≡ true → d.size < n) fs
+    → is_free b.tag ≡ true → n ≤ b.size → bs ≢ [] → first_run to_the_end n 0 o (fs ++ b ∷ bs) ≡ Some (record { front = fs; run = b ∷ bs; back = [] })
+run_there n o [] b bs few free whole more = run_here to_the_end n 0 o b bs more true
+    (ap (λ t. t && (nat_le n b.size && nat_le 0 (o + b.size))) free ∙ ap₂ (λ (x y : Bool). x && y) (le-leb n b.size whole) (le-leb 0 (o + b.size) (omega arith)))
+run_there n o (f ∷ fs) b bs few free whole more =
+    run_here to_the_end n 0 o f (fs ++ b ∷ bs) (some fs) false (passed n f _ few.0) ∙ ap (option_map (after_first f)) (run_there n (o + f.size) fs b bs few.1 free whole more)
+  where
+    some : (gs : List machine.Block) → (gs ++ b ∷ bs) ≢ []
+    some [] e = absurd (cc)
+    some (g ∷ gs) e = absurd (cc)
+
+-- there is such a block where the allocator finds one
+same_whole : (n o : ℕ) (ls : List Label) → is_some (first_run to_the_end n 0 o (tags ls)) ≡ is_some (first_whole n (names ls))
+same_whole n o [] = refl
+same_whole n o (l ∷ []) = refl
+same_whole n o (l ∷ m ∷ ls) =
+    ap (λ (z : Bool). is_some (if is_free l.tag && (nat_le n l.size && z) then Some (from_first (by_tag l) (to_the_end (tags (m ∷ ls)))) else option_map (after_first (by_tag l)) (first_run to_the_end n 0 (o + l.size) (tags (m ∷ ls)))))
+    (le-leb 0 (o + l.size) (omega arith)) ∙ go (is_free l.tag) (nat_le n l.size) (same_whole n (o + l.size) (m ∷ ls))
+  where
+    some_map : (x : Option Split) → is_some (option_map (after_first (by_tag l)) x) ≡ is_some x
+    some_map None = refl
+    some_map (Some k) = refl
+
+    go : (t u : Bool) → is_some (first_run to_the_end n 0 (o + l.size) (tags (m ∷ ls))) ≡ is_some (first_whole n (names (m ∷ ls)))
+        → is_some (if t && (u && true) then Some (from_first (by_tag l) (to_the_end (tags (m ∷ ls)))) else option_map (after_first (by_tag l)) (first_run to_the_end n 0 (o + l.size) (tags (m ∷ ls))))
+        ≡ is_some (if not (not t) && u then Some l.name else first_whole n (names (m ∷ ls)))
+    go true true ih = refl
+    go true false ih = some_map _ ∙ ih
+    go false u ih = some_map _ ∙ ih
+
+-- the last block of the list is that of the run
+ends_append : (fs bs : List machine.Block) → starts_free bs ≡ true → machine.ends_live (fs ++ bs) ≡ machine.ends_live bs
+ends_append fs [] e = absurd (false≢true e)
+ends_append [] (b ∷ bs) e = refl
+ends_append (f ∷ []) (b ∷ bs) e = refl
+ends_append (f ∷ g ∷ fs) (b ∷ bs) e = ends_append (g ∷ fs) (b ∷ bs) e
+
+same_last_end : (bs : List machine.Block) (p : Split) → IsRunIn IsNil bs p → machine.ends_live p.run ≡ machine.ends_live bs
+same_last_end bs p k = sym (ap machine.ends_live (k.is ∙ ap (λ l. p.front ++ (p.run ++ l)) k.back ∙ ap (λ l. p.front ++ l) (append-nil p.run)) ∙ ends_append p.front p.run k.begins)
+
+pub well_steps : (s : State) → IsWell s → (n : ℕ) → IsWell (compact_by n s (first_run to_the_end n 0 0 s.blocks)).state
+well_steps s w n = go (first_run to_the_end n 0 0 s.blocks) refl
+  where
+    go : (o : Option Split) → first_run to_the_end n 0 0 s.blocks ≡ o → IsWell (compact_by n s o).state
+    go None e = well_quiet s w machine.Gone
+    go (Some p) e = let k = first_run_in IsNil to_the_end to_the_end_in n 0 0 s.blocks p e in well_slides s w n _ p k.is k.begins (ap starts_free k.back)
+
+few_tags : (n : ℕ) (ls : List Label) → AllByRecursion (λ (b : Block). b.used ≡ false → b.size < n) (names ls) → AllByRecursion (λ (d : machine.Block). is_free d.tag ≡ true → d.size < n) (tags ls)
+few_tags n [] a = tt
+few_tags n (l ∷ ls) a = (λ e. a.0 (ap not e), few_tags n ls a.1)
+
+module _ (v : View) (hs : List (Option Handle)) (s : State) (w : IsWellFormed v) (ws : IsWell s) (g : HasBlocksOf v (kept_name hs) s) (n : ℕ) (u : View) (w' : IsWellFormed u) (h : SlidesBy n v u) where
+  parts : (front : List Label) × (back : List Label) × (g.labels ≡ front ++ back) × (names front ≡ h.front) × (names back ≡ h.first ∷ h.rest)
+  parts = map_parts by_name g.labels h.front (h.first ∷ h.rest) (sym g.view ∙ h.is)
+
+  -- the run that slides
+  abbrev end_split : Split
+  end_split = record { front = tags parts.0; run = tags parts.1; back = [] }
+
+  found_there : first_run to_the_end n 0 0 s.blocks ≡ Some end_split
+  found_there =
+      let q = map_first by_name parts.1 h.first h.rest parts.4 in
+      let whole : n ≤ q.0.size = subst (λ (b : Block). n ≤ b.size) (sym q.3) h.whole in
+      ap (first_run to_the_end n 0 0) (g.state ∙ ap tags parts.2 ∙ map-append by_tag parts.0 parts.1 ∙ ap (λ l. tags parts.0 ++ tags l) q.2)
+      ∙ run_there n 0 (tags parts.0) (by_tag q.0) (tags q.1) (few_tags n parts.0 (subst (AllByRecursion (λ (b : Block). b.used ≡ false → b.size < n)) (sym parts.3) h.few))
+      (free (is_free q.0.tag) (ap (λ (b : Block). b.used) q.3 ∙ h.free)) whole (rest_there q.1 q.4)
+      ∙ ap (λ l. Some (let p : Split = record { front = tags parts.0; run = tags l; back = [] } in p)) (sym q.2)
+    where
+      free : (t : Bool) → not t ≡ false → t ≡ true
+      free true e = refl
+      free false e = absurd (true≢false e)
+
+      rest_there : (ls : List Label) → names ls ≡ h.rest → tags ls ≢ []
+      rest_there [] e z = h.more (sym e)
+      rest_there (l ∷ ls) e z = absurd (cc)
+
+  slides : IsSlidRun n v u h.front (h.first ∷ h.rest) []
+  slides = record { is = h.is ∙ ap (λ l. h.front ++ l) (sym (append-nil (h.first ∷ h.rest))); name = h.name; view = h.view }
+
+  steps_agree : HasBlocksOf u (kept_name hs) (slid_run n s end_split)
+  steps_agree = run_agrees v hs s w ws g n u w' h.front (h.first ∷ h.rest) [] slides parts.0 parts.1 [] (parts.2 ∙ ap (λ l. parts.0 ++ l) (sym (append-nil parts.1))) parts.3 parts.4 refl
 
 -- ---- the step
 
@@ -474,8 +547,8 @@ module _ (v w : View) (hs left : List (Option Handle)) (r : Reply) (s : State) (
   moves_are ms a = moves_agree n hs 0 0 p.agrees.labels ms (one_number v hs s p.formed ws p.agrees) (subst (λ bs. AreNumbered hs (by.moves_by n 0 0 bs) ms) p.agrees.view a)
       ∙ ap (moves_by n 0 0) (sym p.agrees.state)
 
-  whole_too : is_some (slid_by n (stamp_of_call s) s.blocks) ≡ is_some (first_whole n v.blocks)
-  whole_too = ap (λ bs. is_some (slid_by n (stamp_of_call s) bs)) p.agrees.state ∙ same_whole n (stamp_of_call s) p.agrees.labels ∙ sym (ap (λ bs. is_some (first_whole n bs)) p.agrees.view)
+  whole_too : is_some (first_run to_the_end n 0 0 s.blocks) ≡ is_some (first_whole n v.blocks)
+  whole_too = ap (λ bs. is_some (first_run to_the_end n 0 0 bs)) p.agrees.state ∙ same_whole n 0 p.agrees.labels ∙ sym (ap (λ bs. is_some (first_whole n bs)) p.agrees.view)
 
   same_ends : ends_used v.blocks ≡ machine.ends_live s.blocks
   same_ends = ap ends_used p.agrees.view ∙ sym (same_end p.agrees.labels) ∙ ap machine.ends_live (sym p.agrees.state)
@@ -496,22 +569,27 @@ module _ (v w : View) (hs left : List (Option Handle)) (r : Reply) (s : State) (
   none_if None f = refl
   none_if (Some x) f = absurd (true≢false f)
 
+  -- the run ends as the list does
+  refused_same : (q : Split) → first_run to_the_end n 0 0 s.blocks ≡ Some q → (machine.ends_live q.run && is_short_of 1 s) ≡ (machine.ends_live s.blocks && is_short_of 1 s)
+  refused_same q f = ap (λ b. b && is_short_of 1 s) (same_last_end s.blocks q (first_run_in IsNil to_the_end to_the_end_in n 0 0 s.blocks q f))
+
   pub steps_taken : (d : Bool) → CompactsBy n v w d → (ms : List Move) → AreNumbered hs (if d then by.moves_by n 0 0 v.blocks else []) ms → r ≡ (if d then Compacted ms else Answer machine.Refused)
-      → Agrees (step_by n s (slid_by n (stamp_of_call s) s.blocks))
-  steps_taken true (inl t) ms a is = subst (λ o. Agrees (step_by n s o)) (sym (none_if _ (whole_too ∙ ap is_some t.0)))
+      → Agrees (compact_by n s (first_run to_the_end n 0 0 s.blocks))
+  steps_taken true (inl t) ms a is = subst (λ o. Agrees (compact_by n s o)) (sym (none_if _ (whole_too ∙ ap is_some t.0)))
       (stays (Compacted []) t.1 (is ∙ ap Compacted (none_numbered hs _ ms (none_whole n v.blocks t.0 0) a)))
   steps_taken true (inr t) ms a is =
-      let at = left_blocks v hs s p.formed ws p.agrees n w formed t.1 in
-      let now : State = record s { calls = s.calls + length s.blocks + 1; blocks = at } in
-      subst (λ o. Agrees (step_by n s o)) (sym (slides_there v hs s p.formed ws p.agrees n w formed t.1))
-      (subst (λ b. Agrees (if b then replies_only s (Answer machine.Refused) else record { state = now; reply = Compacted (moves_by n 0 0 s.blocks) })) (sym (can t.0)) (
+      let q = end_split v hs s p.formed ws p.agrees n w formed t.1 in
+      let there = found_there v hs s p.formed ws p.agrees n w formed t.1 in
+      let now : State = slid_run n s q in
+      subst (λ o. Agrees (compact_by n s o)) (sym there)
+      (subst (λ b. Agrees (if b then replies_only s (Answer machine.Refused) else record { state = now; reply = Compacted (moves_by n 0 0 s.blocks) })) (sym (refused_same q there ∙ can t.0)) (
         is ∙ ap Compacted (moves_are ms a),
         subst (λ l. IsAtState w l now) (sym e)
-            (record { formed = formed; agrees = steps_agree v hs s p.formed ws p.agrees n w formed t.1 now refl refl; grants = p.grants }),
+            (record { formed = formed; agrees = steps_agree v hs s p.formed ws p.agrees n w formed t.1; grants = p.grants }),
       ))
-  steps_taken false t ms a is = go (slid_by n (stamp_of_call s) s.blocks) refl
+  steps_taken false t ms a is = go (first_run to_the_end n 0 0 s.blocks) refl
     where
-      go : (o : Option (List machine.Block)) → slid_by n (stamp_of_call s) s.blocks ≡ o → Agrees (step_by n s o)
+      go : (o : Option Split) → first_run to_the_end n 0 0 s.blocks ≡ o → Agrees (compact_by n s o)
       go None f = absurd (t.0 (none_if _ (sym whole_too ∙ ap is_some f)))
-      go (Some bs) f = subst (λ b. Agrees (if b then replies_only s (Answer machine.Refused)
-          else record { state = record s { calls = s.calls + length s.blocks + 1; blocks = bs }; reply = Compacted (moves_by n 0 0 s.blocks) })) (sym (cannot t.1)) (stays (Answer machine.Refused) t.2 is)
+      go (Some q) f = subst (λ b. Agrees (if b then replies_only s (Answer machine.Refused)
+          else record { state = slid_run n s q; reply = Compacted (moves_by n 0 0 s.blocks) })) (sym (refused_same q f ∙ cannot t.1)) (stays (Answer machine.Refused) t.2 is)

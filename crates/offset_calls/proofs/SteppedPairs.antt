@@ -1,10 +1,10 @@
--- A compaction by whole steps, at two states that differ only in numbers and stamps.
-use Rattle.offset_calls.proofs.Common.{◌≡◌, ℕ, suc, ◌+◌, ◌-◌, ◌*◌, ◌≤◌, Bool, true, false, not, ◌&&◌, ◌⊎◌, List, [], ◌∷◌, ◌++◌, length, Option, Some, None, nat_le, if◌then◌else◌, refl, sym, ap}
-use Rattle.offset_calls.proofs.Common.{ap₂, subst, subst₂, ◌∙◌, inl, inr, arith, lt-ltb, le-ltb, cases_lt, map-append, length-map, option_map, State, is_free, is_short_of, stamp_of_call}
+-- A run that slides by whole steps, at two states that differ only in numbers and stamps.
+use Rattle.offset_calls.proofs.Common.{◌≡◌, ℕ, suc, ◌+◌, ◌-◌, ◌*◌, ◌≤◌, Bool, true, false, not, ◌⊎◌, List, [], ◌∷◌, ◌++◌, length, if◌then◌else◌, refl, sym, ap}
+use Rattle.offset_calls.proofs.Common.{ap₂, subst, subst₂, ◌∙◌, inl, inr, arith, lt-ltb, le-ltb, cases_lt, map-append, length-map, State, is_free, stamp_of_call}
 use Rattle.offset_script.proofs.Alike.{IsAlike, IsMatched}
-use Rattle.offset_script.proofs.Pairs.{Kind, Lives, Frees, Pair, pair, left_tag, left, right, lefts, rights, AreAgreed, IsSameOrder, same_free, same_short, pair_free_part, lefts_free_part, rights_free_part, in_free_part}
-use Rattle.offset_script.proofs.{Members.IsIn, Members.in_append, Tests.if_same}
-use Rattle.offset_calls.specs.Stepped.{kept, stepped, given_up, slid, slid_by}
+use Rattle.offset_script.proofs.Pairs.{Kind, Lives, Frees, Pair, pair, left_tag, left, right, lefts, rights, AreAgreed, IsSameOrder, same_free, pair_free_part, lefts_free_part, rights_free_part, in_free_part}
+use Rattle.offset_script.proofs.{Members.IsIn, Members.in_append, Members.in_left, Members.in_right, Labels.map_three}
+use Rattle.offset_calls.specs.Stepped.{kept, stepped, given_up, slid, slid_run}
 use Rattle.offset_script.specs.Machine as machine
 
 pub kept_right : (n m : ℕ) (ps : List Pair) → kept n m (lefts ps) ≡ kept n m (rights ps)
@@ -77,29 +77,6 @@ in_slid n s u ps q i = elim (in_append q (stepped_pairs n s u ps) _ i) [
   | inr (inr e) ↦ absurd e
 ]
 
--- what slides on both sides is one list of pairs, of old ones and of such
-abbrev pub AreSlid : List Pair → ℕ → ℕ → Option (List machine.Block) → Option (List machine.Block) → Type 0
-AreSlid ps s u None None = Unit {0}
-AreSlid ps s u (Some bs) (Some cs) = (p : List Pair) × (bs ≡ lefts p) × (cs ≡ rights p) × ((q : Pair) → IsIn q p → IsIn q ps ⊎ IsStamped s u (length ps) q)
-AreSlid ps s u o o' = ⊥
-
-slid_more : (q : Pair) (ps : List Pair) (s u : ℕ) (o o' : Option (List machine.Block)) → AreSlid ps s u o o' → AreSlid (q ∷ ps) s u (option_map (λ l. left q ∷ l) o) (option_map (λ l. right q ∷ l) o')
-slid_more q ps s u None None a = tt
-slid_more q ps s u None (Some cs) a = absurd a
-slid_more q ps s u (Some bs) None a = absurd a
-slid_more q ps s u (Some bs) (Some cs) a = (q ∷ a.0, ap (λ l. left q ∷ l) a.1, ap (λ l. right q ∷ l) a.2, each)
-  where
-    each : (x : Pair) → IsIn x (q ∷ a.0) → IsIn x (q ∷ ps) ⊎ IsStamped s u (suc (length ps)) x
-    each x (inl e) = inl (inl e)
-    each x (inr i) = elim (a.3 x i) [ inl j ↦ inl (inr j) | inr j ↦ inr (j.0, omega (arith, j.1), j.2) ]
-
-pub both_slid : (n s u : ℕ) (ps : List Pair) → AreSlid ps s u (slid_by n s (lefts ps)) (slid_by n u (rights ps))
-both_slid n s u [] = tt
-both_slid n s u (q ∷ []) = tt
-both_slid n s u (q ∷ x ∷ ps) = if_same (AreSlid (q ∷ x ∷ ps) s u) _ _ _ _ _ _ (ap (λ b. b && nat_le n q.size) (same_free q.kind))
-    (λ e. (slid_pairs n s u (q ∷ x ∷ ps), sym (lefts_slid n s u (q ∷ x ∷ ps)), sym (rights_slid n s u (q ∷ x ∷ ps)), in_slid n s u (q ∷ x ∷ ps)))
-    (slid_more q (x ∷ ps) s u _ _ (both_slid n s u (x ∷ ps)))
-
 pub same_last : (ps : List Pair) → machine.ends_live (lefts ps) ≡ machine.ends_live (rights ps)
 same_last [] = refl
 same_last (q ∷ []) = ap not (same_free q.kind)
@@ -127,19 +104,27 @@ new_new x y e f a b k l = subst₂ IsSameOrder (sym k) (sym l) (elim (cases_lt e
   | inr m ↦ le-ltb (x + e) (x + f) (omega (arith, m)) ∙ sym (le-ltb (y + e) (y + f) (omega (arith, m)))
 ])
 
-module _ (r : ℕ → ℕ) (d : ℕ) (s t : State) (a : IsAlike r d s t) where
+module _ (r : ℕ → ℕ) (d : ℕ) (s t : State) (a : IsAlike r d s t) (n : ℕ) (f k b : List Pair) (e : a.pairs ≡ f ++ (k ++ b)) where
+  -- the pairs that the run leaves
+  abbrev now : List Pair
+  now = f ++ (slid_pairs n (stamp_of_call s) (stamp_of_call t) k ++ b)
+
   abbrev IsLeft : Pair → Type 0
-  IsLeft q = IsIn q a.pairs ⊎ IsStamped (stamp_of_call s) (stamp_of_call t) (length a.pairs) q
+  IsLeft q = IsIn q a.pairs ⊎ IsStamped (stamp_of_call s) (stamp_of_call t) (length k) q
 
-  left_length : length s.blocks ≡ length a.pairs
-  left_length = ap (λ (l : List machine.Block). length l) a.left_blocks ∙ length-map a.pairs left
+  each : (q : Pair) → IsIn q now → IsLeft q
+  each q i = elim (in_append q f _ i) [
+    | inl h ↦ inl (subst (IsIn q) (sym e) (in_left q f (k ++ b) h))
+    | inr h ↦ elim (in_append q (slid_pairs n (stamp_of_call s) (stamp_of_call t) k) b h) [
+      | inl z ↦ elim (in_slid n (stamp_of_call s) (stamp_of_call t) k q z) [ inl j ↦ inl (subst (IsIn q) (sym e) (in_right q f (k ++ b) (in_left q k b j))) | inr j ↦ inr j ]
+      | inr z ↦ inl (subst (IsIn q) (sym e) (in_right q f (k ++ b) (in_right q k b z)))
+    ]
+  ]
 
-  right_length : length t.blocks ≡ length a.pairs
-  right_length = ap (λ (l : List machine.Block). length l) a.right_blocks ∙ length-map a.pairs right
-
-  matched : (q : Pair) → IsLeft q → IsMatched r (2 * (s.calls + length s.blocks + 1 + 1)) (2 * (t.calls + length t.blocks + 1 + 1)) q.kind
+  matched : (q : Pair) → IsLeft q → IsMatched r (2 * (s.calls + length (lefts k) + 1 + 1)) (2 * (t.calls + length (rights k) + 1 + 1)) q.kind
   matched q (inl i) = matched_more r _ _ _ _ q.kind (omega arith) (omega arith) (a.matched q i)
-  matched q (inr i) = subst (IsMatched r (2 * (s.calls + length s.blocks + 1 + 1)) (2 * (t.calls + length t.blocks + 1 + 1))) (sym i.2) (omega (arith, i.1, left_length), omega (arith, i.1, right_length))
+  matched q (inr i) = subst (IsMatched r (2 * (s.calls + length (lefts k) + 1 + 1)) (2 * (t.calls + length (rights k) + 1 + 1))) (sym i.2)
+      (omega (arith, i.1, length-map k left), omega (arith, i.1, length-map k right))
 
   agreed : (x y : Pair) → IsLeft x → IsLeft y → AreAgreed x y
   agreed x y (inl i) (inl j) = a.agree x y i j
@@ -147,20 +132,15 @@ module _ (r : ℕ → ℕ) (d : ℕ) (s t : State) (a : IsAlike r d s t) where
   agreed x y (inr i) (inl j) = λ same. new_old r s.calls t.calls i.0 x.kind y.kind i.2 (a.matched y j)
   agreed x y (inr i) (inr j) = λ same. new_new (stamp_of_call s) (stamp_of_call t) i.0 j.0 x.kind y.kind i.2 j.2
 
-  pub steps_alike : (bs cs : List machine.Block) (p : List Pair) → bs ≡ lefts p → cs ≡ rights p → ((q : Pair) → IsIn q p → IsLeft q)
-      → IsAlike r d (record s { calls = s.calls + length s.blocks + 1; blocks = bs }) (record t { calls = t.calls + length t.blocks + 1; blocks = cs })
-  steps_alike bs cs p e f each = record {
+  pub run_alike : IsAlike r d (slid_run n s (record { front = lefts f; run = lefts k; back = lefts b })) (slid_run n t (record { front = rights f; run = rights k; back = rights b }))
+  run_alike = record {
     limit = a.limit;
-    pairs = p;
-    left_blocks = e;
-    right_blocks = f;
+    pairs = now;
+    left_blocks = ap (λ l. lefts f ++ (l ++ lefts b)) (sym (lefts_slid n (stamp_of_call s) (stamp_of_call t) k)) ∙ sym (map_three left f (slid_pairs n (stamp_of_call s) (stamp_of_call t) k) b);
+    right_blocks = ap (λ l. rights f ++ (l ++ rights b)) (sym (rights_slid n (stamp_of_call s) (stamp_of_call t) k)) ∙ sym (map_three right f (slid_pairs n (stamp_of_call s) (stamp_of_call t) k) b);
     matched = λ q i. matched q (each q i);
     agree = λ x y i j. agreed x y (each x i) (each y j);
     grants = a.grants;
     past = a.past;
     future = a.future;
   }
-
-  -- whether a block is missing
-  pub same_full : (machine.ends_live s.blocks && is_short_of 1 s) ≡ (machine.ends_live t.blocks && is_short_of 1 t)
-  same_full = ap₂ (λ x y. x && y) (ap machine.ends_live a.left_blocks ∙ same_last a.pairs ∙ ap machine.ends_live (sym a.right_blocks)) (same_short s t a.pairs a.limit a.left_blocks a.right_blocks 1)

@@ -32,7 +32,9 @@ pub record IsReached (v : View) (handles : List (Option Handle)) : Type 0 where
 abbrev pub slides : Call → Bool
 slides call.Compact = true
 slides (call.CompactBy n) = true
+slides (call.CompactWithin n from u r) = true
 slides (call.MakeRoom n) = true
+slides (call.MakeRoomBy n align m) = true
 slides other = false
 
 -- what a call leaves for which memory was refused: all is as it was, or ranges were slid, and the reply is lost

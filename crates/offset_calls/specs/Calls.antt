@@ -1,7 +1,8 @@
 -- The plain stamped machine over every call: beside the commands of a script, the calls that resize a range, compact
--- the space, by whole steps too, make room for a request, take any free block that is large enough, grant a second range,
--- take units off the end, and ask for an offset, for that of a grant, for the reason of a refusal, for what room would
--- cost, by whole steps too, or for the live range beside one. States and stamps are those of the script's machine.
+-- the space, by whole steps too and within a budget, make room for a request, by whole steps too, take any free block that
+-- is large enough, grant a second range, take units off the end, and ask for an offset, for that of a grant, for the
+-- reason of a refusal, for what room would cost, by whole steps too, or for the live range beside one. States and stamps
+-- are those of the script's machine.
 use Rattle.std.specs.Prelude.{ℕ, ◌+◌, ◌-◌, max, min, Bool, true, false, not, ◌&&◌, ◌||◌, List, [], ◌∷◌, ◌++◌, length, map, sum, Option, Some, None, is_some, nat_eq, nat_lt, nat_le, if◌then◌else◌}
 use Rattle.std.specs.Int.{is_power_of_two}
 use Rattle.offset_allocator.specs.declared.reports.Refusal as allocator
@@ -17,10 +18,12 @@ use Rattle.offset_calls.specs.declared.calls.Call.TheVariants as call
 use Rattle.offset_calls.specs.declared.calls.Moved.{Moved}
 use Rattle.offset_allocator.specs.declared.moves.room.RoomCost as room
 use Rattle.offset_calls.specs.Room.{Split, cost_of, cheapest, room_cost, slid}
-use Rattle.offset_calls.specs.RoomBySteps.{room_cost_by}
+use Rattle.offset_calls.specs.RoomBySteps.{cheapest_by, room_cost_by}
 use Rattle.offset_calls.specs.Tight.{allocate_tight, reason_tight}
 use Rattle.offset_calls.specs.Ending.{relocate, relocate_aligned, can_retract, retracted, first_live, last_live, live_before, live_after}
-use Rattle.offset_calls.specs.Stepped.{kept, slid_by}
+use Rattle.offset_calls.specs.Stepped.{kept, first_run, slid_run, to_the_end}
+use Rattle.offset_calls.specs.Budget.{is_within, longest_that, no_progress, progress_of}
+use Rattle.offset_allocator.specs.declared.moves.budget.Progress as budget
 use Rattle.offset_calls.specs.declared.calls.LiveRange.{LiveRange}
 use Rattle.offset_calls.specs.declared.calls.Reply as program
 use Rattle.offset_calls.specs.declared.calls.Reply.TheVariants as program_reply
@@ -40,6 +43,7 @@ pub data Reply : Type 0 where
   Answer : machine.Answer → Reply
   Resized : Reply
   Compacted : List Move → Reply
+  CompactedWithin : budget.Progress → List Move → Reply
   Offset : ℕ → Reply
   Refusal : Option allocator.Refusal → Reply
   RoomMade : Option room.RoomCost → List Move → Reply
@@ -140,17 +144,26 @@ moves_by n from to (b ∷ bs) =
     if is_free b.tag then moves_by n (from + b.size) (to + kept n b.size bs) bs
     else move_of from to b ++ moves_by n (from + b.size) (to + b.size) bs
 
--- the live blocks slide by multiples of n units, unless a block is missing for what is left at the end; nothing changes
--- where no free block before another has n units. Each block that is left free has a stamp of its own, so it counts as
--- one call more than there are blocks
-abbrev pub step_by : ℕ → State → Option (List Block) → Outcome
-step_by n s None = replies_only s (Compacted [])
-step_by n s (Some bs) =
-    if ends_live s.blocks && is_short_of 1 s then replies_only s (Answer machine.Refused)
-    else record {
-      state = record s { calls = s.calls + length s.blocks + 1; blocks = bs };
-      reply = Compacted (moves_by n 0 0 s.blocks);
-    }
+-- the moves where a run slides by steps of n
+abbrev pub moves_of_run : ℕ → Split → List Move
+moves_of_run n p = moves_by n (total p.front) (total p.front) p.run
+
+-- a run slides, with this reply; it is refused where the run ends with a live block and the node limit admits no block
+-- after it
+abbrev pub slides_run : ℕ → State → Reply → Split → Outcome
+slides_run n s r p =
+    if ends_live p.run && is_short_of 1 s then replies_only s (Answer machine.Refused)
+    else record { state = slid_run n s p; reply = r }
+
+-- all blocks from the first free one of n units on slide; nothing changes where there is none with a block after it
+abbrev pub compact_by : ℕ → State → Option Split → Outcome
+compact_by n s None = replies_only s (Compacted [])
+compact_by n s (Some p) = slides_run n s (Compacted (moves_by n 0 0 s.blocks)) p
+
+-- blocks from such a one on slide, as far as the budget goes
+abbrev pub compact_within : ℕ → State → Option Split → Outcome
+compact_within n s None = replies_only s (CompactedWithin no_progress [])
+compact_within n s (Some p) = slides_run n s (CompactedWithin (progress_of p) (moves_of_run n p)) p
 
 -- ---- making room
 
@@ -161,6 +174,13 @@ make_room s (Some p) =
     if nat_eq (length (live p.run)) 0 then replies_only s (RoomMade (Some (cost_of p.run)) [])
     else remakes s (slid (stamp_of_call s) p)
     (RoomMade (Some (cost_of p.run)) (moves (total p.front) (total p.front) p.run))
+
+-- the same by steps of n
+abbrev pub make_room_by : ℕ → State → Option Split → Outcome
+make_room_by n s None = replies_only s (RoomMade None [])
+make_room_by n s (Some p) =
+    if nat_eq (length (live p.run)) 0 then replies_only s (RoomMade (Some (cost_of p.run)) [])
+    else record { state = slid_run n s p; reply = RoomMade (Some (cost_of p.run)) (moves_of_run n p) }
 
 -- ---- questions
 
@@ -201,7 +221,9 @@ step (call.Command c) s = answered (machine.step c s)
 step (call.Shrink k n) s = resize (can_shrink n s) n s (place_of k s.blocks)
 step (call.Grow k n) s = resize (can_grow n) n s (place_of k s.blocks)
 step call.Compact s = compact s
-step (call.CompactBy n) s = step_by n s (slid_by n (stamp_of_call s) s.blocks)
+step (call.CompactBy n) s = compact_by n s (first_run to_the_end n 0 0 s.blocks)
+step (call.CompactWithin n from u r) s =
+    compact_within n s (first_run (longest_that (is_within u r)) n from 0 s.blocks)
 step (call.Offset k) s = replies_only s (offset_at (place_of k s.blocks))
 step (call.Refusal n) s = replies_only s (Refusal (reason 1 n s))
 step (call.RefusalAligned n align) s =
@@ -212,6 +234,8 @@ step (call.RefusalTight n) s = replies_only s (Refusal (reason_tight n 1 s))
 step (call.RefusalTightAligned n align) s = replies_only s (Refusal (reason_tight n align s))
 step (call.WouldBegin n align) s = replies_only s (begin_of (machine.allocate_aligned n align s).answer)
 step (call.MakeRoom n) s = make_room s (cheapest (value (up n)) s.blocks)
+step (call.MakeRoomBy n align m) s =
+    make_room_by m s (cheapest_by m (value (up (n + align - 1))) (min align 2) s)
 step (call.RoomCost n) s = replies_only s (RoomCost (room_cost (value (up n)) s.blocks))
 step (call.RoomCostBy n align m) s =
     replies_only s (RoomCost (room_cost_by m (value (up (n + align - 1))) (min align 2) s))
@@ -242,6 +266,8 @@ is_valid (call.RefusalTightAligned n align) = is_power_of_two align
 is_valid (call.WouldBegin n align) = is_power_of_two align
 is_valid (call.RelocateAligned k align) = is_power_of_two align
 is_valid (call.CompactBy n) = nat_le 1 n
+is_valid (call.CompactWithin n from u r) = nat_le 1 n
+is_valid (call.MakeRoomBy n align m) = is_power_of_two align && nat_le 1 m
 is_valid (call.RoomCostBy n align m) = is_power_of_two align && nat_le 1 m
 is_valid other = true
 
@@ -256,6 +282,7 @@ abbrev pub reply_view : program.Reply → Reply
 reply_view (program_reply.Answer a) = Answer (answer_view a)
 reply_view program_reply.Resized = Resized
 reply_view (program_reply.Compacted ms) = Compacted (map move_view ms.items)
+reply_view (program_reply.CompactedWithin p ms) = CompactedWithin p (map move_view ms.items)
 reply_view (program_reply.Offset n) = Offset n
 reply_view (program_reply.Refusal r) = Refusal r
 reply_view (program_reply.RoomMade c ms) = RoomMade c (map move_view ms.items)

@@ -1,3 +1,4 @@
+pub mod Budget
 pub mod Calling
 pub mod Calls
 pub mod Ending

@@ -11,7 +11,7 @@ abbrev pub used_up : ℕ → List Block → ℕ
 used_up n [] = 0
 used_up n (b ∷ bs) = (if is_free b.tag && nat_eq (kept n b.size bs) 0 then 1 else 0) + used_up n bs
 
--- whether a run serves: it ends with a free block, and gives up so many units and uses up so many blocks, or more
+-- whether a run serves: it ends with a free block, gives up at least `want` units, and uses up at least `short` blocks
 abbrev pub serves : ℕ → ℕ → ℕ → List Block → Bool
 serves n want short run = not (ends_live run) && (nat_le want (given_up n run) && nat_le short (used_up n run))
 

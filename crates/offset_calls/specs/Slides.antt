@@ -1,7 +1,10 @@
--- The ranges that slide where room is made: as the allocator reports them, and with the numbers of their grants.
+-- The ranges that slide where room is made, or a budget is used: as the allocator reports them, and with the numbers of their grants.
 use Rattle.std.specs.Prelude.{◌≡◌, ℕ, List, [], ◌∷◌, ◌++◌, Option}
 use Rattle.offset_allocator.specs.declared.moves.room.RoomCost.{RoomCost}
+use Rattle.offset_allocator.specs.declared.moves.budget.Progress.{Progress}
+use Rattle.offset_allocator.specs.Moving.Budget.{CompactsWithin}
 use Rattle.offset_allocator.specs.Moving.Room.{MakesRoom}
+use Rattle.offset_allocator.specs.Moving.RoomBySteps.{MakesRoomBy}
 use Rattle.offset_allocator.specs.View.{Handle, View}
 use Rattle.offset_allocator.specs.Moving.Compacting as named
 use Rattle.offset_calls.specs.declared.calls.Moved.{Moved}
@@ -14,6 +17,14 @@ Notes xs x ys = ys ≡ xs ++ x ∷ []
 -- room is made at a cost, with these moves in their order
 pub record IsMade (want : ℕ) (v : View) (c : Option RoomCost) (w : View) (xs : List named.Move) : Type 0 where
   pub made : MakesRoom Notes want v [] c w xs
+
+-- room is made by steps of n units: a run serves where it gives up at least `want` units and `short` names
+pub record IsMadeBy (n want short : ℕ) (v : View) (c : Option RoomCost) (w : View) (xs : List named.Move) : Type 0 where
+  pub made : MakesRoomBy Notes n want short v [] c w xs
+
+-- a compaction within a budget comes so far, with these moves in their order
+pub record IsMovedWithin (n from u r : ℕ) (v : View) (p : Option Progress) (w : View) (xs : List named.Move) : Type 0 where
+  pub moved : CompactsWithin Notes n from u r v [] p w xs
 
 -- a move of the range that has this handle after it
 abbrev pub named_move : Handle × Moved → named.Move

@@ -1,6 +1,7 @@
--- Compacting by whole steps on the plain machine: what each free block keeps, and what is left at the end.
+-- Sliding by whole steps on the plain machine: what each free block keeps, which run slides, and what it leaves.
 use Rattle.std.specs.Prelude.{ℕ, ◌+◌, ◌-◌, ◌%◌, ◌&&◌, List, [], ◌∷◌, ◌++◌, length, Option, Some, None, option_map, nat_le, if◌then◌else◌}
-use Rattle.offset_script.specs.Machine.{Free, Block, block, is_free, free_part}
+use Rattle.offset_script.specs.Machine.{Free, Block, State, block, is_free, free_part, stamp_of_call}
+use Rattle.offset_calls.specs.Room.{Split, from_first, after_first}
 
 -- what a free block of m units keeps, which has these blocks after it: what steps of n leave of it, and nothing at the end
 abbrev pub kept : ℕ → ℕ → List Block → ℕ
@@ -17,14 +18,27 @@ abbrev pub given_up : ℕ → List Block → ℕ
 given_up n [] = 0
 given_up n (b ∷ bs) = (if is_free b.tag then b.size - kept n b.size bs else 0) + given_up n bs
 
--- all blocks slid by steps of n, and what they give up as one free block after them, the newest
+-- a run of blocks slid by steps of n, and what they give up as one free block after them, the newest
 abbrev pub slid : ℕ → ℕ → List Block → List Block
-slid n s bs = stepped n s bs ++ block (given_up n bs) (Free (s + length bs)) ∷ []
+slid n s run = stepped n s run ++ block (given_up n run) (Free (s + length run)) ∷ []
 
--- they slide from the first free block of n units on that has a block after it, if there is one
-abbrev pub slid_by : ℕ → ℕ → List Block → Option (List Block)
-slid_by n s [] = None
-slid_by n s (b ∷ []) = None
-slid_by n s (b ∷ c ∷ bs) =
-    if is_free b.tag && nat_le n b.size then Some (slid n s (b ∷ c ∷ bs))
-    else option_map (λ l. b ∷ l) (slid_by n s (c ∷ bs))
+-- the state after a run has slid by steps of n units. It counts as one call more than the run has blocks, since each free
+-- block that remains gets a new stamp
+abbrev pub slid_run : ℕ → State → Split → State
+slid_run n s p = record s {
+  calls = s.calls + length p.run + 1;
+  blocks = p.front ++ (slid n (stamp_of_call s) p.run ++ p.back);
+}
+
+-- the run from the first free block on that has n units, ends at `from` or behind it, and has blocks after it, of which
+-- `reach` says how many belong to the run; o is where the list begins
+abbrev pub first_run : (List Block → Split) → ℕ → ℕ → ℕ → List Block → Option Split
+first_run reach n from o [] = None
+first_run reach n from o (b ∷ []) = None
+first_run reach n from o (b ∷ c ∷ bs) =
+    if is_free b.tag && (nat_le n b.size && nat_le from (o + b.size)) then Some (from_first b (reach (c ∷ bs)))
+    else option_map (after_first b) (first_run reach n from (o + b.size) (c ∷ bs))
+
+-- all blocks belong to it
+abbrev pub to_the_end : List Block → Split
+to_the_end bs = record { front = []; run = bs; back = [] }

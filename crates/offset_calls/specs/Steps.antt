@@ -13,6 +13,7 @@ use Rattle.offset_allocator.specs.declared.moves.room.RoomCost.{RoomCost}
 use Rattle.offset_allocator.specs.Classes.{value, up}
 use Rattle.offset_allocator.specs.Moving.Room.{IsLeastCost}
 use Rattle.offset_allocator.specs.Moving.RoomBySteps.{IsLeastCostBy, names_short}
+use Rattle.offset_allocator.specs.declared.moves.budget.Progress.{Progress}
 use Rattle.offset_allocator.specs.Reporting.Beside as named_beside
 use Rattle.offset_allocator.specs.Moving.Relocating.{Relocates, RelocatesAligned, WouldBegin}
 use Rattle.offset_allocator.specs.Moving.Retracting.{Retracts}
@@ -22,9 +23,9 @@ use Rattle.offset_script.specs.Machine as machine
 use Rattle.offset_script.specs.Steps as script
 use Rattle.offset_calls.specs.declared.calls.Call.{Call}
 use Rattle.offset_calls.specs.declared.calls.Call.TheVariants as call
-use Rattle.offset_calls.specs.Calls.{Move, Reply, Answer, Resized, Compacted, Offset, RoomMade, Beside}
+use Rattle.offset_calls.specs.Calls.{Move, Reply, Answer, Resized, Compacted, CompactedWithin, Offset, RoomMade, Beside}
 use Rattle.offset_calls.specs.Calls as reply
-use Rattle.offset_calls.specs.Slides.{IsMade}
+use Rattle.offset_calls.specs.Slides.{IsMade, IsMadeBy, IsMovedWithin}
 use Rattle.offset_calls.specs.declared.calls.LiveRange.{LiveRange}
 
 -- the moves of a compaction, each with the number of the grant whose handle has its name
@@ -62,6 +63,22 @@ abbrev pub TakesRoom : ℕ → View → List (Option Handle) → View → Reply 
 TakesRoom want v handles w r = (c : Option RoomCost) × IsLeastCost want v.blocks c × (xs : List named.Move)
     × IsMade want v c w xs × (ms : List Move) × AreNumbered handles xs ms × (r ≡ RoomMade c ms)
 
+-- the same by steps of m
+abbrev pub TakesRoomBy : ℕ → ℕ → ℕ → View → List (Option Handle) → View → Reply → Type 0
+TakesRoomBy m want short v handles w r = (c : Option RoomCost) × IsLeastCostBy m want short v.blocks c
+    × (xs : List named.Move) × IsMadeBy m want short v c w xs × (ms : List Move) × AreNumbered handles xs ms
+    × (r ≡ RoomMade c ms)
+
+-- the reply that says how far a compaction within a budget came
+abbrev pub comes_so_far : Option Progress → List Move → Reply
+comes_so_far None ms = Answer machine.Refused
+comes_so_far (Some p) ms = CompactedWithin p ms
+
+-- such a compaction, whose moves are replied with the numbers of their grants
+abbrev pub TakesWithin : ℕ → ℕ → ℕ → ℕ → View → List (Option Handle) → View → Reply → Type 0
+TakesWithin m from u k v handles w r = (p : Option Progress) × (xs : List named.Move) × IsMovedWithin m from u k v p w xs
+    × (ms : List Move) × AreNumbered handles xs ms × (r ≡ comes_so_far p ms)
+
 -- a live range, or none, with the number of the grant whose handle has its name
 abbrev pub IsNumbered : List (Option Handle) → Option Handle → Option LiveRange → Type 0
 IsNumbered handles None None = Unit {0}
@@ -89,6 +106,7 @@ Takes call.Compact v handles w kept r = Compacts v w × (kept ≡ handles)
 Takes (call.CompactBy n) v handles w kept r = (done : Bool) × CompactsBy n v w done × (kept ≡ handles)
     × ((ms : List Move) × AreNumbered handles (if done then moves_by n 0 0 v.blocks else []) ms
     × (r ≡ (if done then Compacted ms else Answer machine.Refused)))
+Takes (call.CompactWithin n from u m) v handles w kept r = TakesWithin n from u m v handles w r × (kept ≡ handles)
 Takes (call.Offset k) v handles w kept r = Stays v handles w kept × IfNamed (kept_name handles k)
     (λ x. (o : ℕ) × (option_map (λ (q : Range). q.offset) (range_of x v) ≡ Some o) × (r ≡ Offset o))
     (r ≡ Answer machine.Gone)
@@ -105,6 +123,9 @@ Takes (call.RefusalTightAligned n align) v handles w kept r = Stays v handles w 
 Takes (call.WouldBegin n align) v handles w kept r = Stays v handles w kept × (1 ≤ align)
     × ((b : Option ℕ) × IsBegin n align v b × (r ≡ begins_at b))
 Takes (call.MakeRoom n) v handles w kept r = TakesRoom (value (up n)) v handles w r × (kept ≡ handles)
+Takes (call.MakeRoomBy n align m) v handles w kept r =
+    TakesRoomBy m (value (up (units_needed n align))) (names_short (blocks_needed align) v) v handles w r
+    × (kept ≡ handles)
 Takes (call.RoomCost n) v handles w kept r = Stays v handles w kept
     × ((c : Option RoomCost) × IsLeastCost (value (up n)) v.blocks c × (r ≡ reply.RoomCost c))
 Takes (call.RoomCostBy n align m) v handles w kept r = Stays v handles w kept

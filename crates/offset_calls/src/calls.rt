@@ -4,7 +4,7 @@ ghost use Rattle.std.specs.Prelude.{◌≡◌, ◌↔◌, All, IsTrue};
 ghost use Rattle.offset_calls.specs.Calls.{is_valid, reply_view};
 ghost use Rattle.offset_calls.specs.Steps.{begins_at};
 
-use offset_allocator::{Refusal, RoomCost};
+use offset_allocator::{Progress, Refusal, RoomCost};
 use offset_script::{Answer, Command};
 
 /// A call to an allocator. Sizes are in units of the space. A range is named by the number of its grant:
@@ -22,6 +22,10 @@ pub enum Call {
     /// Slides live ranges to the front of the space by multiples of this many units, which are at least 1, as
     /// `compact_by` does.
     CompactBy(u32),
+    /// Slides as `CompactBy` of the first number does, from the offset that is the second number on, live ranges
+    /// of at most as many units as the third number in all, and at most as many of them as the fourth, or one
+    /// range alone, as `compact_within` does.
+    CompactWithin(u32, u32, u32, u32),
     /// Asks where the range of this number begins.
     Offset(u32),
     /// Asks why a request for this many units would be refused now.
@@ -43,11 +47,13 @@ pub enum Call {
     WouldBegin(u32, u32),
     /// Slides the live ranges with the fewest units so that a request for this many units finds its block.
     MakeRoom(u32),
+    /// Slides live ranges by multiples of the third number of units, which is at least 1: those with the fewest
+    /// units so that a request for this many units from a multiple of the second number on, a power of two,
+    /// finds its block, as `make_room_by` does.
+    MakeRoomBy(u32, u32, u32),
     /// Asks what `MakeRoom` of this many units would have to move now.
     RoomCost(u32),
-    /// Asks what would have to move at least, by multiples of the third number of units, which is at least 1, so
-    /// that a request for this many units from a multiple of the second number on, a power of two, finds its
-    /// block, as `room_cost_by` does.
+    /// Asks what `MakeRoomBy` of these numbers would have to move now.
     RoomCostBy(u32, u32, u32),
     /// Requests a second range of as many units as that of this number, which begins before it, as
     /// `relocate` does. The old one stays live.
@@ -86,6 +92,8 @@ impl Call {
             Call::WouldBegin(_, align) => align.is_power_of_two(),
             Call::RelocateAligned(_, align) => align.is_power_of_two(),
             Call::CompactBy(step) => *step >= 1,
+            Call::CompactWithin(step, _, _, _) => *step >= 1,
+            Call::MakeRoomBy(_, align, step) => align.is_power_of_two() && *step >= 1,
             Call::RoomCostBy(_, align, step) => align.is_power_of_two() && *step >= 1,
             _ => true,
         }
@@ -103,7 +111,8 @@ pub fn are_valid(calls: &[Call]) -> bool
     calls.iter().all(|call| call.is_valid())
 }
 
-/// A range that `Call::Compact`, `Call::CompactBy` or `Call::MakeRoom` moves to another offset.
+/// A range that a call moves to another offset: `Compact`, `CompactBy`, `CompactWithin`, `MakeRoom` or
+/// `MakeRoomBy`.
 #[derive(Clone, Copy, PartialEq, Debug)]
 pub struct Moved {
     /// The number of its grant.
@@ -131,12 +140,14 @@ pub enum Reply {
     /// The answer to a command. Of another call, `Grant`: the range that was requested; `Gone`: no grant of
     /// that number is live; or `Refused`: no such range is granted, or would be, the range cannot shrink or grow to that
     /// size, the end has not that many free units, or the node limit admits no block for what a compaction by
-    /// steps leaves at the end. After `Gone` and `Refused` the space is as it was.
+    /// steps leaves behind its ranges. After `Gone` and `Refused` the space is as it was.
     Answer(Answer),
     /// The range, or the space, has the new size.
     Resized,
     /// The ranges that the compaction moved, in space order.
     Compacted(Vec<Moved>),
+    /// How far a compaction within a budget came, and the ranges that it moved, in space order.
+    CompactedWithin(Progress, Vec<Moved>),
     /// Where the range begins, or would begin.
     Offset(u32),
     /// Why the request would be refused, or `None` where it would be granted.

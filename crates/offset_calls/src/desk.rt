@@ -13,8 +13,11 @@ ghost use Rattle.offset_calls.specs.Tickets.{IsLedger, IsStored, Serves, IsNumbe
 
 use crate::calls::{Call, Reply, begins};
 use crate::ending_desk;
-use crate::playing::resized;
-use crate::sliding::{compact_by_guarded, compact_guarded, make_room_guarded};
+use crate::playing::{resized, room_cost, room_cost_by};
+use crate::sliding::{
+    compact_by_guarded, compact_guarded, compact_within_guarded, make_room_by_guarded,
+    make_room_guarded,
+};
 use offset_allocator::Tables;
 use offset_guarded::{GuardedOf, Ticket};
 use offset_script::{Answer, Command, full_answer};
@@ -241,6 +244,9 @@ pub(crate) fn reply<T: Tables>(
         Call::Grow(_, size) => Ok(grow(&mut desk.space, ticket, size)),
         Call::Compact => compact_guarded(alloc, desk),
         Call::CompactBy(step) => compact_by_guarded(alloc, desk, step),
+        Call::CompactWithin(step, from, most_units, most_ranges) => {
+            compact_within_guarded(alloc, desk, step, from, most_units, most_ranges)
+        }
         Call::Offset(_) => Ok(offset_of(&desk.space, ticket)),
         Call::Refusal(size) => Ok(Reply::Refusal(desk.space.allocator().refusal(size))),
         Call::RefusalAligned(size, align) => Ok(Reply::Refusal(
@@ -256,10 +262,13 @@ pub(crate) fn reply<T: Tables>(
             desk.space.allocator().would_begin(size, align),
         )),
         Call::MakeRoom(size) => make_room_guarded(alloc, desk, size),
-        Call::RoomCost(size) => Ok(Reply::RoomCost(desk.space.allocator().room_cost(size))),
-        Call::RoomCostBy(size, align, step) => Ok(Reply::RoomCost(
-            desk.space.allocator().room_cost_by(size, align, step),
-        )),
+        Call::MakeRoomBy(size, align, step) => {
+            make_room_by_guarded(alloc, desk, size, align, step)
+        }
+        Call::RoomCost(size) => Ok(room_cost(desk.space.allocator(), size)),
+        Call::RoomCostBy(size, align, step) => {
+            Ok(room_cost_by(desk.space.allocator(), size, align, step))
+        }
         Call::Relocate(_) => ending_desk::relocate(desk, ticket),
         Call::RelocateAligned(_, align) => ending_desk::relocate_aligned(desk, ticket, align),
         Call::Retract(less) => Ok(ending_desk::retract(&mut desk.space, less)),

@@ -14,6 +14,7 @@ use offset_script::{Answer, PlayerOf};
 use std::alloc::AllocError;
 
 // The reply to `Relocate`. The handle of a grant is kept.
+#[inline(never)]
 pub(crate) fn relocate<T: Tables>(
     player: &mut PlayerOf<T>,
     number: u32,
@@ -33,6 +34,7 @@ pub(crate) fn relocate<T: Tables>(
 }
 
 // The reply to `RelocateAligned`. The handle of a grant is kept.
+#[inline(never)]
 pub(crate) fn relocate_aligned<T: Tables>(
     player: &mut PlayerOf<T>,
     number: u32,
@@ -54,6 +56,7 @@ pub(crate) fn relocate_aligned<T: Tables>(
 }
 
 // The reply to `Retract`.
+#[inline(never)]
 pub(crate) fn retract<T: Tables>(player: &mut PlayerOf<T>, less: u32) -> Reply
     ensures { Takes (Call.Retract less) player.old.space player.old.handles.items
         player.new.space player.new.handles.items (reply_view result) }
@@ -87,6 +90,7 @@ fn find<NI: NodeIndex>(
 }
 
 // The reply to `First`.
+#[inline(never)]
 pub(crate) fn first_live<T: Tables>(
     player: &PlayerOf<T>,
     numbers: &mut Numbers,
@@ -102,6 +106,7 @@ pub(crate) fn first_live<T: Tables>(
 }
 
 // The reply to `Last`.
+#[inline(never)]
 pub(crate) fn last_live<T: Tables>(
     player: &PlayerOf<T>,
     numbers: &mut Numbers,
@@ -117,6 +122,7 @@ pub(crate) fn last_live<T: Tables>(
 }
 
 // The reply to `Before`.
+#[inline(never)]
 pub(crate) fn live_before<T: Tables>(
     player: &PlayerOf<T>,
     numbers: &mut Numbers,
@@ -136,6 +142,7 @@ pub(crate) fn live_before<T: Tables>(
 }
 
 // The reply to `After`.
+#[inline(never)]
 pub(crate) fn live_after<T: Tables>(
     player: &PlayerOf<T>,
     numbers: &mut Numbers,

@@ -1,7 +1,9 @@
 //! Plays calls on an allocator.
 
-ghost use Rattle.std.specs.Prelude.{◌≡◌, ◌+◌, ◌<◌, ◌≤◌, All, IfOk, IsTrue, OnErr, if◌then◌else◌, map};
-ghost use Rattle.offset_script.specs.Steps.{AreHeld, AreLive};
+ghost use Rattle.std.specs.Prelude.{◌≡◌, ◌+◌, ◌<◌, ◌≤◌, All, IfOk, IsTrue, List, OnErr, Option, if◌then◌else◌, map};
+ghost use Rattle.offset_allocator.specs.Requests.{IsAlignment};
+ghost use Rattle.offset_allocator.specs.View.{Handle};
+ghost use Rattle.offset_script.specs.Steps.{AreHeld, AreLive, Stays};
 ghost use Rattle.offset_script.specs.Machine as machine;
 ghost use Rattle.offset_calls.specs.Calling.{IsLost};
 ghost use Rattle.offset_calls.specs.Calls.{is_valid, reply_view};
@@ -13,9 +15,9 @@ use crate::calls::{Call, Reply, begins};
 use crate::ending;
 use crate::numbers::Numbers;
 use crate::player::CallPlayerOf;
-use crate::sliding::{compact, compact_by, make_room};
+use crate::sliding::{compact, compact_by, compact_within, make_room, make_room_by};
 use offset_allocator::laws::is_well_formed;
-use offset_allocator::{ByNode, NodeIndex, Tables};
+use offset_allocator::{AllocatorOf, ByNode, NodeIndex, Tables};
 use offset_script::{Answer, PlayerOf};
 use std::alloc::{AllocError, Global};
 
@@ -67,6 +69,65 @@ fn offset<T: Tables>(player: &PlayerOf<T>, number: u32) -> Reply
     }
 }
 
+// The reply to `Tight`. Like what slides ranges, it is no part of `reply`, which clears the stack for all that it
+// may keep there.
+#[inline(never)]
+fn tight<T: Tables>(player: &mut PlayerOf<T>, size: u32) -> Result<Reply, AllocError>
+    requires held { AreHeld player.old.space player.old.handles.items }
+    ensures takes { IfOk result (λ r. Takes (Call.Tight size) player.old.space player.old.handles.items
+        player.new.space player.new.handles.items (reply_view r)) }
+    ensures lost { OnErr result (Stays player.old.space player.old.handles.items
+        player.new.space player.new.handles.items) }
+{
+    player.handles.reserve(1)?;
+    let granted = player.space.allocate_tight(size);
+    Ok(Reply::Answer(player.keep(granted)?))
+}
+
+// The reply to `TightAligned`.
+#[inline(never)]
+fn tight_aligned<T: Tables>(
+    player: &mut PlayerOf<T>,
+    size: u32,
+    align: u32,
+) -> Result<Reply, AllocError>
+    requires held { AreHeld player.old.space player.old.handles.items }
+    requires power { IsAlignment align }
+    ensures takes { IfOk result (λ r. Takes (Call.TightAligned size align)
+        player.old.space player.old.handles.items player.new.space player.new.handles.items (reply_view r)) }
+    ensures lost { OnErr result (Stays player.old.space player.old.handles.items
+        player.new.space player.new.handles.items) }
+{
+    player.handles.reserve(1)?;
+    let granted = player.space.allocate_tight_aligned(size, align);
+    Ok(Reply::Answer(player.keep(granted)?))
+}
+
+// The reply to `RoomCost`.
+#[inline(never)]
+pub(crate) fn room_cost<T: Tables>(space: &AllocatorOf<T>, size: u32) -> Reply
+    ensures { (hs : List (Option Handle)) → Takes (Call.RoomCost size) space.now hs space.now hs
+        (reply_view result) }
+{
+    Reply::RoomCost(space.room_cost(size))
+}
+
+// The reply to `RoomCostBy`.
+#[inline(never)]
+pub(crate) fn room_cost_by<T: Tables>(
+    space: &AllocatorOf<T>,
+    size: u32,
+    align: u32,
+    step: u32,
+) -> Reply
+    requires power { IsAlignment align }
+    requires some { 1 ≤ step }
+    ensures { (hs : List (Option Handle)) → Takes (Call.RoomCostBy size align step)
+        space.now hs space.now hs (reply_view result) }
+{
+    Reply::RoomCost(space.room_cost_by(size, align, step))
+}
+
 // The reply to one call.
 pub(crate) fn reply<T: Tables>(
     alloc: Global,
@@ -90,31 +151,33 @@ pub(crate) fn reply<T: Tables>(
         Call::Grow(number, size) => Ok(grow(player, number, size)),
         Call::Compact => compact(alloc, player, numbers),
         Call::CompactBy(step) => compact_by(alloc, player, numbers, step),
+        Call::CompactWithin(step, from, most_units, most_ranges) => compact_within(
+            alloc,
+            player,
+            numbers,
+            step,
+            from,
+            most_units,
+            most_ranges,
+        ),
         Call::Offset(number) => Ok(offset(player, number)),
         Call::Refusal(size) => Ok(Reply::Refusal(player.space.refusal(size))),
         Call::RefusalAligned(size, align) => Ok(Reply::Refusal(
             player.space.refusal_aligned(size, align),
         )),
-        Call::Tight(size) => {
-            player.handles.reserve(1)?;
-            let granted = player.space.allocate_tight(size);
-            Ok(Reply::Answer(player.keep(granted)?))
-        }
-        Call::TightAligned(size, align) => {
-            player.handles.reserve(1)?;
-            let granted = player.space.allocate_tight_aligned(size, align);
-            Ok(Reply::Answer(player.keep(granted)?))
-        }
+        Call::Tight(size) => tight(player, size),
+        Call::TightAligned(size, align) => tight_aligned(player, size, align),
         Call::RefusalTight(size) => Ok(Reply::Refusal(player.space.refusal_tight(size))),
         Call::RefusalTightAligned(size, align) => Ok(Reply::Refusal(
             player.space.refusal_tight_aligned(size, align),
         )),
         Call::WouldBegin(size, align) => Ok(begins(player.space.would_begin(size, align))),
         Call::MakeRoom(size) => make_room(alloc, player, numbers, size),
-        Call::RoomCost(size) => Ok(Reply::RoomCost(player.space.room_cost(size))),
-        Call::RoomCostBy(size, align, step) => Ok(Reply::RoomCost(
-            player.space.room_cost_by(size, align, step),
-        )),
+        Call::MakeRoomBy(size, align, step) => {
+            make_room_by(alloc, player, numbers, size, align, step)
+        }
+        Call::RoomCost(size) => Ok(room_cost(&player.space, size)),
+        Call::RoomCostBy(size, align, step) => Ok(room_cost_by(&player.space, size, align, step)),
         Call::Relocate(number) => ending::relocate(player, number),
         Call::RelocateAligned(number, align) => ending::relocate_aligned(player, number, align),
         Call::Retract(less) => Ok(ending::retract(player, less)),
@@ -129,9 +192,9 @@ pub(crate) fn reply<T: Tables>(
 /// order, one for each.
 ///
 /// The limit has to be 2 to `T::Index::MAX - 2`, each alignment a power of two, and each step at least 1. All
-/// replies are kept in memory, and from the first `Compact`, `CompactBy`, `MakeRoom`, `First`, `Last`, `Before`
-/// or `After` on 8 bytes for each node that was made, twice that while a later one finds that there are more
-/// nodes. Each call costs what it costs in the allocator; these also read the grants since the last one of them.
+/// replies are kept in memory, and from the first call that may slide ranges, `First`, `Last`, `Before` or
+/// `After` on 8 bytes for each node that was made, twice that while a later one finds that there are more nodes.
+/// Each call costs what it costs in the allocator; these also read the grants since the last one of them.
 ///
 /// # Errors
 ///

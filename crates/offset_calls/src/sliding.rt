@@ -8,20 +8,22 @@ ghost use Rattle.offset_allocator.specs.Moving.Compacting as named;
 ghost use Rattle.offset_allocator.specs.Moving.Compacting.{Compacts, moves};
 ghost use Rattle.offset_allocator.specs.Ranges.{range_of};
 ghost use Rattle.offset_allocator.specs.Moving.Room.{IsLeastCost};
+ghost use Rattle.offset_allocator.specs.Moving.RoomBySteps.{IsLeastCostBy, names_short};
+ghost use Rattle.offset_allocator.specs.Requests.{IsAlignment, blocks_needed, units_needed};
 ghost use Rattle.offset_guarded.specs.Guard.{KeepsSizes, serial_of};
 ghost use Rattle.offset_script.specs.Machine as machine;
 ghost use Rattle.offset_calls.specs.declared.calls.Call.{Call};
 ghost use Rattle.offset_calls.specs.Calling.{IsLost};
 ghost use Rattle.offset_calls.specs.Calls.{move_view, reply_view};
 ghost use Rattle.offset_calls.specs.Calls as plain;
-ghost use Rattle.offset_calls.specs.Slides.{IsMade, named_move, numbered_move};
-ghost use Rattle.offset_calls.specs.Steps.{AreKept, AreNumbers, Takes};
+ghost use Rattle.offset_calls.specs.Slides.{IsMade, IsMadeBy, IsMovedWithin, named_move, numbered_move};
+ghost use Rattle.offset_calls.specs.Steps.{AreKept, AreNumbers, Takes, comes_so_far};
 ghost use Rattle.offset_calls.specs.Tickets.{IsLedger, Serves, handles_of};
 
 use crate::calls::{Moved, Reply};
 use crate::desk::Desk;
 use crate::numbers::Numbers;
-use offset_allocator::{Allocation, AllocatorOf, Move, NodeIndex, RoomCost, Tables};
+use offset_allocator::{Allocation, AllocatorOf, Move, NodeIndex, Progress, RoomCost, Tables};
 use offset_guarded::GuardedOf;
 use offset_script::{Answer, PlayerOf};
 use std::alloc::{AllocError, Global};
@@ -112,6 +114,54 @@ fn collect<NI: NodeIndex, T: Tables<Index = NI>>(
     space.make_room(size, &mut |range: Move<NI>| seen.add(range))
 }
 
+// Makes room in a space by whole steps, and collects the moves.
+fn collect_by<NI: NodeIndex, T: Tables<Index = NI>>(
+    space: &mut AllocatorOf<T>,
+    size: u32,
+    align: u32,
+    step: u32,
+    seen: &mut Slides<NI>,
+) -> Option<RoomCost>
+    requires power { IsAlignment align }
+    requires some { 1 ≤ step }
+    requires none { seen.old.found.items ≡ [] }
+    ensures cost { IsLeastCostBy step (value (up (units_needed size align)))
+        (names_short (blocks_needed align) space.old) space.old.blocks result }
+    ensures step { seen.new.is_refused ≡ false → IsMadeBy step (value (up (units_needed size align)))
+        (names_short (blocks_needed align) space.old) space.old result space.new
+        (map named_move seen.new.found.items) }
+    // Whatever was collected, there are such moves, here and below.
+    ensures some { (xs : List named.Move) × IsMadeBy step (value (up (units_needed size align)))
+        (names_short (blocks_needed align) space.old) space.old result space.new xs }
+{
+    space.make_room_by(size, align, step, &mut |range: Move<NI>| seen.add(range))
+}
+
+// Compacts a space by whole steps within a budget, and collects the moves.
+fn moved_within<NI: NodeIndex, T: Tables<Index = NI>>(
+    space: &mut AllocatorOf<T>,
+    step: u32,
+    from: u32,
+    most_units: u32,
+    most_ranges: u32,
+    seen: &mut Slides<NI>,
+) -> Option<Progress>
+    requires some { 1 ≤ step }
+    requires none { seen.old.found.items ≡ [] }
+    ensures step { seen.new.is_refused ≡ false → IsMovedWithin step from most_units most_ranges space.old result
+        space.new (map named_move seen.new.found.items) }
+    ensures some { (xs : List named.Move)
+        × IsMovedWithin step from most_units most_ranges space.old result space.new xs }
+{
+    space.compact_within(
+        step,
+        from,
+        most_units,
+        most_ranges,
+        &mut |range: Move<NI>| seen.add(range),
+    )
+}
+
 // The moves, with the numbers of the ranges.
 fn numbered<NI: NodeIndex>(
     alloc: Global,
@@ -133,6 +183,7 @@ fn numbered<NI: NodeIndex>(
 }
 
 // The reply to `Compact`.
+#[inline(never)]
 pub(crate) fn compact<T: Tables>(
     alloc: Global,
     player: &mut PlayerOf<T>,
@@ -168,6 +219,7 @@ fn by_steps(done: bool, moves: Vec<Moved>) -> Reply
 }
 
 // The reply to `CompactBy`.
+#[inline(never)]
 pub(crate) fn compact_by<T: Tables>(
     alloc: Global,
     player: &mut PlayerOf<T>,
@@ -193,6 +245,7 @@ pub(crate) fn compact_by<T: Tables>(
 }
 
 // The reply to `MakeRoom`.
+#[inline(never)]
 pub(crate) fn make_room<T: Tables>(
     alloc: Global,
     player: &mut PlayerOf<T>,
@@ -214,6 +267,81 @@ pub(crate) fn make_room<T: Tables>(
         return Err(AllocError);
     }
     Ok(Reply::RoomMade(cost, numbered(alloc, numbers, &seen.found)?))
+}
+
+// The reply to `MakeRoomBy`.
+#[inline(never)]
+pub(crate) fn make_room_by<T: Tables>(
+    alloc: Global,
+    player: &mut PlayerOf<T>,
+    numbers: &mut Numbers,
+    size: u32,
+    align: u32,
+    step: u32,
+) -> Result<Reply, AllocError>
+    requires kept { AreKept player.old.space player.old.handles.items }
+    requires numbers { AreNumbers player.old.handles.items numbers.old.grants numbers.old.by_name.items }
+    requires power { IsAlignment align }
+    requires some { 1 ≤ step }
+    ensures takes { IfOk result (λ r. Takes (Call.MakeRoomBy size align step)
+        player.old.space player.old.handles.items player.new.space player.new.handles.items (reply_view r)) }
+    ensures lost { OnErr result (IsLost (Call.MakeRoomBy size align step)
+        player.old.space player.old.handles.items player.new.space player.new.handles.items) }
+    ensures numbers { AreNumbers player.old.handles.items numbers.new.grants numbers.new.by_name.items }
+{
+    numbers.read(&player.handles, player.space.node_count())?;
+    let mut seen = Slides::new(alloc);
+    let cost = collect_by(&mut player.space, size, align, step, &mut seen);
+    if seen.is_refused {
+        return Err(AllocError);
+    }
+    Ok(Reply::RoomMade(cost, numbered(alloc, numbers, &seen.found)?))
+}
+
+// The reply to a compaction within a budget that came so far, with these moves.
+fn so_far(progress: Option<Progress>, moves: Vec<Moved>) -> Reply
+    ensures { reply_view result ≡ comes_so_far progress (map move_view moves.items) }
+{
+    match progress {
+        None => Reply::Answer(Answer::Refused),
+        Some(progress) => Reply::CompactedWithin(progress, moves),
+    }
+}
+
+// The reply to `CompactWithin`.
+#[inline(never)]
+pub(crate) fn compact_within<T: Tables>(
+    alloc: Global,
+    player: &mut PlayerOf<T>,
+    numbers: &mut Numbers,
+    step: u32,
+    from: u32,
+    most_units: u32,
+    most_ranges: u32,
+) -> Result<Reply, AllocError>
+    requires kept { AreKept player.old.space player.old.handles.items }
+    requires numbers { AreNumbers player.old.handles.items numbers.old.grants numbers.old.by_name.items }
+    requires some { 1 ≤ step }
+    ensures takes { IfOk result (λ r. Takes (Call.CompactWithin step from most_units most_ranges)
+        player.old.space player.old.handles.items player.new.space player.new.handles.items (reply_view r)) }
+    ensures lost { OnErr result (IsLost (Call.CompactWithin step from most_units most_ranges)
+        player.old.space player.old.handles.items player.new.space player.new.handles.items) }
+    ensures numbers { AreNumbers player.old.handles.items numbers.new.grants numbers.new.by_name.items }
+{
+    numbers.read(&player.handles, player.space.node_count())?;
+    let mut seen = Slides::new(alloc);
+    let progress = moved_within(
+        &mut player.space,
+        step,
+        from,
+        most_units,
+        most_ranges,
+        &mut seen,
+    );
+    if seen.is_refused {
+        return Err(AllocError);
+    }
+    Ok(so_far(progress, numbered(alloc, numbers, &seen.found)?))
 }
 
 // Compacts a guarded space, and collects the moves, as `compacted` does.
@@ -264,6 +392,53 @@ fn collect_guarded<NI: NodeIndex, T: Tables<Index = NI>>(
     space.make_room(size, &mut |it: Move<NI>| seen.add(it))
 }
 
+// Makes room in a guarded space by whole steps, and collects the moves, as `collect_by` does.
+fn collect_by_guarded<NI: NodeIndex, T: Tables<Index = NI>>(
+    space: &mut GuardedOf<T>,
+    size: u32,
+    align: u32,
+    step: u32,
+    seen: &mut Slides<NI>,
+) -> Option<RoomCost>
+    requires power { IsAlignment align }
+    requires some { 1 ≤ step }
+    requires none { seen.old.found.items ≡ [] }
+    ensures cost { IsLeastCostBy step (value (up (units_needed size align)))
+        (names_short (blocks_needed align) space.old.space) space.old.space.blocks result }
+    ensures step { seen.new.is_refused ≡ false → IsMadeBy step (value (up (units_needed size align)))
+        (names_short (blocks_needed align) space.old.space) space.old.space result space.new.space
+        (map named_move seen.new.found.items) }
+    ensures sizes { KeepsSizes space.old space.new }
+    ensures serials { space.new ≡ record space.old { space = space.new.space } }
+{
+    space.make_room_by(size, align, step, &mut |it: Move<NI>| seen.add(it))
+}
+
+// Compacts a guarded space by whole steps within a budget, and collects the moves, as `moved_within` does.
+fn moved_within_guarded<NI: NodeIndex, T: Tables<Index = NI>>(
+    space: &mut GuardedOf<T>,
+    step: u32,
+    from: u32,
+    most_units: u32,
+    most_ranges: u32,
+    seen: &mut Slides<NI>,
+) -> Option<Progress>
+    requires some { 1 ≤ step }
+    requires none { seen.old.found.items ≡ [] }
+    ensures step { seen.new.is_refused ≡ false → IsMovedWithin step from most_units most_ranges space.old.space
+        result space.new.space (map named_move seen.new.found.items) }
+    ensures sizes { KeepsSizes space.old space.new }
+    ensures serials { space.new ≡ record space.old { space = space.new.space } }
+{
+    space.compact_within(
+        step,
+        from,
+        most_units,
+        most_ranges,
+        &mut |it: Move<NI>| seen.add(it),
+    )
+}
+
 // The moves, with the numbers of the ranges, which are their serials.
 fn with_serials<T: Tables>(
     alloc: Global,
@@ -288,6 +463,7 @@ fn with_serials<T: Tables>(
 }
 
 // The reply to `Compact` of a guarded space.
+#[inline(never)]
 pub(crate) fn compact_guarded<T: Tables>(
     alloc: Global,
     desk: &mut Desk<T>,
@@ -306,6 +482,7 @@ pub(crate) fn compact_guarded<T: Tables>(
 }
 
 // The reply to `CompactBy` of a guarded space.
+#[inline(never)]
 pub(crate) fn compact_by_guarded<T: Tables>(
     alloc: Global,
     desk: &mut Desk<T>,
@@ -326,6 +503,7 @@ pub(crate) fn compact_by_guarded<T: Tables>(
 }
 
 // The reply to `MakeRoom` of a guarded space.
+#[inline(never)]
 pub(crate) fn make_room_guarded<T: Tables>(
     alloc: Global,
     desk: &mut Desk<T>,
@@ -342,4 +520,59 @@ pub(crate) fn make_room_guarded<T: Tables>(
         return Err(AllocError);
     }
     Ok(Reply::RoomMade(cost, with_serials(alloc, &desk.space, &seen.found)?))
+}
+
+// The reply to `MakeRoomBy` of a guarded space.
+#[inline(never)]
+pub(crate) fn make_room_by_guarded<T: Tables>(
+    alloc: Global,
+    desk: &mut Desk<T>,
+    size: u32,
+    align: u32,
+    step: u32,
+) -> Result<Reply, AllocError>
+    requires ledger { IsLedger desk.old.space desk.old.tickets.items }
+    requires kept { AreKept desk.old.space.space (handles_of desk.old.space desk.old.tickets.items) }
+    requires power { IsAlignment align }
+    requires some { 1 ≤ step }
+    ensures { IfOk result (λ r. Serves (Call.MakeRoomBy size align step) desk.old.space desk.old.tickets.items
+        desk.new.space desk.new.tickets.items (reply_view r)) }
+{
+    let mut seen = Slides::new(alloc);
+    let cost = collect_by_guarded(&mut desk.space, size, align, step, &mut seen);
+    if seen.is_refused {
+        return Err(AllocError);
+    }
+    Ok(Reply::RoomMade(cost, with_serials(alloc, &desk.space, &seen.found)?))
+}
+
+// The reply to `CompactWithin` of a guarded space.
+#[inline(never)]
+pub(crate) fn compact_within_guarded<T: Tables>(
+    alloc: Global,
+    desk: &mut Desk<T>,
+    step: u32,
+    from: u32,
+    most_units: u32,
+    most_ranges: u32,
+) -> Result<Reply, AllocError>
+    requires ledger { IsLedger desk.old.space desk.old.tickets.items }
+    requires kept { AreKept desk.old.space.space (handles_of desk.old.space desk.old.tickets.items) }
+    requires some { 1 ≤ step }
+    ensures { IfOk result (λ r. Serves (Call.CompactWithin step from most_units most_ranges)
+        desk.old.space desk.old.tickets.items desk.new.space desk.new.tickets.items (reply_view r)) }
+{
+    let mut seen = Slides::new(alloc);
+    let progress = moved_within_guarded(
+        &mut desk.space,
+        step,
+        from,
+        most_units,
+        most_ranges,
+        &mut seen,
+    );
+    if seen.is_refused {
+        return Err(AllocError);
+    }
+    Ok(so_far(progress, with_serials(alloc, &desk.space, &seen.found)?))
 }

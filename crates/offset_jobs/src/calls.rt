@@ -63,6 +63,11 @@ pub fn add_replies(replies: &[Reply], digest: &mut Digest) {
                 add_cost(cost, digest);
                 add_moves(moves, digest);
             }
+            Reply::CompactedWithin(progress, moves) => {
+                digest.add(u64::from(progress.units));
+                digest.add(u64::from(progress.next.unwrap_or(0)));
+                add_moves(moves, digest);
+            }
             Reply::RoomCost(cost) => add_cost(cost, digest),
             Reply::Beside(None) => digest.add(13),
             Reply::Beside(Some(range)) => {

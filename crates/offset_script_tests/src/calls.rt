@@ -536,6 +536,95 @@ const STEPS_IN_ONE_BIN: List = List {
     ],
 };
 
+// Room by whole steps, and compactions by whole steps within a budget.
+const STEPS_IN_PARTS: List = List {
+    size: 100,
+    limit: 16,
+    rows: &[
+        (
+            Call::Command(Command::Alloc(10)),
+            "Answer(Grant { number: 1, offset: 0 })",
+        ),
+        (
+            Call::Command(Command::Alloc(20)),
+            "Answer(Grant { number: 2, offset: 10 })",
+        ),
+        (
+            Call::Command(Command::Alloc(6)),
+            "Answer(Grant { number: 3, offset: 30 })",
+        ),
+        (
+            Call::Command(Command::Alloc(30)),
+            "Answer(Grant { number: 4, offset: 36 })",
+        ),
+        (Call::Command(Command::Free(1)), "Answer(Freed)"),
+        (Call::Command(Command::Free(3)), "Answer(Freed)"),
+        // 10 free, 20 live, 6 free, 30 live, 34 free; by fives the last three give up 5 and 34 units
+        (
+            Call::MakeRoomBy(36, 1, 5),
+            "RoomMade(Some(RoomCost { units: 30, ranges: 1 }), [Moved { number: 4, from: 36, to: 31, size: 30 }])",
+        ),
+        (
+            Call::Command(Command::Alloc(36)),
+            "Answer(Grant { number: 5, offset: 61 })",
+        ),
+        // 10 free, 20 live, 1 free, 30 and 36 live, 3 free; 12 units from a multiple of 4 on need 15
+        (Call::MakeRoomBy(12, 4, 5), "RoomMade(None, [])"),
+        (
+            Call::MakeRoomBy(10, 1, 5),
+            "RoomMade(Some(RoomCost { units: 0, ranges: 0 }), [])",
+        ),
+        (
+            Call::MakeRoomBy(13, 1, 10),
+            "RoomMade(Some(RoomCost { units: 86, ranges: 3 }), [Moved { number: 2, from: 10, to: 0, size: 20 }, Moved { number: 4, from: 31, to: 21, size: 30 }, Moved { number: 5, from: 61, to: 51, size: 36 }])",
+        ),
+        (
+            Call::Command(Command::Alloc(13)),
+            "Answer(Grant { number: 6, offset: 87 })",
+        ),
+        (Call::Command(Command::Free(2)), "Answer(Freed)"),
+        // 21 free, 30, 36 and 13 live
+        (
+            Call::CompactWithin(22, 0, 100, 9),
+            "CompactedWithin(Progress { units: 0, ranges: 0, next: None }, [])",
+        ),
+        (
+            Call::CompactWithin(10, 0, 65, 9),
+            "CompactedWithin(Progress { units: 30, ranges: 1, next: Some(51) }, [Moved { number: 4, from: 21, to: 1, size: 30 }])",
+        ),
+        // 1 free, 30 live, 20 free, 36 and 13 live; one range moves in any case
+        (
+            Call::CompactWithin(10, 51, 0, 0),
+            "CompactedWithin(Progress { units: 36, ranges: 1, next: Some(87) }, [Moved { number: 5, from: 51, to: 31, size: 36 }])",
+        ),
+        (
+            Call::CompactWithin(3, 88, 100, 9),
+            "CompactedWithin(Progress { units: 0, ranges: 0, next: None }, [])",
+        ),
+        (
+            Call::CompactWithin(3, 87, 100, 9),
+            "CompactedWithin(Progress { units: 13, ranges: 1, next: None }, [Moved { number: 6, from: 87, to: 69, size: 13 }])",
+        ),
+        // 1 free, 30 and 36 live, 2 free, 13 live, 18 free
+        (
+            Call::CompactWithin(3, 0, 100, 9),
+            "CompactedWithin(Progress { units: 0, ranges: 0, next: None }, [])",
+        ),
+        (
+            Call::Command(Command::Alloc(18)),
+            "Answer(Grant { number: 7, offset: 82 })",
+        ),
+        (
+            Call::Command(Command::Alloc(2)),
+            "Answer(Grant { number: 8, offset: 67 })",
+        ),
+        (
+            Call::Command(Command::Alloc(1)),
+            "Answer(Grant { number: 9, offset: 0 })",
+        ),
+    ],
+};
+
 // There may be four blocks, and there are.
 const STEPS_AT_THE_LIMIT: List = List {
     size: 30,
@@ -567,6 +656,7 @@ const STEPS_AT_THE_LIMIT: List = List {
         (Call::RoomCostBy(5, 2, 10), "RoomCost(None)"),
         (Call::CompactBy(11), "Compacted([])"),
         (Call::CompactBy(10), "Answer(Refused)"),
+        (Call::CompactWithin(10, 0, 15, 2), "Answer(Refused)"),
         (Call::Offset(2), "Offset(10)"),
         (Call::Command(Command::Free(3)), "Answer(Freed)"),
         // the last block is free
@@ -829,6 +919,7 @@ fn resizes_and_compacts(rt: HostRuntime) {
         ENDING_AT_THE_LIMIT,
         STEPS,
         STEPS_IN_ONE_BIN,
+        STEPS_IN_PARTS,
         STEPS_AT_THE_LIMIT,
         ROOM,
         COSTS,

@@ -52,6 +52,8 @@ fn list(alloc: Global, count: u32) -> Result<Vec<Call>, AllocError> {
             1000 => Call::CompactBy(7),
             1200 => Call::RoomCostBy(place, 4, 7),
             1400 => Call::WouldBegin(place % 7, 4),
+            1600 => Call::MakeRoomBy(place, 4, 7),
+            1800 => Call::CompactWithin(7, place, 100, 3),
             _ => call_at(place),
         })?;
     }

@@ -356,9 +356,10 @@ public:
     }
 
     // Handles stay live; a range that moves begins at allocationOffset from then on, and keeps no alignment, or, by compactBy,
-    // compactWithin and makeRoomBy, those that divide step. With a step of 0 nothing moves; compactBy returns false there, and
-    // where, as oa_compact_by says, a node is missing, and compactWithin is not done; makeRoomBy is not possible there, nor where align is no power of two. moved(Move) is called for each range that moves. An exception of it goes on to the caller when
-    // all ranges have moved; after it, moved is not called again.
+    // compactWithin and makeRoomBy, those that divide step. With a step of 0 nothing moves: compactBy returns false,
+    // compactWithin is not done, and makeRoomBy is not possible, nor is it where align is no power of two. compactBy and
+    // compactWithin refuse also where, as oa_compact_by says, a node is missing. moved(Move) is called for each range that
+    // moves. An exception of it goes on to the caller when all ranges have moved; after it, moved is not called again.
     template <class F> void compact(F &&moved) {
         detail::Calling<F> each(moved);
         oa_compact(space, detail::Calling<F>::moved, &each);

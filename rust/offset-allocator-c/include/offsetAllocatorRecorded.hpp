@@ -29,8 +29,8 @@ inline bool isGranted(const Ticket &ticket) { return bool(ticket); }
 // Writes the lines, and knows the number of the grant that had a name last.
 class Tape {
 public:
-    explicit Tape(std::FILE *file) noexcept : out(file), numbers(nullptr), room(0), grants(0), failed(file == nullptr) {}
-    Tape(Tape &&other) noexcept : out(other.out), numbers(other.numbers), room(other.room), grants(other.grants), failed(other.failed) {
+    explicit Tape(std::FILE *file) noexcept : out(file), numbers(nullptr), room(0), grants(0), named(false), failed(file == nullptr) {}
+    Tape(Tape &&other) noexcept : out(other.out), numbers(other.numbers), room(other.room), grants(other.grants), named(other.named), failed(other.failed) {
         other.numbers = nullptr;
         other.room = 0;
         other.failed = true;
@@ -41,13 +41,19 @@ public:
 
     template <class... Numbers> void write(const char *format, Numbers... of) {
         if (failed) return;
+        named = false;
         failed = std::fprintf(out, format, static_cast<unsigned>(of)...) < 0 || std::fflush(out) != 0;
     }
     void comment(const char *text) {
-        if (failed) return;
+        if (failed || !text) return;
+        named = true;
         std::fputs("# ", out);
         for (; *text; text++) std::fputc(*text == '\n' || *text == '\r' ? ' ' : *text, out);
         failed = std::fputc('\n', out) == EOF || std::fflush(out) != 0;
+    }
+    // The next request has no name: an empty line is between.
+    void unname() {
+        if (named) write("\n");
     }
     // Room for the numbers of all names there can be: a name is below the number of blocks that there were at once.
     void grant(uint32 name) {
@@ -74,6 +80,7 @@ private:
     uint32 *numbers;
     size_t room;
     uint32 grants;
+    bool named;
     bool failed;
 };
 
@@ -92,7 +99,8 @@ public:
     Recorded(const Recorded &) = delete;
     Recorded &operator=(const Recorded &) = delete;
 
-    // The name of the next request, for who reads the recording: a comment before it. Line ends become spaces.
+    // The name of the next request, for who reads the recording: a comment before it. Line ends become spaces; no text is no
+    // name.
     void name(const char *text) { tape.comment(text); }
     // Whether the recording has ended.
     bool isFailed() const { return tape.isFailed(); }
@@ -106,8 +114,16 @@ public:
     }
     // An alignment that is no power of two is refused, as by A, and not written.
     Handle allocateAligned(uint32 size, uint32 align) {
-        if (align != 0 && (align & (align - 1)) == 0) tape.write("align %u %u\n", size, align);
+        if (isValid(isPower(align))) tape.write("align %u %u\n", size, align);
         return granted(space.allocateAligned(size, align));
+    }
+    Handle allocateTight(uint32 size) {
+        tape.write("tight %u\n", size);
+        return granted(space.allocateTight(size));
+    }
+    Handle allocateTightAligned(uint32 size, uint32 align) {
+        if (isValid(isPower(align))) tape.write("tight %u %u\n", size, align);
+        return granted(space.allocateTightAligned(size, align));
     }
     // A handle that is not live is written as 0, the number of no grant.
     bool free(Handle handle) {
@@ -122,14 +138,22 @@ public:
         tape.write("grow %u %u\n", number(handle), size);
         return space.growInPlace(handle, size);
     }
+    Handle relocate(Handle handle) {
+        tape.write("relocate %u\n", number(handle));
+        return granted(space.relocate(handle));
+    }
     // As allocateAligned, for an alignment that is no power of two.
     Handle relocateAligned(Handle handle, uint32 align) {
-        if (align != 0 && (align & (align - 1)) == 0) tape.write("relocate %u %u\n", number(handle), align);
+        if (isValid(isPower(align))) tape.write("relocate %u %u\n", number(handle), align);
         return granted(space.relocateAligned(handle, align));
     }
     bool extend(uint32 more) {
         tape.write("extend %u\n", more);
         return space.extend(more);
+    }
+    bool retract(uint32 less) {
+        tape.write("retract %u\n", less);
+        return space.retract(less);
     }
     template <class F> void compact(F &&moved) {
         tape.write("compact\n");
@@ -137,8 +161,21 @@ public:
     }
     // A step of 0 is refused, as by A, and not written.
     template <class F> bool compactBy(uint32 step, F &&moved) {
-        if (step != 0) tape.write("compact %u\n", step);
+        if (isValid(step != 0)) tape.write("compact %u\n", step);
         return space.compactBy(step, std::forward<F>(moved));
+    }
+    template <class F> Progress compactWithin(uint32 step, uint32 from, uint32 mostUnits, uint32 mostRanges, F &&moved) {
+        if (isValid(step != 0)) tape.write("compact %u %u %u %u\n", step, from, mostUnits, mostRanges);
+        return space.compactWithin(step, from, mostUnits, mostRanges, std::forward<F>(moved));
+    }
+    template <class F> RoomCost makeRoom(uint32 size, F &&moved) {
+        tape.write("room %u\n", size);
+        return space.makeRoom(size, std::forward<F>(moved));
+    }
+    // An alignment that is no power of two, or a step of 0, is refused, as by A, and not written.
+    template <class F> RoomCost makeRoomBy(uint32 size, uint32 align, uint32 step, F &&moved) {
+        if (isValid(isPower(align) && step != 0)) tape.write("room %u %u %u\n", size, align, step);
+        return space.makeRoomBy(size, align, step, std::forward<F>(moved));
     }
     void reset() {
         tape.write("reset\n");
@@ -149,6 +186,12 @@ private:
     A space;
     detail::Tape tape;
 
+    static bool isPower(uint32 align) { return align != 0 && (align & (align - 1)) == 0; }
+    // A call that could not be read again is not written, and a name that was given to it is that of no other call.
+    bool isValid(bool valid) {
+        if (!valid) tape.unname();
+        return valid;
+    }
     uint32 number(Handle handle) const { return space.isLive(handle) ? tape.number(detail::nameOf(handle)) : 0; }
     Handle granted(Handle handle) {
         if (detail::isGranted(handle)) tape.grant(detail::nameOf(handle));

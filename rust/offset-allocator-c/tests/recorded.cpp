@@ -39,6 +39,8 @@ static void byHand(const std::string &path) {
         check(heap.free(rock) && !heap.free(rock), "freed once");
         // each line is there before the file is closed
         check(read(path) == "space 1000 nodes 32 index 32\n# texture: rock albedo\nalloc 100\nalign 50 64\nshrink 1 40\ngrow 1 60\nalloc 5000\nfree 1\nfree 0\n", "the lines");
+        heap.name(nullptr);
+        heap.name("refused");
         check(!heap.allocateAligned(10, 3), "no power of two");
         Recorded<GuardedAllocator> moved(std::move(heap));
         check(heap.isFailed() && !heap.allocate(1), "what was moved from is empty, and writes nothing");
@@ -52,11 +54,18 @@ static void byHand(const std::string &path) {
         auto step = [&](Move move) { check(move.from == move.to + 48, "a multiple of 16"); };
         check(!moved.compactBy(0, step) && moved.compactBy(16, step), "compacted by 16");
         check(moved->offsetOf(again) == 2 && moved->offsetOf(aligned) == 16, "both moved");
+        Progress progress = moved.compactWithin(1, 0, 1, 1, [](Move) {});
+        check(progress.done && progress.ranges == 1 && progress.units == 1 && progress.more && progress.next == 16, "one range of a pass");
+        check(!moved.compactWithin(0, 0, 1, 1, [](Move) {}).done && !moved.makeRoomBy(1000, 1, 0, [](Move) {}).possible, "no step");
+        check(!moved.makeRoom(1000, [](Move) {}).possible && moved.retract(24) && moved.extend(24), "the end");
+        check(!moved.relocate(again) && moved.allocateTight(5) && !moved.allocateTightAligned(5, 3), "requests");
+        RoomCost cost = moved.makeRoomBy(800, 64, 16, [](Move) {});
+        check(cost.possible && cost.ranges == 0 && moved.allocateTightAligned(800, 64), "room by steps");
         moved.reset();
         check(!moved.isFailed() && moved->size() == 1024, "reset");
     }
     std::fclose(file);
-    check(read(path) == "space 1000 nodes 32 index 32\n# texture: rock albedo\nalloc 100\nalign 50 64\nshrink 1 40\ngrow 1 60\nalloc 5000\nfree 1\nfree 0\ncompact\nextend 24\nalloc 1\nalign 32 32\nfree 2\nrelocate 4 16\nfree 5\ncompact 16\nreset\n", "all lines");
+    check(read(path) == "space 1000 nodes 32 index 32\n# texture: rock albedo\nalloc 100\nalign 50 64\nshrink 1 40\ngrow 1 60\nalloc 5000\nfree 1\nfree 0\n# refused\n\ncompact\nextend 24\nalloc 1\nalign 32 32\nfree 2\nrelocate 4 16\nfree 5\ncompact 16\ncompact 1 0 1 1\nroom 1000\nretract 24\nextend 24\nrelocate 3\ntight 5\nroom 800 64 16\ntight 800 64\nreset\n", "all lines");
     // no file, and a file that cannot be written
     Recorded<Allocator> none(nullptr, 100u, 8u);
     check(none.isFailed() && none.allocate(10).offset == 0, "without a file calls go on");
@@ -89,9 +98,28 @@ template <class A, class H> static void randomCalls(uint64_t seed, const std::st
             } else std::fputs("none\n", answers);
         };
         for (int i = 0; i < 500; i++) {
-            uint32_t kind = below(state, 18);
+            auto room = [&](RoomCost cost) {
+                if (cost.possible) std::fprintf(answers, "ranges %u units %u\n", cost.ranges, cost.units);
+                else std::fputs("none\n", answers);
+            };
+            uint32_t kind = below(state, 24);
             if (kind < 8 || live.empty()) {
                 granted(kind < 2 ? heap.allocateAligned(below(state, 200), 1u << below(state, 7)) : heap.allocate(below(state, 300)));
+            } else if (kind == 23) {
+                Progress progress = heap.compactWithin(1 + below(state, 20), below(state, 3000), below(state, 500), below(state, 9), [](Move) {});
+                if (!progress.done) std::fputs("none\n", answers);
+                else if (!progress.more) std::fprintf(answers, "ranges %u units %u end\n", progress.ranges, progress.units);
+                else std::fprintf(answers, "ranges %u units %u next %u\n", progress.ranges, progress.units, progress.next);
+            } else if (kind == 22) {
+                room(heap.makeRoomBy(below(state, 3000), 1u << below(state, 5), 1 + below(state, 40), [](Move) {}));
+            } else if (kind == 21) {
+                room(heap.makeRoom(below(state, 3000), [](Move) {}));
+            } else if (kind == 20) {
+                std::fputs(heap.retract(below(state, 20)) ? "retracted\n" : "none\n", answers);
+            } else if (kind == 19) {
+                granted(heap.relocate(live[below(state, uint32_t(live.size()))]));
+            } else if (kind == 18) {
+                granted(below(state, 2) ? heap.allocateTight(below(state, 300)) : heap.allocateTightAligned(below(state, 200), 1u << below(state, 7)));
             } else if (kind == 17) {
                 std::fputs(heap.compactBy(1 + below(state, 99), [](Move) {}) ? "compacted\n" : "none\n", answers);
             } else if (kind == 16) {

@@ -2,7 +2,7 @@
 
 use crate::tape::Tape;
 use crate::Recorded;
-use offset_allocator_proved::{Allocation, AllocatorOf, Move, Tables};
+use offset_allocator_proved::{Allocation, AllocatorOf, Move, Progress, RoomCost, Tables};
 use std::io::{self, Write};
 
 impl<T: Tables, W: Write> Recorded<AllocatorOf<T>, W> {
@@ -29,9 +29,27 @@ impl<T: Tables, W: Write> Recorded<AllocatorOf<T>, W> {
     /// `AllocatorOf::allocate_aligned`: `align` has to be a power of two. For another one it panics, and writes nothing.
     #[track_caller]
     pub fn allocate_aligned(&mut self, size: u32, align: u32) -> Option<Allocation<T::Index>> {
-        assert!(align.is_power_of_two(), "align must be a power of two");
+        self.check(align.is_power_of_two(), "align must be a power of two");
         self.tape.write(format_args!("align {size} {align}"));
         let found = self.space.allocate_aligned(size, align)?;
+        self.tape.grant(found.to_parts().1);
+        Some(found)
+    }
+
+    /// `AllocatorOf::allocate_tight`.
+    pub fn allocate_tight(&mut self, size: u32) -> Option<Allocation<T::Index>> {
+        self.tape.write(format_args!("tight {size}"));
+        let found = self.space.allocate_tight(size)?;
+        self.tape.grant(found.to_parts().1);
+        Some(found)
+    }
+
+    /// `AllocatorOf::allocate_tight_aligned`: as `allocate_aligned`.
+    #[track_caller]
+    pub fn allocate_tight_aligned(&mut self, size: u32, align: u32) -> Option<Allocation<T::Index>> {
+        self.check(align.is_power_of_two(), "align must be a power of two");
+        self.tape.write(format_args!("tight {size} {align}"));
+        let found = self.space.allocate_tight_aligned(size, align)?;
         self.tape.grant(found.to_parts().1);
         Some(found)
     }
@@ -57,11 +75,20 @@ impl<T: Tables, W: Write> Recorded<AllocatorOf<T>, W> {
         self.space.grow_in_place(allocation, size)
     }
 
+    /// `AllocatorOf::relocate`: for a handle that is not live, `relocate 0` is written, and it panics.
+    #[track_caller]
+    pub fn relocate(&mut self, allocation: Allocation<T::Index>) -> Option<Allocation<T::Index>> {
+        self.tape.write(format_args!("relocate {}", self.number(allocation)));
+        let found = self.space.relocate(allocation)?;
+        self.tape.grant(found.to_parts().1);
+        Some(found)
+    }
+
     /// `AllocatorOf::relocate_aligned`: `align` has to be a power of two. For another one it panics, and writes nothing; for
     /// a handle that is not live, `relocate 0` is written, and it panics.
     #[track_caller]
     pub fn relocate_aligned(&mut self, allocation: Allocation<T::Index>, align: u32) -> Option<Allocation<T::Index>> {
-        assert!(align.is_power_of_two(), "align must be a power of two");
+        self.check(align.is_power_of_two(), "align must be a power of two");
         self.tape.write(format_args!("relocate {} {align}", self.number(allocation)));
         let found = self.space.relocate_aligned(allocation, align)?;
         self.tape.grant(found.to_parts().1);
@@ -74,6 +101,12 @@ impl<T: Tables, W: Write> Recorded<AllocatorOf<T>, W> {
         self.space.extend(more)
     }
 
+    /// `AllocatorOf::retract`.
+    pub fn retract(&mut self, less: u32) -> bool {
+        self.tape.write(format_args!("retract {less}"));
+        self.space.retract(less)
+    }
+
     /// `AllocatorOf::compact`.
     pub fn compact<F: FnMut(Move<T::Index>)>(&mut self, moved: &mut F) {
         self.tape.write(format_args!("compact"));
@@ -83,9 +116,40 @@ impl<T: Tables, W: Write> Recorded<AllocatorOf<T>, W> {
     /// `AllocatorOf::compact_by`: `step` has to be at least 1. For 0 it panics, and writes nothing.
     #[track_caller]
     pub fn compact_by<F: FnMut(Move<T::Index>)>(&mut self, step: u32, moved: &mut F) -> bool {
-        assert!(step >= 1, "step must be at least 1");
+        self.check(step >= 1, "step must be at least 1");
         self.tape.write(format_args!("compact {step}"));
         self.space.compact_by(step, moved)
+    }
+
+    /// `AllocatorOf::compact_within`: as `compact_by`.
+    #[track_caller]
+    pub fn compact_within<F: FnMut(Move<T::Index>)>(
+        &mut self,
+        step: u32,
+        from: u32,
+        most_units: u32,
+        most_ranges: u32,
+        moved: &mut F,
+    ) -> Option<Progress> {
+        self.check(step >= 1, "step must be at least 1");
+        self.tape.write(format_args!("compact {step} {from} {most_units} {most_ranges}"));
+        self.space.compact_within(step, from, most_units, most_ranges, moved)
+    }
+
+    /// `AllocatorOf::make_room`.
+    pub fn make_room<F: FnMut(Move<T::Index>)>(&mut self, size: u32, moved: &mut F) -> Option<RoomCost> {
+        self.tape.write(format_args!("room {size}"));
+        self.space.make_room(size, moved)
+    }
+
+    /// `AllocatorOf::make_room_by`: `align` has to be a power of two, and `step` at least 1. For others it panics, and writes
+    /// nothing.
+    #[track_caller]
+    pub fn make_room_by<F: FnMut(Move<T::Index>)>(&mut self, size: u32, align: u32, step: u32, moved: &mut F) -> Option<RoomCost> {
+        self.check(align.is_power_of_two(), "align must be a power of two");
+        self.check(step >= 1, "step must be at least 1");
+        self.tape.write(format_args!("room {size} {align} {step}"));
+        self.space.make_room_by(size, align, step, moved)
     }
 
     /// `AllocatorOf::reset`.

@@ -21,6 +21,8 @@ struct Following<NI: NodeIndex> {
     player: CallPlayer<NI>,
     course: Course,
     grants: Vec<Option<Grant>>,
+    /// So many grants came before the last reset, which ended them.
+    ended: usize,
 }
 
 impl<NI: NodeIndex> Following<NI> {
@@ -36,6 +38,7 @@ impl<NI: NodeIndex> Following<NI> {
                 refused: Vec::new(Global),
             },
             grants: Vec::new(Global),
+            ended: 0,
         };
         following.see()?;
         Ok(following)
@@ -116,10 +119,14 @@ impl<NI: NodeIndex> Following<NI> {
                 self.change(i, self.grants.len() - 1)?;
             }
             (Reply::Answer(Answer::Freed), Call::Command(Command::Free(k))) => self.end(i, k as usize - 1),
-            (Reply::Answer(Answer::Reset), _) => (0..self.grants.len()).for_each(|place| self.end(i, place)),
+            (Reply::Answer(Answer::Reset), _) => {
+                (self.ended..self.grants.len()).for_each(|place| self.end(i, place));
+                self.ended = self.grants.len();
+            }
             (Reply::Resized, Call::Shrink(k, _) | Call::Grow(k, _)) => self.change(i, k as usize - 1)?,
-            (Reply::Compacted(_) | Reply::RoomMade(..), _) => {
-                (0..self.grants.len()).try_for_each(|place| self.change(i, place))?;
+            (Reply::Compacted(moves) | Reply::CompactedWithin(_, moves) | Reply::RoomMade(_, moves), _) => {
+                // the number of a grant is one more than its place
+                moves.iter().try_for_each(|it| self.change(i, it.number as usize - 1))?;
             }
             (Reply::Answer(Answer::Refused), _) => {
                 if let Some((asked, why)) = self.refused(call) {

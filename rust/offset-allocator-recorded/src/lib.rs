@@ -15,7 +15,7 @@ mod tape;
 
 pub use drawing::{course, draw};
 pub use offset_allocator_guarded::{GuardedOf, Ticket};
-pub use offset_allocator_proved::{AllocError, Allocation, AllocatorOf, Global, Tables};
+pub use offset_allocator_proved::{AllocError, Allocation, AllocatorOf, Global, Move, Progress, RoomCost, Tables};
 pub use offset_calls::{Call, CallPlayer, Reply};
 pub use offset_script::{Command, IndexWidth, RunFault};
 pub use playing::{play, put_reply};
@@ -42,6 +42,15 @@ impl<A, W: Write> Recorded<A, W> {
     pub fn name(&mut self, name: &str) -> &mut Self {
         self.tape.comment(name);
         self
+    }
+
+    // Panics where a call could not be read again. A name that was given to it is that of no other call.
+    #[track_caller]
+    fn check(&mut self, is_valid: bool, condition: &str) {
+        if !is_valid {
+            self.tape.unname();
+        }
+        assert!(is_valid, "{condition}");
     }
 
     /// The error that ended the recording, if one did.

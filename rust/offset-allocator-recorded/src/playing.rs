@@ -32,6 +32,14 @@ pub fn put_reply(out: &mut Vec<u8>, call: Call, reply: &Reply) -> Result<(), All
             write!(line, "ranges {} units {}", cost.ranges, cost.units)?;
             &line
         }
+        Reply::CompactedWithin(progress, _) => {
+            write!(line, "ranges {} units {} ", progress.ranges, progress.units)?;
+            match progress.next {
+                None => write!(line, "end")?,
+                Some(next) => write!(line, "next {next}")?,
+            }
+            &line
+        }
         Reply::Beside(Some(range)) => {
             write!(line, "range {} at {}", range.number, range.offset)?;
             &line

@@ -25,7 +25,7 @@ fn number(word: &[u8]) -> Option<u32> {
 
 /// The call that a line spells, if it does.
 pub fn call(line: &[u8]) -> Option<Call> {
-    let (mut words, mut count) = ([&[][..]; 4], 0);
+    let (mut words, mut count) = ([&[][..]; 5], 0);
     for word in line.split(|b| *b == b' ') {
         *words.get_mut(count)? = word;
         count += 1;
@@ -42,10 +42,12 @@ pub fn call(line: &[u8]) -> Option<Call> {
         [b"shrink", k, n] => Call::Shrink(number(k)?, number(n)?),
         [b"grow", k, n] => Call::Grow(number(k)?, number(n)?),
         [b"compact"] => Call::Compact,
-        [b"compact", n] => Call::CompactBy(number(n)?),
+        [b"compact", s] => Call::CompactBy(number(s)?),
+        [b"compact", s, o, u, r] => Call::CompactWithin(number(s)?, number(o)?, number(u)?, number(r)?),
         [b"tight", n] => Call::Tight(number(n)?),
         [b"tight", n, a] => Call::TightAligned(number(n)?, number(a)?),
         [b"room", n] => Call::MakeRoom(number(n)?),
+        [b"room", n, a, s] => Call::MakeRoomBy(number(n)?, number(a)?, number(s)?),
         [b"relocate", k] => Call::Relocate(number(k)?),
         [b"relocate", k, a] => Call::RelocateAligned(number(k)?, number(a)?),
         [b"retract", n] => Call::Retract(number(n)?),

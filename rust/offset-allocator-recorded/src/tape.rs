@@ -8,6 +8,8 @@ pub(crate) struct Tape<W: Write> {
     failure: Option<io::Error>,
     // one line, put together first: so a crash leaves no part of one where `out` writes it at once
     line: Vec<u8>,
+    // whether the last line is a name
+    named: bool,
     // the number of the grant that had a name last, 0 for none
     numbers: Vec<u32>,
     grants: u32,
@@ -19,7 +21,7 @@ impl<W: Write> Tape<W> {
         if space.blocks().any(|block| block.allocation.is_some()) {
             return Err(io::Error::new(io::ErrorKind::InvalidInput, "a recording begins with a space that has no live range"));
         }
-        let mut tape = Tape { out, failure: None, line: Vec::new(), numbers: Vec::new(), grants: 0 };
+        let mut tape = Tape { out, failure: None, line: Vec::new(), named: false, numbers: Vec::new(), grants: 0 };
         let bits = if <T::Index as offset_allocator_proved::NodeIndex>::MAX <= 65535 { 16 } else { 32 };
         tape.write(format_args!("space {} nodes {} index {bits}", space.size(), space.max_allocs()));
         match tape.failure.take() {
@@ -33,6 +35,7 @@ impl<W: Write> Tape<W> {
         if self.failure.is_some() {
             return;
         }
+        self.named = false;
         self.line.clear();
         let found = self.line.write_fmt(line).and_then(|()| {
             self.line.push(b'\n');
@@ -45,6 +48,14 @@ impl<W: Write> Tape<W> {
 
     pub(crate) fn comment(&mut self, text: &str) {
         self.write(format_args!("# {}", text.replace(['\n', '\r'], " ")));
+        self.named = true;
+    }
+
+    /// The next request has no name: an empty line is between.
+    pub(crate) fn unname(&mut self) {
+        if self.named {
+            self.write(format_args!(""));
+        }
     }
 
     /// The next grant has this name. Where memory is out the recording ends, and not the program.

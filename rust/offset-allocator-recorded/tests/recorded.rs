@@ -1,7 +1,7 @@
 //! What a recording has: each call, before it is made, flushed; and that playing it gives what the calls gave.
 
 use offset_allocator_guarded::{Guarded, GuardedOf};
-use offset_allocator_proved::{Allocator, AllocatorOf, ByField, ByNode, Global, Tables};
+use offset_allocator_proved::{Allocator, AllocatorOf, ByField, ByNode, Global, Progress, RoomCost, Tables};
 use offset_allocator_recorded::{play, Recorded};
 use std::cell::RefCell;
 use std::io::{self, Write};
@@ -78,6 +78,15 @@ fn each_call_is_a_line() {
     let mut moved = Vec::new();
     assert!(heap.compact_by(16, &mut |it| moved.push((it.from, it.to))));
     assert_eq!(moved, [(50, 2), (64, 16)]);
+    // again 2 to 3, aligned 16 to 48
+    let pass = heap.compact_within(1, 0, 1, 1, &mut |_| ()).unwrap();
+    assert_eq!((pass.ranges, pass.units, pass.next), (1, 1, Some(16)));
+    assert!(heap.make_room(1000, &mut |_| ()).is_none());
+    assert!(heap.retract(24) && heap.extend(24));
+    assert!(heap.relocate(again).is_none());
+    assert!(heap.allocate_tight(5).is_some());
+    assert_eq!(heap.make_room_by(800, 64, 16, &mut |_| ()).unwrap().ranges, 0);
+    assert_eq!(heap.allocate_tight_aligned(800, 64).unwrap().offset, 64);
     heap.free(again);
     heap.reset();
     // questions are the allocator's own, and are not written
@@ -87,10 +96,12 @@ fn each_call_is_a_line() {
     assert_eq!(space.size(), 1024);
     assert!(out.is_ok());
     let expected = "space 1000 nodes 32 index 16\n# texture: rock_albedo\nalloc 100\nalign 50 64\nshrink 1 40\ngrow 1 60\n\
-        alloc 5000\nfree 1\nextend 24\ncompact\n# two lines \nalloc 1\nalign 32 32\nfree 2\nrelocate 4 16\nfree 5\ncompact 16\nfree 3\nreset\n";
+        alloc 5000\nfree 1\nextend 24\ncompact\n# two lines \nalloc 1\nalign 32 32\nfree 2\nrelocate 4 16\nfree 5\ncompact 16\n\
+        compact 1 0 1 1\nroom 1000\nretract 24\nextend 24\nrelocate 3\ntight 5\nroom 800 64 16\ntight 800 64\nfree 3\nreset\n";
     assert_eq!(seen.text(), expected);
     assert_eq!(answers(expected), ["grant 1 at 0", "grant 2 at 128", "shrunk", "grown", "none", "freed", "extended", "compacted",
-        "grant 3 at 50", "grant 4 at 64", "freed", "grant 5 at 0", "freed", "compacted", "freed", "reset"]);
+        "grant 3 at 50", "grant 4 at 64", "freed", "grant 5 at 0", "freed", "compacted", "ranges 1 units 1 next 16",
+        "none", "retracted", "extended", "none", "grant 6 at 1", "ranges 0 units 0", "grant 7 at 64", "freed", "reset"]);
 }
 
 #[test]
@@ -107,12 +118,13 @@ fn tickets_that_are_not_live_have_no_number() {
     assert_eq!(heap.grow_in_place(first, 20), None);
     assert_eq!(heap.relocate_aligned(first, 4), None);
     assert_eq!(heap.relocate_aligned(second, 4), None);
+    assert_eq!(heap.relocate(first), None);
     assert!(heap.compact_by(4, &mut |_| ()));
     assert_eq!(heap.grow_in_place(second, 20), Some(true));
     assert!(heap.free(second));
-    let text = "space 1000 nodes 32 index 32\nalloc 10\nfree 1\nalloc 10\nfree 0\nshrink 0 1\ngrow 0 20\nrelocate 0 4\nrelocate 2 4\ncompact 4\ngrow 2 20\nfree 2\n";
+    let text = "space 1000 nodes 32 index 32\nalloc 10\nfree 1\nalloc 10\nfree 0\nshrink 0 1\ngrow 0 20\nrelocate 0 4\nrelocate 2 4\nrelocate 0\ncompact 4\ngrow 2 20\nfree 2\n";
     assert_eq!(seen.text(), text);
-    assert_eq!(answers(text), ["grant 1 at 0", "freed", "grant 2 at 0", "gone", "gone", "gone", "gone", "none", "compacted", "grown", "freed"]);
+    assert_eq!(answers(text), ["grant 1 at 0", "freed", "grant 2 at 0", "gone", "gone", "gone", "gone", "none", "gone", "compacted", "grown", "freed"]);
 }
 
 #[test]
@@ -133,7 +145,15 @@ fn a_line_is_flushed_before_its_call() {
     assert!(catch_unwind(AssertUnwindSafe(|| heap.allocate_aligned(10, 3))).is_err());
     assert!(catch_unwind(AssertUnwindSafe(|| heap.relocate_aligned(range, 3))).is_err());
     assert!(catch_unwind(AssertUnwindSafe(|| heap.compact_by(0, &mut |_| ()))).is_err());
+    assert!(catch_unwind(AssertUnwindSafe(|| heap.compact_within(0, 0, 1, 1, &mut |_| ()))).is_err());
+    assert!(catch_unwind(AssertUnwindSafe(|| heap.make_room_by(10, 1, 0, &mut |_| ()))).is_err());
+    assert!(catch_unwind(AssertUnwindSafe(|| heap.make_room_by(10, 3, 1, &mut |_| ()))).is_err());
+    assert!(catch_unwind(AssertUnwindSafe(|| heap.allocate_tight_aligned(10, 3))).is_err());
     assert!(written.text().ends_with("free 0\n"));
+    // nor does its name go to the next request
+    assert!(catch_unwind(AssertUnwindSafe(|| heap.name("refused").allocate_aligned(10, 3))).is_err());
+    heap.allocate(10);
+    assert!(written.text().ends_with("free 0\n# refused\n\nalloc 10\n"));
 }
 
 #[test]
@@ -187,6 +207,14 @@ impl Random {
 }
 
 // Random calls, and what each gave, as the answers of a recording have it.
+fn progress(found: Option<Progress>) -> String {
+    match found {
+        None => "none".to_owned(),
+        Some(Progress { ranges, units, next: None }) => format!("ranges {ranges} units {units} end"),
+        Some(Progress { ranges, units, next: Some(next) }) => format!("ranges {ranges} units {units} next {next}"),
+    }
+}
+
 fn random_calls<T: Tables>(seed: u64) {
     let mut random = Random(seed);
     let seen = Seen::default();
@@ -202,7 +230,20 @@ fn random_calls<T: Tables>(seed: u64) {
                 format!("grant {grants} at {}", handle.offset)
             }
         };
-        expected.push(match random.below(22) {
+        let cost = |found: Option<RoomCost>| match found {
+            None => "none".to_owned(),
+            Some(cost) => format!("ranges {} units {}", cost.ranges, cost.units),
+        };
+        expected.push(match random.below(28) {
+            22 => granted(heap.allocate_tight(random.below(size / 8)), &mut live, &mut grants),
+            23 => granted(heap.allocate_tight_aligned(random.below(size / 8), 1 << random.below(8)), &mut live, &mut grants),
+            24 => cost(heap.make_room(random.below(size), &mut |_| ())),
+            25 => cost(heap.make_room_by(random.below(size), 1 << random.below(5), random.below(40) + 1, &mut |_| ())),
+            26 => progress(heap.compact_within(random.below(20) + 1, random.below(size), random.below(size), random.below(9), &mut |_| ())),
+            27 if !live.is_empty() => {
+                let handle = live[random.below(live.len() as u32) as usize];
+                granted(heap.relocate(handle), &mut live, &mut grants)
+            }
             0..=7 => granted(heap.allocate(random.below(size / 8)), &mut live, &mut grants),
             8..=9 => granted(heap.allocate_aligned(random.below(size / 8), 1 << random.below(8)), &mut live, &mut grants),
             10..=14 if !live.is_empty() => {
@@ -232,6 +273,7 @@ fn random_calls<T: Tables>(seed: u64) {
                 live.clear();
                 "reset".to_owned()
             }
+            _ if random.below(2) == 0 => if heap.retract(random.below(20)) { "retracted" } else { "none" }.to_owned(),
             _ => if heap.extend(random.below(20)) { "extended" } else { "none" }.to_owned(),
         });
     }
@@ -259,7 +301,12 @@ fn random_tickets<T: Tables>(seed: u64) {
             Some(false) => "none".to_owned(),
             Some(true) => word.to_owned(),
         };
-        expected.push(match (random.below(7), of(&mut random, &tickets)) {
+        expected.push(match (random.below(9), of(&mut random, &tickets)) {
+            (7, _) => match heap.make_room_by(random.below(3000), 1 << random.below(5), random.below(40) + 1, &mut |_| ()) {
+                None => "none".to_owned(),
+                Some(cost) => format!("ranges {} units {}", cost.ranges, cost.units),
+            },
+            (8, _) => progress(heap.compact_within(random.below(20) + 1, random.below(3000), random.below(900), random.below(9), &mut |_| ())),
             (0..=1, _) | (_, None) => match heap.allocate(random.below(400)) {
                 None => "none".to_owned(),
                 Some(ticket) => {

@@ -10,6 +10,7 @@ use offset_script::{Answer, PlayerOf};
 use crate::memory::AllocError;
 
 // The reply to `Relocate`. The handle of a grant is kept.
+#[inline(never)]
 pub(crate) fn relocate<T: Tables>(
     player: &mut PlayerOf<T>,
     number: u32,
@@ -23,6 +24,7 @@ pub(crate) fn relocate<T: Tables>(
 }
 
 // The reply to `RelocateAligned`. The handle of a grant is kept.
+#[inline(never)]
 pub(crate) fn relocate_aligned<T: Tables>(
     player: &mut PlayerOf<T>,
     number: u32,
@@ -37,6 +39,7 @@ pub(crate) fn relocate_aligned<T: Tables>(
 }
 
 // The reply to `Retract`.
+#[inline(never)]
 pub(crate) fn retract<T: Tables>(player: &mut PlayerOf<T>, less: u32) -> Reply {
     resized(player.space.retract(less))
 }
@@ -62,6 +65,7 @@ fn find<NI: NodeIndex>(
 }
 
 // The reply to `First`.
+#[inline(never)]
 pub(crate) fn first_live<T: Tables>(
     player: &PlayerOf<T>,
     numbers: &mut Numbers,
@@ -71,6 +75,7 @@ pub(crate) fn first_live<T: Tables>(
 }
 
 // The reply to `Last`.
+#[inline(never)]
 pub(crate) fn last_live<T: Tables>(
     player: &PlayerOf<T>,
     numbers: &mut Numbers,
@@ -80,6 +85,7 @@ pub(crate) fn last_live<T: Tables>(
 }
 
 // The reply to `Before`.
+#[inline(never)]
 pub(crate) fn live_before<T: Tables>(
     player: &PlayerOf<T>,
     numbers: &mut Numbers,
@@ -93,6 +99,7 @@ pub(crate) fn live_before<T: Tables>(
 }
 
 // The reply to `After`.
+#[inline(never)]
 pub(crate) fn live_after<T: Tables>(
     player: &PlayerOf<T>,
     numbers: &mut Numbers,

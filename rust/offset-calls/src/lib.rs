@@ -1,12 +1,12 @@
 // Printed by rust/erase from crates/offset_calls/src/lib.rt: change it there.
 
-//! Lists of calls to an allocator, played on it: every call that changes a space but `make_room_by` and
-//! `compact_within`, and the questions beside them.
+//! Lists of calls to an allocator, played on it: every call that changes a space, and the questions beside
+//! them.
 //!
 //! `offset_script` plays the commands of a script. Here `shrink`, `grow_in_place`, `compact`, `compact_by`,
-//! `make_room`, `relocate`, `relocate_aligned`, `retract` and the tight requests, and the questions for an
-//! offset, for that of a grant, for the reason of a refusal, for the cost of room, by whole steps too, and for
-//! the ranges beside one, are calls too. The replies are proved to be those of the plain stamped list of
+//! `compact_within`, `make_room`, `make_room_by`, `relocate`, `relocate_aligned`, `retract` and the tight
+//! requests, and the questions for an offset, for that of a grant, for the reason of a refusal, for the cost of
+//! room, by whole steps too, and for the ranges beside one, are calls too. The replies are proved to be those of the plain stamped list of
 //! blocks, which `specs/Calls.antt` extends by these calls, for every lawful layout and index type.
 #![doc = include_str!("../README.md")]
 #![forbid(unsafe_code)]

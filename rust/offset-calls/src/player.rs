@@ -55,13 +55,14 @@ impl<T: Tables> CallPlayerOf<T> {
 
     /// Makes one call, and returns its reply. Its alignment, if it has one, has to be a power of two.
     ///
-    /// It costs what the call costs in the allocator. `Compact`, `MakeRoom`, `First`, `Last`, `Before` and
-    /// `After` also read the grants since the last one of them, and keep 8 bytes for each node.
+    /// It costs what the call costs in the allocator. Calls that may slide ranges (`Compact`, `CompactBy`,
+    /// `CompactWithin`, `MakeRoom`, `MakeRoomBy`), `First`, `Last`, `Before` and `After` also read the grants
+    /// since the last one of them, and keep 8 bytes for each node.
     ///
     /// # Errors
     ///
-    /// It fails only where an allocation fails. Then nothing was done, but by `Compact` and `MakeRoom`: they
-    /// may have moved their ranges, and the reply that says so is lost. Any call may follow.
+    /// It fails only where an allocation fails. Then nothing was done, but by a call that may slide ranges: it
+    /// may have moved them, and the reply that says so is lost. Any call may follow.
     ///
     /// # Panics
     ///

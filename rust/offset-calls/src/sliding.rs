@@ -5,7 +5,7 @@
 use crate::calls::{Moved, Reply};
 use crate::desk::Desk;
 use crate::numbers::Numbers;
-use offset_allocator::{Allocation, AllocatorOf, Move, NodeIndex, RoomCost, Tables};
+use offset_allocator::{Allocation, AllocatorOf, Move, NodeIndex, Progress, RoomCost, Tables};
 use offset_guarded::GuardedOf;
 use offset_script::{Answer, PlayerOf};
 use crate::memory::Vec;
@@ -68,6 +68,35 @@ fn collect<NI: NodeIndex, T: Tables<Index = NI>>(
     space.make_room(size, &mut |range: Move<NI>| seen.add(range))
 }
 
+// Makes room in a space by whole steps, and collects the moves.
+fn collect_by<NI: NodeIndex, T: Tables<Index = NI>>(
+    space: &mut AllocatorOf<T>,
+    size: u32,
+    align: u32,
+    step: u32,
+    seen: &mut Slides<NI>,
+) -> Option<RoomCost> {
+    space.make_room_by(size, align, step, &mut |range: Move<NI>| seen.add(range))
+}
+
+// Compacts a space by whole steps within a budget, and collects the moves.
+fn moved_within<NI: NodeIndex, T: Tables<Index = NI>>(
+    space: &mut AllocatorOf<T>,
+    step: u32,
+    from: u32,
+    most_units: u32,
+    most_ranges: u32,
+    seen: &mut Slides<NI>,
+) -> Option<Progress> {
+    space.compact_within(
+        step,
+        from,
+        most_units,
+        most_ranges,
+        &mut |range: Move<NI>| seen.add(range),
+    )
+}
+
 // The moves, with the numbers of the ranges.
 fn numbered<NI: NodeIndex>(
     alloc: Global,
@@ -86,6 +115,7 @@ fn numbered<NI: NodeIndex>(
 }
 
 // The reply to `Compact`.
+#[inline(never)]
 pub(crate) fn compact<T: Tables>(
     alloc: Global,
     player: &mut PlayerOf<T>,
@@ -110,6 +140,7 @@ fn by_steps(done: bool, moves: Vec<Moved>) -> Reply {
 }
 
 // The reply to `CompactBy`.
+#[inline(never)]
 pub(crate) fn compact_by<T: Tables>(
     alloc: Global,
     player: &mut PlayerOf<T>,
@@ -126,6 +157,7 @@ pub(crate) fn compact_by<T: Tables>(
 }
 
 // The reply to `MakeRoom`.
+#[inline(never)]
 pub(crate) fn make_room<T: Tables>(
     alloc: Global,
     player: &mut PlayerOf<T>,
@@ -139,6 +171,60 @@ pub(crate) fn make_room<T: Tables>(
         return Err(AllocError);
     }
     Ok(Reply::RoomMade(cost, numbered(alloc, numbers, &seen.found)?))
+}
+
+// The reply to `MakeRoomBy`.
+#[inline(never)]
+pub(crate) fn make_room_by<T: Tables>(
+    alloc: Global,
+    player: &mut PlayerOf<T>,
+    numbers: &mut Numbers,
+    size: u32,
+    align: u32,
+    step: u32,
+) -> Result<Reply, AllocError> {
+    numbers.read(&player.handles, player.space.node_count())?;
+    let mut seen = Slides::new(alloc);
+    let cost = collect_by(&mut player.space, size, align, step, &mut seen);
+    if seen.is_refused {
+        return Err(AllocError);
+    }
+    Ok(Reply::RoomMade(cost, numbered(alloc, numbers, &seen.found)?))
+}
+
+// The reply to a compaction within a budget that came so far, with these moves.
+fn so_far(progress: Option<Progress>, moves: Vec<Moved>) -> Reply {
+    match progress {
+        None => Reply::Answer(Answer::Refused),
+        Some(progress) => Reply::CompactedWithin(progress, moves),
+    }
+}
+
+// The reply to `CompactWithin`.
+#[inline(never)]
+pub(crate) fn compact_within<T: Tables>(
+    alloc: Global,
+    player: &mut PlayerOf<T>,
+    numbers: &mut Numbers,
+    step: u32,
+    from: u32,
+    most_units: u32,
+    most_ranges: u32,
+) -> Result<Reply, AllocError> {
+    numbers.read(&player.handles, player.space.node_count())?;
+    let mut seen = Slides::new(alloc);
+    let progress = moved_within(
+        &mut player.space,
+        step,
+        from,
+        most_units,
+        most_ranges,
+        &mut seen,
+    );
+    if seen.is_refused {
+        return Err(AllocError);
+    }
+    Ok(so_far(progress, numbered(alloc, numbers, &seen.found)?))
 }
 
 // Compacts a guarded space, and collects the moves, as `compacted` does.
@@ -167,6 +253,35 @@ fn collect_guarded<NI: NodeIndex, T: Tables<Index = NI>>(
     space.make_room(size, &mut |it: Move<NI>| seen.add(it))
 }
 
+// Makes room in a guarded space by whole steps, and collects the moves, as `collect_by` does.
+fn collect_by_guarded<NI: NodeIndex, T: Tables<Index = NI>>(
+    space: &mut GuardedOf<T>,
+    size: u32,
+    align: u32,
+    step: u32,
+    seen: &mut Slides<NI>,
+) -> Option<RoomCost> {
+    space.make_room_by(size, align, step, &mut |it: Move<NI>| seen.add(it))
+}
+
+// Compacts a guarded space by whole steps within a budget, and collects the moves, as `moved_within` does.
+fn moved_within_guarded<NI: NodeIndex, T: Tables<Index = NI>>(
+    space: &mut GuardedOf<T>,
+    step: u32,
+    from: u32,
+    most_units: u32,
+    most_ranges: u32,
+    seen: &mut Slides<NI>,
+) -> Option<Progress> {
+    space.compact_within(
+        step,
+        from,
+        most_units,
+        most_ranges,
+        &mut |it: Move<NI>| seen.add(it),
+    )
+}
+
 // The moves, with the numbers of the ranges, which are their serials.
 fn with_serials<T: Tables>(
     alloc: Global,
@@ -187,6 +302,7 @@ fn with_serials<T: Tables>(
 }
 
 // The reply to `Compact` of a guarded space.
+#[inline(never)]
 pub(crate) fn compact_guarded<T: Tables>(
     alloc: Global,
     desk: &mut Desk<T>,
@@ -200,6 +316,7 @@ pub(crate) fn compact_guarded<T: Tables>(
 }
 
 // The reply to `CompactBy` of a guarded space.
+#[inline(never)]
 pub(crate) fn compact_by_guarded<T: Tables>(
     alloc: Global,
     desk: &mut Desk<T>,
@@ -214,6 +331,7 @@ pub(crate) fn compact_by_guarded<T: Tables>(
 }
 
 // The reply to `MakeRoom` of a guarded space.
+#[inline(never)]
 pub(crate) fn make_room_guarded<T: Tables>(
     alloc: Global,
     desk: &mut Desk<T>,
@@ -225,4 +343,46 @@ pub(crate) fn make_room_guarded<T: Tables>(
         return Err(AllocError);
     }
     Ok(Reply::RoomMade(cost, with_serials(alloc, &desk.space, &seen.found)?))
+}
+
+// The reply to `MakeRoomBy` of a guarded space.
+#[inline(never)]
+pub(crate) fn make_room_by_guarded<T: Tables>(
+    alloc: Global,
+    desk: &mut Desk<T>,
+    size: u32,
+    align: u32,
+    step: u32,
+) -> Result<Reply, AllocError> {
+    let mut seen = Slides::new(alloc);
+    let cost = collect_by_guarded(&mut desk.space, size, align, step, &mut seen);
+    if seen.is_refused {
+        return Err(AllocError);
+    }
+    Ok(Reply::RoomMade(cost, with_serials(alloc, &desk.space, &seen.found)?))
+}
+
+// The reply to `CompactWithin` of a guarded space.
+#[inline(never)]
+pub(crate) fn compact_within_guarded<T: Tables>(
+    alloc: Global,
+    desk: &mut Desk<T>,
+    step: u32,
+    from: u32,
+    most_units: u32,
+    most_ranges: u32,
+) -> Result<Reply, AllocError> {
+    let mut seen = Slides::new(alloc);
+    let progress = moved_within_guarded(
+        &mut desk.space,
+        step,
+        from,
+        most_units,
+        most_ranges,
+        &mut seen,
+    );
+    if seen.is_refused {
+        return Err(AllocError);
+    }
+    Ok(so_far(progress, with_serials(alloc, &desk.space, &seen.found)?))
 }

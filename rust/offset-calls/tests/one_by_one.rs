@@ -12,7 +12,7 @@ fn below(state: &mut u64, n: u32) -> u32 {
 
 fn random_call(state: &mut u64) -> Call {
     let (n, k, align) = (below(state, 60), below(state, 30), 1 << below(state, 6));
-    match below(state, 38) {
+    match below(state, 40) {
         0..=5 => Call::Command(Command::Alloc(n)),
         6 => Call::Command(Command::Align(n, align)),
         7..=11 => Call::Command(Command::Free(k)),
@@ -42,6 +42,8 @@ fn random_call(state: &mut u64) -> Call {
         34 => Call::RelocateAligned(k, align),
         35 => Call::RoomCostBy(3 * n, align, k + 1),
         36 => Call::WouldBegin(n, align),
+        37 => Call::MakeRoomBy(3 * n, align, k + 1),
+        38 => Call::CompactWithin(k + 1, 9 * n, 2 * n, k),
         _ => Call::After(k),
     }
 }
@@ -79,6 +81,11 @@ fn conditions() {
     assert!(catch_unwind(|| start().call(Global, Call::RoomCostBy(1, 1, 0))).is_err());
     assert!(catch_unwind(|| start().call(Global, Call::RoomCostBy(1, 3, 1))).is_err());
     assert!(catch_unwind(|| start().call(Global, Call::RoomCostBy(1, 1, 1))).is_ok());
+    assert!(catch_unwind(|| start().call(Global, Call::MakeRoomBy(1, 1, 0))).is_err());
+    assert!(catch_unwind(|| start().call(Global, Call::MakeRoomBy(1, 3, 1))).is_err());
+    assert!(catch_unwind(|| start().call(Global, Call::MakeRoomBy(1, 1, 1))).is_ok());
+    assert!(catch_unwind(|| start().call(Global, Call::CompactWithin(0, 0, 0, 0))).is_err());
+    assert!(catch_unwind(|| start().call(Global, Call::CompactWithin(1, 0, 0, 0))).is_ok());
     assert!(catch_unwind(|| start().call(Global, Call::CompactBy(0))).is_err());
     assert!(catch_unwind(|| start().call(Global, Call::CompactBy(1))).is_ok());
     assert!(catch_unwind(|| CallPlayer::<u16>::start(Global, 100, 1)).is_err());

@@ -20,8 +20,8 @@ returns-in-RefusalTightAligned g c k is_number = question_serves (call.RefusalTi
 
 pub returns-in-RoomCost : goal.returns-in-RoomCost
 returns-in-RoomCost g c k is_number = question_serves (call.RoomCost c.in-RoomCost.size) _ _ _ k _ _ c.requires.ledger c.in-RoomCost.is refl c.allocator-in-RoomCost.ensures
-    (λ hs. ((refl, refl), (_, c.room_cost.ensures.cost, refl)))
+    c.room_cost.ensures
 
 pub returns-in-RoomCostBy : goal.returns-in-RoomCostBy
 returns-in-RoomCostBy g c k is_number = question_serves (call.RoomCostBy c.in-RoomCostBy.size c.in-RoomCostBy.align c.in-RoomCostBy.step) _ _ _ k _ _ c.requires.ledger c.in-RoomCostBy.is refl
-    c.allocator-in-RoomCostBy.ensures (λ hs. ((refl, refl), (_, c.room_cost_by.ensures.cost, refl)))
+    c.allocator-in-RoomCostBy.ensures c.room_cost_by.ensures

@@ -1,15 +1,13 @@
-use Rattle.offset_calls.proofs.Common.{sym, subst}
-use Rattle.offset_script.proofs.Held.{may_be_kept}
-use Rattle.offset_script.specs.Steps.{MayBeKept}
+use Rattle.offset_calls.proofs.Common.{sym, subst, Takes}
+use Rattle.offset_calls.specs.Calls.{reply_view}
 use Rattle.offset_calls.proofs.playing.reply.Goals as goal
 
-pub keep-requires-clause-granted : goal.keep-requires-clause-granted
-keep-requires-clause-granted g c = subst (MayBeKept c.allocate_tight-granted.result c.allocate_tight-granted.new.self) (sym c.reserve.ensures.items)
-    (may_be_kept c.in-Tight.size c.args.player.now.space c.allocate_tight-granted.new.self c.args.player.now.handles.items c.allocate_tight-granted.result c.allocate_tight-granted.ensures.grants
-    c.requires.held)
+pub returns-in-RoomCost-clause-takes : goal.returns-in-RoomCost-clause-takes
+returns-in-RoomCost-clause-takes g c =
+    let hs = c.args.player.now.handles.items in
+    subst (λ k. Takes k c.args.player.now.space hs c.args.player.now.space hs (reply_view c.room_cost.result)) (sym c.in-RoomCost.is) (c.room_cost.ensures hs)
 
-pub keep-requires-in-TightAligned-clause-granted : goal.keep-requires-in-TightAligned-clause-granted
-keep-requires-in-TightAligned-clause-granted g c =
-    subst (MayBeKept c.allocate_tight_aligned-granted.result c.allocate_tight_aligned-granted.new.self) (sym c.reserve-in-TightAligned.ensures.items)
-    (may_be_kept c.in-TightAligned.size c.args.player.now.space c.allocate_tight_aligned-granted.new.self c.args.player.now.handles.items c.allocate_tight_aligned-granted.result
-    c.allocate_tight_aligned-granted.ensures.grants c.requires.held)
+pub returns-in-RoomCostBy-clause-takes : goal.returns-in-RoomCostBy-clause-takes
+returns-in-RoomCostBy-clause-takes g c =
+    let hs = c.args.player.now.handles.items in
+    subst (λ k. Takes k c.args.player.now.space hs c.args.player.now.space hs (reply_view c.room_cost_by.result)) (sym c.in-RoomCostBy.is) (c.room_cost_by.ensures hs)
