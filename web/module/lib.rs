@@ -303,10 +303,11 @@ impl<NI: NodeIndex> Space<NI> {
             (Reply::Answer(A::Size(n)), _) => [10, 0, 0, *n],
             (Reply::RoomMade(Some(cost), _), _) => [13, cost.ranges, 0, cost.units],
             (Reply::RoomCost(Some(cost)), _) => [14, cost.ranges, 0, cost.units],
-            (Reply::CompactedWithin(pass, _), _) => match pass.next {
-                Some(next) => [15, pass.ranges, next, pass.units],
-                None => [16, pass.ranges, 0, pass.units],
-            },
+            (Reply::CompactedWithin(next, moves), _) => {
+                let units = moves.iter().map(|range| range.size).sum();
+                let kind = if next.is_some() { 15 } else { 16 };
+                [kind, word(moves.len()), next.unwrap_or(0), units]
+            }
             (Reply::Resized, _) => [17, 0, 0, 0],
             (Reply::Offset(n), _) => [18, 0, *n, 0],
             (Reply::Beside(Some(range)), _) => [19, range.number as u32, range.offset, 0],

@@ -22,7 +22,7 @@ use Rattle.offset_calls.specs.Calls.{CompactedWithin, moves_by, moves_of_run, sl
 use Rattle.offset_calls.proofs.EndPairs.{same_can, retracted_alike, same_relocated, same_relocated_aligned, IsSent, AreSent, sent_first, sent_last}
 use Rattle.offset_calls.specs.Tight.{holds, better, holding_place, request_tight, allocate_tight, lack, reason_held}
 use Rattle.offset_calls.specs.Room as room
-use Rattle.offset_calls.proofs.Splits.{IsSameSplit, no_split, same_split, same_cost, same_cheapest, same_room_cost, same_cheapest_by, same_to_the_end, same_within, same_progress}
+use Rattle.offset_calls.proofs.Splits.{IsSameSplit, no_split, same_split, same_cost, same_cheapest, same_room_cost, same_cheapest_by, same_to_the_end, same_within, same_goes_on}
 use Rattle.std.specs.Prelude.{min}
 use Rattle.offset_script.specs.Histories.{raise_number}
 use Rattle.offset_script.specs.declared.scripts.Command.TheVariants as command
@@ -262,7 +262,7 @@ module _ (r : ℕ → ℕ) (g d : ℕ) (back : (k : ℕ) → r (number_with g d 
 
   within_same : (n : ℕ) (o o' : Option Split) → IsSameSplit a.pairs o o' → AreSame r g d (compact_within n s o) (compact_within n t o')
   within_same n None None no_split = quiet _ _ refl
-  within_same n o o' (same_split f k b e) = slides_same n _ _ f k b e (ap₂ (λ p l. CompactedWithin p l) (same_progress f k b) (run_moves_same n f k b e))
+  within_same n o o' (same_split f k b e) = slides_same n _ _ f k b e (ap₂ (λ p l. CompactedWithin p l) (same_goes_on f k b) (run_moves_same n f k b e))
 
   compact_same : AreSame r g d (compact s) (compact t)
   compact_same = record {

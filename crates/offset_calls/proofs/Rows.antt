@@ -18,7 +18,7 @@ use Rattle.offset_calls.specs.{Stepped.kept, Stepped.first_run, Stepped.to_the_e
 use Rattle.offset_calls.specs.Calls.{moves_by, moves_of_run, slides_run, compact_by, compact_within, make_room_by}
 use Rattle.offset_calls.proofs.EndPairs.{same_free_end, IsSent, AreSent, sent, sent_first, sent_last}
 use Rattle.offset_calls.specs.Tight.{holds, better, holding_place, request_tight, allocate_tight, lack, reason_held}
-use Rattle.offset_calls.proofs.Splits.{IsSameSplit, no_split, same_split, same_cost, same_cheapest, same_room_cost, same_cheapest_by, same_to_the_end, same_within, same_progress}
+use Rattle.offset_calls.proofs.Splits.{IsSameSplit, no_split, same_split, same_cost, same_cheapest, same_room_cost, same_cheapest_by, same_to_the_end, same_within, same_goes_on}
 use Rattle.std.specs.Prelude.{min}
 use Rattle.offset_script.specs.Histories as script
 use Rattle.offset_script.specs.Machine as machine
@@ -138,7 +138,7 @@ module _ (s t : State) (a : IsSameSpace s t) where
 
   within_reply : (n : ℕ) (o o' : Option Split) → IsSameSplit a.blocks.pairs o o' → without_offset (compact_within n s o).reply ≡ without_offset (compact_within n t o').reply
   within_reply n None None no_split = refl
-  within_reply n o o' (same_split f k b e) = slides_reply n _ _ f k b (ap₂ (λ p l. plain.CompactedWithin p l) (same_progress f k b) (run_moves_same n f k b e))
+  within_reply n o o' (same_split f k b e) = slides_reply n _ _ f k b (ap₂ (λ p l. plain.CompactedWithin p l) (same_goes_on f k b) (run_moves_same n f k b e))
 
   made_by_reply : (n : ℕ) (o o' : Option Split) → IsSameSplit a.blocks.pairs o o' → (make_room_by n s o).reply ≡ (make_room_by n t o').reply
   made_by_reply n None None no_split = refl

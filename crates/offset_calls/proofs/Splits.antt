@@ -3,8 +3,7 @@ use Rattle.offset_calls.proofs.Common.{◌≡◌, ℕ, ◌-◌, not, List, [], �
 use Rattle.offset_script.proofs.{Pairs.Pair, Pairs.left, Pairs.right, Pairs.lefts, Pairs.rights, Pairs.same_free, Pairs.same_total, Tests.if_same}
 use Rattle.offset_script.specs.Totals.{live}
 use Rattle.offset_calls.proofs.Common.{Bool, ◌&&◌, ◌||◌, ◌+◌, ◌∙◌, sym, append-nil, length-map, State}
-use Rattle.offset_allocator.specs.declared.moves.budget.Progress.{Progress}
-use Rattle.offset_calls.specs.{Stepped.first_run, Stepped.to_the_end, Budget.is_within, Budget.longest_that, Budget.start_of, Budget.progress_of}
+use Rattle.offset_calls.specs.{Stepped.first_run, Stepped.to_the_end, Budget.is_within, Budget.longest_that, Budget.start_of, Budget.next_of}
 use Rattle.offset_calls.specs.RoomBySteps.{used_up, serves, shortest_that, cheapest_that, cheapest_by, blocks_short}
 use Rattle.offset_calls.proofs.SteppedPairs.{kept_right, given_pairs, same_last}
 use Rattle.offset_script.specs.Machine as machine
@@ -130,8 +129,5 @@ start_same : (o : ℕ) (ps : List Pair) → start_of o (lefts ps) ≡ start_of o
 start_same o [] = refl
 start_same o (q ∷ ps) = refl
 
-pub same_progress : (f k b : List Pair) → progress_of (record { front = lefts f; run = lefts k; back = lefts b }) ≡ progress_of (record { front = rights f; run = rights k; back = rights b })
-same_progress f k b =
-    ap₂ (λ (u r : ℕ). let p : Progress = record { units = u; ranges = r; next = start_of (total (lefts f) + total (lefts k)) (lefts b) } in p) (live_total k) (live_length k)
-    ∙ ap (λ (o : Option ℕ). let p : Progress = record { units = total (live (rights k)); ranges = length (live (rights k)); next = o } in p)
-    (start_same (total (lefts f) + total (lefts k)) b ∙ ap₂ (λ (x y : ℕ). start_of (x + y) (rights b)) (same_total f) (same_total k))
+pub same_goes_on : (f k b : List Pair) → next_of (record { front = lefts f; run = lefts k; back = lefts b }) ≡ next_of (record { front = rights f; run = rights k; back = rights b })
+same_goes_on f k b = start_same (total (lefts f) + total (lefts k)) b ∙ ap₂ (λ (x y : ℕ). start_of (x + y) (rights b)) (same_total f) (same_total k)

@@ -1,5 +1,5 @@
 -- A compaction by whole steps within a budget: the run that slides is the one that the plain machine finds, what is left
--- agrees with it, and the progress and the moves are the same.
+-- agrees with it, and where it goes on and the moves are the same.
 use Rattle.offset_calls.proofs.Common.{◌≡◌, ◌≢◌, ℕ, ◌+◌, ◌≤◌, ◌⊎◌, ◌&&◌, ◌||◌, Bool, true, false, not, List, [], ◌∷◌, ◌++◌, length, Option, Some, None, is_some, option_map, nat_eq, nat_le, if◌then◌else◌}
 use Rattle.offset_calls.proofs.Common.{refl, sym, ap, ap₂, subst, subst₂, ◌∙◌, inl, inr, arith, map-append, append-nil, length-append, true≢false, cases_lt, and_parts, and_right, Block, View, Handle, IsWellFormed, FoldsTo, kept_name}
 use Rattle.offset_calls.proofs.Common.{State, is_free, is_short_of, total, units, count_named, one, Move, AreNumbered, Reply, Answer, Outcome, replies_only}
@@ -10,7 +10,6 @@ use Rattle.offset_allocator.specs.declared.moves.room.RoomCost.{RoomCost}
 use Rattle.offset_allocator.specs.Moving.BySteps as by
 use Rattle.offset_allocator.specs.Moving.Budget.{CanFollow, CompactsWithin, IsReached, IsWithin, SlidesWithin, StopsAt, first_from}
 use Rattle.offset_allocator.specs.Moving.Budget as named_budget
-use Rattle.offset_allocator.specs.View.{used_of, used_units}
 use Rattle.offset_allocator.specs.Moving.Compacting as named_moves
 use Rattle.offset_allocator.proofs.Moving.Budgeted.{begun, from_here}
 use Rattle.offset_allocator.proofs.Tallies.{one-same, tally_append}
@@ -19,7 +18,7 @@ use Rattle.offset_script.proofs.Agreement.{Label, by_name, by_tag, IsAtState}
 use Rattle.offset_script.proofs.{Ends.total_units, Labels.names, Labels.tags, Lists.starts_free, Lists.total-append, Members.map_parts, Members.map_first, Well.IsWell, Well.well_quiet}
 use Rattle.offset_script.specs.Totals.{live}
 use Rattle.offset_script.specs.Machine as machine
-use Rattle.offset_calls.specs.Budget.{is_within, longest_that, no_progress, progress_of, start_of}
+use Rattle.offset_calls.specs.Budget.{is_within, longest_that, next_of, start_of}
 use Rattle.offset_calls.specs.Calls.{CompactedWithin, compact_within, moves_of_run}
 use Rattle.offset_calls.specs.Room.{Split, from_first, after_first}
 use Rattle.offset_calls.specs.{Slides.Notes, Steps.TakesWithin, Steps.comes_so_far, Stepped.first_run, Stepped.slid_run}
@@ -234,23 +233,9 @@ same_start o (l ∷ ls) = refl
 same_units : (f r : List Label) → units (names f ++ names r) ≡ total (tags f) + total (tags r)
 same_units f r = sym (ap units (map-append by_name f r)) ∙ sym (total_units (f ++ r)) ∙ ap total (map-append by_tag f r) ∙ total-append (tags f) (tags r)
 
-abbrev comes_to : ℕ → ℕ → Option ℕ → Progress
-comes_to units ranges next = record { units = units; ranges = ranges; next = next }
-
-progress_same : (f r b : List Label) (first : Block) (rest : List Block) → names r ≡ first ∷ rest → first.used ≡ false
-    → comes_to (used_units rest) (used_of rest) (named_budget.start_of (units (names f ++ first ∷ rest)) (names b)) ≡ progress_of (split (tags f) (tags r) (tags b))
-progress_same f r b first rest is free =
-    let live_units : used_units rest ≡ total (live (tags r)) = omega (
-      arith,
-      ap (λ (c : RoomCost). c.units) (cost_same r),
-      ap used_units is,
-      ap (λ (t : Bool). if t then first.size else 0) free,
-    ) in
-    let live_count : used_of rest ≡ length (live (tags r)) = omega (arith, ap (λ (c : RoomCost). c.ranges) (cost_same r), ap used_of is, ap one free) in
-    let next : named_budget.start_of (units (names f ++ first ∷ rest)) (names b) ≡ start_of (total (tags f) + total (tags r)) (tags b) =
-    ap (λ l. named_budget.start_of (units (names f ++ l)) (names b)) (sym is) ∙ ap (λ (o : ℕ). named_budget.start_of o (names b)) (same_units f r) ∙ same_start (total (tags f) + total (tags r)) b in
-    ap₂ (λ (x y : ℕ). comes_to x y (named_budget.start_of (units (names f ++ first ∷ rest)) (names b))) live_units live_count
-    ∙ ap (comes_to (total (live (tags r))) (length (live (tags r)))) next
+next_same : (f r b : List Label) (run : List Block) → names r ≡ run → named_budget.start_of (units (names f ++ run)) (names b) ≡ next_of (split (tags f) (tags r) (tags b))
+next_same f r b run is = ap (λ l. named_budget.start_of (units (names f ++ l)) (names b)) (sym is)
+    ∙ ap (λ (o : ℕ). named_budget.start_of o (names b)) (same_units f r) ∙ same_start (total (tags f) + total (tags r)) b
 
 -- ---- every state stays well-formed
 
@@ -327,7 +312,7 @@ module _ (v w : View) (hs left : List (Option Handle)) (r : Reply) (s : State) (
         ∙ ap is_some (ap (first_from n from 0) (sym p.agrees.view) ∙ f))
 
     slid : (xs : List named_moves.Move) (ms : List Move) → AreNumbered hs xs ms → (q : Progress) → (h : SlidesWithin n from u k v w q) → CanFollow v (h.first ∷ h.rest)
-        → FoldsTo Notes [] (by.moves_by n (units h.front) (units h.front) (h.first ∷ h.rest)) xs → r ≡ CompactedWithin q ms → IsSame (compact_within n s found)
+        → FoldsTo Notes [] (by.moves_by n (units h.front) (units h.front) (h.first ∷ h.rest)) xs → r ≡ CompactedWithin q.next ms → IsSame (compact_within n s found)
     slid xs ms a q h can_follow folds is =
         let l = labelled h.front h.first h.rest h.back h.reached in
         let at = run_of l.f l.r l.b in
@@ -335,12 +320,12 @@ module _ (v w : View) (hs left : List (Option Handle)) (r : Reply) (s : State) (
         let fits = can l.r (subst (CanFollow v) (sym l.run_is) can_follow) in
         let moved : ms ≡ moves_of_run n at = run_moves v hs s p.formed ws p.agrees n w formed h.front (h.first ∷ h.rest) h.back run l.f l.r l.b l.is l.front_is l.run_is l.back_is ms
         (subst (λ ys. AreNumbered hs ys ms) (noted _ [] xs folds) a) in
-        let far : q ≡ progress_of at = h.progress
-        ∙ sym (ap₂ (λ fs bs. comes_to (used_units h.rest) (used_of h.rest) (named_budget.start_of (units (fs ++ h.first ∷ h.rest)) bs)) l.front_is l.back_is)
-        ∙ progress_same l.f l.r l.b h.first h.rest l.run_is l.free in
+        let next : q.next ≡ next_of at = ap (λ (p : Progress). p.next) h.progress
+        ∙ sym (ap₂ (λ fs bs. named_budget.start_of (units (fs ++ h.first ∷ h.rest)) bs) l.front_is l.back_is)
+        ∙ next_same l.f l.r l.b (h.first ∷ h.rest) l.run_is in
         subst (λ o. IsSame (compact_within n s o)) (sym (found_is h.front h.first h.rest h.back h.reached))
-        (subst (λ b. IsSame (if b then replies_only s (Answer machine.Refused) else record { state = slid_run n s at; reply = CompactedWithin (progress_of at) (moves_of_run n at) })) (sym fits) (
-          is ∙ ap₂ CompactedWithin far moved,
+        (subst (λ b. IsSame (if b then replies_only s (Answer machine.Refused) else record { state = slid_run n s at; reply = CompactedWithin (next_of at) (moves_of_run n at) })) (sym fits) (
+          is ∙ ap₂ CompactedWithin next moved,
           subst (λ l. IsAtState w l (slid_run n s at)) (sym e) (record {
             formed = formed;
             agrees = run_agrees v hs s p.formed ws p.agrees n w formed h.front (h.first ∷ h.rest) h.back run l.f l.r l.b l.is l.front_is l.run_is l.back_is;
@@ -354,10 +339,10 @@ module _ (v w : View) (hs left : List (Option Handle)) (r : Reply) (s : State) (
         let at = run_of l.f l.r l.b in
         let full = cannot l.r (λ c. m.2.5 (subst (CanFollow v) l.run_is c)) in
         subst (λ o. IsSame (compact_within n s o)) (sym (found_is m.2.0 m.2.1 m.2.2 m.2.3 m.2.4))
-        (subst (λ b. IsSame (if b then replies_only s (Answer machine.Refused) else record { state = slid_run n s at; reply = CompactedWithin (progress_of at) (moves_of_run n at) })) (sym full)
+        (subst (λ b. IsSame (if b then replies_only s (Answer machine.Refused) else record { state = slid_run n s at; reply = CompactedWithin (next_of at) (moves_of_run n at) })) (sym full)
         (stays v w hs left r s formed ws p e (Answer machine.Refused) m.0 is))
     taken xs ms a (Some q) (inl m) is = subst (λ o. IsSame (compact_within n s o)) (sym (none_found m.0))
-        (stays v w hs left r s formed ws p e (CompactedWithin no_progress []) m.2 (is ∙ ap₂ CompactedWithin m.1 (none_numbered hs xs ms m.3 a)))
+        (stays v w hs left r s formed ws p e (CompactedWithin None []) m.2 (is ∙ ap₂ CompactedWithin (ap (λ (p : Progress). p.next) m.1) (none_numbered hs xs ms m.3 a)))
     taken xs ms a (Some q) (inr m) is = slid xs ms a q m.0 m.1 m.2 is
 
     pub within_taken : TakesWithin n from u k v hs w r → IsSame (compact_within n s found)

@@ -1,6 +1,5 @@
 -- A compaction by whole steps within a budget on the plain machine: how far it comes.
 use Rattle.std.specs.Prelude.{ℕ, ◌+◌, Bool, ◌&&◌, ◌||◌, List, [], ◌∷◌, length, Option, Some, None, nat_eq, nat_le, if◌then◌else◌}
-use Rattle.offset_allocator.specs.declared.moves.budget.Progress.{Progress}
 use Rattle.offset_script.specs.Machine.{Block, total}
 use Rattle.offset_script.specs.Totals.{live}
 use Rattle.offset_calls.specs.Room.{Split, from_first}
@@ -21,14 +20,6 @@ abbrev pub start_of : ℕ → List Block → Option ℕ
 start_of o [] = None
 start_of o (b ∷ bs) = Some o
 
--- how far a call has come that slid a run
-abbrev pub progress_of : Split → Progress
-progress_of p = record {
-  units = total (live p.run);
-  ranges = length (live p.run);
-  next = start_of (total p.front + total p.run) p.back;
-}
-
--- a call that found nothing to slide
-abbrev pub no_progress : Progress
-no_progress = record { units = 0; ranges = 0; next = None }
+-- where the next call goes on after one that slid a run, if any block follows it
+abbrev pub next_of : Split → Option ℕ
+next_of p = start_of (total p.front + total p.run) p.back

@@ -22,8 +22,7 @@ use Rattle.offset_calls.specs.RoomBySteps.{cheapest_by, room_cost_by}
 use Rattle.offset_calls.specs.Tight.{allocate_tight, reason_tight}
 use Rattle.offset_calls.specs.Ending.{relocate, relocate_aligned, can_retract, retracted, first_live, last_live, live_before, live_after}
 use Rattle.offset_calls.specs.Stepped.{kept, first_run, slid_run, to_the_end}
-use Rattle.offset_calls.specs.Budget.{is_within, longest_that, no_progress, progress_of}
-use Rattle.offset_allocator.specs.declared.moves.budget.Progress as budget
+use Rattle.offset_calls.specs.Budget.{is_within, longest_that, next_of}
 use Rattle.offset_calls.specs.declared.calls.LiveRange.{LiveRange}
 use Rattle.offset_calls.specs.declared.calls.Reply as program
 use Rattle.offset_calls.specs.declared.calls.Reply.TheVariants as program_reply
@@ -43,7 +42,7 @@ pub data Reply : Type 0 where
   Answer : machine.Answer → Reply
   Resized : Reply
   Compacted : List Move → Reply
-  CompactedWithin : budget.Progress → List Move → Reply
+  CompactedWithin : Option ℕ → List Move → Reply
   Offset : ℕ → Reply
   Refusal : Option allocator.Refusal → Reply
   RoomMade : Option room.RoomCost → List Move → Reply
@@ -162,8 +161,8 @@ compact_by n s (Some p) = slides_run n s (Compacted (moves_by n 0 0 s.blocks)) p
 
 -- blocks from such a one on slide, as far as the budget goes
 abbrev pub compact_within : ℕ → State → Option Split → Outcome
-compact_within n s None = replies_only s (CompactedWithin no_progress [])
-compact_within n s (Some p) = slides_run n s (CompactedWithin (progress_of p) (moves_of_run n p)) p
+compact_within n s None = replies_only s (CompactedWithin None [])
+compact_within n s (Some p) = slides_run n s (CompactedWithin (next_of p) (moves_of_run n p)) p
 
 -- ---- making room
 

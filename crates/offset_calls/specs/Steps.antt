@@ -72,7 +72,7 @@ TakesRoomBy m want short v handles w r = (c : Option RoomCost) × IsLeastCostBy 
 -- the reply that says how far a compaction within a budget came
 abbrev pub comes_so_far : Option Progress → List Move → Reply
 comes_so_far None ms = Answer machine.Refused
-comes_so_far (Some p) ms = CompactedWithin p ms
+comes_so_far (Some p) ms = CompactedWithin p.next ms
 
 -- such a compaction, whose moves are replied with the numbers of their grants
 abbrev pub TakesWithin : ℕ → ℕ → ℕ → ℕ → View → List (Option Handle) → View → Reply → Type 0

@@ -4,7 +4,7 @@ ghost use Rattle.std.specs.Prelude.{◌≡◌, ◌↔◌, All, IsTrue};
 ghost use Rattle.offset_calls.specs.Calls.{is_valid, reply_view};
 ghost use Rattle.offset_calls.specs.Steps.{begins_at};
 
-use offset_allocator::{Progress, Refusal, RoomCost};
+use offset_allocator::{Refusal, RoomCost};
 use offset_script::{Answer, Command};
 
 /// A call to an allocator. Sizes are in units of the space. A range is named by the number of its grant:
@@ -146,14 +146,15 @@ pub enum Reply {
     Resized,
     /// The ranges that the compaction moved, in space order.
     Compacted(Vec<Moved>),
-    /// How far a compaction within a budget came, and the ranges that it moved, in space order.
-    CompactedWithin(Progress, Vec<Moved>),
+    /// Where the next compaction within a budget goes on, or `None` where this one came to the end of the space;
+    /// and the ranges that it moved, in space order.
+    CompactedWithin(Option<u32>, Vec<Moved>),
     /// Where the range begins, or would begin.
     Offset(u32),
     /// Why the request would be refused, or `None` where it would be granted.
     Refusal(Option<Refusal>),
-    /// What was moved to make room, or `None` where all free units together are not enough; and the ranges
-    /// that were moved, in space order.
+    /// What was moved to make room, or `None` where nothing would do, as `RoomCost` says it; and the ranges that
+    /// were moved, in space order.
     RoomMade(Option<RoomCost>, Vec<Moved>),
     /// What would have to be moved, or `None` where all free units together are not enough, or by steps where no
     /// run of blocks gives up enough units and nodes.

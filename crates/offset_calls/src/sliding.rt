@@ -304,7 +304,7 @@ fn so_far(progress: Option<Progress>, moves: Vec<Moved>) -> Reply
 {
     match progress {
         None => Reply::Answer(Answer::Refused),
-        Some(progress) => Reply::CompactedWithin(progress, moves),
+        Some(progress) => Reply::CompactedWithin(progress.next, moves),
     }
 }
 

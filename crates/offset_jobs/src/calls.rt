@@ -63,9 +63,8 @@ pub fn add_replies(replies: &[Reply], digest: &mut Digest) {
                 add_cost(cost, digest);
                 add_moves(moves, digest);
             }
-            Reply::CompactedWithin(progress, moves) => {
-                digest.add(u64::from(progress.units));
-                digest.add(u64::from(progress.next.unwrap_or(0)));
+            Reply::CompactedWithin(next, moves) => {
+                digest.add(u64::from(next.unwrap_or(0)));
                 add_moves(moves, digest);
             }
             Reply::RoomCost(cost) => add_cost(cost, digest),

@@ -21,7 +21,7 @@ const SHORT: [Call; 7] = [
 
 // What is called after the command at a place.
 fn between(place: u32) -> Call {
-    match place % 16 {
+    match place % 19 {
         0 => Call::Refusal(place),
         1 => Call::Shrink(place / 2, 3),
         2 => Call::Grow(place / 2, 20),
@@ -37,6 +37,9 @@ fn between(place: u32) -> Call {
         12 => Call::Before(place / 2),
         13 => Call::Retract(1),
         14 => Call::After(place / 3),
+        15 => Call::CompactBy(3),
+        16 => Call::MakeRoomBy(place % 40, 4, 3),
+        17 => Call::CompactWithin(3, place, 9, 2),
         _ => Call::RoomCost(place % 60),
     }
 }

@@ -149,9 +149,8 @@ fn put_reply(cells: &mut Cells<'_>, reply: &Reply) {
             put(cells, 7);
             put_cost(cells, cost);
         }
-        Reply::CompactedWithin(progress, moves) => {
-            put_all(cells, &[10, progress.units, progress.ranges]);
-            put_all(cells, &[progress.next.unwrap_or(u32::MAX)]);
+        Reply::CompactedWithin(next, moves) => {
+            put_all(cells, &[10, next.unwrap_or(u32::MAX)]);
             put_moves(cells, moves);
         }
         Reply::Beside(None) => put(cells, 8),

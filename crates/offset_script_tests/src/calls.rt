@@ -586,29 +586,29 @@ const STEPS_IN_PARTS: List = List {
         // 21 free, 30, 36 and 13 live
         (
             Call::CompactWithin(22, 0, 100, 9),
-            "CompactedWithin(Progress { units: 0, ranges: 0, next: None }, [])",
+            "CompactedWithin(None, [])",
         ),
         (
             Call::CompactWithin(10, 0, 65, 9),
-            "CompactedWithin(Progress { units: 30, ranges: 1, next: Some(51) }, [Moved { number: 4, from: 21, to: 1, size: 30 }])",
+            "CompactedWithin(Some(51), [Moved { number: 4, from: 21, to: 1, size: 30 }])",
         ),
         // 1 free, 30 live, 20 free, 36 and 13 live; one range moves in any case
         (
             Call::CompactWithin(10, 51, 0, 0),
-            "CompactedWithin(Progress { units: 36, ranges: 1, next: Some(87) }, [Moved { number: 5, from: 51, to: 31, size: 36 }])",
+            "CompactedWithin(Some(87), [Moved { number: 5, from: 51, to: 31, size: 36 }])",
         ),
         (
             Call::CompactWithin(3, 88, 100, 9),
-            "CompactedWithin(Progress { units: 0, ranges: 0, next: None }, [])",
+            "CompactedWithin(None, [])",
         ),
         (
             Call::CompactWithin(3, 87, 100, 9),
-            "CompactedWithin(Progress { units: 13, ranges: 1, next: None }, [Moved { number: 6, from: 87, to: 69, size: 13 }])",
+            "CompactedWithin(None, [Moved { number: 6, from: 87, to: 69, size: 13 }])",
         ),
         // 1 free, 30 and 36 live, 2 free, 13 live, 18 free
         (
             Call::CompactWithin(3, 0, 100, 9),
-            "CompactedWithin(Progress { units: 0, ranges: 0, next: None }, [])",
+            "CompactedWithin(None, [])",
         ),
         (
             Call::Command(Command::Alloc(18)),

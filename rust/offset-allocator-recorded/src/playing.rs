@@ -32,9 +32,10 @@ pub fn put_reply(out: &mut Vec<u8>, call: Call, reply: &Reply) -> Result<(), All
             write!(line, "ranges {} units {}", cost.ranges, cost.units)?;
             &line
         }
-        Reply::CompactedWithin(progress, _) => {
-            write!(line, "ranges {} units {} ", progress.ranges, progress.units)?;
-            match progress.next {
+        Reply::CompactedWithin(next, moves) => {
+            let units: u32 = moves.iter().map(|range| range.size).sum();
+            write!(line, "ranges {} units {units} ", moves.len())?;
+            match next {
                 None => write!(line, "end")?,
                 Some(next) => write!(line, "next {next}")?,
             }

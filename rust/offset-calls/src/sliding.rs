@@ -196,7 +196,7 @@ pub(crate) fn make_room_by<T: Tables>(
 fn so_far(progress: Option<Progress>, moves: Vec<Moved>) -> Reply {
     match progress {
         None => Reply::Answer(Answer::Refused),
-        Some(progress) => Reply::CompactedWithin(progress, moves),
+        Some(progress) => Reply::CompactedWithin(progress.next, moves),
     }
 }
 
