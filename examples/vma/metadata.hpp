@@ -1,0 +1,192 @@
+// Our allocator in the place of VMA's own class of block metadata: this file is included by VMA's header between
+// VmaBlockMetadata and what uses it, and the class has the name of the one that it replaces.
+#include "offset_allocator.h"
+
+class VmaBlockMetadata_TLSF : public VmaBlockMetadata {
+public:
+    VmaBlockMetadata_TLSF(const VkAllocationCallbacks *callbacks, VkDeviceSize granularity, bool isVirtual)
+        : VmaBlockMetadata(callbacks, granularity, isVirtual), m_Ranges(VmaStlAllocator<Range>(callbacks)) {}
+    VmaBlockMetadata_TLSF(const VmaBlockMetadata_TLSF &) = delete;
+    VmaBlockMetadata_TLSF &operator=(const VmaBlockMetadata_TLSF &) = delete;
+    ~VmaBlockMetadata_TLSF() override { oa_drop(m_Space); }
+
+    // Units are bytes as long as 32 bits count them. A node for each 256 bytes is a guess, since VMA does not say how many
+    // ranges there will be; the memory of a node is touched when it is first used.
+    void Init(VkDeviceSize size) override {
+        VmaBlockMetadata::Init(size);
+        while (size / m_Unit > LARGEST) m_Unit *= 2;
+        const VkDeviceSize nodes = VMA_MIN(VMA_MAX(size / 256, VkDeviceSize(1) << 12), VkDeviceSize(1) << 22);
+        m_Space = oa_new(uint32_t(size / m_Unit), uint32_t(nodes));
+    }
+
+    size_t GetAllocationCount() const override { return m_Count; }
+    size_t GetFreeRegionsCount() const override { return oa_block_count(m_Space) - m_Count + 1; } // VMA divides by it
+    VkDeviceSize GetSumFreeSize() const override { return GetSize() - m_Bytes; }
+    bool IsEmpty() const override { return m_Count == 0; }
+    VkDeviceSize GetAllocationOffset(VmaAllocHandle handle) const override {
+        return oa_allocation_offset(m_Space, Of(handle)) * m_Unit;
+    }
+    void *GetAllocationUserData(VmaAllocHandle handle) const override { return At(handle).user; }
+    void SetAllocationUserData(VmaAllocHandle handle, void *user) override { At(handle).user = user; }
+    void GetAllocationInfo(VmaAllocHandle handle, VmaVirtualAllocationInfo &info) override {
+        info.offset = GetAllocationOffset(handle);
+        info.size = At(handle).size;
+        info.pUserData = At(handle).user;
+    }
+
+    // VMA walks from the end of a block to its start.
+    VmaAllocHandle GetAllocationListBegin() const override { return Back(oa_last_live(m_Space)); }
+    VmaAllocHandle GetNextAllocation(VmaAllocHandle handle) const override {
+        return Back(oa_live_before(m_Space, Of(handle)));
+    }
+    VkDeviceSize GetNextFreeRegionSize(VmaAllocHandle handle) const override {
+        const VmaAllocHandle before = GetNextAllocation(handle);
+        return GetAllocationOffset(handle) - (before ? GetAllocationOffset(before) + At(before).size : 0);
+    }
+
+    // VMA asks for the handle before it says that it takes the range, and may take none: it is granted here, and freed at
+    // the next change if it was not taken. The strategies are the same to us.
+    bool CreateAllocationRequest(VkDeviceSize size, VkDeviceSize align, bool upper, VmaSuballocationType type, uint32_t,
+                                 VmaAllocationRequest *request) override {
+        GiveBack();
+        if (upper) return false; // that is for the linear algorithm alone
+        // an image has whole pages of the granularity, so that no buffer shares one with it
+        if (!IsVirtual() && (type == VMA_SUBALLOCATION_TYPE_UNKNOWN || type == VMA_SUBALLOCATION_TYPE_IMAGE_UNKNOWN ||
+                             type == VMA_SUBALLOCATION_TYPE_IMAGE_OPTIMAL)) {
+            align = VMA_MAX(align, GetBufferImageGranularity());
+            size = VmaAlignUp(size, GetBufferImageGranularity());
+        }
+        const VkDeviceSize units = VmaDivideRoundingUp(size + GetDebugMargin(), m_Unit);
+        const VkDeviceSize step = VMA_MAX(align / m_Unit, VkDeviceSize(1));
+        if (units > LARGEST || step > LARGEST) return false;
+        const oa_allocation range = oa_allocate_tight_aligned(m_Space, uint32_t(units), uint32_t(step));
+        if (range.metadata == OA_NO_SPACE) return false;
+        if (range.metadata >= m_Ranges.size()) m_Ranges.resize(size_t(range.metadata) + 1);
+        m_Ranges[range.metadata] = {size, nullptr};
+        m_Pending = range.metadata;
+        request->type = VmaAllocationRequestType::TLSF;
+        request->allocHandle = Handle(range);
+        request->size = size;
+        return true;
+    }
+
+    void Alloc(const VmaAllocationRequest &request, VmaSuballocationType, void *user) override {
+        VMA_ASSERT(Of(request.allocHandle).metadata == m_Pending);
+        m_Pending = OA_NO_SPACE;
+        At(request.allocHandle).user = user;
+        m_Bytes += request.size;
+        m_Count++;
+    }
+
+    void Free(VmaAllocHandle handle) override {
+        GiveBack();
+        const VkDeviceSize size = At(handle).size;
+        const bool live = oa_free(m_Space, Of(handle));
+        VMA_ASSERT(live && "it is not live");
+        if (!live) return;
+        m_Bytes -= size;
+        m_Count--;
+    }
+
+    void Clear() override {
+        oa_reset(m_Space);
+        m_Pending = OA_NO_SPACE;
+        m_Bytes = m_Count = 0;
+    }
+
+    bool Validate() const override {
+        VkDeviceSize bytes = 0, end = 0;
+        size_t count = 0;
+        Each(
+            [&](VkDeviceSize offset, const Range &range) {
+                VMA_ASSERT(offset >= end);
+                end = offset + range.size;
+                bytes += range.size;
+                count++;
+            },
+            [](VkDeviceSize, VkDeviceSize) {});
+        return end <= GetSize() && bytes == m_Bytes && count == m_Count;
+    }
+
+    void AddStatistics(VmaStatistics &sum) const override {
+        sum.blockCount++;
+        sum.blockBytes += GetSize();
+        sum.allocationCount += uint32_t(m_Count);
+        sum.allocationBytes += m_Bytes;
+    }
+
+    void AddDetailedStatistics(VmaDetailedStatistics &sum) const override {
+        sum.statistics.blockCount++;
+        sum.statistics.blockBytes += GetSize();
+        Each([&](VkDeviceSize, const Range &range) { VmaAddDetailedStatisticsAllocation(sum, range.size); },
+             [&](VkDeviceSize, VkDeviceSize size) { VmaAddDetailedStatisticsUnusedRange(sum, size); });
+    }
+
+#if VMA_STATS_STRING_ENABLED
+    void PrintDetailedMap(VmaJsonWriter &json) const override {
+        size_t unused = 0;
+        Each([](VkDeviceSize, const Range &) {}, [&](VkDeviceSize, VkDeviceSize) { unused++; });
+        PrintDetailedMap_Begin(json, GetSumFreeSize(), m_Count, unused);
+        Each([&](VkDeviceSize offset, const Range &range) { PrintDetailedMap_Allocation(json, offset, range.size, range.user); },
+             [&](VkDeviceSize offset, VkDeviceSize size) { PrintDetailedMap_UnusedRange(json, offset, size); });
+        PrintDetailedMap_End(json);
+    }
+#endif
+
+    VkResult CheckCorruption(const void *data) override {
+        bool whole = true;
+        Each([&](VkDeviceSize offset, const Range &range) { whole &= VmaValidateMagicValue(data, offset + range.size); },
+             [](VkDeviceSize, VkDeviceSize) {});
+        VMA_ASSERT(whole && "written after the end of a range");
+        return whole ? VK_SUCCESS : VK_ERROR_UNKNOWN_COPY;
+    }
+
+    void DebugLogAllAllocations() const override {
+        Each([&](VkDeviceSize offset, const Range &range) { DebugLogAllocation(offset, range.size, range.user); },
+             [](VkDeviceSize, VkDeviceSize) {});
+    }
+
+private:
+    // What VMA has beside each range: the exact bytes, and a word of its own.
+    struct Range {
+        VkDeviceSize size;
+        void *user;
+    };
+    static constexpr VkDeviceSize LARGEST = 4026531840; // no larger request is granted
+
+    oa_allocator *m_Space = nullptr;
+    VkDeviceSize m_Unit = 1;
+    VkDeviceSize m_Bytes = 0; // of the ranges that VMA has taken
+    size_t m_Count = 0;
+    uint32_t m_Pending = OA_NO_SPACE;                 // the name of a range that VMA has not taken yet
+    VmaVector<Range, VmaStlAllocator<Range>> m_Ranges; // by names
+
+    // A handle of VMA is a word that is not 0: a name and 1.
+    static VmaAllocHandle Handle(oa_allocation range) { return (VmaAllocHandle)(uintptr_t(range.metadata) + 1); }
+    static oa_allocation Of(VmaAllocHandle handle) { return {0, uint32_t((uintptr_t)handle - 1)}; }
+    Range &At(VmaAllocHandle handle) { return m_Ranges[Of(handle).metadata]; }
+    const Range &At(VmaAllocHandle handle) const { return m_Ranges[Of(handle).metadata]; }
+
+    VmaAllocHandle Back(oa_allocation range) const {
+        if (range.metadata == m_Pending && m_Pending != OA_NO_SPACE) range = oa_live_before(m_Space, range);
+        return range.metadata == OA_NO_SPACE ? VK_NULL_HANDLE : Handle(range);
+    }
+
+    void GiveBack() {
+        if (m_Pending != OA_NO_SPACE) oa_free(m_Space, {0, m_Pending});
+        m_Pending = OA_NO_SPACE;
+    }
+
+    // Each taken range and each run of bytes between them, in order.
+    template <class Used, class Unused> void Each(Used used, Unused unused) const {
+        VkDeviceSize end = 0;
+        for (oa_allocation at = oa_first_live(m_Space); at.metadata != OA_NO_SPACE; at = oa_live_after(m_Space, at)) {
+            if (at.metadata == m_Pending) continue;
+            const VkDeviceSize offset = at.offset * m_Unit;
+            if (offset > end) unused(end, offset - end);
+            used(offset, m_Ranges[at.metadata]);
+            end = offset + m_Ranges[at.metadata].size;
+        }
+        if (end < GetSize()) unused(end, GetSize() - end);
+    }
+};
