@@ -152,7 +152,7 @@ private:
         VkDeviceSize size;
         void *user;
     };
-    static constexpr VkDeviceSize LARGEST = 4026531840; // no larger request is granted
+    static constexpr VkDeviceSize LARGEST = UINT32_MAX;
 
     oa_allocator *m_Space = nullptr;
     VkDeviceSize m_Unit = 1;

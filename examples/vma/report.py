@@ -14,7 +14,7 @@ def read(name):
 
 
 def row(name, values):
-    print(f"    {name:<44}" + "".join(f"{value:>12}" for value in values))
+    print((f"    {name:<44}" + "".join(f"{value:>12}" for value in values)).rstrip())
 
 
 results = {side: dict(reversed(line.split()) for line in read(side + ".txt")) for side in sides}
@@ -23,7 +23,7 @@ for word, name in (("passed", "tests passed"), ("failed", "failed"), ("left", "n
     row(name, [sum(one == word for one in results[side].values()) for side in sides])
 failed = {side: sorted(name for name, one in results[side].items() if one == "failed") for side in sides}
 
-# a row of a benchmark: its times on each turn
+# a row of a benchmark: its times, one a turn
 form = re.compile(r" *Algorithm=(\w+) (Empty|Not empty) Allocation=(\w+) FreeOrder=\w+: allocations (\S+) s, free (\S+) s")
 times = {side: {} for side in sides}
 for side in sides:
@@ -41,7 +41,7 @@ for side in sides:
             else:
                 continue
             if algorithm != "TLSF":  # the same on both sides
-                name, strategy, phases = "the linear algorithm, ours in neither", "Default", [""] * len(phases)
+                name, strategy, phases = "the linear algorithm, not replaced", "Default", [""] * len(phases)
             for what, number in zip(phases, numbers):
                 seen.setdefault((name + what, strategy), []).append(float(number))
         for key, found in seen.items():
@@ -49,12 +49,10 @@ for side in sides:
 strategies = ("MIN_MEMORY", "Default", "MIN_TIME")
 print()
 row("time of ours / VMA's own", [name.lower() for name in strategies])
-for name in dict.fromkeys(name for name, _ in times["own"]):
-    ratios = []
-    for strategy in strategies:
-        found = [times[side].get((name, strategy)) for side in sides]
-        ratios.append(f"{statistics.median(found[1]) / statistics.median(found[0]):.2f}" if all(found) else "")
-    row(name, ratios)
+for name in sorted(dict.fromkeys(name for name, _ in times["own"]), key=lambda name: name.startswith("the linear")):
+    pairs = [zip(times["ours"].get((name, strategy), ()), times["own"].get((name, strategy), ())) for strategy in strategies]
+    ratios = [[ours / own for ours, own in pair] for pair in pairs]
+    row(name, [f"{statistics.median(found):.1f}" if found else "" for found in ratios])
 print()
 row("bytes a live range", ("VMA's own", "ours"))
 memory = [read(f"work/{side}.memory") for side in sides]
