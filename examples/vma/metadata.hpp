@@ -5,10 +5,14 @@
 class VmaBlockMetadata_TLSF : public VmaBlockMetadata {
 public:
     VmaBlockMetadata_TLSF(const VkAllocationCallbacks *callbacks, VkDeviceSize granularity, bool isVirtual)
-        : VmaBlockMetadata(callbacks, granularity, isVirtual), m_Ranges(VmaStlAllocator<Range>(callbacks)) {}
+        : VmaBlockMetadata(callbacks, granularity, isVirtual) {}
     VmaBlockMetadata_TLSF(const VmaBlockMetadata_TLSF &) = delete;
     VmaBlockMetadata_TLSF &operator=(const VmaBlockMetadata_TLSF &) = delete;
-    ~VmaBlockMetadata_TLSF() override { oa_drop(m_Space); }
+    ~VmaBlockMetadata_TLSF() override {
+        oa_drop(m_Space);
+        for (size_t i = 0; i < m_ChunkCount; i++) vma_delete_array(GetAllocationCallbacks(), m_Chunks[i], CHUNK);
+        vma_delete_array(GetAllocationCallbacks(), m_Chunks, m_ChunkCount);
+    }
 
     // Units are bytes as long as 32 bits count them. A node for each 256 bytes is a guess, since VMA does not say how many
     // ranges there will be; the memory of a node is touched when it is first used.
@@ -17,19 +21,21 @@ public:
         while (size / m_Unit > LARGEST) m_Unit *= 2;
         const VkDeviceSize nodes = VMA_MIN(VMA_MAX(size / 256, VkDeviceSize(1) << 12), VkDeviceSize(1) << 22);
         m_Space = oa_new(uint32_t(size / m_Unit), uint32_t(nodes));
+        m_ChunkCount = size_t(VmaDivideRoundingUp(nodes, VkDeviceSize(CHUNK)));
+        m_Chunks = vma_new_array(GetAllocationCallbacks(), Range *, m_ChunkCount);
+        memset(m_Chunks, 0, m_ChunkCount * sizeof(Range *));
     }
 
     size_t GetAllocationCount() const override { return m_Count; }
     size_t GetFreeRegionsCount() const override { return oa_block_count(m_Space) - m_Count + 1; } // VMA divides by it
     VkDeviceSize GetSumFreeSize() const override { return GetSize() - m_Bytes; }
     bool IsEmpty() const override { return m_Count == 0; }
-    VkDeviceSize GetAllocationOffset(VmaAllocHandle handle) const override {
-        return oa_allocation_offset(m_Space, Of(handle)) * m_Unit;
-    }
+    // VMA calls this one without its lock, beside requests of other threads.
+    VkDeviceSize GetAllocationOffset(VmaAllocHandle handle) const override { return At(handle).offset; }
     void *GetAllocationUserData(VmaAllocHandle handle) const override { return At(handle).user; }
     void SetAllocationUserData(VmaAllocHandle handle, void *user) override { At(handle).user = user; }
     void GetAllocationInfo(VmaAllocHandle handle, VmaVirtualAllocationInfo &info) override {
-        info.offset = GetAllocationOffset(handle);
+        info.offset = At(handle).offset;
         info.size = At(handle).size;
         info.pUserData = At(handle).user;
     }
@@ -41,7 +47,7 @@ public:
     }
     VkDeviceSize GetNextFreeRegionSize(VmaAllocHandle handle) const override {
         const VmaAllocHandle before = GetNextAllocation(handle);
-        return GetAllocationOffset(handle) - (before ? GetAllocationOffset(before) + At(before).size : 0);
+        return At(handle).offset - (before ? At(before).offset + At(before).size : 0);
     }
 
     // VMA asks for the handle before it says that it takes the range, and may take none: it is granted here, and freed at
@@ -61,8 +67,9 @@ public:
         if (units > LARGEST || step > LARGEST) return false;
         const oa_allocation range = oa_allocate_tight_aligned(m_Space, uint32_t(units), uint32_t(step));
         if (range.metadata == OA_NO_SPACE) return false;
-        if (range.metadata >= m_Ranges.size()) m_Ranges.resize(size_t(range.metadata) + 1);
-        m_Ranges[range.metadata] = {size, nullptr};
+        Range *&chunk = m_Chunks[range.metadata / CHUNK];
+        if (!chunk) chunk = vma_new_array(GetAllocationCallbacks(), Range, CHUNK);
+        chunk[range.metadata % CHUNK] = {range.offset * m_Unit, size, nullptr};
         m_Pending = range.metadata;
         request->type = VmaAllocationRequestType::TLSF;
         request->allocHandle = Handle(range);
@@ -98,9 +105,9 @@ public:
         VkDeviceSize bytes = 0, end = 0;
         size_t count = 0;
         Each(
-            [&](VkDeviceSize offset, const Range &range) {
-                VMA_ASSERT(offset >= end);
-                end = offset + range.size;
+            [&](const Range &range) {
+                VMA_ASSERT(range.offset >= end);
+                end = range.offset + range.size;
                 bytes += range.size;
                 count++;
             },
@@ -118,16 +125,16 @@ public:
     void AddDetailedStatistics(VmaDetailedStatistics &sum) const override {
         sum.statistics.blockCount++;
         sum.statistics.blockBytes += GetSize();
-        Each([&](VkDeviceSize, const Range &range) { VmaAddDetailedStatisticsAllocation(sum, range.size); },
+        Each([&](const Range &range) { VmaAddDetailedStatisticsAllocation(sum, range.size); },
              [&](VkDeviceSize, VkDeviceSize size) { VmaAddDetailedStatisticsUnusedRange(sum, size); });
     }
 
 #if VMA_STATS_STRING_ENABLED
     void PrintDetailedMap(VmaJsonWriter &json) const override {
         size_t unused = 0;
-        Each([](VkDeviceSize, const Range &) {}, [&](VkDeviceSize, VkDeviceSize) { unused++; });
+        Each([](const Range &) {}, [&](VkDeviceSize, VkDeviceSize) { unused++; });
         PrintDetailedMap_Begin(json, GetSumFreeSize(), m_Count, unused);
-        Each([&](VkDeviceSize offset, const Range &range) { PrintDetailedMap_Allocation(json, offset, range.size, range.user); },
+        Each([&](const Range &range) { PrintDetailedMap_Allocation(json, range.offset, range.size, range.user); },
              [&](VkDeviceSize offset, VkDeviceSize size) { PrintDetailedMap_UnusedRange(json, offset, size); });
         PrintDetailedMap_End(json);
     }
@@ -135,37 +142,40 @@ public:
 
     VkResult CheckCorruption(const void *data) override {
         bool whole = true;
-        Each([&](VkDeviceSize offset, const Range &range) { whole &= VmaValidateMagicValue(data, offset + range.size); },
+        Each([&](const Range &range) { whole &= VmaValidateMagicValue(data, range.offset + range.size); },
              [](VkDeviceSize, VkDeviceSize) {});
         VMA_ASSERT(whole && "written after the end of a range");
         return whole ? VK_SUCCESS : VK_ERROR_UNKNOWN_COPY;
     }
 
     void DebugLogAllAllocations() const override {
-        Each([&](VkDeviceSize offset, const Range &range) { DebugLogAllocation(offset, range.size, range.user); },
+        Each([&](const Range &range) { DebugLogAllocation(range.offset, range.size, range.user); },
              [](VkDeviceSize, VkDeviceSize) {});
     }
 
 private:
-    // What VMA has beside each range: the exact bytes, and a word of its own.
+    // What VMA asks of a range: in bytes, exactly, and a word of its own.
     struct Range {
+        VkDeviceSize offset;
         VkDeviceSize size;
         void *user;
     };
     static constexpr VkDeviceSize LARGEST = UINT32_MAX;
+    static constexpr uint32_t CHUNK = 4096;
 
     oa_allocator *m_Space = nullptr;
+    Range **m_Chunks = nullptr; // by names, CHUNK in each; they stay where they are, for GetAllocationOffset
+    size_t m_ChunkCount = 0;
     VkDeviceSize m_Unit = 1;
     VkDeviceSize m_Bytes = 0; // of the ranges that VMA has taken
     size_t m_Count = 0;
-    uint32_t m_Pending = OA_NO_SPACE;                 // the name of a range that VMA has not taken yet
-    VmaVector<Range, VmaStlAllocator<Range>> m_Ranges; // by names
+    uint32_t m_Pending = OA_NO_SPACE; // the name of a range that VMA has not taken yet
 
     // A handle of VMA is a word that is not 0: a name and 1.
     static VmaAllocHandle Handle(oa_allocation range) { return (VmaAllocHandle)(uintptr_t(range.metadata) + 1); }
     static oa_allocation Of(VmaAllocHandle handle) { return {0, uint32_t((uintptr_t)handle - 1)}; }
-    Range &At(VmaAllocHandle handle) { return m_Ranges[Of(handle).metadata]; }
-    const Range &At(VmaAllocHandle handle) const { return m_Ranges[Of(handle).metadata]; }
+    Range &At(oa_allocation range) const { return m_Chunks[range.metadata / CHUNK][range.metadata % CHUNK]; }
+    Range &At(VmaAllocHandle handle) const { return At(Of(handle)); }
 
     VmaAllocHandle Back(oa_allocation range) const {
         if (range.metadata == m_Pending && m_Pending != OA_NO_SPACE) range = oa_live_before(m_Space, range);
@@ -182,10 +192,10 @@ private:
         VkDeviceSize end = 0;
         for (oa_allocation at = oa_first_live(m_Space); at.metadata != OA_NO_SPACE; at = oa_live_after(m_Space, at)) {
             if (at.metadata == m_Pending) continue;
-            const VkDeviceSize offset = at.offset * m_Unit;
-            if (offset > end) unused(end, offset - end);
-            used(offset, m_Ranges[at.metadata]);
-            end = offset + m_Ranges[at.metadata].size;
+            const Range &range = At(at);
+            if (range.offset > end) unused(end, range.offset - end);
+            used(range);
+            end = range.offset + range.size;
         }
         if (end < GetSize()) unused(end, GetSize() - end);
     }
