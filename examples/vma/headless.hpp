@@ -29,6 +29,12 @@
 #define MAX_PATH 260
 #define MAXIMUM_WAIT_OBJECTS 64
 
+inline std::chrono::high_resolution_clock::time_point threadTime() {
+    std::timespec now;
+    clock_gettime(CLOCK_THREAD_CPUTIME_ID, &now);
+    const auto time = std::chrono::seconds(now.tv_sec) + std::chrono::nanoseconds(now.tv_nsec);
+    return std::chrono::high_resolution_clock::time_point(time);
+}
 inline uint32_t GetTickCount() { return uint32_t(std::time(nullptr)); }
 inline void Sleep(unsigned ms) { std::this_thread::sleep_for(std::chrono::milliseconds(ms)); }
 inline void localtime_s(std::tm *out, const std::time_t *time) { *out = *std::localtime(time); }

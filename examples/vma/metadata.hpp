@@ -14,13 +14,14 @@ public:
         vma_delete_array(GetAllocationCallbacks(), m_Chunks, m_ChunkCount);
     }
 
-    // Units are bytes as long as 32 bits count them. A node for each 256 bytes is a guess, since VMA does not say how many
-    // ranges there will be; the memory of a node is touched when it is first used.
+    // Units are bytes as long as 32 bits count them. VMA does not say how many ranges there will be: up to 2^16 units there
+    // are nodes for all that fit, above that it is a guess. The memory of a node is touched when it is first used.
     void Init(VkDeviceSize size) override {
         VmaBlockMetadata::Init(size);
         while (size / m_Unit > LARGEST) m_Unit *= 2;
-        const VkDeviceSize nodes = VMA_MIN(VMA_MAX(size / 256, VkDeviceSize(1) << 12), VkDeviceSize(1) << 22);
-        m_Space = oa_new(uint32_t(size / m_Unit), uint32_t(nodes));
+        const VkDeviceSize units = size / m_Unit, guess = VMA_MAX(units / 256, VkDeviceSize(1) << 16);
+        const VkDeviceSize nodes = VMA_MIN(VMA_MIN(guess, VkDeviceSize(1) << 22), units + 3);
+        m_Space = oa_new(uint32_t(units), uint32_t(nodes));
         m_ChunkCount = size_t(VmaDivideRoundingUp(nodes, VkDeviceSize(CHUNK)));
         m_Chunks = vma_new_array(GetAllocationCallbacks(), Range *, m_ChunkCount);
         memset(m_Chunks, 0, m_ChunkCount * sizeof(Range *));

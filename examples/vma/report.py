@@ -23,7 +23,7 @@ for word, name in (("passed", "tests passed"), ("failed", "failed"), ("left", "n
     row(name, [sum(one == word for one in results[side].values()) for side in sides])
 failed = {side: sorted(name for name, one in results[side].items() if one == "failed") for side in sides}
 
-# a row of a benchmark: its times, one a turn
+# the times of a row of this report, turn by turn: as many a turn as rows of the benchmark are in it
 form = re.compile(r" *Algorithm=(\w+) (Empty|Not empty) Allocation=(\w+) FreeOrder=\w+: allocations (\S+) s, free (\S+) s")
 times = {side: {} for side in sides}
 for side in sides:
@@ -45,7 +45,7 @@ for side in sides:
             for what, number in zip(phases, numbers):
                 seen.setdefault((name + what, strategy), []).append(float(number))
         for key, found in seen.items():
-            times[side].setdefault(key, []).append(sum(found))
+            times[side].setdefault(key, []).extend(found)
 strategies = ("MIN_MEMORY", "Default", "MIN_TIME")
 print()
 row("time of ours / VMA's own", [name.lower() for name in strategies])

@@ -180,6 +180,28 @@ static void LargeVirtualBlock() {
     vmaDestroyVirtualBlock(block);
 }
 
+// Ours: a block of elements, each of which is a range.
+static void SmallVirtualBlock() {
+    VmaVirtualBlockCreateInfo info = {10000};
+    VmaVirtualBlock block;
+    TEST(vmaCreateVirtualBlock(&info, &block) == VK_SUCCESS);
+    std::vector<VmaVirtualAllocation> at(info.size, VK_NULL_HANDLE);
+    const auto fill = [&](VkDeviceSize align) {
+        VmaVirtualAllocationCreateInfo request = {1, align};
+        VmaVirtualAllocation range;
+        VkDeviceSize offset;
+        TEST(vmaVirtualAllocate(block, &request, &range, &offset) == VK_SUCCESS);
+        TEST(offset < info.size && offset % align == 0 && !at[offset]);
+        at[offset] = range;
+    };
+    for (VkDeviceSize i = 0; i < info.size; i++) fill(1);
+    for (VkDeviceSize i = 0; i < info.size; i += 2) vmaVirtualFree(block, std::exchange(at[i], VK_NULL_HANDLE));
+    for (VkDeviceSize i = 0; i < info.size; i += 2) fill(2);
+    for (VmaVirtualAllocation range : at) vmaVirtualFree(block, range);
+    TEST(vmaIsVirtualBlockEmpty(block));
+    vmaDestroyVirtualBlock(block);
+}
+
 // The bytes of the pages that this process has, without those that malloc has for later.
 static long pages() {
     malloc_trim(0);
@@ -230,7 +252,7 @@ struct Named {
 static const Named tests[] = {
 #define X(name) {#name, [] { call(name); }},
 #include "names.inc" // of those that VMA's Test calls
-    X(LargeVirtualBlock)};
+    X(LargeVirtualBlock) X(SmallVirtualBlock)};
 
 int main(int count, char **words) try {
     std::setvbuf(stdout, nullptr, _IOLBF, 0);
