@@ -372,7 +372,7 @@ def brief(report):
     missed = [row for row in aims if "**" in row[2]]
     steps = [row for row in pages.table(report, "A step")[1:] if row[0] in AMONG or row[0] in traces()]
     return ["# Results", "",
-            "For whoever asks how fast the library is beside the original, and which aims it misses. "
+            "For whoever compares speed: *ours* is what the prover's toolchain builds, *erased* the crate for `cargo`. "
             "[results.txt](results.txt) has all tables, [README.md](README.md) how they are measured.", "",
             when, "",
             "## Aims", "",

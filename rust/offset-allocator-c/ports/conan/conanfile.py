@@ -10,7 +10,7 @@ required_conan_version = ">=2.0"
 
 class OffsetAllocatorProved(ConanFile):
     name = "offset-allocator-proved"
-    version = "0.3.0"
+    version = "0.4.0"
     description = "An allocator of ranges in one contiguous space, for C and C++, printed from proved sources"
     license = "MIT"
     url = homepage = "https://example.invalid/offset-allocator"
