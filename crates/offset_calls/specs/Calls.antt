@@ -256,6 +256,11 @@ abbrev pub after : List Call → State → State
 after [] s = s
 after (c ∷ cs) s = after cs (step c s).state
 
+-- whether a call is a command of a script
+abbrev pub is_command : Call → Bool
+is_command (call.Command c) = true
+is_command other = false
+
 -- each alignment is a power of two, and each step at least 1
 abbrev pub is_valid : Call → Bool
 is_valid (call.Command c) = has_valid_alignment c

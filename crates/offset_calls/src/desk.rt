@@ -1,11 +1,11 @@
 //! The reply of a guarded allocator to one call, with the ticket that the call passes.
 
-ghost use Rattle.std.specs.Prelude.{IfOk, IsTrue, List, ℕ};
+ghost use Rattle.std.specs.Prelude.{◌≡◌, IfOk, IsTrue, List, false, ℕ};
 ghost use Rattle.offset_guarded.specs.declared.ticket.Ticket.{Ticket};
 ghost use Rattle.offset_guarded.specs.Guard.{HasSerialLeft};
 ghost use Rattle.offset_script.specs.Grammar.{has_valid_alignment};
 ghost use Rattle.offset_script.specs.Machine.{answer_view};
-ghost use Rattle.offset_calls.specs.Calls.{is_valid, reply_view};
+ghost use Rattle.offset_calls.specs.Calls.{is_command, is_valid, reply_view};
 ghost use Rattle.offset_calls.specs.Calls as plain;
 ghost use Rattle.offset_calls.specs.Histories.{renumber};
 ghost use Rattle.offset_calls.specs.Steps.{AreKept};
@@ -223,8 +223,9 @@ fn answer<T: Tables>(
     }
 }
 
-// The reply to a call that passes this ticket.
-pub(crate) fn reply<T: Tables>(
+// The reply to a call that is no command, and passes this ticket.
+#[inline(never)]
+fn other<T: Tables>(
     alloc: Global,
     desk: &mut Desk<T>,
     call: Call,
@@ -234,12 +235,13 @@ pub(crate) fn reply<T: Tables>(
     requires left { HasSerialLeft desk.old.space }
     requires kept { AreKept desk.old.space.space (handles_of desk.old.space desk.old.tickets.items) }
     requires valid { IsTrue (is_valid call) }
+    requires rest { is_command call ≡ false }
     ensures { IfOk result (λ r. (k : ℕ) → IsNumberOf k ticket desk.old.space desk.old.tickets.items
         → Serves (renumber (λ j. k) call) desk.old.space desk.old.tickets.items
         desk.new.space desk.new.tickets.items (reply_view r)) }
 {
     match call {
-        Call::Command(command) => Ok(Reply::Answer(answer(alloc, desk, command, ticket)?)),
+        Call::Command(_) => unreachable!(),
         Call::Shrink(_, size) => Ok(shrink(&mut desk.space, ticket, size)),
         Call::Grow(_, size) => Ok(grow(&mut desk.space, ticket, size)),
         Call::Compact => compact_guarded(alloc, desk),
@@ -276,5 +278,26 @@ pub(crate) fn reply<T: Tables>(
         Call::Last => Ok(ending_desk::last_live(desk)),
         Call::Before(_) => Ok(ending_desk::live_before(desk, ticket)),
         Call::After(_) => Ok(ending_desk::live_after(desk, ticket)),
+    }
+}
+
+// The reply to a call that passes this ticket.
+pub(crate) fn reply<T: Tables>(
+    alloc: Global,
+    desk: &mut Desk<T>,
+    call: Call,
+    ticket: Option<Ticket>,
+) -> Result<Reply, AllocError>
+    requires ledger { IsLedger desk.old.space desk.old.tickets.items }
+    requires left { HasSerialLeft desk.old.space }
+    requires kept { AreKept desk.old.space.space (handles_of desk.old.space desk.old.tickets.items) }
+    requires valid { IsTrue (is_valid call) }
+    ensures { IfOk result (λ r. (k : ℕ) → IsNumberOf k ticket desk.old.space desk.old.tickets.items
+        → Serves (renumber (λ j. k) call) desk.old.space desk.old.tickets.items
+        desk.new.space desk.new.tickets.items (reply_view r)) }
+{
+    match call {
+        Call::Command(command) => Ok(Reply::Answer(answer(alloc, desk, command, ticket)?)),
+        _ => other(alloc, desk, call, ticket),
     }
 }

@@ -1,12 +1,12 @@
 //! Plays calls on an allocator.
 
-ghost use Rattle.std.specs.Prelude.{◌≡◌, ◌+◌, ◌<◌, ◌≤◌, All, IfOk, IsTrue, List, OnErr, Option, if◌then◌else◌, map};
+ghost use Rattle.std.specs.Prelude.{◌≡◌, ◌+◌, ◌<◌, ◌≤◌, All, IfOk, IsTrue, List, OnErr, Option, false, if◌then◌else◌, map};
 ghost use Rattle.offset_allocator.specs.Requests.{IsAlignment};
 ghost use Rattle.offset_allocator.specs.View.{Handle};
 ghost use Rattle.offset_script.specs.Steps.{AreHeld, AreLive, Stays};
 ghost use Rattle.offset_script.specs.Machine as machine;
 ghost use Rattle.offset_calls.specs.Calling.{IsLost};
-ghost use Rattle.offset_calls.specs.Calls.{is_valid, reply_view};
+ghost use Rattle.offset_calls.specs.Calls.{is_command, is_valid, reply_view};
 ghost use Rattle.offset_calls.specs.Calls as plain;
 ghost use Rattle.offset_calls.specs.Playing.{AreReplies};
 ghost use Rattle.offset_calls.specs.Steps.{AreKept, AreNumbers, Takes};
@@ -69,8 +69,7 @@ fn offset<T: Tables>(player: &PlayerOf<T>, number: u32) -> Reply
     }
 }
 
-// The reply to `Tight`. Like what slides ranges, it is no part of `reply`, which clears the stack for all that it
-// may keep there.
+// The reply to `Tight`.
 #[inline(never)]
 fn tight<T: Tables>(player: &mut PlayerOf<T>, size: u32) -> Result<Reply, AllocError>
     requires held { AreHeld player.old.space player.old.handles.items }
@@ -128,8 +127,9 @@ pub(crate) fn room_cost_by<T: Tables>(
     Reply::RoomCost(space.room_cost_by(size, align, step))
 }
 
-// The reply to one call.
-pub(crate) fn reply<T: Tables>(
+// The reply to a call that is no command.
+#[inline(never)]
+fn other<T: Tables>(
     alloc: Global,
     player: &mut PlayerOf<T>,
     numbers: &mut Numbers,
@@ -139,6 +139,7 @@ pub(crate) fn reply<T: Tables>(
     requires kept { AreKept player.old.space player.old.handles.items }
     requires numbers { AreNumbers player.old.handles.items numbers.old.grants numbers.old.by_name.items }
     requires valid { IsTrue (is_valid call) }
+    requires rest { is_command call ≡ false }
     ensures takes { IfOk result (λ r. Takes call player.old.space player.old.handles.items
         player.new.space player.new.handles.items (reply_view r)) }
     ensures lost { OnErr result (IsLost call player.old.space player.old.handles.items
@@ -146,7 +147,7 @@ pub(crate) fn reply<T: Tables>(
     ensures numbers { AreNumbers player.old.handles.items numbers.new.grants numbers.new.by_name.items }
 {
     match call {
-        Call::Command(command) => Ok(Reply::Answer(player.call(alloc, command)?)),
+        Call::Command(_) => unreachable!(),
         Call::Shrink(number, size) => Ok(shrink(player, number, size)),
         Call::Grow(number, size) => Ok(grow(player, number, size)),
         Call::Compact => compact(alloc, player, numbers),
@@ -185,6 +186,30 @@ pub(crate) fn reply<T: Tables>(
         Call::Last => ending::last_live(player, numbers),
         Call::Before(number) => ending::live_before(player, numbers, number),
         Call::After(number) => ending::live_after(player, numbers, number),
+    }
+}
+
+// The reply to one call. Most calls are commands. The others are out of line, so that a command clears no stack for
+// what they may keep there.
+pub(crate) fn reply<T: Tables>(
+    alloc: Global,
+    player: &mut PlayerOf<T>,
+    numbers: &mut Numbers,
+    call: Call,
+) -> Result<Reply, AllocError>
+    requires held { AreHeld player.old.space player.old.handles.items }
+    requires kept { AreKept player.old.space player.old.handles.items }
+    requires numbers { AreNumbers player.old.handles.items numbers.old.grants numbers.old.by_name.items }
+    requires valid { IsTrue (is_valid call) }
+    ensures takes { IfOk result (λ r. Takes call player.old.space player.old.handles.items
+        player.new.space player.new.handles.items (reply_view r)) }
+    ensures lost { OnErr result (IsLost call player.old.space player.old.handles.items
+        player.new.space player.new.handles.items) }
+    ensures numbers { AreNumbers player.old.handles.items numbers.new.grants numbers.new.by_name.items }
+{
+    match call {
+        Call::Command(command) => Ok(Reply::Answer(player.call(alloc, command)?)),
+        _ => other(alloc, player, numbers, call),
     }
 }
 

@@ -157,15 +157,16 @@ fn answer<T: Tables>(
     }
 }
 
-// The reply to a call that passes this ticket.
-pub(crate) fn reply<T: Tables>(
+// The reply to a call that is no command, and passes this ticket.
+#[inline(never)]
+fn other<T: Tables>(
     alloc: Global,
     desk: &mut Desk<T>,
     call: Call,
     ticket: Option<Ticket>,
 ) -> Result<Reply, AllocError> {
     match call {
-        Call::Command(command) => Ok(Reply::Answer(answer(alloc, desk, command, ticket)?)),
+        Call::Command(_) => unreachable!(),
         Call::Shrink(_, size) => Ok(shrink(&mut desk.space, ticket, size)),
         Call::Grow(_, size) => Ok(grow(&mut desk.space, ticket, size)),
         Call::Compact => compact_guarded(alloc, desk),
@@ -202,5 +203,18 @@ pub(crate) fn reply<T: Tables>(
         Call::Last => Ok(ending_desk::last_live(desk)),
         Call::Before(_) => Ok(ending_desk::live_before(desk, ticket)),
         Call::After(_) => Ok(ending_desk::live_after(desk, ticket)),
+    }
+}
+
+// The reply to a call that passes this ticket.
+pub(crate) fn reply<T: Tables>(
+    alloc: Global,
+    desk: &mut Desk<T>,
+    call: Call,
+    ticket: Option<Ticket>,
+) -> Result<Reply, AllocError> {
+    match call {
+        Call::Command(command) => Ok(Reply::Answer(answer(alloc, desk, command, ticket)?)),
+        _ => other(alloc, desk, call, ticket),
     }
 }

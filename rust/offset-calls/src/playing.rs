@@ -46,8 +46,7 @@ fn offset<T: Tables>(player: &PlayerOf<T>, number: u32) -> Reply {
     }
 }
 
-// The reply to `Tight`. Like what slides ranges, it is no part of `reply`, which clears the stack for all that it
-// may keep there.
+// The reply to `Tight`.
 #[inline(never)]
 fn tight<T: Tables>(player: &mut PlayerOf<T>, size: u32) -> Result<Reply, AllocError> {
     player.handles.reserve(1)?;
@@ -84,15 +83,16 @@ pub(crate) fn room_cost_by<T: Tables>(
     Reply::RoomCost(space.room_cost_by(size, align, step))
 }
 
-// The reply to one call.
-pub(crate) fn reply<T: Tables>(
+// The reply to a call that is no command.
+#[inline(never)]
+fn other<T: Tables>(
     alloc: Global,
     player: &mut PlayerOf<T>,
     numbers: &mut Numbers,
     call: Call,
 ) -> Result<Reply, AllocError> {
     match call {
-        Call::Command(command) => Ok(Reply::Answer(player.call(alloc, command)?)),
+        Call::Command(_) => unreachable!(),
         Call::Shrink(number, size) => Ok(shrink(player, number, size)),
         Call::Grow(number, size) => Ok(grow(player, number, size)),
         Call::Compact => compact(alloc, player, numbers),
@@ -131,6 +131,20 @@ pub(crate) fn reply<T: Tables>(
         Call::Last => ending::last_live(player, numbers),
         Call::Before(number) => ending::live_before(player, numbers, number),
         Call::After(number) => ending::live_after(player, numbers, number),
+    }
+}
+
+// The reply to one call. Most calls are commands. The others are out of line, so that a command clears no stack for
+// what they may keep there.
+pub(crate) fn reply<T: Tables>(
+    alloc: Global,
+    player: &mut PlayerOf<T>,
+    numbers: &mut Numbers,
+    call: Call,
+) -> Result<Reply, AllocError> {
+    match call {
+        Call::Command(command) => Ok(Reply::Answer(player.call(alloc, command)?)),
+        _ => other(alloc, player, numbers, call),
     }
 }
 

@@ -1,6 +1,6 @@
 use Rattle.offset_calls.proofs.Common.{sym, subst, Takes}
 use Rattle.offset_calls.specs.Calls.{reply_view}
-use Rattle.offset_calls.proofs.playing.reply.Goals as goal
+use Rattle.offset_calls.proofs.playing.other.Goals as goal
 
 pub returns-in-RoomCost-clause-takes : goal.returns-in-RoomCost-clause-takes
 returns-in-RoomCost-clause-takes g c =

@@ -1,6 +1,6 @@
 use Rattle.offset_calls.proofs.{Common.refl, Tickets.question_serves}
 use Rattle.offset_calls.specs.declared.calls.Call.TheVariants as call
-use Rattle.offset_calls.proofs.desk.reply.Goals as goal
+use Rattle.offset_calls.proofs.desk.other.Goals as goal
 
 pub returns-in-Refusal : goal.returns-in-Refusal
 returns-in-Refusal g c k is_number = question_serves (call.Refusal c.in-Refusal.size) _ _ _ k _ _ c.requires.ledger c.in-Refusal.is refl c.allocator.ensures
