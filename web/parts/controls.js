@@ -39,7 +39,9 @@ $('export').onclick = async () => {
   const text = await during('Writing', w => writeText(S.run, w));
   if (text !== null) save(new Blob([text]), fileName('.script')); };
 $('answers').onclick = async () => { const b = await during('Writing', w => S.run.answers(w)); if (b) save(b, fileName('.answers')); };
-$('picture').onclick = () => save(new Blob([pictured(S.run, 1000, 560)], { type: 'image/svg+xml' }), fileName('.svg'));
+$('picture').onclick = async () => {
+  const drawn = await during('Drawing', w => pictured(S.run, 1000, 560, w));
+  if (drawn !== null) save(new Blob([drawn], { type: 'image/svg+xml' }), fileName('.svg')); };
 $('load').onclick = () => take(new TextEncoder().encode($('text').value));
 $('show').onclick = showText;
 $('text').oninput = () => { S.shown = false; $('textname').textContent = 'not played yet'; };

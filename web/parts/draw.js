@@ -6,6 +6,7 @@ const color = name => getComputedStyle(document.documentElement).getPropertyValu
 let C = null;
 const colors = () => C || (C = { ages: [1, 2, 3, 4, 5, 6, 7, 8].map(i => color('--age' + i)),
   ...Object.fromEntries(['free', 'mark', 'fg', 'dim', 'line', 'bg'].map(n => [n, color('--' + n)])) });
+const rgb = hex => [1, 3, 5].map(i => parseInt(hex.slice(i, i + 2), 16));
 const short = n => n < 1e4 ? String(n) : n < 1e6 ? (n / 1e3).toFixed(n < 1e5 ? 1 : 0) + ' k' :
   n < 1e9 ? (n / 1e6).toFixed(n < 1e8 ? 1 : 0) + ' M' : (n / 1e9).toFixed(2) + ' G';
 function canvas(id) {
@@ -58,25 +59,57 @@ function ticks(run, n, w) {
   if (!run.ticks.has(key)) run.ticks.set(key, new Set(run.refusals.map(p => Math.round(p / n * w))));
   return run.ticks.get(key);
 }
+// A picture of rectangles in which a pixel is as dense as much of it is covered, but for any at least by `LEAST`. Each row
+// of the sums holds steps from the pixel before, so that a long rectangle costs no more than a short one.
+const LEAST = 1 / 8;
+class Coverage {
+  constructor(wide, high) {
+    Object.assign(this, { wide, high, sums: new Float64Array(4 * (wide + 2) * high), sheet: document.createElement('canvas') });
+    this.sheet.width = wide; this.sheet.height = high;
+  }
+  add([r, g, b], x0, y0, x1, y1) {
+    for (let y = Math.floor(y0); y < Math.min(y1, this.high); y++) {
+      const part = Math.min(y1, y + 1) - Math.max(y0, y), s = this.sums;
+      for (let [x, to, sign] = [x0, x1, part]; ; [x, sign] = [to, -part]) {
+        const at = 4 * (y * (this.wide + 2) + Math.floor(x)), next = sign * (x - Math.floor(x)), here = sign - next;
+        s[at] += here * r; s[at + 1] += here * g; s[at + 2] += here * b; s[at + 3] += here;
+        s[at + 4] += next * r; s[at + 5] += next * g; s[at + 6] += next * b; s[at + 7] += next;
+        if (x === to) break;
+      }
+    }
+  }
+  paint() {
+    const image = new ImageData(this.wide, this.high), { data } = image, s = this.sums;
+    for (let y = 0, at = 0, to = 0; y < this.high; y++, at += 8)
+      for (let x = 0, r = 0, g = 0, b = 0, a = 0; x < this.wide; x++, at += 4, to += 4) {
+        r += s[at]; g += s[at + 1]; b += s[at + 2]; a += s[at + 3];
+        if (a > 1e-9) { data[to] = r / a; data[to + 1] = g / a; data[to + 2] = b / a; data[to + 3] = 255 * Math.max(LEAST, a); }
+      }
+    this.sheet.getContext('2d').putImageData(image, 0, 0);
+    return this.sheet;
+  }
+}
 // The lives of all ranges, drawn once for each size of the window and scheme of colours, in turns: what is missing comes
 // with the next frame.
 function drawLives(id, run, p, again) {
   const [g, w0, h0, d] = canvas(id), w = w0 - GUTTER, h = h0 - 16, c = colors(), n = run.count + 1;
   const key = [w, h, d, c.bg, run.count].join();
-  if (!run.picture || run.picture.key !== key) {
-    const sheet = document.createElement('canvas'); sheet.width = Math.round(w * d); sheet.height = Math.round(h * d);
-    run.picture = { key, sheet, next: 0 };
+  // a run that is compared is drawn in two sizes
+  if (run.picture?.key !== key) [run.picture, run.other] = [run.other?.key === key ? run.other : null, run.picture];
+  if (!run.picture) {
+    const drawn = new Coverage(Math.round(w * d), Math.round(h * d));
+    run.picture = { key, next: 0, drawn, sheet: drawn.sheet };
   }
-  const s = run.picture, q = s.sheet.getContext('2d');
-  for (const t = performance.now(); s.next < run.lk.length;) {
-    q.setTransform(d, 0, 0, d, 0, 0);
-    for (const end = Math.min(run.lk.length, s.next + 2000); s.next < end; s.next++) {
-      const l = s.next, from = run.lf.list[l], to = Math.min(run.lt.list[l], n);
-      const x = from / n * w, z = Math.max(1 / d, (to - from) / n * w);
-      q.fillStyle = c.ages[ageOf(run.lived(l, n))];
-      q.fillRect(x, h - (run.lo.list[l] + run.ln.list[l]) / run.top * h, z, Math.max(1 / d, run.ln.list[l] / run.top * h));
-    }
-    if (performance.now() - t > 20) { requestAnimationFrame(again); break; }
+  const s = run.picture, { wide, high } = s.drawn;
+  if (s.next < run.lk.length) {
+    const ages = c.ages.map(rgb), y = o => (1 - o / run.top) * high;
+    for (const t = performance.now(); s.next < run.lk.length && performance.now() - t <= 20;)
+      for (const end = Math.min(run.lk.length, s.next + 2000); s.next < end; s.next++) {
+        const l = s.next, o = run.lo.list[l], to = Math.min(run.lt.list[l], n);
+        s.drawn.add(ages[ageOf(run.lived(l, n))], run.lf.list[l] / n * wide, y(o + run.ln.list[l]), to / n * wide, y(o));
+      }
+    s.drawn.paint();
+    if (s.next < run.lk.length) requestAnimationFrame(again); else s.drawn.sums = null;
   }
   const cx = Math.min(w, (p + 1) / n * w), part = (from, to) => to > from &&
     g.drawImage(s.sheet, from * d, 0, (to - from) * d, h * d, GUTTER + from, 0, to - from, h);
