@@ -42,7 +42,7 @@ $('answers').onclick = async () => { const b = await during('Writing', w => S.ru
 $('picture').onclick = async () => {
   const drawn = await during('Drawing', w => pictured(S.run, 1000, 560, w));
   if (drawn !== null) save(new Blob([drawn], { type: 'image/svg+xml' }), fileName('.svg')); };
-$('load').onclick = () => take(new TextEncoder().encode($('text').value));
+$('load').onclick = () => take(new TextEncoder().encode($('text').value), OWN, true);
 $('show').onclick = showText;
 $('text').oninput = () => { S.shown = false; $('textname').textContent = 'not played yet'; };
 $('trace').onchange = async () => { const n = $('trace').value; stop();

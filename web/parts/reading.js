@@ -58,11 +58,12 @@ async function readText(bytes, work) {
   } while (at < bytes.length);
   return { head, calls: calls.whole(), lines: lines.whole(), names };
 }
+const quoted = line => '“' + new TextDecoder('utf-8', { ignoreBOM: true }).decode(line.subarray(0, 80)).replace(/^\ufeff|\r$/g, '') +
+  (line.length > 80 ? '…”' : '”');
 // What a fault of a text says: the words of the program, the line itself, and what is wrong with line ends.
 function explained(fault, bytes) {
   const line = bytes.subarray(fault.from, fault.to), bom = bytes[0] === 0xef && bytes[1] === 0xbb && bytes[2] === 0xbf;
-  const text = new TextDecoder('utf-8', { ignoreBOM: true }).decode(line.subarray(0, 80)).replace(/^\ufeff|\r$/g, '');
-  const quote = text ? `: “${text}${line.length > 80 ? '…' : ''}”` : fault.line ? ': the text ends there' : '';
+  const quote = line.length ? `: ${quoted(line)}` : fault.line ? ': the text ends there' : '';
   const why = [bom && fault.from === 0 ? 'The text begins with a byte order mark (BOM)' : '',
     line.at(-1) === 13 ? 'Its lines end with CR LF' : ''].filter(s => s).join('; ');
   return { text: fault.message + quote + (why ? `. ${why}; a script has neither.` : ''), canMend: why !== '' };

@@ -21,6 +21,7 @@ async function during(what, f, bytes = null, file = '') {
 function showFault(fault, bytes, file) {
   const { text, canMend } = explained(fault, bytes), actions = [];
   if (canMend) actions.push(['Read it without them', () => take(mended(bytes), file)]);
+  if (/bad command/.test(fault.message)) actions.push(['Play the lines before', () => take(bytes.subarray(0, fault.from), file)]);
   say((file ? file + ', ' : '') + text, true, actions);
   if (bytes.length > 1 << 21) return;
   const box = $('text'), value = new TextDecoder().decode(bytes);
@@ -82,10 +83,20 @@ async function showText() {
   $('text').value = text; S.shown = true;
   $('textname').textContent = S.run === S.base ? S.title : `${S.title}, yours from row ${whole(S.run.kept)}`;
 }
-async function take(bytes, title) {
+// Plays a text of the user's. A recording has a line feed after each line: a last line without one was cut, and left out,
+// but where the user typed it.
+async function take(bytes, title, isTyped = false) {
   stop();
-  if (await load(bytes, 'own', title || OWN)) { go(0); return true; }
-  return false;
+  const end = isTyped ? bytes.length : bytes.lastIndexOf(10) + 1 || bytes.length;
+  if (!await load(bytes.subarray(0, end), 'own', title || OWN)) return false;
+  go(0);
+  if (end < bytes.length) {
+    const told = $('told').textContent, acts = [...$('sayacts').children];
+    say(`${told} The last line of ${S.title}, ${quoted(bytes.subarray(end))}, has no line feed: it may be cut, and is not played.`.trim(),
+      false, [['Play it too', () => take(bytes, title, true)]]);
+    $('sayacts').prepend(...acts);
+  }
+  return true;
 }
 function go(p) { S.p = Math.max(0, Math.min(S.run.count, Math.trunc(p) || 0)); draw(); }
 // A call of the user's: the run is left at the position, and the call is added. The original stays.
