@@ -48,10 +48,22 @@ $('text').oninput = () => { S.shown = false; $('textname').textContent = 'not pl
 $('trace').onchange = async () => { const n = $('trace').value; stop();
   if (n === 'own' || n === S.name) { $('trace').value = S.name; return; }
   if (await load(await inflated(TRACES[n]), n, titleOf(n))) go(n === 'every' ? 0 : S.run.count >> 2); };
-const takeFile = async f => f && take(new Uint8Array(await f.arrayBuffer()), f.name);
-$('file').onchange = async () => { await takeFile($('file').files[0]); $('file').value = ''; };
+const takeFile = async f => {
+  let bytes;
+  try { bytes = new Uint8Array(await f.arrayBuffer()); } catch (fault) { return say(`${f.name}, ${counted(f.size, 'byte')}, cannot be read: ${fault.message}`, true); }
+  return take(bytes, f.name); };
+// A file, or else a text, that was dropped or pasted.
+function takeFrom(event, given) {
+  const file = given.files[0], text = given.getData('text/plain');
+  if (file || text) event.preventDefault();
+  if (file) takeFile(file); else if (text) take(new TextEncoder().encode(text), OWN);
+}
+$('file').onchange = async () => { const f = $('file').files[0]; if (f) await takeFile(f); $('file').value = ''; };
 addEventListener('dragover', event => event.preventDefault());
-addEventListener('drop', event => { event.preventDefault(); takeFile(event.dataTransfer.files[0]); });
+addEventListener('drop', event => { event.preventDefault(); takeFrom(event, event.dataTransfer); });
+addEventListener('paste', event => { if (!isField(event.target)) takeFrom(event, event.clipboardData); });
+// a text that no link has, and calls of the user's, are lost with the page
+addEventListener('beforeunload', event => { if ((S.name === 'own' || S.run !== S.base) && S.linked !== S.run) event.preventDefault(); });
 $('stop').onclick = stopWork; $('unsay').onclick = () => say('');
 $('only').onchange = $('atend').onchange = draw;
 $('zin').onclick = () => zoom(1 / 4); $('zout').onclick = () => zoom(4); $('zall').onclick = () => { S.zoom = null; draw(); };
@@ -91,11 +103,11 @@ const KEY_NAMES = { ' ': 'Space', ArrowLeft: '←', ArrowRight: '→', PageUp: '
 for (const [key, { what }] of KEYS) {
   const dt = document.createElement('dt'), dd = document.createElement('dd');
   dt.textContent = KEY_NAMES[key] || key; dd.textContent = what; $('keylist').append(dt, dd); }
+const isField = at => at.tagName === 'TEXTAREA' || (at.tagName === 'INPUT' && !['range', 'checkbox', 'file'].includes(at.type));
 addEventListener('keydown', event => {
   const at = event.target, key = event.key;
   if (event.ctrlKey || event.metaKey || event.altKey || !S.run || !KEYS.has(key) || $('help').open) return;
-  const isText = at.tagName === 'TEXTAREA' || (at.tagName === 'INPUT' && !['range', 'checkbox', 'file'].includes(at.type));
-  if (isText && key !== 'Escape') return;
+  if (isField(at) && key !== 'Escape') return;
   if ([' ', 'Enter'].includes(key) && (/BUTTON|SELECT|SUMMARY|INPUT/.test(at.tagName) || at.getAttribute('role') === 'listbox')) return;
   if (key.length === 1 && /[a-z]/i.test(key) && !$('letters').checked) return;
   if (event.defaultPrevented) return;

@@ -2,7 +2,7 @@
 // request that is granted.
 async function pictured(run, w, h, work) {
   const n = run.count + 1, c = colors(), left = 52, top = 44, right = w - 8, middle = Math.round(h * 0.72), low = h - 22, high = middle + 34;
-  const safe = t => t.replace(/[&<>]/g, s => ({ '&': '&amp;', '<': '&lt;', '>': '&gt;' })[s]), fixed = v => String(Math.round(v * 10) / 10);
+  const safe = t => t.replace(/[\u0000-\u001f\u007f-\u009f\ufffe\uffff]/g, '').replace(/[&<>]/g, s => ({ '&': '&amp;', '<': '&lt;', '>': '&gt;' })[s]), fixed = v => String(Math.round(v * 10) / 10);
   const x = p => fixed(left + p / n * (right - left)), y = o => fixed(top + (1 - o / run.top) * (middle - top));
   const text = (at, px, anchor, words, more = '') => `<text x='${px}' y='${at}' text-anchor='${anchor}'${more}>${safe(words)}</text>`;
   // a range thinner than a pixel is no path, which might not be painted, but counts in a picture by what it covers
