@@ -6,7 +6,8 @@ HALF = "space 2000000 nodes 40000 index 32\n" + "alloc 100\n" * 20000 + "".join(
 DRAWN = "return new Promise(r => { const f = () => S.run.picture.next < S.run.lk.length ? setTimeout(f, 20) : r(draw()); f(); })"
 # how much of the background a part of a picture, right of its middle, is covered
 COVERED = """const a = g.getImageData(0.6 * g.canvas.width, 0.2 * g.canvas.height, 0.2 * g.canvas.width, 0.2 * g.canvas.height).data;
-  let sum = 0; for (let i = 0; i < a.length; i += 4) sum += (255 - a[i]) / 251 * a[i + 3] / 255; return 4 * sum / a.length"""
+  const most = 255 - parseInt(color('--age8').slice(1, 3), 16);
+  let sum = 0; for (let i = 0; i < a.length; i += 4) sum += (255 - a[i]) / most * a[i + 3] / 255; return 4 * sum / a.length"""
 # the saved picture as a canvas
 SAVED = """const g = Object.assign(document.createElement('canvas'), { width: 1000, height: 560 }).getContext('2d', { willReadFrequently: true });
   const url = 'data:image/svg+xml;base64,' + btoa(unescape(encodeURIComponent(await S.saved.text()))), i = new Image();

@@ -41,8 +41,10 @@ function drawSpace(id, run, p, from, to, marked) {
     strip(b.o, b.n, (x, y, z) => g.fillRect(x, y + 1, z > 3 ? z - 1 : z, rh - 2));
   }
   for (const [o, n, dash, stroke] of marked) {
-    g.setLineDash(dash); g.strokeStyle = stroke; g.lineWidth = 2;
-    strip(o, Math.max(n, 1e-9), (x, y, z) => g.strokeRect(x, y + 1, Math.max(3, z), rh - 2));
+    // between two lines of the background, as an age may have the same lightness
+    for (const [wide, style, lines] of [[4, c.bg, []], [2, stroke, dash]]) {
+      g.setLineDash(lines); g.strokeStyle = style; g.lineWidth = wide;
+      strip(o, Math.max(n, 1e-9), (x, y, z) => g.strokeRect(x, y + 1, Math.max(3, z), rh - 2)); }
   }
   g.setLineDash([]);
 }
@@ -114,10 +116,12 @@ function drawLives(id, run, p, again) {
   const cx = Math.min(w, (p + 1) / n * w), part = (from, to) => to > from &&
     g.drawImage(s.sheet, from * d, 0, (to - from) * d, h * d, GUTTER + from, 0, to - from, h);
   part(0, cx); g.globalAlpha = 0.25; part(cx, w); g.globalAlpha = 1;
-  g.strokeStyle = c.mark; g.lineWidth = 1; g.beginPath();
+  g.beginPath();
   for (const x of ticks(run, n, w)) { g.moveTo(GUTTER + x, 0); g.lineTo(GUTTER + x, 10); }
-  g.stroke();
-  g.fillStyle = c.mark; g.fillRect(GUTTER + Math.min(cx, w - 2), 0, 2, h);
+  const at = GUTTER + Math.round(Math.min(cx, w - 2));
+  for (const [edge, style] of [[1, c.bg], [0, c.mark]]) {
+    g.lineWidth = 1 + 2 * edge; g.strokeStyle = g.fillStyle = style; g.stroke();
+    g.fillRect(at - edge, 0, 2 + 2 * edge, h); }
   g.fillStyle = c.dim; g.textAlign = 'right';
   for (const [part0, at] of [[1, 7], [0.5, h / 2], [0, h - 6]]) g.fillText(short(Math.round(run.top * part0)), GUTTER - 4, at);
   g.textAlign = 'left'; g.fillText('row 0', GUTTER, h + 9); g.textAlign = 'right'; g.fillText(whole(run.count), w0, h + 9);

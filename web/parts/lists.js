@@ -39,7 +39,8 @@ class List {
     this.sheet.replaceChildren(...rows);
     const base = this.box.scrollTop - (this.rate > 1 ? 0 : this.box.scrollTop - first * LINE);
     for (const [i, row] of rows.entries()) row.style.top = base + i * LINE + 'px';
-    if (this.chosen >= 0) this.box.setAttribute('aria-activedescendant', `${this.box.id}-${this.chosen}`);
+    const chosen = `${this.box.id}-${this.chosen}`;
+    if (rows.some(row => row.id === chosen)) this.box.setAttribute('aria-activedescendant', chosen); else this.box.removeAttribute('aria-activedescendant');
   }
 }
 const cell = (row, text, name) => { const s = document.createElement('span'); s.textContent = text; if (name) s.className = name; row.append(s); };

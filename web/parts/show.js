@@ -32,7 +32,7 @@ function draw() {
     `; a line is ${units(Math.ceil((to - from) / ROWS))}.`;
   $('lives').textContent = `Up to ${whole(run.top)}, the highest end of a range, of ${units(run.sizes.at(-1)[1])}. ` +
     'The line is the position; ticks are refusals.';
-  $('at').value = p; $('row').value = p;
+  $('at').value = p; $('row').value = p; $('now').ariaLive = playing ? 'off' : 'polite';
   $('at').setAttribute('aria-valuetext', p ? `row ${p}: ${said(...op)}, ${answered(run, p - 1)}` : 'before the first row');
   $('place').textContent = `of ${whole(run.count)}`;
   $('refusals').textContent = run.refusals.length ? `${counted(run.refusals.length, 'refusal')}` : 'no refusals';
@@ -52,7 +52,7 @@ function lists(v, searched, bin) {
   L.calls.count = run.shown ? run.refusals.length : run.count;
   L.calls.chosen = run.shown ? run.refusals.indexOf(p) : p - 1;
   L.calls.set(L.calls.count);
-  if (L.calls.chosen >= 0) L.calls.show(L.calls.chosen);
+  if (L.calls.chosen >= 0 || !p) L.calls.show(Math.max(0, L.calls.chosen));
   showRanges(v);
   showBins(v, searched, bin);
   showOther();
