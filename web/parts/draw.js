@@ -117,7 +117,7 @@ function drawLives(id, run, p, again) {
     g.drawImage(s.sheet, from * d, 0, (to - from) * d, h * d, GUTTER + from, 0, to - from, h);
   part(0, cx); g.globalAlpha = 0.25; part(cx, w); g.globalAlpha = 1;
   g.beginPath();
-  for (const x of ticks(run, n, w)) { g.moveTo(GUTTER + x, 0); g.lineTo(GUTTER + x, 10); }
+  for (const x of ticks(run, n, w)) { g.moveTo(GUTTER + x + 0.5, 0); g.lineTo(GUTTER + x + 0.5, 10); }
   const at = GUTTER + Math.round(Math.min(cx, w - 2));
   for (const [edge, style] of [[1, c.bg], [0, c.mark]]) {
     g.lineWidth = 1 + 2 * edge; g.strokeStyle = g.fillStyle = style; g.stroke();
