@@ -1,7 +1,9 @@
 """That pictures do not mislead: how dense the lives are drawn is how much is live, and every life is painted."""
 
 from .base import give, holds, same, to, until
+from .faults import PART, RGB
 
+FULL = "space 2000000 nodes 40000 index 32\n" + "alloc 100\n" * 20000 + "report\n" * 12000
 HALF = "space 2000000 nodes 40000 index 32\n" + "alloc 100\n" * 20000 + "".join(f"free {k}\n" for k in range(1, 20001, 2)) + "report\n" * 60000
 DRAWN = "return new Promise(r => { const f = () => S.run.picture.next < S.run.lk.length ? setTimeout(f, 20) : r(draw()); f(); })"
 # how much of the background a part of a picture, right of its middle, is covered
@@ -22,7 +24,13 @@ def saved(b, script):
 
 
 def half_is_half(b):
-    """A heap of which each second range is free."""
+    """A heap that is full of small ranges, and one of which each second range is free."""
+    for text, part in ((FULL, 1), (HALF, 0.5)):
+        b.open()
+        give(b, text, "heap.script")
+        to(b, text.count("\n") - 1)
+        found = b.run(PART, b.run(RGB, "--free"), b.run(RGB, "--age8"))
+        holds(abs(found - part) < 0.03, f"{part} of the space is drawn as such", found)
     b.open()
     give(b, HALF, "half.script")
     b.run(DRAWN)

@@ -19,48 +19,6 @@ function canvas(id) {
   g.font = '11px system-ui, sans-serif'; g.textBaseline = 'middle'; g.fillStyle = colors().dim;
   return [g, w, h, d];
 }
-// The blocks of a space, as lines of one text: `from` to `to` are the units that are shown.
-function drawSpace(id, run, p, from, to, marked) {
-  const [g, w0, h] = canvas(id), w = w0 - GUTTER, rh = h / ROWS, span = (to - from) / ROWS, c = colors(), v = run.view(p);
-  g.textAlign = 'right';
-  for (let y = 0; y < ROWS; y++) g.fillText(short(Math.round(from + y * span)), GUTTER - 4, y * rh + rh / 2);
-  const strip = (o, n, f) => {
-    const end = Math.min(to, o + n), begin = Math.max(from, o);
-    for (let y = Math.floor((begin - from) / span); y < ROWS && from + y * span < end; y++) {
-      const x = Math.max(0, begin - from - y * span) / span * w, z = Math.min(span, end - from - y * span) / span * w;
-      f(GUTTER + x, y * rh, z - x); } };
-  // what is not in the space is not free
-  g.fillStyle = c.free; strip(0, run.sizeAt(p), (x, y, z) => g.fillRect(x, y + 1, z, rh - 2));
-  let last = -1;
-  for (const b of v.blocks) {
-    if (b.o >= to) break;
-    if (!b.k || b.o + b.n <= from) continue;
-    // to set a colour takes longer than to draw
-    const age = ageOf(p - run.born.list[b.k]); if (age !== last) g.fillStyle = c.ages[last = age];
-    // a range of less than a pixel covers that part of it
-    strip(b.o, b.n, (x, y, z) => g.fillRect(x, y + 1, z > 3 ? z - 1 : z, rh - 2));
-  }
-  for (const [o, n, dash, stroke] of marked) {
-    // between two lines of the background, as an age may have the same lightness
-    for (const [wide, style, lines] of [[4, c.bg, []], [2, stroke, dash]]) {
-      g.setLineDash(lines); g.strokeStyle = style; g.lineWidth = wide;
-      strip(o, Math.max(n, 1e-9), (x, y, z) => g.strokeRect(x, y + 1, Math.max(3, z), rh - 2)); }
-  }
-  g.setLineDash([]);
-}
-// The unit at a point of the space's canvas.
-function unitAt(event, from, to) {
-  const b = $('space').getBoundingClientRect(), part = (at, all, most) => Math.max(0, Math.min(most, at / all));
-  const y = Math.floor(part(ROWS * (event.clientY - b.top), b.height, ROWS - 1)), x = part(event.clientX - b.left - GUTTER, b.width - GUTTER, 1);
-  return from + (y + x) * (to - from) / ROWS;
-}
-// Where refusals are marked on a width of so many calls; kept, as there may be very many.
-function ticks(run, n, w) {
-  run.ticks = run.ticks || new Map();
-  const key = `${n} ${w}`;
-  if (!run.ticks.has(key)) run.ticks.set(key, new Set(run.refusals.map(p => Math.round(p / n * w))));
-  return run.ticks.get(key);
-}
 // A picture of rectangles in which a pixel is as dense as much of it is covered, but for any at least by `LEAST`. Each row
 // of the sums holds steps from the pixel before, so that a long rectangle costs no more than a short one.
 const LEAST = 1 / 8;
@@ -90,6 +48,53 @@ class Coverage {
     this.sheet.getContext('2d').putImageData(image, 0, 0);
     return this.sheet;
   }
+}
+// The blocks of a space, as lines of one text: `from` to `to` are the units that are shown.
+function drawSpace(id, run, p, from, to, marked) {
+  const [g, w0, h, d] = canvas(id), w = w0 - GUTTER, rh = h / ROWS, span = (to - from) / ROWS, c = colors(), v = run.view(p);
+  g.textAlign = 'right';
+  for (let y = 0; y < ROWS; y++) g.fillText(short(Math.round(from + y * span)), GUTTER - 4, y * rh + rh / 2);
+  const strip = (o, n, f) => {
+    const end = Math.min(to, o + n), begin = Math.max(from, o);
+    for (let y = Math.floor((begin - from) / span); y < ROWS && from + y * span < end; y++) {
+      const x = Math.max(0, begin - from - y * span) / span * w, z = Math.min(span, end - from - y * span) / span * w;
+      f(GUTTER + x, y * rh, z - x); } };
+  // what is not in the space is not free
+  g.fillStyle = c.free; strip(0, run.sizeAt(p), (x, y, z) => g.fillRect(x, y + 1, z, rh - 2));
+  // a range of less than three pixels covers a part of them
+  const ages = c.ages.map(rgb), thin = new Coverage(Math.round(w * d), ROWS), fine = thin.wide / w;
+  let last = -1;
+  for (const b of v.blocks) {
+    if (b.o >= to) break;
+    if (!b.k || b.o + b.n <= from) continue;
+    // to set a colour takes longer than to draw
+    const age = ageOf(p - run.born.list[b.k]); if (age !== last) g.fillStyle = c.ages[last = age];
+    strip(b.o, b.n, (x, y, z) => {
+      const row = Math.round(y / rh), at = (x - GUTTER) * fine;
+      if (z > 3) g.fillRect(x, y + 1, z - 1, rh - 2); else thin.add(ages[age], at, row, at + z * fine, row + 1); });
+  }
+  thin.paint(); g.imageSmoothingEnabled = false;
+  for (let y = 0; y < ROWS; y++) g.drawImage(thin.sheet, 0, y, thin.wide, 1, GUTTER, y * rh + 1, w, rh - 2);
+  for (const [o, n, dash, stroke] of marked) {
+    // between two lines of the background, as an age may have the same lightness
+    for (const [wide, style, lines] of [[4, c.bg, []], [2, stroke, dash]]) {
+      g.setLineDash(lines); g.strokeStyle = style; g.lineWidth = wide;
+      strip(o, Math.max(n, 1e-9), (x, y, z) => g.strokeRect(x, y + 1, Math.max(3, z), rh - 2)); }
+  }
+  g.setLineDash([]);
+}
+// The unit at a point of the space's canvas.
+function unitAt(event, from, to) {
+  const b = $('space').getBoundingClientRect(), part = (at, all, most) => Math.max(0, Math.min(most, at / all));
+  const y = Math.floor(part(ROWS * (event.clientY - b.top), b.height, ROWS - 1)), x = part(event.clientX - b.left - GUTTER, b.width - GUTTER, 1);
+  return from + (y + x) * (to - from) / ROWS;
+}
+// Where refusals are marked on a width of so many calls; kept, as there may be very many.
+function ticks(run, n, w) {
+  run.ticks = run.ticks || new Map();
+  const key = `${n} ${w}`;
+  if (!run.ticks.has(key)) run.ticks.set(key, new Set(run.refusals.map(p => Math.round(p / n * w))));
+  return run.ticks.get(key);
 }
 // The lives of all ranges, drawn once for each size of the window and scheme of colours, in turns: what is missing comes
 // with the next frame.
