@@ -60,4 +60,28 @@ def is_announced(b):
     b.keys("p")
 
 
-ALL = [marks_stand_out, is_announced]
+def on_paper_and_by_touch(b):
+    b.size(1100, 900, 1, "dark")
+    b.open("#t=voxel-game&p=9000")
+    bg = "return colors().bg"
+    dark = b.run(bg)
+    b.run("dispatchEvent(new Event('beforeprint'))")
+    same([b.run(bg), b.run("return getComputedStyle(document.body).backgroundColor")], ["#fff", "rgb(255, 255, 255)"], "a page that is printed is light")
+    b.run("dispatchEvent(new Event('afterprint'))")
+    same(b.run(bg), dark, "and dark again after that")
+    touch = "const r = $('life').getBoundingClientRect(), at = (x, y) => ({ clientX: r.left + 54 + x * (r.width - 54), clientY: r.top + y, pointerType: 'touch', buttons: 1, bubbles: true }); "
+    b.run(touch + "$('life').dispatchEvent(new PointerEvent('pointerdown', at(0.2, 20))); $('life').dispatchEvent(new PointerEvent('pointermove', at(0.201, 60)))")
+    same(row(b), 9000, "a swipe over the lives that scrolls leaves the row")
+    b.run(touch + "$('life').dispatchEvent(new PointerEvent('pointermove', at(0.5, 20)))")
+    holds(abs(row(b) - 7386) < 20, "one along them goes to its row", row(b))
+    b.run(touch + "$('life').dispatchEvent(new PointerEvent('click', at(0.25, 20)))")
+    holds(abs(row(b) - 3692) < 20, "so does a tap", row(b))
+    b.open()
+    give(b, "space 1000 nodes 32 index 32\nalloc 100\n# a name that is long\nalloc 2000\n", "names.script")
+    to(b, 2)
+    same(b.run("return [...document.querySelectorAll('#calls .row')][1].children[3].title"), "a name that is long", "a name stands before the reason, and is its own tooltip")
+    b.size(3840, 2000)
+    holds(b.run("return document.body.clientWidth") > 3000, "a wide screen is used")
+
+
+ALL = [marks_stand_out, is_announced, on_paper_and_by_touch]

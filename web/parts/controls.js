@@ -76,10 +76,16 @@ $('space').onpointermove = event => { pointer = event; draw(); };
 $('space').onpointerleave = () => { pointer = null; draw(); };
 $('space').onclick = event => { pointer = event; const b = chosenBlock(S.run.view(S.p)); if (b) chosenIs(b); };
 for (const id of ['life', 'lifeA']) {
-  $(id).onpointerdown = event => { stop(); $(id).setPointerCapture(event.pointerId); to(rowAt(event, id, S.run.count)); };
-  $(id).onpointermove = event => { if (event.buttons) to(rowAt(event, id, S.run.count)); };
+  let begun = null;
+  const there = event => to(rowAt(event, id, S.run.count)), isTouch = event => event.pointerType === 'touch';
+  $(id).onpointerdown = event => { begun = event; if (!isTouch(event)) { $(id).setPointerCapture(event.pointerId); there(event); } };
+  // a swipe up or down scrolls, and is no choice of a row
+  $(id).onpointermove = event => {
+    const [x, y] = begun ? [event.clientX - begun.clientX, event.clientY - begun.clientY].map(Math.abs) : [0, 0];
+    if (event.buttons && (!isTouch(event) || x > y + 8)) there(event); };
+  $(id).onclick = there;
 }
-$('bins').onpointermove = event => {
+$('bins').onpointermove = $('bins').onclick = event => {
   const c = binAt(event), n = c < 0 ? 0 : S.run.view(S.p).bins[c];
   $('bin').textContent = c < 0 ? '' : c >= BINS ? `Class ${c}: larger than any space.` :
     `Class ${c}: blocks of ${sizesOf(c)} units; ${counted(n, 'free block')}.`; };
@@ -116,5 +122,8 @@ addEventListener('keydown', event => {
 let resizing = 0;
 addEventListener('resize', () => { cancelAnimationFrame(resizing); resizing = requestAnimationFrame(() => S.run && draw()); });
 matchMedia('(prefers-color-scheme: dark)').addEventListener('change', () => { C = null; if (S.run) draw(); });
+// paper is light
+for (const [name, isPaper] of [['beforeprint', true], ['afterprint', false]]) addEventListener(name, () => {
+  document.documentElement.classList.toggle('printed', isPaper); C = null; if (S.run) draw(); });
 addEventListener('hashchange', restore);
 restore();
