@@ -24,6 +24,8 @@ function canvas(id) {
 const LEAST = 1 / 8;
 class Coverage {
   constructor(wide, high) {
+    // a canvas that is not shown has no width
+    wide = Math.max(1, wide);
     Object.assign(this, { wide, high, sums: new Float64Array(4 * (wide + 2) * high), sheet: document.createElement('canvas') });
     this.sheet.width = wide; this.sheet.height = high;
   }
