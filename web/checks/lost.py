@@ -78,6 +78,8 @@ def texts_from_anywhere(b):
     b.run("const t = new DataTransfer(); t.setData('text/plain', arguments[0]); document.body.dispatchEvent(new DragEvent('drop', { dataTransfer: t, bubbles: true, cancelable: true }))",
           "space 9 nodes 8 index 32\nalloc 1\nalloc 1\nfree 1\n")
     until(b, "S.run.count === 3 && !Work.now", "a text that is dropped plays")
+    b.run("const t = new DataTransfer(); t.setData('text/plain', arguments[0]); $('text').dispatchEvent(new DragEvent('drop', { dataTransfer: t, bubbles: true, cancelable: true }))", TINY)
+    same(b.run("return [S.run.count, Work.now]"), [3, None], "in an input it does not")
     print("passed: texts pasted and dropped anywhere play", flush=True)
 
 

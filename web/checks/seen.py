@@ -44,6 +44,9 @@ def is_announced(b):
     b.keys("r")
     live = "return [...document.querySelectorAll('#now, #why')].map(e => e.closest('[aria-live], [role=status]')?.getAttribute('aria-live') || null)"
     same([row(b) > 0, b.run("return $('why').hidden"), *b.run(live)], [True, False, "polite", "polite"], "a refusal and why are announced")
+    again = "let n = 0; const o = new MutationObserver(all => n += all.length); for (const id of ['now', 'why', 'block']) o.observe($(id), { childList: true, subtree: true, characterData: true }); " \
+        "draw(); draw(); return new Promise(r => setTimeout(() => r(n), 50))"
+    same(b.run(again), 0, "what is drawn again is not announced again")
     outside = b.run("return [...document.body.children].filter(e => !['HEADER', 'MAIN', 'ASIDE', 'FOOTER', 'DIALOG', 'SCRIPT'].includes(e.tagName)).map(e => e.id || e.tagName)")
     same(outside, [], "all is in a landmark")
     b.open("#t=voxel-game&p=9000")

@@ -60,7 +60,7 @@ function takeFrom(event, given) {
 }
 $('file').onchange = async () => { const f = $('file').files[0]; if (f) await takeFile(f); $('file').value = ''; };
 addEventListener('dragover', event => event.preventDefault());
-addEventListener('drop', event => { event.preventDefault(); takeFrom(event, event.dataTransfer); });
+addEventListener('drop', event => { if (event.dataTransfer.files.length || !isField(event.target)) takeFrom(event, event.dataTransfer); });
 addEventListener('paste', event => { if (!isField(event.target)) takeFrom(event, event.clipboardData); });
 // a text that no link has, and calls of the user's, are lost with the page
 addEventListener('beforeunload', event => { if ((S.name === 'own' || S.run !== S.base) && S.linked !== S.run) event.preventDefault(); });
