@@ -19,8 +19,8 @@ function canvas(id) {
   g.font = '11px system-ui, sans-serif'; g.textBaseline = 'middle'; g.fillStyle = colors().dim;
   return [g, w, h, d];
 }
-// A picture of rectangles in which a pixel is as dense as much of it is covered, but for any at least by `LEAST`. Each row
-// of the sums holds steps from the pixel before, so that a long rectangle costs no more than a short one.
+// A picture of rectangles: a pixel is as dense as it is covered, and where it is covered at all at least by `LEAST`. Each
+// row of the sums holds steps from the pixel before, so that a long rectangle costs no more than a short one.
 const LEAST = 1 / 8;
 class Coverage {
   constructor(wide, high) {
@@ -30,14 +30,13 @@ class Coverage {
     this.sheet.width = wide; this.sheet.height = high;
   }
   add([r, g, b], x0, y0, x1, y1) {
+    // a range of no units is seen too
+    y0 = Math.min(y0, this.high - 1e-6); y1 = Math.max(y1, y0 + 1e-6); x1 = Math.max(x1, x0 + 1e-6);
+    const s = this.sums, put = (at, v) => { s[at] += v * r; s[at + 1] += v * g; s[at + 2] += v * b; s[at + 3] += v; };
     for (let y = Math.floor(y0); y < Math.min(y1, this.high); y++) {
-      const part = Math.min(y1, y + 1) - Math.max(y0, y), s = this.sums;
-      for (let [x, to, sign] = [x0, x1, part]; ; [x, sign] = [to, -part]) {
-        const at = 4 * (y * (this.wide + 2) + Math.floor(x)), next = sign * (x - Math.floor(x)), here = sign - next;
-        s[at] += here * r; s[at + 1] += here * g; s[at + 2] += here * b; s[at + 3] += here;
-        s[at + 4] += next * r; s[at + 5] += next * g; s[at + 6] += next * b; s[at + 7] += next;
-        if (x === to) break;
-      }
+      const part = Math.min(y1, y + 1) - Math.max(y0, y), row = 4 * y * (this.wide + 2), i = Math.floor(x0), j = Math.floor(x1);
+      put(row + 4 * i, part * (i + 1 - x0)); put(row + 4 * i + 4, part * (x0 - i));
+      put(row + 4 * j, part * (x1 - j - 1)); put(row + 4 * j + 4, part * (j - x1));
     }
   }
   paint() {

@@ -44,7 +44,7 @@ class List {
   }
 }
 const cell = (row, text, name, title = '') => {
-  const s = document.createElement('span'); s.textContent = text; s.title = title; if (name) s.className = name; row.append(s); };
+  const s = document.createElement('span'); s.textContent = text; if (title) s.title = title; if (name) s.className = name; row.append(s); };
 // A row of the calls: its number, the call, its answer, and its name.
 function drawCall(row, i) {
   const run = S.run, p = run.shown ? run.refusals[i] - 1 : i, [op, ...of] = run.call(p), r = run.row(p);
