@@ -66,7 +66,7 @@ def pictures_of_many_sizes(b):
         give(b, "space 1000000 nodes 16 index 32\nalloc 100\n" + "extend 1\n" * count, "extended.script")
         took = b.run("S.saved = null; const t = performance.now(); return (async () => { await $('picture').onclick(); return performance.now() - t; })()")
         print(f"a picture of {count:,} extensions: {took:.0f} ms")
-        holds(b.run("return S.saved !== null") and took < 3000, f"a picture of {count:,} extensions takes less than 3 s", took)
+        holds(b.run("return S.saved !== null") and took < 1000, f"a picture of {count:,} extensions takes less than 1 s", took)
 
 
 ALL = [half_is_half, every_life_is_painted, pictures_of_many_sizes]
