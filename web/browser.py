@@ -56,8 +56,9 @@ class Browser:
         self.run("return new Promise(r => { const f = () => window.frameTime ? r(0) : setTimeout(f, 20); f(); })")
 
     def faults(self):
-        """What the console has of faults."""
-        return [entry["message"] for entry in self.call("/se/log", {"type": "browser"}) if entry["level"] == "SEVERE"]
+        """What the console has of faults, but that it asked nobody as no user was there."""
+        found = [entry["message"] for entry in self.call("/se/log", {"type": "browser"}) if entry["level"] == "SEVERE"]
+        return [message for message in found if "'beforeunload'" not in message]
 
     def size(self, width, height, scale=1, scheme="light"):
         self.command("Emulation.setEmulatedMedia", features=[{"name": "prefers-color-scheme", "value": scheme}])

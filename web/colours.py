@@ -1,9 +1,9 @@
 """Measures the colours of ages, in the pictures and in the page: web/colours.py [page | pictures]. It fails where two neighbours of a scale
-are told apart worse than FLOOR.
+are told apart worse than FLOOR, and where an age of the page has less than CONTRAST to its free units or its background.
 
 The formulas: sRGB to CIE L*a*b* (D65, IEC 61966-2-1); protanopia, deuteranopia and tritanopia by the matrices of Machado,
 Oliveira and Fernandes (2009) at severity 1.0, on linear RGB; grey print by L* alone; the difference by CIEDE2000 (Sharma,
-Wu and Dalal 2005, kL = kC = kH = 1)."""
+Wu and Dalal 2005, kL = kC = kH = 1); contrast by WCAG 2."""
 
 import math
 import pathlib
@@ -11,6 +11,7 @@ import re
 import sys
 
 FLOOR = 10
+CONTRAST = 3
 AGES = 8
 SEEN = {
     "normal": ((1, 0, 0), (0, 1, 0), (0, 0, 1)),
@@ -70,6 +71,12 @@ def difference(one, other):
     return math.sqrt(dl * dl + dc * dc + dh * dh + rt * dc * dh)
 
 
+def contrast(one, other):
+    """The contrast of two colours by WCAG 2: 1 to 21."""
+    light = [0.2126 * r + 0.7152 * g + 0.0722 * b for r, g, b in (rgb(one), rgb(other))]
+    return (max(light) + 0.05) / (min(light) + 0.05)
+
+
 # pairs of the paper by Sharma, Wu and Dalal, with their differences
 KNOWN = (((50, 2.6772, -79.7751), (50, 0, -82.7485), 2.0425), ((50, 2.5, 0), (73, 25, -18), 27.1492), ((50, 2.5, 0), (61, -5, 29), 22.8977),
          ((22.7233, 20.0904, -46.6940), (23.0331, 14.9730, -42.5619), 2.0373), ((2.0776, 0.0795, -1.1350), (0.9033, -0.0636, -0.5514), 0.9082))
@@ -113,8 +120,13 @@ def main():
         if sys.argv[1:] not in ([], [name]):
             continue
         found = scales(path.read_text(), pattern)
-        for scheme in ("light", "dark"):
+        for scheme, part in zip(("light", "dark"), path.read_text().split("prefers-color-scheme", 1)):
             wrong += measure(f"{name}, {scheme}", found[scheme])
+            for beside in ("free", "bg") if name == "page" else ():
+                least = min(contrast(age, re.search(rf"--{beside}: (#\w+)", part)[1]) for age in found[scheme])
+                print(f"  least contrast to --{beside}: {least:.2f}")
+                if least < CONTRAST:
+                    wrong.append(f"{name}, {scheme}: an age has a contrast of {least:.2f} to --{beside}")
     for fault in wrong:
         print(fault)
     return 1 if wrong else 0

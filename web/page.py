@@ -52,6 +52,8 @@ def main(module, to):
     page = (here / "source.html").read_text().replace("@SCRIPT@", "".join(path.read_text() for path in PARTS).rstrip("\n"))
     page = page.replace("@TRACES@", named)
     page = page.replace("@MODULE@", base(pathlib.Path(module).read_bytes()))
+    script = page[page.index("<script>") + len("<script>"):page.index("</script>")]
+    page = page.replace("@HASH@", "sha256-" + base(hashlib.sha256(script.encode()).digest()))
     pathlib.Path(to).write_text(f"{page}<!-- made of {sum_of_sources()} -->\n")
 
 

@@ -43,7 +43,7 @@ RGB = "const c = getComputedStyle(document.documentElement).getPropertyValue(arg
 def space_is_whole(b):
     b.size(1100, 1250)
     b.open()
-    free, used = b.run(RGB, "--free"), [4, 66, 71]
+    free, used = b.run(RGB, "--free"), b.run(RGB, "--age8")
     play(b, "space 1000000 nodes 40000 index 32\nalloc 100000\n" + "report\n" * 12000)
     to(b, 12001)
     part = b.run(PART, free, used)

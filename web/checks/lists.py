@@ -137,7 +137,7 @@ def moved_ranges_keep_their_age(b):
         lines += ["alloc 10", *["report"] * 24, "grow 3 20", *["report"] * 24, "free 3"]
         b.open()
         give(b, "\n".join(lines) + "\n", "ages.script")
-        found = b.run("const c = colors().ages, t = pictured(S.run, 800, 400); return c.map(a => (t.split(`<path fill='${a}' d='`)[1] || '').split(\"'\")[0].split('z').length - 1)")
+        found = b.run("const c = colors().ages; return pictured(S.run, 800, 400, new Work('x')).then(t => c.map(a => (t.split(`<path fill='${a}' d='`)[1] || '').split(\"'\")[0].split('z').length - 1))")
         # grant 1 is live for 2 calls; the ranges of grants 2 and 3 are of 31 to 100 calls, two each
         same(found[:3], [1, 0, 4], f"{slide}: ranges that were moved or resized are of one age")
         b.run("go(27)")

@@ -170,7 +170,8 @@ def are_marked(b):
         found = b.run(marks, canvas, left)
         near = [any(abs(x - p / 601) < 0.02 for x in found) for p in (99, 600)]
         holds(all(near) and all(min(abs(x - p / 601) for p in (0, 99, 600)) < 0.02 for x in found), f"refusals are marked on {canvas}", found)
-    b.run("save(new Blob([pictured(S.run, 1000, 560)]), 'picture.svg')")
+    b.click("#picture")
+    until(b, "S.saved", "the picture")
     titles = b.run("return S.saved.text().then(t => [...new DOMParser().parseFromString(t, 'image/svg+xml').querySelectorAll('title')].map(e => e.textContent))")
     same(titles, ["row 99: alloc 11: too few nodes are left", "row 600: alloc 12: too few nodes are left"], "ticks of the saved picture have the reason as title")
 

@@ -126,10 +126,10 @@ def readme_s_picture(b):
     same([int.from_bytes(data[i:i + 4], "big") for i in (16, 20)], [780, 660], "the first picture has two pixels for each of 390 points")
     holds(len(data) < 150_000, "and less than 150 KB", len(data))
     b.open("#t=voxel-game")
-    sizes = b.run("const s = new DOMParser().parseFromString(pictured(S.run, 390, 330), 'image/svg+xml'); return [...s.querySelectorAll('text')].map(t => Number(t.getAttribute('font-size') || 11))")
+    sizes = b.run("return pictured(S.run, 390, 330, new Work('x')).then(drawn => [...new DOMParser().parseFromString(drawn, 'image/svg+xml').querySelectorAll('text')].map(t => Number(t.getAttribute('font-size') || 11)))")
     holds(min(sizes) >= 10, "its words have 10 points or more", sizes)
     long = "S.title = 'a title that is as long as the name of a file that nobody has shortened yet'; "
-    right = b.run(long + "document.body.innerHTML = pictured(S.run, 390, 330); return Math.max(...[...document.querySelectorAll('text')].map(t => t.getBBox().x + t.getBBox().width))")
+    right = b.run(long + "return pictured(S.run, 390, 330, new Work('x')).then(drawn => { document.body.innerHTML = drawn; return Math.max(...[...document.querySelectorAll('text')].map(t => t.getBBox().x + t.getBBox().width)) })")
     holds(right <= 390, "and none is cut", right)
 
 

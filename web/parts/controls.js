@@ -39,17 +39,31 @@ $('export').onclick = async () => {
   const text = await during('Writing', w => writeText(S.run, w));
   if (text !== null) save(new Blob([text]), fileName('.script')); };
 $('answers').onclick = async () => { const b = await during('Writing', w => S.run.answers(w)); if (b) save(b, fileName('.answers')); };
-$('picture').onclick = () => save(new Blob([pictured(S.run, 1000, 560)], { type: 'image/svg+xml' }), fileName('.svg'));
-$('load').onclick = () => take(new TextEncoder().encode($('text').value));
+$('picture').onclick = async () => {
+  const drawn = await during('Drawing', w => pictured(S.run, 1000, 560, w));
+  if (drawn !== null) save(new Blob([drawn], { type: 'image/svg+xml' }), fileName('.svg')); };
+$('load').onclick = () => take(new TextEncoder().encode($('text').value), OWN, true);
 $('show').onclick = showText;
 $('text').oninput = () => { S.shown = false; $('textname').textContent = 'not played yet'; };
 $('trace').onchange = async () => { const n = $('trace').value; stop();
   if (n === 'own' || n === S.name) { $('trace').value = S.name; return; }
   if (await load(await inflated(TRACES[n]), n, titleOf(n))) go(n === 'every' ? 0 : S.run.count >> 2); };
-const takeFile = async f => f && take(new Uint8Array(await f.arrayBuffer()), f.name);
-$('file').onchange = async () => { await takeFile($('file').files[0]); $('file').value = ''; };
+const takeFile = async f => {
+  let bytes;
+  try { bytes = new Uint8Array(await f.arrayBuffer()); } catch (fault) { return say(`${f.name}, ${counted(f.size, 'byte')}, cannot be read: ${fault.message}`, true); }
+  return take(bytes, f.name); };
+// A file, or else a text, that was dropped or pasted.
+function takeFrom(event, given) {
+  const file = given.files[0], text = given.getData('text/plain');
+  if (file || text) event.preventDefault();
+  if (file) takeFile(file); else if (text) take(new TextEncoder().encode(text), OWN);
+}
+$('file').onchange = async () => { const f = $('file').files[0]; if (f) await takeFile(f); $('file').value = ''; };
 addEventListener('dragover', event => event.preventDefault());
-addEventListener('drop', event => { event.preventDefault(); takeFile(event.dataTransfer.files[0]); });
+addEventListener('drop', event => { if (event.dataTransfer.files.length || !isField(event.target)) takeFrom(event, event.dataTransfer); });
+addEventListener('paste', event => { if (!isField(event.target)) takeFrom(event, event.clipboardData); });
+// a text that no link has, and calls of the user's, are lost with the page
+addEventListener('beforeunload', event => { if ((S.name === 'own' || S.run !== S.base) && S.linked !== S.run) event.preventDefault(); });
 $('stop').onclick = stopWork; $('unsay').onclick = () => say('');
 $('only').onchange = $('atend').onchange = draw;
 $('zin').onclick = () => zoom(1 / 4); $('zout').onclick = () => zoom(4); $('zall').onclick = () => { S.zoom = null; draw(); };
@@ -62,10 +76,16 @@ $('space').onpointermove = event => { pointer = event; draw(); };
 $('space').onpointerleave = () => { pointer = null; draw(); };
 $('space').onclick = event => { pointer = event; const b = chosenBlock(S.run.view(S.p)); if (b) chosenIs(b); };
 for (const id of ['life', 'lifeA']) {
-  $(id).onpointerdown = event => { stop(); $(id).setPointerCapture(event.pointerId); to(rowAt(event, id, S.run.count)); };
-  $(id).onpointermove = event => { if (event.buttons) to(rowAt(event, id, S.run.count)); };
+  let begun = null;
+  const there = event => to(rowAt(event, id, S.run.count)), isTouch = event => event.pointerType === 'touch';
+  $(id).onpointerdown = event => { begun = event; if (!isTouch(event)) { $(id).setPointerCapture(event.pointerId); there(event); } };
+  // a swipe up or down scrolls, and is no choice of a row
+  $(id).onpointermove = event => {
+    const [x, y] = begun ? [event.clientX - begun.clientX, event.clientY - begun.clientY].map(Math.abs) : [0, 0];
+    if (event.buttons && (!isTouch(event) || x > y + 8)) there(event); };
+  $(id).onclick = there;
 }
-$('bins').onpointermove = event => {
+$('bins').onpointermove = $('bins').onclick = event => {
   const c = binAt(event), n = c < 0 ? 0 : S.run.view(S.p).bins[c];
   $('bin').textContent = c < 0 ? '' : c >= BINS ? `Class ${c}: larger than any space.` :
     `Class ${c}: blocks of ${sizesOf(c)} units; ${counted(n, 'free block')}.`; };
@@ -89,11 +109,11 @@ const KEY_NAMES = { ' ': 'Space', ArrowLeft: '←', ArrowRight: '→', PageUp: '
 for (const [key, { what }] of KEYS) {
   const dt = document.createElement('dt'), dd = document.createElement('dd');
   dt.textContent = KEY_NAMES[key] || key; dd.textContent = what; $('keylist').append(dt, dd); }
+const isField = at => at.tagName === 'TEXTAREA' || (at.tagName === 'INPUT' && !['range', 'checkbox', 'file'].includes(at.type));
 addEventListener('keydown', event => {
   const at = event.target, key = event.key;
   if (event.ctrlKey || event.metaKey || event.altKey || !S.run || !KEYS.has(key) || $('help').open) return;
-  const isText = at.tagName === 'TEXTAREA' || (at.tagName === 'INPUT' && !['range', 'checkbox', 'file'].includes(at.type));
-  if (isText && key !== 'Escape') return;
+  if (isField(at) && key !== 'Escape') return;
   if ([' ', 'Enter'].includes(key) && (/BUTTON|SELECT|SUMMARY|INPUT/.test(at.tagName) || at.getAttribute('role') === 'listbox')) return;
   if (key.length === 1 && /[a-z]/i.test(key) && !$('letters').checked) return;
   if (event.defaultPrevented) return;
@@ -102,5 +122,8 @@ addEventListener('keydown', event => {
 let resizing = 0;
 addEventListener('resize', () => { cancelAnimationFrame(resizing); resizing = requestAnimationFrame(() => S.run && draw()); });
 matchMedia('(prefers-color-scheme: dark)').addEventListener('change', () => { C = null; if (S.run) draw(); });
+// paper is light
+for (const [name, isPaper] of [['beforeprint', true], ['afterprint', false]]) addEventListener(name, () => {
+  document.documentElement.classList.toggle('printed', isPaper); C = null; if (S.run) draw(); });
 addEventListener('hashchange', restore);
 restore();

@@ -39,17 +39,20 @@ class List {
     this.sheet.replaceChildren(...rows);
     const base = this.box.scrollTop - (this.rate > 1 ? 0 : this.box.scrollTop - first * LINE);
     for (const [i, row] of rows.entries()) row.style.top = base + i * LINE + 'px';
-    if (this.chosen >= 0) this.box.setAttribute('aria-activedescendant', `${this.box.id}-${this.chosen}`);
+    const chosen = `${this.box.id}-${this.chosen}`;
+    if (rows.some(row => row.id === chosen)) this.box.setAttribute('aria-activedescendant', chosen); else this.box.removeAttribute('aria-activedescendant');
   }
 }
-const cell = (row, text, name) => { const s = document.createElement('span'); s.textContent = text; if (name) s.className = name; row.append(s); };
+const cell = (row, text, name, title = '') => {
+  const s = document.createElement('span'); s.textContent = text; if (title) s.title = title; if (name) s.className = name; row.append(s); };
 // A row of the calls: its number, the call, its answer, and its name.
 function drawCall(row, i) {
   const run = S.run, p = run.shown ? run.refusals[i] - 1 : i, [op, ...of] = run.call(p), r = run.row(p);
   cell(row, whole(p + 1), 'n'); cell(row, said(op, ...of), 'c');
-  cell(row, answered(run, p) + (r[7] ? `: ${REASONS[r[7]]}` : ''), r[0] === ANSWER.refused ? 'bad' : '');
+  cell(row, answered(run, p), r[0] === ANSWER.refused ? 'bad' : '');
   const name = run.names.get(p) || (isOnGrant(op) ? run.nameOf(of[0]) : '');
-  if (name) cell(row, name, 'dim');
+  if (name) cell(row, name, 'dim', name);
+  if (r[7]) cell(row, REASONS[r[7]], 'bad', REASONS[r[7]]);
   if (p >= S.p) row.classList.add('later');
 }
 // The live ranges, sorted.
@@ -60,7 +63,7 @@ let sorted = 'offset', ranges = [];
 function drawRange(row, i) {
   const b = ranges[i];
   cell(row, b.k, 'n'); cell(row, whole(b.o), 'u'); cell(row, whole(b.n), 'u'); cell(row, whole(S.run.born.list[b.k]), 'n');
-  cell(row, S.run.nameOf(b.k), 'dim');
+  cell(row, S.run.nameOf(b.k), 'dim', S.run.nameOf(b.k));
 }
 function showRanges(v) {
   const run = S.run, end = [...run.live.values()].map(l => ({ k: run.lk.list[l], o: run.lo.list[l], n: run.ln.list[l] }));

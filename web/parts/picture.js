@@ -1,21 +1,25 @@
 // A run as a picture of its own, SVG: the lives, with a title on each refusal; below them the free units, and the largest
 // request that is granted.
-function pictured(run, w, h) {
+async function pictured(run, w, h, work) {
   const n = run.count + 1, c = colors(), left = 52, top = 44, right = w - 8, middle = Math.round(h * 0.72), low = h - 22, high = middle + 34;
-  const safe = t => t.replace(/[&<>]/g, s => ({ '&': '&amp;', '<': '&lt;', '>': '&gt;' })[s]), fixed = v => String(Math.round(v * 10) / 10);
+  const safe = t => t.replace(/[\u0000-\u001f\u007f-\u009f\ufffe\uffff]/g, '').replace(/[&<>]/g, s => ({ '&': '&amp;', '<': '&lt;', '>': '&gt;' })[s]), fixed = v => String(Math.round(v * 10) / 10);
   const x = p => fixed(left + p / n * (right - left)), y = o => fixed(top + (1 - o / run.top) * (middle - top));
   const text = (at, px, anchor, words, more = '') => `<text x='${px}' y='${at}' text-anchor='${anchor}'${more}>${safe(words)}</text>`;
-  const lives = c.ages.map(() => []);
+  // a range thinner than a pixel is no path, which might not be painted, but counts in a picture by what it covers
+  const lives = c.ages.map(() => []), ages = c.ages.map(rgb), thin = new Coverage(2 * (right - left), 2 * (middle - top));
   for (let l = 0; l < run.lk.length; l++) {
-    const from = run.lf.list[l], to = Math.min(run.lt.list[l], n), o = run.lo.list[l];
-    lives[ageOf(run.lived(l, n))].push(`M${x(from)} ${y(o + run.ln.list[l])}H${x(to)}V${y(o)}H${x(from)}z`);
+    const age = ageOf(run.lived(l, n)), o = run.lo.list[l], u = run.ln.list[l], from = run.lf.list[l], to = Math.min(run.lt.list[l], n);
+    if (u / run.top * (middle - top) >= 1 && (to - from) / n * (right - left) >= 1) lives[age].push(`M${x(from)} ${y(o + u)}H${x(to)}V${y(o)}H${x(from)}z`);
+    else thin.add(ages[age], from / n * thin.wide, (1 - (o + u) / run.top) * thin.high, to / n * thin.wide, (1 - o / run.top) * thin.high);
+    if (l % 4096 === 0) await work.turn(l, run.lk.length);
   }
   // for each point of the width the least of the calls there
-  const most = Math.max(1, ...run.sizes.map(s => s[1])), wide = Math.round(right - left), free = [], largest = [];
+  const most = run.sizes.reduce((m, s) => Math.max(m, s[1]), 1), wide = Math.round(right - left), free = [], largest = [];
   for (let i = 0; i < run.count; i++) {
-    const at = Math.floor((i + 1) / n * wide);
-    free[at] = Math.min(free[at] ?? most, run.sizeAt(i + 1) - run.used.list[i]);
-    largest[at] = Math.min(largest[at] ?? most, run.row(i)[5]);
+    const px = Math.floor((i + 1) / n * wide);
+    free[px] = Math.min(free[px] ?? most, run.sizeAt(i + 1) - run.used.list[i]);
+    largest[px] = Math.min(largest[px] ?? most, run.row(i)[5]);
+    if (i % 4096 === 0) await work.turn(i, run.count);
   }
   const area = list => `M${left} ${low}` +
     list.map((v, i) => v === undefined ? '' : `L${left + i} ${fixed(low - v / most * (low - high))}`).join('') + `L${right} ${low}z`;
@@ -31,6 +35,7 @@ function pictured(run, w, h) {
     text(34, left - 6, 'end', 'live for') +
     words.map((t, i) => `<rect x='${fixed(places[i])}' y='25' width='${narrow ? 8 : 14}' height='10' fill='${c.ages[i]}'/>` +
       text(34, fixed(places[i] + (narrow ? 10 : 18)), 'start', t, narrow ? " font-size='10'" : '')).join('') +
+    `<image x='${left}' y='${top}' width='${right - left}' height='${middle - top}' href='${thin.paint().toDataURL()}'/>` +
     lives.map((d, i) => d.length ? `<path fill='${c.ages[i]}' d='${d.join('')}'/>` : '').join('') + ticks.join('') +
     [1, 0.5, 0].map(f => text(Number(y(run.top * f)) + 4, left - 6, 'end', short(Math.round(run.top * f)))).join('') +
     text(high - 8, left, 'start', 'free units, and in them the largest request that is granted') +

@@ -58,20 +58,30 @@ async function readText(bytes, work) {
   } while (at < bytes.length);
   return { head, calls: calls.whole(), lines: lines.whole(), names };
 }
-// What a fault of a text says: the words of the program, the line itself, and what is wrong with line ends.
+const quoted = line => '“' + new TextDecoder('utf-8', { ignoreBOM: true }).decode(line.subarray(0, 80)).replace(/^\ufeff|\r.*/gs, '') +
+  (line.length > 80 ? '…”' : '”');
+const begins = (bytes, ...first) => first.every((b, i) => bytes[i] === b);
+const isWide = bytes => begins(bytes, 0xff, 0xfe) || begins(bytes, 0xfe, 0xff);
+// What a fault of a text says: the words of the program, the line itself, what else the file is, what is wrong with line
+// ends, and numbers that no call has.
 function explained(fault, bytes) {
-  const line = bytes.subarray(fault.from, fault.to), bom = bytes[0] === 0xef && bytes[1] === 0xbb && bytes[2] === 0xbf;
-  const text = new TextDecoder('utf-8', { ignoreBOM: true }).decode(line.subarray(0, 80)).replace(/^\ufeff|\r$/g, '');
-  const quote = text ? `: “${text}${line.length > 80 ? '…' : ''}”` : fault.line ? ': the text ends there' : '';
+  const line = bytes.subarray(fault.from, fault.to), bom = begins(bytes, 0xef, 0xbb, 0xbf);
+  const kind = begins(bytes, 0x89, 0x50, 0x4e, 0x47) ? 'a picture (PNG)' : begins(bytes, 0x1f, 0x8b) ? 'compressed (gzip)' :
+    begins(bytes, 0x50, 0x4b, 3, 4) ? 'an archive (ZIP)' : isWide(bytes) ? 'in UTF-16' : '';
+  const quote = kind ? '' : line.length ? `: ${quoted(line)}` : fault.line ? ': the text ends there' : '';
   const why = [bom && fault.from === 0 ? 'The text begins with a byte order mark (BOM)' : '',
-    line.at(-1) === 13 ? 'Its lines end with CR LF' : ''].filter(s => s).join('; ');
-  return { text: fault.message + quote + (why ? `. ${why}; a script has neither.` : ''), canMend: why !== '' };
+    bytes.includes(10) ? (line.at(-1) === 13 ? 'Its lines end with CR LF' : '') : line.includes(13) ? 'Its lines end with CR' : ''].filter(s => s).join('; ');
+  const isLarge = quote && quote.match(/\d+/g)?.some(n => Number(n) > LARGEST);
+  return { text: fault.message + quote + (kind ? `. It is ${kind}; a script is a text in UTF-8.` : why ? `. ${why}; a script has neither.` : '') +
+    (isLarge ? `${why ? '' : '.'} A number is above ${whole(LARGEST)}.` : ''), canMend: why !== '' && !kind || isWide(bytes), isText: !kind };
 }
-// A text without BOM and CR before line ends.
-const mended = bytes => {
-  const from = bytes[0] === 0xef && bytes[1] === 0xbb && bytes[2] === 0xbf ? 3 : 0;
+// A text in UTF-8, without BOM and CR before line ends; where CR alone ends lines, LF in its place.
+function mended(given) {
+  const bytes = isWide(given) ? new TextEncoder().encode(new TextDecoder(given[0] === 0xff ? 'utf-16le' : 'utf-16be').decode(given)) : given;
+  const from = begins(bytes, 0xef, 0xbb, 0xbf) ? 3 : 0;
+  if (!bytes.includes(10)) return bytes.subarray(from).map(b => b === 13 ? 10 : b);
   return bytes.subarray(from).filter((b, i, all) => b !== 13 || (all[i + 1] !== 10 && i + 1 < all.length));
-};
+}
 // The text of calls: what reads as them again.
 async function writeText(run, work) {
   const parts = [`space ${run.head[0]} nodes ${run.head[1]} index ${run.head[2]}\n`];

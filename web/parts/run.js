@@ -74,7 +74,11 @@ class Run {
   call(i) { return this.calls.list.subarray(WIDE * i, WIDE * i + WIDE); }
   row(i) { return this.rows.list.subarray(8 * i, 8 * i + 8); }
   // The units of the space after so many calls.
-  sizeAt(p) { let s = this.head[0]; for (const [at, size] of this.sizes) if (at <= p) s = size; return s; }
+  sizeAt(p) {
+    let at = 0, end = this.sizes.length;
+    while (end - at > 1) { const m = (at + end) >> 1; if (this.sizes[m][0] <= p) at = m; else end = m; }
+    return this.sizes[at][1];
+  }
   usedAt(p) { return p ? this.used.list[p - 1] : 0; }
   nameOf(k) { return this.names.get(this.born.list[k] - 1) || ''; }
   // Makes the module's space the one after so many calls.

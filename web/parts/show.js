@@ -1,5 +1,7 @@
 // Puts a state on the page: all that depends on the position.
-let pointer = null, isListing = 0;
+let pointer = null, isListing = 0, whyOf = [];
+// What is told again unchanged would be announced again.
+const tell = (id, text) => { if ($(id).textContent !== text) $(id).textContent = text; };
 function draw() {
   const t0 = performance.now(), { run, p } = S, v = run.view(p), r = p ? run.row(p - 1) : null, op = p ? run.call(p - 1) : [-1, 0, 0];
   const size = run.sizeAt(p), [from, to] = S.zoom || [0, Math.max(1, size)], marked = [];
@@ -32,14 +34,14 @@ function draw() {
     `; a line is ${units(Math.ceil((to - from) / ROWS))}.`;
   $('lives').textContent = `Up to ${whole(run.top)}, the highest end of a range, of ${units(run.sizes.at(-1)[1])}. ` +
     'The line is the position; ticks are refusals.';
-  $('at').value = p; $('row').value = p;
+  $('at').value = p; $('row').value = p; $('now').ariaLive = playing ? 'off' : 'polite';
   $('at').setAttribute('aria-valuetext', p ? `row ${p}: ${said(...op)}, ${answered(run, p - 1)}` : 'before the first row');
   $('place').textContent = `of ${whole(run.count)}`;
   $('refusals').textContent = run.refusals.length ? `${counted(run.refusals.length, 'refusal')}` : 'no refusals';
   $('rback').disabled = !(run.refusals[0] < p); $('rnext').disabled = !(run.refusals.at(-1) > p);
-  $('now').textContent = p ? `Row ${whole(p)}: ${said(...op)}: ${answered(run, p - 1)}` +
+  tell('now', p ? `Row ${whole(p)}: ${said(...op)}: ${answered(run, p - 1)}` +
     (taken ? `, from the free block at ${whole(taken.o)} of ${units(taken.n)}` : '') +
-    (run.names.get(p - 1) ? ` “${run.names.get(p - 1)}”` : '') : 'Before the first row.';
+    (run.names.get(p - 1) ? ` “${run.names.get(p - 1)}”` : '') : 'Before the first row.');
   describe(v);
   // while the run plays, the lists follow a few times a second
   if (!playing || t0 - isListing > 250) { isListing = t0; lists(v, searched, bin); }
@@ -52,7 +54,7 @@ function lists(v, searched, bin) {
   L.calls.count = run.shown ? run.refusals.length : run.count;
   L.calls.chosen = run.shown ? run.refusals.indexOf(p) : p - 1;
   L.calls.set(L.calls.count);
-  if (L.calls.chosen >= 0) L.calls.show(L.calls.chosen);
+  if (L.calls.chosen >= 0 || !p) L.calls.show(Math.max(0, L.calls.chosen));
   showRanges(v);
   showBins(v, searched, bin);
   showOther();
@@ -61,7 +63,8 @@ function lists(v, searched, bin) {
 function why(run, p) {
   const isGone = p > 0 && run.row(p - 1)[0] === ANSWER.gone;
   $('why').hidden = playing || !(isRefusal(run, p) || isGone);
-  if ($('why').hidden) return;
+  if ($('why').hidden || (whyOf[0] === run && whyOf[1] === p)) return;
+  whyOf = [run, p];
   const e = isGone ? { title: `Row ${whole(p)}: ${said(...run.call(p - 1))}: gone`, facts: [whyGone(run, p)], helps: [] } : explain(run, p);
   $('whytitle').textContent = e.title;
   const fill = (id, texts) => $(id).replaceChildren(...texts.map(t => { const li = document.createElement('li'); li.textContent = t; return li; }));
@@ -81,9 +84,9 @@ function describe(v) {
   $('goto').hidden = !(b && b.k);
   if (b) $('goto').textContent = `Go to row ${whole(run.born.list[b.k] || 0)}`;
   if (b && b.k) $('goto').onclick = () => { pointer = null; S.grant = b.k; stop(); go(run.born.list[b.k]); };
-  $('block').textContent = !b ? (S.grant ? `${named(run, S.grant)} is not live here.` : 'Point at a block, or choose one by the keys b and B.') :
+  tell('block', !b ? (S.grant ? `${named(run, S.grant)} is not live here.` : 'Point at a block, or choose one by the keys b and B.') :
     (b.k ? named(run, b.k).replace('g', 'G') : 'Free') + ` at ${whole(b.o)}: ${units(b.n)}, class ${classOf(b.n)} (${sizesOf(classOf(b.n))})` +
-    (b.k ? `, live since row ${whole(run.born.list[b.k])}.` : '.');
+    (b.k ? `, live since row ${whole(run.born.list[b.k])}.` : '.'));
 }
 function chooseBlock(step) {
   const v = S.run.view(S.p), at = chosenBlock(v), i = at ? v.blocks.indexOf(at) + step : step > 0 ? 0 : v.blocks.length - 1;

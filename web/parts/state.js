@@ -19,10 +19,11 @@ async function during(what, f, bytes = null, file = '') {
   } finally { work.end(); }
 }
 function showFault(fault, bytes, file) {
-  const { text, canMend } = explained(fault, bytes), actions = [];
-  if (canMend) actions.push(['Read it without them', () => take(mended(bytes), file)]);
+  const { text, canMend, isText } = explained(fault, bytes), actions = [];
+  if (canMend) actions.push([isText ? 'Read it without them' : 'Read it as UTF-8', () => take(mended(bytes), file)]);
+  if (/bad command/.test(fault.message)) actions.push(['Play the lines before', () => take(bytes.subarray(0, fault.from), file)]);
   say((file ? file + ', ' : '') + text, true, actions);
-  if (bytes.length > 1 << 21) return;
+  if (bytes.length > 1 << 21 || !isText) return;
   const box = $('text'), value = new TextDecoder().decode(bytes);
   if (!canMend || !box.value) box.value = value;
   S.shown = false; $('textname').textContent = `${file || 'a text'}, with a fault in line ${whole(fault.line)}`;
@@ -56,6 +57,7 @@ function showNames() {
   own.textContent = S.name === 'own' ? S.title : OWN;
   for (const o of $('trace').options) o.textContent = o.textContent.replace(/ \(yours, from row .*\)$/, '');
   $('trace').value = S.name;
+  document.title = `${S.title} – offset_allocator`;
   const b = S.run !== S.base;
   $('branch').hidden = !b && !S.past.length && !S.ahead.length;
   $('original').disabled = !b;
@@ -82,10 +84,20 @@ async function showText() {
   $('text').value = text; S.shown = true;
   $('textname').textContent = S.run === S.base ? S.title : `${S.title}, yours from row ${whole(S.run.kept)}`;
 }
-async function take(bytes, title) {
+// Plays a text of the user's. A recording has a line feed after each line: a last line without one was cut, and left out,
+// but where the user typed it.
+async function take(bytes, title, isTyped = false) {
   stop();
-  if (await load(bytes, 'own', title || OWN)) { go(0); return true; }
-  return false;
+  const end = isTyped || isWide(bytes) ? bytes.length : bytes.lastIndexOf(10) + 1 || bytes.length;
+  if (!await load(bytes.subarray(0, end), 'own', title || OWN)) return false;
+  go(0);
+  if (end < bytes.length) {
+    const told = $('told').textContent, acts = [...$('sayacts').children];
+    say(`${told} The last line of ${S.title}, ${quoted(bytes.subarray(end))}, has no line feed: it may be cut, and is not played.`.trim(),
+      false, [['Play it too', () => take(bytes, title, true)]]);
+    $('sayacts').prepend(...acts);
+  }
+  return true;
 }
 function go(p) { S.p = Math.max(0, Math.min(S.run.count, Math.trunc(p) || 0)); draw(); }
 // A call of the user's: the run is left at the position, and the call is added. The original stays.
@@ -144,10 +156,17 @@ const b64 = a => { let s = ''; for (let i = 0; i < a.length; i += 32768) s += St
   return btoa(s).replace(/\+/g, '-').replace(/\//g, '_').replace(/=/g, ''); };
 const un64 = s => Uint8Array.from(atob(s.replace(/-/g, '+').replace(/_/g, '/')), c => c.charCodeAt(0));
 const through = async (bytes, stream) => new Uint8Array(await new Response(new Blob([bytes]).stream().pipeThrough(stream)).arrayBuffer());
-const inflated = s => through(un64(s), new DecompressionStream('deflate-raw'));
+const MOST_TEXT = 64 << 20;
+async function inflated(s) {
+  const from = new Blob([un64(s)]).stream().pipeThrough(new DecompressionStream('deflate-raw')).getReader(), parts = [];
+  for (let size = 0, part; !(part = await from.read()).done; parts.push(part.value)) if ((size += part.value.length) > MOST_TEXT) {
+    from.cancel(); throw new Fault('its text has more than 64 MiB'); }
+  return new Uint8Array(await new Blob(parts).arrayBuffer());
+}
 async function link() {
   const q = new URLSearchParams({ p: S.p });
   if (S.name === 'own') q.set('s', b64(await through(S.bytes, new CompressionStream('deflate-raw')))); else q.set('t', S.name);
+  if (S.title !== OWN && S.name === 'own') q.set('n', S.title);
   if (S.run !== S.base) { q.set('kept', S.run.kept); q.set('c', S.run.edits.flat().join('.')); }
   if (S.other) q.set('x', S.other.as.join('.'));
   if (S.zoom) q.set('z', S.zoom.join('.'));
@@ -157,7 +176,7 @@ async function link() {
     say(`This run is too large for a link (${counted(String(q).length, 'character')}): send its file, and the number of the row.`, true);
     return;
   }
-  history.replaceState(null, '', '#' + q);
+  history.replaceState(null, '', '#' + q); S.linked = S.run;
   const size = counted(location.href.length, 'character');
   const long = location.href.length > 30000 ? ' Some programs cut such a link: then send the file.' : '';
   try { await navigator.clipboard.writeText(location.href); say(`The link to this state is copied: ${size}.${long}`); }
@@ -168,9 +187,9 @@ const oneOf = text => { const n = numbersOf(text); if (n.length !== 1) throw Err
 async function restore() {
   stop();
   const q = new URLSearchParams(location.hash.slice(1)), t = q.get('t');
-  let isFaulty = t !== null && !Object.hasOwn(TRACES, t), p = null;
+  let isFaulty = t !== null && !Object.hasOwn(TRACES, t), why = 'what it names is not there', p = null;
   try {
-    if (q.has('s')) { if (!await load(await inflated(q.get('s')), 'own', OWN)) throw null; }
+    if (q.has('s')) { if (!await load(await inflated(q.get('s')), 'own', q.get('n') || OWN)) throw null; }
     else if (t !== null && !isFaulty) await load(await inflated(TRACES[t]), t, titleOf(t));
     else await load(await inflated(TRACES[FIRST]), FIRST, titleOf(FIRST));
     if (q.has('p')) p = oneOf(q.get('p'));
@@ -193,12 +212,14 @@ async function restore() {
     }
   } catch (fault) {
     if (fault) isFaulty = true;
+    if (fault instanceof Fault) why = fault.message;
     if (!S.run) {
       const told = $('fault').textContent;
       await load(await inflated(TRACES[FIRST]), FIRST, titleOf(FIRST)); say(told, true);
     }
   }
-  if (isFaulty) say('The link is faulty: what it names is not there. This is the nearest state.', true);
+  S.linked = S.run;
+  if (isFaulty) say(`The link is faulty: ${why}. This is the nearest state.`, true);
   go(p === null ? Math.min(4000, S.run.count) : p);
 }
 const titleOf = name => name === 'every' ? 'every command' : name.replace('-', ' ');

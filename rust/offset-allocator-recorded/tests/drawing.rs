@@ -189,6 +189,19 @@ fn a_moved_range_does_not_look_younger() {
 }
 
 #[test]
+fn every_range_is_painted() {
+    // each is less than a hundredth of a pixel high, and the more there are the shorter they live; more than 20,000 are merged
+    for count in [100, 19_000, 30_000] {
+        let calls: String = (2..count).map(|k| format!("alloc 1\nfree {k}\n")).collect();
+        let drawn = draw("thin", format!("space 4294967295 nodes 200000 index 32\nalloc 4000000000\n{calls}").as_bytes()).unwrap();
+        let size = |shape: &str, name: &str| shape.split(name).nth(1)?.split('\'').next()?.parse::<f64>().ok();
+        let shapes: Vec<_> = drawn.split("<rect ").skip(1).collect();
+        assert!(shapes.iter().all(|s| size(s, "width='") > Some(0.0) && size(s, "height='") > Some(0.0)), "{count}");
+        assert!(shapes.len() >= if count > 20_000 { 3 } else { count }, "{count}: {}", shapes.len());
+    }
+}
+
+#[test]
 fn faults() {
     for text in ["", "# x\n", "space 9 nodes 1 index 16\n", "space 9 nodes 9 index 16\nalloc 1\nmove 1\n", "space 9 nodes 9 index 16\nalign 1 3"] {
         let fault = draw("t", text.as_bytes()).unwrap_err();
