@@ -128,6 +128,9 @@ public:
         return {all.heaps, all.largest_free_region, all.units, all.live_units, all.free_units};
     }
 
+    // All heaps as JSON. Empty where memory is out, or there are none; an exception of std::string is that of the caller.
+    std::string json() const { return detail::of(oah_json(heaps)); }
+
 private:
     static oah_place in(const Place &place) {
         return {{place.ticket.serial, place.ticket.name, place.ticket.realm}, place.heap, place.realm};

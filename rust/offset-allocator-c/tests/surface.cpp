@@ -6,6 +6,7 @@
 #include <cstdlib>
 #include <cstring>
 #include <stdexcept>
+#include <string>
 #include <type_traits>
 #include <utility>
 #include <vector>
@@ -475,6 +476,26 @@ static void states() {
     CHECK(!lost.space.save(level) && level.size() == 116);
 }
 
+// Behind 30 live units are 70 free ones, which are filed as 64.
+static void dumps() {
+    Allocator heap(100, 16);
+    const std::string name = std::to_string(heap.allocate(30).metadata);
+    const std::string json =
+        "{\"size\":100,\"max_allocs\":16,\"live_ranges\":1,\"live_units\":30,\"free_blocks\":1,\"free_units\":70,"
+        "\"largest_free_block\":70,\"largest_free_region\":64,\"unused_nodes\":14,\"blocks\":["
+        "{\"offset\":0,\"size\":30,\"name\":" + name + "},{\"offset\":30,\"size\":70}]}";
+    const std::string vmaJson =
+        "{\"General\":{\"API\":\"Vulkan\"},\"DefaultPools\":{\"Type 0\":{\"PreferredBlockSize\":100,\"Blocks\":{\"0\":{"
+        "\"TotalBytes\":100,\"UnusedBytes\":70,\"Allocations\":1,\"UnusedRanges\":1,\"Suballocations\":["
+        "{\"Offset\":0,\"Type\":\"UNKNOWN\",\"Size\":30},{\"Offset\":30,\"Type\":\"FREE\",\"Size\":70}]}}}}}";
+    CHECK(heap.json() == json && heap.vmaJson() == vmaJson);
+    GuardedAllocator guarded(100, 16, 5);
+    CHECK(std::to_string(guarded.allocate(30).name) == name && guarded.json() == json && guarded.vmaJson() == vmaJson);
+    Allocator moved(std::move(heap));
+    GuardedAllocator gone(std::move(guarded));
+    CHECK(heap.json().empty() && heap.vmaJson().empty() && guarded.json().empty() && guarded.vmaJson().empty());
+}
+
 int main() {
     basic();
     simple();
@@ -487,6 +508,7 @@ int main() {
     relocateToAMultiple();
     emptyTheEnd();
     states();
+    dumps();
     surface();
     moves();
     beside();
