@@ -289,12 +289,12 @@ static void compacts_within(void) {
 /* the pieces of 20 units from 10 to 4: six at a time, so that no copy overlaps, and the two that are left */
 struct pieces {
     char bytes[40];
-    int count;
+    uint32_t count;
 };
 
 static void piece(void *user, uint32_t from, uint32_t to, uint32_t size) {
     struct pieces *all = user;
-    CHECK(from == 10u + 6u * all->count && to == from - 6 && size == (all->count < 3 ? 6u : 2u));
+    CHECK(from == 10 + 6 * all->count && to == from - 6 && size == (all->count < 3 ? 6u : 2u));
     memcpy(all->bytes + to, all->bytes + from, size);
     all->count++;
 }

@@ -24,7 +24,7 @@ int main() {
     std::map<uint32, std::vector<char>> buffers;
     std::vector<Place> places;
     // each range is filled with a letter of its own, and none writes into another
-    for (int i = 0; i < 26; i++) {
+    for (uint32 i = 0; i < 26; i++) {
         Granted granted = heaps.allocateAligned(100, 4);
         CHECK(granted);
         if (granted.isNew) buffers[granted.place.heap].resize(1024);
@@ -32,8 +32,8 @@ int main() {
         for (uint32 k = 0; k < 100; k++) buffers[granted.place.heap][heaps.offsetOf(granted.place) + k] = char('a' + i);
         places.push_back(granted.place);
     }
-    for (int i = 0; i < 26; i++)
-        for (uint32 k = 0; k < 100; k++) CHECK(buffers[places[i].heap][heaps.offsetOf(places[i]) + k] == 'a' + i);
+    for (uint32 i = 0; i < 26; i++)
+        for (uint32 k = 0; k < 100; k++) CHECK(buffers[places[i].heap][heaps.offsetOf(places[i]) + k] == char('a' + i));
     CHECK(buffers.size() == 3 && heaps.totals().heaps == 3 && heaps.totals().liveUnits == 2600);
     Granted large = heaps.allocate(5000);
     CHECK(large && large.isNew && large.place.heap == 4 && heaps.storageReport(4).totalFreeSpace == 0);

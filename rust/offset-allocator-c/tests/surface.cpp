@@ -40,7 +40,7 @@ static void simple() {
     Allocator a(WHOLE);
     const uint32 sizes[] = {0, 1, 123, 1234}, offsets[] = {0, 0, 1, 124};
     std::vector<Allocation> live;
-    for (int i = 0; i < 4; i++) {
+    for (uint32 i = 0; i < 4; i++) {
         live.push_back(a.allocate(sizes[i]));
         CHECK(live[i].offset == offsets[i] && a.allocationSize(live[i]) == sizes[i]);
     }
@@ -95,17 +95,17 @@ static void zeroFragmentation() {
     CHECK(a.storageReport().totalFreeSpace == 0 && a.storageReport().largestFreeRegion == 0);
     CHECK(!a.isEmpty() && a.freeUnits() + a.liveUnits() == a.size() && a.statistics().freeUnits == a.freeUnits());
     CHECK(!a.roomCost(1).possible);
-    for (int i : {243, 5, 123, 95, 151, 152, 153, 154}) a.free(live[i]);
+    for (uint32 i : {243u, 5u, 123u, 95u, 151u, 152u, 153u, 154u}) a.free(live[i]);
     // one at 5 and one at 95 have 89 between them, one at 123 and those from 151 on 27: five free together need those
     RoomCost cost = a.roomCost(5 * MIB);
     CHECK(cost.possible && cost.units == 27 * MIB && cost.ranges == 27 && a.roomCost(4 * MIB).units == 0);
-    for (int i : {243, 5, 123, 95}) {
+    for (uint32 i : {243u, 5u, 123u, 95u}) {
         live[i] = a.allocate(MIB);
         CHECK(live[i].offset != Allocation::NO_SPACE);
     }
     live[151] = a.allocate(4 * MIB);
     CHECK(live[151].offset == 151 * MIB);
-    for (int i = 0; i < 256; i++)
+    for (uint32 i = 0; i < 256; i++)
         if (i < 152 || i > 154) a.free(live[i]);
     CHECK(a.storageReport().totalFreeSpace == WHOLE && a.storageReport().largestFreeRegion == WHOLE);
     allClean(a);
