@@ -13,7 +13,7 @@
 //     vertices.free(mesh);
 //
 // offset_allocator.h says of each call what it does, its errors and its cost; only what is particular to C++ is said
-// here. No call throws. C++11 or later.
+// here. No call throws but where what it is passed does, and json and vmaJson where std::string does. C++11 or later.
 #pragma once
 
 #include "offset_allocator.h"

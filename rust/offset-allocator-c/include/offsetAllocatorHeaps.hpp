@@ -6,7 +6,8 @@
 //     heaps.free(mesh.place);
 //     heaps.dropEmpty(1, [](OffsetAllocator::uint32 number) { ... });    // drop the buffer of this number
 //
-// That header says of each call what it does, its errors and its cost. No call throws. C++11 or later.
+// That header says of each call what it does, its errors and its cost. No call throws but where what it is
+// passed does, and json where std::string does. C++11 or later.
 #pragma once
 
 #include "offsetAllocator.hpp"

@@ -11,7 +11,7 @@
  * A space has units: bytes, vertices, rows. It is never touched. A block is a run of units, live or free; no two free
  * blocks are neighbours. Each block has a node, whose number is its name.
  *
- * Errors. No argument is undefined, except a pointer that is neither null nor of a call named *_new or that was dropped,
+ * Errors. No argument is undefined, except a pointer that is neither null nor returned by a call here or that was dropped,
  * and a walk whose space changed. A call with a null allocator does nothing and returns what its comment says. A handle
  * that is not live here is refused by the result, and nothing changes: it was freed, or a reset freed it, or its name is
  * not in use. A stale handle, or one of another allocator, whose name is in use here cannot be distinguished from the live
