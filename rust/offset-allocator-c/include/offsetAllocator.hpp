@@ -13,7 +13,7 @@
 //     vertices.free(mesh);
 //
 // offset_allocator.h says of each call what it does, its errors and its cost; only what is particular to C++ is said
-// here. No call throws. C++11 or later.
+// here. No call throws but where what it is passed does, and json and vmaJson where std::string does. C++11 or later.
 #pragma once
 
 #include "offset_allocator.h"
@@ -22,6 +22,7 @@
 #include <cstdint>
 #include <cstring>
 #include <iterator>
+#include <string>
 #if defined(__cpp_exceptions) || defined(__EXCEPTIONS) || defined(_CPPUNWIND)
 #define OFFSET_ALLOCATOR_EXCEPTIONS 1
 #include <exception>
@@ -265,6 +266,15 @@ template <class Bytes> bool assign(oa_state *made, Bytes &bytes) {
     bytes.assign(first, first + oa_state_size(state.held));
     return true;
 }
+
+// A text, which is dropped; or an empty one where there is none.
+inline std::string of(oa_text *made) {
+    struct Made {
+        oa_text *text;
+        ~Made() { oa_text_drop(text); }
+    } held = {made};
+    return held.text ? std::string(oa_text_bytes(held.text), oa_text_size(held.text)) : std::string();
+}
 } // namespace detail
 
 class Allocator {
@@ -402,6 +412,11 @@ public:
         oa_walk_start(space, &walk);
         return Blocks(walk);
     }
+
+    // The space as JSON, and as a dump of VMA. Empty where memory is out, or this is empty; an exception of std::string is
+    // that of the caller.
+    std::string json() const { return detail::of(oa_json(space)); }
+    std::string vmaJson() const { return detail::of(oa_vma_json(space)); }
 
     uint32 size() const { return oa_size(space); }
     uint32 maxAllocs() const { return oa_max_allocs(space); }
@@ -584,6 +599,8 @@ public:
         oag_walk_start(space, &walk);
         return Blocks(walk);
     }
+    std::string json() const { return detail::of(oag_json(space)); }
+    std::string vmaJson() const { return detail::of(oag_vma_json(space)); }
     uint32 size() const { return oag_size(space); }
     uint32 maxAllocs() const { return oag_max_allocs(space); }
     uint32 blockCount() const { return oag_block_count(space); }

@@ -6,7 +6,8 @@
 //     heaps.free(mesh.place);
 //     heaps.dropEmpty(1, [](OffsetAllocator::uint32 number) { ... });    // drop the buffer of this number
 //
-// That header says of each call what it does, its errors and its cost. No call throws. C++11 or later.
+// That header says of each call what it does, its errors and its cost. No call throws but where what it is
+// passed does, and json where std::string does. C++11 or later.
 #pragma once
 
 #include "offsetAllocator.hpp"
@@ -127,6 +128,9 @@ public:
         oah_all all = oah_totals(heaps);
         return {all.heaps, all.largest_free_region, all.units, all.live_units, all.free_units};
     }
+
+    // All heaps as JSON. Empty where memory is out, or there are none; an exception of std::string is that of the caller.
+    std::string json() const { return detail::of(oah_json(heaps)); }
 
 private:
     static oah_place in(const Place &place) {

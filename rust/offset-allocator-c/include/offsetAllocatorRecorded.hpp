@@ -39,6 +39,11 @@ public:
     Tape &operator=(const Tape &) = delete;
     ~Tape() { std::free(numbers); }
 
+    void write(const char *line) {
+        if (failed) return;
+        named = false;
+        failed = std::fputs(line, out) == EOF || std::fflush(out) != 0;
+    }
     template <class... Numbers> void write(const char *format, Numbers... of) {
         if (failed) return;
         named = false;
@@ -91,10 +96,10 @@ public:
     typedef decltype(std::declval<A &>().allocate(0)) Handle;
 
     // An allocator made of the other arguments, as A is. The file is not closed; it may be closed when the recording ends.
-    template <class... Of> explicit Recorded(std::FILE *file, Of... of) noexcept : space(of...), tape(file) {
-        if (!space) tape.fail();
-        tape.write("space %u nodes %u index 32\n", space.size(), space.maxAllocs());
-    }
+    explicit Recorded(std::FILE *file, uint32 size, uint32 maxAllocs = 128 * 1024) noexcept
+        : Recorded(A(size, maxAllocs), file) {}
+    // a GuardedAllocator alone has a realm
+    Recorded(std::FILE *file, uint32 size, uint32 maxAllocs, uint32 realm) noexcept : Recorded(A(size, maxAllocs, realm), file) {}
     Recorded(Recorded &&other) noexcept : space(std::move(other.space)), tape(std::move(other.tape)) {}
     Recorded(const Recorded &) = delete;
     Recorded &operator=(const Recorded &) = delete;
@@ -186,6 +191,10 @@ private:
     A space;
     detail::Tape tape;
 
+    Recorded(A &&made, std::FILE *file) noexcept : space(std::move(made)), tape(file) {
+        if (!space) tape.fail();
+        tape.write("space %u nodes %u index 32\n", space.size(), space.maxAllocs());
+    }
     static bool isPower(uint32 align) { return align != 0 && (align & (align - 1)) == 0; }
     // A call that could not be read again is not written, and a name that was given to it is that of no other call.
     bool isValid(bool valid) {

@@ -11,11 +11,11 @@
  * A space has units: bytes, vertices, rows. It is never touched. A block is a run of units, live or free; no two free
  * blocks are neighbours. Each block has a node, whose number is its name.
  *
- * Errors. No argument is undefined, except a pointer that is neither null nor of a call named *_new or that was dropped,
+ * Errors. No argument is undefined, except a pointer that is neither null nor returned by a call here or that was dropped,
  * and a walk whose space changed. A call with a null allocator does nothing and returns what its comment says. A handle
  * that is not live here is refused by the result, and nothing changes: it was freed, or a reset freed it, or its name is
  * not in use. A stale handle, or one of another allocator, whose name is in use here cannot be distinguished from the live
- * one. Only the calls named *_new, *_clone, *_write_state and *_read_state take memory.
+ * one. Only the calls named *_new, *_clone, *_write_state, *_read_state and *_json take memory.
  *
  * Threads. Calls with an oa_allocator * need it for themselves; calls with a const oa_allocator * may run at the same
  * time as each other.
@@ -141,6 +141,9 @@ typedef struct oa_blocks oa_blocks;
 
 /* The bytes of a state. */
 typedef struct oa_state oa_state;
+
+/* A text. */
+typedef struct oa_text oa_text;
 
 /* What oa_read_state, oag_read_state and oah_read_state found: a space, no memory for it, or what is wrong with the bytes. */
 typedef enum oa_found {
@@ -413,6 +416,25 @@ oa_block oa_blocks_next(oa_blocks *blocks);
 /* Frees a list. A null pointer is allowed. */
 void oa_blocks_drop(oa_blocks *blocks);
 
+/* A space as JSON: an object with its `size` and `max_allocs`, the fields of oa_totals by their names, and `blocks`, from the
+ * start of the space to its end: each with `offset` and `size`, and a used one with its `name`. Null where memory is out, or
+ * space is null. To be dropped by oa_text_drop.
+ * Cost: the accesses of oa_statistics and oa_blocks_new; memory for the text, at most 58 bytes a block and 244, and meanwhile
+ * for the blocks. */
+oa_text *oa_json(const oa_allocator *space);
+
+/* The same in the form of the dumps of VMA, the Vulkan Memory Allocator, as one block of memory: with the fields that its
+ * documentation names, for its GpuMemDumpVis.py. That script has not been tried on it. */
+oa_text *oa_vma_json(const oa_allocator *space);
+
+/* A text, with a 0 behind it, to be read until it is dropped, and the number of its bytes without that 0. Null and 0 where
+ * text is null. */
+const char *oa_text_bytes(const oa_text *text);
+size_t oa_text_size(const oa_text *text);
+
+/* Frees a text. A null pointer is allowed. */
+void oa_text_drop(oa_text *text);
+
 /* ---- Tickets: handles that cannot be stale ----
  *
  * A guarded allocator keeps a serial for each name. A ticket has the serial of its grant, so it is live exactly until
@@ -550,6 +572,10 @@ oa_room oag_room_cost_by(const oag_allocator *space, uint32_t size, uint32_t ali
  * oag_ticket_of makes a ticket. */
 void oag_walk_start(const oag_allocator *space, oa_walk *walk);
 oa_blocks *oag_blocks_new(const oag_allocator *space);
+
+/* As oa_json and oa_vma_json. */
+oa_text *oag_json(const oag_allocator *space);
+oa_text *oag_vma_json(const oag_allocator *space);
 
 /* The ticket of a handle that a block or a move has; the serial is 0 where it is not live. At most 16 accesses. */
 oag_ticket oag_ticket_of(const oag_allocator *space, oa_allocation allocation);

@@ -10,8 +10,8 @@
  *
  * Heaps of the usual size have the numbers below most, larger ones those from most on. Nothing is known of the buffers.
  * Every call takes any place: one that is stale, altered, made up, or of other heaps with another realm is refused by the
- * result, and nothing changes. No call takes memory but a request that makes a heap and oah_new, oah_clone, oah_write_state
- * and oah_read_state. Any pointer to heaps may be null. Several threads may read at a time; none may read or write while
+ * result, and nothing changes. No call takes memory but a request that makes a heap and oah_new, oah_clone, oah_write_state,
+ * oah_read_state and oah_json. Any pointer to heaps may be null. Several threads may read at a time; none may read or write while
  * another writes. */
 #ifndef OFFSET_ALLOCATOR_HEAPS_H
 #define OFFSET_ALLOCATOR_HEAPS_H
@@ -175,6 +175,11 @@ oa_totals oah_statistics(const oah_heaps *heaps, uint32_t number);
 
 /* What is live and what is free in all heaps; all 0 for null. Cost: each number is read once. */
 oah_all oah_totals(const oah_heaps *heaps);
+
+/* All heaps as JSON: an object with `totals`, the fields of oah_all by their names, and `heaps`, by number: each with its
+ * `number` and `space`, the object that oa_json writes. Null where memory is out, or heaps is null. To be dropped by
+ * oa_text_drop. Cost: each number is read twice, and oa_json of each heap. */
+oa_text *oah_json(const oah_heaps *heaps);
 
 #ifdef __cplusplus
 }

@@ -1,8 +1,9 @@
 //! The C interface of `offset-allocator-heaps`. `include/offset_allocator_heaps.h` documents each function.
 
-use offset_allocator_heaps::{Global, Granted, Heaps, Limits, Place, Refusal, StateFaultKind, Ticket};
+use offset_allocator_heaps::{memory, AllocError, Global, Granted, Heaps, Limits, Place, Refusal, StateFaultKind, Ticket};
+use offset_allocator_proved::json_of;
 
-use crate::{boxed, guarded_fault, short, totals, Found, Guard, Report, State, Totals, NO_REPORT, NO_SPACE, NO_TICKET};
+use crate::{boxed, guarded_fault, short, text, totals, Found, Guard, Report, State, Text, Totals, NO_REPORT, NO_SPACE, NO_TICKET};
 
 /// Many heaps, as C holds them.
 pub type ManyHeaps = [Heaps; 1];
@@ -123,6 +124,24 @@ fn read(state: &[u8], most_heaps: u32, most_allocs: u32) -> HeapsRead {
     }
 }
 
+// All heaps as JSON, each as `json_of` writes it.
+fn json(heaps: &Heaps) -> Result<memory::String, AllocError> {
+    let mut text = memory::String::new(Global);
+    let offset_allocator_heaps::Totals { heaps: count, units, live_units, free_units, largest_free_region } = heaps.totals();
+    write!(text, "{{\"totals\":{{\"heaps\":{count},\"units\":{units},\"live_units\":{live_units}")?;
+    write!(text, ",\"free_units\":{free_units},\"largest_free_region\":{largest_free_region}}},\"heaps\":[")?;
+    let Limits { most, most_larger, .. } = heaps.limits();
+    let mut comma = "";
+    for number in 0..most + most_larger {
+        if let Some(heap) = heaps.heap(number) {
+            write!(text, "{comma}{{\"number\":{number},\"space\":{}}}", json_of(heap.allocator(), Global)?)?;
+            comma = ",";
+        }
+    }
+    text.push_str("]}")?;
+    Ok(text)
+}
+
 exports! {
     fn oah_new(limits: HeapLimits, realm: u32) -> Option<Box<ManyHeaps>> {
         let HeapLimits { size, max_allocs, most, most_larger } = limits;
@@ -197,4 +216,6 @@ exports! {
         let offset_allocator_heaps::Totals { heaps, units, live_units, free_units, largest_free_region } = heaps.totals();
         All { heaps, largest_free_region, units, live_units, free_units }
     } else NOTHING_AT_ALL;
+
+    fn oah_json([heaps: &ManyHeaps],) -> Option<Box<Text>> { text(json(heaps)) } else None;
 }

@@ -6,15 +6,16 @@
 
 #![deny(unsafe_code)]
 
-use core::ffi::c_void;
+use core::ffi::{c_char, c_void};
 use core::mem::MaybeUninit;
-use core::ptr::NonNull;
+use core::ptr::{null, NonNull};
 
 use offset_allocator_guarded::{Guarded, Ticket};
 use offset_allocator_proved::ext::min_allocator_size;
 use offset_allocator_proved::small_float::{float_to_uint, uint_to_float_round_down, uint_to_float_round_up};
 use offset_allocator_proved::{
-    Allocation, Allocator, AllocatorOf, Global, Move, MovePieces, Piece, Progress, Refusal, RoomCost, StateFaultKind, Tables,
+    json_of, memory, vma_json_of, AllocError, Allocation, Allocator, AllocatorOf, Global, Move, MovePieces, Piece, Progress,
+    Refusal, RoomCost, StateFaultKind, Tables,
 };
 
 /// The value of a missing offset or name.
@@ -142,6 +143,9 @@ pub type Blocks = [Vec<Block>; 1];
 
 /// The bytes of a state.
 pub type State = [Vec<u8>; 1];
+
+/// A text, with a 0 behind it.
+pub type Text = [String; 1];
 
 /// What `oa_read_state`, `oag_read_state` and `oah_read_state` found.
 #[repr(C)]
@@ -339,6 +343,13 @@ fn zeros(size: usize) -> Option<Box<State>> {
     bytes.try_reserve_exact(size).ok()?;
     bytes.resize(size, 0);
     boxed(bytes)
+}
+
+// A text for C, or nothing where memory is out.
+fn text(found: Result<memory::String, AllocError>) -> Option<Box<Text>> {
+    let mut text = found.ok()?;
+    text.push('\0').ok()?;
+    boxed(text.into())
 }
 
 fn reason(refusal: Option<Refusal>) -> Reason {
@@ -632,6 +643,16 @@ exports! {
 
     fn oa_blocks_drop(blocks: Option<Box<Blocks>>) -> () { drop(blocks) } else ();
 
+    fn oa_json([space: &Space],) -> Option<Box<Text>> { text(json_of(space, Global)) } else None;
+
+    fn oa_vma_json([space: &Space],) -> Option<Box<Text>> { text(vma_json_of(space, Global)) } else None;
+
+    fn oa_text_bytes([text: &Text],) -> *const c_char { text.as_ptr().cast() } else null();
+
+    fn oa_text_size([text: &Text],) -> usize { text.len() - 1 } else 0;
+
+    fn oa_text_drop(text: Option<Box<Text>>) -> () { drop(text) } else ();
+
     fn oag_new(size: u32, max_allocs: u32, realm: u32) -> Option<Box<GuardedSpace>> {
         if !(2..=u32::MAX - 2).contains(&max_allocs) {
             return None;
@@ -797,6 +818,10 @@ exports! {
     } else ();
 
     fn oag_blocks_new([space: &GuardedSpace],) -> Option<Box<Blocks>> { listed(space.allocator()) } else None;
+
+    fn oag_json([space: &GuardedSpace],) -> Option<Box<Text>> { text(json_of(space.allocator(), Global)) } else None;
+
+    fn oag_vma_json([space: &GuardedSpace],) -> Option<Box<Text>> { text(vma_json_of(space.allocator(), Global)) } else None;
 
     fn oag_storage_report([space: &GuardedSpace],) -> Report { short(space.allocator()) } else NO_REPORT;
 

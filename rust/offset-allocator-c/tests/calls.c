@@ -289,12 +289,12 @@ static void compacts_within(void) {
 /* the pieces of 20 units from 10 to 4: six at a time, so that no copy overlaps, and the two that are left */
 struct pieces {
     char bytes[40];
-    int count;
+    uint32_t count;
 };
 
 static void piece(void *user, uint32_t from, uint32_t to, uint32_t size) {
     struct pieces *all = user;
-    CHECK(from == 10u + 6u * all->count && to == from - 6 && size == (all->count < 3 ? 6u : 2u));
+    CHECK(from == 10 + 6 * all->count && to == from - 6 && size == (all->count < 3 ? 6u : 2u));
     memcpy(all->bytes + to, all->bytes + from, size);
     all->count++;
 }
@@ -469,6 +469,43 @@ static void nulls(void) {
     CHECK(oa_refusal_aligned(NULL, 0, 1) == OA_BAD_CALL && !oa_blocks_new(NULL) && oa_blocks_next(NULL).kind == OA_END);
 }
 
+static bool is_text(oa_text *text, const char *wanted) {
+    bool same = text && strcmp(oa_text_bytes(text), wanted) == 0 && oa_text_size(text) == strlen(wanted);
+    oa_text_drop(text);
+    return same;
+}
+
+/* Spaces as JSON: between two live ranges of 40 and 100 units are 7 free ones, and behind them 153, which are filed as 144. */
+static void dumps(void) {
+    oa_allocator *space = oa_new(300, 10);
+    oa_allocation a = oa_allocate(space, 40), b = oa_allocate(space, 7), c = oa_allocate(space, 100);
+    CHECK(oa_free(space, b));
+    char wanted[500];
+    snprintf(wanted, sizeof wanted,
+             "{\"size\":300,\"max_allocs\":10,\"live_ranges\":2,\"live_units\":140,\"free_blocks\":2,\"free_units\":160,"
+             "\"largest_free_block\":153,\"largest_free_region\":144,\"unused_nodes\":6,\"blocks\":["
+             "{\"offset\":0,\"size\":40,\"name\":%u},{\"offset\":40,\"size\":7},{\"offset\":47,\"size\":100,\"name\":%u},"
+             "{\"offset\":147,\"size\":153}]}", (unsigned) a.metadata, (unsigned) c.metadata);
+    oa_text *kept = oa_json(space);
+    CHECK(is_text(oa_json(space), wanted));
+    CHECK(is_text(oa_vma_json(space),
+                  "{\"General\":{\"API\":\"Vulkan\"},\"DefaultPools\":{\"Type 0\":{\"PreferredBlockSize\":300,\"Blocks\":{\"0\":{"
+                  "\"TotalBytes\":300,\"UnusedBytes\":160,\"Allocations\":2,\"UnusedRanges\":2,\"Suballocations\":["
+                  "{\"Offset\":0,\"Type\":\"UNKNOWN\",\"Size\":40},{\"Offset\":40,\"Type\":\"FREE\",\"Size\":7},"
+                  "{\"Offset\":47,\"Type\":\"UNKNOWN\",\"Size\":100},{\"Offset\":147,\"Type\":\"FREE\",\"Size\":153}]}}}}}"));
+    oa_reset(space);
+    oa_drop(space);
+    /* a text stays when its space is gone */
+    CHECK(is_text(kept, wanted));
+    space = oa_new(0, 2);
+    CHECK(is_text(oa_json(space),
+                  "{\"size\":0,\"max_allocs\":2,\"live_ranges\":0,\"live_units\":0,\"free_blocks\":1,\"free_units\":0,"
+                  "\"largest_free_block\":0,\"largest_free_region\":0,\"unused_nodes\":1,\"blocks\":[{\"offset\":0,\"size\":0}]}"));
+    oa_drop(space);
+    CHECK(!oa_json(NULL) && !oa_vma_json(NULL) && !oa_text_bytes(NULL) && oa_text_size(NULL) == 0);
+    oa_text_drop(NULL);
+}
+
 static uint64_t state = 88172645463325252u;
 static uint32_t any(void) {
     state ^= state << 13;
@@ -543,6 +580,9 @@ static void garbage(void) {
                     used -= block.kind == OA_USED;
                 }
                 CHECK(used == 0 && end == 0);
+                oa_text *text = oa_json(space);
+                CHECK(text && oa_text_size(text) <= 58 * (size_t) oa_block_count(space) + 244);
+                oa_text_drop(text);
             }
         }
         oa_drop(space);
@@ -569,6 +609,7 @@ int main(void) {
     walks();
     classes();
     nulls();
+    dumps();
     garbage();
     printf("C: %d checks pass\n", checks);
     return 0;

@@ -189,6 +189,33 @@ static void states(void) {
     oag_drop(one);
 }
 
+static bool is_text(oa_text *text, const char *wanted) {
+    bool same = text && strcmp(oa_text_bytes(text), wanted) == 0 && oa_text_size(text) == strlen(wanted);
+    oa_text_drop(text);
+    return same;
+}
+
+/* Three heaps, of which the second is dropped; the third is a larger one, with 4 nodes. */
+static void dumps(void) {
+    oah_limits limits = {100, 8, 2, 1};
+    oah_heaps *heaps = oah_new(limits, 9);
+    CHECK(is_text(oah_json(heaps), "{\"totals\":{\"heaps\":0,\"units\":0,\"live_units\":0,\"free_units\":0,"
+                                   "\"largest_free_region\":0},\"heaps\":[]}"));
+    oah_place a = oah_allocate(heaps, 60).place, b = oah_allocate(heaps, 60).place, large = oah_allocate(heaps, 1000).place;
+    CHECK(a.heap == 0 && b.heap == 1 && large.heap == 2 && oah_free(heaps, b) && oah_drop_heap(heaps, 1));
+    char wanted[1000];
+    snprintf(wanted, sizeof wanted,
+             "{\"totals\":{\"heaps\":2,\"units\":1100,\"live_units\":1060,\"free_units\":40,\"largest_free_region\":40},\"heaps\":["
+             "{\"number\":0,\"space\":{\"size\":100,\"max_allocs\":8,\"live_ranges\":1,\"live_units\":60,\"free_blocks\":1,"
+             "\"free_units\":40,\"largest_free_block\":40,\"largest_free_region\":40,\"unused_nodes\":6,\"blocks\":["
+             "{\"offset\":0,\"size\":60,\"name\":%u},{\"offset\":60,\"size\":40}]}},"
+             "{\"number\":2,\"space\":{\"size\":1000,\"max_allocs\":4,\"live_ranges\":1,\"live_units\":1000,\"free_blocks\":0,"
+             "\"free_units\":0,\"largest_free_block\":0,\"largest_free_region\":0,\"unused_nodes\":3,\"blocks\":["
+             "{\"offset\":0,\"size\":1000,\"name\":%u}]}}]}", (unsigned) a.ticket.name, (unsigned) large.ticket.name);
+    CHECK(is_text(oah_json(heaps), wanted) && !oah_json(NULL));
+    oah_drop(heaps);
+}
+
 static void nulls(void) {
     oah_limits few = {100, 3, 1, 0}, many = {100, 4, 4294967295u, 1};
     CHECK(!oah_new(few, 0) && !oah_new(many, 0));
@@ -209,6 +236,7 @@ int main(void) {
     relocates_aligned();
     states();
     nulls();
+    dumps();
     printf("C: %d checks of heaps pass\n", checks);
     return 0;
 }

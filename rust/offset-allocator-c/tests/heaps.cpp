@@ -4,6 +4,7 @@
 #include <cstdio>
 #include <cstdlib>
 #include <map>
+#include <string>
 #include <type_traits>
 #include <utility>
 #include <vector>
@@ -23,7 +24,7 @@ int main() {
     std::map<uint32, std::vector<char>> buffers;
     std::vector<Place> places;
     // each range is filled with a letter of its own, and none writes into another
-    for (int i = 0; i < 26; i++) {
+    for (uint32 i = 0; i < 26; i++) {
         Granted granted = heaps.allocateAligned(100, 4);
         CHECK(granted);
         if (granted.isNew) buffers[granted.place.heap].resize(1024);
@@ -31,8 +32,8 @@ int main() {
         for (uint32 k = 0; k < 100; k++) buffers[granted.place.heap][heaps.offsetOf(granted.place) + k] = char('a' + i);
         places.push_back(granted.place);
     }
-    for (int i = 0; i < 26; i++)
-        for (uint32 k = 0; k < 100; k++) CHECK(buffers[places[i].heap][heaps.offsetOf(places[i]) + k] == 'a' + i);
+    for (uint32 i = 0; i < 26; i++)
+        for (uint32 k = 0; k < 100; k++) CHECK(buffers[places[i].heap][heaps.offsetOf(places[i]) + k] == char('a' + i));
     CHECK(buffers.size() == 3 && heaps.totals().heaps == 3 && heaps.totals().liveUnits == 2600);
     Granted large = heaps.allocate(5000);
     CHECK(large && large.isNew && large.place.heap == 4 && heaps.storageReport(4).totalFreeSpace == 0);
@@ -84,5 +85,18 @@ int main() {
     CHECK(front.heap == 0 && pair.free(hole) && uniforms.heap == 1 && pair.relocateAligned(uniforms, 32).ticket.serial == 0);
     Place aligned = pair.relocateAligned(uniforms, 16);
     CHECK(aligned.heap == 0 && pair.offsetOf(aligned) == 80 && pair.relocateAligned(uniforms, 3).ticket.serial == 0);
+    // number 1 was dropped
+    Heaps dumped({100, 8, 3, 0}, 1);
+    Place one = dumped.allocate(96).place, other = dumped.allocate(96).place, third = dumped.allocate(60).place;
+    CHECK(third.heap == 2 && dumped.free(one) && dumped.free(other) && dumped.dropHeap(1));
+    CHECK(dumped.json() ==
+          "{\"totals\":{\"heaps\":2,\"units\":200,\"live_units\":60,\"free_units\":140,\"largest_free_region\":96},\"heaps\":["
+          "{\"number\":0,\"space\":{\"size\":100,\"max_allocs\":8,\"live_ranges\":0,\"live_units\":0,\"free_blocks\":1,"
+          "\"free_units\":100,\"largest_free_block\":100,\"largest_free_region\":96,\"unused_nodes\":7,\"blocks\":["
+          "{\"offset\":0,\"size\":100}]}},"
+          "{\"number\":2,\"space\":{\"size\":100,\"max_allocs\":8,\"live_ranges\":1,\"live_units\":60,\"free_blocks\":1,"
+          "\"free_units\":40,\"largest_free_block\":40,\"largest_free_region\":40,\"unused_nodes\":6,\"blocks\":["
+          "{\"offset\":0,\"size\":60,\"name\":" + std::to_string(third.ticket.name) + "},{\"offset\":60,\"size\":40}]}}]}");
+    CHECK(moved.json().empty());
     std::printf("C++: %d checks of heaps pass\n", checks);
 }

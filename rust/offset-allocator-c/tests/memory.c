@@ -1,5 +1,5 @@
 /* Each allocation of memory fails in turn: the constructors return null, and keep nothing. */
-#include "offset_allocator.h"
+#include "offset_allocator_heaps.h"
 
 #include <stdio.h>
 #include <stdlib.h>
@@ -26,6 +26,20 @@ void free(void *p) {
     held -= p != NULL;
     __libc_free(p);
 }
+
+/* Each request of a call that makes a text fails in turn. */
+#define CHECK_TEXT(call) do { \
+    oa_text *text = NULL; \
+    int tries = 0; \
+    for (left = 0; !text; tries++) { \
+        long before = held, next = left; \
+        text = call; \
+        if (!text && held != before) return printf("%s keeps memory\n", #call), 1; \
+        left = text ? -1 : next + 1; \
+    } \
+    oa_text_drop(text); \
+    if (tries < 4) return printf("no request of %s failed\n", #call), 1; \
+} while (0)
 
 int main(void) {
     int made = 0, listed = 0;
@@ -93,6 +107,14 @@ int main(void) {
     oag_drop(with_tickets);
     oa_state_drop(state);
     if (stored < 4 || read < 4) return printf("no request with tickets failed\n"), 1;
+    oah_limits limits = {100, 8, 2, 0};
+    oah_heaps *heaps = oah_new(limits, 1);
+    oah_allocate(heaps, 60);
+    oah_allocate(heaps, 60);
+    CHECK_TEXT(oa_json(space));
+    CHECK_TEXT(oa_vma_json(space));
+    CHECK_TEXT(oah_json(heaps));
+    oah_drop(heaps);
     /* no other call takes memory */
     left = 0;
     oa_allocation a = oa_allocate(space, 20);
@@ -134,6 +156,8 @@ int main(void) {
     oag_reset(tickets);
     if (left != 0) return printf("a call with tickets takes memory\n"), 1;
     if (oag_blocks_new(tickets)) return printf("oag_blocks_new has no memory\n"), 1;
+    CHECK_TEXT(oag_json(tickets));
+    CHECK_TEXT(oag_vma_json(tickets));
     left = -1;
     oag_drop(tickets);
     if (held != 0) return printf("%ld pieces are kept\n", held), 1;

@@ -29,7 +29,7 @@ static std::string read(const std::string &path) {
 static void byHand(const std::string &path) {
     std::FILE *file = std::fopen(path.c_str(), "w");
     {
-        Recorded<GuardedAllocator> heap(file, 1000u, 32u);
+        Recorded<GuardedAllocator> heap(file, 1000, 32);
         heap.name("texture: rock\nalbedo");
         Ticket rock = heap.allocate(100);
         Ticket other = heap.allocateAligned(50, 64);
@@ -67,11 +67,13 @@ static void byHand(const std::string &path) {
     std::fclose(file);
     check(read(path) == "space 1000 nodes 32 index 32\n# texture: rock albedo\nalloc 100\nalign 50 64\nshrink 1 40\ngrow 1 60\nalloc 5000\nfree 1\nfree 0\n# refused\n\ncompact\nextend 24\nalloc 1\nalign 32 32\nfree 2\nrelocate 4 16\nfree 5\ncompact 16\ncompact 1 0 1 1\nroom 1000\nretract 24\nextend 24\nrelocate 3\ntight 5\nroom 800 64 16\ntight 800 64\nreset\n", "all lines");
     // no file, and a file that cannot be written
-    Recorded<Allocator> none(nullptr, 100u, 8u);
+    Recorded<Allocator> none(nullptr, 100, 8);
     check(none.isFailed() && none.allocate(10).offset == 0, "without a file calls go on");
+    Recorded<GuardedAllocator> third(nullptr, 100, 8, 3), usual(nullptr, 100);
+    check(third->realm() == 3 && usual->realm() == 0 && usual->maxAllocs() == 131072, "the realm, and the usual limit");
     std::FILE *full = std::fopen("/dev/full", "w");
     if (full) {
-        Recorded<Allocator> lost(full, 100u, 8u);
+        Recorded<Allocator> lost(full, 100, 8);
         check(lost.isFailed() && lost.allocate(10).offset == 0, "on a full disk calls go on");
         std::fclose(full);
     }

@@ -6,6 +6,7 @@
 #include <cstdlib>
 #include <cstring>
 #include <stdexcept>
+#include <string>
 #include <type_traits>
 #include <utility>
 #include <vector>
@@ -39,7 +40,7 @@ static void simple() {
     Allocator a(WHOLE);
     const uint32 sizes[] = {0, 1, 123, 1234}, offsets[] = {0, 0, 1, 124};
     std::vector<Allocation> live;
-    for (int i = 0; i < 4; i++) {
+    for (uint32 i = 0; i < 4; i++) {
         live.push_back(a.allocate(sizes[i]));
         CHECK(live[i].offset == offsets[i] && a.allocationSize(live[i]) == sizes[i]);
     }
@@ -94,17 +95,17 @@ static void zeroFragmentation() {
     CHECK(a.storageReport().totalFreeSpace == 0 && a.storageReport().largestFreeRegion == 0);
     CHECK(!a.isEmpty() && a.freeUnits() + a.liveUnits() == a.size() && a.statistics().freeUnits == a.freeUnits());
     CHECK(!a.roomCost(1).possible);
-    for (int i : {243, 5, 123, 95, 151, 152, 153, 154}) a.free(live[i]);
+    for (uint32 i : {243u, 5u, 123u, 95u, 151u, 152u, 153u, 154u}) a.free(live[i]);
     // one at 5 and one at 95 have 89 between them, one at 123 and those from 151 on 27: five free together need those
     RoomCost cost = a.roomCost(5 * MIB);
     CHECK(cost.possible && cost.units == 27 * MIB && cost.ranges == 27 && a.roomCost(4 * MIB).units == 0);
-    for (int i : {243, 5, 123, 95}) {
+    for (uint32 i : {243u, 5u, 123u, 95u}) {
         live[i] = a.allocate(MIB);
         CHECK(live[i].offset != Allocation::NO_SPACE);
     }
     live[151] = a.allocate(4 * MIB);
     CHECK(live[151].offset == 151 * MIB);
-    for (int i = 0; i < 256; i++)
+    for (uint32 i = 0; i < 256; i++)
         if (i < 152 || i > 154) a.free(live[i]);
     CHECK(a.storageReport().totalFreeSpace == WHOLE && a.storageReport().largestFreeRegion == WHOLE);
     allClean(a);
@@ -475,6 +476,26 @@ static void states() {
     CHECK(!lost.space.save(level) && level.size() == 116);
 }
 
+// Behind 30 live units are 70 free ones, which are filed as 64.
+static void dumps() {
+    Allocator heap(100, 16);
+    const std::string name = std::to_string(heap.allocate(30).metadata);
+    const std::string json =
+        "{\"size\":100,\"max_allocs\":16,\"live_ranges\":1,\"live_units\":30,\"free_blocks\":1,\"free_units\":70,"
+        "\"largest_free_block\":70,\"largest_free_region\":64,\"unused_nodes\":14,\"blocks\":["
+        "{\"offset\":0,\"size\":30,\"name\":" + name + "},{\"offset\":30,\"size\":70}]}";
+    const std::string vmaJson =
+        "{\"General\":{\"API\":\"Vulkan\"},\"DefaultPools\":{\"Type 0\":{\"PreferredBlockSize\":100,\"Blocks\":{\"0\":{"
+        "\"TotalBytes\":100,\"UnusedBytes\":70,\"Allocations\":1,\"UnusedRanges\":1,\"Suballocations\":["
+        "{\"Offset\":0,\"Type\":\"UNKNOWN\",\"Size\":30},{\"Offset\":30,\"Type\":\"FREE\",\"Size\":70}]}}}}}";
+    CHECK(heap.json() == json && heap.vmaJson() == vmaJson);
+    GuardedAllocator guarded(100, 16, 5);
+    CHECK(std::to_string(guarded.allocate(30).name) == name && guarded.json() == json && guarded.vmaJson() == vmaJson);
+    Allocator moved(std::move(heap));
+    GuardedAllocator gone(std::move(guarded));
+    CHECK(heap.json().empty() && heap.vmaJson().empty() && guarded.json().empty() && guarded.vmaJson().empty());
+}
+
 int main() {
     basic();
     simple();
@@ -487,6 +508,7 @@ int main() {
     relocateToAMultiple();
     emptyTheEnd();
     states();
+    dumps();
     surface();
     moves();
     beside();

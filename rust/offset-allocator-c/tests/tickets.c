@@ -12,13 +12,13 @@ static int checks;
     if (!(condition)) { fprintf(stderr, "%s:%d: %s\n", __FILE__, __LINE__, #condition); exit(1); } \
 } while (0)
 
-static uint64_t state = 88172645463325252u;
+static uint64_t seed = 88172645463325252u;
 
 static uint64_t next(void) {
-    state ^= state << 13;
-    state ^= state >> 7;
-    state ^= state << 17;
-    return state;
+    seed ^= seed << 13;
+    seed ^= seed >> 7;
+    seed ^= seed << 17;
+    return seed;
 }
 
 static void stale(void) {
@@ -263,6 +263,27 @@ static void reads(void) {
     oag_drop(space);
 }
 
+/* Behind 12 live units are 38 free ones, which are filed as 36. */
+static void dumps(void) {
+    oag_allocator *space = oag_new(50, 4, 7);
+    oag_ticket t = oag_allocate(space, 12);
+    char wanted[500];
+    snprintf(wanted, sizeof wanted,
+             "{\"size\":50,\"max_allocs\":4,\"live_ranges\":1,\"live_units\":12,\"free_blocks\":1,\"free_units\":38,"
+             "\"largest_free_block\":38,\"largest_free_region\":36,\"unused_nodes\":2,\"blocks\":["
+             "{\"offset\":0,\"size\":12,\"name\":%u},{\"offset\":12,\"size\":38}]}", (unsigned) t.name);
+    oa_text *text = oag_json(space), *vma = oag_vma_json(space);
+    CHECK(text && strcmp(oa_text_bytes(text), wanted) == 0 && oa_text_size(text) == strlen(wanted));
+    CHECK(vma && strcmp(oa_text_bytes(vma),
+                        "{\"General\":{\"API\":\"Vulkan\"},\"DefaultPools\":{\"Type 0\":{\"PreferredBlockSize\":50,\"Blocks\":{\"0\":{"
+                        "\"TotalBytes\":50,\"UnusedBytes\":38,\"Allocations\":1,\"UnusedRanges\":1,\"Suballocations\":["
+                        "{\"Offset\":0,\"Type\":\"UNKNOWN\",\"Size\":12},{\"Offset\":12,\"Type\":\"FREE\",\"Size\":38}]}}}}}") == 0);
+    oa_text_drop(text);
+    oa_text_drop(vma);
+    oag_drop(space);
+    CHECK(!oag_json(NULL) && !oag_vma_json(NULL));
+}
+
 static void nulls(void) {
     oa_allocation handle = {0, 0};
     oa_walk walk;
@@ -324,6 +345,7 @@ int main(void) {
     tight();
     reads();
     nulls();
+    dumps();
     random_tickets();
     printf("C: %d checks of tickets pass\n", checks);
     return 0;

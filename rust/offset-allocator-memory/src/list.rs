@@ -4,7 +4,17 @@ use crate::{AllocError, Global};
 use core::ops::{Deref, DerefMut, Index, IndexMut};
 use core::slice::SliceIndex;
 
-/// A table, or a list of values.
+/// A table, or a list of values. It is read as a slice, and goes to std's and comes from it without a copy.
+///
+/// ```
+/// use offset_allocator_memory::{AllocError, Global, Vec};
+///
+/// let bytes = Vec::collect(Global, [1, 2, 3].into_iter())?;
+/// assert_eq!(bytes.as_slice(), [1, 2, 3]);
+/// assert_eq!(AsRef::<[u8]>::as_ref(&bytes), [1, 2, 3]);
+/// assert_eq!(std::vec::Vec::from(bytes), [1, 2, 3]);
+/// # Ok::<(), AllocError>(())
+/// ```
 #[derive(Debug)]
 pub struct Vec<T>(alloc::vec::Vec<T>);
 
@@ -89,6 +99,11 @@ impl<T> Vec<T> {
         Ok(())
     }
 
+    /// The values.
+    pub fn as_slice(&self) -> &[T] {
+        &self.0
+    }
+
     /// Removes all values, and keeps the memory.
     pub fn clear(&mut self) {
         self.0.clear();
@@ -142,6 +157,12 @@ impl<T, I: SliceIndex<[T]>> IndexMut<I> for Vec<T> {
             Some(value) => value,
             None => outside(),
         }
+    }
+}
+
+impl<T> AsRef<[T]> for Vec<T> {
+    fn as_ref(&self) -> &[T] {
+        &self.0
     }
 }
 

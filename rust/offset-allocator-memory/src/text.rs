@@ -4,8 +4,20 @@ use crate::{AllocError, Global};
 use core::fmt::{self, Write};
 use core::ops::Deref;
 
-/// A text.
-#[derive(Debug)]
+/// A text. It is shown, compared and borrowed as a `str`, and goes to std's without a copy.
+///
+/// ```
+/// use offset_allocator_memory::{AllocError, Global, String};
+///
+/// let text = String::from_str(Global, "mesh")?;
+/// assert_eq!(format!("{text}: {}", text.as_str()), "mesh: mesh");
+/// assert!(text == "mesh" && text == *"mesh" && text != "meshes");
+/// assert_eq!(format!("{text:>6}"), "  mesh");
+/// assert_eq!(AsRef::<str>::as_ref(&text), "mesh");
+/// assert_eq!(std::string::String::from(text), "mesh");
+/// # Ok::<(), AllocError>(())
+/// ```
+#[derive(Debug, PartialEq, Eq)]
 pub struct String(alloc::string::String);
 
 // It fails only where the text cannot grow.
@@ -51,9 +63,38 @@ impl String {
         Ok(())
     }
 
+    /// The text.
+    pub fn as_str(&self) -> &str {
+        &self.0
+    }
+
     /// Appends formatted pieces, for `write!`.
     pub fn write_fmt(&mut self, pieces: fmt::Arguments<'_>) -> Result<(), AllocError> {
         Pieces(&mut self.0).write_fmt(pieces).map_err(|_| AllocError)
+    }
+}
+
+impl fmt::Display for String {
+    fn fmt(&self, f: &mut fmt::Formatter<'_>) -> fmt::Result {
+        f.pad(&self.0)
+    }
+}
+
+impl AsRef<str> for String {
+    fn as_ref(&self) -> &str {
+        &self.0
+    }
+}
+
+impl PartialEq<str> for String {
+    fn eq(&self, other: &str) -> bool {
+        self.0 == other
+    }
+}
+
+impl PartialEq<&str> for String {
+    fn eq(&self, other: &&str) -> bool {
+        self.0 == *other
     }
 }
 
