@@ -477,7 +477,7 @@ struct Ticket {
 inline bool operator==(Ticket a, Ticket b) { return a.serial == b.serial && a.name == b.name && a.realm == b.realm; }
 inline bool operator!=(Ticket a, Ticket b) { return !(a == b); }
 
-// An allocator whose tickets cannot be stale: a ticket is live exactly until its grant is freed or reset. Every call takes
+// An allocator whose tickets are refused once stale: a ticket is live exactly until its grant is freed or reset. Every call takes
 // any ticket, and one that is not live changes nothing. It refuses the tickets of an allocator with another realm.
 class GuardedAllocator {
 public:

@@ -435,7 +435,7 @@ size_t oa_text_size(const oa_text *text);
 /* Frees a text. A null pointer is allowed. */
 void oa_text_drop(oa_text *text);
 
-/* ---- Tickets: handles that cannot be stale ----
+/* ---- Tickets: handles that are refused once stale ----
  *
  * A guarded allocator keeps a serial for each name. A ticket has the serial of its grant, so it is live exactly until
  * that grant is freed or reset: a stale copy, an altered ticket or random numbers are refused by the result, and nothing
