@@ -16,6 +16,7 @@ pub mod Ranges
 pub mod Refusals
 pub mod Taken
 pub mod Holding
+pub mod Raised
 pub mod Tallies
 pub mod Released
 pub mod Resizing

@@ -19,6 +19,14 @@ SameState v w = w ≡ record v { accesses = w.accesses }
 abbrev pub IsCopy : View → View → Type 0
 IsCopy v w = w ≡ record v { accesses = 0 }
 
+-- the same space under this node limit, unused names too, which has counted no access
+abbrev pub IsRaised : ℕ → View → View → Type 0
+IsRaised limit v w = w ≡ record v { max_allocs = limit; accesses = 0 }
+
+-- the same space under this node limit, unused names too, however many accesses are counted
+abbrev pub SameUnder : ℕ → View → View → Type 0
+SameUnder limit v w = w ≡ record v { max_allocs = limit; accesses = w.accesses }
+
 -- one free block of size units, alone in its bin, under the name of the only node that was made
 pub record IsFresh (size max_allocs : ℕ) (w : View) : Type 0 where
   pub name : ℕ

@@ -14,9 +14,9 @@ ghost use Rattle.offset_allocator.specs.View.{reported_free};
 ghost use Rattle.offset_allocator.specs.View.{reported_largest, padding_to, units, used_of, used_units};
 ghost use Rattle.offset_allocator.specs.Ranges.{Range, range_of, AreDisjoint};
 ghost use Rattle.offset_allocator.specs.Relations.{SameSpace, SameState, Aligns, Allocates, Extends, Frees};
-ghost use Rattle.offset_allocator.specs.Relations.{IsFresh, Resets};
+ghost use Rattle.offset_allocator.specs.Relations.{IsFresh, IsRaised, Resets, SameUnder};
 ghost use Rattle.offset_allocator.specs.Moving.Relocating.{Relocates, RelocatesAligned};
-ghost use Rattle.offset_allocator.specs.Requests.{IsAlignment, CanGrant, HasRoomFor, IsWhy};
+ghost use Rattle.offset_allocator.specs.Requests.{IsAlignment, CanGrant, HasRoomFor, IsWhy, blocks_needed};
 ghost use Rattle.offset_allocator.specs.Reporting.Reports.{IsReport};
 ghost use Rattle.offset_allocator.specs.Resizing.{Grows, Shrinks};
 ghost use Rattle.offset_allocator.specs.Moving.Retracting.{Retracts};
@@ -404,4 +404,46 @@ pub fn a_state_decides_each_step()
         → CompactsWithin (λ ns m os. os ≡ ns ++ m ∷ []) s from u n v [] r w ms
         → CompactsWithin (λ ns m os. os ≡ ns ++ m ∷ []) s from u n v' [] r' w' ms'
         → (r ≡ r') × (ms ≡ ms') × SameState w w' }
+{}
+
+/// The same call, in a space and in the same one under a larger limit, returns the same, handles included, and
+/// leaves the same state under that limit, where the first space has room for the blocks that the call may add.
+/// So a space that `raised` returned continues as the first one would, as long as that one would refuse
+/// nothing for nodes. A fresh space becomes the one that `with_max_allocs` makes with the larger limit.
+pub fn a_raised_limit_changes_no_answer()
+    ensures fresh { (size m limit : ℕ) (v w : View) → m ≤ limit → IsFresh size m v → IsRaised limit v w
+        → IsFresh size limit w }
+    ensures raised { (limit : ℕ) (v w : View) → IsRaised limit v w → SameUnder limit v w }
+    ensures allocate { (limit n : ℕ) (v v' w w' : View) → IsWellFormed v → v.max_allocs ≤ limit
+        → SameUnder limit v v' → HasRoomFor 1 v → (r r' : Option Handle)
+        → Allocates n v w r → Allocates n v' w' r' → (r ≡ r') × SameUnder limit w w' }
+    ensures allocate_aligned { (limit n align : ℕ) (v v' w w' : View) → IsWellFormed v
+        → v.max_allocs ≤ limit → SameUnder limit v v' → HasRoomFor (blocks_needed align) v
+        → (r r' : Option Handle) → Aligns n align v w r → Aligns n align v' w' r'
+        → (r ≡ r') × SameUnder limit w w' }
+    ensures allocate_tight { (limit n align : ℕ) (v v' w w' : View) → IsWellFormed v
+        → v.max_allocs ≤ limit → SameUnder limit v v' → HasRoomFor (blocks_needed align) v
+        → (r r' : Option Handle) → AlignsTight n align v w r → AlignsTight n align v' w' r'
+        → (r ≡ r') × SameUnder limit w w' }
+    ensures relocate { (limit x : ℕ) (v v' w w' : View) → IsWellFormed v → v.max_allocs ≤ limit
+        → SameUnder limit v v' → HasRoomFor 1 v → (r r' : Option Handle)
+        → Relocates x v w r → Relocates x v' w' r' → (r ≡ r') × SameUnder limit w w' }
+    ensures free { (limit x : ℕ) (v v' w w' : View) → IsWellFormed v → v.max_allocs ≤ limit
+        → SameUnder limit v v' → Frees x v w → Frees x v' w' → SameUnder limit w w' }
+    ensures reset { (limit : ℕ) (v v' w w' : View) → IsWellFormed v → v.max_allocs ≤ limit
+        → SameUnder limit v v' → Resets v w → Resets v' w' → SameUnder limit w w' }
+    ensures extend { (limit more : ℕ) (v v' w w' : View) → IsWellFormed v → v.max_allocs ≤ limit
+        → SameUnder limit v v' → HasRoomFor 1 v → (r r' : Bool)
+        → Extends more v w r → Extends more v' w' r' → (r ≡ r') × SameUnder limit w w' }
+    ensures retract { (limit less : ℕ) (v v' w w' : View) → IsWellFormed v → v.max_allocs ≤ limit
+        → SameUnder limit v v' → (r r' : Bool)
+        → Retracts less v w r → Retracts less v' w' r' → (r ≡ r') × SameUnder limit w w' }
+    ensures shrink { (limit x n : ℕ) (v v' w w' : View) → IsWellFormed v → v.max_allocs ≤ limit
+        → SameUnder limit v v' → HasRoomFor 1 v → (r r' : Bool)
+        → Shrinks x n v w r → Shrinks x n v' w' r' → (r ≡ r') × SameUnder limit w w' }
+    ensures grow { (limit x n : ℕ) (v v' w w' : View) → IsWellFormed v → v.max_allocs ≤ limit
+        → SameUnder limit v v' → (r r' : Bool)
+        → Grows x n v w r → Grows x n v' w' r' → (r ≡ r') × SameUnder limit w w' }
+    ensures compact { (limit : ℕ) (v v' w w' : View) → IsWellFormed v → v.max_allocs ≤ limit
+        → SameUnder limit v v' → Compacts v w → Compacts v' w' → SameUnder limit w w' }
 {}

@@ -84,11 +84,12 @@ parts c d nodes spare reserved newer older heads masks =
     ∙ ap (λ (x : List ℕ). record c { bins = record c.bins { heads = x; masks = d.bins.masks } }) heads
     ∙ ap (λ (x : List ℕ). record c { bins = record c.bins { masks = x } }) masks
 
--- tables that are alike at each name have the same cells
-pub same_cells : {max : ℕ} {c d e : Cells} → AreShaped max c → AreShaped max d → length d.chain.nodes ≡ length c.chain.nodes → d.chain.reserved ≡ c.chain.reserved
-    → ((x : ℕ) → x < length c.chain.nodes → IsAlikeAt x c e) → d ≡ record e { bins = record e.bins { heads = c.bins.heads; masks = c.bins.masks } } → d ≡ c
+-- tables that are alike at each name have the same cells, but for their memory
+pub same_cells : {max limit : ℕ} {c d e : Cells} → AreShaped max c → AreShaped max d → length d.chain.nodes ≡ length c.chain.nodes → d.chain.reserved ≡ limit
+    → ((x : ℕ) → x < length c.chain.nodes → IsAlikeAt x c e) → d ≡ record e { bins = record e.bins { heads = c.bins.heads; masks = c.bins.masks } }
+    → d ≡ record c { chain = record c.chain { reserved = limit } }
 unfolding node
-same_cells {max} {c} {d} {e} s t long memory alike q =
+same_cells {max} {limit} {c} {d} {e} s t long memory alike q =
     let chain = ap (λ (k : Cells). k.chain) q in
     let bins = ap (λ (k : Cells). k.bins) q in
     let nodes = ext_get_or blank d.chain.nodes c.chain.nodes long (λ x l. ap (λ k. get_or k.nodes x blank) chain ∙ (alike x (omega (arith, l, long))).node) in
@@ -97,4 +98,4 @@ same_cells {max} {c} {d} {e} s t long memory alike q =
     let older = ext_get_or 0 d.bins.older c.bins.older (t.older ∙ long ∙ sym s.older) (λ x l. ap (λ k. get_or k.older x 0) bins ∙ (alike x (omega (arith, l, long, t.older))).older) in
     let heads : d.bins.heads ≡ c.bins.heads = ap (λ k. k.heads) bins in
     let masks : d.bins.masks ≡ c.bins.masks = ap (λ k. k.masks) bins in
-    parts c d nodes spare memory newer older heads masks
+    parts (record c { chain = record c.chain { reserved = limit } }) d nodes spare memory newer older heads masks

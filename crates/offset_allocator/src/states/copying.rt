@@ -1,11 +1,13 @@
-//! A copy of a space, cell by cell: it makes tables, and reads those of the space.
-ghost use Rattle.std.specs.Prelude.{◌≡◌, ◌<◌, ◌≤◌, ℕ, false, length, IfOk};
+//! A copy of a space, cell by cell, under its node limit or a larger one: it makes tables, and reads those of
+//! the space.
+ghost use Rattle.std.specs.Prelude.{◌≡◌, ◌+◌, ◌<◌, ◌≤◌, ℕ, false, length, IfOk};
 ghost use Rattle.offset_allocator.specs.Cells.{node};
 ghost use Rattle.offset_allocator.specs.Saving.Copying.{IsAlikeAt, IsFilled, IsIdle, KeepsOtherNames};
-ghost use Rattle.offset_allocator.specs.Relations.{IsCopy};
+ghost use Rattle.offset_allocator.specs.Relations.{IsCopy, IsRaised};
 
 use crate::AllocatorOf;
 use crate::accesses::Accesses;
+use crate::index::NodeIndex;
 use crate::store::Store;
 use crate::tables::Tables;
 use std::alloc::{AllocError, Global};
@@ -90,16 +92,18 @@ fn copy_bins<T: Tables>(from: &T, into: &mut T, count: &mut Accesses)
     }
 }
 
-// Tables with the same cells.
+// Tables with the same cells, and memory for `limit` nodes.
 fn copied<T: Tables>(
     alloc: Global,
     from: &T,
     limit: u32,
     count: &mut Accesses,
 ) -> Result<T, AllocError>
-    requires memory { limit ≡ (T.cells from.now).chain.reserved }
     requires some { 0 < length (T.cells from.now).chain.nodes }
-    ensures cells { IfOk result (λ into. T.cells into ≡ T.cells from.now) }
+    requires within { length (T.cells from.now).chain.nodes ≤ limit }
+    requires limit { limit < T.Index.MAX }
+    ensures cells { IfOk result (λ into. T.cells into ≡ record (T.cells from.now)
+        { chain = record (T.cells from.now).chain { reserved = limit } }) }
 {
     from.shape();
     let mut into = with_nodes(alloc, limit, from.len(), count)?;
@@ -133,13 +137,42 @@ impl<T: Tables> AllocatorOf<T> {
     pub fn try_clone(&self, alloc: Global) -> Result<Self, AllocError>
         ensures { IfOk result (IsCopy self.now) }
     {
+        self.raised(alloc, self.max_allocs)
+    }
+
+    /// The space under another node limit, at least as large: a copy as `try_clone` makes it, with
+    /// `max_allocs` as its limit. It is for a space that refuses requests as `Nodes`: put it in place of the
+    /// first one, and all handles go on. While the first one has room for the blocks that a call may add,
+    /// requests, releases and changes of sizes have the same answers in both, handles included.
+    ///
+    /// The limit is at most `T::Index::MAX - 2`. It reserves what `with_max_allocs` does for that limit,
+    /// beside the memory of the first space until that is dropped, and takes time for the nodes that were
+    /// made, which `node_count` counts, and not for either limit.
+    ///
+    /// # Errors
+    ///
+    /// An error is returned only where an allocation failed; then nothing is made, and the first space is as
+    /// it was.
+    ///
+    /// ```
+    /// let mut space = Allocator::<u32>::with_max_allocs(alloc, 1000, 3)?;
+    /// let mesh = space.allocate(300).unwrap();
+    /// assert!(space.allocate(10).is_none());
+    /// space = space.raised(alloc, 100)?;
+    /// assert!(space.is_live(mesh) && space.allocate(10).is_some());
+    /// ```
+    pub fn raised(&self, alloc: Global, max_allocs: u32) -> Result<Self, AllocError>
+        requires larger { self.now.max_allocs ≤ max_allocs }
+        requires limit_max { max_allocs + 1 < T.Index.MAX }
+        ensures { IfOk result (IsRaised max_allocs self.now) }
+    {
         let mut count = Accesses::new();
         let store = &self.store;
         self.formed();
-        let tables = copied(alloc, &store.tables, self.max_allocs, &mut count)?;
+        let tables = copied(alloc, &store.tables, max_allocs, &mut count)?;
         Ok(AllocatorOf {
             size: self.size,
-            max_allocs: self.max_allocs,
+            max_allocs,
             free_total: self.free_total,
             store: Store {
                 tables,

@@ -1,9 +1,11 @@
 // Printed by rust/erase from crates/offset_allocator/src/states/copying.rt: change it there.
 
-//! A copy of a space, cell by cell: it makes tables, and reads those of the space.
+//! A copy of a space, cell by cell, under its node limit or a larger one: it makes tables, and reads those of
+//! the space.
 
 use crate::AllocatorOf;
 use crate::accesses::Accesses;
+use crate::index::NodeIndex;
 use crate::store::Store;
 use crate::tables::Tables;
 use crate::memory::{AllocError, Global};
@@ -58,7 +60,7 @@ fn copy_bins<T: Tables>(from: &T, into: &mut T, count: &mut Accesses) {
     }
 }
 
-// Tables with the same cells.
+// Tables with the same cells, and memory for `limit` nodes.
 fn copied<T: Tables>(
     alloc: Global,
     from: &T,
@@ -97,12 +99,48 @@ impl<T: Tables> AllocatorOf<T> {
     /// # Ok::<(), AllocError>(())
     /// ```
     pub fn try_clone(&self, alloc: Global) -> Result<Self, AllocError> {
+        self.raised(alloc, self.max_allocs)
+    }
+
+    /// The space under another node limit, at least as large: a copy as `try_clone` makes it, with
+    /// `max_allocs` as its limit. It is for a space that refuses requests as `Nodes`: put it in place of the
+    /// first one, and all handles go on. While the first one has room for the blocks that a call may add,
+    /// requests, releases and changes of sizes have the same answers in both, handles included.
+    ///
+    /// The limit is at most `T::Index::MAX - 2`. It reserves what `with_max_allocs` does for that limit,
+    /// beside the memory of the first space until that is dropped, and takes time for the nodes that were
+    /// made, which `node_count` counts, and not for either limit.
+    ///
+    /// # Errors
+    ///
+    /// An error is returned only where an allocation failed; then nothing is made, and the first space is as
+    /// it was.
+    ///
+    /// # Panics
+    ///
+    /// It panics unless `max_allocs` is at least the limit that there is, and `max_allocs` is at most
+    /// `NI::MAX - 2`.
+    ///
+    /// ```
+    /// # use offset_allocator_proved::*;
+    /// # let alloc = Global;
+    /// let mut space = Allocator::<u32>::with_max_allocs(alloc, 1000, 3)?;
+    /// let mesh = space.allocate(300).unwrap();
+    /// assert!(space.allocate(10).is_none());
+    /// space = space.raised(alloc, 100)?;
+    /// assert!(space.is_live(mesh) && space.allocate(10).is_some());
+    /// # Ok::<(), AllocError>(())
+    /// ```
+    #[track_caller]
+    pub fn raised(&self, alloc: Global, max_allocs: u32) -> Result<Self, AllocError> {
+        assert!(self.max_allocs <= max_allocs, "max_allocs must be at least the limit that there is");
+        assert!(max_allocs < T::Index::MAX - 1, "max_allocs must be at most NI::MAX - 2");
         let mut count = Accesses::new();
         let store = &self.store;
-        let tables = copied(alloc, &store.tables, self.max_allocs, &mut count)?;
+        let tables = copied(alloc, &store.tables, max_allocs, &mut count)?;
         Ok(AllocatorOf {
             size: self.size,
-            max_allocs: self.max_allocs,
+            max_allocs,
             free_total: self.free_total,
             store: Store {
                 tables,

@@ -142,7 +142,7 @@ impl<T: Tables> AllocatorOf<T> {
     ///
     /// `most_allocs` is the largest node limit that is accepted, since memory for the limit is reserved, as
     /// by `with_max_allocs`. Nothing else that is requested is more than 4 bytes for each 4 that were given.
-    /// It takes time for the bytes.
+    /// It takes time for the bytes. The space has the limit that was written: `raised` gives it a larger one.
     ///
     /// # Errors
     ///
