@@ -195,6 +195,7 @@ REQUIRES = [
     ("max_allocs + 1 < NI.MAX", "max_allocs < NI::MAX - 1", "max_allocs must be at most NI::MAX - 2"),
     ("max_allocs + 1 < T.Index.MAX", "max_allocs < T::Index::MAX - 1", "max_allocs must be at most NI::MAX - 2"),
     ("self.now.max_allocs ≤ max_allocs", "self.max_allocs <= max_allocs", "max_allocs must be at least the limit that there is"),
+    ("self.now.space.max_allocs ≤ max_allocs", "self.space.max_allocs() <= max_allocs", "max_allocs must be at least the limit that there is"),
     ("4 ≤ limits.max_allocs", "4 <= limits.max_allocs", "max_allocs must be at least 4"),
     ("limits.max_allocs + 1 < T.Index.MAX", "limits.max_allocs < <T::Index as offset_allocator::NodeIndex>::MAX - 1", "max_allocs must be at most NI::MAX - 2"),
     ("limits.most + limits.most_larger < 2 ^ 32", "limits.most.checked_add(limits.most_larger).is_some()", "there may be at most 4294967295 heaps"),

@@ -127,13 +127,14 @@ pub same_limit_tight : (n align : ℕ) (v w : View) (h : Handle) → AlignsTight
 same_limit_tight n align v w h (inl t) = same_limit n align v w h t
 same_limit_tight n align v w h (inr t) = ap (λ (z : View). z.max_allocs) t.1.1.3.view
 
--- a copy of the space, and of the serials
-pub copied : {max : ℕ} {v w : View} {t u : Table} → IsGuarded max v t → w ≡ record v { accesses = 0 } → u.cells ≡ t.cells → u.given ≡ t.given → v.max_allocs ≤ u.room → IsGuarded max w u
-copied {max} {v} {w} {t} {u} h e cells given room = record {
+-- a copy of the space under this node limit, and of the serials
+pub raised : {max limit : ℕ} {v w : View} {t u : Table} → IsGuarded max v t → w ≡ record v { max_allocs = limit; accesses = 0 } → u.cells ≡ t.cells → u.given ≡ t.given
+    → limit ≤ u.room → limit < max → IsGuarded max w u
+raised {max} {limit} {v} {w} {t} {u} h e cells given room small = record {
   live = λ x l. rw cells (h.live x (subst (λ (k : View). named.IsLive x k) e l));
   given = λ x. rw (cells, given) (h.given x);
   memory = rw e room;
-  admitted = rw e h.admitted;
+  admitted = rw e small;
 }
 
 -- what the fields show is well formed

@@ -89,6 +89,10 @@ IsSame g h = SameState g.space h.space × KeepsSerials g h
 abbrev pub IsCopy : Guard → Guard → Type 0
 IsCopy g h = h ≡ record g { space = record g.space { accesses = 0 } }
 
+-- the same under this node limit, of a space that has counted no access
+abbrev pub IsRaised : ℕ → Guard → Guard → Type 0
+IsRaised limit g h = h ≡ record g { space = record g.space { max_allocs = limit; accesses = 0 } }
+
 -- the handle of a ticket
 abbrev pub handle_in : Ticket → Handle
 handle_in t = record { name = t.name; offset = t.offset }

@@ -20,8 +20,8 @@ ghost use Rattle.offset_allocator.specs.Ranges.{Range};
 ghost use Rattle.offset_allocator.specs.Ranges as named;
 ghost use Rattle.offset_allocator.specs.Relations.{Frees, IsFresh, Resets};
 ghost use Rattle.offset_allocator.specs.View.{used_of};
-ghost use Rattle.offset_guarded.specs.Guard.{HasSerialLeft, IsCopy, IsLive, KeepsOthers, last_serial};
-ghost use Rattle.offset_guarded.specs.Guard.{range_of, serial_of};
+ghost use Rattle.offset_guarded.specs.Guard.{HasSerialLeft, IsCopy, IsLive, IsRaised, KeepsOthers};
+ghost use Rattle.offset_guarded.specs.Guard.{last_serial, range_of, serial_of};
 
 mod allocate;
 mod beside;
@@ -149,6 +149,38 @@ impl<T: Tables> GuardedOf<T> {
     {
         let serials = self.serials.try_clone(alloc, self.space.max_allocs())?;
         let space = self.space.try_clone(alloc)?;
+        Ok(GuardedOf {
+            space,
+            serials,
+            realm: self.realm,
+        })
+    }
+
+    /// The same under another node limit, at least as large, as `Allocator::raised` makes it: a copy with the
+    /// same realm and serials, and with `max_allocs` in place of the limit. Put it in place of this one, and
+    /// all tickets go on.
+    ///
+    /// The limit is at most `T::Index::MAX - 2`. It reserves what `with_max_allocs` does for that limit,
+    /// beside the memory of this one until that is dropped, and takes time for the nodes that were made.
+    ///
+    /// # Errors
+    ///
+    /// An error is returned only where an allocation failed; then nothing is made, and this one is as it was.
+    ///
+    /// ```
+    /// let mut guarded = Guarded::<u32>::with_max_allocs(alloc, 1000, 3, 1)?;
+    /// let mesh = guarded.allocate(300).unwrap();
+    /// assert!(guarded.allocate(10).is_none());
+    /// guarded = guarded.raised(alloc, 100)?;
+    /// assert!(guarded.is_live(mesh) && guarded.allocate(10).is_some());
+    /// ```
+    pub fn raised(&self, alloc: Global, max_allocs: u32) -> Result<Self, AllocError>
+        requires larger { self.now.space.max_allocs ≤ max_allocs }
+        requires limit_max { max_allocs + 1 < T.Index.MAX }
+        ensures { IfOk result (IsRaised max_allocs self.now) }
+    {
+        let serials = self.serials.try_clone(alloc, max_allocs)?;
+        let space = self.space.raised(alloc, max_allocs)?;
         Ok(GuardedOf {
             space,
             serials,

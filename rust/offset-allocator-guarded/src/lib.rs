@@ -150,6 +150,45 @@ impl<T: Tables> GuardedOf<T> {
         })
     }
 
+    /// The same under another node limit, at least as large, as `Allocator::raised` makes it: a copy with the
+    /// same realm and serials, and with `max_allocs` in place of the limit. Put it in place of this one, and
+    /// all tickets go on.
+    ///
+    /// The limit is at most `T::Index::MAX - 2`. It reserves what `with_max_allocs` does for that limit,
+    /// beside the memory of this one until that is dropped, and takes time for the nodes that were made.
+    ///
+    /// # Errors
+    ///
+    /// An error is returned only where an allocation failed; then nothing is made, and this one is as it was.
+    ///
+    /// # Panics
+    ///
+    /// It panics unless `max_allocs` is at least the limit that there is, and `max_allocs` is at most
+    /// `NI::MAX - 2`.
+    ///
+    /// ```
+    /// # use offset_allocator_guarded::*;
+    /// # let alloc = Global;
+    /// let mut guarded = Guarded::<u32>::with_max_allocs(alloc, 1000, 3, 1)?;
+    /// let mesh = guarded.allocate(300).unwrap();
+    /// assert!(guarded.allocate(10).is_none());
+    /// guarded = guarded.raised(alloc, 100)?;
+    /// assert!(guarded.is_live(mesh) && guarded.allocate(10).is_some());
+    /// # Ok::<(), AllocError>(())
+    /// ```
+    #[track_caller]
+    pub fn raised(&self, alloc: Global, max_allocs: u32) -> Result<Self, AllocError> {
+        assert!(self.space.max_allocs() <= max_allocs, "max_allocs must be at least the limit that there is");
+        assert!(max_allocs < T::Index::MAX - 1, "max_allocs must be at most NI::MAX - 2");
+        let serials = self.serials.try_clone(alloc, max_allocs)?;
+        let space = self.space.raised(alloc, max_allocs)?;
+        Ok(GuardedOf {
+            space,
+            serials,
+            realm: self.realm,
+        })
+    }
+
     /// The allocator, to read: its reports and statistics, whether nothing is live, its blocks, its sizes,
     /// and why it refuses a request.
     ///

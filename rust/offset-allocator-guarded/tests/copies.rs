@@ -50,3 +50,32 @@ fn a_copy_goes_on_alike() {
         }
     }
 }
+
+// A space whose limit is raised whenever another call might be refused for nodes answers as one that had a large limit from
+// the start, and in the end they have the same bytes.
+#[test]
+fn a_raised_limit_changes_no_answer() {
+    const LIMIT: u32 = 1_000;
+    let (mut random, mut count) = (Random(2), 0);
+    for round in 0..500 {
+        let size = 1_000 + round;
+        let mut large = Guarded::with_max_allocs(Global, size, LIMIT, round).unwrap();
+        let mut small = Guarded::with_max_allocs(Global, size, 2 + random.below(4), round).unwrap();
+        let start = u64::from(random.below(u32::MAX));
+        let (mut own, mut other) = (Random(start), Random(start));
+        let (mut held, mut held_there) = (Vec::new(), Vec::new());
+        for _ in 0..200 {
+            // a request may add two blocks, and one name stays without a block
+            let needed = small.allocator().block_count() + 3;
+            if small.allocator().max_allocs() < needed {
+                small = small.raised(Global, needed + random.below(8)).unwrap();
+                count += 1;
+            }
+            let wanted = call(&mut large, &mut held, &mut own);
+            assert_eq!(call(&mut small, &mut held_there, &mut other), wanted);
+        }
+        small = small.raised(Global, LIMIT).unwrap();
+        assert_eq!(&*small.write_state(Global).unwrap(), &*large.write_state(Global).unwrap());
+    }
+    assert!(count > 1_000);
+}

@@ -13,6 +13,11 @@ fn is_admitted<T: Tables>(limit: u32) -> bool {
     (2..T::Index::MAX - 1).contains(&limit)
 }
 
+// Twice this limit, or the largest that the index type admits.
+fn limit_above<T: Tables>(limit: u32) -> u32 {
+    limit.saturating_mul(2).min(T::Index::MAX - 2)
+}
+
 // Every call of a space and of a guarded one, with requests of `units` units, where the limit is admitted.
 fn use_of<T: Tables>(max_allocs: u32, units: u32) -> Result<u32, AllocError> {
     if !is_admitted::<T>(max_allocs) {
@@ -24,6 +29,7 @@ fn use_of<T: Tables>(max_allocs: u32, units: u32) -> Result<u32, AllocError> {
     space.allocate_aligned(1, units);
     space.compact(&mut |_| {});
     space.try_clone(Global)?;
+    space.raised(Global, limit_above::<T>(max_allocs))?;
     let bytes = space.write_state(Global)?;
     assert!(AllocatorOf::<T>::read_state(Global, &bytes, max_allocs)?.is_ok());
     space.reset();
@@ -35,6 +41,7 @@ fn use_of<T: Tables>(max_allocs: u32, units: u32) -> Result<u32, AllocError> {
         assert!(guarded.free(ticket));
     }
     guarded.try_clone(Global)?;
+    guarded.raised(Global, limit_above::<T>(max_allocs))?;
     let bytes = guarded.write_state(Global)?;
     assert!(GuardedOf::<T>::read_state(Global, &bytes, max_allocs)?.is_ok());
     guarded.reset();
@@ -154,12 +161,19 @@ fn filled_guarded<T: Tables>(max_allocs: u32) -> Result<GuardedOf<T>, AllocError
 type Row<T> = (&'static str, fn(&AllocatorOf<T>, &GuardedOf<T>) -> Result<(), AllocError>);
 
 // Each such call.
-fn rows<T: Tables>() -> [Row<T>; 9] {
+fn rows<T: Tables>() -> [Row<T>; 11] {
     [
         ("try_clone", |space, _| {
             let copy = space.try_clone(Global)?;
             assert_eq!(copy.statistics(), space.statistics());
             assert_eq!(copy.node_count(), space.node_count());
+            Ok(())
+        }),
+        ("raised", |space, _| {
+            let larger = limit_above::<T>(space.max_allocs());
+            let raised = space.raised(Global, larger)?;
+            assert_eq!((raised.free_units(), raised.live_units()), (space.free_units(), space.live_units()));
+            assert_eq!((raised.max_allocs(), raised.node_count()), (larger, space.node_count()));
             Ok(())
         }),
         ("write_state", |space, _| {
@@ -188,6 +202,13 @@ fn rows<T: Tables>() -> [Row<T>; 9] {
         ("try_clone with tickets", |_, guarded| {
             let copy = guarded.try_clone(Global)?;
             assert_eq!(copy.allocator().statistics(), guarded.allocator().statistics());
+            Ok(())
+        }),
+        ("raised with tickets", |_, guarded| {
+            let larger = limit_above::<T>(guarded.allocator().max_allocs());
+            let raised = guarded.raised(Global, larger)?;
+            assert_eq!((raised.realm(), raised.allocator().max_allocs()), (guarded.realm(), larger));
+            assert_eq!(raised.allocator().live_units(), guarded.allocator().live_units());
             Ok(())
         }),
         ("write_state with tickets", |space, guarded| {

@@ -46,6 +46,8 @@ pub enum Step {
     Extends(u32, bool),
     /// The space loses this number of units at its end, or refuses to.
     Retracts(u32, bool),
+    /// The space is put under this node limit, which is at least as large.
+    Raises(u32),
     /// The grant of this number gets a second range at this offset.
     Relocates(usize, u32),
     /// The grant of this number gets no second range, and nothing changes.
@@ -691,6 +693,10 @@ fn take<T: Tables>(
         }
         Step::Retracts(less, done) => {
             assert_same_at(at, &allocator.retract(*less), done);
+        }
+        Step::Raises(limit) => {
+            *allocator = allocator.raised(Global, *limit).expect("memory");
+            assert_same_at(at, &allocator.max_allocs(), limit);
         }
         Step::Relocates(number, offset) => {
             expect_second(at, allocator, handles, *number, None, Some(*offset));
