@@ -307,6 +307,10 @@ public:
     // A copy, which goes on alike; empty where memory is out.
     Allocator clone() const { return Allocator(oa_clone(space)); }
 
+    // A node limit at least as large: all allocations stay live. False, and nothing changes, where maxAllocs is smaller or
+    // above 4294967293, or memory is out.
+    bool raiseLimit(uint32 maxAllocs) { return oa_raise_limit(space, maxAllocs); }
+
     // Assigns the bytes of the state to a vector, say. False where memory for them is out; an exception of assign is that
     // of the caller.
     template <class Bytes> bool save(Bytes &bytes) const { return detail::assign(oa_write_state(space), bytes); }
@@ -502,6 +506,9 @@ public:
     }
     // A copy, to be used in place of this one: later grants of both may have the same ticket. Empty where memory is out.
     GuardedAllocator clone() const { return GuardedAllocator(oag_clone(space)); }
+
+    // As that of Allocator: all tickets stay live.
+    bool raiseLimit(uint32 maxAllocs) { return oag_raise_limit(space, maxAllocs); }
 
     GuardedAllocator(const GuardedAllocator &) = delete;
     GuardedAllocator &operator=(const GuardedAllocator &) = delete;

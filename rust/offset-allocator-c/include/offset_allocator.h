@@ -15,7 +15,7 @@
  * and a walk whose space changed. A call with a null allocator does nothing and returns what its comment says. A handle
  * that is not live here is refused by the result, and nothing changes: it was freed, or a reset freed it, or its name is
  * not in use. A stale handle, or one of another allocator, whose name is in use here cannot be distinguished from the live
- * one. Only the calls named *_new, *_clone, *_write_state, *_read_state and *_json take memory.
+ * one. Only the calls named *_new, *_clone, *_raise_limit, *_write_state, *_read_state and *_json take memory.
  *
  * Threads. Calls with an oa_allocator * need it for themselves; calls with a const oa_allocator * may run at the same
  * time as each other.
@@ -105,7 +105,7 @@ typedef struct oa_report_full {
 /* Why a request would be refused: the first of these that applies. */
 typedef enum oa_reason {
     OA_GRANTED = 0,    /* It would be granted. */
-    OA_NODES = 1,      /* Too few nodes are left. Use another space, or free ranges beside free blocks. */
+    OA_NODES = 1,      /* Too few nodes are left. Raise the limit, use another space, or free ranges beside free blocks. */
     OA_TOO_LARGE = 2,  /* A fresh space of this size would refuse it too. Extend the space. */
     OA_SPACE = 3,      /* All free units in one block would not be enough. Free ranges, or extend the space. */
     OA_FRAGMENTED = 4, /* They would be enough: after oa_compact the request is granted. */
@@ -183,6 +183,11 @@ void oa_drop(oa_allocator *space);
 /* A copy with memory of its own: the same live handles, and the same answers and handles to all further calls. Null where
  * memory is out, or space is null. Cost: as oa_new, and time for the nodes that were made. */
 oa_allocator *oa_clone(const oa_allocator *space);
+
+/* Gives a space another node limit, at least as large: all handles stay live, and requests that were refused as OA_NODES may
+ * be granted. True if done. False, and nothing changes, where max_allocs is smaller than the limit or above 4294967293, where
+ * memory is out, or if the allocator is null. Cost: as oa_clone; the old tables are dropped when the new ones are made. */
+bool oa_raise_limit(oa_allocator *space, uint32_t max_allocs);
 
 /* The bytes of the state of a space, in which it can be stored: 32, 8 for each block, 4 more for each free one, and 4 for
  * each unused node that was made. Null where memory is out, or space is null. To be dropped by oa_state_drop. */
@@ -462,6 +467,9 @@ void oag_drop(oag_allocator *space);
 /* As oa_clone, with the same realm and serials: each ticket that is live here is live there. Use one copy in place of the
  * other, not beside it: later grants of both may have the same ticket. */
 oag_allocator *oag_clone(const oag_allocator *space);
+
+/* As oa_raise_limit: all tickets stay live. */
+bool oag_raise_limit(oag_allocator *space, uint32_t max_allocs);
 
 /* The bytes of the state of a space with its tickets: as oa_write_state, and 48 more, and 8 for each node that was ever
  * made. Null where memory is out, or space is null. To be dropped by oa_state_drop. */

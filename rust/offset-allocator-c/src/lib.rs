@@ -416,6 +416,19 @@ exports! {
 
     fn oa_clone([space: &Space],) -> Option<Box<Space>> { boxed(space.try_clone(Global).ok()?) } else None;
 
+    fn oa_raise_limit([space: &mut Space], max_allocs: u32) -> bool {
+        if !(space.max_allocs()..=u32::MAX - 2).contains(&max_allocs) {
+            return false;
+        }
+        match space.raised(Global, max_allocs) {
+            Err(_) => false,
+            Ok(raised) => {
+                *space = raised;
+                true
+            }
+        }
+    } else false;
+
     fn oa_write_state([space: &Space],) -> Option<Box<State>> { boxed(space.write_state(Global).ok()?.into()) } else None;
 
     fn oa_state_new(size: usize) -> Option<Box<State>> { zeros(size) } else ();
@@ -663,6 +676,19 @@ exports! {
     fn oag_drop(space: Option<Box<GuardedSpace>>) -> () { drop(space) } else ();
 
     fn oag_clone([space: &GuardedSpace],) -> Option<Box<GuardedSpace>> { boxed(space.try_clone(offset_allocator_guarded::Global).ok()?) } else None;
+
+    fn oag_raise_limit([space: &mut GuardedSpace], max_allocs: u32) -> bool {
+        if !(space.allocator().max_allocs()..=u32::MAX - 2).contains(&max_allocs) {
+            return false;
+        }
+        match space.raised(offset_allocator_guarded::Global, max_allocs) {
+            Err(_) => false,
+            Ok(raised) => {
+                *space = raised;
+                true
+            }
+        }
+    } else false;
 
     fn oag_write_state([space: &GuardedSpace],) -> Option<Box<State>> {
         boxed(space.write_state(Global).ok()?.into())

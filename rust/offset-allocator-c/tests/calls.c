@@ -97,6 +97,25 @@ static void states(void) {
     oa_state_drop(NULL);
 }
 
+/* At most 3 blocks: the second range leaves 70 units behind it, and what the first one leaves is a block too. So a third
+ * range is refused for nodes, until there may be one block more. Then it takes the first 5 units of those that the first range
+ * left, which are the smallest block that is large enough. */
+static void raised(void) {
+    oa_allocator *space = oa_new(100, 4);
+    oa_allocation a = oa_allocate(space, 10), b = oa_allocate(space, 20);
+    oa_free(space, a);
+    CHECK(oa_refusal(space, 5) == OA_NODES && oa_is_full(space));
+    CHECK(!oa_raise_limit(space, 3) && !oa_raise_limit(space, 4294967294u) && !oa_raise_limit(space, 4294967295u));
+    CHECK(oa_max_allocs(space) == 4 && oa_raise_limit(space, 4) && oa_refusal(space, 5) == OA_NODES);
+    CHECK(oa_raise_limit(space, 5) && oa_max_allocs(space) == 5 && oa_size(space) == 100 && oa_block_count(space) == 3);
+    CHECK(oa_is_live(space, b) && oa_allocation_offset(space, b) == 10 && oa_allocation_size(space, b) == 20 && !oa_is_live(space, a));
+    oa_allocation c = oa_allocate(space, 5);
+    CHECK(c.offset == 0 && c.metadata == a.metadata && oa_refusal(space, 5) == OA_NODES);
+    CHECK(oa_free(space, b) && oa_free(space, c) && oa_free_units(space) == 100 && oa_is_empty(space));
+    oa_drop(space);
+    CHECK(!oa_raise_limit(NULL, 100));
+}
+
 static bool are(oa_totals t, uint32_t ranges, uint32_t live, uint32_t blocks, uint32_t units, uint32_t block, uint32_t region, uint32_t nodes) {
     return t.live_ranges == ranges && t.live_units == live && t.free_blocks == blocks && t.free_units == units
         && t.largest_free_block == block && t.largest_free_region == region && t.unused_nodes == nodes;
@@ -606,6 +625,7 @@ int main(void) {
     to_a_multiple();
     from_the_end();
     states();
+    raised();
     walks();
     classes();
     nulls();

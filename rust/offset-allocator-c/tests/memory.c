@@ -58,6 +58,15 @@ int main(void) {
         if (!blocks && held != before) return printf("oa_blocks_new keeps memory\n"), 1;
         left = blocks ? -1 : next + 1;
     }
+    /* a limit that is not raised stays, with what is held */
+    int raised = 0;
+    for (left = 0; oa_max_allocs(space) == 100; raised++) {
+        long before = held, next = left;
+        bool done = oa_raise_limit(space, 200);
+        if (held != before) return printf("oa_raise_limit keeps memory\n"), 1;
+        if (done != (oa_max_allocs(space) == 200)) return printf("oa_raise_limit says otherwise\n"), 1;
+        left = done ? -1 : next + 1;
+    }
     int copied = 0, stored = 0, read = 0;
     oa_allocator *copy = NULL;
     for (left = 0; !copy; copied++) {
@@ -77,14 +86,14 @@ int main(void) {
     copy = NULL;
     for (left = 0; !copy; read++) {
         long before = held, next = left;
-        oa_read found = oa_read_state(state, 100);
+        oa_read found = oa_read_state(state, 200);
         copy = found.space;
         if (!copy && (held != before || found.found != OA_OUT_OF_MEMORY)) return printf("oa_read_state keeps memory\n"), 1;
         left = copy ? -1 : next + 1;
     }
     oa_drop(copy);
     oa_state_drop(state);
-    if (copied < 3 || stored < 3 || read < 3) return printf("no request failed\n"), 1;
+    if (raised < 2 || copied < 3 || stored < 3 || read < 3) return printf("no request failed\n"), 1;
     /* the same with tickets */
     left = -1;
     oag_allocator *with_tickets = oag_new(1000, 100, 7), *again = NULL;
@@ -103,10 +112,16 @@ int main(void) {
         if (!again && (held != before || found.found != OA_OUT_OF_MEMORY)) return printf("oag_read_state keeps memory\n"), 1;
         left = again ? -1 : next + 1;
     }
+    for (left = 0, raised = 0; oag_max_allocs(with_tickets) == 100; raised++) {
+        long before = held, next = left;
+        bool done = oag_raise_limit(with_tickets, 200);
+        if (held != before) return printf("oag_raise_limit keeps memory\n"), 1;
+        left = done ? -1 : next + 1;
+    }
     oag_drop(again);
     oag_drop(with_tickets);
     oa_state_drop(state);
-    if (stored < 4 || read < 4) return printf("no request with tickets failed\n"), 1;
+    if (raised < 3 || stored < 4 || read < 4) return printf("no request with tickets failed\n"), 1;
     oah_limits limits = {100, 8, 2, 0};
     oah_heaps *heaps = oah_new(limits, 1);
     oah_allocate(heaps, 60);

@@ -441,6 +441,21 @@ static void tickets() {
     CHECK(several[4].allocate(200).realm == 4 && !several[0].allocate(1));
 }
 
+// At most 2 blocks, and then 3: the second range begins where the first one ends.
+static void raised() {
+    Allocator heap(100, 3);
+    Allocation rock = heap.allocate(30);
+    CHECK(heap.refusal(5) == Refusal::nodes && !heap.raiseLimit(2) && heap.raiseLimit(4) && heap.maxAllocs() == 4);
+    CHECK(heap.isLive(rock) && heap.allocate(5).offset == 30);
+    Allocator moved = std::move(heap);
+    CHECK(!heap.raiseLimit(100) && moved.raiseLimit(100) && moved.isLive(rock) && moved.maxAllocs() == 100);
+    GuardedAllocator guarded(100, 3, 5);
+    Ticket mesh = guarded.allocate(30);
+    CHECK(!guarded.allocate(5) && !guarded.raiseLimit(2) && guarded.raiseLimit(4) && guarded.maxAllocs() == 4);
+    Ticket next = guarded.allocate(5);
+    CHECK(guarded.isLive(mesh) && guarded.offsetOf(next) == 30 && next.serial == 2 && guarded.free(mesh) && !guarded.free(mesh));
+}
+
 // A level that is saved and loaded, and a game that is rolled back.
 static void states() {
     Allocator heap(1000, 16);
@@ -507,6 +522,7 @@ int main() {
     sideTable();
     relocateToAMultiple();
     emptyTheEnd();
+    raised();
     states();
     dumps();
     surface();

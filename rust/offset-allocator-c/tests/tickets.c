@@ -51,6 +51,16 @@ static void stale(void) {
     CHECK(copy && oag_is_live(copy, c) && oag_free(copy, c) && oag_is_live(space, c) && oag_realm(copy) == 7);
     CHECK(oag_allocate(copy, 5).serial == 4 && oag_allocate(space, 5).serial == 4 && !oag_clone(NULL));
     oag_drop(copy);
+    /* and under a larger limit: 2 blocks, and with another range 3 */
+    CHECK(!oag_raise_limit(NULL, 100));
+    oag_allocator *small = oag_new(100, 3, 7);
+    oag_ticket first = oag_allocate(small, 10);
+    CHECK(first.serial == 1 && oag_refusal(small, 5) == OA_NODES && !oag_raise_limit(small, 2) && !oag_raise_limit(small, 4294967294u));
+    CHECK(oag_max_allocs(small) == 3 && oag_raise_limit(small, 4) && oag_max_allocs(small) == 4 && oag_realm(small) == 7);
+    oag_ticket second = oag_allocate(small, 5);
+    CHECK(second.serial == 2 && oag_offset_of(small, second) == 10 && oag_is_live(small, first) && oag_size_of(small, first) == 10);
+    CHECK(oag_free(small, first) && !oag_free(small, first) && oag_free(small, second) && oag_is_empty(small));
+    oag_drop(small);
     oag_drop(other);
     oag_drop(space);
     oag_drop(NULL);
