@@ -60,7 +60,10 @@ const fn with_hints(word: &'static str, title: &'static str) -> Call {
 pub const NEW: Call = call("new", "new");
 pub const LIMITED: Call = call("limited", "with_max_allocs");
 pub const CALLS: Call = call("calls", "with_max_allocs and 1,000 calls");
-pub const STORE: Call = call("store", "with_max_allocs, 1,000 calls, a copy and a state");
+pub const STORE: Call = call(
+    "store",
+    "with_max_allocs, 1,000 calls, a copy, a larger limit and a state",
+);
 pub const FILL: Call = call(
     "fill",
     "with_max_allocs and twice 3,000 requests and a reset",
@@ -68,7 +71,10 @@ pub const FILL: Call = call(
 pub const PLAY: Call = call("play", "play");
 pub const LIST: Call = with_hints("list", "a list of calls");
 pub const TICKETS: Call = with_hints("tickets", "a list of calls with tickets");
-pub const GUARDED: Call = call("guarded", "guarded with_max_allocs, 1,000 calls and a copy");
+pub const GUARDED: Call = call(
+    "guarded",
+    "guarded with_max_allocs, 1,000 calls, a copy and a larger limit",
+);
 pub const GUARDED_STORE: Call = call(
     "guarded_store",
     "guarded with_max_allocs, 1,000 calls and a state",

@@ -49,6 +49,11 @@ fn guarded_requests(layout: Layout, nodes: usize, bits: usize) -> Vec<usize> {
     [vec![8 * nodes], table_requests(layout, nodes, bits)].concat()
 }
 
+/// A limit that is larger by one, or the largest that an index of `bits` bits admits.
+fn limit_above(nodes: usize, bits: usize) -> usize {
+    (nodes + 1).min((1 << bits) - 3)
+}
+
 /// What is left of requests without these, each as often as it is there; `None` where one is missing.
 fn without(requested: &[usize], some: &[usize]) -> Option<Vec<usize>> {
     let mut left = requested.to_vec();
@@ -169,31 +174,40 @@ impl Check<'_> {
         let report = Outcome::new(ANSWERED, report);
         self.fail_each(LIMITED.on(layout), header, 0, &report);
         self.fail_each_as_by_node(CALLS, layout, header, 0);
-        // a copy requests as much again
+        // a copy requests as much again, and one under a larger limit for that
         let guarded = guarded_requests(layout, nodes, bits);
-        let both = [guarded.clone(), guarded].concat();
-        self.expect_requests(GUARDED.on(layout), header, &both);
+        let raised = guarded_requests(layout, limit_above(nodes, bits), bits);
+        let all = [guarded.clone(), guarded, raised].concat();
+        self.expect_requests(GUARDED.on(layout), header, &all);
         self.fail_each_as_by_node(GUARDED, layout, header, 0);
-        self.stored(layout, header, &tables);
+        self.stored(layout, header, &tables, (nodes, bits));
         self.guarded_stored(layout, header, &guarded_requests(layout, nodes, bits));
         let nothing = Outcome::new(ANSWERED, &[]);
         self.fail_each(PLAY.on(layout), header, 0, &nothing);
     }
 
-    /// An allocator that is copied, written and read: its tables and those of the copy first, those of what
-    /// is read last, and between them rows that double as they grow, of which none is longer than twice the
-    /// bytes of the state. The numbers are a checksum, the report of the copy, these bytes, and the report of
-    /// what is read.
-    fn stored(&mut self, layout: Layout, header: &str, tables: &[usize]) {
+    /// An allocator that is copied, also under a larger limit, written and read: its tables and those of the
+    /// copies first, those of what is read last, and between them rows that double as they grow, of which none
+    /// is longer than twice the bytes of the state. The numbers are a checksum, the report of the copy, the
+    /// larger limit, these bytes, and the report of what is read.
+    fn stored(
+        &mut self,
+        layout: Layout,
+        header: &str,
+        tables: &[usize],
+        (nodes, bits): (usize, usize),
+    ) {
         let call = STORE.on(layout);
         let (found, requested) = self.with_ample_memory(call, header);
-        let both = [tables, tables].concat();
+        let above = limit_above(nodes, bits);
+        let all = [tables, tables, &table_requests(layout, above, bits)].concat();
         let is_right = match found.numbers[..] {
-            [_, free, largest, bytes, free_again, largest_again] => {
-                let rows = requested.strip_prefix(&both[..]);
+            [_, free, largest, limit, bytes, free_again, largest_again] => {
+                let rows = requested.strip_prefix(&all[..]);
                 let rows = rows.and_then(|rest| rest.strip_suffix(tables));
                 let are_short = |rows: &[usize]| rows.iter().all(|row| *row as u64 <= 2 * bytes);
-                [free, largest] == [free_again, largest_again] && rows.is_some_and(are_short)
+                let reports = [free, largest] == [free_again, largest_again];
+                reports && limit == above as u64 && rows.is_some_and(are_short)
             }
             _ => false,
         };

@@ -70,8 +70,18 @@ impl Work for MakeAndCall {
     }
 }
 
-/// Makes an allocator by `with_max_allocs`, makes 1,000 calls, copies it, writes its state and reads that,
-/// and puts the reports of both, and the number of bytes, into the cells.
+// The same under a limit that is larger by one, or the largest that the index type admits.
+fn raised<T: Tables>(alloc: Global, allocator: &AllocatorOf<T>) -> Result<AllocatorOf<T>, Failure> {
+    let limit = allocator.max_allocs();
+    if limit >= T::Index::MAX - 1 {
+        return Err(Failure::Unfit);
+    }
+    Ok(allocator.raised(alloc, (limit + 1).min(T::Index::MAX - 2))?)
+}
+
+/// Makes an allocator by `with_max_allocs`, makes 1,000 calls, copies it, also under a larger limit, writes
+/// its state and reads that, and puts the report of the copy, that limit, the number of bytes, and the report
+/// of what was read into the cells.
 pub struct MakeAndStore;
 
 impl Work for MakeAndStore {
@@ -85,11 +95,13 @@ impl Work for MakeAndStore {
         let mut allocator = limited::<T>(alloc, script)?;
         let sum = mixed_calls(&mut allocator, kept);
         let copy = allocator.try_clone(alloc)?;
+        let larger = raised(alloc, &allocator)?;
         let bytes = allocator.write_state(alloc)?;
         let read = AllocatorOf::<T>::read_state(alloc, &bytes, script.max_allocs)?;
         // nothing is put before the last request
         put(cells, sum);
         put_report_of(cells, copy);
+        put(cells, u64::from(larger.max_allocs()));
         put(cells, bytes.len() as u64);
         match read {
             Ok(read) => put_report_of(cells, read),

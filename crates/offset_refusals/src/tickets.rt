@@ -70,8 +70,17 @@ fn checksum<T: Tables>(space: &mut GuardedOf<T>) -> u64 {
     sum
 }
 
-/// Makes a guarded allocator, makes 1,000 calls with tickets, and puts a checksum of their results into the
-/// cells.
+// The same under a limit that is larger by one, or the largest that the index type admits.
+fn raised<T: Tables>(alloc: Global, space: &GuardedOf<T>) -> Result<GuardedOf<T>, Failure> {
+    let limit = space.allocator().max_allocs();
+    if limit >= T::Index::MAX - 1 {
+        return Err(Failure::Unfit);
+    }
+    Ok(space.raised(alloc, (limit + 1).min(T::Index::MAX - 2))?)
+}
+
+/// Makes a guarded allocator, makes 1,000 calls with tickets, copies it, also under a larger limit, and puts
+/// a checksum of the results, that of the same calls on the copy, and that limit into the cells.
 pub struct MakeGuardedAndCall;
 
 impl Work for MakeGuardedAndCall {
@@ -89,8 +98,10 @@ impl Work for MakeGuardedAndCall {
         let mut space = GuardedOf::<T>::with_max_allocs(alloc, script.size, limit, 1)?;
         let sum = checksum(&mut space);
         let mut copy = space.try_clone(alloc)?;
+        let larger = raised(alloc, &space)?;
         put(cells, sum);
         put(cells, checksum(&mut copy));
+        put(cells, u64::from(larger.allocator().max_allocs()));
         Ok(())
     }
 }
