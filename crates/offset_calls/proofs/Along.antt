@@ -10,6 +10,7 @@ use Rattle.offset_allocator.specs.View.{place_of}
 use Rattle.offset_allocator.proofs.Reading.{live_used}
 use Rattle.offset_guarded.proofs.Guards.{live_fits, live_name as live_named}
 use Rattle.offset_script.proofs.{Agreement.IsAtState, Simulation.fresh_represents, Well.well_start}
+use Rattle.offset_calls.specs.Playing.{IsAppended}
 use Rattle.offset_calls.specs.declared.guarded.TicketCall.{TicketCall}
 use Rattle.offset_calls.proofs.Tickets.{alike, alike_range, kept_of, kept_serial, kept_ticket, live_named_by}
 use Rattle.offset_calls.proofs.{Compacted.all_kept, Followed.follows, Followed.well_calls}
@@ -170,11 +171,10 @@ module _ (size limit : ℕ) (low : 2 ≤ limit) (g h : Guard) (ts us : List Tick
   played_more = record { represents = represents_more; replied = replied_more }
 
 -- a loop over calls: one more
-pub goes_on : (size limit realm : ℕ) → 2 ≤ limit → (g h : Guard) (ts us : List Ticket) (calls : List TicketCall) (i : ℕ) (d : TicketCall) (found left : List program.Reply) (x : program.Reply)
+pub goes_on : (size limit realm : ℕ) → 2 ≤ limit → (g h : Guard) (ts us : List Ticket) (calls : List TicketCall) (i : ℕ) (d : TicketCall) (found left : List program.Reply)
     → IsLedger g ts → length ts ≤ i → IsPlayed size limit g ts (take i calls) found → g.realm ≡ realm → All (IsGrantOf (map reply_view found)) ts
-    → IsWellFormed h.space → i < length calls → All (λ c. IsTrue (is_valid c.call)) calls → left ≡ found ++ x ∷ []
-    → (now : List Ticket) (o : Option Ticket) → now ≡ ts → o ≡ passed now (get_or calls i d)
-    → ((k : ℕ) → IsNumberOf k o g ts → Serves (renumber (λ j. k) (get_or calls i d).call) g ts h us (reply_view x))
+    → IsWellFormed h.space → i < length calls → All (λ c. IsTrue (is_valid c.call)) calls
+    → IsAppended (λ r. (k : ℕ) → IsNumberOf k (passed ts (get_or calls i d)) g ts → Serves (renumber (λ j. k) (get_or calls i d).call) g ts h us r) found left
     → record {
       ledger : IsLedger h us;
       few : length us ≤ i + 1;
@@ -182,19 +182,17 @@ pub goes_on : (size limit realm : ℕ) → 2 ≤ limit → (g h : Guard) (ts us 
       realm : h.realm ≡ realm;
       granted : All (IsGrantOf (map reply_view left)) us;
     }
-goes_on size limit realm low g h ts us calls i d found left x is few p same_realm granted formed within valid e now o same is_passed each =
-    let serves : (k : ℕ) → IsNumberOf k (passed ts (get_or calls i d)) g ts → Serves (renumber (λ j. k) (get_or calls i d).call) g ts h us (reply_view x) =
-    λ k is_number. each k (subst (λ o. IsNumberOf k o g ts) (sym (is_passed ∙ ap (λ l. passed l (get_or calls i d)) same)) is_number) in
+goes_on size limit realm low g h ts us calls i d found left is few p same_realm granted formed within valid more =
     let v = All-get_or (λ c. IsTrue (is_valid c.call)) calls i d within valid in
-    let s = served size limit low g h ts us (take i calls) (get_or calls i d) found left x is p formed v e serves in
+    let s = served size limit low g h ts us (take i calls) (get_or calls i d) found left more.0 is p formed v more.1 more.2 in
     record {
       ledger = s.ledger;
-      few = few_more ts us (reply_view x) i s.grown few;
+      few = few_more ts us (reply_view more.0) i s.grown few;
       played = subst (λ cs. IsPlayed size limit h us cs left) (sym (take_more calls i d within))
-          (played_more size limit low g h ts us (take i calls) (get_or calls i d) found left x is p formed v e serves);
+          (played_more size limit low g h ts us (take i calls) (get_or calls i d) found left more.0 is p formed v more.1 more.2);
       realm = s.realm ∙ same_realm;
-      granted = subst (λ rs. All (IsGrantOf rs) us) (sym (ap (map reply_view) e ∙ map-append reply_view found (x ∷ [])))
-          (more_granted ts us (map reply_view found) (reply_view x) s.grown granted);
+      granted = subst (λ rs. All (IsGrantOf rs) us) (sym (ap (map reply_view) more.1 ∙ map-append reply_view found (more.0 ∷ [])))
+          (more_granted ts us (map reply_view found) (reply_view more.0) s.grown granted);
     }
 
 -- all calls are played

@@ -198,7 +198,7 @@ fn grow<T: Tables>(space: &mut GuardedOf<T>, ticket: Option<Ticket>, size: u32) 
 }
 
 // The answer to a command that passes this ticket.
-fn answer<T: Tables>(
+pub(crate) fn answer<T: Tables>(
     alloc: Global,
     desk: &mut Desk<T>,
     command: Command,
@@ -225,7 +225,7 @@ fn answer<T: Tables>(
 
 // The reply to a call that is no command, and passes this ticket.
 #[inline(never)]
-fn other<T: Tables>(
+pub(crate) fn other<T: Tables>(
     alloc: Global,
     desk: &mut Desk<T>,
     call: Call,
@@ -278,26 +278,5 @@ fn other<T: Tables>(
         Call::Last => Ok(ending_desk::last_live(desk)),
         Call::Before(_) => Ok(ending_desk::live_before(desk, ticket)),
         Call::After(_) => Ok(ending_desk::live_after(desk, ticket)),
-    }
-}
-
-// The reply to a call that passes this ticket.
-pub(crate) fn reply<T: Tables>(
-    alloc: Global,
-    desk: &mut Desk<T>,
-    call: Call,
-    ticket: Option<Ticket>,
-) -> Result<Reply, AllocError>
-    requires ledger { IsLedger desk.old.space desk.old.tickets.items }
-    requires left { HasSerialLeft desk.old.space }
-    requires kept { AreKept desk.old.space.space (handles_of desk.old.space desk.old.tickets.items) }
-    requires valid { IsTrue (is_valid call) }
-    ensures { IfOk result (λ r. (k : ℕ) → IsNumberOf k ticket desk.old.space desk.old.tickets.items
-        → Serves (renumber (λ j. k) call) desk.old.space desk.old.tickets.items
-        desk.new.space desk.new.tickets.items (reply_view r)) }
-{
-    match call {
-        Call::Command(command) => Ok(Reply::Answer(answer(alloc, desk, command, ticket)?)),
-        _ => other(alloc, desk, call, ticket),
     }
 }

@@ -1,13 +1,18 @@
 //! Plays calls on a guarded allocator. Each call may pass any ticket.
 
-ghost use Rattle.std.specs.Prelude.{◌≡◌, ◌+◌, ◌<◌, ◌≤◌, All, IfOk, IsTrue, Some, length, map};
+ghost use Rattle.std.specs.Prelude.{◌≡◌, ◌+◌, ◌<◌, ◌≤◌, All, IfOk, IsTrue, Some, false, length, map, ℕ};
+ghost use Rattle.offset_guarded.specs.Guard.{HasSerialLeft};
 ghost use Rattle.offset_guarded.specs.declared.ticket.Ticket.{Ticket};
 ghost use Rattle.offset_script.specs.Machine.{start};
-ghost use Rattle.offset_calls.specs.Calls.{after, is_valid, replies, reply_view};
-ghost use Rattle.offset_calls.specs.Tickets.{AreInOrder, IsGrantOf, meant, number_in, passed, ticket_of};
+ghost use Rattle.offset_calls.specs.Calls.{after, is_command, is_valid, replies, reply_view};
+ghost use Rattle.offset_calls.specs.Histories.{renumber};
+ghost use Rattle.offset_calls.specs.Playing.{IsAppended};
+ghost use Rattle.offset_calls.specs.Steps.{AreKept};
+ghost use Rattle.offset_calls.specs.Tickets.{AreInOrder, IsGrantOf, IsLedger, IsNumberOf, Serves, handles_of, meant, number_in};
+ghost use Rattle.offset_calls.specs.Tickets.{passed, ticket_of};
 
 use crate::calls::{Call, Reply};
-use crate::desk::{Desk, reply};
+use crate::desk::{Desk, answer, other};
 use offset_allocator::laws::is_well_formed;
 use offset_allocator::{NodeIndex, Tables};
 use offset_guarded::{GuardedOf, Ticket};
@@ -74,6 +79,58 @@ fn passed(tickets: &[Ticket], call: &TicketCall) -> Option<Ticket>
     }
 }
 
+// Appends the reply to a call that is no command.
+#[inline(never)]
+fn append_other<T: Tables>(
+    alloc: Global,
+    desk: &mut Desk<T>,
+    call: &TicketCall,
+    replies: &mut Vec<Reply>,
+) -> Result<(), AllocError>
+    requires ledger { IsLedger desk.old.space desk.old.tickets.items }
+    requires left { HasSerialLeft desk.old.space }
+    requires kept { AreKept desk.old.space.space (handles_of desk.old.space desk.old.tickets.items) }
+    requires valid { IsTrue (is_valid call.now.call) }
+    requires rest { is_command call.now.call ≡ false }
+    ensures { IfOk result (λ _. IsAppended (λ r. (k : ℕ) → IsNumberOf k (passed desk.old.tickets.items call.now)
+        desk.old.space desk.old.tickets.items → Serves (renumber (λ j. k) call.now.call)
+        desk.old.space desk.old.tickets.items desk.new.space desk.new.tickets.items r)
+        replies.old.items replies.new.items) }
+{
+    let ticket = passed(&desk.tickets, call);
+    let reply = other(alloc, desk, call.call, ticket)?;
+    replies.push(reply)?;
+    Ok(())
+}
+
+// Appends the reply to one call: those of calls that are no commands out of line, as a player without tickets does.
+#[inline(always)]
+fn append<T: Tables>(
+    alloc: Global,
+    desk: &mut Desk<T>,
+    call: &TicketCall,
+    replies: &mut Vec<Reply>,
+) -> Result<(), AllocError>
+    requires ledger { IsLedger desk.old.space desk.old.tickets.items }
+    requires left { HasSerialLeft desk.old.space }
+    requires kept { AreKept desk.old.space.space (handles_of desk.old.space desk.old.tickets.items) }
+    requires valid { IsTrue (is_valid call.now.call) }
+    ensures { IfOk result (λ _. IsAppended (λ r. (k : ℕ) → IsNumberOf k (passed desk.old.tickets.items call.now)
+        desk.old.space desk.old.tickets.items → Serves (renumber (λ j. k) call.now.call)
+        desk.old.space desk.old.tickets.items desk.new.space desk.new.tickets.items r)
+        replies.old.items replies.new.items) }
+{
+    match call.call {
+        Call::Command(command) => {
+            let ticket = passed(&desk.tickets, call);
+            let answer = answer(alloc, desk, command, ticket)?;
+            replies.push(Reply::Answer(answer))?;
+            Ok(())
+        }
+        _ => append_other(alloc, desk, call, replies),
+    }
+}
+
 /// Plays calls on a guarded allocator of `size` units with the node limit `max_allocs` and a realm, and
 /// returns the replies in order, one for each, and the tickets of the grants.
 ///
@@ -123,10 +180,8 @@ pub fn play_guarded<T: Tables>(
     is_well_formed(desk.space.allocator());
     let mut replies = Vec::with_capacity(alloc, calls.len())?;
     for call in calls {
-        let ticket = passed(&desk.tickets, call);
-        let reply = reply(alloc, &mut desk, call.call, ticket)?;
+        append(alloc, &mut desk, call, &mut replies)?;
         is_well_formed(desk.space.allocator());
-        replies.push(reply)?;
     }
     Ok(Played {
         replies,

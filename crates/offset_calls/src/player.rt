@@ -58,25 +58,12 @@ impl<T: Tables> CallPlayerOf<T> {
         ensures fresh { IfOk result (λ p. IsFresh size max_allocs p.space × (p.handles ≡ [])) }
     {
         let player = PlayerOf::start(alloc, size, max_allocs)?;
-        // A step of the proof, which does nothing, here and below.
+        // A step of the proof, which does nothing.
         is_well_formed(&player.space);
         Ok(CallPlayerOf {
             player,
             numbers: Numbers::new(alloc),
         })
-    }
-
-    // `call`, where it is known that the alignment is a power of two.
-    pub(crate) fn take(&mut self, alloc: Global, call: Call) -> Result<Reply, AllocError>
-        requires valid { IsTrue (is_valid call) }
-        ensures takes { IfOk result (λ r. Takes call self.old.space self.old.handles
-            self.new.space self.new.handles (reply_view r)) }
-        ensures lost { OnErr result (IsLost call self.old.space self.old.handles
-            self.new.space self.new.handles) }
-    {
-        let reply = reply(alloc, &mut self.player, &mut self.numbers, call);
-        is_well_formed(&self.player.space);
-        reply
     }
 
     /// Makes one call, and returns its reply. Its alignment, if it has one, has to be a power of two.
@@ -105,7 +92,10 @@ impl<T: Tables> CallPlayerOf<T> {
         ensures lost { OnErr result (IsLost call self.old.space self.old.handles
             self.new.space self.new.handles) }
     {
-        self.take(alloc, call)
+        let reply = reply(alloc, &mut self.player, &mut self.numbers, call);
+        // A step of the proof, which does nothing.
+        is_well_formed(&self.player.space);
+        reply
     }
 
     /// The allocator, to read.

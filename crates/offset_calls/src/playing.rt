@@ -8,13 +8,12 @@ ghost use Rattle.offset_script.specs.Machine as machine;
 ghost use Rattle.offset_calls.specs.Calling.{IsLost};
 ghost use Rattle.offset_calls.specs.Calls.{is_command, is_valid, reply_view};
 ghost use Rattle.offset_calls.specs.Calls as plain;
-ghost use Rattle.offset_calls.specs.Playing.{AreReplies};
+ghost use Rattle.offset_calls.specs.Playing.{AreReplies, IsAppended};
 ghost use Rattle.offset_calls.specs.Steps.{AreKept, AreNumbers, Takes};
 
 use crate::calls::{Call, Reply, begins};
 use crate::ending;
 use crate::numbers::Numbers;
-use crate::player::CallPlayerOf;
 use crate::sliding::{compact, compact_by, compact_within, make_room, make_room_by};
 use offset_allocator::laws::is_well_formed;
 use offset_allocator::{AllocatorOf, ByNode, NodeIndex, Tables};
@@ -189,8 +188,7 @@ fn other<T: Tables>(
     }
 }
 
-// The reply to one call. Most calls are commands. The others are out of line, so that a command clears no stack for
-// what they may keep there.
+// The reply to one call.
 pub(crate) fn reply<T: Tables>(
     alloc: Global,
     player: &mut PlayerOf<T>,
@@ -210,6 +208,57 @@ pub(crate) fn reply<T: Tables>(
     match call {
         Call::Command(command) => Ok(Reply::Answer(player.call(alloc, command)?)),
         _ => other(alloc, player, numbers, call),
+    }
+}
+
+// Appends the reply to a call that is no command.
+#[inline(never)]
+fn append_other<T: Tables>(
+    alloc: Global,
+    player: &mut PlayerOf<T>,
+    numbers: &mut Numbers,
+    call: &Call,
+    replies: &mut Vec<Reply>,
+) -> Result<(), AllocError>
+    requires held { AreHeld player.old.space player.old.handles.items }
+    requires kept { AreKept player.old.space player.old.handles.items }
+    requires numbers { AreNumbers player.old.handles.items numbers.old.grants numbers.old.by_name.items }
+    requires valid { IsTrue (is_valid call.now) }
+    requires rest { is_command call.now ≡ false }
+    ensures takes { IfOk result (λ _. IsAppended (λ r. Takes call.now player.old.space player.old.handles.items
+        player.new.space player.new.handles.items r) replies.old.items replies.new.items) }
+    ensures numbers { AreNumbers player.old.handles.items numbers.new.grants numbers.new.by_name.items }
+{
+    let reply = other(alloc, player, numbers, *call)?;
+    replies.push(reply)?;
+    Ok(())
+}
+
+// Appends the reply to one call. Most calls are commands. The others append theirs out of line, so that a command
+// clears no stack, and keeps none, for their replies.
+#[inline(always)]
+fn append<T: Tables>(
+    alloc: Global,
+    player: &mut PlayerOf<T>,
+    numbers: &mut Numbers,
+    call: &Call,
+    replies: &mut Vec<Reply>,
+) -> Result<(), AllocError>
+    requires held { AreHeld player.old.space player.old.handles.items }
+    requires kept { AreKept player.old.space player.old.handles.items }
+    requires numbers { AreNumbers player.old.handles.items numbers.old.grants numbers.old.by_name.items }
+    requires valid { IsTrue (is_valid call.now) }
+    ensures takes { IfOk result (λ _. IsAppended (λ r. Takes call.now player.old.space player.old.handles.items
+        player.new.space player.new.handles.items r) replies.old.items replies.new.items) }
+    ensures numbers { AreNumbers player.old.handles.items numbers.new.grants numbers.new.by_name.items }
+{
+    match call {
+        Call::Command(command) => {
+            let answer = player.call(alloc, *command)?;
+            replies.push(Reply::Answer(answer))?;
+            Ok(())
+        }
+        _ => append_other(alloc, player, numbers, call, replies),
     }
 }
 
@@ -246,14 +295,14 @@ pub fn play_calls_of<T: Tables>(
     // a run of the allocator's named steps.
     ensures { IfOk result (λ found. AreReplies size max_allocs calls.now (map reply_view found.items)) }
 {
-    let mut player: CallPlayerOf<T> = CallPlayerOf::start(alloc, size, max_allocs)?;
+    let mut player: PlayerOf<T> = PlayerOf::start(alloc, size, max_allocs)?;
     // A step of the proof, which does nothing, here and below.
-    is_well_formed(player.space());
+    is_well_formed(&player.space);
+    let mut numbers = Numbers::new(alloc);
     let mut found = Vec::with_capacity(alloc, calls.len())?;
     for call in calls {
-        let reply = player.take(alloc, *call)?;
-        is_well_formed(player.space());
-        found.push(reply)?;
+        append(alloc, &mut player, &mut numbers, call, &mut found)?;
+        is_well_formed(&player.space);
     }
     Ok(found)
 }

@@ -139,7 +139,7 @@ fn grow<T: Tables>(space: &mut GuardedOf<T>, ticket: Option<Ticket>, size: u32) 
 }
 
 // The answer to a command that passes this ticket.
-fn answer<T: Tables>(
+pub(crate) fn answer<T: Tables>(
     alloc: Global,
     desk: &mut Desk<T>,
     command: Command,
@@ -159,7 +159,7 @@ fn answer<T: Tables>(
 
 // The reply to a call that is no command, and passes this ticket.
 #[inline(never)]
-fn other<T: Tables>(
+pub(crate) fn other<T: Tables>(
     alloc: Global,
     desk: &mut Desk<T>,
     call: Call,
@@ -203,18 +203,5 @@ fn other<T: Tables>(
         Call::Last => Ok(ending_desk::last_live(desk)),
         Call::Before(_) => Ok(ending_desk::live_before(desk, ticket)),
         Call::After(_) => Ok(ending_desk::live_after(desk, ticket)),
-    }
-}
-
-// The reply to a call that passes this ticket.
-pub(crate) fn reply<T: Tables>(
-    alloc: Global,
-    desk: &mut Desk<T>,
-    call: Call,
-    ticket: Option<Ticket>,
-) -> Result<Reply, AllocError> {
-    match call {
-        Call::Command(command) => Ok(Reply::Answer(answer(alloc, desk, command, ticket)?)),
-        _ => other(alloc, desk, call, ticket),
     }
 }

@@ -3,7 +3,7 @@
 //! Plays calls on a guarded allocator. Each call may pass any ticket.
 
 use crate::calls::{Call, Reply};
-use crate::desk::{Desk, reply};
+use crate::desk::{Desk, answer, other};
 use offset_allocator::{NodeIndex, Tables};
 use offset_guarded::{GuardedOf, Ticket};
 use offset_script::Command;
@@ -64,6 +64,39 @@ fn passed(tickets: &[Ticket], call: &TicketCall) -> Option<Ticket> {
     }
 }
 
+// Appends the reply to a call that is no command.
+#[inline(never)]
+fn append_other<T: Tables>(
+    alloc: Global,
+    desk: &mut Desk<T>,
+    call: &TicketCall,
+    replies: &mut Vec<Reply>,
+) -> Result<(), AllocError> {
+    let ticket = passed(&desk.tickets, call);
+    let reply = other(alloc, desk, call.call, ticket)?;
+    replies.push(reply)?;
+    Ok(())
+}
+
+// Appends the reply to one call: those of calls that are no commands out of line, as a player without tickets does.
+#[inline(always)]
+fn append<T: Tables>(
+    alloc: Global,
+    desk: &mut Desk<T>,
+    call: &TicketCall,
+    replies: &mut Vec<Reply>,
+) -> Result<(), AllocError> {
+    match call.call {
+        Call::Command(command) => {
+            let ticket = passed(&desk.tickets, call);
+            let answer = answer(alloc, desk, command, ticket)?;
+            replies.push(Reply::Answer(answer))?;
+            Ok(())
+        }
+        _ => append_other(alloc, desk, call, replies),
+    }
+}
+
 /// Plays calls on a guarded allocator of `size` units with the node limit `max_allocs` and a realm, and
 /// returns the replies in order, one for each, and the tickets of the grants.
 ///
@@ -105,9 +138,7 @@ pub fn play_guarded<T: Tables>(
     };
     let mut replies = Vec::with_capacity(alloc, calls.len())?;
     for call in calls {
-        let ticket = passed(&desk.tickets, call);
-        let reply = reply(alloc, &mut desk, call.call, ticket)?;
-        replies.push(reply)?;
+        append(alloc, &mut desk, call, &mut replies)?;
     }
     Ok(Played {
         replies,

@@ -47,12 +47,6 @@ impl<T: Tables> CallPlayerOf<T> {
         })
     }
 
-    // `call`, where it is known that the alignment is a power of two.
-    pub(crate) fn take(&mut self, alloc: Global, call: Call) -> Result<Reply, AllocError> {
-        let reply = reply(alloc, &mut self.player, &mut self.numbers, call);
-        reply
-    }
-
     /// Makes one call, and returns its reply. Its alignment, if it has one, has to be a power of two.
     ///
     /// It costs what the call costs in the allocator. Calls that may slide ranges (`Compact`, `CompactBy`,
@@ -80,7 +74,8 @@ impl<T: Tables> CallPlayerOf<T> {
     #[track_caller]
     pub fn call(&mut self, alloc: Global, call: Call) -> Result<Reply, AllocError> {
         assert!(call.is_valid(), "an alignment must be a power of two");
-        self.take(alloc, call)
+        let reply = reply(alloc, &mut self.player, &mut self.numbers, call);
+        reply
     }
 
     /// The allocator, to read.

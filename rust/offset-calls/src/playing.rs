@@ -5,7 +5,6 @@
 use crate::calls::{Call, Reply, begins};
 use crate::ending;
 use crate::numbers::Numbers;
-use crate::player::CallPlayerOf;
 use crate::sliding::{compact, compact_by, compact_within, make_room, make_room_by};
 use offset_allocator::{AllocatorOf, ByNode, NodeIndex, Tables};
 use offset_script::{Answer, PlayerOf};
@@ -134,8 +133,7 @@ fn other<T: Tables>(
     }
 }
 
-// The reply to one call. Most calls are commands. The others are out of line, so that a command clears no stack for
-// what they may keep there.
+// The reply to one call.
 pub(crate) fn reply<T: Tables>(
     alloc: Global,
     player: &mut PlayerOf<T>,
@@ -145,6 +143,40 @@ pub(crate) fn reply<T: Tables>(
     match call {
         Call::Command(command) => Ok(Reply::Answer(player.call(alloc, command)?)),
         _ => other(alloc, player, numbers, call),
+    }
+}
+
+// Appends the reply to a call that is no command.
+#[inline(never)]
+fn append_other<T: Tables>(
+    alloc: Global,
+    player: &mut PlayerOf<T>,
+    numbers: &mut Numbers,
+    call: &Call,
+    replies: &mut Vec<Reply>,
+) -> Result<(), AllocError> {
+    let reply = other(alloc, player, numbers, *call)?;
+    replies.push(reply)?;
+    Ok(())
+}
+
+// Appends the reply to one call. Most calls are commands. The others append theirs out of line, so that a command
+// clears no stack, and keeps none, for their replies.
+#[inline(always)]
+fn append<T: Tables>(
+    alloc: Global,
+    player: &mut PlayerOf<T>,
+    numbers: &mut Numbers,
+    call: &Call,
+    replies: &mut Vec<Reply>,
+) -> Result<(), AllocError> {
+    match call {
+        Call::Command(command) => {
+            let answer = player.call(alloc, *command)?;
+            replies.push(Reply::Answer(answer))?;
+            Ok(())
+        }
+        _ => append_other(alloc, player, numbers, call, replies),
     }
 }
 
@@ -183,11 +215,11 @@ pub fn play_calls_of<T: Tables>(
     assert!(2 <= max_allocs, "max_allocs must be at least 2");
     assert!(max_allocs < T::Index::MAX - 1, "max_allocs must be at most NI::MAX - 2");
     assert!(calls.iter().all(|call| call.is_valid()), "each alignment must be a power of two");
-    let mut player: CallPlayerOf<T> = CallPlayerOf::start(alloc, size, max_allocs)?;
+    let mut player: PlayerOf<T> = PlayerOf::start(alloc, size, max_allocs)?;
+    let mut numbers = Numbers::new(alloc);
     let mut found = Vec::with_capacity(alloc, calls.len())?;
     for call in calls {
-        let reply = player.take(alloc, *call)?;
-        found.push(reply)?;
+        append(alloc, &mut player, &mut numbers, call, &mut found)?;
     }
     Ok(found)
 }

@@ -11,17 +11,17 @@ loop-call-preserved g c =
     let i = c.loop-call.call-index in
     let ts = c.loop-call.desk.tickets.items in
     let within : i < length cs = omega arith in
-    goes_on c.args.size c.args.max_allocs c.args.realm c.requires.low c.loop-call.desk.space c.reply.new.desk.space ts c.reply.new.desk.tickets.items cs i _
-    c.loop-call.replies.items _ c.in_ok-reply.reply
+    goes_on c.args.size c.args.max_allocs c.args.realm c.requires.low c.loop-call.desk.space c.append.new.desk.space ts c.append.new.desk.tickets.items cs i _
+    c.loop-call.replies.items c.append.new.replies.items
     c.loop-call.invariant.ledger c.loop-call.invariant.few c.loop-call.invariant.played c.loop-call.invariant.realm c.loop-call.invariant.granted
     (subst IsWellFormed c.allocator-in-loop-call.ensures c.is_well_formed-in-loop-call.ensures) within
-    c.requires.valid c.in_ok-push.ensures.items c.deref.result.now c.passed-ticket.result c.deref.ensures.value c.passed-ticket.ensures c.in_ok-reply.ensures
+    c.requires.valid c.in_ok-append.ensures
 
-pub reply-requires-clause-left : goal.reply-requires-clause-left
-reply-requires-clause-left g c = search (arith)
+pub append-requires-clause-left : goal.append-requires-clause-left
+append-requires-clause-left g c = search (arith)
 
-pub reply-requires-clause-kept : goal.reply-requires-clause-kept
-reply-requires-clause-kept g c = all_kept_played _ _ _ _ _ _ c.requires.low c.loop-call.invariant.played
+pub append-requires-clause-kept : goal.append-requires-clause-kept
+append-requires-clause-kept g c = all_kept_played _ _ _ _ _ _ c.requires.low c.loop-call.invariant.played
 
 pub returns-clause-replies : goal.returns-clause-replies
 returns-clause-replies g c = search (arith, ends, take_all)

@@ -1,5 +1,5 @@
 use Rattle.offset_calls.proofs.Reached.{reached_after, reached_kept, reached_live}
-use Rattle.offset_calls.proofs.player.CallPlayerOf.take.Goals as goal
+use Rattle.offset_calls.proofs.player.CallPlayerOf.call.Goals as goal
 
 pub reply-reply-requires-clause-held : goal.reply-reply-requires-clause-held
 reply-reply-requires-clause-held g c = record { live = reached_live _ _ c.self.invariant.0; apart = c.self.invariant.1.apart }
