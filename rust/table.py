@@ -204,7 +204,7 @@ REQUIRES = [
     ("to < from", "to < from", "a move must go to a smaller offset"),
     ("from + size ≤ 4294967295", "from.checked_add(size).is_some()", "a move must end at 4294967295 or before"),
     ("IsLive allocation.name self.old", "self.is_live(allocation)", "the handle must be live: {:?}", "{ allocation }"),
-    ("IsAlignment align", "align.is_power_of_two()", "align must be a power of two"),
+    ("1 ≤ align", "1 <= align", "the alignment must be at least 1"),
     ("needed_object_size ≤ 4026531840", "needed_object_size <= 4026531840", "needed_object_size must be at most 4026531840"),
     ("n < 10", "n < 10", "a digit must be below 10"),
     ("float_value < 256", "float_value < 256", "float_value must be below 256"),
@@ -214,17 +214,17 @@ REQUIRES = [
     ("0 < length bytes.now", "!bytes.is_empty()", "at least one byte must be pushed"),
     (
         "All (λ c. IsTrue (has_valid_alignment c)) commands.now",
-        "commands.iter().all(|c| !matches!(c, Command::Align(_, align) if !align.is_power_of_two()))",
-        "each alignment must be a power of two",
+        "commands.iter().all(|c| !matches!(c, Command::Align(_, 0)))",
+        "each alignment must be at least 1",
     ),
     (
         "IsTrue (has_valid_alignment command)",
-        "!matches!(command, Command::Align(_, align) if !align.is_power_of_two())",
-        "an alignment must be a power of two",
+        "!matches!(command, Command::Align(_, 0))",
+        "an alignment must be at least 1",
     ),
-    ("IsTrue (is_valid call)", "call.is_valid()", "an alignment must be a power of two"),
-    ("All (λ c. IsTrue (is_valid c)) calls.now", "calls.iter().all(|call| call.is_valid())", "each alignment must be a power of two"),
-    ("All (λ c. IsTrue (is_valid c.call)) calls.now", "calls.iter().all(|it| it.call.is_valid())", "each alignment must be a power of two"),
+    ("IsTrue (is_valid call)", "call.is_valid()", "an alignment must be at least 1"),
+    ("All (λ c. IsTrue (is_valid c)) calls.now", "calls.iter().all(|call| call.is_valid())", "each alignment must be at least 1"),
+    ("All (λ c. IsTrue (is_valid c.call)) calls.now", "calls.iter().all(|it| it.call.is_valid())", "each alignment must be at least 1"),
 ]
 
 

@@ -12,11 +12,11 @@ pub use Rattle.std.proofs.lemmas.List.{map-set, length-map, length-replicate, ge
 pub use Rattle.std.proofs.lemmas.List.{take_more, length_push, length-take-le, take-take, take-append-le, take-append-drop, reverse-append, length-reverse, get_or_append_left}
 pub use Rattle.std.proofs.lemmas.List.Sums.{sum_by-cons, prefix_len-le-length, prefix_len_passes, prefix_len_stops}
 pub use Rattle.std.proofs.lemmas.Nat.{pow_pos, mod-mul-add, div-mul-add, or_lt, le_or_r, le-div, div_below, and_le_l, and_mask, or_comm, le_or_l, or_shifted, shr_split, pow-add, mod_below}
-pub use Rattle.std.proofs.lemmas.Nat.{leading_top, one_shl, pow_below, zero_from_ones, ones_le_self}
+pub use Rattle.std.proofs.lemmas.Nat.{leading_top, one_shl, pow_below}
 pub use Rattle.std.proofs.lemmas.Nat.Bits.{bit_at-zero, bit_at_above, bit_at-trailing_zeros, bit_at_and, bit_at_mask_inside, bit_at_mask_below, bit_at-lt, ones_shl, bit_at_set_same, bit_at_set_other}
 pub use Rattle.std.proofs.lemmas.Nat.Bits.{bit_at_clear_same, bit_at_clear_other}
-pub use Rattle.std.specs.Int.{bit_at, Width, trailing_zeros, bit_not, IsPowerOfTwo}
-pub use Rattle.std.specs.Int.Count.{count_trailing_zeros, count_leading_zeros, ones_step}
+pub use Rattle.std.specs.Int.{bit_at, Width, trailing_zeros, bit_not}
+pub use Rattle.std.specs.Int.Count.{count_trailing_zeros, count_leading_zeros}
 pub use Rattle.std.specs.List.{AllByRecursion, FoldsTo, filter, prefix_len, range_with_len}
 pub use Rattle.std.specs.Prelude.{vec_len, vec_capacity}
 pub use Rattle.offset_allocator.specs.Bins.{IsFoundLast, IsBinned, IsUnlisted, IsAmong, first_of, AreMasks, IsFoundFrom, IsLinked, IsTail, HasBins}
@@ -33,7 +33,7 @@ unfoldable pub use Rattle.offset_allocator.specs.Layouts.{nodes_of, nodes_in}
 pub use Rattle.offset_allocator.specs.Reporting.Listing.{Placed, placed_at, placed}
 pub use Rattle.offset_allocator.specs.Ranges.{size_of, range_of, Range, IsLive, KeepsAll, Grants, KeepsOthers, AreDisjoint, KeepsRanges}
 pub use Rattle.offset_allocator.specs.Relations.{SameSpace, Splits, Frees, Resets, IsFresh, Extends, Aligns, Adds, Allocates, CanExtend}
-pub use Rattle.offset_allocator.specs.Requests.{IsAlignment, IsSplitNearBest, IsGoodRefusal, HasRoomFor, CanGrant, units_needed, blocks_needed, size_needed, IsWhy}
+pub use Rattle.offset_allocator.specs.Requests.{IsSplitNearBest, IsGoodRefusal, HasRoomFor, CanGrant, units_needed, blocks_needed, size_needed, IsWhy}
 pub use Rattle.offset_allocator.specs.Reporting.FreeSizes.{largest, count_of}
 pub use Rattle.offset_allocator.specs.Resizing.{ResizesTo, Resizes, HasUnits, Shrinks, Grows, CanShrink, CanGrow, free_after}
 pub use Rattle.offset_allocator.specs.Bins.{ListsOnly}

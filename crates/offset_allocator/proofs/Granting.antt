@@ -1,6 +1,7 @@
 -- What a grant leaves of the whole allocator.
+use Rattle.std.specs.Prelude.{min}
 use Rattle.offset_allocator.proofs.{Sound.Fields, Sound.AreSound, Sound.shown, Sound.well_counted, Linking.Exchange.each-le, Linking.Exchange.there-below, Linking.Places.placed}
-use Rattle.offset_allocator.proofs.{Linking.Places.end_fits, Classes.fits_size, Classes.value_clauses, Views.Split.well_split, Views.Split.part_room, Taken.Taken, Taken.taken, Taken.listed_block}
+use Rattle.offset_allocator.proofs.{Linking.Places.end_fits, Classes.fits_size, Classes.value_clauses, Views.Split.well_divided, Views.Split.part_length, Taken.Taken, Taken.taken, Taken.listed_block}
 use Rattle.offset_allocator.proofs.{Views.ViewBins.unlisted_removed, Common.common_steps, Common.append-nil, Common.take}
 use Rattle.offset_allocator.proofs.Common.{◌≡◌, ℕ, zero, suc, ◌+◌, ◌-◌, ◌<◌, ◌≤◌, ◌^◌, List, [], ◌∷◌, ◌++◌, length, refl, sym, ap, ap₂, ◌∙◌, arith, slice_set, append_assoc, le-leb, padding_to}
 use Rattle.offset_allocator.proofs.Common.{units_needed, times, count_in_bin, nat_eq, value, up, down, ◌%◌, Cells, ChainCells, Block, View, Place, Handle, one, count_named, bin_at, IsWellFormed}
@@ -77,7 +78,8 @@ module _ {f : Fields} {class x : ℕ} (call : Call f class x) where
     units_free = omega (arith, had_free, whole_fits)
 
     -- with room for the blocks that it adds; the tables that are left
-    module _ (k : ℕ) (room : length (shown f).blocks + k < f.limit) (some : 1 ≤ k) (two : (o : ℕ) → 1 ≤ padding_at o → 2 ≤ k) (d : Cells) (last count front rest : ℕ)
+    module _ (k : ℕ) (room : length (shown f).blocks + k < f.limit) (some : 1 ≤ k)
+        (most : min 1 (padding_at (units got.place.before)) + min 1 (got.place.block.size - (padding_at (units got.place.before) + n)) ≤ k) (d : Cells) (last count front rest : ℕ)
         (there : HasPlace d.chain f.cells.chain.reserved last count x (record {
           before = got.place.before ++ free_part front (padding_at (units got.place.before));
           block = used_block got.place.block.name n;
@@ -151,8 +153,8 @@ module _ {f : Fields} {class x : ℕ} (call : Call f class x) where
       granted {top} {accesses} bins lists names_are =
           let flat : (p.before ++ free_part front padding) ++ (used_block p.block.name n ∷ (free_part rest left ++ p.after)) ≡ p.before ++ (parts ++ p.after) = simp append_assoc in
           let names = rw (← got.list_is) at names_are in
-          let well = well_split (split (value class) (found_itself class call.classed (bin_at ls class) (λ e. absurd (let q = sym call.newest ∙ e in cc)) ls refl) left_view refl refl names) k w room
-          (part_room front padding k some (two (units p.before))) in
+          let well = well_divided (split (value class) (found_itself class call.classed (bin_at ls class) (λ e. absurd (let q = sym call.newest ∙ e in cc)) ls refl) left_view refl refl names) k w room
+          some (omega (arith, most, part_length front padding, part_length rest left)) in
           let units_are = ap free_units flat ∙ free_units-append p.before (parts ++ p.after) in
           let parts_are = ap free_units (append_assoc (free_part front padding) (used_block p.block.name n ∷ free_part rest left) p.after) in
           let done = stepped f call.sound left_view d (f.free - n) accesses well refl there.chain flat bins (rw (removed, got.name) lists)

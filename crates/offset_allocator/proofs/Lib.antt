@@ -11,7 +11,6 @@ pub mod Fresh
 pub mod Granting
 pub mod Joints
 pub mod Padding
-pub mod Powers
 pub mod Ranges
 pub mod Refusals
 pub mod Taken
@@ -25,6 +24,7 @@ pub mod Sound
 pub mod Reading
 pub mod Views
 pub mod Arranging
+pub mod AtPlace
 pub mod Filing
 pub mod Linking
 pub mod Moving

@@ -1,6 +1,5 @@
 -- When a request is granted, how near to a best fit, and why it is refused.
-use Rattle.std.specs.Prelude.{◌≡◌, ◌≢◌, ℕ, ◌+◌, ◌-◌, ◌*◌, ◌%◌, ◌^◌, ◌<◌, ◌≤◌, ◌⊎◌, false, IsTrue, List, [], ◌∷◌, ◌++◌, Some, codes, length, max, min, sum}
-use Rattle.std.specs.Int.{is_power_of_two, IsPowerOfTwo}
+use Rattle.std.specs.Prelude.{◌≡◌, ◌≢◌, ℕ, ◌+◌, ◌-◌, ◌*◌, ◌<◌, ◌≤◌, false, List, [], ◌∷◌, ◌++◌, Some, codes, length, max, min, sum}
 use Rattle.std.specs.List.{AllByRecursion}
 use Rattle.offset_allocator.specs.declared.reports.Refusal.{Refusal}
 use Rattle.offset_allocator.specs.declared.reports.Refusal.TheVariants.{Nodes, TooLarge, Space, Fragmented}
@@ -63,8 +62,3 @@ refusal_words Nodes = codes "too few nodes are left"
 refusal_words TooLarge = codes "the request is too large for the space"
 refusal_words Space = codes "too few units are free"
 refusal_words Fragmented = codes "no free block is large enough until the space is compacted"
-
--- an alignment that a request may ask for, a power of two, which a caller may show in either of three ways: it divides
--- 2 ^ 32, or it is one to `is_power_of_two`, or to `IsPowerOfTwo`
-abbrev pub IsAlignment : ℕ → Type 0
-IsAlignment align = (2 ^ 32 % align ≡ 0) ⊎ IsTrue (is_power_of_two align) ⊎ IsPowerOfTwo align

@@ -3,7 +3,6 @@
 //! their accesses.
 ghost use Rattle.std.specs.Prelude.{◌≡◌, ◌≢◌, ◌<◌, ◌≤◌, ◌+◌, ◌-◌, ◌*◌, ◌%◌, ◌↔◌, ℕ, List, ◌++◌, false, ◌∷◌};
 ghost use Rattle.std.specs.Prelude.{[], Bool, IsTrue, None, Option, Some, length, min, reverse, sum};
-ghost use Rattle.std.specs.Int.{IsPowerOfTwo};
 ghost use Rattle.std.specs.List.{AllByRecursion};
 ghost use Rattle.offset_allocator.specs.Accesses.{Costs};
 ghost use Rattle.offset_allocator.specs.Reporting.Beside.{AreOfLive, IsWalk, first_live, last_live};
@@ -16,7 +15,7 @@ ghost use Rattle.offset_allocator.specs.Ranges.{Range, range_of, AreDisjoint};
 ghost use Rattle.offset_allocator.specs.Relations.{SameSpace, SameState, Aligns, Allocates, Extends, Frees};
 ghost use Rattle.offset_allocator.specs.Relations.{IsFresh, IsRaised, Resets, SameUnder};
 ghost use Rattle.offset_allocator.specs.Moving.Relocating.{Relocates, RelocatesAligned};
-ghost use Rattle.offset_allocator.specs.Requests.{IsAlignment, CanGrant, HasRoomFor, IsWhy, blocks_needed};
+ghost use Rattle.offset_allocator.specs.Requests.{CanGrant, HasRoomFor, IsWhy, blocks_needed};
 ghost use Rattle.offset_allocator.specs.Reporting.Reports.{IsReport};
 ghost use Rattle.offset_allocator.specs.Resizing.{Grows, Shrinks};
 ghost use Rattle.offset_allocator.specs.Moving.Retracting.{Retracts};
@@ -38,6 +37,7 @@ ghost use Rattle.offset_allocator.specs.Moving.Pieces.{pieces, copied, all_copie
 
 use crate::AllocatorOf;
 use crate::accesses::Accesses;
+pub use crate::at_place::{in_the_way_counted, is_free_at_counted};
 pub use crate::moves::room::room_cost_counted;
 pub use crate::moves::room_by_steps::room_cost_by_counted;
 pub use crate::reports::beginning::would_begin_counted;
@@ -204,11 +204,6 @@ pub fn padding_is_least()
     ensures reaches { (align offset : ℕ) → 1 ≤ align → (offset + padding_to align offset) % align ≡ 0 }
     ensures smallest { (align offset k : ℕ) → 1 ≤ align → (offset + k) % align ≡ 0 → padding_to align offset
         ≤ k }
-{}
-
-/// The alignments that `allocate_aligned` admits are the powers of two.
-pub fn alignments_are_powers()
-    ensures { (n : ℕ) → IsAlignment n ↔ IsPowerOfTwo n }
 {}
 
 /// After `compact`, with room for one more block, a request of at least one unit is granted exactly when it

@@ -1,5 +1,5 @@
-//! Hands out ranges of one contiguous space of units, and takes them back, with a bounded number of accesses
-//! to table cells. The space itself is never touched.
+//! Hands out ranges of one contiguous space of units, and takes them back: `allocate` and `free` make a
+//! bounded number of accesses to table cells. The space itself is never touched.
 //!
 //! A *block* is a run of units, used or free; no two free blocks are neighbours. Each block has a *node* of
 //! the tables, whose index is the block's *name*; the range of a used block, and its name, are *live*. A
@@ -23,7 +23,7 @@ ghost use Rattle.std.specs.Prelude.{min, None, false, true, IsTrue, IsSome, IfSo
 ghost use Rattle.offset_allocator.specs.Accesses.{Costs};
 ghost use Rattle.offset_allocator.specs.Ranges.{Range, range_of, size_of, Grants, IsLive, KeepsAll};
 ghost use Rattle.offset_allocator.specs.Ranges.{KeepsOthers};
-ghost use Rattle.offset_allocator.specs.Requests.{IsGoodRefusal, IsAlignment, IsSplitNearBest, CanGrant};
+ghost use Rattle.offset_allocator.specs.Requests.{IsGoodRefusal, IsSplitNearBest, CanGrant};
 ghost use Rattle.offset_allocator.specs.Requests.{IsWhy, HasRoomFor, blocks_needed, units_needed};
 ghost use Rattle.offset_allocator.specs.View.{count_named, is_full, free_sizes, reported_largest, used_of};
 ghost use Rattle.offset_allocator.specs.Relations.{Allocates, Aligns, Frees, Extends, CanExtend};
@@ -32,6 +32,7 @@ ghost use Rattle.offset_allocator.specs.Reporting.Reports.{IsReport, IsFullRepor
 ghost use Rattle.offset_allocator.specs.Reporting.Listing.{listing};
 
 mod accesses;
+mod at_place;
 mod bins;
 mod chain;
 pub mod ext;
@@ -448,7 +449,7 @@ impl<T: Tables> AllocatorOf<T> {
 
     /// Why `allocate_aligned(size, align)` would be refused now, or `None` exactly where it would be granted.
     ///
-    /// `align` has to be a power of two. If it is above 1, the request needs room for two more blocks, and a
+    /// `align` has to be at least 1. If it is above 1, the request needs room for two more blocks, and a
     /// block for `size + align - 1` units. It makes at most 8 accesses to the tables.
     ///
     /// ```
@@ -456,14 +457,15 @@ impl<T: Tables> AllocatorOf<T> {
     /// assert_eq!(space.refusal_aligned(900, 256), Some(Refusal::TooLarge));
     /// ```
     pub fn refusal_aligned(&self, size: u32, align: u32) -> Option<Refusal>
-        requires power { IsAlignment align }
+        requires alignment { 1 ≤ align }
         ensures granted { result ≡ None ↔ CanGrant (blocks_needed align) (units_needed size align) self.now }
         ensures why { IfSome result (IsWhy (blocks_needed align) (units_needed size align) self.now) }
     {
         reports::refusal_aligned_counted(self, size, align, &mut Accesses::new())
     }
 
-    /// Grants `size` units that begin at a multiple of `align`, a power of two.
+    /// Grants `size` units that begin at a multiple of `align`, which may be any number from 1 on: 256, or 12
+    /// for vertices of 12 bytes.
     ///
     /// The block is the one that a request for `size + align - 1` units would take. Its units before the
     /// range (the padding) and after it (the remainder) stay free. `None` is returned if that request finds
@@ -481,7 +483,7 @@ impl<T: Tables> AllocatorOf<T> {
     /// assert_eq!(uniforms.offset, 256);
     /// ```
     pub fn allocate_aligned(&mut self, size: u32, align: u32) -> Option<Allocation<T::Index>>
-        requires power { IsAlignment align }
+        requires alignment { 1 ≤ align }
         // The units needed are `size + align - 1`; the blocks needed are 1 with `align` 1, and 2 above. If at
         // least one unit is needed, the request is granted exactly when there is room for the blocks needed
         // and the units needed are at most the reported `largest_free_region`. Any request is granted exactly

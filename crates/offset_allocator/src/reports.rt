@@ -6,7 +6,7 @@ ghost use Rattle.offset_allocator.specs.Accesses.{Costs};
 ghost use Rattle.offset_allocator.specs.Classes.{value};
 ghost use Rattle.offset_allocator.specs.View.{free_sizes, reported_largest};
 ghost use Rattle.offset_allocator.specs.Ranges.{Range, range_of, size_of, IsLive};
-ghost use Rattle.offset_allocator.specs.Requests.{IsAlignment, CanGrant, IsWhy, blocks_needed, units_needed};
+ghost use Rattle.offset_allocator.specs.Requests.{CanGrant, IsWhy, blocks_needed, units_needed};
 ghost use Rattle.offset_allocator.specs.Reporting.Reports.{IsReport, IsFullReport};
 
 pub(crate) mod beginning;
@@ -241,7 +241,7 @@ pub fn refusal_aligned_counted<T: Tables>(
     align: u32,
     count: &mut Accesses,
 ) -> Option<Refusal>
-    requires power { IsAlignment align }
+    requires alignment { 1 ≤ align }
     ensures granted { result ≡ None ↔ CanGrant (blocks_needed align) (units_needed size align) allocator.now }
     ensures why { IfSome result (IsWhy (blocks_needed align) (units_needed size align) allocator.now) }
     ensures accesses { Costs 0 8 count.old count.new }

@@ -9,7 +9,6 @@ ghost use Rattle.offset_allocator.specs.Bins.{HasBins, IsBinned, bins_in};
 ghost use Rattle.offset_allocator.specs.Classes.{down, value};
 ghost use Rattle.offset_allocator.specs.Ranges.{Grants};
 ghost use Rattle.offset_allocator.specs.Relations.{Aligns, Allocates, SameState, Splits};
-ghost use Rattle.offset_allocator.specs.Requests.{IsAlignment};
 ghost use Rattle.offset_allocator.specs.Requests.{CanGrant, HasRoomFor, blocks_needed, units_needed};
 ghost use Rattle.offset_allocator.specs.Reporting.Statistics.{greatest};
 ghost use Rattle.offset_allocator.specs.Tight.{AlignsTight, CanHold, FillsFirst, IsWhyTight, first_holding};
@@ -103,7 +102,7 @@ pub fn refusal_tight_aligned_counted<T: Tables>(
     align: u32,
     count: &mut Accesses,
 ) -> Option<Refusal>
-    requires power { IsAlignment align }
+    requires alignment { 1 ≤ align }
     ensures granted { result ≡ None ↔ CanHold size align allocator.now }
     ensures why { IfSome result (IsWhyTight size align allocator.now) }
     ensures accesses { Costs 0 (2
@@ -145,8 +144,8 @@ pub fn refusal_tight_counted<T: Tables>(
 }
 
 impl<T: Tables> AllocatorOf<T> {
-    // Makes the block of a name, which is free, the newest of its bin, and returns its class.
-    fn bring_first(&mut self, name: u32) -> u32
+    /// Makes the block of a name, which is free, the newest of its bin, and returns its class.
+    pub(crate) fn bring_first(&mut self, name: u32) -> u32
         requires free { (p : Place) × (self.old.blocks ≡ p.before ++ (p.block ∷ p.after))
             × (p.block.name ≡ name)
             × (p.block.used ≡ false) }
@@ -264,7 +263,7 @@ impl<T: Tables> AllocatorOf<T> {
         self.serve_tight(size, 1)
     }
 
-    /// Grants `size` units that begin at a multiple of `align`, a power of two, as `allocate_aligned` does,
+    /// Grants `size` units that begin at a multiple of `align`, from 1 on, as `allocate_aligned` does,
     /// and where that is refused it looks further: through the free blocks from the class of `size` on, class
     /// by class, in each the newest first, for one that holds `size` units from a multiple of `align` on, at
     /// the offset that it has.
@@ -279,7 +278,7 @@ impl<T: Tables> AllocatorOf<T> {
     /// assert_eq!(space.allocate_tight_aligned(700, 256).unwrap().offset, 256);
     /// ```
     pub fn allocate_tight_aligned(&mut self, size: u32, align: u32) -> Option<Allocation<T::Index>>
-        requires power { IsAlignment align }
+        requires alignment { 1 ≤ align }
         // It is granted exactly when there is room for the blocks that it may add, and some free block holds
         // it.
         ensures can_hold { IsSome result ↔ CanHold size align self.old }
@@ -299,9 +298,9 @@ impl<T: Tables> AllocatorOf<T> {
     }
 
     /// Why `allocate_tight(size)` would be refused now, or `None` exactly where it would be granted.
-    /// `TooLarge`: the space has fewer units. `Space`: so are all free units together, or there are none.
-    /// `Fragmented`: they are enough, and after `compact` the request is granted. It makes at most 2 accesses
-    /// to the tables, and 6 for each free block of the class of `size` or above.
+    /// `TooLarge`: the space has fewer units. `Space`: so are all free units together, or, for a request of 0
+    /// units, no unit is free. `Fragmented`: they are enough, and after `compact` the request is granted. It
+    /// makes at most 2 accesses to the tables, and 6 for each free block of the class of `size` or above.
     ///
     /// ```
     /// space.allocate(300);
@@ -316,7 +315,7 @@ impl<T: Tables> AllocatorOf<T> {
     }
 
     /// Why `allocate_tight_aligned(size, align)` would be refused now, or `None` exactly where it would be
-    /// granted. `align` has to be a power of two. The reasons are those of `refusal_tight`; but after
+    /// granted. `align` has to be at least 1. The reasons are those of `refusal_tight`; but after
     /// `compact` the request is granted only if the free block, where it begins then, holds it.
     ///
     /// ```
@@ -325,7 +324,7 @@ impl<T: Tables> AllocatorOf<T> {
     /// assert_eq!(space.refusal_tight_aligned(700, 256), Some(Refusal::Fragmented));
     /// ```
     pub fn refusal_tight_aligned(&self, size: u32, align: u32) -> Option<Refusal>
-        requires power { IsAlignment align }
+        requires alignment { 1 ≤ align }
         ensures granted { result ≡ None ↔ CanHold size align self.now }
         ensures why { IfSome result (IsWhyTight size align self.now) }
     {

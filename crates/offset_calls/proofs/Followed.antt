@@ -8,7 +8,7 @@ use Rattle.offset_calls.proofs.Common.{lt-ltb, le-ltb, cases_eq, cases_lt, true�
 use Rattle.offset_calls.proofs.Common.{units, IsWellFormed, HasRoomFor, IsWhy, size_needed, blocks_needed, units_needed, Range, size_of, kept_name, IfNamed, Stays, State, is_free, free_sizes, total}
 use Rattle.offset_calls.proofs.Common.{chosen_place, is_short_of, fits, Call, Reply, Answer, Resized, Compacted, Offset, Outcome, can_shrink, can_grow, resize, resized, replies_only}
 use Rattle.offset_calls.proofs.Common.{shortage, reason, offset_at, step, after, is_valid, compact, starts_free, Takes, IsReason}
-use Rattle.offset_allocator.proofs.{Advice.free_within, Powers.not_zero, Tallies.hit_cases}
+use Rattle.offset_allocator.proofs.{Advice.free_within, Tallies.hit_cases}
 use Rattle.offset_script.proofs.Agreed.{agrees_but, agrees_quiet, has_room, labelled, none_there, same_length, same_units}
 use Rattle.offset_script.proofs.{Agreement.Label, Agreement.by_tag, Agreement.IsAtState, Chosen.none_chosen, Chosen.plain_place, Ends.free_sizes_labels, Ends.total_units, Labels.names, Members.IsIn}
 use Rattle.offset_script.proofs.{Members.in_map, Found.not_chosen, Well.IsWell, Well.well_quiet, Well.well_step}
@@ -431,11 +431,11 @@ module _ (v w : View) (hs left : List (Option Handle)) (r : Reply) (s : State) (
   follows (call.Offset k) valid t = quiet _ _ refl t.0 (offset_step k (kept_name hs k) refl t.1)
   follows (call.Refusal n) valid t = quiet _ _ refl t.0 (t.1.2 ∙ ap reply.Refusal (reason_is 1 n t.1.0 t.1.1))
   follows (call.RefusalAligned n align) valid t = quiet _ _ refl t.0
-      (t.1.2 ∙ ap reply.Refusal (reason_is (blocks_needed align) (units_needed n align) t.1.0 t.1.1 ∙ aligned_reason n align (not_zero align (inr (inl valid)))))
+      (t.1.2 ∙ ap reply.Refusal (reason_is (blocks_needed align) (units_needed n align) t.1.0 t.1.1 ∙ aligned_reason n align (leb-true 1 align valid)))
   follows (call.Tight n) valid t = tight_step n 1 (omega arith) t
-  follows (call.TightAligned n align) valid t = tight_step n align (not_zero align (inr (inl valid))) t
+  follows (call.TightAligned n align) valid t = tight_step n align (leb-true 1 align valid) t
   follows (call.RefusalTight n) valid t = quiet _ _ refl t.0 (tight_reason_step n 1 (omega arith) t.1.0 t.1.1 t.1.2)
-  follows (call.RefusalTightAligned n align) valid t = quiet _ _ refl t.0 (tight_reason_step n align (not_zero align (inr (inl valid))) t.1.0 t.1.1 t.1.2)
+  follows (call.RefusalTightAligned n align) valid t = quiet _ _ refl t.0 (tight_reason_step n align (leb-true 1 align valid) t.1.0 t.1.1 t.1.2)
   follows (call.WouldBegin n align) valid t = quiet _ _ refl t.0 (t.2.2 ∙ aligned_begins v (kept_name hs) s p.formed ws p.agrees n align t.1 t.2.0 t.2.1)
   follows (call.MakeRoom n) valid t = room_taken v w hs left r s formed ws p t.1 (value (up n)) t.0
   follows (call.MakeRoomBy n align m) valid t = room_by_taken v w hs left r s formed ws p t.1 n align m t.0

@@ -1,11 +1,11 @@
 -- The numbers of grants by their names, from one call to the next.
 use Rattle.offset_calls.proofs.Common.{◌≡◌, ℕ, zero, suc, ◌+◌, ◌-◌, ◌<◌, ◌≤◌, ◌⊎◌, List, [], ◌∷◌, ◌++◌, length, Option, Some, None, nat_eq, if◌then◌else◌, sym, ap, subst, ◌∙◌, inl, inr, arith}
 use Rattle.offset_calls.proofs.Common.{slice_set, option_map, eq-eqb, ne_eqb, cases_eq, cases_lt, length-append, add-one, get_or, get_or_past, Handle, View, IsWellFormed, kept_name, IfNamed, IsKept}
-use Rattle.offset_calls.proofs.Common.{Call, Reply, Takes, Command, IsTrue, is_valid}
+use Rattle.offset_calls.proofs.Common.{Call, Reply, Takes, Command, IsTrue, is_valid, leb-true}
 use Rattle.std.specs.List.{slice_index}
 use Rattle.std.proofs.lemmas.List.{get_or_default, get_or-set_other, get_or-set_same, set_past, length-set}
 use Rattle.offset_allocator.specs.{Relations.Splits, Relations.Allocates, Relations.Aligns, Tight.AlignsTight, Moving.Relocating.Relocates, Moving.Relocating.RelocatesAligned}
-use Rattle.offset_allocator.proofs.{Holding.grants_tight, Powers.not_zero, Ranges.split_grants}
+use Rattle.offset_allocator.proofs.{Holding.grants_tight, Ranges.split_grants}
 use Rattle.offset_script.specs.Steps.{AreLive}
 use Rattle.offset_script.proofs.Simulation.{kept_push}
 use Rattle.offset_calls.specs.Steps.{AreNumbers}
@@ -150,7 +150,7 @@ module _ (v w : View) (hs left : List (Option Handle)) (before : IsWellFormed v)
   next_call (call.Refusal n) r valid t = next_same hs left t.0.1
   next_call (call.RefusalAligned n align) r valid t = next_same hs left t.0.1
   next_call (call.Tight n) r valid t = next_tight n 1 (omega arith) t.1 t.0 t.2 t.3
-  next_call (call.TightAligned n align) r valid t = next_tight n align (not_zero align (inr (inl valid))) t.1 t.0 t.2 t.3
+  next_call (call.TightAligned n align) r valid t = next_tight n align (leb-true 1 align valid) t.1 t.0 t.2 t.3
   next_call (call.RefusalTight n) r valid t = next_same hs left t.0.1
   next_call (call.RefusalTightAligned n align) r valid t = next_same hs left t.0.1
   next_call (call.MakeRoom n) r valid t = next_same hs left t.1

@@ -4,7 +4,6 @@
 -- reason of a refusal, for what room would cost, by whole steps too, or for the live range beside one. States and stamps
 -- are those of the script's machine.
 use Rattle.std.specs.Prelude.{ℕ, ◌+◌, ◌-◌, max, min, Bool, true, false, not, ◌&&◌, ◌||◌, List, [], ◌∷◌, ◌++◌, length, map, sum, Option, Some, None, is_some, nat_eq, nat_lt, nat_le, if◌then◌else◌}
-use Rattle.std.specs.Int.{is_power_of_two}
 use Rattle.offset_allocator.specs.declared.reports.Refusal as allocator
 use Rattle.offset_allocator.specs.declared.reports.Refusal.TheVariants.{Nodes, TooLarge, Space, Fragmented}
 use Rattle.offset_allocator.specs.Classes.{value, up}
@@ -261,18 +260,18 @@ abbrev pub is_command : Call → Bool
 is_command (call.Command c) = true
 is_command other = false
 
--- each alignment is a power of two, and each step at least 1
+-- each alignment and each step is at least 1
 abbrev pub is_valid : Call → Bool
 is_valid (call.Command c) = has_valid_alignment c
-is_valid (call.RefusalAligned n align) = is_power_of_two align
-is_valid (call.TightAligned n align) = is_power_of_two align
-is_valid (call.RefusalTightAligned n align) = is_power_of_two align
-is_valid (call.WouldBegin n align) = is_power_of_two align
-is_valid (call.RelocateAligned k align) = is_power_of_two align
+is_valid (call.RefusalAligned n align) = nat_le 1 align
+is_valid (call.TightAligned n align) = nat_le 1 align
+is_valid (call.RefusalTightAligned n align) = nat_le 1 align
+is_valid (call.WouldBegin n align) = nat_le 1 align
+is_valid (call.RelocateAligned k align) = nat_le 1 align
 is_valid (call.CompactBy n) = nat_le 1 n
 is_valid (call.CompactWithin n from u r) = nat_le 1 n
-is_valid (call.MakeRoomBy n align m) = is_power_of_two align && nat_le 1 m
-is_valid (call.RoomCostBy n align m) = is_power_of_two align && nat_le 1 m
+is_valid (call.MakeRoomBy n align m) = nat_le 1 align && nat_le 1 m
+is_valid (call.RoomCostBy n align m) = nat_le 1 align && nat_le 1 m
 is_valid other = true
 
 -- ---- the replies of the program

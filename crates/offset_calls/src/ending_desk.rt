@@ -1,7 +1,6 @@
 //! The replies of a guarded allocator to calls at the end of a space.
 
-ghost use Rattle.std.specs.Prelude.{◌≡◌, IfOk, List, ℕ, option_map};
-ghost use Rattle.offset_allocator.specs.Requests.{IsAlignment};
+ghost use Rattle.std.specs.Prelude.{◌≡◌, ◌≤◌, IfOk, List, ℕ, option_map};
 ghost use Rattle.offset_guarded.specs.declared.ticket.Ticket.{Ticket};
 ghost use Rattle.offset_guarded.specs.Guard.{HasSerialLeft};
 ghost use Rattle.offset_calls.specs.declared.calls.Call.{Call};
@@ -46,7 +45,7 @@ pub(crate) fn relocate_aligned<T: Tables>(
 ) -> Result<Reply, AllocError>
     requires ledger { IsLedger desk.old.space desk.old.tickets.items }
     requires left { HasSerialLeft desk.old.space }
-    requires power { IsAlignment align }
+    requires alignment { 1 ≤ align }
     ensures { IfOk result (λ r. (k : ℕ) → IsNumberOf k ticket desk.old.space desk.old.tickets.items
         → Serves (Call.RelocateAligned k align) desk.old.space desk.old.tickets.items
         desk.new.space desk.new.tickets.items (reply_view r)) }

@@ -135,7 +135,7 @@ fn append<T: Tables>(
 /// returns the replies in order, one for each, and the tickets of the grants.
 ///
 /// The calls may pass any tickets: live ones, those of ranges that were freed or reset, altered ones, random
-/// numbers. The limit has to be 2 to `T::Index::MAX - 2`, each alignment a power of two, and each step at
+/// numbers. The limit has to be 2 to `T::Index::MAX - 2`, each alignment and each step at
 /// least 1.
 ///
 /// # Errors
@@ -158,7 +158,7 @@ pub fn play_guarded<T: Tables>(
     requires low { 2 ≤ max_allocs }
     // The index type admits the node limit.
     requires high { max_allocs + 1 < T.Index.MAX }
-    // Each alignment is a power of two, and each step at least 1.
+    // Each alignment and each step is at least 1.
     requires valid { All (λ c. IsTrue (is_valid c.call)) calls.now }
     // The replies are those of the plain machine to these calls, from one free block of `size` units, where
     // each ticket means the number of the grant that gave it, or no grant.

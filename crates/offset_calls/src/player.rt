@@ -66,7 +66,7 @@ impl<T: Tables> CallPlayerOf<T> {
         })
     }
 
-    /// Makes one call, and returns its reply. Its alignment, if it has one, has to be a power of two.
+    /// Makes one call, and returns its reply. Its alignment and its step, if it has them, have to be at least 1.
     ///
     /// It costs what the call costs in the allocator. Calls that may slide ranges (`Compact`, `CompactBy`,
     /// `CompactWithin`, `MakeRoom`, `MakeRoomBy`), `First`, `Last`, `Before` and `After` also read the grants

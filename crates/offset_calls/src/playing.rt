@@ -1,7 +1,6 @@
 //! Plays calls on an allocator.
 
 ghost use Rattle.std.specs.Prelude.{◌≡◌, ◌+◌, ◌<◌, ◌≤◌, All, IfOk, IsTrue, List, OnErr, Option, false, if◌then◌else◌, map};
-ghost use Rattle.offset_allocator.specs.Requests.{IsAlignment};
 ghost use Rattle.offset_allocator.specs.View.{Handle};
 ghost use Rattle.offset_script.specs.Steps.{AreHeld, AreLive, Stays};
 ghost use Rattle.offset_script.specs.Machine as machine;
@@ -90,7 +89,7 @@ fn tight_aligned<T: Tables>(
     align: u32,
 ) -> Result<Reply, AllocError>
     requires held { AreHeld player.old.space player.old.handles.items }
-    requires power { IsAlignment align }
+    requires alignment { 1 ≤ align }
     ensures takes { IfOk result (λ r. Takes (Call.TightAligned size align)
         player.old.space player.old.handles.items player.new.space player.new.handles.items (reply_view r)) }
     ensures lost { OnErr result (Stays player.old.space player.old.handles.items
@@ -118,7 +117,7 @@ pub(crate) fn room_cost_by<T: Tables>(
     align: u32,
     step: u32,
 ) -> Reply
-    requires power { IsAlignment align }
+    requires alignment { 1 ≤ align }
     requires some { 1 ≤ step }
     ensures { (hs : List (Option Handle)) → Takes (Call.RoomCostBy size align step)
         space.now hs space.now hs (reply_view result) }
@@ -265,7 +264,7 @@ fn append<T: Tables>(
 /// Plays calls on an allocator of `size` units with the node limit `max_allocs`, and returns the replies in
 /// order, one for each.
 ///
-/// The limit has to be 2 to `T::Index::MAX - 2`, each alignment a power of two, and each step at least 1. All
+/// The limit has to be 2 to `T::Index::MAX - 2`, each alignment and each step at least 1. All
 /// replies are kept in memory, and from the first call that may slide ranges, `First`, `Last`, `Before` or
 /// `After` on 8 bytes for each node that was made, twice that while a later one finds that there are more nodes.
 /// Each call costs what it costs in the allocator; these also read the grants since the last one of them.
@@ -289,7 +288,7 @@ pub fn play_calls_of<T: Tables>(
     requires low { 2 ≤ max_allocs }
     // The index type admits the node limit.
     requires high { max_allocs + 1 < T.Index.MAX }
-    // Each alignment is a power of two, and each step at least 1.
+    // Each alignment and each step is at least 1.
     requires valid { All (λ c. IsTrue (is_valid c)) calls.now }
     // The replies are those of the plain machine to these calls, from one free block of `size` units, and of
     // a run of the allocator's named steps.

@@ -9,7 +9,7 @@ ghost use Rattle.offset_allocator.specs.Moving.Compacting.{Compacts, moves};
 ghost use Rattle.offset_allocator.specs.Ranges.{range_of};
 ghost use Rattle.offset_allocator.specs.Moving.Room.{IsLeastCost};
 ghost use Rattle.offset_allocator.specs.Moving.RoomBySteps.{IsLeastCostBy, names_short};
-ghost use Rattle.offset_allocator.specs.Requests.{IsAlignment, blocks_needed, units_needed};
+ghost use Rattle.offset_allocator.specs.Requests.{blocks_needed, units_needed};
 ghost use Rattle.offset_guarded.specs.Guard.{KeepsSizes, serial_of};
 ghost use Rattle.offset_script.specs.Machine as machine;
 ghost use Rattle.offset_calls.specs.declared.calls.Call.{Call};
@@ -122,7 +122,7 @@ fn collect_by<NI: NodeIndex, T: Tables<Index = NI>>(
     step: u32,
     seen: &mut Slides<NI>,
 ) -> Option<RoomCost>
-    requires power { IsAlignment align }
+    requires alignment { 1 ≤ align }
     requires some { 1 ≤ step }
     requires none { seen.old.found.items ≡ [] }
     ensures cost { IsLeastCostBy step (value (up (units_needed size align)))
@@ -281,7 +281,7 @@ pub(crate) fn make_room_by<T: Tables>(
 ) -> Result<Reply, AllocError>
     requires kept { AreKept player.old.space player.old.handles.items }
     requires numbers { AreNumbers player.old.handles.items numbers.old.grants numbers.old.by_name.items }
-    requires power { IsAlignment align }
+    requires alignment { 1 ≤ align }
     requires some { 1 ≤ step }
     ensures takes { IfOk result (λ r. Takes (Call.MakeRoomBy size align step)
         player.old.space player.old.handles.items player.new.space player.new.handles.items (reply_view r)) }
@@ -400,7 +400,7 @@ fn collect_by_guarded<NI: NodeIndex, T: Tables<Index = NI>>(
     step: u32,
     seen: &mut Slides<NI>,
 ) -> Option<RoomCost>
-    requires power { IsAlignment align }
+    requires alignment { 1 ≤ align }
     requires some { 1 ≤ step }
     requires none { seen.old.found.items ≡ [] }
     ensures cost { IsLeastCostBy step (value (up (units_needed size align)))
@@ -533,7 +533,7 @@ pub(crate) fn make_room_by_guarded<T: Tables>(
 ) -> Result<Reply, AllocError>
     requires ledger { IsLedger desk.old.space desk.old.tickets.items }
     requires kept { AreKept desk.old.space.space (handles_of desk.old.space desk.old.tickets.items) }
-    requires power { IsAlignment align }
+    requires alignment { 1 ≤ align }
     requires some { 1 ≤ step }
     ensures { IfOk result (λ r. Serves (Call.MakeRoomBy size align step) desk.old.space desk.old.tickets.items
         desk.new.space desk.new.tickets.items (reply_view r)) }

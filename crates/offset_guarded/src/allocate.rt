@@ -6,7 +6,7 @@ ghost use Rattle.offset_allocator.specs.Ranges.{size_of};
 ghost use Rattle.offset_allocator.specs.Moving.Relocating.{Relocates, RelocatesAligned, WouldBegin, offset_of};
 ghost use Rattle.offset_allocator.specs.View.{View, Handle, bin_at, padding_to, reported_largest};
 ghost use Rattle.offset_allocator.specs.Relations.{Aligns, Allocates};
-ghost use Rattle.offset_allocator.specs.Requests.{CanGrant, IsAlignment, blocks_needed, units_needed};
+ghost use Rattle.offset_allocator.specs.Requests.{CanGrant, blocks_needed, units_needed};
 ghost use Rattle.offset_allocator.specs.Classes.{down};
 ghost use Rattle.offset_allocator.specs.Tight.{AlignsTight, CanHold, listed_from};
 ghost use Rattle.offset_guarded.specs.Guard.{Grants, IsLive, IsSame, IsWhy, IsWhyTight, cell, handle_in};
@@ -88,7 +88,7 @@ impl<T: Tables> GuardedOf<T> {
         }
     }
 
-    /// Grants `size` units that begin at a multiple of `align`, a power of two: the range that
+    /// Grants `size` units that begin at a multiple of `align`, from 1 on: the range that
     /// `Allocator::allocate_aligned` grants, with the next serial.
     ///
     /// `None` is returned where that call returns `None`, or where all serials are given; then all is as it
@@ -100,7 +100,7 @@ impl<T: Tables> GuardedOf<T> {
     /// assert_eq!(guarded.offset_of(uniforms), Some(256));
     /// ```
     pub fn allocate_aligned(&mut self, size: u32, align: u32) -> Option<Ticket>
-        requires power { IsAlignment align }
+        requires alignment { 1 ≤ align }
         ensures can_grant { IsSome result ↔ (HasSerialLeft self.old
             × CanGrant (blocks_needed align) (units_needed size align) self.old.space) }
         ensures grants { IfSome result (Grants size self.old self.new) }
@@ -150,7 +150,7 @@ impl<T: Tables> GuardedOf<T> {
         }
     }
 
-    /// Grants `size` units that begin at a multiple of `align`, a power of two, of any free block that holds
+    /// Grants `size` units that begin at a multiple of `align`, from 1 on, of any free block that holds
     /// them: the range that `Allocator::allocate_tight_aligned` grants, with the next serial.
     ///
     /// `None` is returned where that call returns `None`, or where all serials are given; then all is as it
@@ -162,7 +162,7 @@ impl<T: Tables> GuardedOf<T> {
     /// assert_eq!(guarded.allocate_tight_aligned(700, 256).unwrap().offset, 256);
     /// ```
     pub fn allocate_tight_aligned(&mut self, size: u32, align: u32) -> Option<Ticket>
-        requires power { IsAlignment align }
+        requires alignment { 1 ≤ align }
         ensures can_hold { IsSome result ↔ (HasSerialLeft self.old × CanHold size align self.old.space) }
         ensures grants { IfSome result (Grants size self.old self.new) }
         ensures aligned { IfSome result (λ t. t.offset % align ≡ 0) }
@@ -221,7 +221,7 @@ impl<T: Tables> GuardedOf<T> {
         }
     }
 
-    /// As `relocate`, and the second range begins at a multiple of `align`, a power of two: the one that
+    /// As `relocate`, and the second range begins at a multiple of `align`, from 1 on: the one that
     /// `Allocator::relocate_aligned` grants, with the next serial. The old ticket stays live until it is
     /// freed.
     ///
@@ -241,7 +241,7 @@ impl<T: Tables> GuardedOf<T> {
     /// guarded.free(mesh);
     /// ```
     pub fn relocate_aligned(&mut self, ticket: Ticket, align: u32) -> Option<Ticket>
-        requires power { IsAlignment align }
+        requires alignment { 1 ≤ align }
         ensures live { IsSome result → IsLive ticket self.old × HasSerialLeft self.old }
         ensures grants { IfSome result (Grants (size_of ticket.name self.old.space) self.old self.new) }
         ensures aligned { IfSome result (λ t. t.offset % align ≡ 0) }
@@ -274,7 +274,7 @@ impl<T: Tables> GuardedOf<T> {
     /// assert_eq!(guarded.allocate_aligned(100, 256).unwrap().offset, 512);
     /// ```
     pub fn would_begin(&self, size: u32, align: u32) -> Option<u32>
-        requires power { IsAlignment align }
+        requires alignment { 1 ≤ align }
         ensures granted { IsSome result ↔ (HasSerialLeft self.now
             × CanGrant (blocks_needed align) (units_needed size align) self.now.space) }
         // Whatever a grant of the allocator leaves, it begins there.
@@ -317,7 +317,7 @@ impl<T: Tables> GuardedOf<T> {
     /// assert!(guarded.refusal_aligned(900, 256).is_some());
     /// ```
     pub fn refusal_aligned(&self, size: u32, align: u32) -> Option<Refusal>
-        requires power { IsAlignment align }
+        requires alignment { 1 ≤ align }
         ensures granted { result ≡ None ↔ (HasSerialLeft self.now
             × CanGrant (blocks_needed align) (units_needed size align) self.now.space) }
         ensures why { IfSome result (IsWhy (blocks_needed align) (units_needed size align) self.now) }
@@ -360,7 +360,7 @@ impl<T: Tables> GuardedOf<T> {
     /// assert!(guarded.refusal_tight_aligned(700, 256).is_some());
     /// ```
     pub fn refusal_tight_aligned(&self, size: u32, align: u32) -> Option<Refusal>
-        requires power { IsAlignment align }
+        requires alignment { 1 ≤ align }
         ensures granted { result ≡ None ↔ (HasSerialLeft self.now × CanHold size align self.now.space) }
         ensures why { IfSome result (IsWhyTight size align self.now) }
     {

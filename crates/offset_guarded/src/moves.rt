@@ -6,7 +6,7 @@ ghost use Rattle.offset_allocator.specs.Classes.{up, value};
 ghost use Rattle.offset_allocator.specs.Moving.Budget.{CompactsWithin};
 ghost use Rattle.offset_allocator.specs.Moving.BySteps.{CompactsBy, moves_by};
 ghost use Rattle.offset_allocator.specs.Moving.Compacting.{Compacts, IsCalledWith, moves};
-ghost use Rattle.offset_allocator.specs.Requests.{CanGrant, IsAlignment, blocks_needed, units_needed};
+ghost use Rattle.offset_allocator.specs.Requests.{CanGrant, blocks_needed, units_needed};
 ghost use Rattle.offset_allocator.specs.Moving.Room.{IsLeastCost, MakesRoom, ranges_of};
 ghost use Rattle.offset_allocator.specs.Moving.RoomBySteps.{IsLeastCostBy, MakesRoomBy, names_short};
 ghost use Rattle.offset_guarded.specs.Guard.{KeepsSizes};
@@ -161,7 +161,7 @@ impl<T: Tables> GuardedOf<T> {
         step: u32,
         moved: &mut F,
     ) -> Option<RoomCost>
-        requires power { IsAlignment align }
+        requires alignment { 1 ≤ align }
         requires some { 1 ≤ step }
         requires callable { F.IsAlwaysCallable moved.old }
         // It returns what `room_cost_by` of the allocator would have returned before.

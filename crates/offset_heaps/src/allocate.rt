@@ -2,7 +2,7 @@
 //! in the index.
 ghost use Rattle.std.specs.Prelude.{ℕ, ◌≡◌, ◌↔◌, ◌+◌, ◌*◌, ◌%◌, ◌^◌, ◌<◌, ◌≤◌, ◌⊎◌, None, Some, Ok, Err};
 ghost use Rattle.std.specs.Prelude.{false, true, length, IsTrue, IfOk, IfErr, IfSome, MatchOption, OnErr};
-ghost use Rattle.offset_allocator.specs.Requests.{IsAlignment, blocks_needed, units_needed};
+ghost use Rattle.offset_allocator.specs.Requests.{blocks_needed, units_needed};
 ghost use Rattle.offset_heaps.specs.Slots.{IsBelow};
 
 use crate::place::{Granted, Place};
@@ -86,7 +86,7 @@ impl<T: Tables> HeapsOf<T> {
     pub(crate) fn grant_at(&mut self, number: u32, size: u32, align: u32) -> Granted
         requires there { number < length self.old.slots }
         requires some { 1 ≤ units_needed size align }
-        requires power { IsAlignment align }
+        requires alignment { 1 ≤ align }
         requires room { units_needed size align ≤ room_of (blocks_needed align) (heap_at number self.old) }
         ensures grants { Grants size align self.old self.new result }
         ensures number { result.place.heap ≡ number }
@@ -216,7 +216,7 @@ impl<T: Tables> HeapsOf<T> {
 
     // A request as `allocate_aligned` has it.
     fn request(&mut self, size: u32, align: u32) -> Result<Granted, Refusal>
-        requires power { IsAlignment align }
+        requires alignment { 1 ≤ align }
         ensures empty { size ≡ 0 → result ≡ Err Refusal.Empty }
         ensures why { IfErr result (IsWhy size align self.old) }
         ensures same { OnErr result (IsSame self.old self.new) }
@@ -269,7 +269,7 @@ impl<T: Tables> HeapsOf<T> {
         self.allocate_aligned(size, 1)
     }
 
-    /// Grants `size` units of one heap that begin at a multiple of `align`, a power of two, in that heap.
+    /// Grants `size` units of one heap that begin at a multiple of `align`, from 1 on, in that heap.
     ///
     /// The heap is the first one, by number, that has room, which it has for `size + align - 1` units: what
     /// `GuardedOf::allocate_aligned` grants there, as it grants it. Where none has, another heap is made,
@@ -288,7 +288,7 @@ impl<T: Tables> HeapsOf<T> {
     /// assert_eq!((page.heap, heaps.offset_of(page)), (1, Some(0)));
     /// ```
     pub fn allocate_aligned(&mut self, size: u32, align: u32) -> Result<Granted, Refusal>
-        requires power { IsAlignment align }
+        requires alignment { 1 ≤ align }
         // It is refused for room exactly when no heap has room, and no other may be made for it.
         ensures no_room { IsForRoom result ↔ ((1 ≤ size)
             × NoneFits (blocks_needed align) (units_needed size align) self.old

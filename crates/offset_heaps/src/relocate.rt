@@ -2,7 +2,7 @@
 //! slot by a grant, and notes it in the index.
 ghost use Rattle.std.specs.Prelude.{ℕ, ◌≡◌, ◌↔◌, ◌+◌, ◌*◌, ◌%◌, ◌^◌, ◌<◌, ◌≤◌, None, Some, IfSome, MatchOption};
 ghost use Rattle.std.specs.Prelude.{length};
-ghost use Rattle.offset_allocator.specs.Requests.{IsAlignment, blocks_needed};
+ghost use Rattle.offset_allocator.specs.Requests.{blocks_needed};
 ghost use Rattle.offset_heaps.specs.Heaps.{numbers};
 ghost use Rattle.offset_heaps.specs.Relocating.{IsEmptiest, NoneLive, TakesUnits};
 
@@ -92,7 +92,7 @@ impl<T: Tables> HeapsOf<T> {
         self.relocate_aligned(place, 1)
     }
 
-    /// As `relocate`, and the second range begins at a multiple of `align`, a power of two, in its heap: the
+    /// As `relocate`, and the second range begins at a multiple of `align`, from 1 on, in its heap: the
     /// first other one that has room for an aligned request as `allocate_aligned` has it, for
     /// `size + align - 1` units, and in which at least as many units are live.
     ///
@@ -105,7 +105,7 @@ impl<T: Tables> HeapsOf<T> {
     /// assert_eq!((moved.heap, heaps.offset_of(moved)), (0, Some(512)));
     /// ```
     pub fn relocate_aligned(&mut self, place: Place, align: u32) -> Option<Place>
-        requires power { IsAlignment align }
+        requires alignment { 1 ≤ align }
         // It is refused exactly where no heap takes the range, and then all is as it was.
         ensures none { result ≡ None ↔ NoneTakes place align self.old }
         ensures same { result ≡ None → IsSame self.old self.new }

@@ -3,7 +3,7 @@
 ghost use Rattle.std.specs.Prelude.{◌≡◌, ◌↔◌, ◌+◌, ◌^◌, ◌<◌, ◌≤◌, IsTrue, IsSome, None, Some, false, length};
 ghost use Rattle.std.specs.Prelude.{IfOk, MatchOption, is_some, option_copied, replicate};
 ghost use Rattle.std.specs.Prelude.{ℕ, slice_set, true, if◌then◌else◌};
-ghost use Rattle.offset_allocator.specs.Requests.{IsAlignment, blocks_needed, units_needed};
+ghost use Rattle.offset_allocator.specs.Requests.{blocks_needed, units_needed};
 ghost use Rattle.offset_allocator.specs.Tight.{CanHold};
 ghost use Rattle.offset_guarded.specs.Guard.{Guard, HasSerialLeft};
 ghost use Rattle.offset_heaps.specs.Heaps.{is_empty, live_of, part, range_in, room, room_of, slot};
@@ -45,7 +45,7 @@ fn room_at<T: Tables>(heap: &GuardedOf<T>, align: u32) -> u32
 /// Grants a request in a heap that has room for it.
 pub(crate) fn grant_in<T: Tables>(slot: &mut Option<GuardedOf<T>>, size: u32, align: u32) -> Ticket
     requires some { 1 ≤ units_needed size align }
-    requires power { IsAlignment align }
+    requires alignment { 1 ≤ align }
     requires room { units_needed size align ≤ room_of (blocks_needed align) slot.old }
     ensures { Serves size align slot.old slot.new result }
 {
@@ -180,7 +180,7 @@ impl<T: Tables> Slots<T> {
     ) -> Ticket
         requires there { number < length self.old }
         requires some { 1 ≤ units_needed size align }
-        requires power { IsAlignment align }
+        requires alignment { 1 ≤ align }
         requires room { units_needed size align ≤ room_of (blocks_needed align) (slot number self.old) }
         ensures grants { Changes number (λ o p. Serves size align o p result) self.old self.new }
         ensures accesses { count.new ≡ count.old + 1 }

@@ -1,8 +1,8 @@
 //! Each call is taken as the laws say it: so in the same state it has the same result. Nothing calls these
 //! functions: they are proved.
 
+ghost use Rattle.std.specs.Prelude.{◌≤◌};
 ghost use Rattle.offset_heaps.specs.Calls.{Allocates, Drops, DropsEmpty, Frees, GivesUp, Relocates};
-ghost use Rattle.offset_allocator.specs.Requests.{IsAlignment};
 ghost use Rattle.offset_heaps.specs.Histories.{ResetsAll};
 
 use offset_heaps::{Granted, Heaps, Place, Refusal};
@@ -16,7 +16,7 @@ pub fn allocate(heaps: &mut Heaps, size: u32) -> Result<Granted, Refusal>
 
 /// Makes a request with an alignment.
 pub fn allocate_aligned(heaps: &mut Heaps, size: u32, align: u32) -> Result<Granted, Refusal>
-    requires { IsAlignment align }
+    requires { 1 ≤ align }
     ensures { Allocates size align heaps.old heaps.new result }
 {
     heaps.allocate_aligned(size, align)
@@ -38,7 +38,7 @@ pub fn relocate(heaps: &mut Heaps, place: Place) -> Option<Place>
 
 /// Grants a second range in another heap, with an alignment.
 pub fn relocate_aligned(heaps: &mut Heaps, place: Place, align: u32) -> Option<Place>
-    requires { IsAlignment align }
+    requires { 1 ≤ align }
     ensures { Relocates place align heaps.old heaps.new result }
 {
     heaps.relocate_aligned(place, align)

@@ -2,7 +2,7 @@
 use Rattle.offset_script.proofs.Common.{◌≡◌, ℕ, ◌+◌, ◌<◌, length, length-append, true, false, eqb, List, [], ◌∷◌, ◌++◌, Some, refl, sym, ap, subst, ◌∙◌, append_assoc, arith, rules, codes}
 use Rattle.offset_script.proofs.Common.{AllByRecursion, IsTrue, all_ascii_digits, and_parts, nat_tests, slice_split_at, All-from_recursion, Command, Alloc, Size, Report, Full, Reset, Align, Extend}
 use Rattle.offset_script.proofs.Common.{has_valid_alignment, parts, is_skipped, significant_from, Line, Plan, ◌>>=!◌, commands_of, Result, Ok, Err}
-use Rattle.offset_script.proofs.{FirstLine.significant_step, Spelled.commands, Meaning.rest_of_plan}
+use Rattle.offset_script.proofs.{FirstLine.significant_step, Numbers.power_some, Spelled.commands, Meaning.rest_of_plan}
 use Rattle.std.specs.{Char.is_ascii_digit}
 use Rattle.offset_script.specs.{declared.scripts.Command.TheVariants.Free, Spelling.IsNumbered, Spelling.IsSpelling, CommonLines.BeginsWithNumber, CommonLines.BeginsWithCommand}
 use Rattle.offset_script.specs.{CommonLines.ReadsCommands, CommonLines.name_of, CommonLines.with_number, declared.scripts.Header.Header, declared.faults.ScriptFault.ScriptFault}
@@ -62,7 +62,7 @@ is_full (Extend n) line s = numbered_is_full 101 (codes "xtend ") line n (search
 -- ---- the first line
 
 pub is_valid : (c : Command) (line : List ℕ) → IsSpelling c line → IsTrue (has_valid_alignment c)
-is_valid (Align n a) line s = s.4
+is_valid (Align n a) line s = power_some a s.4
 is_valid other line s = refl
 
 pub is_shorter : (text rest : List ℕ) (c : Command) → BeginsWithCommand text c rest → length rest < length text

@@ -1,6 +1,6 @@
 -- The steps of a player are those of the plain machine, call by call.
 use Rattle.offset_script.proofs.Common.{◌≡◌, ℕ, zero, suc, ◌+◌, ◌-◌, ◌%◌, ◌^◌, ◌<◌, ◌≤◌, Bool, List, [], ◌∷◌, ◌++◌, map, length, Option, Some, None, option_map, Result, Ok, Err, IfOk, slice_index_or}
-use Rattle.offset_script.proofs.Common.{slice_set, get_or, if◌then◌else◌, IsTrue, refl, sym, ap, ap₂, subst, subst₂, ◌∙◌, inl, inr, arith, eq-eqb, ne_eqb, add-one, length-append, append_assoc}
+use Rattle.offset_script.proofs.Common.{slice_set, get_or, if◌then◌else◌, IsTrue, refl, sym, ap, ap₂, subst, subst₂, ◌∙◌, inl, inr, arith, eq-eqb, ne_eqb, add-one, leb-true, length-append, append_assoc}
 use Rattle.offset_script.proofs.Common.{append-nil, map-append, get_or-set_same, get_or-set_other, get_or_past, length-set, cases_eq, cases_lt, value, row, rows_below, count_of, Command}
 use Rattle.offset_script.proofs.Common.{has_valid_alignment, State, Answer, step, start, row_view, View, Handle, IsWellFormed, kept_name, Takes, AreSteps, AreStepsFromFresh, IsKept, IfNamed, Stays}
 use Rattle.offset_script.proofs.{Common.AreLive, Common.IsFresh, Common.Frees, Common.Extends, Common.Resets, Agreement.IsAtState, Well.IsWell}
@@ -10,7 +10,7 @@ use Rattle.offset_allocator.specs.{declared.reports.StorageReportFull.StorageRep
 use Rattle.offset_script.proofs.Agreed.{with_name, without_name, IsMatch, serve_agrees, aligned_agrees, extend_agrees, free_agrees, live_agrees, gone_agrees, size_gone_agrees, size_agrees}
 use Rattle.offset_script.proofs.Agreed.{report_agrees, full_agrees, agrees_quiet, agrees_kept, alone_agrees, same_units}
 use Rattle.offset_script.specs.declared.answers.FullRow.{FullRow}
-use Rattle.offset_allocator.proofs.{Reading.used_live, Reading.size_is, Powers.not_zero, Served.plain_serves, Served.aligned_serves}
+use Rattle.offset_allocator.proofs.{Reading.used_live, Reading.size_is, Served.plain_serves, Served.aligned_serves}
 use Rattle.offset_script.specs.declared.scripts.Command.TheVariants as command
 use Rattle.offset_script.specs.Machine as machine
 
@@ -128,7 +128,7 @@ module _ (v w : View) (hs left : List (Option Handle)) (a : Answer) (s : State) 
       (t.3, record { formed = formed; agrees = agrees; grants = t.1 ∙ p.grants })
   follows (command.Align n align) power t =
       requested (step (command.Align n align) s) t.0
-      (aligned_agrees v (kept_name hs) s p.formed ws p.agrees n align (not_zero align (inr (inl power))) w formed t.0 (aligned_serves n align v w t.0 t.1))
+      (aligned_agrees v (kept_name hs) s p.formed ws p.agrees n align (leb-true 1 align power) w formed t.0 (aligned_serves n align v w t.0 t.1))
       t.2
   follows (command.Extend more) power t = extended more t.0 t.1 t.2 t.3
 

@@ -78,9 +78,9 @@ command_of_words (name ∷ first ∷ second ∷ third ∷ more) = None
 abbrev pub command_of : List ℕ → Option Command
 command_of line = command_of_words (words line)
 
--- whether an alignment is a power of two; every other command passes
+-- whether an alignment is at least 1; every other command passes
 abbrev pub has_valid_alignment : Command → Bool
-has_valid_alignment (Align n a) = is_power_of_two a
+has_valid_alignment (Align n a) = nat_le 1 a
 has_valid_alignment other = true
 
 -- ---- the header

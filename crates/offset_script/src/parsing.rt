@@ -51,6 +51,7 @@ fn number_command(name: &[u8], n: u32) -> Option<Command>
 }
 
 // The command of a word and two numbers, of which the second is an alignment.
+#[tactic(auto, using(crate::proofs::Numbers::power_some))]
 fn pair_command(name: &[u8], n: u32, a: u32) -> Option<Command>
     ensures command { result ≡ pair_command name.now n a }
     ensures power { IfSome result (λ c. IsTrue (has_valid_alignment c)) }

@@ -3,11 +3,10 @@
 
 ghost use Rattle.std.specs.Prelude.{ℕ, ◌≡◌, ◌≢◌, ◌↔◌, ◌⊎◌, ◌+◌, ◌-◌, ◌*◌, ◌<◌, ◌≤◌, ◌%◌, Some, None, false};
 ghost use Rattle.std.specs.Prelude.{not, min, IfSome, IfOk, IfErr, IsOk, IsSome, IsTrue, length};
-ghost use Rattle.std.specs.Int.{is_power_of_two};
 ghost use Rattle.offset_allocator.specs.View.{used_units, reported_largest};
 ghost use Rattle.offset_allocator.specs.Ranges.{Range, range_of, size_of, KeepsAll, KeepsOthers, IsLive};
 ghost use Rattle.offset_allocator.specs.Relations.{Aligns, Allocates, Frees, SameState, Resets};
-ghost use Rattle.offset_allocator.specs.Requests.{CanGrant, IsAlignment, IsWhy, blocks_needed, units_needed};
+ghost use Rattle.offset_allocator.specs.Requests.{CanGrant, IsWhy, blocks_needed, units_needed};
 ghost use Rattle.offset_allocator.specs.Resizing.{CanShrink, CanGrow, HasUnits};
 ghost use Rattle.offset_allocator.specs.Moving.Compacting.{Compacts, KeepsSizes};
 ghost use Rattle.offset_uses.specs.Grants.{HasTooFewUnits, IsGrantOf};
@@ -64,7 +63,7 @@ pub fn give_back<T: Tables>(space: &mut AllocatorOf<T>, allocation: Allocation<T
 
 /// Allocates a range of bytes at a multiple of `align`, which a graphics device prescribes.
 ///
-/// It returns `None` where `align` is no power of two, or the request is refused. Then no live range has
+/// It returns `None` where `align` is 0, or the request is refused. Then no live range has
 /// changed.
 pub fn upload<T: Tables>(
     heap: &mut AllocatorOf<T>,
@@ -76,13 +75,13 @@ pub fn upload<T: Tables>(
     ensures fresh { IfSome result (λ h. range_of h.name heap.old ≡ None) }
     ensures others { IfSome result (λ h. KeepsOthers h.name heap.old heap.new) }
     ensures refused { result ≡ None → KeepsAll heap.old heap.new }
-    ensures granted { IsTrue (is_power_of_two align)
+    ensures granted { 1 ≤ align
         → (IsSome result ↔ CanGrant (min align 2) (size + align - 1) heap.old) }
-    ensures power { IsSome result → IsTrue (is_power_of_two align) }
-    ensures step { IsTrue (is_power_of_two align) → Aligns size align heap.old heap.new result }
+    ensures some { IsSome result → 1 ≤ align }
+    ensures step { 1 ≤ align → Aligns size align heap.old heap.new result }
     ensures size { heap.new.size ≡ heap.old.size }
 {
-    if !align.is_power_of_two() {
+    if align == 0 {
         return None;
     }
     heap.allocate_aligned(size, align)
@@ -237,7 +236,7 @@ pub fn place_aligned_within(
     step: u32,
     budget: u32,
 ) -> Result<Allocation, Refusal>
-    requires power { IsAlignment align }
+    requires alignment { 1 ≤ align }
     requires some { 1 ≤ step }
     ensures aligned { IfOk result (λ h. h.offset % align ≡ 0) }
     ensures range { IfOk result (λ h. IsGrantOf size h space.new) }

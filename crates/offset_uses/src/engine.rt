@@ -2,7 +2,6 @@
 
 ghost use Rattle.std.specs.Prelude.{ℕ, ◌≡◌, ◌≢◌, ◌↔◌, ◌⊎◌, ◌+◌, ◌*◌, ◌/◌, ◌%◌, ◌<◌, ◌≤◌, Some, None, false};
 ghost use Rattle.std.specs.Prelude.{IfSome, IsSome, IsTrue, length, slice_index_or};
-ghost use Rattle.std.specs.Int.{is_power_of_two};
 ghost use Rattle.offset_allocator.specs.View.{View, Handle, reported_largest};
 ghost use Rattle.offset_allocator.specs.Ranges.{IsLive, KeepsAll, KeepsOthers};
 ghost use Rattle.offset_allocator.specs.Relations.{Aligns, Allocates, Frees};
@@ -34,7 +33,7 @@ pub fn upload_units<T: Tables>(
 
 /// Two uploads of different alignments, both or neither.
 ///
-/// It returns the two handles, or `None` where an alignment is no power of two, the first request is refused,
+/// It returns the two handles, or `None` where an alignment is 0, the first request is refused,
 /// or the second after it. Then no live range has changed.
 pub fn upload_both<T: Tables>(
     heap: &mut AllocatorOf<T>,
@@ -47,12 +46,11 @@ pub fn upload_both<T: Tables>(
     ensures second { IfSome result (λ r. IsGrantOf other_size r.1 heap.new) }
     ensures aligned { IfSome result (λ r. (r.0.offset % align ≡ 0) × (r.1.offset % other_align ≡ 0)) }
     ensures differ { IfSome result (λ r. r.0.name ≢ r.1.name) }
-    ensures powers { IsSome result
-        → IsTrue (is_power_of_two align) × IsTrue (is_power_of_two other_align) }
+    ensures some { IsSome result → (1 ≤ align) × (1 ≤ other_align) }
     ensures granted { IfSome result (λ r. (v : View) × Aligns size align heap.old v (Some r.0)
         × Aligns other_size other_align v heap.new (Some r.1)) }
     ensures refused { result ≡ None
-        → IsTrue (is_power_of_two align) → IsTrue (is_power_of_two other_align)
+        → 1 ≤ align → 1 ≤ other_align
         → ((v : View) × Aligns size align heap.old v None)
         ⊎ ((v w : View) × (g : Handle) × Aligns size align heap.old v (Some g)
         × Aligns other_size other_align v w None) }

@@ -53,7 +53,7 @@ impl<T: Tables> GuardedOf<T> {
         }
     }
 
-    /// Grants `size` units that begin at a multiple of `align`, a power of two: the range that
+    /// Grants `size` units that begin at a multiple of `align`, from 1 on: the range that
     /// `Allocator::allocate_aligned` grants, with the next serial.
     ///
     /// `None` is returned where that call returns `None`, or where all serials are given; then all is as it
@@ -61,7 +61,7 @@ impl<T: Tables> GuardedOf<T> {
     ///
     /// # Panics
     ///
-    /// It panics unless `align` is a power of two.
+    /// It panics unless the alignment is at least 1.
     ///
     /// ```
     /// # use offset_allocator_guarded::*;
@@ -74,7 +74,7 @@ impl<T: Tables> GuardedOf<T> {
     /// ```
     #[track_caller]
     pub fn allocate_aligned(&mut self, size: u32, align: u32) -> Option<Ticket> {
-        assert!(align.is_power_of_two(), "align must be a power of two");
+        assert!(1 <= align, "the alignment must be at least 1");
         if self.serials.is_spent() {
             return None;
         }
@@ -109,7 +109,7 @@ impl<T: Tables> GuardedOf<T> {
         }
     }
 
-    /// Grants `size` units that begin at a multiple of `align`, a power of two, of any free block that holds
+    /// Grants `size` units that begin at a multiple of `align`, from 1 on, of any free block that holds
     /// them: the range that `Allocator::allocate_tight_aligned` grants, with the next serial.
     ///
     /// `None` is returned where that call returns `None`, or where all serials are given; then all is as it
@@ -117,7 +117,7 @@ impl<T: Tables> GuardedOf<T> {
     ///
     /// # Panics
     ///
-    /// It panics unless `align` is a power of two.
+    /// It panics unless the alignment is at least 1.
     ///
     /// ```
     /// # use offset_allocator_guarded::*;
@@ -130,7 +130,7 @@ impl<T: Tables> GuardedOf<T> {
     /// ```
     #[track_caller]
     pub fn allocate_tight_aligned(&mut self, size: u32, align: u32) -> Option<Ticket> {
-        assert!(align.is_power_of_two(), "align must be a power of two");
+        assert!(1 <= align, "the alignment must be at least 1");
         if self.serials.is_spent() {
             return None;
         }
@@ -172,7 +172,7 @@ impl<T: Tables> GuardedOf<T> {
         }
     }
 
-    /// As `relocate`, and the second range begins at a multiple of `align`, a power of two: the one that
+    /// As `relocate`, and the second range begins at a multiple of `align`, from 1 on: the one that
     /// `Allocator::relocate_aligned` grants, with the next serial. The old ticket stays live until it is
     /// freed.
     ///
@@ -184,7 +184,7 @@ impl<T: Tables> GuardedOf<T> {
     ///
     /// # Panics
     ///
-    /// It panics unless `align` is a power of two.
+    /// It panics unless the alignment is at least 1.
     ///
     /// ```
     /// # use offset_allocator_guarded::*;
@@ -201,7 +201,7 @@ impl<T: Tables> GuardedOf<T> {
     /// ```
     #[track_caller]
     pub fn relocate_aligned(&mut self, ticket: Ticket, align: u32) -> Option<Ticket> {
-        assert!(align.is_power_of_two(), "align must be a power of two");
+        assert!(1 <= align, "the alignment must be at least 1");
         let handle = self.handle(ticket)?;
         if self.serials.is_spent() {
             return None;
@@ -217,7 +217,7 @@ impl<T: Tables> GuardedOf<T> {
     ///
     /// # Panics
     ///
-    /// It panics unless `align` is a power of two.
+    /// It panics unless the alignment is at least 1.
     ///
     /// ```
     /// # use offset_allocator_guarded::*;
@@ -230,7 +230,7 @@ impl<T: Tables> GuardedOf<T> {
     /// ```
     #[track_caller]
     pub fn would_begin(&self, size: u32, align: u32) -> Option<u32> {
-        assert!(align.is_power_of_two(), "align must be a power of two");
+        assert!(1 <= align, "the alignment must be at least 1");
         if self.serials.is_spent() {
             return None;
         }
@@ -261,7 +261,7 @@ impl<T: Tables> GuardedOf<T> {
     ///
     /// # Panics
     ///
-    /// It panics unless `align` is a power of two.
+    /// It panics unless the alignment is at least 1.
     ///
     /// ```
     /// # use offset_allocator_guarded::*;
@@ -273,7 +273,7 @@ impl<T: Tables> GuardedOf<T> {
     /// ```
     #[track_caller]
     pub fn refusal_aligned(&self, size: u32, align: u32) -> Option<Refusal> {
-        assert!(align.is_power_of_two(), "align must be a power of two");
+        assert!(1 <= align, "the alignment must be at least 1");
         if self.serials.is_spent() {
             return Some(Refusal::Serials);
         }
@@ -309,7 +309,7 @@ impl<T: Tables> GuardedOf<T> {
     ///
     /// # Panics
     ///
-    /// It panics unless `align` is a power of two.
+    /// It panics unless the alignment is at least 1.
     ///
     /// ```
     /// # use offset_allocator_guarded::*;
@@ -322,7 +322,7 @@ impl<T: Tables> GuardedOf<T> {
     /// ```
     #[track_caller]
     pub fn refusal_tight_aligned(&self, size: u32, align: u32) -> Option<Refusal> {
-        assert!(align.is_power_of_two(), "align must be a power of two");
+        assert!(1 <= align, "the alignment must be at least 1");
         if self.serials.is_spent() {
             return Some(Refusal::Serials);
         }

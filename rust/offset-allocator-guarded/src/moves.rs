@@ -118,7 +118,7 @@ impl<T: Tables> GuardedOf<T> {
     ///
     /// # Panics
     ///
-    /// It panics unless `align` is a power of two, and the step is at least 1.
+    /// It panics unless the alignment is at least 1, and the step is at least 1.
     ///
     /// ```
     /// # use offset_allocator_guarded::*;
@@ -140,7 +140,7 @@ impl<T: Tables> GuardedOf<T> {
         step: u32,
         moved: &mut F,
     ) -> Option<RoomCost> {
-        assert!(align.is_power_of_two(), "align must be a power of two");
+        assert!(1 <= align, "the alignment must be at least 1");
         assert!(1 <= step, "the step must be at least 1");
         self.space.make_room_by(size, align, step, moved)
     }

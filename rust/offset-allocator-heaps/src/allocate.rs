@@ -152,7 +152,7 @@ impl<T: Tables> HeapsOf<T> {
         self.allocate_aligned(size, 1)
     }
 
-    /// Grants `size` units of one heap that begin at a multiple of `align`, a power of two, in that heap.
+    /// Grants `size` units of one heap that begin at a multiple of `align`, from 1 on, in that heap.
     ///
     /// The heap is the first one, by number, that has room, which it has for `size + align - 1` units: what
     /// `GuardedOf::allocate_aligned` grants there, as it grants it. Where none has, another heap is made,
@@ -165,7 +165,7 @@ impl<T: Tables> HeapsOf<T> {
     ///
     /// # Panics
     ///
-    /// It panics unless `align` is a power of two.
+    /// It panics unless the alignment is at least 1.
     ///
     /// ```
     /// # use offset_allocator_heaps::*;
@@ -181,7 +181,7 @@ impl<T: Tables> HeapsOf<T> {
     /// ```
     #[track_caller]
     pub fn allocate_aligned(&mut self, size: u32, align: u32) -> Result<Granted, Refusal> {
-        assert!(align.is_power_of_two(), "align must be a power of two");
+        assert!(1 <= align, "the alignment must be at least 1");
         self.request(size, align)
     }
 }

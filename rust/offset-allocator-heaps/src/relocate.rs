@@ -58,13 +58,13 @@ impl<T: Tables> HeapsOf<T> {
         self.relocate_aligned(place, 1)
     }
 
-    /// As `relocate`, and the second range begins at a multiple of `align`, a power of two, in its heap: the
+    /// As `relocate`, and the second range begins at a multiple of `align`, from 1 on, in its heap: the
     /// first other one that has room for an aligned request as `allocate_aligned` has it, for
     /// `size + align - 1` units, and in which at least as many units are live.
     ///
     /// # Panics
     ///
-    /// It panics unless `align` is a power of two.
+    /// It panics unless the alignment is at least 1.
     ///
     /// ```
     /// # use offset_allocator_heaps::*;
@@ -81,7 +81,7 @@ impl<T: Tables> HeapsOf<T> {
     /// ```
     #[track_caller]
     pub fn relocate_aligned(&mut self, place: Place, align: u32) -> Option<Place> {
-        assert!(align.is_power_of_two(), "align must be a power of two");
+        assert!(1 <= align, "the alignment must be at least 1");
         if place.realm != self.realm {
             return None;
         }

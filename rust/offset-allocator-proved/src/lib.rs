@@ -1,7 +1,7 @@
 // Printed by rust/erase from crates/offset_allocator/src/lib.rt: change it there.
 
-//! Hands out ranges of one contiguous space of units, and takes them back, with a bounded number of accesses
-//! to table cells. The space itself is never touched.
+//! Hands out ranges of one contiguous space of units, and takes them back: `allocate` and `free` make a
+//! bounded number of accesses to table cells. The space itself is never touched.
 //!
 //! A *block* is a run of units, used or free; no two free blocks are neighbours. Each block has a *node* of
 //! the tables, whose index is the block's *name*; the range of a used block, and its name, are *live*. A
@@ -38,6 +38,7 @@ pub use offset_allocator_memory::{AllocError, Global};
 pub use nonmax::IsMax;
 
 mod accesses;
+mod at_place;
 mod bins;
 mod chain;
 pub mod ext;
@@ -438,12 +439,12 @@ impl<T: Tables> AllocatorOf<T> {
 
     /// Why `allocate_aligned(size, align)` would be refused now, or `None` exactly where it would be granted.
     ///
-    /// `align` has to be a power of two. If it is above 1, the request needs room for two more blocks, and a
+    /// `align` has to be at least 1. If it is above 1, the request needs room for two more blocks, and a
     /// block for `size + align - 1` units. It makes at most 8 accesses to the tables.
     ///
     /// # Panics
     ///
-    /// It panics unless `align` is a power of two.
+    /// It panics unless the alignment is at least 1.
     ///
     /// ```
     /// # use offset_allocator_proved::*;
@@ -455,11 +456,12 @@ impl<T: Tables> AllocatorOf<T> {
     /// ```
     #[track_caller]
     pub fn refusal_aligned(&self, size: u32, align: u32) -> Option<Refusal> {
-        assert!(align.is_power_of_two(), "align must be a power of two");
+        assert!(1 <= align, "the alignment must be at least 1");
         reports::refusal_aligned_counted(self, size, align, &mut Accesses::new())
     }
 
-    /// Grants `size` units that begin at a multiple of `align`, a power of two.
+    /// Grants `size` units that begin at a multiple of `align`, which may be any number from 1 on: 256, or 12
+    /// for vertices of 12 bytes.
     ///
     /// The block is the one that a request for `size + align - 1` units would take. Its units before the
     /// range (the padding) and after it (the remainder) stay free. `None` is returned if that request finds
@@ -473,7 +475,7 @@ impl<T: Tables> AllocatorOf<T> {
     ///
     /// # Panics
     ///
-    /// It panics unless `align` is a power of two.
+    /// It panics unless the alignment is at least 1.
     ///
     /// ```
     /// # use offset_allocator_proved::*;
@@ -486,7 +488,7 @@ impl<T: Tables> AllocatorOf<T> {
     /// ```
     #[track_caller]
     pub fn allocate_aligned(&mut self, size: u32, align: u32) -> Option<Allocation<T::Index>> {
-        assert!(align.is_power_of_two(), "align must be a power of two");
+        assert!(1 <= align, "the alignment must be at least 1");
         self.serve(size, align)
     }
 

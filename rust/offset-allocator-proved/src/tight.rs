@@ -68,7 +68,7 @@ fn choose<T: Tables>(
 ///
 /// # Panics
 ///
-/// It panics unless `align` is a power of two.
+/// It panics unless the alignment is at least 1.
 #[track_caller]
 pub fn refusal_tight_aligned_counted<T: Tables>(
     allocator: &AllocatorOf<T>,
@@ -76,7 +76,7 @@ pub fn refusal_tight_aligned_counted<T: Tables>(
     align: u32,
     count: &mut Accesses,
 ) -> Option<Refusal> {
-    assert!(align.is_power_of_two(), "align must be a power of two");
+    assert!(1 <= align, "the alignment must be at least 1");
     if allocator.unused_nodes() <= align.min(2) {
         return Some(Refusal::Nodes);
     }
@@ -107,8 +107,8 @@ pub fn refusal_tight_counted<T: Tables>(
 }
 
 impl<T: Tables> AllocatorOf<T> {
-    // Makes the block of a name, which is free, the newest of its bin, and returns its class.
-    fn bring_first(&mut self, name: u32) -> u32 {
+    /// Makes the block of a name, which is free, the newest of its bin, and returns its class.
+    pub(crate) fn bring_first(&mut self, name: u32) -> u32 {
         let size = self.store.tables.size(name, &mut self.store.accesses);
         let class = uint_to_float_round_down(size);
         bins::remove(&mut self.store, name, size);
@@ -174,7 +174,7 @@ impl<T: Tables> AllocatorOf<T> {
         self.serve_tight(size, 1)
     }
 
-    /// Grants `size` units that begin at a multiple of `align`, a power of two, as `allocate_aligned` does,
+    /// Grants `size` units that begin at a multiple of `align`, from 1 on, as `allocate_aligned` does,
     /// and where that is refused it looks further: through the free blocks from the class of `size` on, class
     /// by class, in each the newest first, for one that holds `size` units from a multiple of `align` on, at
     /// the offset that it has.
@@ -185,7 +185,7 @@ impl<T: Tables> AllocatorOf<T> {
     ///
     /// # Panics
     ///
-    /// It panics unless `align` is a power of two.
+    /// It panics unless the alignment is at least 1.
     ///
     /// ```
     /// # use offset_allocator_proved::*;
@@ -198,14 +198,14 @@ impl<T: Tables> AllocatorOf<T> {
     /// ```
     #[track_caller]
     pub fn allocate_tight_aligned(&mut self, size: u32, align: u32) -> Option<Allocation<T::Index>> {
-        assert!(align.is_power_of_two(), "align must be a power of two");
+        assert!(1 <= align, "the alignment must be at least 1");
         self.serve_tight(size, align)
     }
 
     /// Why `allocate_tight(size)` would be refused now, or `None` exactly where it would be granted.
-    /// `TooLarge`: the space has fewer units. `Space`: so are all free units together, or there are none.
-    /// `Fragmented`: they are enough, and after `compact` the request is granted. It makes at most 2 accesses
-    /// to the tables, and 6 for each free block of the class of `size` or above.
+    /// `TooLarge`: the space has fewer units. `Space`: so are all free units together, or, for a request of 0
+    /// units, no unit is free. `Fragmented`: they are enough, and after `compact` the request is granted. It
+    /// makes at most 2 accesses to the tables, and 6 for each free block of the class of `size` or above.
     ///
     /// ```
     /// # use offset_allocator_proved::*;
@@ -221,12 +221,12 @@ impl<T: Tables> AllocatorOf<T> {
     }
 
     /// Why `allocate_tight_aligned(size, align)` would be refused now, or `None` exactly where it would be
-    /// granted. `align` has to be a power of two. The reasons are those of `refusal_tight`; but after
+    /// granted. `align` has to be at least 1. The reasons are those of `refusal_tight`; but after
     /// `compact` the request is granted only if the free block, where it begins then, holds it.
     ///
     /// # Panics
     ///
-    /// It panics unless `align` is a power of two.
+    /// It panics unless the alignment is at least 1.
     ///
     /// ```
     /// # use offset_allocator_proved::*;
@@ -239,7 +239,7 @@ impl<T: Tables> AllocatorOf<T> {
     /// ```
     #[track_caller]
     pub fn refusal_tight_aligned(&self, size: u32, align: u32) -> Option<Refusal> {
-        assert!(align.is_power_of_two(), "align must be a power of two");
+        assert!(1 <= align, "the alignment must be at least 1");
         refusal_tight_aligned_counted(self, size, align, &mut Accesses::new())
     }
 }

@@ -30,12 +30,12 @@ pub enum Call {
     Offset(u32),
     /// Asks why a request for this many units would be refused now.
     Refusal(u32),
-    /// Asks the same of a request for this many units from a multiple of the second number on, which is a
-    /// power of two.
+    /// Asks the same of a request for this many units from a multiple of the second number on, which is at
+    /// least 1.
     RefusalAligned(u32, u32),
     /// Requests this many units of any free block that has them.
     Tight(u32),
-    /// Requests this many units from a multiple of the second number on, which is a power of two, of any free
+    /// Requests this many units from a multiple of the second number on, which is at least 1, of any free
     /// block that holds them.
     TightAligned(u32, u32),
     /// Asks why `Tight` of this many units would be refused now.
@@ -48,7 +48,7 @@ pub enum Call {
     /// Slides the live ranges with the fewest units so that a request for this many units finds its block.
     MakeRoom(u32),
     /// Slides live ranges by multiples of the third number of units, which is at least 1: those with the fewest
-    /// units so that a request for this many units from a multiple of the second number on, a power of two,
+    /// units so that a request for this many units from a multiple of the second number on, at least 1 too,
     /// finds its block, as `make_room_by` does.
     MakeRoomBy(u32, u32, u32),
     /// Asks what `MakeRoom` of this many units would have to move now.
@@ -58,7 +58,7 @@ pub enum Call {
     /// Requests a second range of as many units as that of this number, which begins before it, as
     /// `relocate` does. The old one stays live.
     Relocate(u32),
-    /// As `Relocate`, from a multiple of the second number on, which is a power of two.
+    /// As `Relocate`, from a multiple of the second number on, which is at least 1.
     RelocateAligned(u32, u32),
     /// Takes this many free units off the end of the space. Where `Extend` has just added as many, the
     /// blocks are as they were before both, but that a free one at the end is the newest of its bin, or
@@ -75,38 +75,38 @@ pub enum Call {
 }
 
 impl Call {
-    /// Whether its alignment is a power of two, and its step at least 1, where it has them.
+    /// Whether its alignment and its step are at least 1, where it has them.
     ///
     /// ```
     /// # use offset_calls::*;
     /// # let alloc = Global;
-    /// assert!(!Call::TightAligned(300, 3).is_valid());
+    /// assert!(!Call::TightAligned(300, 0).is_valid());
     /// assert!(!Call::CompactBy(0).is_valid());
     /// # Ok::<(), AllocError>(())
     /// ```
     pub fn is_valid(&self) -> bool {
         match self {
-            Call::Command(Command::Align(_, align)) => align.is_power_of_two(),
-            Call::RefusalAligned(_, align) => align.is_power_of_two(),
-            Call::TightAligned(_, align) => align.is_power_of_two(),
-            Call::RefusalTightAligned(_, align) => align.is_power_of_two(),
-            Call::WouldBegin(_, align) => align.is_power_of_two(),
-            Call::RelocateAligned(_, align) => align.is_power_of_two(),
+            Call::Command(Command::Align(_, align)) => *align >= 1,
+            Call::RefusalAligned(_, align) => *align >= 1,
+            Call::TightAligned(_, align) => *align >= 1,
+            Call::RefusalTightAligned(_, align) => *align >= 1,
+            Call::WouldBegin(_, align) => *align >= 1,
+            Call::RelocateAligned(_, align) => *align >= 1,
             Call::CompactBy(step) => *step >= 1,
             Call::CompactWithin(step, _, _, _) => *step >= 1,
-            Call::MakeRoomBy(_, align, step) => align.is_power_of_two() && *step >= 1,
-            Call::RoomCostBy(_, align, step) => align.is_power_of_two() && *step >= 1,
+            Call::MakeRoomBy(_, align, step) => *align >= 1 && *step >= 1,
+            Call::RoomCostBy(_, align, step) => *align >= 1 && *step >= 1,
             _ => true,
         }
     }
 }
 
-/// Whether each alignment in these calls is a power of two, and each step at least 1.
+/// Whether each alignment and each step in these calls is at least 1.
 ///
 /// ```
 /// # use offset_calls::*;
 /// # let alloc = Global;
-/// assert!(are_valid(&[Call::TightAligned(300, 4), Call::Compact]));
+/// assert!(are_valid(&[Call::TightAligned(300, 12), Call::Compact]));
 /// # Ok::<(), AllocError>(())
 /// ```
 pub fn are_valid(calls: &[Call]) -> bool {

@@ -101,7 +101,7 @@ fn append<T: Tables>(
 /// returns the replies in order, one for each, and the tickets of the grants.
 ///
 /// The calls may pass any tickets: live ones, those of ranges that were freed or reset, altered ones, random
-/// numbers. The limit has to be 2 to `T::Index::MAX - 2`, each alignment a power of two, and each step at
+/// numbers. The limit has to be 2 to `T::Index::MAX - 2`, each alignment and each step at
 /// least 1.
 ///
 /// # Errors
@@ -111,7 +111,7 @@ fn append<T: Tables>(
 /// # Panics
 ///
 /// It panics unless `max_allocs` is at least 2, and `max_allocs` is at most `NI::MAX - 2`, and each
-/// alignment is a power of two.
+/// alignment is at least 1.
 ///
 /// ```
 /// # use offset_calls::*;
@@ -131,7 +131,7 @@ pub fn play_guarded<T: Tables>(
 ) -> Result<Played, AllocError> {
     assert!(2 <= max_allocs, "max_allocs must be at least 2");
     assert!(max_allocs < T::Index::MAX - 1, "max_allocs must be at most NI::MAX - 2");
-    assert!(calls.iter().all(|it| it.call.is_valid()), "each alignment must be a power of two");
+    assert!(calls.iter().all(|it| it.call.is_valid()), "each alignment must be at least 1");
     let mut desk: Desk<T> = Desk {
         space: GuardedOf::with_max_allocs(alloc, size, max_allocs, realm)?,
         tickets: Vec::new(alloc),

@@ -47,7 +47,7 @@ impl<T: Tables> CallPlayerOf<T> {
         })
     }
 
-    /// Makes one call, and returns its reply. Its alignment, if it has one, has to be a power of two.
+    /// Makes one call, and returns its reply. Its alignment and its step, if it has them, have to be at least 1.
     ///
     /// It costs what the call costs in the allocator. Calls that may slide ranges (`Compact`, `CompactBy`,
     /// `CompactWithin`, `MakeRoom`, `MakeRoomBy`), `First`, `Last`, `Before` and `After` also read the grants
@@ -60,7 +60,7 @@ impl<T: Tables> CallPlayerOf<T> {
     ///
     /// # Panics
     ///
-    /// It panics unless an alignment is a power of two.
+    /// It panics unless an alignment is at least 1.
     ///
     /// ```
     /// # use offset_calls::*;
@@ -73,7 +73,7 @@ impl<T: Tables> CallPlayerOf<T> {
     /// ```
     #[track_caller]
     pub fn call(&mut self, alloc: Global, call: Call) -> Result<Reply, AllocError> {
-        assert!(call.is_valid(), "an alignment must be a power of two");
+        assert!(call.is_valid(), "an alignment must be at least 1");
         let reply = reply(alloc, &mut self.player, &mut self.numbers, call);
         reply
     }

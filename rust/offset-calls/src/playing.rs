@@ -183,7 +183,7 @@ fn append<T: Tables>(
 /// Plays calls on an allocator of `size` units with the node limit `max_allocs`, and returns the replies in
 /// order, one for each.
 ///
-/// The limit has to be 2 to `T::Index::MAX - 2`, each alignment a power of two, and each step at least 1. All
+/// The limit has to be 2 to `T::Index::MAX - 2`, each alignment and each step at least 1. All
 /// replies are kept in memory, and from the first call that may slide ranges, `First`, `Last`, `Before` or
 /// `After` on 8 bytes for each node that was made, twice that while a later one finds that there are more nodes.
 /// Each call costs what it costs in the allocator; these also read the grants since the last one of them.
@@ -195,7 +195,7 @@ fn append<T: Tables>(
 /// # Panics
 ///
 /// It panics unless `max_allocs` is at least 2, and `max_allocs` is at most `NI::MAX - 2`, and each
-/// alignment is a power of two.
+/// alignment is at least 1.
 ///
 /// ```
 /// # use offset_calls::*;
@@ -214,7 +214,7 @@ pub fn play_calls_of<T: Tables>(
 ) -> Result<Vec<Reply>, AllocError> {
     assert!(2 <= max_allocs, "max_allocs must be at least 2");
     assert!(max_allocs < T::Index::MAX - 1, "max_allocs must be at most NI::MAX - 2");
-    assert!(calls.iter().all(|call| call.is_valid()), "each alignment must be a power of two");
+    assert!(calls.iter().all(|call| call.is_valid()), "each alignment must be at least 1");
     let mut player: PlayerOf<T> = PlayerOf::start(alloc, size, max_allocs)?;
     let mut numbers = Numbers::new(alloc);
     let mut found = Vec::with_capacity(alloc, calls.len())?;
@@ -229,7 +229,7 @@ pub fn play_calls_of<T: Tables>(
 /// # Panics
 ///
 /// It panics unless `max_allocs` is at least 2, and `max_allocs` is at most `NI::MAX - 2`, and each
-/// alignment is a power of two.
+/// alignment is at least 1.
 ///
 /// ```
 /// # use offset_calls::*;
@@ -247,6 +247,6 @@ pub fn play_calls<NI: NodeIndex>(
 ) -> Result<Vec<Reply>, AllocError> {
     assert!(2 <= max_allocs, "max_allocs must be at least 2");
     assert!(max_allocs < NI::MAX - 1, "max_allocs must be at most NI::MAX - 2");
-    assert!(calls.iter().all(|call| call.is_valid()), "each alignment must be a power of two");
+    assert!(calls.iter().all(|call| call.is_valid()), "each alignment must be at least 1");
     play_calls_of::<ByNode<NI>>(alloc, size, max_allocs, calls)
 }

@@ -93,7 +93,7 @@ fn refused_call<T: Tables>(space: &AllocatorOf<T>, call: usize, command: Command
 ///
 /// # Panics
 ///
-/// It panics unless an alignment is a power of two.
+/// It panics unless an alignment is at least 1.
 #[track_caller]
 pub fn note<T: Tables>(
     refused: &mut Vec<Refused>,
@@ -102,7 +102,7 @@ pub fn note<T: Tables>(
     command: Command,
     answer: &Answer,
 ) -> Result<(), AllocError> {
-    assert!(!matches!(command, Command::Align(_, align) if !align.is_power_of_two()), "an alignment must be a power of two");
+    assert!(!matches!(command, Command::Align(_, 0)), "an alignment must be at least 1");
     if !is_refusal(answer) {
         return Ok(());
     }

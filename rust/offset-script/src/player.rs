@@ -182,7 +182,7 @@ impl<T: Tables> PlayerOf<T> {
     ///
     /// # Panics
     ///
-    /// It panics unless an alignment is a power of two.
+    /// It panics unless an alignment is at least 1.
     ///
     /// ```
     /// # use offset_allocator::ByNode;
@@ -196,7 +196,7 @@ impl<T: Tables> PlayerOf<T> {
     /// ```
     #[track_caller]
     pub fn call(&mut self, alloc: Global, command: Command) -> Result<Answer, AllocError> {
-        assert!(!matches!(command, Command::Align(_, align) if !align.is_power_of_two()), "an alignment must be a power of two");
+        assert!(!matches!(command, Command::Align(_, 0)), "an alignment must be at least 1");
         match command {
             Command::Alloc(size) => self.allocate(size),
             Command::Free(number) => Ok(self.release(number)),

@@ -102,7 +102,7 @@ impl Listener for Vec<Answer> {
 /// # Panics
 ///
 /// It panics unless `max_allocs` is at least 2, and `max_allocs` is at most `NI::MAX - 2`, and each
-/// alignment is a power of two.
+/// alignment is at least 1.
 ///
 /// ```
 /// # use offset_allocator::ByNode;
@@ -123,7 +123,7 @@ pub fn play_of<T: Tables>(
 ) -> Result<Vec<Answer>, AllocError> {
     assert!(2 <= max_allocs, "max_allocs must be at least 2");
     assert!(max_allocs < T::Index::MAX - 1, "max_allocs must be at most NI::MAX - 2");
-    assert!(commands.iter().all(|c| !matches!(c, Command::Align(_, align) if !align.is_power_of_two())), "each alignment must be a power of two");
+    assert!(commands.iter().all(|c| !matches!(c, Command::Align(_, 0))), "each alignment must be at least 1");
     play_to::<T, Vec<Answer>>(alloc, size, max_allocs, commands)
 }
 
@@ -132,7 +132,7 @@ pub fn play_of<T: Tables>(
 /// # Panics
 ///
 /// It panics unless `max_allocs` is at least 2, and `max_allocs` is at most `NI::MAX - 2`, and each
-/// alignment is a power of two.
+/// alignment is at least 1.
 ///
 /// ```
 /// # use offset_allocator::ByNode;
@@ -153,7 +153,7 @@ pub fn play<NI: NodeIndex>(
 ) -> Result<Vec<Answer>, AllocError> {
     assert!(2 <= max_allocs, "max_allocs must be at least 2");
     assert!(max_allocs < NI::MAX - 1, "max_allocs must be at most NI::MAX - 2");
-    assert!(commands.iter().all(|c| !matches!(c, Command::Align(_, align) if !align.is_power_of_two())), "each alignment must be a power of two");
+    assert!(commands.iter().all(|c| !matches!(c, Command::Align(_, 0))), "each alignment must be at least 1");
     play_of::<ByNode<NI>>(alloc, size, max_allocs, commands)
 }
 

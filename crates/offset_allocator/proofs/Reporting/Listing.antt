@@ -40,7 +40,7 @@ pub placed-push : (o : ℕ) (fs : List Block) (b : Block) → placed o (fs ++ b 
 placed-push o [] b = grind arith
 placed-push o (a ∷ fs) b = grind (arith, placed-push (o + a.size) fs b)
 
-length-placed : (o : ℕ) (bs : List Block) → length (placed o bs) ≡ length bs
+pub length-placed : (o : ℕ) (bs : List Block) → length (placed o bs) ≡ length bs
 length-placed o [] = refl
 length-placed o (b ∷ bs) = ap suc (length-placed (o + b.size) bs)
 

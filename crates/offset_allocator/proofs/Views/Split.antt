@@ -1,6 +1,7 @@
 -- What a split leaves is well formed.
 use Rattle.offset_allocator.proofs.{Sound.well_same, Views.ViewReplaced.well_replaced, Views.ViewApart.apart_granted}
-use Rattle.offset_allocator.proofs.Common.{◌≡◌, ℕ, zero, suc, ◌+◌, ◌<◌, ◌≤◌, Bool, true, false, not, if◌then◌else◌, ◌⊎◌, List, [], ◌∷◌, ◌++◌, length, nat_eq, sym, ap, ap₂, subst, ◌∙◌, arith}
+use Rattle.std.specs.Prelude.{min}
+use Rattle.offset_allocator.proofs.Common.{◌≡◌, ℕ, zero, suc, ◌+◌, ◌<◌, ◌≤◌, refl, Bool, true, false, not, if◌then◌else◌, ◌⊎◌, List, [], ◌∷◌, ◌++◌, length, nat_eq, sym, ap, ap₂, subst, ◌∙◌, arith}
 use Rattle.offset_allocator.proofs.Common.{length-append, append_assoc, Block, View, Handle, one, used_block, count_named, used_of, AreCoalesced, IsWellFormed, IsNew, free_part, replace, push_all}
 use Rattle.offset_allocator.proofs.Common.{remove, down, SameSpace, Splits, common_steps}
 use Rattle.offset_allocator.proofs.Tallies.{tally_three, part_sums, tally_append, hit_cases, units-append, new_absent}
@@ -9,6 +10,14 @@ use Rattle.offset_allocator.proofs.Tallies.{tally_three, part_sums, tally_append
 pub part_room : (y n k : ℕ) → 1 ≤ k → (1 ≤ n → 2 ≤ k) → length (free_part y n) + 1 ≤ k
 part_room y zero k some two = omega (arith, some)
 part_room y (suc n) k some two = omega (arith, two (omega arith))
+
+-- a part is one block, or none
+pub part_length : (y n : ℕ) → length (free_part y n) ≡ min 1 n
+part_length y zero = refl
+part_length y (suc n) = omega arith
+
+pub one_part : (y n : ℕ) → length (free_part y n) ≤ 1
+one_part y n = omega (arith, part_length y n)
 
 pub used_most : (bs : List Block) → used_of bs ≤ length bs
 used_most [] = omega arith
@@ -35,9 +44,10 @@ module _ {needed n : ℕ} {padding_at : ℕ → ℕ} {v u : View} {g : Handle} (
   split_view = s.view ∙ ap₂ (λ parts bins. record v { blocks = s.before ++ (parts ++ s.after); bins = push_all parts bins; unused = u.unused; accesses = u.accesses }) s.made
       (sym (ap (λ (b : Bool). if b then v.bins else remove (down s.block.size) s.block.name v.bins) s.free))
 
-  -- in a space with room for the blocks that it adds
-  pub well_split : (k : ℕ) → IsWellFormed v → length v.blocks + k < v.max_allocs → length (free_part s.padding_name s.padding) + 1 ≤ k → IsWellFormed u
-  well_split k w room parts = well_same (replace v s.before (s.block ∷ []) new s.after) u split_view (well_replaced v s.before (s.block ∷ []) new s.after v.size w
+  -- in a space with room for the blocks that it adds, one at least
+  pub well_divided : (k : ℕ) → IsWellFormed v → length v.blocks + k < v.max_allocs → 1 ≤ k
+      → length (free_part s.padding_name s.padding) + length (free_part s.remainder_name s.remainder) ≤ k → IsWellFormed u
+  well_divided k w room least parts = well_same (replace v s.before (s.block ∷ []) new s.after) u split_view (well_replaced v s.before (s.block ∷ []) new s.after v.size w
       (record {
         list_is = s.blocks;
         some = omega (arith, lengths);
@@ -45,8 +55,8 @@ module _ {needed n : ℕ} {padding_at : ℕ → ℕ} {v u : View} {g : Handle} (
         names = names;
         apart = subst AreCoalesced (sym (simp append_assoc)) (apart_granted s.before s.block s.after s.padding_name s.padding s.block.name n s.remainder_name s.remainder (ap not s.free)
             (subst AreCoalesced s.blocks w.apart));
-        room = omega (arith, room, parts, old_length, new_length, (part_sums s.remainder_name s.remainder).0);
-        few_used = omega (arith, room, parts, used_new, old_length, (part_sums s.remainder_name s.remainder).2, (part_sums s.padding_name s.padding).2, used_most s.before, used_most s.after);
+        room = omega (arith, room, parts, old_length, new_length);
+        few_used = omega (arith, room, least, used_new, old_length, (part_sums s.remainder_name s.remainder).2, (part_sums s.padding_name s.padding).2, used_most s.before, used_most s.after);
       })
       (omega (arith, s.whole, units-append padding (used_block s.block.name n ∷ remainder), (part_sums s.remainder_name s.remainder).1, (part_sums s.padding_name s.padding).1))
       w.fits)
@@ -74,3 +84,7 @@ module _ {needed n : ℕ} {padding_at : ℕ → ℕ} {v u : View} {g : Handle} (
 
       names : (x : ℕ) → 1 ≤ count_named x new → (1 ≤ count_named x (s.block ∷ [])) ⊎ IsNew x v
       names x l = grind (arith, common_steps, part_name, names_new)
+
+  -- with room for the remainder in any case
+  pub well_split : (k : ℕ) → IsWellFormed v → length v.blocks + k < v.max_allocs → length (free_part s.padding_name s.padding) + 1 ≤ k → IsWellFormed u
+  well_split k w room parts = well_divided k w room (omega (arith, parts)) (omega (arith, parts, one_part s.remainder_name s.remainder))

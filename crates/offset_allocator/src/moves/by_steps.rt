@@ -15,7 +15,7 @@ ghost use Rattle.offset_allocator.specs.Moving.Room.{ranges_of};
 ghost use Rattle.offset_allocator.specs.Moving.RoomBySteps.{IsLeastCostBy, MakesRoomBy, names_short};
 ghost use Rattle.offset_allocator.specs.Names.{IsTaken, names_of};
 ghost use Rattle.offset_allocator.specs.Relations.{SameState};
-ghost use Rattle.offset_allocator.specs.Requests.{CanGrant, IsAlignment, blocks_needed, units_needed};
+ghost use Rattle.offset_allocator.specs.Requests.{CanGrant, blocks_needed, units_needed};
 ghost use Rattle.offset_allocator.specs.Store.{AreBinned, IsPlaceIn, bins_of, unused_of};
 ghost use Rattle.offset_allocator.specs.View.{AreInBins, Block, free_block, push, push_all, remove_all, units};
 
@@ -281,7 +281,7 @@ impl<T: Tables> AllocatorOf<T> {
     /// At the node limit a cost may count ranges of the run that stay, since the free blocks before them have no
     /// units.
     ///
-    /// The step has to be at least 1, and `align` a power of two. It makes at most 7 accesses to the tables for
+    /// The step and `align` have to be at least 1. It makes at most 7 accesses to the tables for
     /// each block, 36 for each range of the run, and 60, and takes no memory.
     ///
     /// ```
@@ -301,7 +301,7 @@ impl<T: Tables> AllocatorOf<T> {
         step: u32,
         moved: &mut F,
     ) -> Option<RoomCost>
-        requires power { IsAlignment align }
+        requires alignment { 1 ≤ align }
         requires some { 1 ≤ step }
         requires callable { F.IsAlwaysCallable moved.old }
         // It returns what `room_cost_by` would have returned before.

@@ -4,7 +4,7 @@ ghost use Rattle.std.specs.Prelude.{◌≡◌, ◌+◌, ◌%◌, ◌<◌, ◌≤
 ghost use Rattle.offset_allocator.specs.Accesses.{Costs};
 ghost use Rattle.offset_allocator.specs.Ranges.{Grants, IsLive, size_of};
 ghost use Rattle.offset_allocator.specs.Relations.{SameState};
-ghost use Rattle.offset_allocator.specs.Requests.{IsAlignment, units_needed};
+ghost use Rattle.offset_allocator.specs.Requests.{units_needed};
 ghost use Rattle.offset_allocator.specs.View.{IsWellFormed};
 ghost use Rattle.offset_allocator.specs.Moving.Relocating.{Relocates, RelocatesAligned, WouldBegin, offset_of};
 
@@ -36,7 +36,7 @@ impl<T: Tables> AllocatorOf<T> {
     /// Grants a second range of as many units as that of a live handle, which begins before it, and returns
     /// its handle. The old range stays live until it is freed: so the units can be copied, and the copies do
     /// not overlap, while the old ones are still read. Done for the last ranges of a space (`last_live`,
-    /// `live_before`), it empties the end.
+    /// `live_before`), it empties the end. For a range of no units it is granted one of no units.
     ///
     /// The block is the one that `allocate` takes for these units. `None` is returned where that would refuse
     /// them, or where the block begins after the range; then the space is as it was. The handle has to be
@@ -70,7 +70,7 @@ impl<T: Tables> AllocatorOf<T> {
         self.relocate_to(allocation, 1)
     }
 
-    /// As `relocate`, and the second range begins at a multiple of `align`, a power of two: for a range that
+    /// As `relocate`, and the second range begins at a multiple of `align`, from 1 on: for a range that
     /// was granted so, since it is aligned again where it goes.
     ///
     /// The block is the one that `allocate_aligned` takes for these units and this alignment, of at least
@@ -94,7 +94,7 @@ impl<T: Tables> AllocatorOf<T> {
         align: u32,
     ) -> Option<Allocation<T::Index>>
         requires live { IsLive allocation.name self.old }
-        requires power { IsAlignment align }
+        requires alignment { 1 ≤ align }
         // A grant as of `allocate_aligned`: under a name that was not live, with as many units, and all live
         // ranges stay.
         ensures grants { IfSome result (Grants (size_of allocation.name self.old) self.old self.new) }

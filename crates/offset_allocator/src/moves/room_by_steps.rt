@@ -7,7 +7,7 @@ ghost use Rattle.offset_allocator.specs.Chain.{IsSpace, blocks, first_or};
 ghost use Rattle.offset_allocator.specs.Classes.{value, up};
 ghost use Rattle.offset_allocator.specs.Moving.RoomBySteps.{IsCheapestBy, IsLeastCostBy, Serves, names_short};
 ghost use Rattle.offset_allocator.specs.Moving.Spans.{AreSums, IsBefore, IsLeft};
-ghost use Rattle.offset_allocator.specs.Requests.{CanGrant, IsAlignment, blocks_needed, units_needed};
+ghost use Rattle.offset_allocator.specs.Requests.{CanGrant, blocks_needed, units_needed};
 ghost use Rattle.offset_allocator.specs.View.{Block, units};
 
 use crate::accesses::Accesses;
@@ -229,7 +229,7 @@ pub fn room_cost_by_counted<T: Tables>(
     step: u32,
     count: &mut Accesses,
 ) -> Option<RoomCost>
-    requires power { IsAlignment align }
+    requires alignment { 1 ≤ align }
     requires some { 1 ≤ step }
     ensures cost { IsLeastCostBy step (value (up (units_needed size align)))
         (names_short (blocks_needed align) allocator.now) allocator.now.blocks result }
@@ -283,7 +283,7 @@ impl<T: Tables> AllocatorOf<T> {
     /// node limit a cost may be too high: it counts ranges of the run that stay, since the free blocks before
     /// them have no units.
     ///
-    /// `step` has to be at least 1, and `align` a power of two. It makes at most 7 accesses to the tables for
+    /// `step` and `align` have to be at least 1. It makes at most 7 accesses to the tables for
     /// each block, and 2.
     ///
     /// ```
@@ -296,7 +296,7 @@ impl<T: Tables> AllocatorOf<T> {
     /// assert_eq!(space.room_cost_by(800, 1, 512), None);
     /// ```
     pub fn room_cost_by(&self, size: u32, align: u32, step: u32) -> Option<RoomCost>
-        requires power { IsAlignment align }
+        requires alignment { 1 ≤ align }
         requires some { 1 ≤ step }
         // Of all runs of blocks that begin and end with a free one and serve, one costs this, and none costs
         // less. `None`: no run serves.

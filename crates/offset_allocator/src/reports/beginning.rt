@@ -1,8 +1,8 @@
 //! Where a request would begin, if it were made now. It reads the tables, and changes nothing.
-ghost use Rattle.std.specs.Prelude.{◌≡◌, ◌↔◌, ◌+◌, ℕ, Some, IsSome};
+ghost use Rattle.std.specs.Prelude.{◌≡◌, ◌↔◌, ◌+◌, ◌≤◌, ℕ, Some, IsSome};
 ghost use Rattle.offset_allocator.specs.Accesses.{Costs};
 ghost use Rattle.offset_allocator.specs.Relations.{Aligns};
-ghost use Rattle.offset_allocator.specs.Requests.{CanGrant, IsAlignment, blocks_needed, units_needed};
+ghost use Rattle.offset_allocator.specs.Requests.{CanGrant, blocks_needed, units_needed};
 ghost use Rattle.offset_allocator.specs.Moving.Relocating.{WouldBegin};
 ghost use Rattle.offset_allocator.specs.View.{View, Handle, padding_to};
 
@@ -18,7 +18,7 @@ pub fn would_begin_counted<T: Tables>(
     align: u32,
     count: &mut Accesses,
 ) -> Option<u32>
-    requires power { IsAlignment align }
+    requires alignment { 1 ≤ align }
     ensures granted { IsSome result ↔ CanGrant (blocks_needed align) (units_needed size align) allocator.now }
     ensures begins { (w : View) (g : Handle) → Aligns size align allocator.now w (Some g)
         → result ≡ Some g.offset }
@@ -44,7 +44,7 @@ pub fn would_begin_counted<T: Tables>(
 
 impl<T: Tables> AllocatorOf<T> {
     /// Where the range would begin that `allocate_aligned(size, align)` would grant now, in units from the
-    /// start of the space, or `None` where it would refuse. `align` is a power of two, and 1 asks for
+    /// start of the space, or `None` where it would refuse. `align` is at least 1, and 1 asks for
     /// `allocate`. Nothing is taken; this request, made next, begins there. It makes at most 4 accesses to the
     /// tables.
     ///
@@ -56,7 +56,7 @@ impl<T: Tables> AllocatorOf<T> {
     /// assert_eq!(space.allocate_aligned(100, 256).unwrap().offset, 512);
     /// ```
     pub fn would_begin(&self, size: u32, align: u32) -> Option<u32>
-        requires power { IsAlignment align }
+        requires alignment { 1 ≤ align }
         // `None` exactly where the request would be refused.
         ensures granted { IsSome result
             ↔ CanGrant (blocks_needed align) (units_needed size align) self.now }

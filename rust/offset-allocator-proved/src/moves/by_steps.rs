@@ -178,12 +178,12 @@ impl<T: Tables> AllocatorOf<T> {
     /// At the node limit a cost may count ranges of the run that stay, since the free blocks before them have no
     /// units.
     ///
-    /// The step has to be at least 1, and `align` a power of two. It makes at most 7 accesses to the tables for
+    /// The step and `align` have to be at least 1. It makes at most 7 accesses to the tables for
     /// each block, 36 for each range of the run, and 60, and takes no memory.
     ///
     /// # Panics
     ///
-    /// It panics unless `align` is a power of two, and the step is at least 1.
+    /// It panics unless the alignment is at least 1, and the step is at least 1.
     ///
     /// ```
     /// # use offset_allocator_proved::*;
@@ -207,7 +207,7 @@ impl<T: Tables> AllocatorOf<T> {
         step: u32,
         moved: &mut F,
     ) -> Option<RoomCost> {
-        assert!(align.is_power_of_two(), "align must be a power of two");
+        assert!(1 <= align, "the alignment must be at least 1");
         assert!(1 <= step, "the step must be at least 1");
         if size > u32::MAX - (align - 1) {
             return None;

@@ -26,7 +26,7 @@ impl<T: Tables> AllocatorOf<T> {
     /// Grants a second range of as many units as that of a live handle, which begins before it, and returns
     /// its handle. The old range stays live until it is freed: so the units can be copied, and the copies do
     /// not overlap, while the old ones are still read. Done for the last ranges of a space (`last_live`,
-    /// `live_before`), it empties the end.
+    /// `live_before`), it empties the end. For a range of no units it is granted one of no units.
     ///
     /// The block is the one that `allocate` takes for these units. `None` is returned where that would refuse
     /// them, or where the block begins after the range; then the space is as it was. The handle has to be
@@ -55,7 +55,7 @@ impl<T: Tables> AllocatorOf<T> {
         self.relocate_to(allocation, 1)
     }
 
-    /// As `relocate`, and the second range begins at a multiple of `align`, a power of two: for a range that
+    /// As `relocate`, and the second range begins at a multiple of `align`, from 1 on: for a range that
     /// was granted so, since it is aligned again where it goes.
     ///
     /// The block is the one that `allocate_aligned` takes for these units and this alignment, of at least
@@ -66,7 +66,7 @@ impl<T: Tables> AllocatorOf<T> {
     ///
     /// # Panics
     ///
-    /// It panics unless the handle is live, and `align` is a power of two.
+    /// It panics unless the handle is live, and the alignment is at least 1.
     ///
     /// ```
     /// # use offset_allocator_proved::*;
@@ -88,7 +88,7 @@ impl<T: Tables> AllocatorOf<T> {
         align: u32,
     ) -> Option<Allocation<T::Index>> {
         assert!(self.is_live(allocation), "the handle must be live: {:?}", { allocation });
-        assert!(align.is_power_of_two(), "align must be a power of two");
+        assert!(1 <= align, "the alignment must be at least 1");
         self.relocate_to(allocation, align)
     }
 

@@ -186,7 +186,7 @@ pub(crate) fn cheapest_by<T: Tables>(
 ///
 /// # Panics
 ///
-/// It panics unless `align` is a power of two, and the step is at least 1.
+/// It panics unless the alignment is at least 1, and the step is at least 1.
 #[track_caller]
 pub fn room_cost_by_counted<T: Tables>(
     allocator: &AllocatorOf<T>,
@@ -195,7 +195,7 @@ pub fn room_cost_by_counted<T: Tables>(
     step: u32,
     count: &mut Accesses,
 ) -> Option<RoomCost> {
-    assert!(align.is_power_of_two(), "align must be a power of two");
+    assert!(1 <= align, "the alignment must be at least 1");
     assert!(1 <= step, "the step must be at least 1");
     let tables = &allocator.store.tables;
     let blocks = align.min(2);
@@ -242,12 +242,12 @@ impl<T: Tables> AllocatorOf<T> {
     /// node limit a cost may be too high: it counts ranges of the run that stay, since the free blocks before
     /// them have no units.
     ///
-    /// `step` has to be at least 1, and `align` a power of two. It makes at most 7 accesses to the tables for
+    /// `step` and `align` have to be at least 1. It makes at most 7 accesses to the tables for
     /// each block, and 2.
     ///
     /// # Panics
     ///
-    /// It panics unless `align` is a power of two, and the step is at least 1.
+    /// It panics unless the alignment is at least 1, and the step is at least 1.
     ///
     /// ```
     /// # use offset_allocator_proved::*;
@@ -264,7 +264,7 @@ impl<T: Tables> AllocatorOf<T> {
     /// ```
     #[track_caller]
     pub fn room_cost_by(&self, size: u32, align: u32, step: u32) -> Option<RoomCost> {
-        assert!(align.is_power_of_two(), "align must be a power of two");
+        assert!(1 <= align, "the alignment must be at least 1");
         assert!(1 <= step, "the step must be at least 1");
         room_cost_by_counted(self, size, align, step, &mut Accesses::new())
     }

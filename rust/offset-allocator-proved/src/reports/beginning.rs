@@ -11,7 +11,7 @@ use crate::{AllocatorOf, bins};
 ///
 /// # Panics
 ///
-/// It panics unless `align` is a power of two.
+/// It panics unless the alignment is at least 1.
 #[track_caller]
 pub fn would_begin_counted<T: Tables>(
     allocator: &AllocatorOf<T>,
@@ -19,7 +19,7 @@ pub fn would_begin_counted<T: Tables>(
     align: u32,
     count: &mut Accesses,
 ) -> Option<u32> {
-    assert!(align.is_power_of_two(), "align must be a power of two");
+    assert!(1 <= align, "the alignment must be at least 1");
     let tables = &allocator.store.tables;
     if allocator.unused_nodes() <= align.min(2) {
         return None;
@@ -36,13 +36,13 @@ pub fn would_begin_counted<T: Tables>(
 
 impl<T: Tables> AllocatorOf<T> {
     /// Where the range would begin that `allocate_aligned(size, align)` would grant now, in units from the
-    /// start of the space, or `None` where it would refuse. `align` is a power of two, and 1 asks for
+    /// start of the space, or `None` where it would refuse. `align` is at least 1, and 1 asks for
     /// `allocate`. Nothing is taken; this request, made next, begins there. It makes at most 4 accesses to the
     /// tables.
     ///
     /// # Panics
     ///
-    /// It panics unless `align` is a power of two.
+    /// It panics unless the alignment is at least 1.
     ///
     /// ```
     /// # use offset_allocator_proved::*;
@@ -57,7 +57,7 @@ impl<T: Tables> AllocatorOf<T> {
     /// ```
     #[track_caller]
     pub fn would_begin(&self, size: u32, align: u32) -> Option<u32> {
-        assert!(align.is_power_of_two(), "align must be a power of two");
+        assert!(1 <= align, "the alignment must be at least 1");
         would_begin_counted(self, size, align, &mut Accesses::new())
     }
 }

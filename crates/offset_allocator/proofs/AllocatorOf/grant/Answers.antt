@@ -122,7 +122,7 @@ done g c p holds k f e =
     let room = subst (HasRoomFor (blocks_needed c.args.align))
     (sym c.self.view_is) c.requires.enough in
     rw (e, oe) (granted p c.args.size (padding_to c.args.align) holds (blocks_needed c.args.align) room (omega (arith, c.requires.some))
-    (two c.args.align) _ _ _ _ _ (rw (oe, we) at place) c.divide.ensures.binned (rw (oe, we, c.pop-name.ensures.lists) at c.divide.ensures.lists)
+    (omega (arith, c.requires.some, two c.args.align (units (got p).place.before))) _ _ _ _ _ (rw (oe, we) at place) c.divide.ensures.binned (rw (oe, we, c.pop-name.ensures.lists) at c.divide.ensures.lists)
     (rw (kept_unused c.pop-name.ensures.chain, oe, we) at (c.divide.ensures.unused _ _ h)))
 
 pub invariant_of-self : goal.invariant_of-self

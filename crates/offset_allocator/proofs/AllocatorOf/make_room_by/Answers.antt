@@ -1,4 +1,4 @@
-use Rattle.offset_allocator.proofs.{Classes.below_value_up, Moving.Packed.live_sizes, Powers.not_zero, Sound.Fields, Sound.shown, Sound.fields_of, Sound.known_sound, Taken.HasFit}
+use Rattle.offset_allocator.proofs.{Classes.below_value_up, Moving.Packed.live_sizes, Sound.Fields, Sound.shown, Sound.fields_of, Sound.known_sound, Taken.HasFit}
 use Rattle.offset_allocator.proofs.Moving.Stepped.{split_filed, split_few, split_steps}
 use Rattle.offset_allocator.proofs.Moving.RoomsBySteps.{class_few, class_needed, found_by, found_cost, found_none, found_run, opened_at, opened_back, opened_few, opened_granted, opened_grants, opened_makes}
 use Rattle.offset_allocator.proofs.Moving.RoomsBySteps.{opened_short, opened_slides, past_by, slides_by_live}
@@ -8,27 +8,27 @@ use Rattle.offset_allocator.specs.Moving.RoomBySteps.{names_short}
 use Rattle.offset_allocator.proofs.AllocatorOf.make_room_by.Goals as goal
 
 pub overflow_sub-align : goal.overflow_sub-align
-overflow_sub-align g c = not_zero c.args.align c.requires.power
+overflow_sub-align g c = c.requires.alignment
 
 pub overflow_sub-align-3 : goal.overflow_sub-align-3
-overflow_sub-align-3 g c = not_zero c.args.align c.requires.power
+overflow_sub-align-3 g c = c.requires.alignment
 
 pub returns-then-size-align-clause-cost : goal.returns-then-size-align-clause-cost
 returns-then-size-align-clause-cost g c =
     past_by c.args.step (units_needed c.args.size c.args.align) (names_short (blocks_needed c.args.align) c.args.self.now) c.args.self.now c.formed.ensures
-    (omega (arith, c.if-size-align.true, not_zero c.args.align c.requires.power))
+    (omega (arith, c.if-size-align.true, c.requires.alignment))
 
 pub find_at_or_above-found-requires-clause-classed : goal.find_at_or_above-found-requires-clause-classed
 find_at_or_above-found-requires-clause-classed g c = omega (
   arith,
-  (below_value_up (c.args.size + (c.args.align - 1)) (omega (arith, c.if-size-align.false, not_zero c.args.align c.requires.power))).1,
+  (below_value_up (c.args.size + (c.args.align - 1)) (omega (arith, c.if-size-align.false, c.requires.alignment))).1,
   c.uint_to_float_round_up-class.ensures.is,
 )
 
 pub float_to_uint-requires : goal.float_to_uint-requires
 float_to_uint-requires g c = omega (
   arith,
-  (below_value_up (c.args.size + (c.args.align - 1)) (omega (arith, c.if-size-align.false, not_zero c.args.align c.requires.power))).1,
+  (below_value_up (c.args.size + (c.args.align - 1)) (omega (arith, c.if-size-align.false, c.requires.alignment))).1,
   c.uint_to_float_round_up-class.ensures.is,
 )
 
@@ -40,7 +40,7 @@ fit n k v ls (Some c) e o f s = (c, omega (arith, e, f.0), λ q. f.2 (ap (λ (l 
 pub returns-then-is_some-clause-cost : goal.returns-then-is_some-clause-cost
 returns-then-is_some-clause-cost g c =
     let room : HasRoomFor (blocks_needed c.args.align) c.args.self.now = omega (arith, c.if-unused-blocks.true, c.min-blocks.ensures, c.unused_nodes-unused.ensures) in
-    let up_is = class_needed c.args.size c.args.align c.uint_to_float_round_up-class.result (not_zero c.args.align c.requires.power) c.uint_to_float_round_up-class.ensures.is in
+    let up_is = class_needed c.args.size c.args.align c.uint_to_float_round_up-class.result c.requires.alignment c.uint_to_float_round_up-class.ensures.is in
     found_by c.args.step (blocks_needed c.args.align) (units_needed c.args.size c.args.align) c.args.self.now c.formed.ensures room
     (fit (units_needed c.args.size c.args.align) c.uint_to_float_round_up-class.result c.args.self.now _ c.find_at_or_above-found.result up_is (ap (λ (u : View). u.bins) c.self.view_is)
     c.find_at_or_above-found.ensures.smallest (sym c.is_some.ensures ∙ c.if-is_some.true))
@@ -49,7 +49,7 @@ pub returns-then-is_some-clause-granted : goal.returns-then-is_some-clause-grant
 returns-then-is_some-clause-granted g c =
     let f : Fields = fields_of g.T.Tables.cells g.T.Index.NodeIndex.MAX c.self.inside in
     let room : HasRoomFor (blocks_needed c.args.align) c.args.self.now = omega (arith, c.if-unused-blocks.true, c.min-blocks.ensures, c.unused_nodes-unused.ensures) in
-    let up_is = class_needed c.args.size c.args.align c.uint_to_float_round_up-class.result (not_zero c.args.align c.requires.power) c.uint_to_float_round_up-class.ensures.is in (
+    let up_is = class_needed c.args.size c.args.align c.uint_to_float_round_up-class.result c.requires.alignment c.uint_to_float_round_up-class.ensures.is in (
       subst (HasRoomFor (blocks_needed c.args.align)) (sym c.self.view_is) room,
       fit (units_needed c.args.size c.args.align) c.uint_to_float_round_up-class.result (shown f) _ c.find_at_or_above-found.result up_is refl
           c.find_at_or_above-found.ensures.smallest (sym c.is_some.ensures ∙ c.if-is_some.true),
@@ -59,7 +59,7 @@ pub returns-then-uint_to_float_round_down-class-clause-cost : goal.returns-then-
 returns-then-uint_to_float_round_down-class-clause-cost g c =
     class_few (fields_of g.T.Tables.cells g.T.Index.NodeIndex.MAX c.self.inside) c.self.invariant c.args.self.now c.self.view_is c.formed.ensures (units_needed c.args.size c.args.align)
     c.uint_to_float_round_up-class.result c.uint_to_float_round_down.result
-    (class_needed c.args.size c.args.align c.uint_to_float_round_up-class.result (not_zero c.args.align c.requires.power) c.uint_to_float_round_up-class.ensures.is)
+    (class_needed c.args.size c.args.align c.uint_to_float_round_up-class.result c.requires.alignment c.uint_to_float_round_up-class.ensures.is)
     c.uint_to_float_round_down.ensures.is c.args.step (names_short (blocks_needed c.args.align) c.args.self.now) c.if-uint_to_float_round_down-class.true
 
 pub returns-in_err-run-clause-cost : goal.returns-in_err-run-clause-cost
@@ -68,7 +68,7 @@ returns-in_err-run-clause-cost g c =
     let t = c.args.step in
     let k = blocks_needed c.args.align in
     let n = units_needed c.args.size c.args.align in
-    let up_is = class_needed c.args.size c.args.align c.uint_to_float_round_up-class.result (not_zero c.args.align c.requires.power) c.uint_to_float_round_up-class.ensures.is in
+    let up_is = class_needed c.args.size c.args.align c.uint_to_float_round_up-class.result c.requires.alignment c.uint_to_float_round_up-class.ensures.is in
     let short_is : c.saturating_sub-short.result ≡ names_short k c.args.self.now = omega (arith, c.saturating_sub-short.ensures, c.min-blocks.ensures, c.unused_nodes-unused.ensures) in
     let none = found_none f c.self.invariant c.args.self.now c.self.view_is c.formed.ensures n c.uint_to_float_round_up-class.result c.uint_to_float_round_down.result up_is c.uint_to_float_round_down.ensures.is
     t k c.float_to_uint.result c.saturating_sub-short.result c.if-uint_to_float_round_down-class.false c.float_to_uint.ensures.is short_is c.in_err-run.ensures.run in
@@ -80,7 +80,7 @@ returns-then-run-eq0-clause-cost g c =
     let t = c.args.step in
     let k = blocks_needed c.args.align in
     let n = units_needed c.args.size c.args.align in
-    let up_is = class_needed c.args.size c.args.align c.uint_to_float_round_up-class.result (not_zero c.args.align c.requires.power) c.uint_to_float_round_up-class.ensures.is in
+    let up_is = class_needed c.args.size c.args.align c.uint_to_float_round_up-class.result c.requires.alignment c.uint_to_float_round_up-class.ensures.is in
     let short_is : c.saturating_sub-short.result ≡ names_short k c.args.self.now = omega (arith, c.saturating_sub-short.ensures, c.min-blocks.ensures, c.unused_nodes-unused.ensures) in
     found_cost f c.self.invariant c.args.self.now c.self.view_is c.formed.ensures n c.uint_to_float_round_up-class.result c.uint_to_float_round_down.result up_is c.uint_to_float_round_down.ensures.is
     t k c.float_to_uint.result c.saturating_sub-short.result c.if-uint_to_float_round_down-class.false c.float_to_uint.ensures.is short_is c.in_ok-run.run' c.in_ok-run.ensures.run
@@ -91,7 +91,7 @@ returns-then-run-eq0-clause-granted g c =
     let t = c.args.step in
     let k = blocks_needed c.args.align in
     let n = units_needed c.args.size c.args.align in
-    let up_is = class_needed c.args.size c.args.align c.uint_to_float_round_up-class.result (not_zero c.args.align c.requires.power) c.uint_to_float_round_up-class.ensures.is in
+    let up_is = class_needed c.args.size c.args.align c.uint_to_float_round_up-class.result c.requires.alignment c.uint_to_float_round_up-class.ensures.is in
     let short_is : c.saturating_sub-short.result ≡ names_short k c.args.self.now = omega (arith, c.saturating_sub-short.ensures, c.min-blocks.ensures, c.unused_nodes-unused.ensures) in
     let want = value (up n) in
     let short = names_short k c.args.self.now in
@@ -108,7 +108,7 @@ slide_run-requires-clause-place g c =
     let t = c.args.step in
     let k = blocks_needed c.args.align in
     let n = units_needed c.args.size c.args.align in
-    let up_is = class_needed c.args.size c.args.align c.uint_to_float_round_up-class.result (not_zero c.args.align c.requires.power) c.uint_to_float_round_up-class.ensures.is in
+    let up_is = class_needed c.args.size c.args.align c.uint_to_float_round_up-class.result c.requires.alignment c.uint_to_float_round_up-class.ensures.is in
     let short_is : c.saturating_sub-short.result ≡ names_short k c.args.self.now = omega (arith, c.saturating_sub-short.ensures, c.min-blocks.ensures, c.unused_nodes-unused.ensures) in
     let want = value (up n) in
     let short = names_short k c.args.self.now in
@@ -133,7 +133,7 @@ invariant_of-self-2 g c =
     let t = c.args.step in
     let k = blocks_needed c.args.align in
     let n = units_needed c.args.size c.args.align in
-    let up_is = class_needed c.args.size c.args.align c.uint_to_float_round_up-class.result (not_zero c.args.align c.requires.power) c.uint_to_float_round_up-class.ensures.is in
+    let up_is = class_needed c.args.size c.args.align c.uint_to_float_round_up-class.result c.requires.alignment c.uint_to_float_round_up-class.ensures.is in
     let short_is : c.saturating_sub-short.result ≡ names_short k c.args.self.now = omega (arith, c.saturating_sub-short.ensures, c.min-blocks.ensures, c.unused_nodes-unused.ensures) in
     let want = value (up n) in
     let short = names_short k c.args.self.now in
@@ -153,7 +153,7 @@ returns g c =
     let t = c.args.step in
     let k = blocks_needed c.args.align in
     let n = units_needed c.args.size c.args.align in
-    let up_is = class_needed c.args.size c.args.align c.uint_to_float_round_up-class.result (not_zero c.args.align c.requires.power) c.uint_to_float_round_up-class.ensures.is in
+    let up_is = class_needed c.args.size c.args.align c.uint_to_float_round_up-class.result c.requires.alignment c.uint_to_float_round_up-class.ensures.is in
     let short_is : c.saturating_sub-short.result ≡ names_short k c.args.self.now = omega (arith, c.saturating_sub-short.ensures, c.min-blocks.ensures, c.unused_nodes-unused.ensures) in
     let want = value (up n) in
     let short = names_short k c.args.self.now in

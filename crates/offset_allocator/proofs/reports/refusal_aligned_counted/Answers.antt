@@ -1,7 +1,7 @@
 use Rattle.offset_allocator.proofs.Common.{◌≡◌, ◌∙◌, ◌<◌, ◌≤◌, ◌+◌, ◌-◌, ◌^◌, ℕ, [], max, sum, subst, ap, arith, inl, inr, cases_lt, get_or_past, View, free_sizes, value, up, down, CanGrant}
 use Rattle.offset_allocator.proofs.Common.{size_needed, blocks_needed, units_needed, common_steps}
 use Rattle.offset_allocator.proofs.Classes.{past_words, down_law, value_small, below_value_up}
-use Rattle.offset_allocator.proofs.{Sound.Fields, Sound.fields_of, Sound.known_sound, Advice.free_within, Advice.too_small, Powers.not_zero, Refusals.is_open, Refusals.total_is}
+use Rattle.offset_allocator.proofs.{Sound.Fields, Sound.fields_of, Sound.known_sound, Advice.free_within, Advice.too_small, Refusals.is_open, Refusals.total_is}
 use Rattle.offset_allocator.proofs.reports.refusal_aligned_counted.Goals as goal
 
 -- the class that is searched from is that of the units needed
@@ -25,7 +25,7 @@ enough n s k d h e f l =
     omega (arith, a, b, ap value e, value_small 1 (omega arith))
 
 pub returns-then-units-clause-why : goal.returns-then-units-clause-why
-returns-then-units-clause-why g c = grind (arith, known_sound, not_zero, past_words)
+returns-then-units-clause-why g c = grind (arith, known_sound, past_words)
 
 pub returns-then-units-clause-granted : goal.returns-then-units-clause-granted
 returns-then-units-clause-granted g c =
@@ -34,7 +34,7 @@ returns-then-units-clause-granted g c =
 
 pub returns-then-largest-smallest-clause-why : goal.returns-then-largest-smallest-clause-why
 returns-then-largest-smallest-clause-why g c =
-    let low = low_is c.args.size c.args.align _ (not_zero c.args.align c.requires.power) c.uint_to_float_round_up-smallest.ensures.is in
+    let low = low_is c.args.size c.args.align _ c.requires.alignment c.uint_to_float_round_up-smallest.ensures.is in
     let size = ap (λ (v : View). v.size) c.allocator.view_is in
     grind (arith, common_steps, cases_lt)
 
@@ -48,13 +48,13 @@ find_at_or_above-requires-clause-classed g c = omega (arith, (below_value_up (c.
 
 pub returns-in-Some-clause-granted : goal.returns-in-Some-clause-granted
 returns-in-Some-clause-granted g c =
-    let low = low_is c.args.size c.args.align _ (not_zero c.args.align c.requires.power) c.uint_to_float_round_up-smallest.ensures.is in
+    let low = low_is c.args.size c.args.align _ c.requires.alignment c.uint_to_float_round_up-smallest.ensures.is in
     grind (arith, common_steps, is_open)
 
 -- where no bin from the class on has a block
 refused : goal.returns-then-uint_to_float_round_down-max-clause-granted
 refused g c =
-    let low = low_is c.args.size c.args.align _ (not_zero c.args.align c.requires.power) c.uint_to_float_round_up-smallest.ensures.is in
+    let low = low_is c.args.size c.args.align _ c.requires.alignment c.uint_to_float_round_up-smallest.ensures.is in
     let P : View → Type 0 = λ u. CanGrant (blocks_needed c.args.align) (units_needed c.args.size c.args.align) u → ⊥ in
     let none = subst P c.allocator.view_is (λ h. elim (cases_lt h.1.0 256)
     [ inl l ↦ h.1.2 (c.in-None.ensures.smallest h.1.0 (omega (arith, h.1.1)) l) | inr l ↦ h.1.2 (get_or_past _ h.1.0 [] (omega arith)) ]) in
@@ -67,7 +67,7 @@ pub returns-then-uint_to_float_round_down-max-clause-why : goal.returns-then-uin
 returns-then-uint_to_float_round_down-max-clause-why g c =
     let f : Fields = fields_of g.T.Tables.cells g.T.Index.NodeIndex.MAX c.allocator.inside in
     let known = known_sound f c.allocator.invariant c.args.allocator.now c.allocator.view_is in
-    let low = low_is c.args.size c.args.align _ (not_zero c.args.align c.requires.power) c.uint_to_float_round_up-smallest.ensures.is in
+    let low = low_is c.args.size c.args.align _ c.requires.alignment c.uint_to_float_round_up-smallest.ensures.is in
     let free = total_is f c.allocator.invariant 0 0 ∙ ap (λ (v : View). sum (free_sizes v.blocks)) c.allocator.view_is in
     let size = ap (λ (v : View). v.size) c.allocator.view_is in
     let total = few (units_needed c.args.size c.args.align) c.allocator.inside.free_total c.uint_to_float_round_up-smallest.result c.uint_to_float_round_down.result
@@ -77,7 +77,7 @@ returns-then-uint_to_float_round_down-max-clause-why g c =
 
 pub returns-else-uint_to_float_round_down-max-clause-granted : goal.returns-else-uint_to_float_round_down-max-clause-granted
 returns-else-uint_to_float_round_down-max-clause-granted g c =
-    let low = low_is c.args.size c.args.align _ (not_zero c.args.align c.requires.power) c.uint_to_float_round_up-smallest.ensures.is in
+    let low = low_is c.args.size c.args.align _ c.requires.alignment c.uint_to_float_round_up-smallest.ensures.is in
     let P : View → Type 0 = λ u. CanGrant (blocks_needed c.args.align) (units_needed c.args.size c.args.align) u → ⊥ in
     let none = subst P c.allocator.view_is (λ h. elim (cases_lt h.1.0 256)
     [ inl l ↦ h.1.2 (c.in-None.ensures.smallest h.1.0 (omega (arith, h.1.1)) l) | inr l ↦ h.1.2 (get_or_past _ h.1.0 [] (omega arith)) ]) in
@@ -87,7 +87,7 @@ pub returns-else-uint_to_float_round_down-max-clause-why : goal.returns-else-uin
 returns-else-uint_to_float_round_down-max-clause-why g c =
     let f : Fields = fields_of g.T.Tables.cells g.T.Index.NodeIndex.MAX c.allocator.inside in
     let known = known_sound f c.allocator.invariant c.args.allocator.now c.allocator.view_is in
-    let low = low_is c.args.size c.args.align _ (not_zero c.args.align c.requires.power) c.uint_to_float_round_up-smallest.ensures.is in
+    let low = low_is c.args.size c.args.align _ c.requires.alignment c.uint_to_float_round_up-smallest.ensures.is in
     let free = total_is f c.allocator.invariant 0 0 ∙ ap (λ (v : View). sum (free_sizes v.blocks)) c.allocator.view_is in
     let total = enough (units_needed c.args.size c.args.align) c.allocator.inside.free_total c.uint_to_float_round_up-smallest.result c.uint_to_float_round_down.result
     (omega (arith, free, free_within c.args.allocator.now known.0, known.0.fits)) low c.uint_to_float_round_down.ensures.is

@@ -1,5 +1,5 @@
 use Rattle.offset_allocator.proofs.Common.{ap, arith, refl, sym, ◌∙◌, sum, View, free_sizes, HasRoomFor, blocks_needed}
-use Rattle.offset_allocator.proofs.{Powers.not_zero, Sound.Fields, Sound.fields_of, Holding.chosen_is, Holding.holder, Holding.none_holds, Holding.hold_fits}
+use Rattle.offset_allocator.proofs.{Sound.Fields, Sound.fields_of, Holding.chosen_is, Holding.holder, Holding.none_holds, Holding.hold_fits}
 use Rattle.offset_allocator.specs.Tight.{first_holding}
 use Rattle.offset_allocator.proofs.tight.refusal_tight_aligned_counted.Goals as goal
 
@@ -9,7 +9,7 @@ returns-then-size-allocator-clause-granted g c =
     (λ e. absurd (cc), λ h. absurd (omega (arith, hold_fits v c.formed.ensures c.args.size c.args.align h, c.if-size-allocator.true, ap (λ (u : View). u.size) c.allocator.view_is)))
 
 pub choose-requires-clause-some : goal.choose-requires-clause-some
-choose-requires-clause-some g c = not_zero c.args.align c.requires.power
+choose-requires-clause-some g c = c.requires.alignment
 
 pub returns-in-Some-clause-granted : goal.returns-in-Some-clause-granted
 returns-in-Some-clause-granted g c =

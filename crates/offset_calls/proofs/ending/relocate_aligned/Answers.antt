@@ -1,5 +1,4 @@
-use Rattle.offset_calls.proofs.Common.{sym, subst, inl, inr, refl, kept_name, IsKept}
-use Rattle.offset_allocator.proofs.Powers.{not_zero}
+use Rattle.offset_calls.proofs.Common.{sym, subst, refl, kept_name, leb-true, IsKept}
 use Rattle.offset_script.proofs.Simulation.{if_some}
 use Rattle.offset_script.proofs.Held.{held_granted, may_be_kept}
 use Rattle.offset_script.specs.Steps.{AreHeld, MayBeKept}
@@ -29,6 +28,6 @@ returns-clause-takes g c =
     subst (λ u. RelocatesAligned c.in-Some.handle.name c.args.align v u second) (sym c.in_ok-keep.ensures.space) c.relocate_aligned-second.ensures.step in
     let kept : IsKept second hs c.keep.new.self.handles.items (answer_view c.in_ok-keep.field-0) =
     subst (λ l. IsKept second l c.keep.new.self.handles.items (answer_view c.in_ok-keep.field-0)) c.reserve.ensures.items c.in_ok-keep.ensures.handle in (
-      not_zero c.args.align (inr (inl c.requires.valid)),
+      leb-true 1 c.args.align c.requires.valid,
       if_some (kept_name hs c.args.number) c.in-Some.handle.name _ _ (sym c.in-Some.ensures.name) (second, _, step, kept, refl),
     )

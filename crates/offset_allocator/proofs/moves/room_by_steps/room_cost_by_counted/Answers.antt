@@ -1,4 +1,4 @@
-use Rattle.offset_allocator.proofs.{Classes.below_value_up, Powers.not_zero, Sound.Fields, Sound.fields_of, Taken.HasFit}
+use Rattle.offset_allocator.proofs.{Classes.below_value_up, Sound.Fields, Sound.fields_of, Taken.HasFit}
 use Rattle.offset_allocator.proofs.Moving.RoomsBySteps.{class_few, class_needed, found_by, found_cost, found_none, past_by}
 use Rattle.offset_allocator.proofs.Moving.RoomAdvice.{granted_by}
 use Rattle.offset_allocator.proofs.Common.{◌≡◌, ◌+◌, ◌-◌, ◌∙◌, ℕ, List, Option, Some, None, is_some, true, bin_at, sym, ap, subst, arith, up, value, View, HasRoomFor, blocks_needed, units_needed}
@@ -9,7 +9,7 @@ use Rattle.offset_allocator.proofs.moves.room_by_steps.room_cost_by_counted.Goal
 pub returns-then-units-clause-cost : goal.returns-then-units-clause-cost
 returns-then-units-clause-cost g c =
     past_by c.args.step (units_needed c.args.size c.args.align) (names_short (blocks_needed c.args.align) c.args.allocator.now) c.args.allocator.now c.formed.ensures
-    (omega (arith, c.if-units.true, not_zero c.args.align c.requires.power))
+    (omega (arith, c.if-units.true, c.requires.alignment))
 
 pub find_at_or_above-requires-clause-classed : goal.find_at_or_above-requires-clause-classed
 find_at_or_above-requires-clause-classed g c = omega (arith, (below_value_up (c.args.size + (c.args.align - 1)) (omega arith)).1, c.uint_to_float_round_up-class.ensures.is)
@@ -26,7 +26,7 @@ pub returns-then-is_some-clause-cost : goal.returns-then-is_some-clause-cost
 returns-then-is_some-clause-cost g c =
     let v : View = c.args.allocator.now in
     let room : HasRoomFor (blocks_needed c.args.align) v = omega (arith, c.if-unused-blocks.true, c.min-blocks.ensures, c.unused_nodes-unused.ensures) in
-    let up_is = class_needed c.args.size c.args.align c.uint_to_float_round_up-class.result (not_zero c.args.align c.requires.power) c.uint_to_float_round_up-class.ensures.is in
+    let up_is = class_needed c.args.size c.args.align c.uint_to_float_round_up-class.result c.requires.alignment c.uint_to_float_round_up-class.ensures.is in
     found_by c.args.step (blocks_needed c.args.align) (units_needed c.args.size c.args.align) v c.formed.ensures room
     (fit (units_needed c.args.size c.args.align) c.uint_to_float_round_up-class.result v _ c.find_at_or_above.result up_is (ap (λ (u : View). u.bins) c.allocator.view_is)
     c.find_at_or_above.ensures.smallest (sym c.is_some.ensures ∙ c.if-is_some.true))
@@ -35,7 +35,7 @@ pub returns-then-uint_to_float_round_down-class-clause-cost : goal.returns-then-
 returns-then-uint_to_float_round_down-class-clause-cost g c =
     class_few (fields_of g.T.Tables.cells g.T.Index.NodeIndex.MAX c.allocator.inside) c.allocator.invariant c.args.allocator.now c.allocator.view_is c.formed.ensures (units_needed c.args.size c.args.align)
     c.uint_to_float_round_up-class.result c.uint_to_float_round_down.result
-    (class_needed c.args.size c.args.align c.uint_to_float_round_up-class.result (not_zero c.args.align c.requires.power) c.uint_to_float_round_up-class.ensures.is)
+    (class_needed c.args.size c.args.align c.uint_to_float_round_up-class.result c.requires.alignment c.uint_to_float_round_up-class.ensures.is)
     c.uint_to_float_round_down.ensures.is c.args.step (names_short (blocks_needed c.args.align) c.args.allocator.now) c.if-uint_to_float_round_down-class.true
 
 pub returns-in_err-run-clause-cost : goal.returns-in_err-run-clause-cost
@@ -44,7 +44,7 @@ returns-in_err-run-clause-cost g c =
     let v : View = c.args.allocator.now in
     let k = blocks_needed c.args.align in
     let n = units_needed c.args.size c.args.align in
-    let up_is = class_needed c.args.size c.args.align c.uint_to_float_round_up-class.result (not_zero c.args.align c.requires.power) c.uint_to_float_round_up-class.ensures.is in
+    let up_is = class_needed c.args.size c.args.align c.uint_to_float_round_up-class.result c.requires.alignment c.uint_to_float_round_up-class.ensures.is in
     let short_is : c.saturating_sub-short.result ≡ names_short k v = omega (arith, c.saturating_sub-short.ensures, c.min-blocks.ensures, c.unused_nodes-unused.ensures) in
     let none = found_none f c.allocator.invariant v c.allocator.view_is c.formed.ensures n c.uint_to_float_round_up-class.result c.uint_to_float_round_down.result up_is
     c.uint_to_float_round_down.ensures.is c.args.step k c.float_to_uint.result c.saturating_sub-short.result c.if-uint_to_float_round_down-class.false c.float_to_uint.ensures.is short_is
@@ -57,7 +57,7 @@ returns-clause-cost g c =
     let v : View = c.args.allocator.now in
     let k = blocks_needed c.args.align in
     let n = units_needed c.args.size c.args.align in
-    let up_is = class_needed c.args.size c.args.align c.uint_to_float_round_up-class.result (not_zero c.args.align c.requires.power) c.uint_to_float_round_up-class.ensures.is in
+    let up_is = class_needed c.args.size c.args.align c.uint_to_float_round_up-class.result c.requires.alignment c.uint_to_float_round_up-class.ensures.is in
     let short_is : c.saturating_sub-short.result ≡ names_short k v = omega (arith, c.saturating_sub-short.ensures, c.min-blocks.ensures, c.unused_nodes-unused.ensures) in
     found_cost f c.allocator.invariant v c.allocator.view_is c.formed.ensures n c.uint_to_float_round_up-class.result c.uint_to_float_round_down.result up_is c.uint_to_float_round_down.ensures.is
     c.args.step k c.float_to_uint.result c.saturating_sub-short.result c.if-uint_to_float_round_down-class.false c.float_to_uint.ensures.is short_is c.in_ok-run.run' c.in_ok-run.ensures.run
