@@ -16,17 +16,18 @@ function toggle() {
 }
 const to = p => { stop(); go(p); };
 L.calls = new List('calls', drawCall, i => to(S.run.shown ? S.run.refusals[i] : i + 1));
-L.ranges = new List('ranges', drawRange, i => { const b = ranges[i]; pointer = null; chosenIs(b); to(S.run.born.list[b.k]); });
+L.ranges = new List('ranges', drawRange, i => { const b = rangeAt(i); pointer = null; chosenIs(b); to(S.run.born.list[b.k]); });
 for (const by of Object.keys(SORTS)) {
   const b = document.createElement('button'); b.textContent = by; b.dataset.by = by;
-  b.onclick = () => { sorted = by; showRanges(S.run.view(S.p)); }; $('sorts').append(b); }
+  b.onclick = () => sortBy(by); $('sorts').append(b); }
 for (const name of Object.keys(TAKES)) {
   const b = document.createElement('button'); b.id = 'act-' + name; b.textContent = name; b.onclick = () => act(name); $('acts').append(b); }
 for (const name of Object.keys(TRACES)) $('trace').add(new Option(titleOf(name), name), $('trace').length - 1);
 $('first').onclick = () => to(0); $('last').onclick = () => to(S.run.count);
 $('back').onclick = () => to(S.p - 1); $('next').onclick = () => to(S.p + 1);
 $('rback').onclick = () => refusal(-1); $('rnext').onclick = () => refusal(1);
-$('play').onclick = toggle; $('at').oninput = () => to($('at').valueAsNumber);
+$('play').onclick = toggle; $('at').oninput = () => { isMoving = true; to($('at').valueAsNumber); };
+$('at').onchange = () => { isMoving = false; to($('at').valueAsNumber); };
 $('row').onchange = () => {
   const p = $('row').valueAsNumber;
   if (Number.isInteger(p) && p >= 0 && p <= S.run.count) return to(p);
@@ -72,9 +73,9 @@ $('compare').onclick = () => compare(['xsize', 'xnodes', 'xunit', 'xcompact'].ma
   const v = $(id).value.trim(); return /^\d{1,10}$/.test(v) && v <= LARGEST ? Number(v) : -1; }));
 $('xback').onclick = () => to(S.other.rows.findLast(r => r < S.p)); $('xnext').onclick = () => to(S.other.rows.find(r => r > S.p));
 // The pointer.
-$('space').onpointermove = event => { pointer = event; draw(); };
-$('space').onpointerleave = () => { pointer = null; draw(); };
-$('space').onclick = event => { pointer = event; const b = chosenBlock(S.run.view(S.p)); if (b) chosenIs(b); };
+$('space').onpointermove = event => { pointer = event; showSpace(); };
+$('space').onpointerleave = () => { pointer = null; showSpace(); };
+$('space').onclick = event => { pointer = event; const b = chosenBlock(); if (b) chosenIs(b); };
 for (const id of ['life', 'lifeA']) {
   let begun = null;
   const there = event => to(rowAt(event, id, S.run.count)), isTouch = event => event.pointerType === 'touch';
@@ -86,7 +87,7 @@ for (const id of ['life', 'lifeA']) {
   $(id).onclick = there;
 }
 $('bins').onpointermove = $('bins').onclick = event => {
-  const c = binAt(event), n = c < 0 ? 0 : S.run.view(S.p).bins[c];
+  const c = binAt(event), n = c < 0 ? 0 : S.run.view(S.p).free.bins[c];
   $('bin').textContent = c < 0 ? '' : c >= BINS ? `Class ${c}: larger than any space.` :
     `Class ${c}: blocks of ${sizesOf(c)} units; ${counted(n, 'free block')}.`; };
 // The keys, wherever the focus is, but in text: what each does.

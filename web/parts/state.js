@@ -115,27 +115,19 @@ function act(name) {
   }
   stop(); say('');
   const { run, base, p } = S, kept = run === base ? p : Math.min(p, run.kept);
-  edit(kept, [...run.edits.slice(0, p - kept), [NAMES.indexOf(name), values[0] || 0, values[1] || 0]]);
+  return edit(kept, [...run.edits.slice(0, p - kept), [NAMES.indexOf(name), values[0] || 0, values[1] || 0]]);
 }
-function edit(kept, edits) {
-  S.past.push({ kept: S.run.kept, edits: S.run.edits, p: S.p, isBase: S.run === S.base }); S.ahead = [];
-  set({ kept, edits, p: kept + edits.length });
-}
-function set({ kept, edits, p, isBase }) {
-  try { S.run = isBase ? S.base : S.base.branch(kept, edits); } catch (fault) {
-    say(fault instanceof Fault ? fault.message : 'out of memory', true); return; }
+const edit = (kept, edits) => set({ kept, edits, p: kept + edits.length }, () => [S.past, S.ahead = []]);
+// Puts another course in place of the run; what was before goes to the list that `left` returns.
+async function set({ kept, edits, p, isBase }, left) {
+  const { base } = S, was = { kept: S.run.kept, edits: S.run.edits, p: S.p, isBase: S.run === base };
+  const run = isBase ? base : await during('Playing', work => base.branch(kept, edits, work));
+  if (!run || S.base !== base) return;
+  left()[0].push(was); S.run = run;
   showNames(); dropOther(); go(p);
 }
-function undo(from, to) {
-  if (!from.length) return;
-  to.push({ kept: S.run.kept, edits: S.run.edits, p: S.p, isBase: S.run === S.base });
-  set(from.pop());
-}
-function original() {
-  if (S.run === S.base) return;
-  const p = Math.min(S.p, S.run.kept);
-  S.past.push({ kept: S.run.kept, edits: S.run.edits, p: S.p }); set({ isBase: true, p });
-}
+function undo(from, to) { if (from.length) return set(from.at(-1), () => { from.pop(); return [to]; }); }
+function original() { if (S.run !== S.base) return set({ isBase: true, p: Math.min(S.p, S.run.kept) }, () => [S.past]); }
 // The next refusal after the position, or the one before it.
 function refusal(step) {
   const list = S.run.refusals, p = step > 0 ? list.find(r => r > S.p) : list.findLast(r => r < S.p);
@@ -199,7 +191,7 @@ async function restore() {
         if (i + 2 >= c.length || c[i] > 10 || (c[i] === 1 && !isPower(c[i + 2]))) throw Error();
         edits.push(c.slice(i, i + 3)); }
       if (kept > S.base.count) throw Error();
-      S.run = S.base.branch(kept, edits); showNames();
+      S.run = await during('Playing', work => S.base.branch(kept, edits, work)) || S.run; showNames();
     }
     if (q.has('x')) await compare(numbersOf(q.get('x')));
     const filters = q.get('f') || '';
