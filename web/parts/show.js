@@ -105,7 +105,7 @@ function describe(b) {
   const run = S.run;
   $('goto').hidden = !(b && b.k);
   if (b) $('goto').textContent = `Go to row ${whole(run.born.list[b.k] || 0)}`;
-  if (b && b.k) $('goto').onclick = () => { pointer = null; S.grant = b.k; stop(); go(run.born.list[b.k]); };
+  if (b && b.k) $('goto').onclick = () => { pointer = null; S.grant = b.k; jump(run.born.list[b.k]); };
   tell('block', !b ? (S.grant ? `${named(run, S.grant)} is not live here.` : 'Point at a block, or choose one by the keys b and B.') :
     (b.k ? named(run, b.k).replace('g', 'G') : 'Free') + ` at ${whole(b.o)}: ${units(b.n)}, class ${classOf(b.n)} (${sizesOf(classOf(b.n))})` +
     (b.k ? `, live since row ${whole(run.born.list[b.k])}.` : '.'));
