@@ -1,5 +1,5 @@
 // Puts a state on the page: all that depends on the position.
-let pointer = null, isMoving = false, listed = 0, rest = 0, following = 0, whyOf = [];
+let pointer = null, isMoving = false, listed = 0, rest = 0, following = 0, whyOf = [], helps = [];
 // What is told again unchanged would be announced again.
 const FOLLOWS = 250, FEW = 8;
 const tell = (id, text) => { if ($(id).textContent !== text) $(id).textContent = text; };
@@ -54,6 +54,8 @@ const shownUnits = () => S.zoom || [0, Math.max(1, S.run.sizeAt(S.p))];
 function showSpace() {
   const { run, p } = S, r = p ? run.row(p - 1) : null, chosen = chosenBlock(), marked = [];
   if (r && (r[0] === ANSWER.grant || r[0] === ANSWER.resized)) marked.push([r[2], r[3], [], colors().mark]);
+  if (isRefusal(run, p) && whyOf[0] === run && whyOf[1] === p)
+    for (const { outline: [o, n, isDashed] } of helps.filter(h => h.outline)) marked.push([o, n, isDashed ? [6, 4] : [], colors().mark]);
   if (chosen) marked.push([chosen.o, chosen.n, [4, 3], colors().fg]);
   drawSpace('space', run, p, ...shownUnits(), marked);
   describe(chosen);
@@ -85,13 +87,29 @@ function why(run, p) {
     do { if (whyOf !== of) return; found = steps.next(); } while (isSmall && !found.done);
     if (found.done) { run.copy = null; told(found.value); } else setTimeout(next);
   };
-  if (!isSmall) told({ title: `Row ${whole(p)}: ${said(...run.call(p - 1))} is refused`, facts: [REASONS[run.row(p - 1)[7]] || ''], helps: ['being tried'] });
+  if (!isSmall) told({ title: `Row ${whole(p)}: ${said(...run.call(p - 1))} is refused`, facts: [REASONS[run.row(p - 1)[7]] || ''], helps: [{ text: 'being tried' }] });
   next();
 }
 function told(e) {
   $('whytitle').textContent = e.title;
-  const fill = (id, texts) => $(id).replaceChildren(...texts.map(t => { const li = document.createElement('li'); li.textContent = t; return li; }));
-  fill('facts', e.facts); fill('helps', e.helps);
+  const fill = (id, parts) => $(id).replaceChildren(...parts.map(part => { const li = document.createElement('li'); li.append(part); return li; }));
+  fill('facts', e.facts);
+  // what would have helped is a button that shows it
+  fill('helps', e.helps.map(help => {
+    if (!(help.calls && help.calls.every(([op]) => KINDS[op].length <= 2)) && !help.nodes) return help.text;
+    const button = document.createElement('button');
+    button.textContent = help.text; button.title = help.nodes ? 'Compares with a run of so many nodes' : 'Shows the space after it';
+    button.onclick = () => showHelp(help);
+    return button;
+  }));
+  helps = e.helps; showSpace();
+}
+// The space as it would be with what helps: its calls in place of the refused one, or the run with more nodes beside this one.
+async function showHelp({ calls, nodes }) {
+  stop(); say('');
+  if (!nodes) return edit(...added(S.p - 1, calls));
+  await compare([S.run.head[0], nodes, 1, COMPACT.asIs]);
+  $('compared').scrollIntoView({ block: 'nearest' });
 }
 // The block that is chosen: by the pointer, by keys or by a click.
 function chosenBlock() {

@@ -139,8 +139,12 @@ function act(name) {
     values.push(v);
   }
   stop(); say('');
-  const { run, base, p } = S, kept = run === base ? p : Math.min(p, run.kept);
-  return edit(kept, [...run.edits.slice(0, p - kept), [NAMES.indexOf(name), values[0] || 0, values[1] || 0]]);
+  return edit(...added(S.p, [[NAMES.indexOf(name), ...values]]));
+}
+// How many calls of the original stay where calls are added at a position, and the user's after these.
+function added(p, calls) {
+  const { run, base } = S, kept = run === base ? p : Math.min(p, run.kept);
+  return [kept, [...run.edits.slice(0, p - kept), ...calls.map(([op, a = 0, b = 0]) => [op, a, b])]];
 }
 const edit = (kept, edits) => set({ kept, edits, p: kept + edits.length }, () => [S.past, S.ahead = []]);
 // Puts another course in place of the run; what was before goes to the list that `left` returns.
@@ -199,6 +203,7 @@ async function link() {
   try { await navigator.clipboard.writeText(location.href); say(`The link to this state is copied: ${size}.${long}`); }
   catch { say(`The link to this state is in the address bar: ${size}.${long}`); }
 }
+const ADDED = [...Array(11).keys(), OP.tight, OP.room, OP.retract];
 const numbersOf = text => text.split('.').map(x => { if (!/^\d{1,10}$/.test(x) || Number(x) > LARGEST) throw Error(); return Number(x); });
 const oneOf = text => { const n = numbersOf(text); if (n.length !== 1) throw Error(); return n[0]; };
 async function restore() {
@@ -213,7 +218,7 @@ async function restore() {
     if (q.get('c')) {
       const kept = oneOf(q.get('kept') || ''), c = numbersOf(q.get('c')), edits = [];
       for (let i = 0; i < c.length; i += 3) {
-        if (i + 2 >= c.length || c[i] > 10 || (c[i] === 1 && !isPower(c[i + 2]))) throw Error();
+        if (i + 2 >= c.length || !ADDED.includes(c[i]) || (c[i] === 1 && !isPower(c[i + 2]))) throw Error();
         edits.push(c.slice(i, i + 3)); }
       if (kept > S.base.count) throw Error();
       S.run = await during('Playing', work => S.base.branch(kept, edits, work)) || S.run; showNames();
