@@ -63,6 +63,8 @@ trait Space {
     fn allocate(&mut self, size: u32, align: u32) -> Option<Self::Grant>;
     fn refusal_tight(&self, size: u32, align: u32) -> Option<Refusal>;
     fn allocate_tight(&mut self, size: u32, align: u32) -> Option<Self::Grant>;
+    /// Requests these units from this offset on. Spaces with tickets have no such call.
+    fn allocate_at(&mut self, offset: u32, size: u32) -> Option<Self::Grant>;
     fn free(&mut self, grant: Self::Grant);
     fn shrink(&mut self, grant: Self::Grant, size: u32) -> bool;
     fn grow_in_place(&mut self, grant: Self::Grant, size: u32) -> bool;
@@ -122,6 +124,10 @@ impl<T: Tables> Space for AllocatorOf<T> {
         } else {
             self.allocate_tight_aligned(size, align)
         }
+    }
+
+    fn allocate_at(&mut self, offset: u32, size: u32) -> Option<Self::Grant> {
+        self.allocate_at(offset, size)
     }
 
     fn free(&mut self, grant: Self::Grant) {
@@ -222,6 +228,10 @@ impl<T: Tables> Space for GuardedOf<T> {
         } else {
             self.allocate_tight_aligned(size, align)
         }
+    }
+
+    fn allocate_at(&mut self, _: u32, _: u32) -> Option<Ticket> {
+        panic!("there is no such call with tickets");
     }
 
     fn free(&mut self, grant: Ticket) {
@@ -358,12 +368,53 @@ impl<G: Copy> Model<G> {
     }
 
     fn padding(&self, place: usize, align: u32) -> u32 {
-        self.offset(place).wrapping_neg() % align
+        (align - self.offset(place) % align) % align
     }
 
-    /// Splits a free block, and returns the place of the one of `size` units.
+    /// Splits a free block at a multiple, and returns the place of the one of `size` units.
     fn split(&mut self, place: usize, size: u32, align: u32) -> usize {
-        let padding = self.padding(place, align);
+        self.cut(place, self.padding(place, align), size)
+    }
+
+    /// The place of the last free block that has these units from this offset on.
+    fn free_at(&self, offset: u32, size: u32) -> Option<usize> {
+        let (begin, end) = (u64::from(offset), u64::from(offset) + u64::from(size));
+        let holds = |place: &usize| {
+            let block = &self.blocks[*place];
+            let first = u64::from(self.offset(*place));
+            block.live.is_none() && first <= begin && end <= first + u64::from(block.size)
+        };
+        (0..self.blocks.len()).rev().find(holds)
+    }
+
+    /// Grants a request for these units from this offset on, as `request` does.
+    fn request_at(&mut self, offset: u32, size: u32) -> Option<usize> {
+        let place = self.free_at(offset, size)?;
+        let padding = offset - self.offset(place);
+        let added = u32::from(padding > 0) + u32::from(padding + size < self.blocks[place].size);
+        self.has_room_for(added.max(1)).then(|| self.cut(place, padding, size))
+    }
+
+    /// The place of the last live range that has one of these units, or, where either has no unit, lies within the other.
+    fn in_the_way(&self, offset: u32, size: u32) -> Option<usize> {
+        let (begin, end) = (u64::from(offset), u64::from(offset) + u64::from(size));
+        let is_in_the_way = |place: &usize| {
+            let (first, units) = (u64::from(self.offset(*place)), u64::from(self.blocks[*place].size));
+            let last = first + units;
+            self.blocks[*place].live.is_some()
+                && if size == 0 {
+                    first < begin && begin < last
+                } else if units == 0 {
+                    begin < first && first < end
+                } else {
+                    begin.max(first) < end.min(last)
+                }
+        };
+        (0..self.blocks.len()).rev().find(is_in_the_way)
+    }
+
+    /// Splits a free block behind these units, and returns the place of the one of `size` units.
+    fn cut(&mut self, place: usize, padding: u32, size: u32) -> usize {
         let rest = self.blocks[place].size - padding - size;
         let padding_block = self.free_block(padding);
         let rest_block = self.free_block(rest);
@@ -501,6 +552,29 @@ impl<G: Copy> Model<G> {
         block.size.saturating_sub(random.below(4))
     }
 
+    /// All units of a block; or an offset beside its start, or any one, and units up to its end, or any.
+    fn any_place(&self, random: &mut Random) -> (u32, u32) {
+        let place = random.below(self.blocks.len() as u32) as usize;
+        let (begin, block) = (self.offset(place), self.blocks[place].size);
+        if random.below(6) == 0 {
+            return (begin, block);
+        }
+        let offset = match random.below(8) {
+            0 => random.next() as u32,
+            1 => begin.saturating_sub(random.below(4)),
+            2..=4 => begin.saturating_add(random.below(4)),
+            _ => begin + random.below(block.saturating_add(1)),
+        };
+        let to_its_end = begin.saturating_add(block).saturating_sub(offset);
+        let size = match random.below(4) {
+            0 => random.units(self.size()),
+            1 => to_its_end,
+            2 => to_its_end.saturating_sub(random.below(4)).saturating_add(random.below(3)),
+            _ => random.below(to_its_end.saturating_add(1)),
+        };
+        (offset, size)
+    }
+
     /// The places of the live ranges.
     fn live(&self) -> Vec<usize> {
         (0..self.blocks.len()).filter(|place| self.blocks[*place].live.is_some()).collect()
@@ -529,6 +603,12 @@ struct Met {
     compacted_at_the_limit: u64,
     shrunk: u64,
     grown: u64,
+    /// Requests at an offset: granted with 0 to 2 blocks added, refused for nodes, or since no free block holds them, and
+    /// those for which a live range is in the way.
+    at_grants: [u64; 3],
+    at_no_nodes: u64,
+    at_refusals: u64,
+    in_the_way: u64,
 }
 
 struct Pair<S: Space> {
@@ -565,18 +645,52 @@ impl<S: Space> Pair<S> {
             met.reasons[usize::from(is_tight)][why as usize] += 1;
         }
         let expected = if is_tight { self.model.request_tight(size, align) } else { self.model.request(size, align) };
+        met.refusals += u64::from(found.is_none());
+        met.grants += u64::from(found.is_some());
+        self.keep(found, expected, size);
+    }
+
+    /// Keeps a grant that has its handle, and the place of its block.
+    fn keep(&mut self, found: Option<S::Grant>, expected: Option<usize>, size: u32) {
         let (Some(grant), Some(place)) = (found, expected) else {
             assert!(found.is_none() && expected.is_none());
-            met.refusals += 1;
             return;
         };
         let offset = self.model.offset(place);
         assert_eq!(grant, S::at(grant, offset));
-        met.grants += 1;
         self.grants += 1;
         let range = Range { grant, number: self.grants };
         self.model.blocks[place].live = Some(range);
         self.write(range, offset, 0, size);
+    }
+
+    /// What is at an offset, of all spaces, and a request for it, of those with handles.
+    fn allocate_at(&mut self, offset: u32, size: u32, met: &mut Met) {
+        let space = self.space.allocator();
+        let is_free = self.model.free_at(offset, size).is_some();
+        assert_eq!(space.is_free_at(offset, size), is_free);
+        for (units, found) in [(size, space.in_the_way(offset, size)), (1, space.handle_at(offset))] {
+            let expected = self.model.in_the_way(offset, units);
+            let grant = expected.map(|place| S::at(self.model.blocks[place].live.unwrap().grant, self.model.offset(place)));
+            assert_eq!(found.map(|handle| self.space.grant(handle).unwrap()), grant);
+            met.in_the_way += u64::from(found.is_some());
+            assert!(units != size || grant.is_none() || !is_free, "a free block holds them, and something is in the way");
+        }
+        if S::IS_GUARDED {
+            return;
+        }
+        let blocks = self.model.blocks.len();
+        let found = self.space.allocate_at(offset, size);
+        let expected = self.model.request_at(offset, size);
+        match found {
+            Some(_) => {
+                met.grants += 1;
+                met.at_grants[self.model.blocks.len() - blocks] += 1;
+            }
+            None if is_free => met.at_no_nodes += 1,
+            None => met.at_refusals += 1,
+        }
+        self.keep(found, expected, size);
     }
 
     /// Writes the pattern of a range at its bytes from `start` to `end`.
@@ -719,14 +833,19 @@ impl<S: Space> Pair<S> {
     fn call(&mut self, random: &mut Random, met: &mut Met) {
         let live = self.model.live();
         let size = random.units(self.model.size());
-        match random.below(36) {
-            0..=11 => {
+        match random.below(43) {
+            0..=11 | 40..=42 => {
                 let is_tight = random.below(4) == 0;
                 let size = if is_tight && random.below(2) == 0 { self.model.any_size(random) } else { size };
                 self.allocate(size, 1, is_tight, met);
             }
             12..=15 => {
-                let align = if random.below(8) == 0 { 1 << random.below(32) } else { 1 << random.below(5) };
+                let align = match random.below(8) {
+                    0 if random.below(4) == 0 => 1 + random.below(u32::MAX),
+                    0 => 1 << random.below(32),
+                    1..=3 => 1 + random.below(40),
+                    _ => 1 << random.below(5),
+                };
                 let is_tight = random.below(3) == 0;
                 let size = if is_tight && random.below(2) == 0 { self.model.any_size(random) } else { size };
                 self.allocate(size, align, is_tight, met);
@@ -740,6 +859,10 @@ impl<S: Space> Pair<S> {
                 let held = self.model.blocks[place].size;
                 let size = if random.below(2) == 0 { size } else { held.saturating_add(random.below(9)).saturating_sub(random.below(9)) };
                 self.resize(place, size, met);
+            }
+            36..=39 => {
+                let (offset, size) = self.model.any_place(random);
+                self.allocate_at(offset, size, met);
             }
             _ => self.check_bytes(),
         }
@@ -802,6 +925,8 @@ fn each_space_and_a_list_of_blocks_agree() {
         assert!(met.moves > 2 * count && met.overlapping_moves > count, "{met:?}");
         assert!(met.compacted_at_the_limit > count / 50, "{met:?}");
         assert!(met.shrunk > count / 2 && met.grown > count / 4, "{met:?}");
+        assert!(met.at_grants.iter().all(|n| *n > count / 12) && met.at_no_nodes > count / 50, "{met:?}");
+        assert!(met.at_refusals > count / 4 && met.in_the_way > count, "{met:?}");
     };
     std::thread::scope(|scope| {
         for first in 0..THREADS {

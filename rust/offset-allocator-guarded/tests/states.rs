@@ -57,7 +57,7 @@ impl<T: Tables<Index = u32>> Worked<T> {
                 self.grant(granted)
             }
             (3, _) => {
-                let granted = self.space.allocate_aligned(size, 1 << random.below(6));
+                let granted = self.space.allocate_aligned(size, 1 + random.below(40));
                 self.grant(granted)
             }
             (4, _) => {

@@ -308,6 +308,17 @@ impl<T: Tables> Run<T> {
         }
     }
 
+    // An alignment: in one of so many calls a power of two, or any number, else 1.
+    fn align(&mut self, calls: u64, bits: u64) -> u32 {
+        if self.numbers.below(calls) > 0 {
+            1
+        } else if self.numbers.below(2) == 0 {
+            1 << self.numbers.below(bits)
+        } else {
+            1 + self.numbers.below(1 << bits) as u32
+        }
+    }
+
     fn run(&mut self, calls: u64) {
         for call in 0..calls {
             match self.numbers.below(100) {
@@ -318,7 +329,7 @@ impl<T: Tables> Run<T> {
                         2..=4 => self.limits.size / 2 + self.numbers.below(self.limits.size as u64) as u32,
                         _ => 1 + self.numbers.below(self.limits.size as u64 / 4) as u32,
                     };
-                    let align = if self.numbers.below(3) == 0 { 1 << self.numbers.below(8) } else { 1 };
+                    let align = self.align(3, 8);
                     self.allocate(size, align);
                 }
                 40..=89 => self.free(),
@@ -329,7 +340,7 @@ impl<T: Tables> Run<T> {
                 98 if self.numbers.below(4) == 0 => self.pass(),
                 98 | 99 => {
                     let place = self.place();
-                    let align = if self.numbers.below(2) == 0 { 1 << self.numbers.below(6) } else { 1 };
+                    let align = self.align(2, 6);
                     self.relocate(place, align);
                     let number = self.numbers.below(self.model.len() as u64 + 2) as u32;
                     self.walk(number);

@@ -76,27 +76,27 @@ fn grown_after_it_was_freed() {
 }
 
 #[test]
-#[should_panic(expected = "align must be a power of two")]
-fn asked_of_an_alignment_of_3() {
-    let _ = space().refusal_aligned(1, 3);
+#[should_panic(expected = "the alignment must be at least 1")]
+fn asked_of_an_alignment_of_0() {
+    let _ = space().refusal_aligned(1, 0);
 }
 
 #[test]
-#[should_panic(expected = "align must be a power of two")]
+#[should_panic(expected = "the alignment must be at least 1")]
 fn asked_of_no_alignment() {
     let _ = laws::refusal_aligned_counted(&space(), 1, 0, &mut Accesses::new());
 }
 
 #[test]
-#[should_panic(expected = "align must be a power of two")]
+#[should_panic(expected = "the alignment must be at least 1")]
 fn aligned_to_nothing() {
     space().allocate_aligned(1, 0);
 }
 
 #[test]
-#[should_panic(expected = "align must be a power of two")]
-fn aligned_to_three() {
-    space().allocate_aligned(1, 3);
+#[should_panic(expected = "the alignment must be at least 1")]
+fn asked_where_nothing_is_aligned_to() {
+    let _ = space().would_begin(1, 0);
 }
 
 #[test]

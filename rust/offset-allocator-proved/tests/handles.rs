@@ -167,19 +167,20 @@ fn a_panic_names_the_line_of_the_call_and_the_handle() {
     a.free(h);
     let name = h.to_parts().1;
     let dead = format!("the handle must be live: Allocation {{ offset: 10, metadata: {name} }}");
-    let align = "align must be a power of two";
+    let align = "the alignment must be at least 1";
     macro_rules! expect { ($message:expr, $call:expr) => {
         assert_eq!(panics(|| { let _ = $call; }), (file!().to_string(), line!(), $message.to_string()));
     } }
     expect!(dead, a.free(h));
     expect!(dead, a.shrink(h, 1));
     expect!(dead, a.grow_in_place(h, 30));
-    expect!(align, a.allocate_aligned(1, 3));
+    expect!(align, a.allocate_aligned(1, 0));
     expect!(align, a.refusal_aligned(1, 0));
-    expect!(align, a.allocate_tight_aligned(1, 3));
+    expect!(align, a.allocate_tight_aligned(1, 0));
     expect!(align, a.refusal_tight_aligned(1, 0));
-    expect!(align, laws::refusal_tight_aligned_counted(&a, 1, 6, &mut Accesses::new()));
-    expect!(align, laws::refusal_aligned_counted(&a, 1, 6, &mut Accesses::new()));
+    expect!(align, a.would_begin(1, 0));
+    expect!(align, laws::refusal_tight_aligned_counted(&a, 1, 0, &mut Accesses::new()));
+    expect!(align, laws::refusal_aligned_counted(&a, 1, 0, &mut Accesses::new()));
     expect!("max_allocs must be at least 2", Allocator::<u32>::with_max_allocs(Global, 1, 1));
     expect!("max_allocs must be at least 2", Allocator::<Three>::new(Global, 1));
     expect!("max_allocs must be at most NI::MAX - 2", Allocator::<u16>::with_max_allocs(Global, 1, 65_534));

@@ -27,6 +27,15 @@ impl Random {
             _ => u32::MAX - (number >> (bits / 2)),
         }
     }
+
+    /// An alignment: a power of two, a small number, 0 too, or any one.
+    fn align(&mut self) -> u32 {
+        match self.below(4) {
+            0 => self.any(),
+            1 => self.below(1000),
+            _ => 1 << self.below(32),
+        }
+    }
 }
 
 /// The result of a call, or the message of its panic.
@@ -105,13 +114,13 @@ impl<NI: NodeIndex> Pair<NI> {
             }
             4..=5 => {
                 let size = if random.below(2) == 0 { random.any() } else { random.below(self.size / 8 + 2) };
-                let align = if random.below(3) == 0 { random.any() } else { 1 << random.below(32) };
-                let (is_power, message) = (align.count_ones() == 1, "align must be a power of two");
-                let refusal = expect(result(|| self.space.refusal_aligned(size, align)), is_power, message);
+                let align = random.align();
+                let (is_some, message) = (align >= 1, "the alignment must be at least 1");
+                let refusal = expect(result(|| self.space.refusal_aligned(size, align)), is_some, message);
                 let counted = result(|| laws::refusal_aligned_counted(&self.space, size, align, &mut count));
-                assert_eq!(expect(counted, is_power, message), refusal);
+                assert_eq!(expect(counted, is_some, message), refusal);
                 let found = result(|| self.space.allocate_aligned(size, align));
-                if let Some(found) = expect(found, is_power, message) {
+                if let Some(found) = expect(found, is_some, message) {
                     assert_eq!(found.is_none(), refusal.unwrap().is_some());
                     handles.extend(found);
                     self.grant(found, size, align);
@@ -186,13 +195,13 @@ impl<NI: NodeIndex> Pair<NI> {
             }
             15..=16 => {
                 let size = if random.below(2) == 0 { random.any() } else { random.below(self.size / 4 + 2) };
-                let align = if random.below(3) == 0 { random.any() } else { 1 << random.below(32) };
-                let (is_power, message) = (align.count_ones() == 1, "align must be a power of two");
-                let refusal = expect(result(|| self.space.refusal_tight_aligned(size, align)), is_power, message);
+                let align = random.align();
+                let (is_some, message) = (align >= 1, "the alignment must be at least 1");
+                let refusal = expect(result(|| self.space.refusal_tight_aligned(size, align)), is_some, message);
                 let counted = result(|| laws::refusal_tight_aligned_counted(&self.space, size, align, &mut count));
-                assert_eq!(expect(counted, is_power, message), refusal);
+                assert_eq!(expect(counted, is_some, message), refusal);
                 let found = result(|| self.space.allocate_tight_aligned(size, align));
-                if let Some(found) = expect(found, is_power, message) {
+                if let Some(found) = expect(found, is_some, message) {
                     assert_eq!(found.is_none(), refusal.unwrap().is_some());
                     handles.extend(found);
                     self.grant(found, size, align);
@@ -203,6 +212,23 @@ impl<NI: NodeIndex> Pair<NI> {
                 let found = result(|| self.space.allocate_tight(size)).unwrap();
                 assert_eq!(found.is_none(), refusal.is_some());
                 assert!(size == 0 || found.is_some() == (has_room && size <= most));
+                handles.extend(found);
+                self.grant(found, size, 1);
+            }
+            17 => {
+                let offset = if random.below(2) == 0 { random.any() } else { random.below(self.size.saturating_add(1)) };
+                let size = if random.below(2) == 0 { random.any() } else { random.below(self.size / 8 + 2) };
+                let is_free = result(|| self.space.is_free_at(offset, size)).unwrap();
+                assert_eq!(laws::is_free_at_counted(&self.space, offset, size, &mut count), is_free);
+                let way = result(|| self.space.in_the_way(offset, size)).unwrap();
+                assert_eq!(laws::in_the_way_counted(&self.space, offset, size, &mut count), way);
+                assert_eq!(result(|| self.space.handle_at(offset)).unwrap(), self.space.in_the_way(offset, 1));
+                let found = result(|| self.space.allocate_at(offset, size)).unwrap();
+                assert!(found.is_none() || is_free && way.is_none());
+                if let Some(handle) = found {
+                    assert_eq!(handle.offset, offset);
+                    assert!(size == 0 || self.space.in_the_way(offset, size) == found);
+                }
                 handles.extend(found);
                 self.grant(found, size, 1);
             }

@@ -220,7 +220,11 @@ fn try_one<T: Tables<Index = u32>>(random: &mut Random, seen: &mut Seen) {
             2 => size_of(random),
             _ => random.below(space.free_units().max(1)),
         };
-        let align = if random.below(2) == 0 { 1 } else { 1 << random.below(9) };
+        let align = match random.below(4) {
+            0 | 1 => 1,
+            2 => 1 << random.below(9),
+            _ => 1 + random.below(300),
+        };
         let request = Request { size, align, limit: space.max_allocs() as usize };
         let wanted = searched(&before, request, step);
         let found = space.room_cost_by(size, align, step);

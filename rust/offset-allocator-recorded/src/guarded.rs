@@ -26,10 +26,10 @@ impl<T: Tables, W: Write> Recorded<GuardedOf<T>, W> {
         Some(found)
     }
 
-    /// `GuardedOf::allocate_aligned`: `align` has to be a power of two. For another one it panics, and writes nothing.
+    /// `GuardedOf::allocate_aligned`: `align` has to be at least 1. For 0 it panics, and writes nothing.
     #[track_caller]
     pub fn allocate_aligned(&mut self, size: u32, align: u32) -> Option<Ticket> {
-        self.check(align.is_power_of_two(), "align must be a power of two");
+        self.check(align >= 1, "the alignment must be at least 1");
         self.tape.write(format_args!("align {size} {align}"));
         let found = self.space.allocate_aligned(size, align)?;
         self.tape.grant(found.name);
@@ -47,7 +47,7 @@ impl<T: Tables, W: Write> Recorded<GuardedOf<T>, W> {
     /// `GuardedOf::allocate_tight_aligned`: as `allocate_aligned`.
     #[track_caller]
     pub fn allocate_tight_aligned(&mut self, size: u32, align: u32) -> Option<Ticket> {
-        self.check(align.is_power_of_two(), "align must be a power of two");
+        self.check(align >= 1, "the alignment must be at least 1");
         self.tape.write(format_args!("tight {size} {align}"));
         let found = self.space.allocate_tight_aligned(size, align)?;
         self.tape.grant(found.name);
@@ -80,11 +80,11 @@ impl<T: Tables, W: Write> Recorded<GuardedOf<T>, W> {
         Some(found)
     }
 
-    /// `GuardedOf::relocate_aligned`: `align` has to be a power of two. For another one it panics, and writes nothing; for a
+    /// `GuardedOf::relocate_aligned`: `align` has to be at least 1. For 0 it panics, and writes nothing; for a
     /// ticket that is not live, `relocate 0` is written.
     #[track_caller]
     pub fn relocate_aligned(&mut self, ticket: Ticket, align: u32) -> Option<Ticket> {
-        self.check(align.is_power_of_two(), "align must be a power of two");
+        self.check(align >= 1, "the alignment must be at least 1");
         self.tape.write(format_args!("relocate {} {align}", self.number(ticket)));
         let found = self.space.relocate_aligned(ticket, align)?;
         self.tape.grant(found.name);
@@ -138,11 +138,10 @@ impl<T: Tables, W: Write> Recorded<GuardedOf<T>, W> {
         self.space.make_room(size, moved)
     }
 
-    /// `GuardedOf::make_room_by`: `align` has to be a power of two, and `step` at least 1. For others it panics, and writes
-    /// nothing.
+    /// `GuardedOf::make_room_by`: `align` and `step` have to be at least 1. For 0 it panics, and writes nothing.
     #[track_caller]
     pub fn make_room_by<F: FnMut(Move<T::Index>)>(&mut self, size: u32, align: u32, step: u32, moved: &mut F) -> Option<RoomCost> {
-        self.check(align.is_power_of_two(), "align must be a power of two");
+        self.check(align >= 1, "the alignment must be at least 1");
         self.check(step >= 1, "step must be at least 1");
         self.tape.write(format_args!("room {size} {align} {step}"));
         self.space.make_room_by(size, align, step, moved)

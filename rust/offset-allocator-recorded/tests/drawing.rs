@@ -203,7 +203,7 @@ fn every_range_is_painted() {
 
 #[test]
 fn faults() {
-    for text in ["", "# x\n", "space 9 nodes 1 index 16\n", "space 9 nodes 9 index 16\nalloc 1\nmove 1\n", "space 9 nodes 9 index 16\nalign 1 3"] {
+    for text in ["", "# x\n", "space 9 nodes 1 index 16\n", "space 9 nodes 9 index 16\nalloc 1\nmove 1\n", "space 9 nodes 9 index 16\nalign 1 0"] {
         let fault = draw("t", text.as_bytes()).unwrap_err();
         assert_eq!(Err::<(), RunFault>(fault), play(text.as_bytes(), &mut Vec::new()), "{text:?}");
     }

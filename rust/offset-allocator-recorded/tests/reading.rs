@@ -39,7 +39,7 @@ fn random_texts() {
     let heads = ["space 1000 nodes 32 index 32", "space 0 nodes 2 index 16", "space 9 nodes 1 index 16", "space 9 nodes 65534 index 16",
         "space 9 nodes 65533 index 16", "space 4294967296 nodes 8 index 32", "space 9 nodes 8 index 8", "space 9  nodes 8 index 32", " space"];
     let lines = ["alloc 10", "alloc 300", "alloc 0", "alloc", "alloc 1 2", "alloc x", "alloc -1", "alloc 00000000001", "alloc 4294967295",
-        "alloc 4294967296", "align 10 8", "align 10 3", "align 10 0", "align 10", "free 1", "free 2", "free 0", "size 1", "size 9", "report",
+        "alloc 4294967296", "align 10 8", "align 10 0", "align 10", "free 1", "free 2", "free 0", "size 1", "size 9", "report",
         "report 1", "full", "reset", "extend 7", "extend 4294967295", "", "# a remark", "#", " alloc 1", "alloc 1 ", "alloc\t1", "alloc 1\r",
         "Alloc 1", "shrin 1 2"];
     let mut state = 1;
@@ -100,12 +100,28 @@ fn the_commands_that_scripts_lack() {
     let text = b"space 100 nodes 16 index 32\nalloc 10\nalloc 20\nshrink 1 5\nshrink 1 6\ngrow 1 10\ngrow 1 11\nfree 1\ncompact\ngrow 2 100\nshrink 9 1\ngrow 1 1\n";
     let expected = "grant 1 at 0\ngrant 2 at 10\nshrunk\nnone\ngrown\nnone\nfreed\ncompacted\ngrown\ngone\ngone\n";
     assert_eq!(String::from_utf8(ours(text).unwrap()).unwrap(), expected);
-    for line in ["shrink 1", "grow 1", "compact 0", "compact 1 2", "shrink 1 2 3", "grow x 1", "shrink 1 4294967296", "shrink  1 2", "tight", "tight 1 3",
-        "tight 1 2 4", "room", "room 1 2", "relocate", "relocate -1", "relocate 1 0", "relocate 1 3", "relocate 1 2 4", "retract x", "first 1", "last 1", "before", "after 1 2", "offset",
-        "where", "where 1 0", "where 1 3", "where 1 2 4", "cost", "cost 1 2", "cost 1 3 1", "cost 1 0 1", "cost 1 2 0", "why", "why 1", "why alloc", "why align 1", "why align 1 3", "why tight 1 0", "why tight 1 2 4", "why free 1"] {
+    for line in ["shrink 1", "grow 1", "compact 0", "compact 1 2", "shrink 1 2 3", "grow x 1", "shrink 1 4294967296", "shrink  1 2", "tight", "tight 1 0",
+        "tight 1 2 4", "room", "room 1 2", "relocate", "relocate -1", "relocate 1 0", "relocate 1 2 4", "retract x", "first 1", "last 1", "before", "after 1 2", "offset",
+        "where", "where 1 0", "where 1 2 4", "cost", "cost 1 2", "cost 1 0 1", "cost 1 2 0", "why", "why 1", "why alloc", "why align 1", "why align 1 0", "why tight 1 0", "why tight 1 2 4", "why free 1"] {
         let text = format!("space 100 nodes 16 index 32\n{line}\n");
         assert_eq!(ours(text.as_bytes()).unwrap_err().to_string(), "line 2: bad command", "{line}");
     }
+}
+
+// Scripts have powers of two alone, and recordings any alignment from 1 on. Behind 5 units there is 12, and behind 22 of them
+// 48.
+#[test]
+fn any_alignment() {
+    let text = b"space 100 nodes 16 index 32\nalloc 5\nalign 10 12\ntight 10 48\nrelocate 3 7\nwhere 1 9\nwhy align 1 50\ncost 1 3 1\n";
+    // 7 units from 5 on are free, 26 from 22 on, and 42 from 58 on: 10 at a multiple of 7 need 16, which begin at 28. Then 6 are
+    // free from 22 on, and 10 from 38 on: 1 at a multiple of 9 needs 9, and 1 at a multiple of 50 needs 50, which all together
+    // have
+    let expected = "grant 1 at 0\ngrant 2 at 12\ngrant 3 at 48\ngrant 4 at 28\noffset 45\n\
+        no free block is large enough until the space is compacted\nranges 0 units 0\n";
+    assert_eq!(String::from_utf8(ours(text).unwrap()).unwrap(), expected);
+    let script = b"space 100 nodes 16 index 32\nalloc 5\nalign 10 12\n";
+    assert_eq!(ours(script).unwrap(), b"grant 1 at 0\ngrant 2 at 12\n");
+    assert_eq!(theirs(script).unwrap_err().to_string(), "line 3: bad command");
 }
 
 // Each line with its answer.

@@ -142,16 +142,16 @@ fn a_line_is_flushed_before_its_call() {
     assert!(written.text().ends_with("alloc 10\ncompact\nfree 1\nfree 0\n"));
     assert!(written.is_flushed());
     // a call that could not be read again is not written
-    assert!(catch_unwind(AssertUnwindSafe(|| heap.allocate_aligned(10, 3))).is_err());
-    assert!(catch_unwind(AssertUnwindSafe(|| heap.relocate_aligned(range, 3))).is_err());
+    assert!(catch_unwind(AssertUnwindSafe(|| heap.allocate_aligned(10, 0))).is_err());
+    assert!(catch_unwind(AssertUnwindSafe(|| heap.relocate_aligned(range, 0))).is_err());
     assert!(catch_unwind(AssertUnwindSafe(|| heap.compact_by(0, &mut |_| ()))).is_err());
     assert!(catch_unwind(AssertUnwindSafe(|| heap.compact_within(0, 0, 1, 1, &mut |_| ()))).is_err());
     assert!(catch_unwind(AssertUnwindSafe(|| heap.make_room_by(10, 1, 0, &mut |_| ()))).is_err());
-    assert!(catch_unwind(AssertUnwindSafe(|| heap.make_room_by(10, 3, 1, &mut |_| ()))).is_err());
-    assert!(catch_unwind(AssertUnwindSafe(|| heap.allocate_tight_aligned(10, 3))).is_err());
+    assert!(catch_unwind(AssertUnwindSafe(|| heap.make_room_by(10, 0, 1, &mut |_| ()))).is_err());
+    assert!(catch_unwind(AssertUnwindSafe(|| heap.allocate_tight_aligned(10, 0))).is_err());
     assert!(written.text().ends_with("free 0\n"));
     // nor does its name go to the next request
-    assert!(catch_unwind(AssertUnwindSafe(|| heap.name("refused").allocate_aligned(10, 3))).is_err());
+    assert!(catch_unwind(AssertUnwindSafe(|| heap.name("refused").allocate_aligned(10, 0))).is_err());
     heap.allocate(10);
     assert!(written.text().ends_with("free 0\n# refused\n\nalloc 10\n"));
 }
@@ -215,6 +215,15 @@ fn progress(found: Option<Progress>) -> String {
     }
 }
 
+// An alignment: a power of two, or any number.
+fn alignment(random: &mut Random, bits: u32) -> u32 {
+    if random.below(2) == 0 {
+        1 << random.below(bits)
+    } else {
+        1 + random.below(1 << bits)
+    }
+}
+
 fn random_calls<T: Tables>(seed: u64) {
     let mut random = Random(seed);
     let seen = Seen::default();
@@ -236,16 +245,16 @@ fn random_calls<T: Tables>(seed: u64) {
         };
         expected.push(match random.below(28) {
             22 => granted(heap.allocate_tight(random.below(size / 8)), &mut live, &mut grants),
-            23 => granted(heap.allocate_tight_aligned(random.below(size / 8), 1 << random.below(8)), &mut live, &mut grants),
+            23 => granted(heap.allocate_tight_aligned(random.below(size / 8), alignment(&mut random, 8)), &mut live, &mut grants),
             24 => cost(heap.make_room(random.below(size), &mut |_| ())),
-            25 => cost(heap.make_room_by(random.below(size), 1 << random.below(5), random.below(40) + 1, &mut |_| ())),
+            25 => cost(heap.make_room_by(random.below(size), alignment(&mut random, 5), random.below(40) + 1, &mut |_| ())),
             26 => progress(heap.compact_within(random.below(20) + 1, random.below(size), random.below(size), random.below(9), &mut |_| ())),
             27 if !live.is_empty() => {
                 let handle = live[random.below(live.len() as u32) as usize];
                 granted(heap.relocate(handle), &mut live, &mut grants)
             }
             0..=7 => granted(heap.allocate(random.below(size / 8)), &mut live, &mut grants),
-            8..=9 => granted(heap.allocate_aligned(random.below(size / 8), 1 << random.below(8)), &mut live, &mut grants),
+            8..=9 => granted(heap.allocate_aligned(random.below(size / 8), alignment(&mut random, 8)), &mut live, &mut grants),
             10..=14 if !live.is_empty() => {
                 heap.free(live.swap_remove(random.below(live.len() as u32) as usize));
                 "freed".to_owned()
@@ -266,7 +275,7 @@ fn random_calls<T: Tables>(seed: u64) {
             20 => if heap.compact_by(1 << random.below(7), &mut |_| ()) { "compacted" } else { "none" }.to_owned(),
             21 if !live.is_empty() => {
                 let handle = live[random.below(live.len() as u32) as usize];
-                granted(heap.relocate_aligned(handle, 1 << random.below(6)), &mut live, &mut grants)
+                granted(heap.relocate_aligned(handle, alignment(&mut random, 6)), &mut live, &mut grants)
             }
             19 if random.below(8) == 0 => {
                 heap.reset();
@@ -302,7 +311,7 @@ fn random_tickets<T: Tables>(seed: u64) {
             Some(true) => word.to_owned(),
         };
         expected.push(match (random.below(9), of(&mut random, &tickets)) {
-            (7, _) => match heap.make_room_by(random.below(3000), 1 << random.below(5), random.below(40) + 1, &mut |_| ()) {
+            (7, _) => match heap.make_room_by(random.below(3000), alignment(&mut random, 5), random.below(40) + 1, &mut |_| ()) {
                 None => "none".to_owned(),
                 Some(cost) => format!("ranges {} units {}", cost.ranges, cost.units),
             },
@@ -319,7 +328,7 @@ fn random_tickets<T: Tables>(seed: u64) {
             (5, _) => done(Some(heap.compact_by(random.below(99) + 1, &mut |_| ())), "compacted"),
             (6, Some(ticket)) => {
                 let is_live = heap.is_live(ticket);
-                match heap.relocate_aligned(ticket, 1 << random.below(6)) {
+                match heap.relocate_aligned(ticket, alignment(&mut random, 6)) {
                     None => if is_live { "none" } else { "gone" }.to_owned(),
                     Some(second) => {
                         tickets.push(second);

@@ -14,6 +14,7 @@ mod groups;
 mod handles;
 mod layouts;
 mod original;
+mod places;
 mod ranges;
 mod refusals;
 mod reports;

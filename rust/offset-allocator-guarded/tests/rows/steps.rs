@@ -3,10 +3,10 @@
 use super::asserts::{assert_same_at, assert_that_at, text_of};
 use super::layouts::{check_each, Expectation, ALL};
 use offset_allocator::laws::{
-    allocation_offset_counted, first_live_counted, is_empty_counted, last_live_counted,
-    live_after_counted, live_before_counted, next_block_counted, refusal_aligned_counted,
-    refusal_counted, refusal_tight_aligned_counted, refusal_tight_counted, room_cost_counted,
-    statistics_counted, undo, would_begin_counted,
+    allocation_offset_counted, first_live_counted, in_the_way_counted, is_empty_counted,
+    is_free_at_counted, last_live_counted, live_after_counted, live_before_counted,
+    next_block_counted, refusal_aligned_counted, refusal_counted, refusal_tight_aligned_counted,
+    refusal_tight_counted, room_cost_counted, statistics_counted, undo, would_begin_counted,
 };
 use offset_allocator::AllocError;
 use offset_allocator::Global;
@@ -34,6 +34,19 @@ pub enum Step {
     FillsAligned(u32, u32, u32),
     /// A tight request of this size at a multiple of the second number is refused for this reason.
     FillsAlignedNot(u32, u32, Refusal),
+    /// A request for the units from the first number on, of this size, is granted.
+    At(u32, u32),
+    /// A request for the units from the first number on, of this size, is refused, and nothing changes.
+    NotAt(u32, u32),
+    /// Whether one free block holds the units from the first number on, of this size.
+    FreeAt(u32, u32, bool),
+    /// The unit at this offset is one of the grant of this number, or of no live range.
+    HandleAt(u32, Option<usize>),
+    /// Of the live ranges in the way of the units from the first number on, of this size, the last one is the grant of this
+    /// number, or there is none.
+    Way(u32, u32, Option<usize>),
+    /// The grant of this number has this name.
+    Named(usize, u32),
     /// The grant of this number is live, is freed, and then is not live.
     Frees(usize),
     /// The same with a copy of the handle that has another offset.
@@ -235,7 +248,7 @@ fn expect_begin<T: Tables>(
     align: u32,
     offset: Option<u32>,
 ) {
-    assert_that_at(at, align.is_power_of_two());
+    assert_that_at(at, align >= 1);
     assert_same_at(at, &allocator.would_begin(size, align), &offset);
     let counted = would_begin_counted(allocator, size, align, &mut Accesses::new());
     assert_same_at(at, &counted, &offset);
@@ -247,7 +260,7 @@ fn request<T: Tables>(
     size: u32,
     align: u32,
 ) -> Option<Allocation<T::Index>> {
-    assert_that_at(at, align.is_power_of_two());
+    assert_that_at(at, align >= 1);
     allocator.allocate_aligned(size, align)
 }
 
@@ -258,7 +271,7 @@ fn refusal_tight<T: Tables>(
     size: u32,
     align: u32,
 ) -> Option<Refusal> {
-    assert_that_at(at, align.is_power_of_two());
+    assert_that_at(at, align >= 1);
     let why = allocator.refusal_tight_aligned(size, align);
     let mut count = Accesses::new();
     let counted = refusal_tight_aligned_counted(allocator, size, align, &mut count);
@@ -278,7 +291,7 @@ fn fill<T: Tables>(
     size: u32,
     align: u32,
 ) -> Option<Allocation<T::Index>> {
-    assert_that_at(at, align.is_power_of_two());
+    assert_that_at(at, align >= 1);
     if align == 1 {
         allocator.allocate_tight(size)
     } else {
@@ -317,7 +330,7 @@ fn refusal<T: Tables>(
     size: u32,
     align: u32,
 ) -> Option<Refusal> {
-    assert_that_at(at, align.is_power_of_two());
+    assert_that_at(at, align >= 1);
     let why = allocator.refusal_aligned(size, align);
     let mut count = Accesses::new();
     let counted = refusal_aligned_counted(allocator, size, align, &mut count);
@@ -490,6 +503,68 @@ fn keep<T: Tables>(
     }
 }
 
+// Whether one free block holds units from an offset on, by both calls that say so. Then nothing is in their way.
+fn expect_free_at<T: Tables>(
+    at: &Place,
+    allocator: &AllocatorOf<T>,
+    offset: u32,
+    size: u32,
+    wanted: bool,
+) {
+    assert_same_at(at, &allocator.is_free_at(offset, size), &wanted);
+    let counted = is_free_at_counted(allocator, offset, size, &mut Accesses::new());
+    assert_same_at(at, &counted, &wanted);
+    assert_that_at(at, !wanted || allocator.in_the_way(offset, size).is_none());
+}
+
+fn expect_at<T: Tables>(
+    at: &Place,
+    allocator: &mut AllocatorOf<T>,
+    handles: &mut Vec<Allocation<T::Index>>,
+    offset: u32,
+    size: u32,
+) {
+    expect_free_at(at, allocator, offset, size, true);
+    let left = allocator.free_units().saturating_sub(size);
+    let granted = allocator.allocate_at(offset, size);
+    keep(at, allocator, handles, granted, size, offset);
+    assert_same_at(at, &allocator.free_units(), &left);
+    if size > 0 {
+        assert_that_at(at, allocator.in_the_way(offset, size) == granted);
+        assert_that_at(at, allocator.handle_at(offset) == granted);
+    }
+}
+
+// A space has one list of bytes, so they say that nothing has changed.
+fn expect_not_at<T: Tables>(at: &Place, allocator: &mut AllocatorOf<T>, offset: u32, size: u32) {
+    let before = allocator.write_state(Global).expect("memory");
+    assert_that_at(at, allocator.allocate_at(offset, size).is_none());
+    let after = allocator.write_state(Global).expect("memory");
+    assert_that_at(at, *before == *after);
+}
+
+// The last live range in the way of units, by both calls that say so, with the offset that it has now.
+fn expect_way<T: Tables>(
+    at: &Place,
+    allocator: &AllocatorOf<T>,
+    handles: &[Allocation<T::Index>],
+    units: (u32, u32),
+    wanted: Option<usize>,
+) {
+    let (offset, size) = units;
+    let wanted = wanted.map(|number| {
+        let mut handle = grant_of(at, handles, number);
+        handle.offset = allocator.allocation_offset(handle).expect("a live range");
+        handle
+    });
+    assert_that_at(at, allocator.in_the_way(offset, size) == wanted);
+    let counted = in_the_way_counted(allocator, offset, size, &mut Accesses::new());
+    assert_that_at(at, counted == wanted);
+    if size == 1 {
+        assert_that_at(at, allocator.handle_at(offset) == wanted);
+    }
+}
+
 // Whether a handle is that of a grant, or there is none where none is wanted.
 fn is_grant<NI: NodeIndex>(
     found: Option<Allocation<NI>>,
@@ -642,6 +717,18 @@ fn observe<T: Tables>(
             expect_beside(at, allocator, handles, *number, (*before, *after));
         }
         Step::Walks(wanted) => expect_walk(at, allocator, handles, wanted),
+        Step::FreeAt(offset, size, wanted) => {
+            expect_free_at(at, allocator, *offset, *size, *wanted);
+        }
+        Step::HandleAt(offset, number) => {
+            expect_way(at, allocator, handles, (*offset, 1), *number);
+        }
+        Step::Way(offset, size, number) => {
+            expect_way(at, allocator, handles, (*offset, *size), *number);
+        }
+        Step::Named(number, name) => {
+            assert_same_at(at, &grant_of(at, handles, *number).name(), name);
+        }
         Step::Shows(wanted) => {
             let text = text_of(allocator);
             assert_same_at(at, text.as_str(), wanted);
@@ -688,6 +775,8 @@ fn take<T: Tables>(
         Step::FillsAlignedNot(size, align, why) => {
             expect_unfilled(at, allocator, (*size, *align), *why);
         }
+        Step::At(offset, size) => expect_at(at, allocator, handles, *offset, *size),
+        Step::NotAt(offset, size) => expect_not_at(at, allocator, *offset, *size),
         Step::Extends(more, grown) => {
             assert_same_at(at, &allocator.extend(*more), grown);
         }
