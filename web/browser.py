@@ -18,12 +18,16 @@ class Browser:
     def __init__(self, page=PAGE):
         self.page = page
         pipe, null = subprocess.PIPE, subprocess.DEVNULL
-        # a group of its own, with the browser in it, which ends with it
-        self.driver = subprocess.Popen(["chromedriver", "--port=0"], stdout=pipe, stderr=null, text=True, start_new_session=True)
-        for line in self.driver.stdout:
-            if "successfully on port" in line:
-                self.base = "http://127.0.0.1:" + line.rstrip(".\n").split()[-1]
+        self.base = None
+        # the free port that it finds may be taken before it listens there
+        for _ in range(5):
+            # a group of its own, with the browser in it, which ends with it
+            self.driver = subprocess.Popen(["chromedriver", "--port=0"], stdout=pipe, stderr=null, text=True, start_new_session=True)
+            self.base = next(("http://127.0.0.1:" + line.rstrip(".\n").split()[-1] for line in self.driver.stdout if "successfully on port" in line), None)
+            if self.base:
                 break
+            self.driver.wait()
+        assert self.base, "chromedriver does not start"
         flags = ["--headless=new", "--no-sandbox", "--disable-gpu", "--window-size=1100,1250"]
         new = {"capabilities": {"alwaysMatch": {"goog:chromeOptions": {"args": flags}, "goog:loggingPrefs": {"browser": "ALL"}}}}
         try:

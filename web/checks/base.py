@@ -64,4 +64,4 @@ def row(b):
 
 
 def to(b, p):
-    b.run("$('at').value = arguments[0]; $('at').oninput()", p)
+    b.run("$('at').value = arguments[0]; $('at').oninput(); $('at').onchange?.()", p)

@@ -143,7 +143,7 @@ def moved_ranges_keep_their_age(b):
         b.run("go(27)")
         same(b.run(ROWS, "#ranges"), [["2", "0", "10", "2", "moved"]], "a moved range keeps its number, its row and its name")
         b.run("go(S.run.count)")
-        b.run("return new Promise(r => { const f = () => S.run.picture && S.run.picture.next === S.run.lk.length ? r() : setTimeout(f, 20); f(); })")
+        b.run("return new Promise(r => { const f = () => S.run.picture?.isDone ? r() : setTimeout(f, 20); f(); })")
         pixels = b.run("""const s = S.run.picture.sheet, g = s.getContext('2d'), at = (p, o) => [...g.getImageData(
             Math.round(p / (S.run.count + 1) * s.width), Math.round(s.height - o / S.run.top * s.height), 1, 1).data.slice(0, 3)].join();
             return [at(15, 15), at(38, 5), at(60, 5), at(90, 15)]""")

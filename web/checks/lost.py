@@ -125,4 +125,42 @@ def names_in_pictures(b):
     same(found, [0, "ab<c>.script: 2 calls, 0 refusals"], "control characters of a file's name are not in the saved picture")
 
 
-ALL = [cut_recordings, files_that_cannot_be_read, kinds_of_texts, texts_from_anywhere, a_reload_asks, links_are_bounded, no_other_code_runs, names_in_pictures]
+def back_and_forward(b):
+    """Each run and each jump is a place of the browser's history; steps are none."""
+    b.open("#t=arena-game&p=100")
+    state = "return [S.p, S.title, document.title.split(' –')[0], S.run.count]"
+    arena = b.run("return S.run.count")
+    there = lambda way, p, title: (b.run(f"history.{way}()"), until(b, f"S.p === {p} && S.title === '{title}' && document.title.startsWith('{title}')", f"{way} to row {p} of {title}"))
+    b.run("document.activeElement.blur()")
+    b.keys("Right", "Right")
+    b.keys("End")
+    same(b.run(state), [arena, "arena game", "arena game", arena], "a jump")
+    b.keys("Left")
+    there("back", 102, "arena game")
+    there("forward", arena - 1, "arena game")
+    give(b, CUT, "heap.script")
+    to(b, 700)
+    b.run("edit(700, [[0, 64, 0]])")
+    same(b.run(state), [701, "heap.script", "heap.script", 701], "a file, and a call of the user's in it")
+    b.run("document.querySelectorAll('#calls .row')[2].click()")
+    holds(row(b) < 701, "a row of the list", row(b))
+    at = row(b)
+    there("back", 701, "heap.script")
+    there("back", arena - 1, "arena game")
+    same(b.run("return [S.run.count, $('trace').value, $('branch').hidden]"), [arena, "arena-game", True], "the run before, with all its rows")
+    there("back", 102, "arena game")
+    there("forward", arena - 1, "arena game")
+    there("forward", 701, "heap.script")
+    same(b.run("return [S.run.count, $('branch').hidden, $('undo').disabled]"), [701, False, False], "the file, with the user's call")
+    there("forward", at, "heap.script")
+    b.run("location.hash = '#t=voxel-game&p=5'")
+    until(b, "S.title === 'voxel game' && S.p === 5", "a link in the address bar")
+    there("back", at, "heap.script")
+    for name in ("one", "two", "three", "four"):
+        give(b, TINY, f"{name}.script")
+    b.run("history.go(-4)")
+    until(b, "$('told').textContent === 'heap.script is not kept: give its file again.'", "of many files the last are kept, and it says so")
+    same(b.run("return S.title"), "four.script", "what is shown stays")
+
+
+ALL = [back_and_forward, cut_recordings, files_that_cannot_be_read, kinds_of_texts, texts_from_anywhere, a_reload_asks, links_are_bounded, no_other_code_runs, names_in_pictures]

@@ -7,7 +7,7 @@ FULL = "space 2000000 nodes 40000 index 32\n" + "alloc 100\n" * 20000 + "report\
 # ranges of no units: below, within and above the others
 NONE = "space 1000 nodes 16 index 32\nalloc 0\nalloc 10\nalloc 0\nalloc 90\nfree 2\nfree 4\nalloc 0\n" + "report\n" * 50
 HALF = "space 2000000 nodes 40000 index 32\n" + "alloc 100\n" * 20000 + "".join(f"free {k}\n" for k in range(1, 20001, 2)) + "report\n" * 60000
-DRAWN = "return new Promise(r => { const f = () => S.run.picture.next < S.run.lk.length ? setTimeout(f, 20) : r(draw()); f(); })"
+DRAWN = "return new Promise(r => { const f = () => !S.run.picture?.isDone ? setTimeout(f, 20) : r(draw()); f(); })"
 # how much of the background a part of a picture, right of its middle, is covered
 COVERED = """const a = g.getImageData(0.6 * g.canvas.width, 0.2 * g.canvas.height, 0.2 * g.canvas.width, 0.2 * g.canvas.height).data;
   const most = 255 - parseInt(color('--age8').slice(1, 3), 16);
@@ -51,11 +51,11 @@ def every_life_is_painted(b):
             give(b, NONE, name)
         flat, bare, lives = saved(b, """const t = await S.saved.text(), r = S.run, n = r.count + 1;
           const paths = [...t.matchAll(/M([\\d.]+) ([\\d.]+)H([\\d.]+)V([\\d.]+)/g)], a = g.getImageData(0, 0, 1000, 560).data; let bare = 0;
-          for (let l = 0; l < r.lk.length; l++) {
-            const x = Math.floor(52 + (r.lf.list[l] + Math.min(r.lt.list[l], n)) / 2 / n * 940), y = Math.min(402, Math.floor(44 + (1 - (r.lo.list[l] + r.ln.list[l] / 2) / r.top) * 359));
+          for (let l = 0; l < r.lifeCount; l++) {
+            const f = r.life(l), x = Math.floor(52 + (f.from + Math.min(f.to, n)) / 2 / n * 940), y = Math.min(402, Math.floor(44 + (1 - (f.o + f.n / 2) / r.top) * 359));
             if (a.slice(4 * (1000 * y + x), 4 * (1000 * y + x) + 3).every(v => v === 255)) bare++;
           }
-          return [paths.filter(([, x, y, z, u]) => x === z || y === u).length, bare, r.lk.length]""")
+          return [paths.filter(([, x, y, z, u]) => x === z || y === u).length, bare, r.lifeCount]""")
         same([flat, bare], [0, 0], f"{name}: of {lives} lives no path is without width or height, and none has nothing in its place")
 
 

@@ -15,6 +15,14 @@ def saved_answers(b):
     return b.run("return S.saved.text()")
 
 
+# the positions, some far from the one before and some near, before it and after, where the blocks of the page are not those of the module
+MODULE_S = """let x = 7, p = 0; const r = S.run, wrong = [], next = n => (x = x * 48271 % 2147483647) % n, text = list => list.map(b => [b.o, b.n, b.k]).join();
+  for (let i = 0; i < arguments[0]; i++) {
+    p = i % 4 ? Math.max(0, Math.min(r.count, p + next(600) - 300)) : next(r.count + 1);
+    r.seek(p); const all = r.m.blocks ? r.m.blocks() : r.m.view().blocks; if (text(r.view(p).blocks) !== text(all)) wrong.push(p);
+  } return wrong"""
+
+
 def long_ones(b):
     r = random.Random(1)
     lines, grants = ["space 50000000 nodes 200000 index 32"], 0
@@ -47,11 +55,12 @@ def long_ones(b):
     # the blocks at a row, after going back and on: those of a fresh run up to there
     fresh = "const r = new Run(S.run.head, S.run.calls.list.slice(0, WIDE * S.p), new Map(), S.run.lines); return r.survey(new Work('x')).then(() => JSON.stringify(r.view(S.p).blocks) === JSON.stringify(S.run.view(S.p).blocks))"
     same(b.run(fresh), True, "with the blocks of a run that ends there")
-    b.run("let x = 1; for (let i = 0; i < 400; i++) { x = x * 48271 % 2147483647; S.run.view(x % (S.run.count + 1)); }")
+    b.run("let x = 1; for (let i = 0; i < 400; i++) { x = x * 48271 % 2147483647; S.run.view(x % (S.run.count + 1)); S.run.seek(x % (S.run.count + 1)); }")
     same(b.run(fresh), True, "again after many seeks")
+    same(b.run(MODULE_S, 60), [], "what is kept of the ranges is what the module has")
     size = b.run("return S.run.m.size()")
     holds(size < 64 << 20, "which take no more memory each", size)
-    live = "return JSON.stringify([...S.run.live].map(([k, l]) => [S.run.lo.list[l], S.run.ln.list[l], k]).sort((a, b) => a[0] - b[0])) === " \
+    live = "return JSON.stringify([...Array(S.run.lifeCount).keys()].map(l => S.run.life(l)).filter(f => f.to === ALIVE).map(f => [f.o, f.n, f.k]).sort((a, b) => a[0] - b[0])) === " \
         "JSON.stringify(S.run.view(S.run.count).blocks.filter(b => b.k).map(b => [b.o, b.n, b.k]))"
     same(b.run(live), True, "the lives at the end are those of its blocks, after compact too")
 
@@ -97,13 +106,17 @@ def each_line_is_played(b):
     same(sorted(forms - {form(line) for line in calls}), [], "each is in every.script")
     b.open("#t=every&p=0")
     same(b.run("return [S.run.count, $('fault').textContent]"), [len(calls), ""], "every.script is read")
+    for name in ("every", "voxel-game", "malloc-cc1", "planetarium"):
+        b.open(f"#t={name}&p=0")
+        same(b.run(MODULE_S, 200), [], f"{name}: what is kept of the ranges is what the module has")
+    b.open("#t=every&p=0")
     same(saved_answers(b), recorded(text)[0], "its answers are the program's")
     rows = re.findall(r"^(?!bin|class)[a-z].*", recorded(text)[0], re.M)
     listed = b.run("return [...Array(S.run.count).keys()].map(i => { const d = document.createElement('div'); drawCall(d, i); "
                    "return [...d.children].slice(0, 3).map(e => e.textContent.split(': ')[0]); })")
     same(listed, [[f"{i + 1}", call, answer] for i, (call, answer) in enumerate(zip(calls, rows))], "each is listed with its answer")
     state = "go(arguments[0]); const r = S.run, p = S.p, v = r.view(p), live = {}, lives = {}; for (const x of v.blocks) if (x.k) live[x.k] = x.o; " \
-        "for (let l = 0; l < r.lk.length; l++) if (r.lf.list[l] <= p && p < r.lt.list[l]) lives[r.lk.list[l]] = r.lo.list[l]; " \
+        "for (let l = 0; l < r.lifeCount; l++) { const f = r.life(l); if (f.from <= p && p < f.to) lives[f.k] = f.o; } " \
         "return [live, lives, v.blocks.reduce((s, x) => s + x.n, 0) - r.sizeAt(p), $('now').textContent.startsWith(`Row ${p}: ${arguments[1]}: ${arguments[2]}`)]"
     grants = sum(answer.startswith("grant ") for answer in rows)
     for p, (call, answer) in enumerate(zip(calls, rows), 1):

@@ -7,6 +7,10 @@ import re
 from .base import TRACES, built, holds, play, program, recorded, row, same, to, until
 
 FRAGMENTED = "space 1000 nodes 32 index 32\n" + "alloc 100\n" * 9 + "free 1\nfree 3\nfree 5\nfree 7\nalloc 300\nalloc 2000\nreport\nalign 100 256\n"
+# at its first refusal, of 300 units, so of a block of 320: free are 0 to 100, 200 to 300, 400 to 500, 600 to 700 and 900 to 1000. Four of them
+# are enough, and the first four have three ranges between them. To release two ranges is enough, one is not, and the first two that do are 2 and 4
+MOVED = "move 3 ranges of 300 units, from 100 to 600 (outlined): grant 2 of 100 units, grant 4 of 100 units, grant 6 of 100 units; then it is granted"
+RELEASED = "release 2 ranges of 200 units, from 100 to 400 (dashed): grant 2 of 100 units, grant 4 of 100 units; then it is granted"
 MANY = "space 4000000 nodes 100 index 32\n" + "alloc 10\n" * 98 + "alloc 11\n" + "report\n" * 500 + "alloc 12\n"
 
 
@@ -65,6 +69,40 @@ def tried(head, before, call, helps, what):
     assert space >= 0
 
 
+def ranges_after(head, lines):
+    """The live ranges after some calls, in the order of their offsets: offset, units, grant."""
+    asked = [f"{what} {k}" for k in range(1, len(lines) + 1) for what in ("size", "offset")]
+    answers = recorded("\n".join([head, *lines, *asked]) + "\n")[0].splitlines()[-len(asked):]
+    numbers = [int(a.split()[1]) if a != "gone" else None for a in answers]
+    return sorted((o, n, k) for k, (n, o) in enumerate(zip(numbers[::2], numbers[1::2]), 1) if n is not None)
+
+
+def gone(head, before, call, helps, what):
+    """What would have to be moved or released is the least that is enough."""
+    said = {text.split()[0]: text for text in helps if text.startswith(("move", "release"))}
+    name, *numbers = call.split()
+    need = int(numbers[0]) + (int(numbers[1]) - 1 if len(numbers) > 1 else 0)
+    if "move" in said:
+        cost = recorded("\n".join([head, *before, f"cost {need}"]) + "\n")[0].splitlines()[-1]
+        count, least = re.findall(r"^move ([\d,]+) ranges? of ([\d,]+) units", said["move"])[0]
+        assert cost == f"ranges {count} units {least}".replace(",", ""), (what, cost, said)
+        assert is_done(head, [*before, f"room {need}", call]), (what, said)
+    else:
+        assert not is_done(head, [*before, f"room {need}", call]) or recorded("\n".join([head, *before, f"cost {need}"]) + "\n")[0].splitlines()[-1] == "ranges 0 units 0", (what, helps)
+    live = ranges_after(head, before)
+    runs = [live[i:j] for i in range(len(live)) for j in range(i + 1, len(live) + 1)]
+    runs = sorted((sum(n for _, n, _ in run), len(run), [k for _, _, k in run]) for run in runs)
+    limit = (float("inf"),)
+    if "release" in said:
+        count, units = (int(n.replace(",", "")) for n in re.findall(r"^release ([\d,]+) ranges? of ([\d,]+) units", said["release"])[0])
+        limit = (units, count)
+        same_cost = [run for run in runs if run[:2] == limit and all(f"grant {k} " in said["release"] for k in run[2][:4])]
+        assert same_cost and is_done(head, [*before, *(f"free {k}" for k in same_cost[0][2]), call]), (what, said)
+    # those that cost next to it do not do
+    for units, count, grants in [run for run in runs if run[:2] < limit][-25:]:
+        assert not is_done(head, [*before, *(f"free {k}" for k in grants), call]), (what, units, grants, said)
+
+
 def explanations(b, text):
     """For each refusal of a text its row, its facts and its helps."""
     b.run("return take(new TextEncoder().encode(arguments[0]))", text)
@@ -99,7 +137,7 @@ def are_found(b):
          "size, class, largest free block, and why")
     same(b.run("return [...$('helps').children].map(e => e.textContent)"),
          ["compact: after it the request is granted", "220 units more space (extend 220): then it is granted",
-          "a smaller request: at most 96 units"], "what would have helped")
+          "a smaller request: at most 96 units", MOVED, RELEASED], "what would have helped")
 
 
 def tight_is_named(b):
@@ -144,7 +182,8 @@ def others_are_explained(b):
     same([[title.split(": ", 1)[1], facts, helps] for _, title, facts, helps in found],
          [["retract 50 is refused", ["at its end 40 units are free"], ["at most 40 units fewer (retract 40)"]],
           ["tight 41 is refused", ["too few units are free", "asked: 41 units, not rounded up", "largest free block: 40 units; free in all: 40 units",
-                                   "blocks: 2 of at most 15"], ["1 unit more space (extend 1): then it is granted"]],
+                                   "blocks: 2 of at most 15"], ["1 unit more space (extend 1): then it is granted",
+                                                         "release 1 range of 60 units, from 0 to 60 (dashed): grant 1 of 60 units; then it is granted"]],
           ["room 41 is refused", ["free in all: 40 units; no moves make a block of them that serves alloc 41", "blocks: 2 of at most 15"],
            ["4 units more space (extend 4): then room is made"]],
           ["relocate 1 is refused", ["grant 1 has 60 units, at 0", "no second range of as many is granted before it; blocks: 2 of at most 15"],
@@ -219,6 +258,49 @@ def helps_help(b):
     holds(count > 250 and {name for name, _ in kinds} >= {"alloc", "align", "grow", "shrink", "extend", "tight", "relocate", "retract", "room", "compact"}, f"what helps does help, at {count} refusals", kinds)
 
 
+def what_would_have_to_go(b):
+    b.open()
+    count = 0
+    for seed in range(20, 26):
+        lines = random_text(seed)
+        for p, _, facts, helps in explanations(b, "\n".join(lines) + "\n"):
+            if lines[p].split()[0] in ("alloc", "align", "tight") and facts[0] != "too few nodes are left":
+                gone(lines[0], lines[1:p], lines[p], helps, f"seed {seed}, row {p}, {lines[p]}: {helps}")
+                count += any(help.startswith("release") for help in helps)
+    holds(count > 20, "what would have to go is the least that is enough", count)
+
+
+def helps_are_shown(b):
+    """Each help is a button that shows the space after it."""
+    b.size(1100, 1250)
+    b.open()
+    play(b, FRAGMENTED)
+    to(b, 14)
+    lines = FRAGMENTED.splitlines()
+    at = """const c = $('space'), g = c.getContext('2d'), rh = c.height / 6, mark = rgb(colors().mark).join(); return arguments[0].map(unit => {
+      const y = Math.floor(unit / (1000 / 6)), x = Math.round(GUTTER + (unit / (1000 / 6) - y) * (c.width - GUTTER)), a = g.getImageData(x - 12, Math.round(y * rh), 24, 3).data;
+      for (let i = 0; i < a.length; i += 4) if (a.slice(i, i + 3).join() === mark) return true; return false; })"""
+    same(b.run(at, [50, 150, 250, 350, 450, 550, 650, 850]), [False, True, True, True, True, True, False, False], "what would have to move is outlined")
+    texts = b.run("return [...$('helps').children].map(e => e.textContent)")
+    same(b.run("return [...document.querySelectorAll('#helps button')].map(e => e.textContent)"), texts, "each is a button")
+    for text, calls in (("compact", ["compact", "alloc 300"]), ("220 units more", ["extend 220", "alloc 300"]), ("a smaller", ["alloc 96"]),
+                        ("move", ["room 300", "alloc 300"]), ("release", ["free 2", "free 4", "alloc 300"])):
+        b.run("[...document.querySelectorAll('#helps button')].find(e => e.textContent.startsWith(arguments[0])).click()", text)
+        until(b, "S.run !== S.base", text)
+        all_calls = [*lines[1:14], *calls]
+        same(b.run("return [S.run.count, S.p, answered(S.run, S.p - 1)]"), [len(all_calls), len(all_calls), recorded("\n".join([lines[0], *all_calls]) + "\n")[0].splitlines()[-1]],
+             f"{text}: its calls come in place of the refused one, the last is granted")
+        same(b.run("return S.run.view(S.p).blocks.filter(b => b.k).map(b => [b.o, b.n, b.k])"), [list(r) for r in ranges_after(lines[0], all_calls)], f"{text}: the space after it")
+        b.click("#undo")
+        until(b, "S.run === S.base", "undo")
+        same(row(b), 14, f"{text}: undo goes back to the refusal")
+    b.run("return take(new TextEncoder().encode(arguments[0]))", MANY)
+    to(b, 99)
+    b.run("[...document.querySelectorAll('#helps button')].find(e => e.textContent.startsWith('more nodes: a limit of')).click()")
+    until(b, "S.other", "the run with more nodes")
+    same(b.run("return [S.other.as[1], S.other.rows.includes(99)]"), [101, True], "more nodes are shown by a run beside this one")
+
+
 def gone_is_told(b):
     b.open()
     play(b, "space 100 nodes 16 index 32\n# texture: rock\nalloc 10\nfree 1\nfree 1\nfree 7\n")
@@ -228,4 +310,5 @@ def gone_is_told(b):
     same(b.run("return $('facts').textContent"), "no grant has the number 7 there", "a number of no grant")
 
 
-ALL = [are_found, others_are_explained, are_marked, helps_help, tight_is_named, smaller_is_smaller, extension_lacks_a_node, gone_is_told]
+ALL = [are_found, others_are_explained, are_marked, helps_help, tight_is_named, smaller_is_smaller, extension_lacks_a_node, gone_is_told,
+       what_would_have_to_go, helps_are_shown]

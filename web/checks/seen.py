@@ -17,7 +17,7 @@ def marks_stand_out(b):
     for scheme in ("light", "dark"):
         b.size(1100, 900, 1, scheme)
         b.open("#t=voxel-game&p=9000")
-        b.run("return new Promise(r => { const f = () => S.run.picture.next < S.run.lk.length ? setTimeout(f, 20) : r(draw()); f(); })")
+        b.run("return new Promise(r => { const f = () => !S.run.picture?.isDone ? setTimeout(f, 20) : r(draw()); f(); })")
         c = b.run(NAMED, [*AGES, "free", "bg", "mark", "dim", "fg"])
         weak = {(one, other): contrast(c[one], c[other]) for one in (*AGES, "mark", "fg") for other in ("free", "bg")}
         weak = {pair: round(found, 2) for pair, found in weak.items() if found < 3}

@@ -95,7 +95,7 @@ def drawings_are_right(b):
                 # the range of the last call is outlined
                 holds(wrong <= 3, f"the space, {width} pixels, {scheme}, {zoomed}: 150 points", (wrong, found[:5], expected[:5]))
             to(b, count)
-            b.run("return new Promise(r => { const f = () => S.run.picture.next < S.run.lk.length ? setTimeout(f, 20) : r(0); f(); })")
+            b.run("return new Promise(r => { const f = () => !S.run.picture?.isDone ? setTimeout(f, 20) : r(0); f(); })")
             b.run("draw()")
             w, h = b.run("return [$('life').clientWidth - 54, $('life').clientHeight - 16]")
             points, expected = [], []

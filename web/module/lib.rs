@@ -126,6 +126,7 @@ fn numbers(call: Call) -> [u32; WIDE] {
         Call::RefusalAligned(n, a) => [30, n, a, 0, 0],
         Call::RefusalTight(n) => [31, n, 0, 0, 0],
         Call::RefusalTightAligned(n, a) => [32, n, a, 0, 0],
+        Call::AllocateAt(o, n) => [33, o, n, 0, 0],
     }
 }
 
@@ -163,7 +164,8 @@ fn call_of([kind, a, b, c, d]: [u32; WIDE]) -> Call {
         29 => Call::Refusal(a),
         30 => Call::RefusalAligned(a, b),
         31 => Call::RefusalTight(a),
-        _ => Call::RefusalTightAligned(a, b),
+        32 => Call::RefusalTightAligned(a, b),
+        _ => Call::AllocateAt(a, b),
     }
 }
 
@@ -172,9 +174,9 @@ fn slides(call: Call) -> bool {
     matches!(call, Call::Compact | Call::CompactBy(_) | Call::CompactWithin(..) | Call::MakeRoom(_) | Call::MakeRoomBy(..))
 }
 
-// Whether a call is a question, as those of the kinds from 20 on: a `none` to it refuses nothing.
+// Whether a call is a question, as those of the kinds 20 to 32: a `none` to it refuses nothing.
 fn asks(call: Call) -> bool {
-    numbers(call)[0] >= 20
+    (20..33).contains(&numbers(call)[0])
 }
 
 // The length of a piece of a text is below that of the memory of a wasm module.

@@ -9,10 +9,10 @@ async function another(run, [size, nodes, unit, compact], work) {
   const at = new Uint32Array(run.count + 1), of = new Map();
   const scaled = { n: v => Math.ceil(v / unit), a: v => Math.max(1, v / unit), k: v => of.get(v) || 0, d: v => Math.floor(v / unit), c: v => v };
   scaled.s = scaled.n;
-  const one = (...call) => { b.calls.push(...filled(call)); b.step(1); return b.row(b.count - 1); };
+  const one = (...call) => { b.calls.append(filled(call)); b.step(1); return b.row(b.count - 1); };
   let extra = 0;
   for (let i = 0; i < run.count; i++) {
-    const [op, ...numbers] = run.call(i), r = run.row(i), name = run.names.get(i);
+    const [op, ...numbers] = run.call(i), r = run.row(i), name = run.callName(i);
     const isServed = op <= 1 || isTight(op), isRequest = isServed || isRelocation(op);
     // a report changes nothing
     const call = isSlide(op) && compact === COMPACT.never ? [4] : [op, ...[...KINDS[op]].map((kind, j) => scaled[kind](numbers[j]))];
@@ -24,7 +24,7 @@ async function another(run, [size, nodes, unit, compact], work) {
     at[i + 1] = b.count;
     if (i % 64 === 0) await work.turn(i, run.count);
   }
-  return { run: b, at, unit, extra };
+  return { run: await b.remember(work), at, unit, extra };
 }
 // The rows where the two answer otherwise: a request is granted in one only, or another call succeeds in one only. And the
 // rows that the other refuses.
@@ -72,7 +72,7 @@ function showOther() {
   const table = [['At this row', '', ''], ['Answer', p ? answered(a, p - 1) : '', q ? answered(b, q - 1) : ''],
     ['Units in use', a.usedAt(p), b.usedAt(q) * unit],
     ['Units free', free(a, p), free(b, q) * unit], ['Largest request granted', largest(a, p), largest(b, q) * unit],
-    ['Blocks', va.blocks.length, vb.blocks.length], ['Over all', '', ''], ...S.other.whole];
+    ['Blocks', va.count + va.free.count, vb.count + vb.free.count], ['Over all', '', ''], ...S.other.whole];
   $('differences').replaceChildren(...table.map(([name, x, y]) => {
     const row = document.createElement('tr'), th = document.createElement('th');
     const isNumber = typeof x === 'number' && typeof y === 'number';
@@ -89,5 +89,6 @@ function showOther() {
   $('xnext').disabled = !rows.some(r => r > p); $('xback').disabled = !rows.some(r => r < p);
   drawSpace('spaceA', a, p, from, to, []);
   drawSpace('spaceB', b, q, from / unit, to / unit, []);
-  drawLives('lifeA', a, p, showOther); drawLives('lifeB', b, q, showOther);
+  const now = S.other, shown = f => () => S.other === now && S.run === a ? f() : null;
+  drawLives('lifeA', a, shown(() => S.p)); drawLives('lifeB', b, shown(() => at[S.p]));
 }

@@ -15,21 +15,22 @@ function toggle() {
   playing = true; $('play').textContent = 'Pause'; due = 0; before = performance.now(); requestAnimationFrame(frame);
 }
 const to = p => { stop(); go(p); };
-L.calls = new List('calls', drawCall, i => to(S.run.shown ? S.run.refusals[i] : i + 1));
-L.ranges = new List('ranges', drawRange, i => { const b = ranges[i]; pointer = null; chosenIs(b); to(S.run.born.list[b.k]); });
+L.calls = new List('calls', drawCall, i => jump(S.run.shown ? S.run.refusals[i] : i + 1));
+L.ranges = new List('ranges', drawRange, i => { const b = rangeAt(i); pointer = null; chosenIs(b); jump(S.run.born.list[b.k]); });
 for (const by of Object.keys(SORTS)) {
   const b = document.createElement('button'); b.textContent = by; b.dataset.by = by;
-  b.onclick = () => { sorted = by; showRanges(S.run.view(S.p)); }; $('sorts').append(b); }
+  b.onclick = () => sortBy(by); $('sorts').append(b); }
 for (const name of Object.keys(TAKES)) {
   const b = document.createElement('button'); b.id = 'act-' + name; b.textContent = name; b.onclick = () => act(name); $('acts').append(b); }
 for (const name of Object.keys(TRACES)) $('trace').add(new Option(titleOf(name), name), $('trace').length - 1);
-$('first').onclick = () => to(0); $('last').onclick = () => to(S.run.count);
+$('first').onclick = () => jump(0); $('last').onclick = () => jump(S.run.count);
 $('back').onclick = () => to(S.p - 1); $('next').onclick = () => to(S.p + 1);
 $('rback').onclick = () => refusal(-1); $('rnext').onclick = () => refusal(1);
-$('play').onclick = toggle; $('at').oninput = () => to($('at').valueAsNumber);
+$('play').onclick = toggle; $('at').oninput = () => { isMoving = true; to($('at').valueAsNumber); };
+$('at').onchange = () => { isMoving = false; to($('at').valueAsNumber); };
 $('row').onchange = () => {
   const p = $('row').valueAsNumber;
-  if (Number.isInteger(p) && p >= 0 && p <= S.run.count) return to(p);
+  if (Number.isInteger(p) && p >= 0 && p <= S.run.count) return jump(p);
   say(`Row: a number from 0 to ${whole(S.run.count)}`, true); $('row').value = S.p; };
 $('link').onclick = link; const help = () => { $('help').showModal(); $('closehelp').focus(); };
 $('keys').onclick = help; $('closehelp').onclick = () => $('help').close();
@@ -47,7 +48,7 @@ $('show').onclick = showText;
 $('text').oninput = () => { S.shown = false; $('textname').textContent = 'not played yet'; };
 $('trace').onchange = async () => { const n = $('trace').value; stop();
   if (n === 'own' || n === S.name) { $('trace').value = S.name; return; }
-  if (await load(await inflated(TRACES[n]), n, titleOf(n))) go(n === 'every' ? 0 : S.run.count >> 2); };
+  if (await load(await inflated(TRACES[n]), n, titleOf(n))) { go(n === 'every' ? 0 : S.run.count >> 2); enter(); } };
 const takeFile = async f => {
   let bytes;
   try { bytes = new Uint8Array(await f.arrayBuffer()); } catch (fault) { return say(`${f.name}, ${counted(f.size, 'byte')}, cannot be read: ${fault.message}`, true); }
@@ -70,30 +71,30 @@ $('zin').onclick = () => zoom(1 / 4); $('zout').onclick = () => zoom(4); $('zall
 $('zused').onclick = usedPart; $('zleft').onclick = () => pan(-0.5); $('zright').onclick = () => pan(0.5);
 $('compare').onclick = () => compare(['xsize', 'xnodes', 'xunit', 'xcompact'].map(id => {
   const v = $(id).value.trim(); return /^\d{1,10}$/.test(v) && v <= LARGEST ? Number(v) : -1; }));
-$('xback').onclick = () => to(S.other.rows.findLast(r => r < S.p)); $('xnext').onclick = () => to(S.other.rows.find(r => r > S.p));
+$('xback').onclick = () => jump(S.other.rows.findLast(r => r < S.p)); $('xnext').onclick = () => jump(S.other.rows.find(r => r > S.p));
 // The pointer.
-$('space').onpointermove = event => { pointer = event; draw(); };
-$('space').onpointerleave = () => { pointer = null; draw(); };
-$('space').onclick = event => { pointer = event; const b = chosenBlock(S.run.view(S.p)); if (b) chosenIs(b); };
+$('space').onpointermove = event => { pointer = event; showSpace(); };
+$('space').onpointerleave = () => { pointer = null; showSpace(); };
+$('space').onclick = event => { pointer = event; const b = chosenBlock(); if (b) chosenIs(b); };
 for (const id of ['life', 'lifeA']) {
   let begun = null;
-  const there = event => to(rowAt(event, id, S.run.count)), isTouch = event => event.pointerType === 'touch';
-  $(id).onpointerdown = event => { begun = event; if (!isTouch(event)) { $(id).setPointerCapture(event.pointerId); there(event); } };
+  const there = (event, f) => f(Math.max(0, rowAt(event, id, S.run.count))), isTouch = event => event.pointerType === 'touch';
+  $(id).onpointerdown = event => { begun = event; if (!isTouch(event)) { $(id).setPointerCapture(event.pointerId); there(event, jump); } };
   // a swipe up or down scrolls, and is no choice of a row
   $(id).onpointermove = event => {
     const [x, y] = begun ? [event.clientX - begun.clientX, event.clientY - begun.clientY].map(Math.abs) : [0, 0];
-    if (event.buttons && (!isTouch(event) || x > y + 8)) there(event); };
-  $(id).onclick = there;
+    if (event.buttons && (!isTouch(event) || x > y + 8)) there(event, to); };
+  $(id).onclick = event => there(event, jump);
 }
 $('bins').onpointermove = $('bins').onclick = event => {
-  const c = binAt(event), n = c < 0 ? 0 : S.run.view(S.p).bins[c];
+  const c = binAt(event), n = c < 0 ? 0 : S.run.view(S.p).free.bins[c];
   $('bin').textContent = c < 0 ? '' : c >= BINS ? `Class ${c}: larger than any space.` :
     `Class ${c}: blocks of ${sizesOf(c)} units; ${counted(n, 'free block')}.`; };
 // The keys, wherever the focus is, but in text: what each does.
 const KEYS = new Map([
   ['ArrowLeft', 'one row back', () => to(S.p - 1)], ['ArrowRight', 'one row on', () => to(S.p + 1)],
   ['PageUp', '100 rows back', () => to(S.p - 100)], ['PageDown', '100 rows on', () => to(S.p + 100)],
-  ['Home', 'before the first row', () => to(0)], ['End', 'after the last row', () => to(S.run.count)],
+  ['Home', 'before the first row', () => jump(0)], ['End', 'after the last row', () => jump(S.run.count)],
   [' ', 'play or pause, where no button has the focus', toggle], ['p', 'play or pause', toggle],
   ['r', 'next refusal', () => refusal(1)], ['R', 'refusal before', () => refusal(-1)],
   ['b', 'next block', () => chooseBlock(1)], ['B', 'block before', () => chooseBlock(-1)],
@@ -125,5 +126,6 @@ matchMedia('(prefers-color-scheme: dark)').addEventListener('change', () => { C 
 // paper is light
 for (const [name, isPaper] of [['beforeprint', true], ['afterprint', false]]) addEventListener(name, () => {
   document.documentElement.classList.toggle('printed', isPaper); C = null; if (S.run) draw(); });
-addEventListener('hashchange', restore);
+addEventListener('hashchange', () => { if (!history.state) restore(); });
+addEventListener('popstate', event => { if (event.state) come(event.state); });
 restore();

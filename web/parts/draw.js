@@ -1,6 +1,6 @@
 // The canvases: the space, the lives, the size classes, and the marks above the slider.
 const AGES = [10, 30, 100, 300, 1000, 3000, 10000];
-const ageOf = calls => { let a = 0; while (a < 7 && calls > AGES[a]) a++; return a; };
+const ageOf = calls => { let a = 7; while (a && calls <= AGES[a - 1]) a--; return a; };
 const ROWS = 6, GUTTER = 54;
 const color = name => getComputedStyle(document.documentElement).getPropertyValue(name).trim();
 let C = null;
@@ -9,80 +9,112 @@ const colors = () => C || (C = { ages: [1, 2, 3, 4, 5, 6, 7, 8].map(i => color('
 const rgb = hex => [1, 3, 5].map(i => parseInt(hex.slice(i, i + 2), 16));
 const short = n => n < 1e4 ? String(n) : n < 1e6 ? (n / 1e3).toFixed(n < 1e5 ? 1 : 0) + ' k' :
   n < 1e9 ? (n / 1e6).toFixed(n < 1e8 ? 1 : 0) + ' M' : (n / 1e9).toFixed(2) + ' G';
-function canvas(id) {
-  const c = $(id), d = devicePixelRatio || 1, w = c.clientWidth, h = c.clientHeight;
+function canvas(c) {
+  const d = devicePixelRatio || 1, w = c.clientWidth, h = c.clientHeight;
   if (c.width !== Math.round(w * d)) c.width = Math.round(w * d);
   if (c.height !== Math.round(h * d)) c.height = Math.round(h * d);
+  return [prepared(c, d), w, h, d];
+}
+function prepared(c, d) {
   const g = c.getContext('2d');
   g.setTransform(d, 0, 0, d, 0, 0);
-  g.clearRect(0, 0, w, h);
+  g.clearRect(0, 0, c.width, c.height);
   g.font = '11px system-ui, sans-serif'; g.textBaseline = 'middle'; g.fillStyle = colors().dim;
-  return [g, w, h, d];
+  return g;
 }
-// A picture of rectangles: a pixel is as dense as it is covered, and where it is covered at all at least by `LEAST`. Each
-// row of the sums holds steps from the pixel before, so that a long rectangle costs no more than a short one.
+// A picture of rectangles: a pixel is as dense as it is covered, and where it is covered at all at least by `LEAST`. For each
+// colour there are sums, whose rows hold steps from the pixel before: a long rectangle costs no more than a short one.
 const LEAST = 1 / 8;
 class Coverage {
-  constructor(wide, high) {
+  constructor(wide, high, inks) {
     // a canvas that is not shown has no width
     wide = Math.max(1, wide);
-    Object.assign(this, { wide, high, sums: new Float64Array(4 * (wide + 2) * high), sheet: document.createElement('canvas') });
+    Object.assign(this, { wide, high, inks: inks.map(rgb), sums: inks.map(() => null), sheet: document.createElement('canvas') });
     this.sheet.width = wide; this.sheet.height = high;
   }
-  add([r, g, b], x0, y0, x1, y1) {
+  add(ink, x0, y0, x1, y1) {
     // a range of no units is seen too
     y0 = Math.min(y0, this.high - 1e-6); y1 = Math.max(y1, y0 + 1e-6); x1 = Math.max(x1, x0 + 1e-6);
-    const s = this.sums, put = (at, v) => { s[at] += v * r; s[at + 1] += v * g; s[at + 2] += v * b; s[at + 3] += v; };
-    for (let y = Math.floor(y0); y < Math.min(y1, this.high); y++) {
-      const part = Math.min(y1, y + 1) - Math.max(y0, y), row = 4 * y * (this.wide + 2), i = Math.floor(x0), j = Math.floor(x1);
-      put(row + 4 * i, part * (i + 1 - x0)); put(row + 4 * i + 4, part * (x0 - i));
-      put(row + 4 * j, part * (x1 - j - 1)); put(row + 4 * j + 4, part * (j - x1));
+    const s = this.sumsOf(ink), i = Math.floor(x0), j = Math.floor(x1), end = Math.min(y1, this.high);
+    for (let y = Math.floor(y0); y < end; y++) {
+      const part = Math.min(y1, y + 1) - Math.max(y0, y), row = y * (this.wide + 2);
+      s[row + i] += part * (i + 1 - x0); s[row + i + 1] += part * (x0 - i);
+      s[row + j] += part * (x1 - j - 1); s[row + j + 1] += part * (j - x1);
     }
   }
-  paint() {
-    const image = new ImageData(this.wide, this.high), { data } = image, s = this.sums;
-    for (let y = 0, at = 0, to = 0; y < this.high; y++, at += 8)
-      for (let x = 0, r = 0, g = 0, b = 0, a = 0; x < this.wide; x++, at += 4, to += 4) {
-        r += s[at]; g += s[at + 1]; b += s[at + 2]; a += s[at + 3];
-        if (a > 1e-9) { data[to] = r / a; data[to + 1] = g / a; data[to + 2] = b / a; data[to + 3] = 255 * Math.max(LEAST, a); }
+  sumsOf(ink) { return this.sums[ink] = this.sums[ink] || new Float64Array((this.wide + 2) * this.high); }
+  // Paints some lines, from the one of a number on.
+  paint(from = 0, count = this.high) {
+    const high = Math.min(count, this.high - from), image = new ImageData(this.wide, high), { data } = image, line = new Float64Array(4 * this.wide);
+    for (let y = from; y < from + high; y++) {
+      line.fill(0);
+      for (const [i, s] of this.sums.entries()) if (s) {
+        const [r, g, b] = this.inks[i];
+        for (let at = y * (this.wide + 2), to = 0, v = 0; to < line.length; to += 4) {
+          v += s[at++];
+          if (v > 1e-9) { line[to] += v * r; line[to + 1] += v * g; line[to + 2] += v * b; line[to + 3] += v; }
+        }
       }
-    this.sheet.getContext('2d').putImageData(image, 0, 0);
+      for (let to = 0, at = (y - from) * line.length; to < line.length; to += 4, at += 4) {
+        const a = line[to + 3];
+        if (a) { data[at] = line[to] / a; data[at + 1] = line[to + 1] / a; data[at + 2] = line[to + 2] / a; data[at + 3] = 255 * Math.max(LEAST, a); }
+      }
+    }
+    this.sheet.getContext('2d').putImageData(image, 0, from);
     return this.sheet;
   }
 }
-// The blocks of a space, as lines of one text: `from` to `to` are the units that are shown.
+// The blocks of a space, as lines of one text: `from` to `to` are the units that are shown. The picture is kept, as what is
+// marked changes more often.
 function drawSpace(id, run, p, from, to, marked) {
-  const [g, w0, h, d] = canvas(id), w = w0 - GUTTER, rh = h / ROWS, span = (to - from) / ROWS, c = colors(), v = run.view(p);
-  g.textAlign = 'right';
-  for (let y = 0; y < ROWS; y++) g.fillText(short(Math.round(from + y * span)), GUTTER - 4, y * rh + rh / 2);
+  const [g, w0, h, d] = canvas($(id)), w = w0 - GUTTER, rh = h / ROWS, span = (to - from) / ROWS, c = colors();
   const strip = (o, n, f) => {
     const end = Math.min(to, o + n), begin = Math.max(from, o);
     for (let y = Math.floor((begin - from) / span); y < ROWS && from + y * span < end; y++) {
       const x = Math.max(0, begin - from - y * span) / span * w, z = Math.min(span, end - from - y * span) / span * w;
-      f(GUTTER + x, y * rh, z - x); } };
-  // what is not in the space is not free
-  g.fillStyle = c.free; strip(0, run.sizeAt(p), (x, y, z) => g.fillRect(x, y + 1, z, rh - 2));
-  // a range of less than three pixels covers a part of them
-  const ages = c.ages.map(rgb), thin = new Coverage(Math.round(w * d), ROWS), fine = thin.wide / w;
-  let last = -1;
-  for (const b of v.blocks) {
-    if (b.o >= to) break;
-    if (!b.k || b.o + b.n <= from) continue;
-    // to set a colour takes longer than to draw
-    const age = ageOf(p - run.born.list[b.k]); if (age !== last) g.fillStyle = c.ages[last = age];
-    strip(b.o, b.n, (x, y, z) => {
-      const row = Math.round(y / rh), at = (x - GUTTER) * fine;
-      if (z > 3) g.fillRect(x, y + 1, z - 1, rh - 2); else thin.add(ages[age], at, row, at + z * fine, row + 1); });
-  }
-  thin.paint(); g.imageSmoothingEnabled = false;
-  for (let y = 0; y < ROWS; y++) g.drawImage(thin.sheet, 0, y, thin.wide, 1, GUTTER, y * rh + 1, w, rh - 2);
+      f(x, y, z - x); } };
+  const key = [id, p, from, to, w0, h, d, c.bg].join();
+  if (run.space?.key !== key) run.space = { key, sheet: spaceSheet(run, p, from, to, strip, w0, h, d, run.space?.sheet) };
+  g.resetTransform(); g.drawImage(run.space.sheet, 0, 0); g.scale(d, d);
   for (const [o, n, dash, stroke] of marked) {
     // between two lines of the background, as an age may have the same lightness
     for (const [wide, style, lines] of [[4, c.bg, []], [2, stroke, dash]]) {
       g.setLineDash(lines); g.strokeStyle = style; g.lineWidth = wide;
-      strip(o, Math.max(n, 1e-9), (x, y, z) => g.strokeRect(x, y + 1, Math.max(3, z), rh - 2)); }
+      strip(o, Math.max(n, 1e-9), (x, y, z) => g.strokeRect(GUTTER + x, y * rh + 1, Math.max(3, z), rh - 2)); }
   }
   g.setLineDash([]);
+}
+function spaceSheet(run, p, from, to, strip, w0, h, d, old) {
+  const [wide, high] = [w0, h].map(v => Math.max(1, Math.round(v * d))), sheet = old?.width === wide && old.height === high ? old : new OffscreenCanvas(wide, high), g = prepared(sheet, d);
+  const w = w0 - GUTTER, rh = h / ROWS, span = (to - from) / ROWS, c = colors();
+  g.textAlign = 'right';
+  for (let y = 0; y < ROWS; y++) g.fillText(short(Math.round(from + y * span)), GUTTER - 4, y * rh + rh / 2);
+  const bar = (x, y, z) => g.fillRect(GUTTER + x, y * rh + 1, z, rh - 2);
+  // what is not in the space is not free
+  g.fillStyle = c.free; strip(0, run.sizeAt(p), bar);
+  // a range of less than three pixels covers a part of them
+  const thin = new Coverage(Math.round(w * d), ROWS, c.ages), [ranges, others] = run.near(p), next = run.begunAt(p);
+  let last = -1;
+  const whole = (o, n, age) => strip(o, n, (x, y, z) => {
+    if (z <= 3) return thin.add(age, x / w * thin.wide, y, (x + z) / w * thin.wide, y + 1);
+    // to set a colour takes longer than to draw
+    if (age !== last) g.fillStyle = c.ages[last = age];
+    bar(x, y, z - 1); });
+  coverLine(thin, ranges, Math.max(0, ranges.upTo(from) - 1), ranges.upTo(to), p, next, from, to, span, whole);
+  coverLine(thin, others, 0, others.count, p, next, from, to, span, whole);
+  thin.paint(); g.imageSmoothingEnabled = false;
+  for (let y = 0; y < ROWS; y++) g.drawImage(thin.sheet, 0, y, thin.wide, 1, GUTTER, y * rh + 1, w, rh - 2);
+  return sheet;
+}
+// Draws those of some ranges that are live: what is less than a pixel in one line here, the others by a function.
+function coverLine(thin, { o, n, born, to: ends, l }, i, count, p, next, from, to, span, other) {
+  const scale = thin.wide / span, all = thin.sums.map((_, ink) => thin.sumsOf(ink)), step = thin.wide + 2;
+  for (; i < count; i++) {
+    const at = o[i], units = n[i];
+    if (ends[i] <= p || l[i] >= next || at >= to || at + units <= from) continue;
+    const age = ageOf(p - born[i]), y = Math.floor((at - from) / span), x = (at - from - y * span) * scale, end = x + units * scale, j = Math.floor(x);
+    if (units && at >= from && end < j + 1) { const s = all[age], k = y * step + j; s[k] += end - x; s[k + 1] -= end - x; } else other(at, units, age);
+  }
 }
 // The unit at a point of the space's canvas.
 function unitAt(event, from, to) {
@@ -98,38 +130,44 @@ function ticks(run, n, w) {
   return run.ticks.get(key);
 }
 // The lives of all ranges, drawn once for each size of the window and scheme of colours, in turns: what is missing comes
-// with the next frame.
-function drawLives(id, run, p, again) {
-  const [g, w0, h0, d] = canvas(id), w = w0 - GUTTER, h = h0 - 16, c = colors(), n = run.count + 1;
+// with the next frames, as long as `at` returns a position.
+const TURN = 12;
+function drawLives(id, run, at, isTurn = false) {
+  const p = at();
+  if (p === null) return;
+  const [g, w0, h0, d] = canvas($(id)), w = w0 - GUTTER, h = h0 - 16, c = colors(), n = run.count + 1;
   const key = [w, h, d, c.bg, run.count].join();
   // a run that is compared is drawn in two sizes
   if (run.picture?.key !== key) [run.picture, run.other] = [run.other?.key === key ? run.other : null, run.picture];
   if (!run.picture) {
-    const drawn = new Coverage(Math.round(w * d), Math.round(h * d));
-    run.picture = { key, next: 0, drawn, sheet: drawn.sheet };
+    const drawn = new Coverage(Math.round(w * d), Math.round(h * d), c.ages);
+    run.picture = { key, next: 0, line: 0, isDone: false, drawn, sheet: drawn.sheet, due: 0 };
   }
   const s = run.picture, { wide, high } = s.drawn;
-  if (s.next < run.lk.length) {
-    const ages = c.ages.map(rgb), y = o => (1 - o / run.top) * high;
-    for (const t = performance.now(); s.next < run.lk.length && performance.now() - t <= 20;)
-      for (const end = Math.min(run.lk.length, s.next + 2000); s.next < end; s.next++) {
-        const l = s.next, o = run.lo.list[l], to = Math.min(run.lt.list[l], n);
-        s.drawn.add(ages[ageOf(run.lived(l, n))], run.lf.list[l] / n * wide, y(o + run.ln.list[l]), to / n * wide, y(o));
+  if (!s.isDone && (isTurn || !s.due)) {
+    const y = o => (1 - o / run.top) * high, t = performance.now(), all = run.lives.list;
+    while (s.line < high && performance.now() - t <= TURN) {
+      if (s.next === run.lifeCount) { s.drawn.paint(s.line, 16); s.line += 16; }
+      for (const end = Math.min(run.lifeCount, s.next + 1000); s.next < end; s.next++) {
+        const l = LIFE * s.next, o = all[l + O];
+        s.drawn.add(ageOf(run.lived(s.next, n)), all[l + FROM] / n * wide, y(o + all[l + N]), Math.min(all[l + TO], n) / n * wide, y(o));
       }
-    s.drawn.paint();
-    if (s.next < run.lk.length) requestAnimationFrame(again); else s.drawn.sums = null;
+    }
+    s.isDone = s.line >= high;
+    if (s.isDone) s.drawn.sums = null; else s.due = requestAnimationFrame(() => {
+      s.due = 0; if ([run.picture, run.other].includes(s)) drawLives(id, run, at, true); });
   }
   const cx = Math.min(w, (p + 1) / n * w), part = (from, to) => to > from &&
     g.drawImage(s.sheet, from * d, 0, (to - from) * d, h * d, GUTTER + from, 0, to - from, h);
   part(0, cx); g.globalAlpha = 0.25; part(cx, w); g.globalAlpha = 1;
   g.beginPath();
   for (const x of ticks(run, n, w)) { g.moveTo(GUTTER + x + 0.5, 0); g.lineTo(GUTTER + x + 0.5, 10); }
-  const at = GUTTER + Math.round(Math.min(cx, w - 2));
+  const line = GUTTER + Math.round(Math.min(cx, w - 2));
   for (const [edge, style] of [[1, c.bg], [0, c.mark]]) {
     g.lineWidth = 1 + 2 * edge; g.strokeStyle = g.fillStyle = style; g.stroke();
-    g.fillRect(at - edge, 0, 2 + 2 * edge, h); }
+    g.fillRect(line - edge, 0, 2 + 2 * edge, h); }
   g.fillStyle = c.dim; g.textAlign = 'right';
-  for (const [part0, at] of [[1, 7], [0.5, h / 2], [0, h - 6]]) g.fillText(short(Math.round(run.top * part0)), GUTTER - 4, at);
+  for (const [part0, y] of [[1, 7], [0.5, h / 2], [0, h - 6]]) g.fillText(short(Math.round(run.top * part0)), GUTTER - 4, y);
   g.textAlign = 'left'; g.fillText('row 0', GUTTER, h + 9); g.textAlign = 'right'; g.fillText(whole(run.count), w0, h + 9);
 }
 const rowAt = (event, id, count) => {
@@ -138,13 +176,13 @@ const rowAt = (event, id, count) => {
 };
 // The marks of refusals above the slider, whose thumb is 16 pixels wide.
 function drawMarks(run) {
-  const [g, w, h] = canvas('marks');
+  const [g, w, h] = canvas($('marks'));
   g.fillStyle = colors().mark;
   for (const x of ticks(run, Math.max(1, run.count), w - 16)) g.fillRect(8 + x - 0.5, 0, 1.5, h);
 }
 // The bins, one for each size class: left the top mask, a bit for each word; right a bit for each that has a free block.
 function drawBins(bins, searched, taken) {
-  const [g, w, h] = canvas('bins'), cw = w / 67, ch = h / 4, c = colors();
+  const [g, w, h] = canvas($('bins')), cw = w / 67, ch = h / 4, c = colors();
   for (let y = 0; y < 4; y++) {
     g.fillStyle = bins.subarray(64 * y, 64 * y + 64).some(n => n) ? c.fg : c.free; g.fillRect(1, y * ch + 2, cw * 2 - 2, ch - 4);
     for (let x = 0; x < 64; x++) { g.fillStyle = bins[64 * y + x] ? c.fg : c.free; g.fillRect((x + 3) * cw + 0.5, y * ch + 2, cw - 1, ch - 4); }

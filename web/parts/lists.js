@@ -50,37 +50,70 @@ function drawCall(row, i) {
   const run = S.run, p = run.shown ? run.refusals[i] - 1 : i, [op, ...of] = run.call(p), r = run.row(p);
   cell(row, whole(p + 1), 'n'); cell(row, said(op, ...of), 'c');
   cell(row, answered(run, p), r[0] === ANSWER.refused ? 'bad' : '');
-  const name = run.names.get(p) || (isOnGrant(op) ? run.nameOf(of[0]) : '');
+  const name = run.callName(p) || (isOnGrant(op) ? run.nameOf(of[0]) : '');
   if (name) cell(row, name, 'dim', name);
   if (r[7]) cell(row, REASONS[r[7]], 'bad', REASONS[r[7]]);
   if (p >= S.p) row.classList.add('later');
 }
-// The live ranges, sorted.
-const SORTS = { grant: (a, b) => a.k - b.k, offset: (a, b) => a.o - b.o, units: (a, b) => b.n - a.n || a.o - b.o,
-  since: (a, b) => S.run.born.list[a.k] - S.run.born.list[b.k],
-  name: (a, b) => S.run.nameOf(a.k).localeCompare(S.run.nameOf(b.k)) || a.k - b.k };
-let sorted = 'offset', ranges = [];
+// The live ranges: those of a view, by their places there, sorted.
+const SORTS = { grant: v => i => v.k[i], offset: null, units: v => i => LARGEST - v.n[i], since: v => i => v.born[i], name: v => i => S.run.ranks[v.k[i]] };
+let sorted = 'offset', ranges = new Uint32Array(0), rangesOf = null;
+const rangeAt = i => rangesOf.at(ranges[i]);
 function drawRange(row, i) {
-  const b = ranges[i];
+  const b = rangeAt(i);
   cell(row, b.k, 'n'); cell(row, whole(b.o), 'u'); cell(row, whole(b.n), 'u'); cell(row, whole(S.run.born.list[b.k]), 'n');
   cell(row, S.run.nameOf(b.k), 'dim', S.run.nameOf(b.k));
 }
 function showRanges(v) {
-  const run = S.run, end = [...run.live.values()].map(l => ({ k: run.lk.list[l], o: run.lo.list[l], n: run.ln.list[l] }));
-  ranges = ($('atend').checked ? end : v.blocks.filter(b => b.k)).sort(SORTS[sorted]);
+  const run = S.run;
+  rangesOf = $('atend').checked ? run.end : v;
+  ranges = SORTS[sorted] ? inOrder(rangesOf.count, SORTS[sorted](rangesOf)) : rangesOf.o.map((_, i) => i);
   for (const b of document.querySelectorAll('#sorts button')) b.setAttribute('aria-pressed', b.dataset.by === sorted);
-  L.ranges.chosen = ranges.findIndex(b => b.k === S.grant);
+  L.ranges.chosen = S.grant ? ranges.indexOf(rangesOf.k.indexOf(S.grant)) : -1;
   L.ranges.set(ranges.length);
-  $('rangesum').textContent = `Live now: ${counted(v.blocks.filter(b => b.k).length, 'range')}, ${units(run.usedAt(S.p))}. ` +
-    `Still live at the end: ${counted(end.length, 'range')}, ${units(end.reduce((s, b) => s + b.n, 0))}.`;
+  $('rangesum').textContent = `Live now: ${counted(v.count, 'range')}, ${units(run.usedAt(S.p))}. ` +
+    `Still live at the end: ${counted(run.lifeCount - run.ends.length, 'range')}, ${units(run.usedAt(run.count))}.`;
   showSizes();
+}
+// Sorts by another column. For names each grant gets a rank, once.
+async function sortBy(by) {
+  if (by === 'name' && !S.run.ranks) {
+    const run = S.run, ranks = await during('Sorting', work => rankedNames(run, work));
+    if (!ranks) return;
+    run.ranks = ranks;
+  }
+  sorted = by; showRanges(S.run.view(S.p));
+}
+// For each grant its place in the order of names, and of numbers where names are the same.
+async function rankedNames(run, work) {
+  let runs = [];
+  const words = [...new Set(run.names.values())], order = new Intl.Collator().compare, place = new Map([['', 0]]);
+  for (let i = 0; i < words.length; i += 1024) { runs.push(words.slice(i, i + 1024).sort(order)); await work.turn(i, 2 * words.length); }
+  while (runs.length > 1) {
+    const longer = [];
+    for (let i = 0; i < runs.length; i += 2) {
+      const [a, b = []] = runs.slice(i, i + 2), both = [];
+      for (let x = 0, y = 0; x < a.length || y < b.length;) {
+        both.push(y >= b.length || (x < a.length && order(a[x], b[y]) <= 0) ? a[x++] : b[y++]);
+        if (both.length % 1024 === 0) await work.turn(1, 2);
+      }
+      longer.push(both);
+    }
+    runs = longer;
+  }
+  for (const word of runs[0] || []) place.set(word, place.size);
+  const places = new Uint32Array(run.born.length), ranks = new Uint32Array(run.born.length);
+  for (let k = 1; k < places.length; k++) { places[k] = place.get(run.nameOf(k)); if (k % 4096 === 0) await work.turn(1, 2); }
+  inOrder(places.length, k => places[k]).forEach((k, rank) => { ranks[k] = rank; });
+  return ranks;
 }
 // How many live ranges are of which sizes: a bar for each power of two.
 function showSizes() {
-  const count = new Map();
-  for (const b of ranges) { const e = b.n ? 31 - Math.clz32(b.n) : -1, c = count.get(e) || [0, 0]; count.set(e, [c[0] + 1, c[1] + b.n]); }
-  const most = Math.max(1, ...[...count.values()].map(c => c[0]));
-  $('sizes').replaceChildren(...[...count].sort((a, b) => a[0] - b[0]).map(([e, [n, sum]]) => {
+  const count = new Map(), each = new Float64Array(33), sums = new Float64Array(33), { n } = rangesOf;
+  for (let i = 0; i < ranges.length; i++) { const u = n[ranges[i]], e = 32 - Math.clz32(u); each[e]++; sums[e] += u; }
+  for (let e = 0; e < 33; e++) if (each[e]) count.set(e - 1, [each[e], sums[e]]);
+  const most = Math.max(1, ...each);
+  $('sizes').replaceChildren(...[...count].map(([e, [n, sum]]) => {
     const row = document.createElement('div'); row.className = 'size';
     cell(row, e < 0 ? '0' : e ? `${short(2 ** e)} to ${short(2 ** (e + 1) - 1)}` : '1', 'u');
     const bar = document.createElement('span'); bar.className = 'bar2'; bar.style.setProperty('--part', n / most); row.append(bar);
@@ -90,16 +123,14 @@ function showSizes() {
 }
 // The size classes that have free blocks.
 function showBins(v, searched, taken) {
-  const list = [];
-  v.bins.forEach((n, c) => { if (n) list.push([c, n]); });
-  const sum = new Map();
-  for (const b of v.blocks) if (!b.k) { const c = classOf(b.n); sum.set(c, (sum.get(c) || 0) + b.n); }
+  const list = [], { bins, sums, count } = v.free;
+  bins.forEach((n, c) => { if (n) list.push([c, n]); });
   $('binrows').replaceChildren(...list.map(([c, n]) => {
     const row = document.createElement('tr');
     row.id = `bin-${c}`; if (c === taken) row.className = 'now';
-    for (const text of [c, sizesOf(c), whole(n), whole(sum.get(c) || 0)]) row.insertCell().textContent = text;
+    for (const text of [c, sizesOf(c), whole(n), whole(sums[c])]) row.insertCell().textContent = text;
     return row;
   }));
-  $('binsum').textContent = `${counted(v.blocks.length - v.blocks.filter(b => b.k).length, 'free block')} of ${counted(list.length, 'class', 'classes')}.` +
+  $('binsum').textContent = `${counted(count, 'free block')} of ${counted(list.length, 'class', 'classes')}.` +
     (searched < 256 ? ` Searched from class ${searched}, ${sizesOf(searched)} units` + (taken < 256 ? `; took a block of class ${taken}.` : '.') : '');
 }

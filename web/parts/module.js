@@ -28,27 +28,29 @@ class Module {
     if (!count && calls.length) throw new Fault('out of memory');
     return asText ? [count, this.bytes()] : this.words();
   }
-  // The counts of the bins, and the blocks from the start of the space: offset, units, and the grant's number or 0.
-  view() {
+  // The blocks from the start of the space: offset, units, and the grant's number or 0. They come from its end, after the counts
+  // of 256 bins.
+  blocks() {
     this.e.view();
     const w = this.words(), blocks = [];
     for (let i = w.length - 3; i >= 256; i -= 3) blocks.push({ o: w[i], n: w[i + 1], k: w[i + 2] });
-    return { bins: w.slice(0, 256), blocks };
+    return blocks;
   }
   // The ranges that the call played last has moved: the number of each grant, and its offset.
   moved() { this.e.moved(); return this.words(); }
   size() { return this.e.memory.buffer.byteLength; }
-  saved() { return new Uint8Array(this.e.memory.buffer).slice(); }
+  memory() { return new Uint8Array(this.e.memory.buffer); }
+  saved() { return this.memory().slice(); }
   // The memory never becomes smaller, and what was taken since is not known there: from time to time it begins anew.
   restore(saved) {
     if (this.size() > 2 * saved.length + (1 << 24)) this.e = new WebAssembly.Instance(compiled, {}).exports;
     if (this.size() < saved.length) this.e.memory.grow((saved.length - this.size()) / 65536);
-    new Uint8Array(this.e.memory.buffer).set(saved);
+    this.memory().set(saved);
   }
 }
 // Size classes: 8 for each power of two, from 8 on. The class of the largest value that is at most n; the value of a
 // class; the class that a request of n units is rounded up to.
 const BINS = 240;
-const classOf = n => { if (n < 8) return n; const e = 31 - Math.clz32(n); return (e - 2) * 8 + Math.floor(n / 2 ** (e - 3)) - 8; };
+const classOf = n => { if (n < 8) return n; const e = 31 - Math.clz32(n); return (e - 2) * 8 + (n >>> (e - 3)) - 8; };
 const valueOf = c => c < 8 ? c : (c % 8 + 8) * 2 ** (Math.floor(c / 8) - 1);
 const roundedUp = n => { const c = classOf(n); return valueOf(c) < n ? c + 1 : c; };

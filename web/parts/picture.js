@@ -6,12 +6,12 @@ async function pictured(run, w, h, work) {
   const x = p => fixed(left + p / n * (right - left)), y = o => fixed(top + (1 - o / run.top) * (middle - top));
   const text = (at, px, anchor, words, more = '') => `<text x='${px}' y='${at}' text-anchor='${anchor}'${more}>${safe(words)}</text>`;
   // a range thinner than a pixel is no path, which might not be painted, but counts in a picture by what it covers
-  const lives = c.ages.map(() => []), ages = c.ages.map(rgb), thin = new Coverage(2 * (right - left), 2 * (middle - top));
-  for (let l = 0; l < run.lk.length; l++) {
-    const age = ageOf(run.lived(l, n)), o = run.lo.list[l], u = run.ln.list[l], from = run.lf.list[l], to = Math.min(run.lt.list[l], n);
+  const lives = c.ages.map(() => []), thin = new Coverage(2 * (right - left), 2 * (middle - top), c.ages);
+  for (let l = 0; l < run.lifeCount; l++) {
+    const { o, n: u, from, to: end } = run.life(l), age = ageOf(run.lived(l, n)), to = Math.min(end, n);
     if (u / run.top * (middle - top) >= 1 && (to - from) / n * (right - left) >= 1) lives[age].push(`M${x(from)} ${y(o + u)}H${x(to)}V${y(o)}H${x(from)}z`);
-    else thin.add(ages[age], from / n * thin.wide, (1 - (o + u) / run.top) * thin.high, to / n * thin.wide, (1 - o / run.top) * thin.high);
-    if (l % 4096 === 0) await work.turn(l, run.lk.length);
+    else thin.add(age, from / n * thin.wide, (1 - (o + u) / run.top) * thin.high, to / n * thin.wide, (1 - o / run.top) * thin.high);
+    if (l % 4096 === 0) await work.turn(l, run.lifeCount);
   }
   // for each point of the width the least of the calls there
   const most = run.sizes.reduce((m, s) => Math.max(m, s[1]), 1), wide = Math.round(right - left), free = [], largest = [];

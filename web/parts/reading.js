@@ -7,20 +7,21 @@ const CALLS = [['alloc', 'n'], ['align', 'na'], ['free', 'k'], ['size', 'k'], ['
   ['tight', 'na'], ['room', 'n'], ['room', 'nas'], ['relocate', 'k'], ['relocate', 'ka'], ['retract', 'd'], ['offset', 'k'],
   ['where', 'n'], ['where', 'na'], ['first', ''], ['last', ''], ['before', 'k'], ['after', 'k'], ['cost', 'n'], ['cost', 'nas'],
   ['why alloc', 'n'], ['why align', 'na'], ['why tight', 'n'], ['why tight', 'na']];
-const NAMES = CALLS.map(c => c[0]), KINDS = CALLS.map(c => c[1]), OP = { compact: 10, tight: 13, tightAligned: 14, room: 15 };
+const NAMES = CALLS.map(c => c[0]), KINDS = CALLS.map(c => c[1]), OP = { free: 2, compact: 10, tight: 13, tightAligned: 14, room: 15, retract: 19 };
 const isOnGrant = op => KINDS[op][0] === 'k', isTight = op => op === OP.tight || op === OP.tightAligned;
 const isRelocation = op => NAMES[op] === 'relocate', isSlide = op => ['compact', 'room'].includes(NAMES[op]);
 const said = (op, ...of) => [NAMES[op], ...of.slice(0, KINDS[op].length)].join(' ');
 const filled = call => [...call, 0, 0, 0, 0].slice(0, WIDE);
 class Growing {
   constructor(type, size) { this.list = new type(size); this.length = 0; }
-  push(...values) {
-    if (this.length + values.length > this.list.length) {
-      const list = new this.list.constructor(2 * this.list.length + values.length);
-      list.set(this.list); this.list = list;
-    }
-    for (const v of values) this.list[this.length++] = v;
+  // Makes room for so many more.
+  reserve(more) {
+    if (this.length + more <= this.list.length) return;
+    const list = new this.list.constructor(2 * this.list.length + more);
+    list.set(this.list); this.list = list;
   }
+  push(v) { if (this.length === this.list.length) this.reserve(1); this.list[this.length++] = v; }
+  append(values) { this.reserve(values.length); this.list.set(values, this.length); this.length += values.length; }
   whole() { return this.list.slice(0, this.length); }
   copy(length) {
     const c = new Growing(this.list.constructor, 0);
@@ -28,9 +29,21 @@ class Growing {
     return c;
   }
 }
+// The numbers below `count` in the order of their keys, which are below 2 to the 32nd; those of one key in their own order.
+const MOST_KEYED = 2 ** 21;
+function inOrder(count, key) {
+  const order = new Uint32Array(count);
+  if (count > MOST_KEYED) { for (let i = 0; i < count; i++) order[i] = i; return order.sort((i, j) => key(i) - key(j) || i - j); }
+  const keyed = new Float64Array(count);
+  for (let i = 0; i < count; i++) keyed[i] = key(i) * MOST_KEYED + i;
+  keyed.sort();
+  for (let i = 0; i < count; i++) order[i] = keyed[i] - Math.floor(keyed[i] / MOST_KEYED) * MOST_KEYED;
+  return order;
+}
 // The header and the calls of a text: five numbers for each, the line of each, and the names of those that have one.
 async function readText(bytes, work) {
   const m = new Module(), calls = new Growing(Uint32Array, 1024 * WIDE), lines = new Growing(Uint32Array, 1024), names = new Map();
+  const decoder = new TextDecoder(), one = new Map();
   let head = null, at = 0, part = 0;
   do {
     let end = Math.min(bytes.length, at + PIECE);
@@ -44,12 +57,19 @@ async function readText(bytes, work) {
       throw fault;
     }
     const [rows, text] = found;
+    calls.reserve(rows.length);
     for (let i = 0, t = 0; i < rows.length; i += WIDE + 2) {
-      const [line, name] = rows.subarray(i + WIDE);
+      const name = rows[i + WIDE + 1];
       if (rows[i] === HEADER) head = [rows[i + 1], rows[i + 2], rows[i + 3]];
       else {
-        if (name) names.set(lines.length, new TextDecoder().decode(text.subarray(t, t + name)));
-        calls.push(...rows.subarray(i, i + WIDE)); lines.push(line);
+        if (name) {
+          const word = decoder.decode(text.subarray(t, t + name));
+          // a name that many ranges have is kept once
+          if (!one.has(word)) one.set(word, word);
+          names.set(lines.length, one.get(word));
+        }
+        for (let j = 0; j < WIDE; j++) calls.list[calls.length++] = rows[i + j];
+        lines.push(rows[i + WIDE]);
       }
       t += name;
     }
@@ -86,7 +106,7 @@ function mended(given) {
 async function writeText(run, work) {
   const parts = [`space ${run.head[0]} nodes ${run.head[1]} index ${run.head[2]}\n`];
   for (let i = 0; i < run.count; i++) {
-    const name = run.names.get(i);
+    const name = run.callName(i);
     parts.push((name ? `# ${name}\n` : '') + said(...run.call(i)) + '\n');
     if (i % 4096 === 0) await work.turn(i, run.count);
   }

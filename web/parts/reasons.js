@@ -1,6 +1,6 @@
 // Why a call was refused, and what would have helped: each help is tried on a copy of the space as it was before the call.
 const LARGEST = 4294967295;
-const whole = n => n.toLocaleString('en');
+const inEnglish = new Intl.NumberFormat('en'), whole = n => inEnglish.format(n);
 const counted = (n, one, more = one + 's') => `${whole(n)} ${n === 1 ? one : more}`;
 const units = n => counted(n, 'unit');
 const sizesOf = c => {
@@ -8,30 +8,71 @@ const sizesOf = c => {
   return most > least ? `${whole(least)} to ${whole(most)}` : whole(least);
 };
 const isRefusal = (run, p) => p > 0 && run.row(p - 1)[0] === ANSWER.refused;
-// A refused call, p the row after it: what it asked for, why it was refused, and what would have helped.
-function explain(run, p) {
+// A refused call, p the row after it: what it asked for, why it was refused, and what would have helped: a text, the calls in its
+// place that show it, or the nodes that do, and the units that are outlined. A step at a time, as in a large space each takes
+// its time.
+function* explain(run, p) {
   const [op, a, b, ...more] = run.call(p - 1), before = run.view(p - 1), size = run.sizeAt(p - 1), name = NAMES[op];
-  const out = { title: `Row ${whole(p)}: ${said(op, a, b, ...more)} is refused`, facts: [], helps: [] };
-  if (op <= 1) asked(out, run, p, a, op ? b : 1, before, size);
-  else if (isTight(op)) tight(out, run, p, a, b || 1, before, size);
-  else if (name === 'extend') extended(out, run, p, a, before, size);
-  else if (name === 'retract') retracted(out, run, p, before);
-  else if (name === 'room') unroomed(out, run, p, op, a, before, size);
-  else if (name === 'compact') unslid(out, run, p);
-  else if (name === 'relocate') unmoved(out, run, p, a, before);
-  else resized(out, run, p, op, a, b, before, size);
-  if (!out.helps.length) out.helps.push('nothing that was tried: a space that began larger, or other calls before');
+  const out = { title: `Row ${whole(p)}: ${said(op, a, b, ...more)} is refused`, facts: [], helps: [], call: [op, a, b] };
+  out.help = (text, calls = null, more = {}) => out.helps.push({ text, calls, ...more });
+  if (op <= 1) yield* asked(out, run, p, a, op ? b : 1, before, size);
+  else if (isTight(op)) yield* tight(out, run, p, a, b || 1, before, size);
+  else if (name === 'extend') yield* extended(out, run, p, a, before, size);
+  else if (name === 'retract') yield* retracted(out, run, p, before);
+  else if (name === 'room') yield* unroomed(out, run, p, op, a, before, size);
+  else if (name === 'compact') yield* unslid(out, run, p);
+  else if (name === 'relocate') yield* unmoved(out, run, p, a, before);
+  else yield* resized(out, run, p, op, a, b, before, size);
+  if (!out.helps.length) out.help('nothing that was tried: a space that began larger, or other calls before');
   return out;
 }
-const UNDONE = [ANSWER.refused, ANSWER.gone];
-// Whether the last of these calls succeeds there. A module of much memory is not copied.
-function granted(run, p, calls) {
-  return run.m.size() <= 1 << 28 && !UNDONE.includes(run.tried(p - 1, calls).at(-1)[0]);
+const MOST_NAMED = 4, UNDONE = [ANSWER.refused, ANSWER.gone];
+// Whether the last of these calls succeeds there: then what the first of them moves. A module of much memory is not copied.
+function* granted(run, p, calls) {
+  if (run.m.size() > 1 << 28) return null;
+  while (run.nearer(p - 1)) yield;
+  const m = run.copied();
+  let kind = 0, moved = null;
+  for (const c of calls) { yield; kind = m.play(Uint32Array.from(filled(c)))[0]; moved = moved || m.moved(); }
+  yield;
+  return UNDONE.includes(kind) ? null : moved;
 }
-const largestFree = blocks => blocks.reduce((s, x) => x.k ? s : Math.max(s, x.n), 0);
-function asked(out, run, p, n, align, before, size) {
+// The neighbouring ranges of the fewest units, and of those the fewest, whose release leaves a free block that fits, from a unit to
+// another: the first of them and the one after the last.
+function cheapest(view, fits) {
+  const { count, o, n, size } = view;
+  let best = null, units = 0;
+  for (let i = 0, j = 0; i < count; units -= n[i++]) {
+    while (j < count && (j <= i || !fits(view.endOf(i - 1), o[j]))) units += n[j++];
+    if (!fits(view.endOf(i - 1), j < count ? o[j] : size)) break;
+    if (!best || units < best.units || (units === best.units && j - i < best.to - best.from)) best = { from: i, to: j, units };
+  }
+  return best;
+}
+// What would have to go for a request: ranges that are moved together, or released. `need` are the units of the block that it asks
+// for, and `fits` says where it is served.
+function* evicted(out, run, p, before, need, fits) {
+  const list = ranges => ranges.slice(0, MOST_NAMED).map(b => `${named(run, b.k)} of ${units(b.n)}`).join(', ') +
+    (ranges.length > MOST_NAMED ? `, and ${whole(ranges.length - MOST_NAMED)} more` : '');
+  const one = (what, ranges, calls, style) => {
+    const first = ranges[0], last = ranges.at(-1), end = last.o + last.n;
+    out.help(`${what} ${counted(ranges.length, 'range')} of ${units(ranges.reduce((s, b) => s + b.n, 0))}, from ${whole(first.o)} to ${whole(end)} (${style}): ` +
+      `${list(ranges)}; then it is granted`, calls, { outline: [first.o, end - first.o, style === 'dashed'] });
+  };
+  const room = [OP.room, need], moved = need <= LARGEST ? yield* granted(run, p, [room, out.call]) : null;
+  if (moved?.length) one('move', [...moved].filter((_, i) => i % 2 === 0).map(k => run.rangeOf(k, p - 1)), [room, out.call], 'outlined');
+  // at the node limit a release between free blocks gives up nodes
+  const isShort = run.row(p - 1)[7] === 1 && before.anyFree((o, n) => fits(o, o + n)), free = i => (before.before(i) > 0) + (before.before(i + 1) > 0);
+  const places = isShort ? [1, 2].map(least => [...before.n.keys()].filter(i => free(i) >= least).sort((i, j) => before.n[i] - before.n[j])[0]).filter(i => i !== undefined)
+    .map(i => ({ from: i, to: i + 1 })) : [cheapest(before, fits)].filter(run => run);
+  for (const { from, to } of places) {
+    const ranges = Array.from({ length: to - from }, (_, i) => before.at(from + i)), calls = [...ranges.map(b => [OP.free, b.k]), out.call];
+    if (yield* granted(run, p, calls)) { one('release', ranges, calls, 'dashed'); break; }
+  }
+}
+function* asked(out, run, p, n, align, before, size) {
   const need = n + align - 1, call = run.call(p - 1), limit = run.head[1], [, , , , free, largest, count, why] = run.row(p - 1);
-  const big = largestFree(before.blocks), all = freeOf(before.blocks);
+  const { largest: big, units: all } = before.free;
   if (need > LARGEST) {
     out.facts.push(`${units(n)} at a multiple of ${whole(align)} need a block of ${whole(need)}: more than any space has`);
     return;
@@ -43,107 +84,108 @@ function asked(out, run, p, n, align, before, size) {
     (c < BINS ? units(value) : 'more than any block has'));
   out.facts.push(`largest free block: ${units(big)}; free in all: ${units(all)}; largest request granted now: ${units(largest)}`);
   out.facts.push(`blocks: ${whole(count)} of at most ${whole(limit - 1)}`);
-  if (granted(run, p, [[10], call])) out.helps.push('compact: after it the request is granted');
-  const last = before.blocks.at(-1), more = value - (last && !last.k ? last.n : 0);
-  if (c < BINS && more > 0 && size + more <= LARGEST && granted(run, p, [[7, more], call]))
-    out.helps.push(`${units(more)} more space (extend ${more}): then it is granted`);
-  else if (c < BINS && value > all && size + value - all <= LARGEST && granted(run, p, [[10], [7, value - all], call]))
-    out.helps.push(`compact, and ${units(value - all)} more space (extend ${value - all}): then it is granted`);
+  if (yield* granted(run, p, [[10], call])) out.help('compact: after it the request is granted', [[10], out.call]);
+  const more = value - before.tail;
+  if (c < BINS && more > 0 && size + more <= LARGEST && (yield* granted(run, p, [[7, more], call])))
+    out.help(`${units(more)} more space (extend ${more}): then it is granted`, [[7, more], out.call]);
+  else if (c < BINS && value > all && size + value - all <= LARGEST && (yield* granted(run, p, [[10], [7, value - all], call])))
+    out.help(`compact, and ${units(value - all)} more space (extend ${value - all}): then it is granted`, [[10], [7, value - all], out.call]);
   if (why === 1 && big >= value)
-    out.helps.push(`more nodes: a limit of ${whole(count + (align > 1 ? 3 : 2))} (it is ${whole(limit)}), where the calls before stay the same`);
-  if (why === 1 && big < value) out.helps.push('more nodes alone would not do: no free block is large enough');
-  if (align === 1 && why !== 1 && n > 0 && big >= n && granted(run, p, [[OP.tight, n]]))
-    out.helps.push(`tight ${n} in its place: a free block has the ${units(n)}, but not the rounded ones`);
-  if (align > 1 && why !== 1 && granted(run, p, [[0, n]]))
-    out.helps.push('no alignment: alloc of the same units is granted. A unit as large as the alignment needs none');
-  if (largest > 0 && largest < n) out.helps.push(`a smaller request: at most ${units(largest)}`);
+    out.help(`more nodes: a limit of ${whole(count + (align > 1 ? 3 : 2))} (it is ${whole(limit)}), where the calls before stay the same`, null, { nodes: count + (align > 1 ? 3 : 2) });
+  if (why === 1 && big < value) out.help('more nodes alone would not do: no free block is large enough');
+  if (align === 1 && why !== 1 && n > 0 && big >= n && (yield* granted(run, p, [[OP.tight, n]])))
+    out.help(`tight ${n} in its place: a free block has the ${units(n)}, but not the rounded ones`, [[OP.tight, n]]);
+  if (align > 1 && why !== 1 && (yield* granted(run, p, [[0, n]])))
+    out.help('no alignment: alloc of the same units is granted. A unit as large as the alignment needs none', [[0, n]]);
+  if (largest > 0 && largest < n) out.help(`a smaller request: at most ${units(largest)}`, [[0, largest]]);
+  if (c < BINS) yield* evicted(out, run, p, before, need, (from, to) => to - from >= value);
 }
 const blocksOf = (run, p) => `${whole(run.row(p - 1)[6])} of at most ${whole(run.head[1] - 1)}`;
-const freeOf = blocks => blocks.reduce((s, x) => s + (x.k ? 0 : x.n), 0);
 // A request that takes any block that holds it: what is free at the end has to hold it from a multiple of `align` on.
-function tight(out, run, p, n, align, before, size) {
-  const call = run.call(p - 1), [, , , , , , count, why] = run.row(p - 1), last = before.blocks.at(-1), from = o => Math.ceil(o / align) * align;
-  const lacks = from(last && !last.k ? last.o : size) + n - size, later = from(size - freeOf(before.blocks)) + n - size;
-  const isHeld = before.blocks.some(x => !x.k && from(x.o) + n <= x.o + x.n);
+function* tight(out, run, p, n, align, before, size) {
+  const call = run.call(p - 1), [, , , , , , count, why] = run.row(p - 1), { free, tail } = before, from = o => Math.ceil(o / align) * align;
+  const lacks = from(size - tail) + n - size, later = from(size - free.units) + n - size;
+  const isHeld = before.anyFree((o, room) => from(o) + n <= o + room);
   out.facts.push(REASONS[why], `asked: ${units(n)}${align > 1 ? ` at a multiple of ${whole(align)}` : ''}, not rounded up`);
-  out.facts.push(`largest free block: ${units(largestFree(before.blocks))}; free in all: ${units(freeOf(before.blocks))}`);
+  out.facts.push(`largest free block: ${units(free.largest)}; free in all: ${units(free.units)}`);
   out.facts.push(`blocks: ${blocksOf(run, p)}`);
-  if (granted(run, p, [[OP.compact], call])) out.helps.push('compact: after it the request is granted');
-  if (lacks > 0 && size + lacks <= LARGEST && granted(run, p, [[7, lacks], call]))
-    out.helps.push(`${units(lacks)} more space (extend ${lacks}): then it is granted`);
-  else if (later > 0 && size + later <= LARGEST && granted(run, p, [[OP.compact], [7, later], call]))
-    out.helps.push(`compact, and ${units(later)} more space (extend ${later}): then it is granted`);
-  if (why === 1) out.helps.push(isHeld ?
-    `more nodes: a limit of ${whole(count + (align > 1 ? 3 : 2))} (it is ${whole(run.head[1])}), where the calls before stay the same` :
-    'more nodes alone would not do: no free block is large enough');
+  if (yield* granted(run, p, [[OP.compact], call])) out.help('compact: after it the request is granted', [[OP.compact], out.call]);
+  if (lacks > 0 && size + lacks <= LARGEST && (yield* granted(run, p, [[7, lacks], call])))
+    out.help(`${units(lacks)} more space (extend ${lacks}): then it is granted`, [[7, lacks], out.call]);
+  else if (later > 0 && size + later <= LARGEST && (yield* granted(run, p, [[OP.compact], [7, later], call])))
+    out.help(`compact, and ${units(later)} more space (extend ${later}): then it is granted`, [[OP.compact], [7, later], out.call]);
+  if (why === 1 && isHeld)
+    out.help(`more nodes: a limit of ${whole(count + (align > 1 ? 3 : 2))} (it is ${whole(run.head[1])}), where the calls before stay the same`, null, { nodes: count + (align > 1 ? 3 : 2) });
+  else if (why === 1) out.help('more nodes alone would not do: no free block is large enough');
+  yield* evicted(out, run, p, before, n + align - 1, (o, to) => from(o) + n <= to);
 }
-function retracted(out, run, p, before) {
-  const last = before.blocks.at(-1), free = last && !last.k ? last.n : 0;
+function* retracted(out, run, p, before) {
+  const { last, tail: free } = before;
   out.facts.push(free ? `at its end ${units(free)} ${free === 1 ? 'is' : 'are'} free` :
     `its last block is used${last ? ` (${named(run, last.k)})` : ''}`);
-  if (free) out.helps.push(`at most ${units(free)} fewer (retract ${free})`);
-  if (granted(run, p, [[OP.compact], run.call(p - 1)])) out.helps.push('compact: after it the space can be retracted');
+  if (free) out.help(`at most ${units(free)} fewer (retract ${free})`, [[OP.retract, free]]);
+  if (yield* granted(run, p, [[OP.compact], run.call(p - 1)])) out.help('compact: after it the space can be retracted', [[OP.compact], out.call]);
 }
 // Room that no moves make.
-function unroomed(out, run, p, op, n, before, size) {
-  const call = run.call(p - 1), all = freeOf(before.blocks), value = valueOf(roundedUp(n)), more = value - all;
+function* unroomed(out, run, p, op, n, before, size) {
+  const call = run.call(p - 1), all = before.free.units, value = valueOf(roundedUp(n)), more = value - all;
   const request = op === OP.room ? `alloc ${n}` : `align ${n} ${call[2]}`;
   out.facts.push(`free in all: ${units(all)}; no moves make a block of them that serves ${request}`);
   out.facts.push(`blocks: ${blocksOf(run, p)}`);
-  if (op === OP.room && roundedUp(n) < BINS && more > 0 && size + more <= LARGEST && granted(run, p, [[7, more], call]))
-    out.helps.push(`${units(more)} more space (extend ${more}): then room is made`);
-  if (granted(run, p, [[OP.compact], call])) out.helps.push('compact: after it there is room');
+  if (op === OP.room && roundedUp(n) < BINS && more > 0 && size + more <= LARGEST && (yield* granted(run, p, [[7, more], call])))
+    out.help(`${units(more)} more space (extend ${more}): then room is made`, [[7, more], out.call]);
+  if (yield* granted(run, p, [[OP.compact], call])) out.help('compact: after it there is room', [[OP.compact]]);
 }
 // A compaction by steps that lacks a node.
-function unslid(out, run, p) {
+function* unslid(out, run, p) {
   out.facts.push(`no further block may exist for the units that the ranges leave: ${blocksOf(run, p)}`);
-  out.helps.push(`more nodes: a limit of ${whole(run.head[1] + 1)}`);
-  if (granted(run, p, [[OP.compact], run.call(p - 1)])) out.helps.push('compact: after it nothing is left to slide');
+  out.help(`more nodes: a limit of ${whole(run.head[1] + 1)}`, null, { nodes: run.head[1] + 1 });
+  if (yield* granted(run, p, [[OP.compact], run.call(p - 1)])) out.help('compact: after it nothing is left to slide', [[OP.compact]]);
 }
-function unmoved(out, run, p, k, before) {
-  const block = before.blocks.find(x => x.k === k);
+function* unmoved(out, run, p, k, before) {
+  const block = before.of(k);
   if (!block) return;
   out.facts.push(`${named(run, k)} has ${units(block.n)}, at ${whole(block.o)}`);
   out.facts.push(`no second range of as many is granted before it; blocks: ${blocksOf(run, p)}`);
-  if (granted(run, p, [[0, block.n]])) out.helps.push(`another range: alloc ${block.n} is granted; copy, then free ${k}`);
+  if (yield* granted(run, p, [[0, block.n]])) out.help(`another range: alloc ${block.n} is granted; copy, then free ${k}`, [[0, block.n], [OP.free, k]]);
 }
-function extended(out, run, p, more, before, size) {
+function* extended(out, run, p, more, before, size) {
   if (size + more > LARGEST) {
     out.facts.push(`the space would have ${whole(size + more)} units, more than ${whole(LARGEST)}`);
-    if (size < LARGEST) out.helps.push(`at most ${units(LARGEST - size)} more`);
+    if (size < LARGEST) out.help(`at most ${units(LARGEST - size)} more`, [[7, LARGEST - size]]);
     return;
   }
-  const count = run.row(p - 1)[6], limit = run.head[1], last = before.blocks.at(-1);
+  const count = run.row(p - 1)[6], limit = run.head[1], { last } = before;
   out.facts.push(`its last block is used${last ? ` (${named(run, last.k)})` : ''}, and no further block may exist: ` +
     `${whole(count)} of at most ${whole(limit - 1)}`);
-  out.helps.push(`more nodes: a limit of ${whole(limit + 1)}`);
-  if (granted(run, p, [[10], run.call(p - 1)])) out.helps.push('compact: after it the space can be extended');
+  out.help(`more nodes: a limit of ${whole(limit + 1)}`, null, { nodes: limit + 1 });
+  if (yield* granted(run, p, [[10], run.call(p - 1)])) out.help('compact: after it the space can be extended', [[10], out.call]);
 }
-function resized(out, run, p, op, k, n, before, size) {
-  const i = before.blocks.findIndex(x => x.k === k), block = before.blocks[i], next = before.blocks[i + 1];
+function* resized(out, run, p, op, k, n, before, size) {
+  const block = before.of(k);
   if (!block) return;
-  const lack = n - block.n, room = next && !next.k ? next.n : 0;
+  const room = before.before(block.i + 1), next = room ? null : before.at(block.i + 1);
+  const lack = n - block.n;
   out.facts.push(`${named(run, k)} has ${units(block.n)}, at ${whole(block.o)}`);
   if (op === 8) {
     if (n > block.n) { out.facts.push(`${whole(n)} is more: shrink makes no range larger`);
-      if (granted(run, p, [[9, k, n]])) out.helps.push(`grow ${k} ${n} in its place`);
+      if (yield* granted(run, p, [[9, k, n]])) out.help(`grow ${k} ${n} in its place`, [[9, k, n]]);
       return; }
     out.facts.push(`no further block may exist for the units after it, and no free block is directly after it`);
-    out.helps.push(`more nodes: a limit of ${whole(run.head[1] + 1)}`);
-    if (granted(run, p, [[10], run.call(p - 1)])) out.helps.push('compact: after it the range can shrink');
+    out.help(`more nodes: a limit of ${whole(run.head[1] + 1)}`, null, { nodes: run.head[1] + 1 });
+    if (yield* granted(run, p, [[10], run.call(p - 1)])) out.help('compact: after it the range can shrink', [[10], out.call]);
     return;
   }
   if (lack < 0) { out.facts.push(`${whole(n)} is fewer: grow makes no range smaller`);
-    if (granted(run, p, [[8, k, n]])) out.helps.push(`shrink ${k} ${n} in its place`);
+    if (yield* granted(run, p, [[8, k, n]])) out.help(`shrink ${k} ${n} in its place`, [[8, k, n]]);
     return; }
-  if (!next) out.facts.push('it ends where the space ends');
-  else if (next.k) out.facts.push(`directly after it is ${named(run, next.k)}, with ${units(next.n)}`);
-  else out.facts.push(`directly after it ${units(next.n)} ${next.n === 1 ? 'is' : 'are'} free, and it lacks ${whole(lack)}`);
-  const isLast = !next || (!next.k && i + 2 === before.blocks.length);
-  if (isLast && granted(run, p, [[7, lack - room], run.call(p - 1)]))
-    out.helps.push(`${units(lack - room)} more space (extend ${lack - room}): then it grows`);
-  if (granted(run, p, [[10], run.call(p - 1)])) out.helps.push('compact: after it the range can grow');
-  if (granted(run, p, [[0, n]])) out.helps.push(`another range: alloc ${n} is granted; copy, then free ${k}`);
+  if (room) out.facts.push(`directly after it ${units(room)} ${room === 1 ? 'is' : 'are'} free, and it lacks ${whole(lack)}`);
+  else out.facts.push(next ? `directly after it is ${named(run, next.k)}, with ${units(next.n)}` : 'it ends where the space ends');
+  const isLast = block.i === before.last.i;
+  if (isLast && (yield* granted(run, p, [[7, lack - room], run.call(p - 1)])))
+    out.help(`${units(lack - room)} more space (extend ${lack - room}): then it grows`, [[7, lack - room], out.call]);
+  if (yield* granted(run, p, [[10], run.call(p - 1)])) out.help('compact: after it the range can grow', [[10], out.call]);
+  if (yield* granted(run, p, [[0, n]])) out.help(`another range: alloc ${n} is granted; copy, then free ${k}`, [[0, n], [OP.free, k]]);
 }
 // A grant as the page names it.
 const named = (run, k) => `grant ${k}${run.nameOf(k) ? ` “${run.nameOf(k)}”` : ''}`;
@@ -151,8 +193,6 @@ const named = (run, k) => `grant ${k}${run.nameOf(k) ? ` “${run.nameOf(k)}”`
 function whyGone(run, p) {
   const k = run.call(p - 1)[1];
   if (k === 0 || k >= run.born.length || run.born.list[k] > p) return `no grant has the number ${whole(k)} there`;
-  for (let l = run.lk.length - 1; l >= 0; l--)
-    if (run.lk.list[l] === k && run.lt.list[l] < p)
-      return `${named(run, k)} ended in row ${whole(run.lt.list[l])}: ${answered(run, run.lt.list[l] - 1)}`;
-  return '';
+  const to = run.died.list[k];
+  return to < p ? `${named(run, k)} ended in row ${whole(to)}: ${answered(run, to - 1)}` : '';
 }

@@ -1,34 +1,36 @@
 // Puts a state on the page: all that depends on the position.
-let pointer = null, isListing = 0, whyOf = [];
+let pointer = null, isMoving = false, listed = 0, rest = 0, following = 0, whyOf = [], helps = [];
 // What is told again unchanged would be announced again.
+const FOLLOWS = 250, FEW = 8;
 const tell = (id, text) => { if ($(id).textContent !== text) $(id).textContent = text; };
 function draw() {
-  const t0 = performance.now(), { run, p } = S, v = run.view(p), r = p ? run.row(p - 1) : null, op = p ? run.call(p - 1) : [-1, 0, 0];
-  const size = run.sizeAt(p), [from, to] = S.zoom || [0, Math.max(1, size)], marked = [];
+  const t0 = performance.now(), { run, p } = S, r = p ? run.row(p - 1) : null, op = p ? run.call(p - 1) : [-1, 0, 0];
+  const size = run.sizeAt(p), [from, to] = shownUnits();
+  // in a large space, what needs all its blocks follows once the slider rests, or a few times a second while the run plays
+  const isQuick = rest > FEW && (isMoving || (playing && t0 - listed < FOLLOWS)), v = isQuick ? null : run.view(p);
+  clearTimeout(following);
+  if (isQuick) following = setTimeout(() => { isMoving = false; draw(); }, FOLLOWS);
   let taken = null, searched = 256, bin = 256;
-  if (r && (op[0] === 0 || op[0] === 1)) searched = Math.min(256, roundedUp(op[0] ? op[1] + op[2] - 1 : op[1]));
-  if (r && r[0] === ANSWER.grant) {
+  if (r && (op[0] === 0 || op[0] === 1)) searched = Math.min(256, roundedUp(Math.min(LARGEST, op[0] ? op[1] + op[2] - 1 : op[1])));
+  if (v && r && r[0] === ANSWER.grant) {
     // no two free blocks are neighbours: the free units directly round the range were in the block that was taken
-    const i = v.blocks.findIndex(b => b.k === r[1]), before = v.blocks[i - 1], after = v.blocks[i + 1];
-    taken = { o: r[2], n: r[3] };
-    if (before && !before.k) taken = { o: before.o, n: before.n + taken.n };
-    if (after && !after.k) taken.n += after.n;
+    const i = r[3] ? v.upTo(r[2]) - 1 : v.of(r[1]).i, before = v.before(i);
+    taken = { o: r[2] - before, n: before + r[3] + v.before(i + 1) };
     bin = classOf(taken.n);
   }
-  if (r && (r[0] === ANSWER.grant || r[0] === ANSWER.resized)) marked.push([r[2], r[3], [], colors().mark]);
-  const chosen = chosenBlock(v);
-  if (chosen) marked.push([chosen.o, chosen.n, [4, 3], colors().fg]);
-  drawSpace('space', run, p, from, to, marked);
-  drawLives('life', run, p, () => S.run === run && draw());
+  showSpace();
+  drawLives('life', run, () => S.run === run ? S.p : null);
   drawMarks(run);
-  drawBins(v.bins, searched, bin);
-  const free = size - run.usedAt(p), big = largestFree(v.blocks), kept = free ? 1 - valueOf(classOf(big)) / valueOf(classOf(free)) : 0;
-  const full = v.blocks.length >= run.head[1] - 1;
-  const share = (100 * run.usedAt(p) / Math.max(1, size)).toFixed(1);
-  $('reports').textContent = `${units(size)}: ${whole(run.usedAt(p))} used (${share}%), ${whole(free)} free. ` +
-    (r ? `Largest request that is granted: ${whole(r[5])}. ` : '') +
-    `${counted(v.blocks.length, 'block')}${full ? ', as many as the node limit admits' : ''}. ` +
-    `Fragmentation ${(kept * 100).toFixed(1)}% (of the largest request, were all free units one block).`;
+  const free = size - run.usedAt(p), share = (100 * run.usedAt(p) / Math.max(1, size)).toFixed(1);
+  let reports = `${units(size)}: ${whole(run.usedAt(p))} used (${share}%), ${whole(free)} free. ` +
+    (r ? `Largest request that is granted: ${whole(r[5])}. ` : '');
+  if (v) {
+    drawBins(v.free.bins, searched, bin);
+    const kept = free ? 1 - valueOf(classOf(v.free.largest)) / valueOf(classOf(free)) : 0, blocks = v.count + v.free.count;
+    reports += `${counted(blocks, 'block')}${blocks >= run.head[1] - 1 ? ', as many as the node limit admits' : ''}. ` +
+      `Fragmentation ${(kept * 100).toFixed(1)}% (of the largest request, were all free units one block).`;
+  }
+  $('reports').textContent = reports;
   $('shown').textContent = `Shown: units ${whole(Math.floor(from))} to ${whole(Math.floor(to))}` +
     (S.zoom ? `, ${((to - from) / Math.max(1, size) * 100).toPrecision(2)}% of the space` : ', all of the space') +
     `; a line is ${units(Math.ceil((to - from) / ROWS))}.`;
@@ -41,11 +43,22 @@ function draw() {
   $('rback').disabled = !(run.refusals[0] < p); $('rnext').disabled = !(run.refusals.at(-1) > p);
   tell('now', p ? `Row ${whole(p)}: ${said(...op)}: ${answered(run, p - 1)}` +
     (taken ? `, from the free block at ${whole(taken.o)} of ${units(taken.n)}` : '') +
-    (run.names.get(p - 1) ? ` “${run.names.get(p - 1)}”` : '') : 'Before the first row.');
-  describe(v);
+    (run.callName(p - 1) ? ` “${run.callName(p - 1)}”` : '') : 'Before the first row.');
+  const t1 = performance.now();
   // while the run plays, the lists follow a few times a second
-  if (!playing || t0 - isListing > 250) { isListing = t0; lists(v, searched, bin); }
+  if (v && (!playing || t0 - listed > FOLLOWS)) { listed = t0; lists(v, searched, bin); rest = performance.now() - t1; }
   window.frameTime = performance.now() - t0;
+}
+const shownUnits = () => S.zoom || [0, Math.max(1, S.run.sizeAt(S.p))];
+// The space, with what is marked in it, and the chosen block in words: all that the pointer changes.
+function showSpace() {
+  const { run, p } = S, r = p ? run.row(p - 1) : null, chosen = chosenBlock(), marked = [];
+  if (r && (r[0] === ANSWER.grant || r[0] === ANSWER.resized)) marked.push([r[2], r[3], [], colors().mark]);
+  if (isRefusal(run, p) && whyOf[0] === run && whyOf[1] === p)
+    for (const { outline: [o, n, isDashed] } of helps.filter(h => h.outline)) marked.push([o, n, isDashed ? [6, 4] : [], colors().mark]);
+  if (chosen) marked.push([chosen.o, chosen.n, [4, 3], colors().fg]);
+  drawSpace('space', run, p, ...shownUnits(), marked);
+  describe(chosen);
 }
 function lists(v, searched, bin) {
   const { run, p } = S;
@@ -64,33 +77,60 @@ function why(run, p) {
   const isGone = p > 0 && run.row(p - 1)[0] === ANSWER.gone;
   $('why').hidden = playing || !(isRefusal(run, p) || isGone);
   if ($('why').hidden || (whyOf[0] === run && whyOf[1] === p)) return;
-  whyOf = [run, p];
-  const e = isGone ? { title: `Row ${whole(p)}: ${said(...run.call(p - 1))}: gone`, facts: [whyGone(run, p)], helps: [] } : explain(run, p);
-  $('whytitle').textContent = e.title;
-  const fill = (id, texts) => $(id).replaceChildren(...texts.map(t => { const li = document.createElement('li'); li.textContent = t; return li; }));
-  fill('facts', e.facts); fill('helps', e.helps);
+  const of = whyOf = [run, p];
   $('helped').hidden = isGone;
+  if (isGone) return told({ title: `Row ${whole(p)}: ${said(...run.call(p - 1))}: gone`, facts: [whyGone(run, p)], helps: [] });
+  // in a small space all is tried at once, in a large one in turns
+  const steps = explain(run, p), isSmall = run.m.size() < 1 << 23;
+  const next = () => {
+    let found;
+    do { if (whyOf !== of) return; found = steps.next(); } while (isSmall && !found.done);
+    if (found.done) { run.copy = null; told(found.value); } else setTimeout(next);
+  };
+  if (!isSmall) told({ title: `Row ${whole(p)}: ${said(...run.call(p - 1))} is refused`, facts: [REASONS[run.row(p - 1)[7]] || ''], helps: [{ text: 'being tried' }] });
+  next();
+}
+function told(e) {
+  $('whytitle').textContent = e.title;
+  const fill = (id, parts) => $(id).replaceChildren(...parts.map(part => { const li = document.createElement('li'); li.append(part); return li; }));
+  fill('facts', e.facts);
+  // what would have helped is a button that shows it
+  fill('helps', e.helps.map(help => {
+    if (!(help.calls && help.calls.every(([op]) => KINDS[op].length <= 2)) && !help.nodes) return help.text;
+    const button = document.createElement('button');
+    button.textContent = help.text; button.title = help.nodes ? 'Compares with a run of so many nodes' : 'Shows the space after it';
+    button.onclick = () => showHelp(help);
+    return button;
+  }));
+  helps = e.helps; showSpace();
+}
+// The space as it would be with what helps: its calls in place of the refused one, or the run with more nodes beside this one.
+async function showHelp({ calls, nodes }) {
+  stop(); say('');
+  if (!nodes) return edit(...added(S.p - 1, calls));
+  await compare([S.run.head[0], nodes, 1, COMPACT.asIs]);
+  $('compared').scrollIntoView({ block: 'nearest' });
 }
 // The block that is chosen: by the pointer, by keys or by a click.
-function chosenBlock(v) {
-  const at = o => v.blocks.find(b => b.o <= o && o < b.o + b.n) || null;
-  if (pointer) return at(unitAt(pointer, ...(S.zoom || [0, Math.max(1, S.run.sizeAt(S.p))])));
-  if (S.grant) return v.blocks.find(b => b.k === S.grant) || null;
-  const b = S.free === undefined ? null : at(S.free);
+function chosenBlock() {
+  const { run, p } = S;
+  if (pointer) return run.view(p).with(unitAt(pointer, ...shownUnits()));
+  if (S.grant) return run.rangeOf(S.grant, p);
+  const b = S.free === undefined ? null : run.view(p).with(S.free);
   return b && !b.k ? b : null;
 }
-function describe(v) {
-  const b = chosenBlock(v), run = S.run;
+function describe(b) {
+  const run = S.run;
   $('goto').hidden = !(b && b.k);
   if (b) $('goto').textContent = `Go to row ${whole(run.born.list[b.k] || 0)}`;
-  if (b && b.k) $('goto').onclick = () => { pointer = null; S.grant = b.k; stop(); go(run.born.list[b.k]); };
+  if (b && b.k) $('goto').onclick = () => { pointer = null; S.grant = b.k; jump(run.born.list[b.k]); };
   tell('block', !b ? (S.grant ? `${named(run, S.grant)} is not live here.` : 'Point at a block, or choose one by the keys b and B.') :
     (b.k ? named(run, b.k).replace('g', 'G') : 'Free') + ` at ${whole(b.o)}: ${units(b.n)}, class ${classOf(b.n)} (${sizesOf(classOf(b.n))})` +
     (b.k ? `, live since row ${whole(run.born.list[b.k])}.` : '.'));
 }
 function chooseBlock(step) {
-  const v = S.run.view(S.p), at = chosenBlock(v), i = at ? v.blocks.indexOf(at) + step : step > 0 ? 0 : v.blocks.length - 1;
-  const b = v.blocks[Math.max(0, Math.min(v.blocks.length - 1, i))];
+  const at = chosenBlock(), { blocks } = S.run.view(S.p), i = at ? blocks.findIndex(b => b.o === at.o && b.k === at.k) + step : step > 0 ? 0 : blocks.length - 1;
+  const b = blocks[Math.max(0, Math.min(blocks.length - 1, i))];
   if (!b) return;
   pointer = null; chosenIs(b);
 }
@@ -107,12 +147,12 @@ function zoomAt(center, width) {
   S.zoom = w >= size ? null : [from, from + w];
 }
 function zoom(by) {
-  const [from, to] = S.zoom || [0, S.run.sizeAt(S.p)], b = chosenBlock(S.run.view(S.p)), r = S.p ? S.run.row(S.p - 1) : null;
+  const [from, to] = S.zoom || [0, S.run.sizeAt(S.p)], b = chosenBlock(), r = S.p ? S.run.row(S.p - 1) : null;
   const center = b ? b.o + b.n / 2 : S.zoom || !r || r[0] !== ANSWER.grant ? (from + to) / 2 : r[2] + r[3] / 2;
   zoomAt(center, (to - from) * by); draw();
 }
 function pan(by) { if (S.zoom) { const w = S.zoom[1] - S.zoom[0]; zoomAt((S.zoom[0] + S.zoom[1]) / 2 + by * w, w); draw(); } }
 function usedPart() {
-  const last = S.run.view(S.p).blocks.findLast(b => b.k), end = last ? last.o + last.n : S.run.sizeAt(S.p);
+  const { last } = S.run.view(S.p), end = last ? last.o + last.n : S.run.sizeAt(S.p);
   zoomAt(end / 2, end); draw();
 }

@@ -41,6 +41,7 @@ async function load(bytes, name, title) {
     return new Run(t.head, t.calls, t.names, t.lines).survey(work);
   }, bytes, name === 'own' && title !== OWN ? title : '');
   if (!run) { if (S.run) $('trace').value = S.name; return false; }
+  leave();
   const before = { ...S };
   Object.assign(S, { run, base: run, name, title, bytes, past: [], ahead: [], grant: 0, zoom: null });
   say('');
@@ -90,7 +91,7 @@ async function take(bytes, title, isTyped = false) {
   stop();
   const end = isTyped || isWide(bytes) ? bytes.length : bytes.lastIndexOf(10) + 1 || bytes.length;
   if (!await load(bytes.subarray(0, end), 'own', title || OWN)) return false;
-  go(0);
+  go(0); enter();
   if (end < bytes.length) {
     const told = $('told').textContent, acts = [...$('sayacts').children];
     say(`${told} The last line of ${S.title}, ${quoted(bytes.subarray(end))}, has no line feed: it may be cut, and is not played.`.trim(),
@@ -98,6 +99,30 @@ async function take(bytes, title, isTyped = false) {
     $('sayacts').prepend(...acts);
   }
   return true;
+}
+// Back and Forward: each run and each row that the user jumps to is a place, with all that is shown there; steps from row to row
+// stay at one. The places of some runs are kept.
+const places = new Map(), MOST_RUNS = 3;
+let here = null;
+function leave() { if (here) places.set(here, { ...S, past: [...S.past], ahead: [...S.ahead] }); }
+function enter(isNew = true) {
+  here = `${performance.timeOrigin} ${performance.now()}`;
+  leave();
+  history[isNew ? 'pushState' : 'replaceState']({ id: here, name: S.name, title: S.title, p: S.p }, '');
+  const runs = [...new Set([...places.values()].map(place => place.base))].slice(0, -MOST_RUNS);
+  for (const [id, place] of places) if (runs.includes(place.base) && place.base !== S.base) places.delete(id);
+}
+function jump(p) { stop(); if (p === S.p) return draw(); leave(); go(p); enter(); }
+async function come({ id, name, title, p }) {
+  const place = places.get(id);
+  stop(); leave(); here = id;
+  if (place) {
+    Object.assign(S, place); say(''); showNames();
+    if (S.other) $('compared').hidden = false; else dropOther();
+    go(S.p);
+  } else if (name === S.name && title === S.title) go(p);
+  else if (!Object.hasOwn(TRACES, name)) say(`${title} is not kept: give its file again.`);
+  else { here = null; if (await load(await inflated(TRACES[name]), name, title)) go(p); here = id; leave(); }
 }
 function go(p) { S.p = Math.max(0, Math.min(S.run.count, Math.trunc(p) || 0)); draw(); }
 // A call of the user's: the run is left at the position, and the call is added. The original stays.
@@ -114,32 +139,28 @@ function act(name) {
     values.push(v);
   }
   stop(); say('');
-  const { run, base, p } = S, kept = run === base ? p : Math.min(p, run.kept);
-  edit(kept, [...run.edits.slice(0, p - kept), [NAMES.indexOf(name), values[0] || 0, values[1] || 0]]);
+  return edit(...added(S.p, [[NAMES.indexOf(name), ...values]]));
 }
-function edit(kept, edits) {
-  S.past.push({ kept: S.run.kept, edits: S.run.edits, p: S.p, isBase: S.run === S.base }); S.ahead = [];
-  set({ kept, edits, p: kept + edits.length });
+// How many calls of the original stay where calls are added at a position, and the user's after these.
+function added(p, calls) {
+  const { run, base } = S, kept = run === base ? p : Math.min(p, run.kept);
+  return [kept, [...run.edits.slice(0, p - kept), ...calls.map(([op, a = 0, b = 0]) => [op, a, b])]];
 }
-function set({ kept, edits, p, isBase }) {
-  try { S.run = isBase ? S.base : S.base.branch(kept, edits); } catch (fault) {
-    say(fault instanceof Fault ? fault.message : 'out of memory', true); return; }
+const edit = (kept, edits) => set({ kept, edits, p: kept + edits.length }, () => [S.past, S.ahead = []]);
+// Puts another course in place of the run; what was before goes to the list that `left` returns.
+async function set({ kept, edits, p, isBase }, left) {
+  const { base } = S, was = { kept: S.run.kept, edits: S.run.edits, p: S.p, isBase: S.run === base };
+  const run = isBase ? base : await during('Playing', work => base.branch(kept, edits, work));
+  if (!run || S.base !== base) return;
+  left()[0].push(was); S.run = run;
   showNames(); dropOther(); go(p);
 }
-function undo(from, to) {
-  if (!from.length) return;
-  to.push({ kept: S.run.kept, edits: S.run.edits, p: S.p, isBase: S.run === S.base });
-  set(from.pop());
-}
-function original() {
-  if (S.run === S.base) return;
-  const p = Math.min(S.p, S.run.kept);
-  S.past.push({ kept: S.run.kept, edits: S.run.edits, p: S.p }); set({ isBase: true, p });
-}
+function undo(from, to) { if (from.length) return set(from.at(-1), () => { from.pop(); return [to]; }); }
+function original() { if (S.run !== S.base) return set({ isBase: true, p: Math.min(S.p, S.run.kept) }, () => [S.past]); }
 // The next refusal after the position, or the one before it.
 function refusal(step) {
   const list = S.run.refusals, p = step > 0 ? list.find(r => r > S.p) : list.findLast(r => r < S.p);
-  if (p) { stop(); go(p); } else say(list.length ? `No refusal ${step > 0 ? 'after' : 'before'} row ${whole(S.p)}.` : 'No call is refused.');
+  if (p) jump(p); else say(list.length ? `No refusal ${step > 0 ? 'after' : 'before'} row ${whole(S.p)}.` : 'No call is refused.');
 }
 // Files for the user.
 function save(blob, name) {
@@ -176,16 +197,17 @@ async function link() {
     say(`This run is too large for a link (${counted(String(q).length, 'character')}): send its file, and the number of the row.`, true);
     return;
   }
-  history.replaceState(null, '', '#' + q); S.linked = S.run;
+  history.replaceState(history.state, '', '#' + q); S.linked = S.run;
   const size = counted(location.href.length, 'character');
   const long = location.href.length > 30000 ? ' Some programs cut such a link: then send the file.' : '';
   try { await navigator.clipboard.writeText(location.href); say(`The link to this state is copied: ${size}.${long}`); }
   catch { say(`The link to this state is in the address bar: ${size}.${long}`); }
 }
+const ADDED = [...Array(11).keys(), OP.tight, OP.room, OP.retract];
 const numbersOf = text => text.split('.').map(x => { if (!/^\d{1,10}$/.test(x) || Number(x) > LARGEST) throw Error(); return Number(x); });
 const oneOf = text => { const n = numbersOf(text); if (n.length !== 1) throw Error(); return n[0]; };
 async function restore() {
-  stop();
+  stop(); leave();
   const q = new URLSearchParams(location.hash.slice(1)), t = q.get('t');
   let isFaulty = t !== null && !Object.hasOwn(TRACES, t), why = 'what it names is not there', p = null;
   try {
@@ -196,10 +218,10 @@ async function restore() {
     if (q.get('c')) {
       const kept = oneOf(q.get('kept') || ''), c = numbersOf(q.get('c')), edits = [];
       for (let i = 0; i < c.length; i += 3) {
-        if (i + 2 >= c.length || c[i] > 10 || (c[i] === 1 && !isPower(c[i + 2]))) throw Error();
+        if (i + 2 >= c.length || !ADDED.includes(c[i]) || (c[i] === 1 && !isPower(c[i + 2]))) throw Error();
         edits.push(c.slice(i, i + 3)); }
       if (kept > S.base.count) throw Error();
-      S.run = S.base.branch(kept, edits); showNames();
+      S.run = await during('Playing', work => S.base.branch(kept, edits, work)) || S.run; showNames();
     }
     if (q.has('x')) await compare(numbersOf(q.get('x')));
     const filters = q.get('f') || '';
@@ -221,5 +243,6 @@ async function restore() {
   S.linked = S.run;
   if (isFaulty) say(`The link is faulty: ${why}. This is the nearest state.`, true);
   go(p === null ? Math.min(4000, S.run.count) : p);
+  enter(false);
 }
 const titleOf = name => name === 'every' ? 'every command' : name.replace('-', ' ');

@@ -21,6 +21,8 @@ use Rattle.offset_calls.specs.{Stepped.kept, Stepped.first_run, Stepped.to_the_e
 use Rattle.offset_calls.specs.Calls.{CompactedWithin, moves_by, moves_of_run, slides_run, compact_by, compact_within, make_room_by}
 use Rattle.offset_calls.proofs.EndPairs.{same_can, retracted_alike, same_relocated, same_relocated_aligned, IsSent, AreSent, sent_first, sent_last}
 use Rattle.offset_calls.specs.Tight.{holds, better, holding_place, request_tight, allocate_tight, lack, reason_held}
+use Rattle.offset_calls.specs.AtOffset.{last_place, request_at, allocate_at}
+use Rattle.offset_calls.proofs.AtPairs.{same_last_place, same_can_take}
 use Rattle.offset_calls.specs.Room as room
 use Rattle.offset_calls.proofs.Splits.{IsSameSplit, no_split, same_split, same_cost, same_cheapest, same_room_cost, same_cheapest_by, same_to_the_end, same_within, same_goes_on}
 use Rattle.std.specs.Prelude.{min}
@@ -333,6 +335,18 @@ module _ (r : ℕ → ℕ) (g d : ℕ) (back : (k : ℕ) → r (number_with g d 
       let o = if_same (IsSameOutcome r d) (nat_le align 1) (nat_le align 1) _ _ _ _ refl (λ e. request_same 1 n n align) (request_same 2 (n + align - 1) n align) in
       record { reply = ap Answer o.answer; state = o.state }
 
+  -- a request for the units from an offset on
+  last_places : (offset : ℕ) → IsSamePlace (λ q. Unit {0}) a.pairs (last_place offset 0 s.blocks) (last_place offset 0 t.blocks)
+  last_places offset = subst₂ (λ x y. IsSamePlace (λ q. Unit {0}) a.pairs (last_place offset 0 x) (last_place offset 0 y)) (sym a.left_blocks) (sym a.right_blocks) (same_last_place offset 0 a.pairs)
+
+  at_outcome : (offset n : ℕ) (o o' : Option machine.Place) → IsSamePlace (λ q. Unit {0}) a.pairs o o' → IsSameOutcome r d (request_at offset n s o) (request_at offset n t o')
+  at_outcome offset n None None neither = same_quiet r d s t a _ _ refl
+  at_outcome offset n o o' (both xs q ys e f) = if_same (IsSameOutcome r d) _ _ _ _ _ _ (same_can_take offset n s t (same_short s t a.pairs a.limit a.left_blocks a.right_blocks) xs q ys)
+      (λ z. same_granted r d s t a n (λ q. Unit {0}) (λ begin. offset - begin) _ _ (both xs q ys e f)) (same_quiet r d s t a _ _ refl)
+
+  at_same : (offset n : ℕ) → AreSame r g d (answered (allocate_at offset n s)) (answered (allocate_at offset n t))
+  at_same offset n = let o = at_outcome offset n _ _ (last_places offset) in record { reply = ap Answer o.answer; state = o.state }
+
   some_place : (x y : Option machine.Place) → IsSamePlace (λ q. Unit {0}) a.pairs x y → is_some x ≡ is_some y
   some_place None None neither = refl
   some_place x y (both xs q ys e f) = refl
@@ -415,6 +429,7 @@ module _ (r : ℕ → ℕ) (g d : ℕ) (back : (k : ℕ) → r (number_with g d 
   same_call (call.Refusal n) = quiet _ _ (ap Refusal (reason_same 1 n))
   same_call (call.Tight n) = tight_same n 1
   same_call (call.TightAligned n align) = tight_same n align
+  same_call (call.AllocateAt offset n) = at_same offset n
   same_call (call.RefusalTight n) = quiet _ _ (ap Refusal (held_reason 1 n 1))
   same_call (call.RefusalTightAligned n align) = quiet _ _ (ap Refusal (held_reason (if nat_le align 1 then 1 else 2) n align))
   same_call (call.WouldBegin n align) = quiet _ _ (ap begin_of (alike_step r d (command.Align n align) s t a).answer ∙ begin_raised g d (machine.allocate_aligned n align t).answer)

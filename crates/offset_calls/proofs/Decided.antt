@@ -14,6 +14,10 @@ use Rattle.offset_allocator.specs.declared.moves.room.RoomCost.{RoomCost}
 use Rattle.offset_allocator.specs.Moving.Compacting as named
 use Rattle.offset_allocator.proofs.Decided.{aligns_decided, allocates_decided, filled_grants, relocates_decided, tight_decided}
 use Rattle.offset_allocator.proofs.DecidedChanges.{compacts_decided, extends_decided, frees_decided, grows_decided, resets_decided, retracts_decided, shrinks_decided}
+use Rattle.offset_allocator.specs.AtPlace.{AllocatesAt}
+use Rattle.offset_allocator.proofs.AtPlace.{at_grants}
+use Rattle.offset_calls.proofs.DecidedAt.{at_decided}
+use Rattle.offset_calls.specs.Steps.{TakesAt}
 use Rattle.offset_allocator.specs.Moving.Budget.{CompactsWithin}
 use Rattle.offset_allocator.specs.Moving.RoomBySteps.{MakesRoomBy, names_short}
 use Rattle.offset_allocator.specs.declared.moves.budget.Progress.{Progress}
@@ -143,6 +147,9 @@ module _ (v : View) (known : IsWellFormed v) (accesses : ℕ) (w w' : View) (hs 
   tight_taken : (n align : ℕ) (r r' : Reply) → TakesTight n align v hs w left r → TakesTight n align z hs w' left' r' → AreSame r r' w w' left left'
   tight_taken n align r r' t k = answered t.1 k.1 r r' t.4 k.4 (granted t.0 k.0 (tight_decided n align v z w w' known refl t.0 k.0 t.2 k.2) t.1 k.1 t.3 k.3)
 
+  at_taken : (offset n : ℕ) (r r' : Reply) → TakesAt offset n v hs w left r → TakesAt offset n z hs w' left' r' → AreSame r r' w w' left left'
+  at_taken offset n r r' t k = answered t.1 k.1 r r' t.4 k.4 (granted t.0 k.0 (at_decided offset n v z w w' known refl t.0 k.0 t.2 k.2) t.1 k.1 t.3 k.3)
+
   room_taken : (want : ℕ) (r r' : Reply) → left ≡ hs → left' ≡ hs → TakesRoom want v hs w r → TakesRoom want z hs w' r' → AreSame r r' w w' left left'
   room_taken want r r' e f t k =
       let s = noted_decided want v z w w' known refl t.0 k.0 t.2 k.2 t.1 k.1 t.3.made k.3.made in
@@ -193,6 +200,7 @@ module _ (v : View) (known : IsWellFormed v) (accesses : ℕ) (w w' : View) (hs 
       (t.1.2 ∙ ap plain.Refusal (same_reason v known (blocks_needed align) (units_needed n align) t.1.0 k.1.0 t.1.1 k.1.1) ∙ sym k.1.2) t.0 k.0
   takes_same (call.Tight n) r r' t k = tight_taken n 1 r r' t k
   takes_same (call.TightAligned n align) r r' t k = tight_taken n align r r' t k
+  takes_same (call.AllocateAt offset n) r r' t k = at_taken offset n r r' t k
   takes_same (call.RefusalTight n) r r' t k = stay r r' (t.1.2 ∙ ap plain.Refusal (same_reason_tight v known n 1 t.1.0 k.1.0 t.1.1 k.1.1) ∙ sym k.1.2) t.0 k.0
   takes_same (call.RefusalTightAligned n align) r r' t k = stay r r' (t.1.2 ∙ ap plain.Refusal (same_reason_tight v known n align t.1.0 k.1.0 t.1.1 k.1.1) ∙ sym k.1.2) t.0 k.0
   takes_same (call.WouldBegin n align) r r' t k = stay r r' (t.2.2 ∙ ap begins_at (same_begin v known n align t.1 t.2.0 k.2.0 t.2.1 (begin_counted n align v accesses k.2.0 k.2.1)) ∙ sym k.2.2) t.0 k.0
@@ -269,6 +277,10 @@ module _ (v w : View) (known : IsWellFormed v) (after : IsWellFormed w) (hs left
   tight_held n align None a t k = refusal_held a t.1 k
   tight_held n align (Some g) a (inl t) k = split_held (units_needed n align) n (padding_to align) g a t.1 k
   tight_held n align (Some g) a (inr t) k = request_held n (Some g) a (filled_grants n align v known w after g t.1) (λ e. absurd (cc)) k
+
+  at_held : (offset n : ℕ) (r : Option Handle) (a : machine.Answer) → AllocatesAt offset n v w r → IsKept r hs left a → AreHeld w left
+  at_held offset n None a t k = refusal_held a t.1 k
+  at_held offset n (Some g) a t k = request_held n (Some g) a (at_grants offset n v w known (Some g) t) (λ e. absurd (cc)) k
 
   relocated_held : (x : ℕ) (r : Option Handle) (a : machine.Answer) → Relocates x v w r → IsKept r hs left a → AreHeld w left
   relocated_held x None a t k = refusal_held a t.1 k
@@ -359,6 +371,7 @@ module _ (v w : View) (known : IsWellFormed v) (after : IsWellFormed w) (hs left
   takes_held (call.RefusalAligned n align) r t = stays_held t.0
   takes_held (call.Tight n) r t = tight_held n 1 t.0 t.1 t.2 t.3
   takes_held (call.TightAligned n align) r t = tight_held n align t.0 t.1 t.2 t.3
+  takes_held (call.AllocateAt offset n) r t = at_held offset n t.0 t.1 t.2 t.3
   takes_held (call.RefusalTight n) r t = stays_held t.0
   takes_held (call.RefusalTightAligned n align) r t = stays_held t.0
   takes_held (call.MakeRoom n) r t = same_held t.1 (room_held Notes (value (up n)) [] t.0.2 t.0.0 t.0.3.made)

@@ -49,6 +49,7 @@ module _ (v w : View) (hs left : List (Option Handle)) where
   more_call (call.RefusalAligned n align) r t = same t.0.1
   more_call (call.Tight n) r t = more t.0 t.1 t.3
   more_call (call.TightAligned n align) r t = more t.0 t.1 t.3
+  more_call (call.AllocateAt offset n) r t = more t.0 t.1 t.3
   more_call (call.RefusalTight n) r t = same t.0.1
   more_call (call.RefusalTightAligned n align) r t = same t.0.1
   more_call (call.MakeRoom n) r t = same t.1

@@ -6,7 +6,7 @@ use Rattle.offset_calls.proofs.Common.{bin_at, units, IsWellFormed, SameSpace, S
 use Rattle.std.proofs.Common.{cond}
 use Rattle.std.proofs.lemmas.Bool.{not-false, or_left}
 use Rattle.std.specs.{List.concat, List.find, List.filter, Option.option_or}
-use Rattle.offset_allocator.specs.{Classes.down, View.Place, View.place_of, View.padding_to, View.push, View.remove, View.used_block, View.free_part, Relations.Aligns}
+use Rattle.offset_allocator.specs.{Classes.down, Classes.value, Relations.Splits, View.Place, View.place_of, View.padding_to, View.push, View.remove, View.used_block, View.free_part, Relations.Aligns}
 use Rattle.offset_allocator.specs.{Requests.CanGrant, Requests.Holds, Tight.CanHold, Tight.first_holding, Tight.listed_from, Tight.with_first, Tight.FillsFirst, Tight.AlignsTight}
 use Rattle.offset_allocator.specs.Tight as named
 use Rattle.offset_allocator.proofs.{Holding.find_met, Holding.find_none, Holding.find_past, Holding.find_here, Holding.holder, Holding.place_there, Holding.block_word, Holding.at_first}
@@ -205,6 +205,36 @@ removed_again c x bins long small =
     ∙ set-set (remove c x bins) c (x ∷ bin_at (remove c x bins) c) left
     ∙ set-set bins c left left
 
+-- ---- a grant of a block that is split as if it were the newest of its bin
+module _ (v : View) (kept_name : ℕ → Option ℕ) (s : State) (w : IsWellFormed v) (ws : IsWell s) (g : HasBlocksOf v kept_name s) (u : View) (w' : IsWellFormed u) (n c x : ℕ) (padding_at : ℕ → ℕ) where
+  -- what a grant says of the place of the block that is split
+  abbrev IsGrantAt : Handle → (padding remainder front rest : ℕ) → Place → Type 0
+  IsGrantAt a padding remainder front rest q = (a ≡ record { name = q.block.name; offset = units q.before + padding }) × (padding ≡ padding_at (units q.before))
+      × (padding + n + remainder ≡ q.block.size)
+      × SameSpace (replace v q.before (q.block ∷ []) (free_part front padding ++ used_block q.block.name n ∷ free_part rest remainder) q.after) u
+
+  -- the machine's grant of the same block leaves what agrees, and has the same answer
+  pub brought_agrees : (sp : Spot) → g.labels ≡ whole sp → sp.label.name ≡ x → is_free sp.label.tag ≡ true → (r : Handle) → Splits (value c) n padding_at (with_first c x v) u r
+      → IsMatch u kept_name s.grants (Some r) (machine.grant s n (padding_at (total (tags sp.before))) (plain_place sp))
+  brought_agrees sp split name free r t =
+      let b = at_first v w c n x padding_at t in
+      let there : named_place sp ≡ place_at t.before t.block t.after =
+      same_some (named_place sp) (place_at t.before t.block t.after)
+      (sym (place_of_spot v w sp (g.view ∙ ap names split)) ∙ ap (λ y. place_of y v.blocks) name ∙ place_there v w (place_at t.before t.block t.after) x t.blocks b.name) in
+      let removed : (bins : List (List ℕ)) → (if t.block.used then bins else remove (down t.block.size) t.block.name bins) ≡ remove c x bins =
+      λ bins. ap (λ b. if b then bins else remove (down t.block.size) t.block.name bins) t.free ∙ ap₂ (λ d y. remove d y bins) b.class b.name in
+      let bins = removed (with_first c x v).bins ∙ removed_again c x v.bins w.classes b.small ∙ sym (removed v.bins) in
+      let parts = free_part t.padding_name t.padding ++ used_block t.block.name n ∷ free_part t.remainder_name t.remainder in
+      let view : SameSpace (replace v t.before (t.block ∷ []) parts t.after) u =
+      split_view t ∙ ap (λ o. record v { blocks = t.before ++ (parts ++ t.after); bins = push_all parts o; unused = u.unused; accesses = u.accesses }) bins in
+      let at = subst (IsGrantAt r t.padding t.remainder t.padding_name t.remainder_name) (sym there) (t.grant, t.padded, t.whole, view) in
+      let is : machine.grant s n (padding_at (total (tags sp.before))) (plain_place sp) ≡ machine.grant s n t.padding (plain_place sp) =
+      ap (λ m. machine.grant s n m (plain_place sp)) (ap padding_at (total_units sp.before) ∙ sym at.1) in
+      let answer = ap (machine.Grant (s.grants + 1)) (ap (λ m. m + t.padding) (total_units sp.before) ∙ sym (ap (λ (a : Handle). a.offset) at.0)) in
+      let agrees = subst (λ x. HasBlocksOf u (with_name (s.grants + 1) x kept_name) (machine.grant s n t.padding (plain_place sp)).state) (sym (ap (λ (a : Handle). a.name) at.0))
+      (grant_agrees v kept_name s w ws g u w' n t.padding t.remainder t.padding_name t.remainder_name sp split free at.2 at.3) in
+      subst (IsMatch u kept_name s.grants (Some r)) (sym is) (record { answer = answer; agrees = agrees; grants_after = refl })
+
 -- ---- such a request on both sides
 module _ (v : View) (kept_name : ℕ → Option ℕ) (s : State) (w : IsWellFormed v) (ws : IsWell s) (g : HasBlocksOf v kept_name s) (n align : ℕ) (some : 1 ≤ align) where
   -- the place that a request takes
@@ -249,39 +279,15 @@ module _ (v : View) (kept_name : ℕ → Option ℕ) (s : State) (w : IsWellForm
         subst (IsMatch u kept_name s.grants (Some r)) (sym same)
         (serve_agrees v kept_name s w ws g (blocks_needed align) (units_needed n align) n (padding_to align) u w' (Some r) (aligned_serves n align v u (Some r) a))
 
-    -- what a grant says of the place of the block that is split
-    abbrev IsGrantAt : Handle → (padding remainder front rest : ℕ) → Place → Type 0
-    IsGrantAt a padding remainder front rest q = (a ≡ record { name = q.block.name; offset = units q.before + padding }) × (padding ≡ padding_to align (units q.before))
-        × (padding + n + remainder ≡ q.block.size)
-        × SameSpace (replace v q.before (q.block ∷ []) (free_part front padding ++ used_block q.block.name n ∷ free_part rest remainder) q.after) u
-
     -- one that takes the block which holds it
     by_units : (r : Handle) → (CanGrant (blocks_needed align) (units_needed n align) v → ⊥) → FillsFirst n align v u (Some r) → IsMatch u kept_name s.grants (Some r) asked
     unfolding asked place
     by_units r refuses a =
-        let c = a.1.0 in
-        let x = a.1.1 in
-        let t = a.1.3 in
-        let b = at_first v w c n x (padding_to align) t in
-        let h = held v w g.labels is_labelled n align x a.1.2 in
-        let there : named_place h.spot ≡ place_at t.before t.block t.after =
-        same_some (named_place h.spot) (place_at t.before t.block t.after)
-        (sym (place_of_spot v w h.spot (g.view ∙ ap names h.split)) ∙ ap (λ y. place_of y v.blocks) h.name ∙ place_there v w (place_at t.before t.block t.after) x t.blocks b.name) in
-        let removed : (bins : List (List ℕ)) → (if t.block.used then bins else remove (down t.block.size) t.block.name bins) ≡ remove c x bins =
-        λ bins. ap (λ b. if b then bins else remove (down t.block.size) t.block.name bins) t.free ∙ ap₂ (λ d y. remove d y bins) b.class b.name in
-        let bins = removed (with_first c x v).bins ∙ removed_again c x v.bins w.classes b.small ∙ sym (removed v.bins) in
-        let parts = free_part t.padding_name t.padding ++ used_block t.block.name n ∷ free_part t.remainder_name t.remainder in
-        let view : SameSpace (replace v t.before (t.block ∷ []) parts t.after) u =
-        split_view t ∙ ap (λ o. record v { blocks = t.before ++ (parts ++ t.after); bins = push_all parts o; unused = u.unused; accesses = u.accesses }) bins in
-        let at = subst (IsGrantAt r t.padding t.remainder t.padding_name t.remainder_name) (sym there) (t.grant, t.padded, t.whole, view) in
-        let is : asked ≡ machine.grant s n t.padding (plain_place h.spot) =
+        let h = held v w g.labels is_labelled n align a.1.1 a.1.2 in
+        let is : asked ≡ machine.grant s n (padding_to align (total (tags h.spot.before))) (plain_place h.spot) =
         ap₂ (λ b o. if b then machine.returns_only s machine.Refused else machine.grant_or_refuse s n (padding_to align) o) (has_room v kept_name s w ws g (blocks_needed align) a.0)
-        (ap₂ option_or (none_by_class a.0 refuses) (ap (holding_place n align 0) g.state ∙ h.is))
-        ∙ ap (λ m. machine.grant s n m (plain_place h.spot)) (ap (padding_to align) (total_units h.spot.before) ∙ sym at.1) in
-        let answer = ap (machine.Grant (s.grants + 1)) (ap (λ m. m + t.padding) (total_units h.spot.before) ∙ sym (ap (λ (a : Handle). a.offset) at.0)) in
-        let agrees = subst (λ x. HasBlocksOf u (with_name (s.grants + 1) x kept_name) (machine.grant s n t.padding (plain_place h.spot)).state) (sym (ap (λ (a : Handle). a.name) at.0))
-        (grant_agrees v kept_name s w ws g u w' n t.padding t.remainder t.padding_name t.remainder_name h.spot h.split h.free at.2 at.3) in
-        subst (IsMatch u kept_name s.grants (Some r)) (sym is) (record { answer = answer; agrees = agrees; grants_after = refl })
+        (ap₂ option_or (none_by_class a.0 refuses) (ap (holding_place n align 0) g.state ∙ h.is)) in
+        subst (IsMatch u kept_name s.grants (Some r)) (sym is) (brought_agrees v kept_name s w ws g u w' n a.1.0 a.1.1 (padding_to align) h.spot h.split h.name h.free r a.1.3)
 
     asked_agrees : (r : Option Handle) → AlignsTight n align v u r → IsMatch u kept_name s.grants r asked
     asked_agrees None a = subst (IsMatch u kept_name s.grants None) (sym (refused_is a.0))

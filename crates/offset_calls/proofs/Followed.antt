@@ -19,6 +19,8 @@ use Rattle.offset_calls.specs.{Steps.IsReasonTight, Steps.TakesTight, Calls.answ
 use Rattle.offset_calls.specs.Calls as reply
 use Rattle.offset_calls.specs.{Ending.relocate, Ending.can_retract, Ending.retracted, Steps.Finds}
 use Rattle.offset_calls.specs.Tight.{holding_place, request_tight, allocate_tight, lack, reason_held, reason_tight}
+use Rattle.offset_calls.specs.{AtOffset.allocate_at, Steps.TakesAt}
+use Rattle.offset_calls.proofs.AtOffset.{at_agrees, well_at}
 use Rattle.offset_calls.proofs.{Held.held_at, Filled.held_spot, Filled.held_there, Filled.there, Filled.tight_agrees, Rooms.well_room, Rooms.room_cost_is, Rooms.room_taken, Common.IsKept}
 use Rattle.offset_calls.proofs.{Common.stamp_of_call, Beside.first_same, Beside.last_same, Beside.before_same, Beside.after_same, Relocated.relocated, Retracted.well_retract, Retracted.can_too}
 use Rattle.offset_calls.proofs.{Retracted.can_there, Retracted.cut_agrees, Compacted.well_compact, Compacted.compact_agrees, Compacted.moves_are}
@@ -137,6 +139,7 @@ well_call (call.CompactBy n) s w = well_steps s w n
 well_call (call.CompactWithin n from u m) s w = well_within s w n from u m
 well_call (call.Tight n) s w = well_tight s w n 1
 well_call (call.TightAligned n align) s w = well_tight s w n align
+well_call (call.AllocateAt offset n) s w = well_at s w offset n
 well_call (call.MakeRoom n) s w = well_room s w (value (up n)) (cheapest (value (up n)) s.blocks) refl
 well_call (call.MakeRoomBy n align m) s w = well_room_by s w m (value (up (n + align - 1))) (min align 2)
 well_call (call.Relocate k) s w = well_relocate s w (machine.place_of k s.blocks)
@@ -366,6 +369,12 @@ module _ (v w : View) (hs left : List (Option Handle)) (r : Reply) (s : State) (
       let f = script.requested v w hs left t.1 s formed ws p (allocate_tight n align s) t.0 m t.3 in
       (t.4 ∙ ap Answer f.0, f.1)
 
+  at_step : (offset n : ℕ) → TakesAt offset n v hs w left r → Follows (answered (allocate_at offset n s)) w left r
+  at_step offset n t =
+      let m = at_agrees v (kept_name hs) s p.formed ws p.agrees offset n w formed t.0 t.2 in
+      let f = script.requested v w hs left t.1 s formed ws p (allocate_at offset n s) t.0 m t.3 in
+      (t.4 ∙ ap Answer f.0, f.1)
+
   tight_reason_step : (n align : ℕ) → 1 ≤ align → (why : Option Refusal) → IsReasonTight n align v why → r ≡ reply.Refusal why → r ≡ reply.Refusal (reason_tight n align s)
   tight_reason_step n align some why t e = e ∙ ap reply.Refusal (tight_reason_is n align why t ∙ spare_is n align some)
 
@@ -434,6 +443,7 @@ module _ (v w : View) (hs left : List (Option Handle)) (r : Reply) (s : State) (
       (t.1.2 ∙ ap reply.Refusal (reason_is (blocks_needed align) (units_needed n align) t.1.0 t.1.1 ∙ aligned_reason n align (leb-true 1 align valid)))
   follows (call.Tight n) valid t = tight_step n 1 (omega arith) t
   follows (call.TightAligned n align) valid t = tight_step n align (leb-true 1 align valid) t
+  follows (call.AllocateAt offset n) valid t = at_step offset n t
   follows (call.RefusalTight n) valid t = quiet _ _ refl t.0 (tight_reason_step n 1 (omega arith) t.1.0 t.1.1 t.1.2)
   follows (call.RefusalTightAligned n align) valid t = quiet _ _ refl t.0 (tight_reason_step n align (leb-true 1 align valid) t.1.0 t.1.1 t.1.2)
   follows (call.WouldBegin n align) valid t = quiet _ _ refl t.0 (t.2.2 ∙ aligned_begins v (kept_name hs) s p.formed ws p.agrees n align t.1 t.2.0 t.2.1)

@@ -5,7 +5,8 @@ use Rattle.offset_calls.proofs.Common.{Call, Reply, Takes, Command, IsTrue, is_v
 use Rattle.std.specs.List.{slice_index}
 use Rattle.std.proofs.lemmas.List.{get_or_default, get_or-set_other, get_or-set_same, set_past, length-set}
 use Rattle.offset_allocator.specs.{Relations.Splits, Relations.Allocates, Relations.Aligns, Tight.AlignsTight, Moving.Relocating.Relocates, Moving.Relocating.RelocatesAligned}
-use Rattle.offset_allocator.proofs.{Holding.grants_tight, Ranges.split_grants}
+use Rattle.offset_allocator.specs.AtPlace.{AllocatesAt}
+use Rattle.offset_allocator.proofs.{AtPlace.at_grants, Holding.grants_tight, Ranges.split_grants}
 use Rattle.offset_script.specs.Steps.{AreLive}
 use Rattle.offset_script.proofs.Simulation.{kept_push}
 use Rattle.offset_calls.specs.Steps.{AreNumbers}
@@ -121,6 +122,10 @@ module _ (v w : View) (hs left : List (Option Handle)) (before : IsWellFormed v)
   next_tight n align some a None t k = next_same hs left k.0
   next_tight n align some a (Some h) t k = inr (h, k.0, λ j e. let none = (grants_tight n align v w before some (Some h) t).not_live in let kept = live j h.name e in cc)
 
+  next_at : (offset n : ℕ) (a : machine.Answer) (r : Option Handle) → AllocatesAt offset n v w r → IsKept r hs left a → IsNext hs left
+  next_at offset n a None t k = next_same hs left k.0
+  next_at offset n a (Some h) t k = inr (h, k.0, λ j e. let none = (at_grants offset n v w before (Some h) t).not_live in let kept = live j h.name e in cc)
+
   next_relocated : (x : ℕ) (a : machine.Answer) (r : Option Handle) → Relocates x v w r → IsKept r hs left a → IsNext hs left
   next_relocated x a None t k = next_same hs left k.0
   next_relocated x a (Some h) t k = next_granted _ _ _ h t.0.1 k.0
@@ -151,6 +156,7 @@ module _ (v w : View) (hs left : List (Option Handle)) (before : IsWellFormed v)
   next_call (call.RefusalAligned n align) r valid t = next_same hs left t.0.1
   next_call (call.Tight n) r valid t = next_tight n 1 (omega arith) t.1 t.0 t.2 t.3
   next_call (call.TightAligned n align) r valid t = next_tight n align (leb-true 1 align valid) t.1 t.0 t.2 t.3
+  next_call (call.AllocateAt offset n) r valid t = next_at offset n t.1 t.0 t.2 t.3
   next_call (call.RefusalTight n) r valid t = next_same hs left t.0.1
   next_call (call.RefusalTightAligned n align) r valid t = next_same hs left t.0.1
   next_call (call.MakeRoom n) r valid t = next_same hs left t.1

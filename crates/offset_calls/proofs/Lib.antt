@@ -1,6 +1,7 @@
 mod Begun
 mod Beside
 mod Decided
+mod DecidedAt
 mod DecidedTickets
 mod EndPairs
 mod EndServed
@@ -14,6 +15,8 @@ mod Undone
 mod Within
 pub mod Alike
 pub mod Along
+pub mod AtOffset
+pub mod AtPairs
 pub mod Common
 pub mod Compacted
 pub mod Filled

@@ -19,6 +19,8 @@ use Rattle.offset_calls.specs.Calls.{moves_by, moves_of_run, slides_run, compact
 use Rattle.offset_calls.proofs.EndPairs.{same_free_end, IsSent, AreSent, sent, sent_first, sent_last}
 use Rattle.offset_calls.specs.Tight.{holds, better, holding_place, request_tight, allocate_tight, lack, reason_held}
 use Rattle.offset_calls.proofs.Splits.{IsSameSplit, no_split, same_split, same_cost, same_cheapest, same_room_cost, same_cheapest_by, same_to_the_end, same_within, same_goes_on}
+use Rattle.offset_calls.specs.AtOffset.{last_place, request_at}
+use Rattle.offset_calls.proofs.AtPairs.{same_last_place, same_can_take}
 use Rattle.std.specs.Prelude.{min}
 use Rattle.offset_script.specs.Histories as script
 use Rattle.offset_script.specs.Machine as machine
@@ -98,6 +100,18 @@ module _ (s t : State) (a : IsSameSpace s t) where
   tight_reply n align = ap Answer (if_same (λ (x y : machine.Outcome). script.without_offset x.answer ≡ script.without_offset y.answer) (nat_le align 1) (nat_le align 1) _ _ _ _ refl
       (λ e. request_reply 1 n n align) (request_reply 2 (n + align - 1) n align))
 
+  -- a request for the units from an offset on
+  last_places : (offset : ℕ) → IsSamePlace (λ q. Unit {0}) a.blocks.pairs (last_place offset 0 s.blocks) (last_place offset 0 t.blocks)
+  last_places offset = subst₂ (λ x y. IsSamePlace (λ q. Unit {0}) a.blocks.pairs (last_place offset 0 x) (last_place offset 0 y)) (sym a.blocks.left_blocks) (sym a.blocks.right_blocks)
+      (same_last_place offset 0 a.blocks.pairs)
+
+  at_reply : (offset n : ℕ) (o o' : Option machine.Place) → IsSamePlace (λ q. Unit {0}) a.blocks.pairs o o'
+      → script.without_offset (request_at offset n s o).answer ≡ script.without_offset (request_at offset n t o').answer
+  at_reply offset n None None neither = refl
+  at_reply offset n o o' (both xs q ys e f) = if_same (λ (x y : machine.Outcome). script.without_offset x.answer ≡ script.without_offset y.answer) _ _ _ _ _ _ (same_can_take offset n s t short xs q ys)
+      (λ z. same_granted s t a.grants n (λ begin. offset - begin) (Some (record { before = lefts xs; block = left q; after = lefts ys })) (Some (record { before = rights xs; block = right q; after = rights ys })) refl)
+      refl
+
   held_reason : (k n align : ℕ) → reason_held k n align s ≡ reason_held k n align t
   held_reason k n align =
       let units = same_units s t a.blocks.pairs a.limit a.blocks.left_blocks a.blocks.right_blocks in
@@ -174,6 +188,7 @@ module _ (s t : State) (a : IsSameSpace s t) where
   next_reply (call.Refusal n) other = ap Refusal (reason_reply 1 n)
   next_reply (call.Tight n) other = tight_reply n 1
   next_reply (call.TightAligned n align) other = tight_reply n align
+  next_reply (call.AllocateAt offset n) other = ap Answer (at_reply offset n _ _ (last_places offset))
   next_reply (call.RefusalTight n) other = ap Refusal (held_reason 1 n 1)
   next_reply (call.RefusalTightAligned n align) other = ap Refusal (held_reason (if nat_le align 1 then 1 else 2) n align)
   next_reply (call.WouldBegin n align) other = absurd (true≢false other)

@@ -1,8 +1,8 @@
 -- The plain stamped machine over every call: beside the commands of a script, the calls that resize a range, compact
 -- the space, by whole steps too and within a budget, make room for a request, by whole steps too, take any free block that
--- is large enough, grant a second range, take units off the end, and ask for an offset, for that of a grant, for the
--- reason of a refusal, for what room would cost, by whole steps too, or for the live range beside one. States and stamps
--- are those of the script's machine.
+-- is large enough, take the units at an offset, grant a second range, take units off the end, and ask for an offset, for
+-- that of a grant, for the reason of a refusal, for what room would cost, by whole steps too, or for the live range beside
+-- one. States and stamps are those of the script's machine.
 use Rattle.std.specs.Prelude.{ℕ, ◌+◌, ◌-◌, max, min, Bool, true, false, not, ◌&&◌, ◌||◌, List, [], ◌∷◌, ◌++◌, length, map, sum, Option, Some, None, is_some, nat_eq, nat_lt, nat_le, if◌then◌else◌}
 use Rattle.offset_allocator.specs.declared.reports.Refusal as allocator
 use Rattle.offset_allocator.specs.declared.reports.Refusal.TheVariants.{Nodes, TooLarge, Space, Fragmented}
@@ -18,6 +18,7 @@ use Rattle.offset_calls.specs.declared.calls.Moved.{Moved}
 use Rattle.offset_allocator.specs.declared.moves.room.RoomCost as room
 use Rattle.offset_calls.specs.Room.{Split, cost_of, cheapest, room_cost, slid}
 use Rattle.offset_calls.specs.RoomBySteps.{cheapest_by, room_cost_by}
+use Rattle.offset_calls.specs.AtOffset.{allocate_at}
 use Rattle.offset_calls.specs.Tight.{allocate_tight, reason_tight}
 use Rattle.offset_calls.specs.Ending.{relocate, relocate_aligned, can_retract, retracted, first_live, last_live, live_before, live_after}
 use Rattle.offset_calls.specs.Stepped.{kept, first_run, slid_run, to_the_end}
@@ -228,6 +229,7 @@ step (call.RefusalAligned n align) s =
     replies_only s (Refusal (if nat_le align 1 then reason 1 n s else reason 2 (n + align - 1) s))
 step (call.Tight n) s = answered (allocate_tight n 1 s)
 step (call.TightAligned n align) s = answered (allocate_tight n align s)
+step (call.AllocateAt offset n) s = answered (allocate_at offset n s)
 step (call.RefusalTight n) s = replies_only s (Refusal (reason_tight n 1 s))
 step (call.RefusalTightAligned n align) s = replies_only s (Refusal (reason_tight n align s))
 step (call.WouldBegin n align) s = replies_only s (begin_of (machine.allocate_aligned n align s).answer)

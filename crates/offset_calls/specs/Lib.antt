@@ -1,3 +1,4 @@
+pub mod AtOffset
 pub mod Budget
 pub mod Calling
 pub mod Calls

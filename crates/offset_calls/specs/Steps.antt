@@ -17,6 +17,7 @@ use Rattle.offset_allocator.specs.declared.moves.budget.Progress.{Progress}
 use Rattle.offset_allocator.specs.Reporting.Beside as named_beside
 use Rattle.offset_allocator.specs.Moving.Relocating.{Relocates, RelocatesAligned, WouldBegin}
 use Rattle.offset_allocator.specs.Moving.Retracting.{Retracts}
+use Rattle.offset_allocator.specs.AtPlace.{AllocatesAt}
 use Rattle.offset_allocator.specs.Tight.{AlignsTight, CanHold, IsWhyTight}
 use Rattle.offset_script.specs.Steps.{kept_name, AreNamedApart, IfNamed, IsKept, Stays}
 use Rattle.offset_script.specs.Machine as machine
@@ -56,6 +57,11 @@ IsReasonTight n align v r = (r ≡ None ↔ CanHold n align v) × IfSome r (IsWh
 -- such a request, whose grant is kept, with this reply
 abbrev pub TakesTight : ℕ → ℕ → View → List (Option Handle) → View → List (Option Handle) → Reply → Type 0
 TakesTight n align v handles w kept r = (g : Option Handle) × (a : machine.Answer) × AlignsTight n align v w g
+    × IsKept g handles kept a × (r ≡ Answer a)
+
+-- a request for the n units from an offset on, whose grant is kept, with this reply
+abbrev pub TakesAt : ℕ → ℕ → View → List (Option Handle) → View → List (Option Handle) → Reply → Type 0
+TakesAt offset n v handles w kept r = (g : Option Handle) × (a : machine.Answer) × AllocatesAt offset n v w g
     × IsKept g handles kept a × (r ≡ Answer a)
 
 -- room is made for a request, and the moves are replied with the numbers of their grants
@@ -116,6 +122,7 @@ Takes (call.RefusalAligned n align) v handles w kept r = Stays v handles w kept
     × ((why : Option Refusal) × IsReason (blocks_needed align) (units_needed n align) v why × (r ≡ reply.Refusal why))
 Takes (call.Tight n) v handles w kept r = TakesTight n 1 v handles w kept r
 Takes (call.TightAligned n align) v handles w kept r = TakesTight n align v handles w kept r
+Takes (call.AllocateAt offset n) v handles w kept r = TakesAt offset n v handles w kept r
 Takes (call.RefusalTight n) v handles w kept r = Stays v handles w kept
     × ((why : Option Refusal) × IsReasonTight n 1 v why × (r ≡ reply.Refusal why))
 Takes (call.RefusalTightAligned n align) v handles w kept r = Stays v handles w kept

@@ -38,6 +38,9 @@ pub enum Call {
     /// Requests this many units from a multiple of the second number on, which is at least 1, of any free
     /// block that holds them.
     TightAligned(u32, u32),
+    /// Requests, from the offset that is the first number on, as many units as the second says, as `allocate_at`
+    /// does.
+    AllocateAt(u32, u32),
     /// Asks why `Tight` of this many units would be refused now.
     RefusalTight(u32),
     /// Asks why `TightAligned` of these numbers would be refused now.

@@ -102,6 +102,17 @@ fn allocate_tight_aligned<T: Tables>(
     Ok(Reply::Answer(keep(&mut desk.tickets, granted)?))
 }
 
+// The reply to `AllocateAt`.
+fn allocate_at<T: Tables>(desk: &mut Desk<T>, offset: u32, size: u32) -> Result<Reply, AllocError>
+    requires ledger { IsLedger desk.old.space desk.old.tickets.items }
+    requires left { HasSerialLeft desk.old.space }
+    ensures { IfOk result (λ r. Serves (Call.AllocateAt offset size)
+        desk.old.space desk.old.tickets.items desk.new.space desk.new.tickets.items (reply_view r)) }
+{
+    let granted = desk.space.allocate_at(offset, size);
+    Ok(Reply::Answer(keep(&mut desk.tickets, granted)?))
+}
+
 // The answer to `free`.
 fn release<T: Tables>(space: &mut GuardedOf<T>, ticket: Option<Ticket>) -> Answer
     ensures { (ts : List Ticket) (k : ℕ) → IsLedger space.old ts → IsNumberOf k ticket space.old ts
@@ -256,6 +267,7 @@ pub(crate) fn other<T: Tables>(
         )),
         Call::Tight(size) => allocate_tight(desk, size),
         Call::TightAligned(size, align) => allocate_tight_aligned(desk, size, align),
+        Call::AllocateAt(offset, size) => allocate_at(desk, offset, size),
         Call::RefusalTight(size) => Ok(Reply::Refusal(desk.space.allocator().refusal_tight(size))),
         Call::RefusalTightAligned(size, align) => Ok(Reply::Refusal(
             desk.space.allocator().refusal_tight_aligned(size, align),

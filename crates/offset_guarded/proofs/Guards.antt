@@ -4,7 +4,7 @@ use Rattle.std.proofs.Common.{subst, ◌∙◌, inl, inr, arith, eq-eqb, ne_eqb}
 use Rattle.std.proofs.lemmas.Bool.{cases_eq, eqb-true, and_parts}
 use Rattle.std.proofs.lemmas.List.{get_or-set_same, get_or-set_other}
 use Rattle.offset_allocator.specs.View.{Block, View, Handle, Place, AreNames, IsWellFormed, count_named, place_of}
-use Rattle.offset_allocator.specs.{Ranges.Range, Relations.Aligns, Relations.Allocates, Requests.CanGrant, Tight.AlignsTight, Tight.CanHold}
+use Rattle.offset_allocator.specs.{Ranges.Range, Relations.Aligns, Relations.Allocates, Requests.CanGrant, Tight.AlignsTight, Tight.CanHold, AtPlace.AllocatesAt, AtPlace.CanGrantAt}
 use Rattle.offset_allocator.specs.Ranges as named
 use Rattle.offset_allocator.proofs.{Reading.range_at, Tallies.hit_cases}
 use Rattle.offset_guarded.specs.declared.ticket.Ticket.{Ticket}
@@ -122,6 +122,14 @@ can_grant blocks units g h shows left can = (λ e. subst (λ h. (h.given < last_
 pub can_hold : (n align : ℕ) (g h : Guard) → g ≡ h → g.given < last_serial → CanHold n align g.space
     → (true ≡ true → (h.given < last_serial) × CanHold n align h.space) × ((h.given < last_serial) × CanHold n align h.space → true ≡ true)
 can_hold n align g h shows left can = (λ e. subst (λ h. (h.given < last_serial) × CanHold n align h.space) shows (left, can), λ h. refl)
+
+-- the same of a request for the units from an offset on
+pub can_grant_at : (offset n : ℕ) (g h : Guard) → g ≡ h → g.given < last_serial → CanGrantAt offset n g.space
+    → (true ≡ true → (h.given < last_serial) × CanGrantAt offset n h.space) × ((h.given < last_serial) × CanGrantAt offset n h.space → true ≡ true)
+can_grant_at offset n g h shows left can = (λ e. subst (λ h. (h.given < last_serial) × CanGrantAt offset n h.space) shows (left, can), λ h. refl)
+
+pub same_limit_at : (offset n : ℕ) (v w : View) (h : Handle) → AllocatesAt offset n v w (Some h) → w.max_allocs ≡ v.max_allocs
+same_limit_at offset n v w h t = ap (λ (z : View). z.max_allocs) t.split.view
 
 pub same_limit_tight : (n align : ℕ) (v w : View) (h : Handle) → AlignsTight n align v w (Some h) → w.max_allocs ≡ v.max_allocs
 same_limit_tight n align v w h (inl t) = same_limit n align v w h t

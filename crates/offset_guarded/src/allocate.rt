@@ -8,6 +8,7 @@ ghost use Rattle.offset_allocator.specs.View.{View, Handle, bin_at, padding_to, 
 ghost use Rattle.offset_allocator.specs.Relations.{Aligns, Allocates};
 ghost use Rattle.offset_allocator.specs.Requests.{CanGrant, blocks_needed, units_needed};
 ghost use Rattle.offset_allocator.specs.Classes.{down};
+ghost use Rattle.offset_allocator.specs.AtPlace.{AllocatesAt, CanGrantAt};
 ghost use Rattle.offset_allocator.specs.Tight.{AlignsTight, CanHold, listed_from};
 ghost use Rattle.offset_guarded.specs.Guard.{Grants, IsLive, IsSame, IsWhy, IsWhyTight, cell, handle_in};
 ghost use Rattle.offset_guarded.specs.Guard.{HasSerialLeft, last_serial};
@@ -176,6 +177,37 @@ impl<T: Tables> GuardedOf<T> {
             return None;
         }
         match self.space.allocate_tight_aligned(size, align) {
+            None => None,
+            Some(handle) => Some(ticket_for(&self.space, &mut self.serials, self.realm, handle)),
+        }
+    }
+
+    /// Grants the `size` units that begin at `offset`: the range that `Allocator::allocate_at` grants, with the
+    /// next serial.
+    ///
+    /// `None` is returned where that call returns `None`, or where all serials are given; then all is as it
+    /// was. It makes at most 80 accesses to the tables of the allocator, and 3 for each block.
+    ///
+    /// ```
+    /// let captured = guarded.allocate_at(512, 256).unwrap();
+    /// assert_eq!(captured.offset, 512);
+    /// assert!(guarded.allocate_at(700, 100).is_none());
+    /// ```
+    pub fn allocate_at(&mut self, offset: u32, size: u32) -> Option<Ticket>
+        ensures granted { IsSome result
+            ↔ (HasSerialLeft self.old × CanGrantAt offset size self.old.space) }
+        ensures grants { IfSome result (Grants size self.old self.new) }
+        ensures begins { IfSome result (λ t. t.offset ≡ offset) }
+        ensures same { result ≡ None → IsSame self.old self.new }
+        ensures step { HasSerialLeft self.old
+            → AllocatesAt offset size self.old.space self.new.space (option_map handle_in result) }
+        ensures accesses_max { self.new.space.accesses
+            ≤ self.old.space.accesses + 80 + 3 * length self.old.space.blocks }
+    {
+        if self.serials.is_spent() {
+            return None;
+        }
+        match self.space.allocate_at(offset, size) {
             None => None,
             Some(handle) => Some(ticket_for(&self.space, &mut self.serials, self.realm, handle)),
         }

@@ -1,5 +1,6 @@
 //! The live ranges beside one another in space. It changes nothing.
 ghost use Rattle.std.specs.Prelude.{◌≡◌, None, option_map};
+ghost use Rattle.offset_allocator.specs.AtPlace.{in_the_way};
 ghost use Rattle.offset_allocator.specs.Reporting.Beside.{first_live, last_live, live_after, live_before};
 ghost use Rattle.offset_allocator.specs.View.{Handle};
 ghost use Rattle.offset_guarded.specs.Guard.{IsLive, ticket_at};
@@ -51,6 +52,38 @@ impl<T: Tables> GuardedOf<T> {
         ensures { result ≡ option_map (λ (h : Handle). ticket_at h self.now) (last_live self.now.space) }
     {
         match self.space.last_live() {
+            None => None,
+            Some(handle) => Some(self.ticket_at(handle)),
+        }
+    }
+
+    /// The ticket of the live range that has the unit at `offset`, as `Allocator::handle_at` finds it, or `None`
+    /// where that unit is free or not in the space. So a range can be freed by a place in it.
+    ///
+    /// ```
+    /// let mesh = guarded.allocate(300);
+    /// assert_eq!(guarded.live_at(299), mesh);
+    /// assert_eq!(guarded.live_at(300), None);
+    /// ```
+    pub fn live_at(&self, offset: u32) -> Option<Ticket>
+        ensures { result
+            ≡ option_map (λ (h : Handle). ticket_at h self.now) (in_the_way offset 1 self.now.space) }
+    {
+        self.in_the_way(offset, 1)
+    }
+
+    /// The ticket of the last live range that is in the way of the `size` units that begin at `offset`, as
+    /// `Allocator::in_the_way` finds it, or `None` where there is none.
+    ///
+    /// ```
+    /// let mesh = guarded.allocate(300);
+    /// assert_eq!(guarded.in_the_way(200, 500), mesh);
+    /// ```
+    pub fn in_the_way(&self, offset: u32, size: u32) -> Option<Ticket>
+        ensures { result
+            ≡ option_map (λ (h : Handle). ticket_at h self.now) (in_the_way offset size self.now.space) }
+    {
+        match self.space.in_the_way(offset, size) {
             None => None,
             Some(handle) => Some(self.ticket_at(handle)),
         }

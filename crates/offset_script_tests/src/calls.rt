@@ -215,6 +215,78 @@ const TIGHT: List = List {
     ],
 };
 
+// Requests for the units from an offset on. There may be five blocks.
+const AT_OFFSET: List = List {
+    size: 100,
+    limit: 6,
+    rows: &[
+        (
+            Call::AllocateAt(30, 20),
+            "Answer(Grant { number: 1, offset: 30 })",
+        ),
+        // free: 30 units at 0, and 50 at 50
+        (Call::AllocateAt(40, 20), "Answer(Refused)"),
+        (Call::AllocateAt(0, 31), "Answer(Refused)"),
+        (Call::AllocateAt(50, 51), "Answer(Refused)"),
+        (
+            Call::AllocateAt(50, 50),
+            "Answer(Grant { number: 2, offset: 50 })",
+        ),
+        // three blocks, and two more
+        (
+            Call::AllocateAt(10, 10),
+            "Answer(Grant { number: 3, offset: 10 })",
+        ),
+        // one more would be a sixth, though it takes the whole block
+        (Call::AllocateAt(20, 10), "Answer(Refused)"),
+        (Call::Command(Command::Free(3)), "Answer(Freed)"),
+        // three blocks, and one more
+        (
+            Call::AllocateAt(20, 10),
+            "Answer(Grant { number: 4, offset: 20 })",
+        ),
+        // two more would be six
+        (Call::AllocateAt(8, 4), "Answer(Refused)"),
+        (
+            Call::AllocateAt(0, 4),
+            "Answer(Grant { number: 5, offset: 0 })",
+        ),
+    ],
+};
+
+// Of the units before and after such a range, in one bin, those after it are the newer ones.
+const AT_OFFSET_IN_ONE_BIN: List = List {
+    size: 20,
+    limit: 16,
+    rows: &[
+        (
+            Call::AllocateAt(8, 4),
+            "Answer(Grant { number: 1, offset: 8 })",
+        ),
+        (
+            Call::Command(Command::Alloc(8)),
+            "Answer(Grant { number: 2, offset: 12 })",
+        ),
+        (
+            Call::Command(Command::Alloc(8)),
+            "Answer(Grant { number: 3, offset: 0 })",
+        ),
+        // no unit is free, so none before the end
+        (Call::AllocateAt(20, 0), "Answer(Refused)"),
+        (Call::Command(Command::Free(2)), "Answer(Freed)"),
+        // free: the 8 units at 12; a range of no units may begin at the end
+        (
+            Call::AllocateAt(12, 0),
+            "Answer(Grant { number: 4, offset: 12 })",
+        ),
+        (
+            Call::AllocateAt(20, 0),
+            "Answer(Grant { number: 5, offset: 20 })",
+        ),
+        (Call::AllocateAt(21, 0), "Answer(Refused)"),
+    ],
+};
+
 // A second grant for a range, units off the end, and the live ranges beside one another.
 const ENDING: List = List {
     size: 100,
@@ -914,6 +986,8 @@ fn resizes_and_compacts(rt: HostRuntime) {
         AT_THE_LIMIT,
         OF_NO_UNITS,
         TIGHT,
+        AT_OFFSET,
+        AT_OFFSET_IN_ONE_BIN,
         ENDING,
         NEWEST_AT_THE_END,
         ENDING_AT_THE_LIMIT,

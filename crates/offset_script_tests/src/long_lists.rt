@@ -54,6 +54,7 @@ fn list(alloc: Global, count: u32) -> Result<Vec<Call>, AllocError> {
             1400 => Call::WouldBegin(place % 7, 4),
             1600 => Call::MakeRoomBy(place, 4, 7),
             1800 => Call::CompactWithin(7, place, 100, 3),
+            2000 => Call::AllocateAt(place, 3),
             _ => call_at(place),
         })?;
     }

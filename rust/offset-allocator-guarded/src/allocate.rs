@@ -140,6 +140,31 @@ impl<T: Tables> GuardedOf<T> {
         }
     }
 
+    /// Grants the `size` units that begin at `offset`: the range that `Allocator::allocate_at` grants, with the
+    /// next serial.
+    ///
+    /// `None` is returned where that call returns `None`, or where all serials are given; then all is as it
+    /// was. It makes at most 80 accesses to the tables of the allocator, and 3 for each block.
+    ///
+    /// ```
+    /// # use offset_allocator_guarded::*;
+    /// # let alloc = Global;
+    /// let mut guarded = Guarded::<u32>::new(alloc, 1000, 1)?;
+    /// let captured = guarded.allocate_at(512, 256).unwrap();
+    /// assert_eq!(captured.offset, 512);
+    /// assert!(guarded.allocate_at(700, 100).is_none());
+    /// # Ok::<(), AllocError>(())
+    /// ```
+    pub fn allocate_at(&mut self, offset: u32, size: u32) -> Option<Ticket> {
+        if self.serials.is_spent() {
+            return None;
+        }
+        match self.space.allocate_at(offset, size) {
+            None => None,
+            Some(handle) => Some(ticket_for(&self.space, &mut self.serials, self.realm, handle)),
+        }
+    }
+
     /// Grants a second range of as many units as that of a ticket, which begins before it: the one that
     /// `Allocator::relocate` grants, with the next serial. The old ticket stays live until it is freed.
     ///

@@ -56,6 +56,40 @@ impl<T: Tables> GuardedOf<T> {
         }
     }
 
+    /// The ticket of the live range that has the unit at `offset`, as `Allocator::handle_at` finds it, or `None`
+    /// where that unit is free or not in the space. So a range can be freed by a place in it.
+    ///
+    /// ```
+    /// # use offset_allocator_guarded::*;
+    /// # let alloc = Global;
+    /// let mut guarded = Guarded::<u32>::new(alloc, 1000, 1)?;
+    /// let mesh = guarded.allocate(300);
+    /// assert_eq!(guarded.live_at(299), mesh);
+    /// assert_eq!(guarded.live_at(300), None);
+    /// # Ok::<(), AllocError>(())
+    /// ```
+    pub fn live_at(&self, offset: u32) -> Option<Ticket> {
+        self.in_the_way(offset, 1)
+    }
+
+    /// The ticket of the last live range that is in the way of the `size` units that begin at `offset`, as
+    /// `Allocator::in_the_way` finds it, or `None` where there is none.
+    ///
+    /// ```
+    /// # use offset_allocator_guarded::*;
+    /// # let alloc = Global;
+    /// let mut guarded = Guarded::<u32>::new(alloc, 1000, 1)?;
+    /// let mesh = guarded.allocate(300);
+    /// assert_eq!(guarded.in_the_way(200, 500), mesh);
+    /// # Ok::<(), AllocError>(())
+    /// ```
+    pub fn in_the_way(&self, offset: u32, size: u32) -> Option<Ticket> {
+        match self.space.in_the_way(offset, size) {
+            None => None,
+            Some(handle) => Some(self.ticket_at(handle)),
+        }
+    }
+
     /// The ticket of the live range directly before that of a ticket. `None` where there is none, or where
     /// the ticket is not live.
     ///

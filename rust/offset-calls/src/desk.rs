@@ -67,6 +67,12 @@ fn allocate_tight_aligned<T: Tables>(
     Ok(Reply::Answer(keep(&mut desk.tickets, granted)?))
 }
 
+// The reply to `AllocateAt`.
+fn allocate_at<T: Tables>(desk: &mut Desk<T>, offset: u32, size: u32) -> Result<Reply, AllocError> {
+    let granted = desk.space.allocate_at(offset, size);
+    Ok(Reply::Answer(keep(&mut desk.tickets, granted)?))
+}
+
 // The answer to `free`.
 fn release<T: Tables>(space: &mut GuardedOf<T>, ticket: Option<Ticket>) -> Answer {
     let Some(ticket) = ticket else {
@@ -181,6 +187,7 @@ pub(crate) fn other<T: Tables>(
         )),
         Call::Tight(size) => allocate_tight(desk, size),
         Call::TightAligned(size, align) => allocate_tight_aligned(desk, size, align),
+        Call::AllocateAt(offset, size) => allocate_at(desk, offset, size),
         Call::RefusalTight(size) => Ok(Reply::Refusal(desk.space.allocator().refusal_tight(size))),
         Call::RefusalTightAligned(size, align) => Ok(Reply::Refusal(
             desk.space.allocator().refusal_tight_aligned(size, align),

@@ -4,10 +4,11 @@
 //! them.
 //!
 //! `offset_script` plays the commands of a script. Here `shrink`, `grow_in_place`, `compact`, `compact_by`,
-//! `compact_within`, `make_room`, `make_room_by`, `relocate`, `relocate_aligned`, `retract` and the tight
-//! requests, and the questions for an offset, for that of a grant, for the reason of a refusal, for the cost of
-//! room, by whole steps too, and for the ranges beside one, are calls too. The replies are proved to be those of the plain stamped list of
-//! blocks, which `specs/Calls.antt` extends by these calls, for every lawful layout and index type.
+//! `compact_within`, `make_room`, `make_room_by`, `relocate`, `relocate_aligned`, `retract`, `allocate_at` and
+//! the tight requests, and the questions for an offset, for that of a grant, for the reason of a refusal, for
+//! the cost of room, by whole steps too, and for the ranges beside one, are calls too. The replies are proved
+//! to be those of the plain stamped list of blocks, which `specs/Calls.antt` extends by these calls, for every
+//! lawful layout and index type.
 #![doc = include_str!("../README.md")]
 #![forbid(unsafe_code)]
 #![warn(missing_docs)]

@@ -65,6 +65,18 @@ fn tight_aligned<T: Tables>(
     Ok(Reply::Answer(player.keep(granted)?))
 }
 
+// The reply to `AllocateAt`.
+#[inline(never)]
+fn at_offset<T: Tables>(
+    player: &mut PlayerOf<T>,
+    offset: u32,
+    size: u32,
+) -> Result<Reply, AllocError> {
+    player.handles.reserve(1)?;
+    let granted = player.space.allocate_at(offset, size);
+    Ok(Reply::Answer(player.keep(granted)?))
+}
+
 // The reply to `RoomCost`.
 #[inline(never)]
 pub(crate) fn room_cost<T: Tables>(space: &AllocatorOf<T>, size: u32) -> Reply {
@@ -112,6 +124,7 @@ fn other<T: Tables>(
         )),
         Call::Tight(size) => tight(player, size),
         Call::TightAligned(size, align) => tight_aligned(player, size, align),
+        Call::AllocateAt(offset, size) => at_offset(player, offset, size),
         Call::RefusalTight(size) => Ok(Reply::Refusal(player.space.refusal_tight(size))),
         Call::RefusalTightAligned(size, align) => Ok(Reply::Refusal(
             player.space.refusal_tight_aligned(size, align),

@@ -13,7 +13,7 @@ fn below(state: &mut u64, n: u32) -> u32 {
 fn random_call(state: &mut u64) -> Call {
     let (n, k) = (below(state, 60), below(state, 30));
     let align = if below(state, 2) == 0 { 1 << below(state, 6) } else { 1 + below(state, 50) };
-    match below(state, 40) {
+    match below(state, 41) {
         0..=5 => Call::Command(Command::Alloc(n)),
         6 => Call::Command(Command::Align(n, align)),
         7..=11 => Call::Command(Command::Free(k)),
@@ -45,6 +45,7 @@ fn random_call(state: &mut u64) -> Call {
         36 => Call::WouldBegin(n, align),
         37 => Call::MakeRoomBy(3 * n, align, k + 1),
         38 => Call::CompactWithin(k + 1, 9 * n, 2 * n, k),
+        39 => Call::AllocateAt(9 * n, k),
         _ => Call::After(k),
     }
 }
