@@ -545,6 +545,12 @@ public:
     // Whether the ticket was live; if not, nothing changes.
     bool free(Ticket ticket) { return oag_free(space, in(ticket)); }
 
+    // As of Allocator; where there is none, the ticket converts to false.
+    Ticket allocateAt(uint32 offset, uint32 size) { return of(oag_allocate_at(space, offset, size)); }
+    bool isFreeAt(uint32 offset, uint32 size) const { return oag_is_free_at(space, offset, size); }
+    Ticket liveAt(uint32 offset) const { return of(oag_live_at(space, offset)); }
+    Ticket inTheWay(uint32 offset, uint32 size) const { return of(oag_in_the_way(space, offset, size)); }
+
     bool isLive(Ticket ticket) const { return oag_is_live(space, in(ticket)); }
     uint32 sizeOf(Ticket ticket) const { return oag_size_of(space, in(ticket)); }
     uint32 offsetOf(Ticket ticket) const { return oag_offset_of(space, in(ticket)); }

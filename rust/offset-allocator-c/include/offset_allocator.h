@@ -522,6 +522,14 @@ oag_ticket oag_allocate_aligned(oag_allocator *space, uint32_t size, uint32_t al
 oag_ticket oag_allocate_tight(oag_allocator *space, uint32_t size);
 oag_ticket oag_allocate_tight_aligned(oag_allocator *space, uint32_t size, uint32_t align);
 
+/* As oa_allocate_at and oa_is_free_at. The serial is 0 where the request is refused. */
+oag_ticket oag_allocate_at(oag_allocator *space, uint32_t offset, uint32_t size);
+bool oag_is_free_at(const oag_allocator *space, uint32_t offset, uint32_t size);
+
+/* As oa_handle_at and oa_in_the_way. The serial is 0 where there is no such range, or the allocator is null. */
+oag_ticket oag_live_at(const oag_allocator *space, uint32_t offset);
+oag_ticket oag_in_the_way(const oag_allocator *space, uint32_t offset, uint32_t size);
+
 /* Frees the range of a ticket. True if it was live; else nothing changes. Bounded. */
 bool oag_free(oag_allocator *space, oag_ticket ticket);
 

@@ -726,6 +726,20 @@ exports! {
         guard(if align != 0 { space.allocate_tight_aligned(size, align) } else { None })
     } else NO_TICKET;
 
+    fn oag_allocate_at([space: &mut GuardedSpace], offset: u32, size: u32) -> Guard {
+        guard(space.allocate_at(offset, size))
+    } else NO_TICKET;
+
+    fn oag_is_free_at([space: &GuardedSpace], offset: u32, size: u32) -> bool {
+        space.allocator().is_free_at(offset, size)
+    } else false;
+
+    fn oag_live_at([space: &GuardedSpace], offset: u32) -> Guard { guard(space.live_at(offset)) } else NO_TICKET;
+
+    fn oag_in_the_way([space: &GuardedSpace], offset: u32, size: u32) -> Guard {
+        guard(space.in_the_way(offset, size))
+    } else NO_TICKET;
+
     fn oag_free([space: &mut GuardedSpace], allocation: Guard) -> bool { space.free(ticket(allocation)) } else false;
 
     fn oag_is_live([space: &GuardedSpace], allocation: Guard) -> bool { space.is_live(ticket(allocation)) } else false;

@@ -263,6 +263,10 @@ static void places() {
     CHECK(a.isFreeAt(0, 40) && !a.isFreeAt(0, 41) && a.inTheWay(0, 41) == mesh && a.inTheWay(0, 40).offset == Allocation::NO_SPACE);
     CHECK(a.allocateAt(30, 20).offset == Allocation::NO_SPACE && a.blockCount() == 3);
     CHECK(a.free(a.handleAt(50)) && a.allocateAt(30, 20).offset == 30);
+    GuardedAllocator g(100, 8, 3);
+    Ticket range = g.allocateAt(40, 20);
+    CHECK(range && g.offsetOf(range) == 40 && g.liveAt(59) == range && !g.liveAt(60) && g.inTheWay(0, 41) == range && !g.inTheWay(0, 40));
+    CHECK(g.isFreeAt(60, 40) && !g.isFreeAt(59, 1) && !g.allocateAt(30, 20) && g.free(g.liveAt(50)) && !g.free(range) && g.allocateAt(30, 20));
     CHECK(!Allocator(0, 1).isFreeAt(0, 0) && Allocator(0, 1).allocateAt(0, 0).offset == Allocation::NO_SPACE);
 }
 

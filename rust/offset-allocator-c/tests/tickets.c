@@ -229,6 +229,20 @@ static void states(void) {
     oag_drop(space);
 }
 
+/* 40 units free, 20 live, 40 free */
+static void places(void) {
+    oag_allocator *space = oag_new(100, 8, 9);
+    oag_ticket mesh = oag_allocate_at(space, 40, 20);
+    CHECK(mesh.serial == 1 && mesh.realm == 9 && oag_offset_of(space, mesh) == 40 && oag_size_of(space, mesh) == 20);
+    CHECK(same(oag_live_at(space, 40), mesh) && same(oag_live_at(space, 59), mesh) && !oag_live_at(space, 60).serial);
+    CHECK(oag_is_free_at(space, 0, 40) && !oag_is_free_at(space, 0, 41) && same(oag_in_the_way(space, 0, 41), mesh));
+    CHECK(!oag_in_the_way(space, 0, 40).serial && !oag_allocate_at(space, 30, 20).serial && oag_block_count(space) == 3);
+    CHECK(oag_free(space, oag_live_at(space, 50)) && !oag_free(space, mesh) && oag_is_free_at(space, 0, 100));
+    CHECK(oag_allocate_at(space, 30, 20).serial == 2 && !oag_is_live(space, mesh));
+    CHECK(!oag_allocate_at(NULL, 0, 1).serial && !oag_is_free_at(NULL, 0, 0) && !oag_live_at(NULL, 0).serial && !oag_in_the_way(NULL, 0, 1).serial);
+    oag_drop(space);
+}
+
 /* any free block serves that holds the request */
 static void tight(void) {
     oag_allocator *space = oag_new(100, 16, 9);
@@ -361,6 +375,7 @@ int main(void) {
     from_the_end();
     states();
     tight();
+    places();
     reads();
     nulls();
     dumps();

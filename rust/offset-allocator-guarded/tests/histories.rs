@@ -63,8 +63,11 @@ trait Space {
     fn allocate(&mut self, size: u32, align: u32) -> Option<Self::Grant>;
     fn refusal_tight(&self, size: u32, align: u32) -> Option<Refusal>;
     fn allocate_tight(&mut self, size: u32, align: u32) -> Option<Self::Grant>;
-    /// Requests these units from this offset on. Spaces with tickets have no such call.
+    /// Requests these units from this offset on.
     fn allocate_at(&mut self, offset: u32, size: u32) -> Option<Self::Grant>;
+    fn in_the_way(&self, offset: u32, size: u32) -> Option<Self::Grant>;
+    /// The live range that has this unit.
+    fn live_at(&self, offset: u32) -> Option<Self::Grant>;
     fn free(&mut self, grant: Self::Grant);
     fn shrink(&mut self, grant: Self::Grant, size: u32) -> bool;
     fn grow_in_place(&mut self, grant: Self::Grant, size: u32) -> bool;
@@ -128,6 +131,14 @@ impl<T: Tables> Space for AllocatorOf<T> {
 
     fn allocate_at(&mut self, offset: u32, size: u32) -> Option<Self::Grant> {
         self.allocate_at(offset, size)
+    }
+
+    fn in_the_way(&self, offset: u32, size: u32) -> Option<Self::Grant> {
+        self.in_the_way(offset, size)
+    }
+
+    fn live_at(&self, offset: u32) -> Option<Self::Grant> {
+        self.handle_at(offset)
     }
 
     fn free(&mut self, grant: Self::Grant) {
@@ -230,8 +241,16 @@ impl<T: Tables> Space for GuardedOf<T> {
         }
     }
 
-    fn allocate_at(&mut self, _: u32, _: u32) -> Option<Ticket> {
-        panic!("there is no such call with tickets");
+    fn allocate_at(&mut self, offset: u32, size: u32) -> Option<Ticket> {
+        self.allocate_at(offset, size)
+    }
+
+    fn in_the_way(&self, offset: u32, size: u32) -> Option<Ticket> {
+        self.in_the_way(offset, size)
+    }
+
+    fn live_at(&self, offset: u32) -> Option<Ticket> {
+        self.live_at(offset)
     }
 
     fn free(&mut self, grant: Ticket) {
@@ -664,20 +683,16 @@ impl<S: Space> Pair<S> {
         self.write(range, offset, 0, size);
     }
 
-    /// What is at an offset, of all spaces, and a request for it, of those with handles.
+    /// What is at an offset, and a request for it.
     fn allocate_at(&mut self, offset: u32, size: u32, met: &mut Met) {
-        let space = self.space.allocator();
         let is_free = self.model.free_at(offset, size).is_some();
-        assert_eq!(space.is_free_at(offset, size), is_free);
-        for (units, found) in [(size, space.in_the_way(offset, size)), (1, space.handle_at(offset))] {
+        assert_eq!(self.space.allocator().is_free_at(offset, size), is_free);
+        for (units, found) in [(size, self.space.in_the_way(offset, size)), (1, self.space.live_at(offset))] {
             let expected = self.model.in_the_way(offset, units);
             let grant = expected.map(|place| S::at(self.model.blocks[place].live.unwrap().grant, self.model.offset(place)));
-            assert_eq!(found.map(|handle| self.space.grant(handle).unwrap()), grant);
+            assert_eq!(found, grant);
             met.in_the_way += u64::from(found.is_some());
             assert!(units != size || grant.is_none() || !is_free, "a free block holds them, and something is in the way");
-        }
-        if S::IS_GUARDED {
-            return;
         }
         let blocks = self.model.blocks.len();
         let found = self.space.allocate_at(offset, size);
