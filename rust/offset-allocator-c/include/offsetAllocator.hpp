@@ -330,6 +330,14 @@ public:
         return detail::of(oa_allocate_tight_aligned(space, size, align));
     }
 
+    // The units from an offset on, where one free block holds them; else, or where a node is missing, both parts are NO_SPACE.
+    // It walks over the blocks, as do the questions: whether one free block holds them, which live range has a unit, and which
+    // one is the last in the way of units; where there is none, both parts are NO_SPACE.
+    Allocation allocateAt(uint32 offset, uint32 size) { return detail::of(oa_allocate_at(space, offset, size)); }
+    bool isFreeAt(uint32 offset, uint32 size) const { return oa_is_free_at(space, offset, size); }
+    Allocation handleAt(uint32 offset) const { return detail::of(oa_handle_at(space, offset)); }
+    Allocation inTheWay(uint32 offset, uint32 size) const { return detail::of(oa_in_the_way(space, offset, size)); }
+
     // Whether the allocation was live; if not, nothing changes.
     bool free(Allocation allocation) { return oa_free(space, detail::in(allocation)); }
 
@@ -341,8 +349,8 @@ public:
     bool extend(uint32 more) { return oa_extend(space, more); }
     bool retract(uint32 less) { return oa_retract(space, less); }
 
-    // A second range before that of a live allocation; where there is none, both parts are NO_SPACE, also where align is no
-    // power of two.
+    // A second range before that of a live allocation; where there is none, both parts are NO_SPACE, also where align is
+    // 0: align is at least 1.
     Allocation relocate(Allocation allocation) { return detail::of(oa_relocate(space, detail::in(allocation))); }
     Allocation relocateAligned(Allocation allocation, uint32 align) { return detail::of(oa_relocate_aligned(space, detail::in(allocation), align)); }
 
@@ -371,7 +379,7 @@ public:
 
     // Handles stay live; a range that moves begins at allocationOffset from then on, and keeps no alignment, or, by compactBy,
     // compactWithin and makeRoomBy, those that divide step. With a step of 0 nothing moves: compactBy returns false,
-    // compactWithin is not done, and makeRoomBy is not possible, nor is it where align is no power of two. compactBy and
+    // compactWithin is not done, and makeRoomBy is not possible, nor is it where align is 0. compactBy and
     // compactWithin refuse also where, as oa_compact_by says, a node is missing. moved(Move) is called for each range that
     // moves. An exception of it goes on to the caller when all ranges have moved; after it, moved is not called again.
     template <class F> void compact(F &&moved) {
@@ -433,7 +441,7 @@ public:
     Statistics statistics() const { return detail::of(oa_statistics(space)); }
     StorageReport storageReport() const { return detail::of(oa_storage_report(space)); }
     StorageReportFull storageReportFull() const { return detail::of(oa_storage_report_full(space)); }
-    // Allocation::NO_SPACE where allocateAligned would refuse, and where align is no power of two
+    // Allocation::NO_SPACE where allocateAligned would refuse, and where align is 0: align is at least 1
     uint32 wouldBegin(uint32 size, uint32 align) const { return oa_would_begin(space, size, align); }
     Refusal refusal(uint32 size) const { return Refusal(oa_refusal(space, size)); }
     Refusal refusalAligned(uint32 size, uint32 align) const { return Refusal(oa_refusal_aligned(space, size, align)); }
@@ -545,7 +553,7 @@ public:
     bool extend(uint32 more) { return oag_extend(space, more); }
     bool retract(uint32 less) { return oag_retract(space, less); }
 
-    // Where there is none, the ticket converts to false, also where align is no power of two.
+    // Where there is none, the ticket converts to false, also where align is 0: align is at least 1.
     Ticket relocate(Ticket ticket) { return of(oag_relocate(space, in(ticket))); }
     Ticket relocateAligned(Ticket ticket, uint32 align) { return of(oag_relocate_aligned(space, in(ticket), align)); }
     Ticket firstLive() const { return of(oag_first_live(space)); }

@@ -103,7 +103,7 @@ public:
     uint32 offsetOf(const Place &place) const { return oah_offset_of(heaps, in(place)); }
 
     // The place of a second range in another heap in which at least as many units are live, whose serial is 0 where none
-    // takes it, also where align is no power of two; the old one stays live. It begins at any multiple, or at one of align.
+    // takes it, also where align is 0; the old one stays live. It begins at any multiple, or at one of align.
     Place relocate(const Place &place) { return of(oah_relocate(heaps, in(place))); }
     Place relocateAligned(const Place &place, uint32 align) { return of(oah_relocate_aligned(heaps, in(place), align)); }
 

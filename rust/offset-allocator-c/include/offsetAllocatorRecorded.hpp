@@ -117,9 +117,9 @@ public:
         tape.write("alloc %u\n", size);
         return granted(space.allocate(size));
     }
-    // An alignment that is no power of two is refused, as by A, and not written.
+    // An alignment of 0 is refused, as by A, and not written: align is at least 1.
     Handle allocateAligned(uint32 size, uint32 align) {
-        if (isValid(isPower(align))) tape.write("align %u %u\n", size, align);
+        if (isValid(align != 0)) tape.write("align %u %u\n", size, align);
         return granted(space.allocateAligned(size, align));
     }
     Handle allocateTight(uint32 size) {
@@ -127,7 +127,7 @@ public:
         return granted(space.allocateTight(size));
     }
     Handle allocateTightAligned(uint32 size, uint32 align) {
-        if (isValid(isPower(align))) tape.write("tight %u %u\n", size, align);
+        if (isValid(align != 0)) tape.write("tight %u %u\n", size, align);
         return granted(space.allocateTightAligned(size, align));
     }
     // A handle that is not live is written as 0, the number of no grant.
@@ -147,9 +147,9 @@ public:
         tape.write("relocate %u\n", number(handle));
         return granted(space.relocate(handle));
     }
-    // As allocateAligned, for an alignment that is no power of two.
+    // As allocateAligned, for an alignment of 0.
     Handle relocateAligned(Handle handle, uint32 align) {
-        if (isValid(isPower(align))) tape.write("relocate %u %u\n", number(handle), align);
+        if (isValid(align != 0)) tape.write("relocate %u %u\n", number(handle), align);
         return granted(space.relocateAligned(handle, align));
     }
     bool extend(uint32 more) {
@@ -177,9 +177,9 @@ public:
         tape.write("room %u\n", size);
         return space.makeRoom(size, std::forward<F>(moved));
     }
-    // An alignment that is no power of two, or a step of 0, is refused, as by A, and not written.
+    // An alignment or a step of 0 is refused, as by A, and not written.
     template <class F> RoomCost makeRoomBy(uint32 size, uint32 align, uint32 step, F &&moved) {
-        if (isValid(isPower(align) && step != 0)) tape.write("room %u %u %u\n", size, align, step);
+        if (isValid(align != 0 && step != 0)) tape.write("room %u %u %u\n", size, align, step);
         return space.makeRoomBy(size, align, step, std::forward<F>(moved));
     }
     void reset() {
@@ -195,7 +195,6 @@ private:
         if (!space) tape.fail();
         tape.write("space %u nodes %u index 32\n", space.size(), space.maxAllocs());
     }
-    static bool isPower(uint32 align) { return align != 0 && (align & (align - 1)) == 0; }
     // A call that could not be read again is not written, and a name that was given to it is that of no other call.
     bool isValid(bool valid) {
         if (!valid) tape.unname();

@@ -109,7 +109,7 @@ typedef enum oa_reason {
     OA_TOO_LARGE = 2,  /* A fresh space of this size would refuse it too. Extend the space. */
     OA_SPACE = 3,      /* All free units in one block would not be enough. Free ranges, or extend the space. */
     OA_FRAGMENTED = 4, /* They would be enough: after oa_compact the request is granted. */
-    OA_BAD_CALL = 5,   /* The allocator is null, or the alignment is no power of two. */
+    OA_BAD_CALL = 5,   /* The allocator is null, or the alignment is 0. */
     OA_SERIALS = 6     /* All serials are given (oag_refusal alone). Use another space. */
 } oa_reason;
 
@@ -216,9 +216,10 @@ void oa_reset(oa_allocator *space);
  * allocator is null, both parts are OA_NO_SPACE, and nothing changes. Cost: at most 64 accesses. */
 oa_allocation oa_allocate(oa_allocator *space, uint32_t size);
 
-/* Grants a range of `size` units that begins at a multiple of align, a power of two. Above 1, it needs a free block for
- * size + align - 1 units, and room for two more blocks. It is refused as oa_allocate, and where align is no power of
- * two. Where all requests have one alignment, count in units of it instead: then no padding is needed. Bounded. */
+/* Grants a range of `size` units that begins at a multiple of align; align is at least 1: 256, or 12 for vertices of 12
+ * bytes. Above 1, it needs a free block for size + align - 1 units, and room for two more blocks. It is refused as
+ * oa_allocate, and where align is 0. Where all requests have one alignment, count in units of it instead: then no padding is
+ * needed. Bounded. */
 oa_allocation oa_allocate_aligned(oa_allocator *space, uint32_t size, uint32_t align);
 
 /* Grants `size` units as oa_allocate does, and where that is refused, of the first free block of the class of `size` that
@@ -226,10 +227,31 @@ oa_allocation oa_allocate_aligned(oa_allocator *space, uint32_t size, uint32_t a
  * filled, and a fresh space grants all its units. Cost: at most 140 accesses, and 6 for each free block of the class. */
 oa_allocation oa_allocate_tight(oa_allocator *space, uint32_t size);
 
-/* The same at a multiple of align: as oa_allocate_aligned, and where that is refused, of the first free block, from the
- * class of `size` on, that holds them where it begins. Above 1, it needs room for two more blocks.
+/* The same at a multiple of align, which is at least 1: as oa_allocate_aligned, and where that is refused, of the first free
+ * block, from the class of `size` on, that holds them where it begins. Above 1, it needs room for two more blocks.
  * Cost: at most 140 accesses, and 6 for each free block of these classes. */
 oa_allocation oa_allocate_tight_aligned(oa_allocator *space, uint32_t size, uint32_t align);
+
+/* Grants the `size` units that begin at `offset`, where one free block holds them all: for addresses that were captured, or
+ * that are reserved. A range of no units is taken of the last free block that begins at `offset` or before. Both parts are
+ * OA_NO_SPACE, and nothing changes, where no free block holds them (oa_in_the_way says which range to free), where no node is
+ * left for the blocks that are added, one for the units of the block before the range, one for those after it, and at least
+ * one, or if the allocator is null. Cost: 80 accesses, and 3 for each block, from the last one back. */
+oa_allocation oa_allocate_at(oa_allocator *space, uint32_t offset, uint32_t size);
+
+/* Whether one free block holds the `size` units that begin at `offset`; false for null. Cost: 2 accesses, and 3 for each block,
+ * from the last one back. */
+bool oa_is_free_at(const oa_allocator *space, uint32_t offset, uint32_t size);
+
+/* The handle of the live range that has the unit at `offset`, so that a range can be freed by a place in it. Both parts are
+ * OA_NO_SPACE where that unit is free or not in the space, or if the allocator is null. Cost: 5 accesses, and 5 for each block,
+ * from the last one back. */
+oa_allocation oa_handle_at(const oa_allocator *space, uint32_t offset);
+
+/* The handle of the last live range that is in the way of the `size` units that begin at `offset`: it has one of them, or lies
+ * among them, as a range of no units may. Both parts are OA_NO_SPACE where there is none, or if the allocator is null. Cost: 5
+ * accesses, and 5 for each block, from the last one back. */
+oa_allocation oa_in_the_way(const oa_allocator *space, uint32_t offset, uint32_t size);
 
 /* Frees a range. True if its handle is live; false, and nothing changes, if not or if the allocator is null. Bounded. */
 bool oa_free(oa_allocator *space, oa_allocation allocation);
@@ -268,7 +290,7 @@ bool oa_retract(oa_allocator *space, uint32_t less);
 oa_allocation oa_relocate(oa_allocator *space, oa_allocation allocation);
 
 /* The same at a multiple of align, from the block that oa_allocate_aligned takes for these units. Both parts are OA_NO_SPACE,
- * and nothing changes, also where align is no power of two. Bounded. */
+ * and nothing changes, also where align is 0; align is at least 1. Bounded. */
 oa_allocation oa_relocate_aligned(oa_allocator *space, oa_allocation allocation, uint32_t align);
 
 /* Moves all live ranges to the front of the space, in order, so that all free units are one block. Handles stay live; a
@@ -328,8 +350,8 @@ oa_room oa_make_room(oa_allocator *space, uint32_t size, void (*moved)(void *use
  * its alignment where that divides `step`. What whole steps leave of a free block of the run stays a free block. Returns what
  * oa_room_cost_by would have returned before; where that is not possible or has no ranges, nothing changes. Wherever it is
  * possible, oa_allocate_aligned grants the request afterwards, at the node limit too.
- * All 0 for null, where `align` is no power of two, or where `step` is 0. Cost: 7 accesses a block, 36 a range of the run, and
- * 60. */
+ * All 0 for null, or where `align` or `step` is 0: both are at least 1. Cost: 7 accesses a block, 36 a range of the
+ * run, and 60. */
 oa_room oa_make_room_by(oa_allocator *space, uint32_t size, uint32_t align, uint32_t step,
                         void (*moved)(void *user, oa_move range), void *user);
 
@@ -363,7 +385,7 @@ oa_report oa_storage_report(const oa_allocator *space);
 oa_report_full oa_storage_report_full(const oa_allocator *space);
 
 /* Where the range would begin that oa_allocate_aligned would grant now; with an `align` of 1, oa_allocate. OA_NO_SPACE where it
- * would refuse, and for null or an `align` that is no power of two. Nothing is taken. At most 4 accesses. */
+ * would refuse, and for null or an `align` of 0: align is at least 1. Nothing is taken. At most 4 accesses. */
 uint32_t oa_would_begin(const oa_allocator *space, uint32_t size, uint32_t align);
 
 /* Why oa_allocate would be refused now. At most 8 accesses. */
@@ -389,8 +411,8 @@ oa_room oa_room_cost(const oa_allocator *space, uint32_t size);
  * of blocks, from a free one to a free one, that leave one free block which is large enough and give back the nodes that the
  * request needs, one whose ranges have the fewest units, and of these one with the fewest ranges. Not possible where there is
  * no such run. Possible with both 0 exactly where the request would be granted now. At the node limit a cost may be too high: it
- * counts ranges of the run that stay. All 0 for null, where `align` is no power of two, or where `step` is 0. Cost: 7 accesses a
- * block, and 2. */
+ * counts ranges of the run that stay. All 0 for null, or where `align` or `step` is 0: both are at least 1. Cost: 7
+ * accesses a block, and 2. */
 oa_room oa_room_cost_by(const oa_allocator *space, uint32_t size, uint32_t align, uint32_t step);
 
 /* The smallest size of a fresh space that grants a request of this size; 0 above 4026531840, where none does. */
@@ -493,7 +515,7 @@ void oag_reset(oag_allocator *space);
 /* Grants `size` units, as oa_allocate. The serial is 0 where it is refused, or the allocator is null. Bounded. */
 oag_ticket oag_allocate(oag_allocator *space, uint32_t size);
 
-/* The same at a multiple of `align`. The serial is 0 also where that is no power of two. Bounded. */
+/* The same at a multiple of `align`, which is at least 1. The serial is 0 also where it is 0. Bounded. */
 oag_ticket oag_allocate_aligned(oag_allocator *space, uint32_t size, uint32_t align);
 
 /* As oa_allocate_tight and oa_allocate_tight_aligned. The serial is 0 where they are refused. */

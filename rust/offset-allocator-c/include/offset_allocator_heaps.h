@@ -50,7 +50,7 @@ typedef enum oah_refusal {
     OAH_TOO_LARGE = 2, /* No heap has room, a fresh one would not have it, and there may be no larger ones. */
     OAH_FULL = 3,      /* No heap has room, and no other may be made for it. Free ranges, or drop empty heaps. */
     OAH_MEMORY = 4,    /* No heap has room. Another one may be made, but its memory was refused. */
-    OAH_BAD_CALL = 5   /* The heaps are null, or the alignment is no power of two. */
+    OAH_BAD_CALL = 5   /* The heaps are null, or the alignment is 0. */
 } oah_refusal;
 
 /* What a request gets. is_new: its heap was made for it: make the buffer of that number before the range is used, or take the
@@ -109,7 +109,7 @@ void oah_reset(oah_heaps *heaps);
  * Cost: that of oag_allocate, and some steps for each bit of the numbers. */
 oah_granted oah_allocate(oah_heaps *heaps, uint32_t size);
 
-/* The same at a multiple of align, a power of two, in the heap: one that is there needs room for size + align - 1 units, a
+/* The same at a multiple of align, which is at least 1, in the heap: one that is there needs room for size + align - 1 units, a
  * new one for size, since its first range begins at 0. */
 oah_granted oah_allocate_aligned(oah_heaps *heaps, uint32_t size, uint32_t align);
 
@@ -143,8 +143,8 @@ uint32_t oah_offset_of(const oah_heaps *heaps, oah_place place);
  * Cost: that of oah_allocate, and at most one read of each number. */
 oah_place oah_relocate(oah_heaps *heaps, oah_place place);
 
-/* The same at a multiple of align, a power of two, in the heap, which needs room for as many units and align - 1 more. Its
- * serial is 0 also where align is no power of two. */
+/* The same at a multiple of align, which is at least 1, in the heap, which needs room for as many units and align - 1 more. Its
+ * serial is 0 also where align is 0. */
 oah_place oah_relocate_aligned(oah_heaps *heaps, oah_place place, uint32_t align);
 
 /* The number of the heap with the fewest live units, of those that have a live range, the last such; OA_NO_SPACE where

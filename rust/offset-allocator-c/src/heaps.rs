@@ -169,7 +169,7 @@ exports! {
     fn oah_allocate([heaps: &mut ManyHeaps], size: u32) -> Answer { answer(heaps.allocate(size)) } else BAD_CALL;
 
     fn oah_allocate_aligned([heaps: &mut ManyHeaps], size: u32, align: u32) -> Answer {
-        if align.is_power_of_two() { answer(heaps.allocate_aligned(size, align)) } else { BAD_CALL }
+        if align != 0 { answer(heaps.allocate_aligned(size, align)) } else { BAD_CALL }
     } else BAD_CALL;
 
     fn oah_free([heaps: &mut ManyHeaps], at: At) -> bool { heaps.free(place(at)) } else false;
@@ -185,7 +185,7 @@ exports! {
     fn oah_relocate([heaps: &mut ManyHeaps], from: At) -> At { at(heaps.relocate(place(from))) } else NOWHERE;
 
     fn oah_relocate_aligned([heaps: &mut ManyHeaps], from: At, align: u32) -> At {
-        if align.is_power_of_two() { at(heaps.relocate_aligned(place(from), align)) } else { NOWHERE }
+        if align != 0 { at(heaps.relocate_aligned(place(from), align)) } else { NOWHERE }
     } else NOWHERE;
 
     fn oah_emptiest([heaps: &ManyHeaps],) -> u32 { heaps.emptiest().unwrap_or(NO_SPACE) } else NO_SPACE;

@@ -448,13 +448,25 @@ exports! {
     fn oa_allocate([space: &mut Space], size: u32) -> Handle { handle(space.allocate(size)) } else NOTHING;
 
     fn oa_allocate_aligned([space: &mut Space], size: u32, align: u32) -> Handle {
-        handle(if align.is_power_of_two() { space.allocate_aligned(size, align) } else { None })
+        handle(if align != 0 { space.allocate_aligned(size, align) } else { None })
     } else NOTHING;
 
     fn oa_allocate_tight([space: &mut Space], size: u32) -> Handle { handle(space.allocate_tight(size)) } else NOTHING;
 
     fn oa_allocate_tight_aligned([space: &mut Space], size: u32, align: u32) -> Handle {
-        handle(if align.is_power_of_two() { space.allocate_tight_aligned(size, align) } else { None })
+        handle(if align != 0 { space.allocate_tight_aligned(size, align) } else { None })
+    } else NOTHING;
+
+    fn oa_allocate_at([space: &mut Space], offset: u32, size: u32) -> Handle {
+        handle(space.allocate_at(offset, size))
+    } else NOTHING;
+
+    fn oa_is_free_at([space: &Space], offset: u32, size: u32) -> bool { space.is_free_at(offset, size) } else false;
+
+    fn oa_handle_at([space: &Space], offset: u32) -> Handle { handle(space.handle_at(offset)) } else NOTHING;
+
+    fn oa_in_the_way([space: &Space], offset: u32, size: u32) -> Handle {
+        handle(space.in_the_way(offset, size))
     } else NOTHING;
 
     fn oa_free([space: &mut Space], allocation: Handle) -> bool {
@@ -494,7 +506,7 @@ exports! {
     } else NOTHING;
 
     fn oa_relocate_aligned([space: &mut Space], allocation: Handle, align: u32) -> Handle {
-        let allocation = if align.is_power_of_two() { live(space, allocation) } else { None };
+        let allocation = if align != 0 { live(space, allocation) } else { None };
         handle(allocation.and_then(|allocation| space.relocate_aligned(allocation, align)))
     } else NOTHING;
 
@@ -579,7 +591,7 @@ exports! {
         moved: Option<Callback>,
         user: Option<NonNull<c_void>>
     ) -> Room {
-        if !align.is_power_of_two() || step == 0 {
+        if align == 0 || step == 0 {
             return Room::default();
         }
         room(space.make_room_by(size, align, step, &mut calls(moved, user)))
@@ -608,26 +620,26 @@ exports! {
     fn oa_refusal([space: &Space], size: u32) -> Reason { reason(space.refusal(size)) } else Reason::BadCall;
 
     fn oa_refusal_aligned([space: &Space], size: u32, align: u32) -> Reason {
-        if align.is_power_of_two() { reason(space.refusal_aligned(size, align)) } else { Reason::BadCall }
+        if align != 0 { reason(space.refusal_aligned(size, align)) } else { Reason::BadCall }
     } else Reason::BadCall;
 
     fn oa_refusal_tight([space: &Space], size: u32) -> Reason { reason(space.refusal_tight(size)) } else Reason::BadCall;
 
     fn oa_refusal_tight_aligned([space: &Space], size: u32, align: u32) -> Reason {
-        if align.is_power_of_two() { reason(space.refusal_tight_aligned(size, align)) } else { Reason::BadCall }
+        if align != 0 { reason(space.refusal_tight_aligned(size, align)) } else { Reason::BadCall }
     } else Reason::BadCall;
 
     fn oa_room_cost([space: &Space], size: u32) -> Room { room(space.room_cost(size)) } else Room::default();
 
     fn oa_room_cost_by([space: &Space], size: u32, align: u32, step: u32) -> Room {
-        if !align.is_power_of_two() || step == 0 {
+        if align == 0 || step == 0 {
             return Room::default();
         }
         room(space.room_cost_by(size, align, step))
     } else Room::default();
 
     fn oa_would_begin([space: &Space], size: u32, align: u32) -> u32 {
-        if align.is_power_of_two() { space.would_begin(size, align).unwrap_or(NO_SPACE) } else { NO_SPACE }
+        if align != 0 { space.would_begin(size, align).unwrap_or(NO_SPACE) } else { NO_SPACE }
     } else NO_SPACE;
 
     fn oa_min_allocator_size(size: u32) -> u32 {
@@ -703,7 +715,7 @@ exports! {
     fn oag_allocate([space: &mut GuardedSpace], size: u32) -> Guard { guard(space.allocate(size)) } else NO_TICKET;
 
     fn oag_allocate_aligned([space: &mut GuardedSpace], size: u32, align: u32) -> Guard {
-        guard(if align.is_power_of_two() { space.allocate_aligned(size, align) } else { None })
+        guard(if align != 0 { space.allocate_aligned(size, align) } else { None })
     } else NO_TICKET;
 
     fn oag_allocate_tight([space: &mut GuardedSpace], size: u32) -> Guard {
@@ -711,7 +723,7 @@ exports! {
     } else NO_TICKET;
 
     fn oag_allocate_tight_aligned([space: &mut GuardedSpace], size: u32, align: u32) -> Guard {
-        guard(if align.is_power_of_two() { space.allocate_tight_aligned(size, align) } else { None })
+        guard(if align != 0 { space.allocate_tight_aligned(size, align) } else { None })
     } else NO_TICKET;
 
     fn oag_free([space: &mut GuardedSpace], allocation: Guard) -> bool { space.free(ticket(allocation)) } else false;
@@ -743,7 +755,7 @@ exports! {
     } else NO_TICKET;
 
     fn oag_relocate_aligned([space: &mut GuardedSpace], allocation: Guard, align: u32) -> Guard {
-        guard(if align.is_power_of_two() { space.relocate_aligned(ticket(allocation), align) } else { None })
+        guard(if align != 0 { space.relocate_aligned(ticket(allocation), align) } else { None })
     } else NO_TICKET;
 
     fn oag_first_live([space: &GuardedSpace],) -> Guard { guard(space.first_live()) } else NO_TICKET;
@@ -807,7 +819,7 @@ exports! {
         moved: Option<Callback>,
         user: Option<NonNull<c_void>>
     ) -> Room {
-        if !align.is_power_of_two() || step == 0 {
+        if align == 0 || step == 0 {
             return Room::default();
         }
         room(space.make_room_by(size, align, step, &mut calls(moved, user)))
@@ -856,7 +868,7 @@ exports! {
     fn oag_refusal([space: &GuardedSpace], size: u32) -> Reason { guarded_reason(space.refusal(size)) } else Reason::BadCall;
 
     fn oag_refusal_aligned([space: &GuardedSpace], size: u32, align: u32) -> Reason {
-        if align.is_power_of_two() { guarded_reason(space.refusal_aligned(size, align)) } else { Reason::BadCall }
+        if align != 0 { guarded_reason(space.refusal_aligned(size, align)) } else { Reason::BadCall }
     } else Reason::BadCall;
 
     fn oag_refusal_tight([space: &GuardedSpace], size: u32) -> Reason {
@@ -864,19 +876,19 @@ exports! {
     } else Reason::BadCall;
 
     fn oag_refusal_tight_aligned([space: &GuardedSpace], size: u32, align: u32) -> Reason {
-        if align.is_power_of_two() { guarded_reason(space.refusal_tight_aligned(size, align)) } else { Reason::BadCall }
+        if align != 0 { guarded_reason(space.refusal_tight_aligned(size, align)) } else { Reason::BadCall }
     } else Reason::BadCall;
 
     fn oag_room_cost([space: &GuardedSpace], size: u32) -> Room { room(space.allocator().room_cost(size)) } else Room::default();
 
     fn oag_room_cost_by([space: &GuardedSpace], size: u32, align: u32, step: u32) -> Room {
-        if !align.is_power_of_two() || step == 0 {
+        if align == 0 || step == 0 {
             return Room::default();
         }
         room(space.allocator().room_cost_by(size, align, step))
     } else Room::default();
 
     fn oag_would_begin([space: &GuardedSpace], size: u32, align: u32) -> u32 {
-        if align.is_power_of_two() { space.would_begin(size, align).unwrap_or(NO_SPACE) } else { NO_SPACE }
+        if align != 0 { space.would_begin(size, align).unwrap_or(NO_SPACE) } else { NO_SPACE }
     } else NO_SPACE;
 }

@@ -157,7 +157,7 @@ static void tight(void) {
     CHECK(oa_refusal_tight(space, 37) == OA_FRAGMENTED && oa_refusal_tight(space, 67) == OA_SPACE);
     CHECK(is_nothing(oa_allocate_aligned(space, 36, 64)) && oa_refusal_tight_aligned(space, 36, 64) == OA_GRANTED);
     CHECK(oa_allocate_tight_aligned(space, 36, 64).offset == 64);
-    CHECK(oa_refusal_tight_aligned(space, 31, 2) == OA_SPACE && oa_refusal_tight_aligned(space, 1, 3) == OA_BAD_CALL);
+    CHECK(oa_refusal_tight_aligned(space, 31, 2) == OA_SPACE && oa_refusal_tight_aligned(space, 1, 0) == OA_BAD_CALL);
     CHECK(is_nothing(oa_allocate_tight_aligned(space, 1, 0)) && oa_allocate_tight(space, 30).offset == 0);
     oa_drop(space);
 }
@@ -166,9 +166,11 @@ static void aligned(void) {
     oa_allocator *space = oa_new(1000, 16);
     oa_allocate(space, 3);
     CHECK(oa_allocate_aligned(space, 10, 64).offset == 64);
-    CHECK(is_nothing(oa_allocate_aligned(space, 10, 0)) && is_nothing(oa_allocate_aligned(space, 10, 3)));
-    CHECK(is_nothing(oa_allocate_aligned(space, 1, 0x80000000u)));
-    CHECK(oa_refusal_aligned(space, 10, 48) == OA_BAD_CALL && oa_refusal_aligned(space, 10, 8) == OA_GRANTED);
+    CHECK(is_nothing(oa_allocate_aligned(space, 10, 0)) && is_nothing(oa_allocate_aligned(space, 1, 0x80000000u)));
+    CHECK(oa_refusal_aligned(space, 10, 0) == OA_BAD_CALL && oa_refusal_aligned(space, 10, 48) == OA_GRANTED);
+    /* 61 units from 3 on are free, and 926 from 74 on: 10 at a multiple of 12 need 21, which the first have, from 12 on; then
+     * 42 of them are left, and 8 at a multiple of 48 need 55, which only the others have, from 96 on */
+    CHECK(oa_allocate_aligned(space, 10, 12).offset == 12 && oa_allocate_aligned(space, 8, 48).offset == 96);
     oa_drop(space);
 }
 
@@ -329,16 +331,45 @@ static void in_pieces(void) {
 
 static bool same(oa_allocation a, oa_allocation b) { return a.offset == b.offset && a.metadata == b.metadata; }
 
+/* the middle of a free block, its start and its end, all of one, and what is in the way; then the node limit of three blocks */
+static void places(void) {
+    oa_allocator *space = oa_new(100, 8);
+    CHECK(oa_is_free_at(space, 0, 100) && !oa_is_free_at(space, 0, 101) && is_nothing(oa_handle_at(space, 0)));
+    oa_allocation middle = oa_allocate_at(space, 40, 20);
+    CHECK(middle.offset == 40 && oa_allocation_size(space, middle) == 20 && oa_block_count(space) == 3);
+    CHECK(same(oa_handle_at(space, 40), middle) && same(oa_handle_at(space, 59), middle));
+    CHECK(is_nothing(oa_handle_at(space, 39)) && is_nothing(oa_handle_at(space, 60)) && is_nothing(oa_handle_at(space, 100)));
+    CHECK(oa_is_free_at(space, 0, 40) && !oa_is_free_at(space, 0, 41) && !oa_is_free_at(space, 59, 1) && oa_is_free_at(space, 60, 40));
+    CHECK(is_nothing(oa_allocate_at(space, 30, 20)) && same(oa_in_the_way(space, 30, 20), middle));
+    CHECK(is_nothing(oa_in_the_way(space, 0, 40)) && is_nothing(oa_in_the_way(space, 60, 4294967295u)));
+    /* behind the end there is no unit, and nothing in the way */
+    CHECK(is_nothing(oa_allocate_at(space, 90, 11)) && is_nothing(oa_in_the_way(space, 90, 11)) && oa_block_count(space) == 3);
+    oa_allocation start = oa_allocate_at(space, 0, 10), end = oa_allocate_at(space, 90, 10);
+    CHECK(start.offset == 0 && end.offset == 90 && same(oa_in_the_way(space, 0, 100), end) && same(oa_in_the_way(space, 5, 80), middle));
+    CHECK(oa_free(space, oa_handle_at(space, 50)) && is_nothing(oa_in_the_way(space, 10, 80)));
+    CHECK(oa_allocate_at(space, 10, 80).offset == 10 && oa_free_units(space) == 0 && oa_block_count(space) == 3);
+    CHECK(is_nothing(oa_allocate_at(space, 50, 0)));
+    oa_drop(space);
+    space = oa_new(100, 4);
+    middle = oa_allocate_at(space, 25, 50);
+    CHECK(middle.offset == 25 && oa_is_full(space) && oa_is_free_at(space, 0, 25) && is_nothing(oa_allocate_at(space, 0, 25)));
+    CHECK(oa_free(space, middle) && oa_allocate_at(space, 0, 50).offset == 0 && is_nothing(oa_allocate_at(space, 60, 20)));
+    CHECK(oa_allocate_at(space, 50, 50).offset == 50 && oa_block_count(space) == 2);
+    oa_drop(space);
+}
+
 /* a range of 64 units finds 320 free ones before it, of which those from 256 on are aligned */
 static void to_a_multiple(void) {
-    oa_allocator *space = oa_new(1000, 8);
+    oa_allocator *space = oa_new(1000, 12);
     oa_allocate(space, 10);
     oa_allocation hole = oa_allocate(space, 320), mesh = oa_allocate(space, 64);
     CHECK(is_nothing(oa_relocate_aligned(space, mesh, 256)) && oa_free(space, hole));
-    CHECK(is_nothing(oa_relocate_aligned(space, mesh, 0)) && is_nothing(oa_relocate_aligned(space, mesh, 3)));
-    CHECK(is_nothing(oa_relocate_aligned(space, hole, 256)) && is_nothing(oa_relocate_aligned(space, mesh, 2147483648u)));
+    CHECK(is_nothing(oa_relocate_aligned(space, mesh, 0)) && is_nothing(oa_relocate_aligned(space, hole, 256)));
+    CHECK(is_nothing(oa_relocate_aligned(space, mesh, 2147483648u)));
     oa_allocation moved = oa_relocate_aligned(space, mesh, 256);
     CHECK(moved.offset == 256 && oa_is_live(space, mesh) && oa_allocation_size(space, moved) == 64 && oa_block_count(space) == 6);
+    /* 64 at a multiple of 12 need 75, and 246 are free from 10 on */
+    CHECK(oa_relocate_aligned(space, mesh, 12).offset == 12);
     oa_drop(space);
 }
 
@@ -442,8 +473,9 @@ static void room_by_steps(void) {
     CHECK(!oa_room_cost_by(space, 73, 1, 8).possible && !oa_room_cost_by(space, 72, 1, 31).possible);
     CHECK(costs(oa_room_cost_by(space, 57, 16, 8), 18, 2) && !oa_room_cost_by(space, 58, 16, 8).possible);
     CHECK(!oa_room_cost_by(space, 4294967295u, 2, 8).possible && !oa_room_cost_by(space, 1, 2147483648u, 8).possible);
-    CHECK(!oa_room_cost_by(space, 1, 1, 0).possible && !oa_room_cost_by(space, 1, 0, 1).possible && !oa_room_cost_by(space, 1, 3, 1).possible);
-    CHECK(!oa_make_room_by(space, 1, 1, 0, copy, &data).possible && !oa_make_room_by(space, 1, 3, 1, copy, &data).possible);
+    CHECK(!oa_room_cost_by(space, 1, 1, 0).possible && !oa_room_cost_by(space, 1, 0, 1).possible);
+    CHECK(costs(oa_room_cost_by(space, 61, 12, 8), 18, 2) && !oa_room_cost_by(space, 62, 12, 8).possible);
+    CHECK(!oa_make_room_by(space, 1, 1, 0, copy, &data).possible && !oa_make_room_by(space, 1, 0, 1, copy, &data).possible);
     CHECK(!oa_make_room_by(space, 73, 1, 8, copy, &data).possible && costs(oa_make_room_by(space, 37, 16, 8, copy, &data), 0, 0));
     CHECK(!data.moves && oa_refusal_aligned(space, 57, 16) == OA_FRAGMENTED);
     CHECK(costs(oa_make_room_by(space, 57, 16, 8, copy, &data), 18, 2) && data.moves == 2 && data.last.offset == 16);
@@ -451,7 +483,9 @@ static void room_by_steps(void) {
     CHECK(oa_block_count(space) == 4 && oa_would_begin(space, 57, 16) == 32 && oa_allocate_aligned(space, 57, 16).offset == 32);
     /* 57 units at a multiple of 16 are taken, from 32 on: 11 are free behind them, and 8 before */
     CHECK(oa_would_begin(space, 11, 1) == 89 && oa_would_begin(space, 8, 1) == 24 && oa_would_begin(space, 4, 4) == 24);
-    CHECK(oa_would_begin(space, 12, 1) == OA_NO_SPACE && oa_would_begin(space, 1, 0) == OA_NO_SPACE && oa_would_begin(space, 1, 12) == OA_NO_SPACE);
+    CHECK(oa_would_begin(space, 12, 1) == OA_NO_SPACE && oa_would_begin(space, 1, 0) == OA_NO_SPACE);
+    /* 12 units are in no free block, and 7 in the one from 24 on */
+    CHECK(oa_would_begin(space, 1, 12) == OA_NO_SPACE && oa_would_begin(space, 1, 7) == 28);
     CHECK(oa_would_begin(space, 5, 4) == 24 && oa_would_begin(space, 6, 4) == 92 && oa_allocate_aligned(space, 6, 4).offset == 92);
     oa_drop(space);
     /* 12 free units, 8 live, 20 free, at the node limit: a run that leaves one block gives back a node; one of the two that an
@@ -472,6 +506,7 @@ static void nulls(void) {
     oa_compact(NULL, copy, NULL);
     CHECK(!oa_compact_by(NULL, 1, copy, NULL) && !oa_compact_by(NULL, 0, copy, NULL) && !oa_compact_within(NULL, 1, 0, 1, 1, copy, NULL).done);
     CHECK(is_nothing(oa_allocate(NULL, 1)) && is_nothing(oa_allocate_aligned(NULL, 1, 1)));
+    CHECK(is_nothing(oa_allocate_at(NULL, 0, 1)) && !oa_is_free_at(NULL, 0, 0) && is_nothing(oa_handle_at(NULL, 0)) && is_nothing(oa_in_the_way(NULL, 0, 1)));
     CHECK(is_nothing(oa_allocate_tight(NULL, 1)) && is_nothing(oa_allocate_tight_aligned(NULL, 1, 1)));
     CHECK(oa_refusal_tight(NULL, 0) == OA_BAD_CALL && oa_refusal_tight_aligned(NULL, 0, 1) == OA_BAD_CALL);
     CHECK(!oa_room_cost(NULL, 0).possible && !oa_make_room(NULL, 0, copy, NULL).possible);
@@ -544,7 +579,17 @@ static void garbage(void) {
             oa_allocation h = made(any(), any() % 3 ? any() % 64 : any());
             bool was = oa_is_live(space, h);
             CHECK(!was || h.metadata < limit);
-            switch (any() % 10) {
+            switch (any() % 11) {
+            case 10: {
+                uint32_t offset = any() >> any() % 32, size = any() >> any() % 32;
+                bool fits = oa_is_free_at(space, offset, size);
+                CHECK(!fits || is_nothing(oa_in_the_way(space, offset, size)));
+                oa_allocation at = oa_allocate_at(space, offset, size), there = oa_handle_at(space, offset);
+                CHECK(is_nothing(at) || (fits && at.offset == offset && (!size || same(at, there))));
+                CHECK(is_nothing(there) || oa_is_live(space, there));
+                live += !is_nothing(at);
+                break;
+            }
             case 8: {
                 uint32_t size = any() >> any() % 32;
                 bool fits = oa_refusal_tight(space, size) == OA_GRANTED;
@@ -555,7 +600,7 @@ static void garbage(void) {
                 break;
             }
             case 9: {
-                uint32_t size = any() >> any() % 32, align = 1u << any() % 32;
+                uint32_t size = any() >> any() % 32, align = any() % 2 ? 1u << any() % 32 : any() | 1;
                 bool fits = oa_refusal_tight_aligned(space, size, align) == OA_GRANTED;
                 oa_allocation made = oa_allocate_tight_aligned(space, size, align);
                 CHECK((made.metadata != OA_NO_SPACE) == fits && (!fits || made.offset % align == 0));
@@ -616,6 +661,7 @@ int main(void) {
     room_by_steps();
     tight();
     aligned();
+    places();
     resizes();
     reasons();
     compacts();

@@ -24,7 +24,7 @@ static void grows_and_drops(void) {
     /* 97 units are more than a fresh page grants */
     CHECK(odd.is_new && odd.place.heap == 3 && oah_offset_of(heaps, odd.place) == 0);
     CHECK(oah_allocate(heaps, 1000).refusal == OAH_FULL);
-    CHECK(oah_allocate_aligned(heaps, 8, 3).refusal == OAH_BAD_CALL && oah_allocate_aligned(heaps, 8, 0).refusal == OAH_BAD_CALL);
+    CHECK(oah_allocate_aligned(heaps, 8, 0).refusal == OAH_BAD_CALL);
     oah_all all = oah_totals(heaps);
     CHECK(all.heaps == 4 && all.units == 1297 && all.live_units == 60 + 60 + 36 + 1000 + 97 && all.free_units == 44);
     CHECK(all.largest_free_region == 40 && oah_storage_report(heaps, 1).largest_free_region == 40);
@@ -105,12 +105,20 @@ static void relocates_aligned(void) {
     oah_heaps *heaps = oah_new(limits, 9);
     oah_place first = oah_allocate(heaps, 41).place, gone = oah_allocate(heaps, 52).place, c = oah_allocate(heaps, 20).place;
     CHECK(first.heap == 0 && gone.heap == 0 && c.heap == 1 && oah_free(heaps, gone));
-    /* 55 units from 41 on are filed as 52: 20 + 31 units fit, 20 + 63 do not */
-    CHECK(!oah_relocate_aligned(heaps, c, 64).ticket.serial && !oah_relocate_aligned(heaps, c, 24).ticket.serial);
+    /* 55 units from 41 on are filed as 52: 20 + 31 units fit, and 20 + 23; 20 + 63 do not, nor do 20 + 33 */
+    CHECK(!oah_relocate_aligned(heaps, c, 64).ticket.serial && !oah_relocate_aligned(heaps, c, 34).ticket.serial);
+    oah_place odd = oah_relocate_aligned(heaps, c, 24);
+    CHECK(odd.heap == 0 && oah_offset_of(heaps, odd) == 48 && oah_free(heaps, odd));
     oah_place second = oah_relocate_aligned(heaps, c, 32);
     CHECK(second.heap == 0 && oah_offset_of(heaps, second) == 64 && oah_size_of(heaps, second) == 20 && oah_is_live(heaps, c));
     CHECK(!oah_relocate_aligned(heaps, c, 8).ticket.serial && oah_offset_of(heaps, oah_relocate_aligned(heaps, c, 1)) == 41);
     CHECK(!oah_relocate_aligned(NULL, c, 1).ticket.serial && !oah_relocate_aligned(heaps, c, 0).ticket.serial);
+    oah_drop(heaps);
+    /* behind 5 units, 10 at a multiple of 12, and then 10 at a multiple of 48 */
+    heaps = oah_new((oah_limits){100, 8, 1, 0}, 9);
+    oah_allocate(heaps, 5);
+    CHECK(oah_offset_of(heaps, oah_allocate_aligned(heaps, 10, 12).place) == 12);
+    CHECK(oah_offset_of(heaps, oah_allocate_aligned(heaps, 10, 48).place) == 48);
     oah_drop(heaps);
 }
 

@@ -40,7 +40,7 @@ int main() {
     // its buffer can't be made
     CHECK(heaps.giveUp(large.place.heap) && !heaps.isLive(large.place));
     CHECK(heaps.allocate(0).refusal == HeapRefusal::empty && !heaps.allocate(0));
-    CHECK(heaps.allocateAligned(1, 3).refusal == HeapRefusal::badCall);
+    CHECK(heaps.allocateAligned(1, 0).refusal == HeapRefusal::badCall);
     for (const Place &place : places) CHECK(heaps.free(place) && !heaps.free(place));
     std::vector<uint32> dropped;
     heaps.dropEmpty(1, [&](uint32 number) { dropped.push_back(number); });
@@ -83,8 +83,10 @@ int main() {
     Heaps pair({96, 8, 2, 0}, 1);
     Place front = pair.allocate(70).place, hole = pair.allocate(26).place, uniforms = pair.allocate(8).place;
     CHECK(front.heap == 0 && pair.free(hole) && uniforms.heap == 1 && pair.relocateAligned(uniforms, 32).ticket.serial == 0);
+    Place odd = pair.relocateAligned(uniforms, 12);
+    CHECK(odd.heap == 0 && pair.offsetOf(odd) == 72 && pair.free(odd));
     Place aligned = pair.relocateAligned(uniforms, 16);
-    CHECK(aligned.heap == 0 && pair.offsetOf(aligned) == 80 && pair.relocateAligned(uniforms, 3).ticket.serial == 0);
+    CHECK(aligned.heap == 0 && pair.offsetOf(aligned) == 80 && pair.relocateAligned(uniforms, 0).ticket.serial == 0);
     // number 1 was dropped
     Heaps dumped({100, 8, 3, 0}, 1);
     Place one = dumped.allocate(96).place, other = dumped.allocate(96).place, third = dumped.allocate(60).place;

@@ -41,14 +41,14 @@ static void byHand(const std::string &path) {
         check(read(path) == "space 1000 nodes 32 index 32\n# texture: rock albedo\nalloc 100\nalign 50 64\nshrink 1 40\ngrow 1 60\nalloc 5000\nfree 1\nfree 0\n", "the lines");
         heap.name(nullptr);
         heap.name("refused");
-        check(!heap.allocateAligned(10, 3), "no power of two");
+        check(!heap.allocateAligned(10, 0), "no alignment");
         Recorded<GuardedAllocator> moved(std::move(heap));
         check(heap.isFailed() && !heap.allocate(1), "what was moved from is empty, and writes nothing");
         int moves = 0;
         moved.compact([&](Move) { moves++; });
         check(moves == 1 && moved->offsetOf(other) == 0 && moved.extend(24), "compacted");
         Ticket again = moved.allocate(1), aligned = moved.allocateAligned(32, 32);
-        check(moved.free(other) && !moved.relocateAligned(aligned, 3), "no power of two");
+        check(moved.free(other) && !moved.relocateAligned(aligned, 0), "no alignment");
         Ticket second = moved.relocateAligned(aligned, 16);
         check(second && moved->offsetOf(second) == 0 && moved->offsetOf(aligned) == 64 && moved.free(second), "relocated");
         auto step = [&](Move move) { check(move.from == move.to + 48, "a multiple of 16"); };
@@ -58,14 +58,16 @@ static void byHand(const std::string &path) {
         check(progress.done && progress.ranges == 1 && progress.units == 1 && progress.more && progress.next == 16, "one range of a pass");
         check(!moved.compactWithin(0, 0, 1, 1, [](Move) {}).done && !moved.makeRoomBy(1000, 1, 0, [](Move) {}).possible, "no step");
         check(!moved.makeRoom(1000, [](Move) {}).possible && moved.retract(24) && moved.extend(24), "the end");
-        check(!moved.relocate(again) && moved.allocateTight(5) && !moved.allocateTightAligned(5, 3), "requests");
+        check(!moved.relocate(again) && moved.allocateTight(5) && !moved.allocateTightAligned(5, 0), "requests");
         RoomCost cost = moved.makeRoomBy(800, 64, 16, [](Move) {});
         check(cost.possible && cost.ranges == 0 && moved.allocateTightAligned(800, 64), "room by steps");
         moved.reset();
         check(!moved.isFailed() && moved->size() == 1024, "reset");
+        check(moved.allocate(5) && moved->offsetOf(moved.allocateAligned(10, 12)) == 12, "at a multiple of 12");
+        check(moved->offsetOf(moved.allocateTightAligned(7, 48)) == 48, "at a multiple of 48");
     }
     std::fclose(file);
-    check(read(path) == "space 1000 nodes 32 index 32\n# texture: rock albedo\nalloc 100\nalign 50 64\nshrink 1 40\ngrow 1 60\nalloc 5000\nfree 1\nfree 0\n# refused\n\ncompact\nextend 24\nalloc 1\nalign 32 32\nfree 2\nrelocate 4 16\nfree 5\ncompact 16\ncompact 1 0 1 1\nroom 1000\nretract 24\nextend 24\nrelocate 3\ntight 5\nroom 800 64 16\ntight 800 64\nreset\n", "all lines");
+    check(read(path) == "space 1000 nodes 32 index 32\n# texture: rock albedo\nalloc 100\nalign 50 64\nshrink 1 40\ngrow 1 60\nalloc 5000\nfree 1\nfree 0\n# refused\n\ncompact\nextend 24\nalloc 1\nalign 32 32\nfree 2\nrelocate 4 16\nfree 5\ncompact 16\ncompact 1 0 1 1\nroom 1000\nretract 24\nextend 24\nrelocate 3\ntight 5\nroom 800 64 16\ntight 800 64\nreset\nalloc 5\nalign 10 12\ntight 7 48\n", "all lines");
     // no file, and a file that cannot be written
     Recorded<Allocator> none(nullptr, 100, 8);
     check(none.isFailed() && none.allocate(10).offset == 0, "without a file calls go on");
@@ -82,6 +84,12 @@ static void byHand(const std::string &path) {
 static uint32_t below(uint64_t &state, uint32_t n) {
     state = state * 6364136223846793005u + 1442695040888963407u;
     return uint32_t((state >> 33) % n);
+}
+
+// a power of two, or any number
+static uint32_t alignment(uint64_t &state, uint32_t bits) {
+    if (below(state, 2)) return 1u << below(state, bits);
+    return 1 + below(state, 1u << bits);
 }
 
 template <class A, class H> static void randomCalls(uint64_t seed, const std::string &path) {
@@ -106,14 +114,14 @@ template <class A, class H> static void randomCalls(uint64_t seed, const std::st
             };
             uint32_t kind = below(state, 24);
             if (kind < 8 || live.empty()) {
-                granted(kind < 2 ? heap.allocateAligned(below(state, 200), 1u << below(state, 7)) : heap.allocate(below(state, 300)));
+                granted(kind < 2 ? heap.allocateAligned(below(state, 200), alignment(state, 7)) : heap.allocate(below(state, 300)));
             } else if (kind == 23) {
                 Progress progress = heap.compactWithin(1 + below(state, 20), below(state, 3000), below(state, 500), below(state, 9), [](Move) {});
                 if (!progress.done) std::fputs("none\n", answers);
                 else if (!progress.more) std::fprintf(answers, "ranges %u units %u end\n", progress.ranges, progress.units);
                 else std::fprintf(answers, "ranges %u units %u next %u\n", progress.ranges, progress.units, progress.next);
             } else if (kind == 22) {
-                room(heap.makeRoomBy(below(state, 3000), 1u << below(state, 5), 1 + below(state, 40), [](Move) {}));
+                room(heap.makeRoomBy(below(state, 3000), alignment(state, 5), 1 + below(state, 40), [](Move) {}));
             } else if (kind == 21) {
                 room(heap.makeRoom(below(state, 3000), [](Move) {}));
             } else if (kind == 20) {
@@ -121,11 +129,11 @@ template <class A, class H> static void randomCalls(uint64_t seed, const std::st
             } else if (kind == 19) {
                 granted(heap.relocate(live[below(state, uint32_t(live.size()))]));
             } else if (kind == 18) {
-                granted(below(state, 2) ? heap.allocateTight(below(state, 300)) : heap.allocateTightAligned(below(state, 200), 1u << below(state, 7)));
+                granted(below(state, 2) ? heap.allocateTight(below(state, 300)) : heap.allocateTightAligned(below(state, 200), alignment(state, 7)));
             } else if (kind == 17) {
                 std::fputs(heap.compactBy(1 + below(state, 99), [](Move) {}) ? "compacted\n" : "none\n", answers);
             } else if (kind == 16) {
-                granted(heap.relocateAligned(live[below(state, uint32_t(live.size()))], 1u << below(state, 7)));
+                granted(heap.relocateAligned(live[below(state, uint32_t(live.size()))], alignment(state, 7)));
             } else if (kind == 15) {
                 heap.compact([](Move) {});
                 std::fputs("compacted\n", answers);

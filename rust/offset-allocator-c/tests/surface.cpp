@@ -145,7 +145,7 @@ static void relocateToAMultiple() {
     Ticket space = g.allocate(320), range = g.allocate(64);
     CHECK(a.relocateAligned(mesh, 256).offset == Allocation::NO_SPACE && !g.relocateAligned(range, 256));
     CHECK(a.free(hole) && g.free(space));
-    CHECK(a.relocateAligned(mesh, 3).offset == Allocation::NO_SPACE && !g.relocateAligned(range, 3));
+    CHECK(a.relocateAligned(mesh, 0).offset == Allocation::NO_SPACE && !g.relocateAligned(range, 0));
     CHECK(a.relocateAligned(mesh, 256).offset == 256 && g.offsetOf(g.relocateAligned(range, 256)) == 256 && g.isLive(range));
 }
 
@@ -255,13 +255,27 @@ static void moves() {
     CHECK(std::max(x.offset, Allocation::NO_SPACE) == Allocation::NO_SPACE);
 }
 
+// at a place, and what is there: 40 units free, 20 live, 40 free
+static void places() {
+    Allocator a(100, 8);
+    Allocation mesh = a.allocateAt(40, 20);
+    CHECK(mesh.offset == 40 && a.allocationSize(mesh) == 20 && a.handleAt(59) == mesh && a.handleAt(60).offset == Allocation::NO_SPACE);
+    CHECK(a.isFreeAt(0, 40) && !a.isFreeAt(0, 41) && a.inTheWay(0, 41) == mesh && a.inTheWay(0, 40).offset == Allocation::NO_SPACE);
+    CHECK(a.allocateAt(30, 20).offset == Allocation::NO_SPACE && a.blockCount() == 3);
+    CHECK(a.free(a.handleAt(50)) && a.allocateAt(30, 20).offset == 30);
+    CHECK(!Allocator(0, 1).isFreeAt(0, 0) && Allocator(0, 1).allocateAt(0, 0).offset == Allocation::NO_SPACE);
+}
+
 static void beside() {
     Allocator full(100, 16);
     CHECK(full.allocate(100).offset == Allocation::NO_SPACE && full.refusalTight(100) == Refusal::granted);
     CHECK(full.allocateTight(36).offset == 0 && full.refusalTightAligned(64, 4) == Refusal::granted);
     CHECK(full.allocateTightAligned(64, 4).offset == 36 && full.freeUnits() == 0);
     Allocator a(100, 16);
-    CHECK(a.allocateAligned(10, 3).offset == Allocation::NO_SPACE && a.refusalAligned(10, 3) == Refusal::badCall);
+    CHECK(a.allocateAligned(10, 0).offset == Allocation::NO_SPACE && a.refusalAligned(10, 0) == Refusal::badCall);
+    // behind 5 units, 10 at a multiple of 12, and then 10 at a multiple of 48
+    Allocator odd(100, 16);
+    CHECK(odd.allocate(5).offset == 0 && odd.allocateAligned(10, 12).offset == 12 && odd.allocateAligned(10, 48).offset == 48);
     std::vector<Allocation> live;
     for (int i = 0; i < 4; i++) live.push_back(a.allocate(24));
     a.free(live[0]);
@@ -293,8 +307,8 @@ static void beside() {
     CHECK(aligned.roomCostBy(33, 8, 16).ranges == 1 && !aligned.roomCostBy(33, 8, 0).possible && !aligned.roomCostBy(42, 1, 16).possible);
     made = aligned.makeRoomBy(33, 8, 16, [&](Move m) { to.push_back(m.to); CHECK(m.from == 24 && m.size == 24); });
     CHECK(made.possible && made.units == 24 && to == std::vector<uint32>{8} && aligned.wouldBegin(33, 8) == 32);
-    CHECK(aligned.allocateAligned(33, 8).offset == 32 && aligned.wouldBegin(33, 8) == Allocation::NO_SPACE && aligned.wouldBegin(1, 3) == Allocation::NO_SPACE);
-    CHECK(!aligned.makeRoomBy(1, 3, 1, [](Move) {}).possible);
+    CHECK(aligned.allocateAligned(33, 8).offset == 32 && aligned.wouldBegin(33, 8) == Allocation::NO_SPACE && aligned.wouldBegin(1, 0) == Allocation::NO_SPACE);
+    CHECK(!aligned.makeRoomBy(1, 0, 1, [](Move) {}).possible);
     to.clear();
     a.compact([&](Move m) { to.push_back(m.to); CHECK(m.allocation.offset == m.to && m.size == 24 && m.to < m.from); });
     CHECK(to == (std::vector<uint32>{0, 24}) && a.refusal(48) == Refusal::granted);
@@ -364,7 +378,7 @@ static void tickets() {
     CHECK(u.name == t.name && !g.free(t) && g.isLive(u) && g.sizeOf(t) == 0 && g.offsetOf(t) == Allocation::NO_SPACE);
     CHECK(g.shrink(u, 5) && g.growInPlace(u, 20) && !g.shrink(t, 0) && !g.growInPlace(t, 30) && g.extend(28) && g.size() == 128);
     Ticket v = g.allocateAligned(10, 32);
-    CHECK(v && g.offsetOf(v) == 32 && !g.allocateAligned(1, 3) && g.refusalAligned(1, 3) == Refusal::badCall);
+    CHECK(v && g.offsetOf(v) == 32 && !g.allocateAligned(1, 0) && g.refusalAligned(1, 0) == Refusal::badCall);
     CHECK(g.refusal(129) == Refusal::tooLarge && g.refusalAligned(8, 8) == Refusal::granted && g.maxAllocs() == 16);
     CHECK(g.blockCount() == 4 && !g.isFull() && g.storageReport().totalFreeSpace == 98);
     // 20 units from 0 on, 12 free, 10 units from 32 on, and 86 free
@@ -527,6 +541,7 @@ int main() {
     dumps();
     surface();
     moves();
+    places();
     beside();
     loops();
     tickets();

@@ -41,7 +41,7 @@ static void stale(void) {
     CHECK(oag_storage_report(space).total_free_space == 75);
     oag_reset(space);
     CHECK(!oag_is_live(space, b) && oag_refusal(space, 96) == OA_GRANTED && oag_refusal(space, 100) == OA_TOO_LARGE);
-    CHECK(oag_allocate_aligned(space, 10, 3).serial == 0);
+    CHECK(oag_allocate_aligned(space, 10, 0).serial == 0);
     oag_ticket c = oag_allocate_aligned(space, 10, 16);
     CHECK(c.serial == 3 && oag_offset_of(space, c) % 16 == 0 && oag_extend(space, 10));
     oag_compact(space, NULL, NULL);
@@ -74,9 +74,13 @@ static void to_a_multiple(void) {
     oag_allocate(space, 10);
     oag_ticket hole = oag_allocate(space, 320), mesh = oag_allocate(space, 64);
     CHECK(!oag_relocate_aligned(space, mesh, 256).serial && oag_free(space, hole) && !oag_relocate_aligned(space, hole, 1).serial);
-    CHECK(!oag_relocate_aligned(space, mesh, 3).serial && !oag_relocate_aligned(NULL, mesh, 1).serial);
+    CHECK(!oag_relocate_aligned(space, mesh, 0).serial && !oag_relocate_aligned(NULL, mesh, 1).serial);
     oag_ticket moved = oag_relocate_aligned(space, mesh, 256);
     CHECK(moved.serial == 4 && oag_offset_of(space, moved) == 256 && oag_is_live(space, mesh) && oag_size_of(space, moved) == 64);
+    /* 246 units from 10 on are free: 64 at a multiple of 12 need 75; of the 180 from 76 on that are left then, 100 at a
+     * multiple of 48 need 147 */
+    CHECK(oag_offset_of(space, oag_relocate_aligned(space, mesh, 12)) == 12);
+    CHECK(oag_offset_of(space, oag_allocate_aligned(space, 100, 48)) == 96);
     oag_drop(space);
 }
 
@@ -124,11 +128,14 @@ static void room_by_steps(void) {
     CHECK(oag_free(space, hole) && !oag_room_cost_by(space, 833, 1, 256).possible && !oag_room_cost_by(space, 700, 256, 256).possible);
     oa_room room = oag_room_cost_by(space, 700, 64, 256);
     CHECK(room.possible && room.units == 100 && room.ranges == 1 && !oag_room_cost_by(space, 700, 64, 0).possible);
-    CHECK(!oag_make_room_by(space, 700, 24, 256, count, &moves).possible && !oag_make_room_by(space, 700, 64, 0, count, &moves).possible);
+    CHECK(oag_room_cost_by(space, 821, 12, 256).units == 100 && !oag_room_cost_by(space, 822, 12, 256).possible);
+    CHECK(!oag_make_room_by(space, 700, 0, 256, count, &moves).possible && !oag_make_room_by(space, 700, 64, 0, count, &moves).possible);
     room = oag_make_room_by(space, 700, 64, 256, count, &moves);
     CHECK(room.possible && room.ranges == 1 && moves == 1 && oag_offset_of(space, mesh) == 44);
     CHECK(oag_would_begin(space, 700, 64) == 192 && oag_offset_of(space, oag_allocate_aligned(space, 700, 64)) == 192);
-    CHECK(oag_would_begin(space, 700, 64) == OA_NO_SPACE && oag_would_begin(space, 1, 3) == OA_NO_SPACE && oag_would_begin(NULL, 1, 1) == OA_NO_SPACE);
+    CHECK(oag_would_begin(space, 700, 64) == OA_NO_SPACE && oag_would_begin(space, 1, 0) == OA_NO_SPACE && oag_would_begin(NULL, 1, 1) == OA_NO_SPACE);
+    /* 89 units are rounded up to 96, which the 108 from 892 on have */
+    CHECK(oag_would_begin(space, 40, 50) == 900);
     CHECK(!oag_room_cost_by(NULL, 0, 1, 1).possible && !oag_make_room_by(NULL, 0, 1, 1, count, &moves).possible && moves == 1);
     oag_drop(space);
 }
@@ -232,8 +239,8 @@ static void tight(void) {
     oag_allocate_tight(space, 32);
     CHECK(oag_refusal_aligned(space, 68, 32) == OA_TOO_LARGE && oag_refusal_tight_aligned(space, 68, 32) == OA_GRANTED);
     oag_ticket rest = oag_allocate_tight_aligned(space, 68, 32);
-    CHECK(oag_offset_of(space, rest) == 32 && !oag_allocate_tight_aligned(space, 1, 3).serial);
-    CHECK(oag_refusal_tight_aligned(space, 1, 3) == OA_BAD_CALL);
+    CHECK(oag_offset_of(space, rest) == 32 && !oag_allocate_tight_aligned(space, 1, 0).serial);
+    CHECK(oag_refusal_tight_aligned(space, 1, 0) == OA_BAD_CALL);
     oag_drop(space);
 }
 
@@ -252,7 +259,8 @@ static void reads(void) {
     oa_room room = oag_room_cost(space, 72);
     CHECK(room.possible && room.units == 20 && room.ranges == 1 && !oag_room_cost(space, 81).possible);
     CHECK(oag_refusal(space, 97) == OA_TOO_LARGE && oag_refusal(space, 80) == OA_FRAGMENTED);
-    CHECK(oag_refusal_aligned(space, 10, 3) == OA_BAD_CALL && oag_refusal_aligned(space, 10, 8) == OA_GRANTED);
+    /* 71 units are filed as 72, which 70 are not */
+    CHECK(oag_refusal_aligned(space, 10, 12) == OA_GRANTED && oag_refusal_aligned(space, 60, 12) == OA_FRAGMENTED);
     CHECK(oag_refusal_aligned(space, 60, 64) == OA_TOO_LARGE && oag_refusal_aligned(space, 10, 0) == OA_BAD_CALL);
     static const uint32_t offsets[] = {30, 10, 0};
     oa_walk walk;
