@@ -11,7 +11,7 @@ import zlib
 here = pathlib.Path(__file__).resolve().parent
 # in the order in which they come in the page
 PARTS = [here / "parts" / f"{name}.js" for name in
-         ("module", "work", "reading", "run", "reasons", "draw", "lists", "state", "compare", "show", "picture", "controls")]
+         ("module", "work", "reading", "run", "reasons", "draw", "lists", "find", "state", "compare", "show", "picture", "controls")]
 
 
 def base(data):

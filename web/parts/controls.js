@@ -15,7 +15,7 @@ function toggle() {
   playing = true; $('play').textContent = 'Pause'; due = 0; before = performance.now(); requestAnimationFrame(frame);
 }
 const to = p => { stop(); go(p); };
-L.calls = new List('calls', drawCall, i => jump(S.run.shown ? S.run.refusals[i] : i + 1));
+L.calls = new List('calls', drawCall, i => jump(callAt(i)));
 L.ranges = new List('ranges', drawRange, i => { const b = rangeAt(i); pointer = null; chosenIs(b); jump(S.run.born.list[b.k]); });
 for (const by of Object.keys(SORTS)) {
   const b = document.createElement('button'); b.textContent = by; b.dataset.by = by;
@@ -67,6 +67,11 @@ addEventListener('paste', event => { if (!isField(event.target)) takeFrom(event,
 addEventListener('beforeunload', event => { if ((S.name === 'own' || S.run !== S.base) && S.linked !== S.run) event.preventDefault(); });
 $('stop').onclick = stopWork; $('unsay').onclick = () => say('');
 $('only').onchange = $('atend').onchange = draw;
+for (const id of [...FIELDS_FOUND, 'fnever']) $(id).onchange = find;
+$('ffromhere').onclick = () => { $('ffrom').value = S.p + 1; find(); }; $('ftohere').onclick = () => { $('fto').value = S.p; find(); };
+$('fclear').onclick = () => lookFor({ find: null });
+$('byname').onchange = () => lookFor({ byName: $('byname').value === '1' });
+$('unit').onchange = () => isCount($('unit').value) ? lookFor({ unit: Number($('unit').value) }) : say('A unit: a number of bytes', true);
 $('zin').onclick = () => zoom(1 / 4); $('zout').onclick = () => zoom(4); $('zall').onclick = () => { S.zoom = null; draw(); };
 $('zused').onclick = usedPart; $('zleft').onclick = () => pan(-0.5); $('zright').onclick = () => pan(0.5);
 $('compare').onclick = () => compare(['xsize', 'xnodes', 'xunit', 'xcompact'].map(id => {
@@ -76,15 +81,47 @@ $('xback').onclick = () => jump(S.other.rows.findLast(r => r < S.p)); $('xnext')
 $('space').onpointermove = event => { pointer = event; showSpace(); };
 $('space').onpointerleave = () => { pointer = null; showSpace(); };
 $('space').onclick = event => { pointer = event; const b = chosenBlock(); if (b) chosenIs(b); };
+// The lives: Shift and a drag take the part in a box, Alt and a drag move, the wheel zooms.
+let box = null, held = null;
+$('life').onwheel = event => {
+  event.preventDefault();
+  const by = Math.min(4, Math.max(0.25, 1.002 ** (event.deltaY || event.deltaX)));
+  zoomLivesBy(event.shiftKey ? 1 : by, event.shiftKey || event.ctrlKey ? by : 1, ...partOf(event, 'life')); };
+const lifeBegins = event => {
+  const [p0, p1, o0, o1] = shownLives('life', S.run), [x, y] = partOf(event, 'life');
+  $('life').setPointerCapture(event.pointerId);
+  if (event.shiftKey) box = [x, y]; else held = [x, y, p0, p1, o0, o1]; };
+const lifeMoves = event => {
+  const [x, y] = partOf(event, 'life');
+  if (held) { const [x0, y0, p0, p1, o0, o1] = held, p = (x0 - x) * (p1 - p0), o = (y - y0) * (o1 - o0); return zoomLives(p0 + p, p1 + p, o0 + o, o1 + o); }
+  draw();
+  const c = $('life'), g = c.getContext('2d'), w = c.clientWidth - GUTTER, h = c.clientHeight - 16;
+  g.strokeStyle = colors().fg; g.lineWidth = 1; g.setLineDash([4, 3]); g.strokeRect(GUTTER + box[0] * w, box[1] * h, (x - box[0]) * w, (y - box[1]) * h); g.setLineDash([]); };
+const lifeEnds = event => {
+  if (box && event.type === 'pointerup') {
+    const [x, y] = partOf(event, 'life'), [p0, p1, o0, o1] = shownLives('life', S.run), [xs, ys] = [[x, box[0]], [y, box[1]]].map(l => l.sort((a, b) => a - b));
+    box = null;
+    if (xs[1] - xs[0] > 0.01) zoomLives(p0 + xs[0] * (p1 - p0), p0 + xs[1] * (p1 - p0), ys[1] - ys[0] > 0.02 ? o1 - ys[1] * (o1 - o0) : o0, ys[1] - ys[0] > 0.02 ? o1 - ys[0] * (o1 - o0) : o1); else draw();
+  }
+  box = held = null; };
+$('life').onpointerup = $('life').onpointercancel = lifeEnds;
+$('lzin').onclick = () => zoomLivesAt(1 / 4); $('lzout').onclick = () => zoomLivesAt(4); $('lzall').onclick = () => { S.life = null; draw(); };
+// about the position
+function zoomLivesAt(by) {
+  const [p0, p1] = shownLives('life', S.run), x = (S.p + 1 - p0) / (p1 - p0);
+  zoomLivesBy(by, by, x >= 0 && x <= 1 ? x : 0.5);
+}
 for (const id of ['life', 'lifeA']) {
   let begun = null;
-  const there = (event, f) => f(Math.max(0, rowAt(event, id, S.run.count))), isTouch = event => event.pointerType === 'touch';
-  $(id).onpointerdown = event => { begun = event; if (!isTouch(event)) { $(id).setPointerCapture(event.pointerId); there(event, jump); } };
+  const there = (event, f) => f(Math.max(0, rowAt(event, id, S.run))), isTouch = event => event.pointerType === 'touch';
+  const isZoom = event => id === 'life' && (event.shiftKey || event.altKey);
+  $(id).onpointerdown = event => { if (isZoom(event)) return lifeBegins(event); begun = event; if (!isTouch(event)) { $(id).setPointerCapture(event.pointerId); there(event, jump); } };
   // a swipe up or down scrolls, and is no choice of a row
   $(id).onpointermove = event => {
+    if (box || held) return lifeMoves(event);
     const [x, y] = begun ? [event.clientX - begun.clientX, event.clientY - begun.clientY].map(Math.abs) : [0, 0];
     if (event.buttons && (!isTouch(event) || x > y + 8)) there(event, to); };
-  $(id).onclick = event => there(event, jump);
+  $(id).onclick = event => { if (!isZoom(event)) there(event, jump); };
 }
 $('bins').onpointermove = $('bins').onclick = event => {
   const c = binAt(event), n = c < 0 ? 0 : S.run.view(S.p).free.bins[c];

@@ -4,10 +4,10 @@ const ageOf = calls => { let a = 7; while (a && calls <= AGES[a - 1]) a--; retur
 const ROWS = 6, GUTTER = 54;
 const color = name => getComputedStyle(document.documentElement).getPropertyValue(name).trim();
 let C = null;
-const colors = () => C || (C = { ages: [1, 2, 3, 4, 5, 6, 7, 8].map(i => color('--age' + i)),
+const colors = () => C || (C = { ages: [1, 2, 3, 4, 5, 6, 7, 8].map(i => color('--age' + i)), get inks() { return [...this.ages, this.line]; },
   ...Object.fromEntries(['free', 'mark', 'fg', 'dim', 'line', 'bg'].map(n => [n, color('--' + n)])) });
 const rgb = hex => [1, 3, 5].map(i => parseInt(hex.slice(i, i + 2), 16));
-const short = n => n < 1e4 ? String(n) : n < 1e6 ? (n / 1e3).toFixed(n < 1e5 ? 1 : 0) + ' k' :
+const short = n => S.unit ? inBytes(n) : n < 1e4 ? String(n) : n < 1e6 ? (n / 1e3).toFixed(n < 1e5 ? 1 : 0) + ' k' :
   n < 1e9 ? (n / 1e6).toFixed(n < 1e8 ? 1 : 0) + ' M' : (n / 1e9).toFixed(2) + ' G';
 function canvas(c) {
   const d = devicePixelRatio || 1, w = c.clientWidth, h = c.clientHeight;
@@ -73,7 +73,7 @@ function drawSpace(id, run, p, from, to, marked) {
     for (let y = Math.floor((begin - from) / span); y < ROWS && from + y * span < end; y++) {
       const x = Math.max(0, begin - from - y * span) / span * w, z = Math.min(span, end - from - y * span) / span * w;
       f(x, y, z - x); } };
-  const key = [id, p, from, to, w0, h, d, c.bg].join();
+  const key = [id, p, from, to, w0, h, d, c.bg, lookOf(run)].join();
   if (run.space?.key !== key) run.space = { key, sheet: spaceSheet(run, p, from, to, strip, w0, h, d, run.space?.sheet) };
   g.resetTransform(); g.drawImage(run.space.sheet, 0, 0); g.scale(d, d);
   for (const [o, n, dash, stroke] of marked) {
@@ -93,26 +93,26 @@ function spaceSheet(run, p, from, to, strip, w0, h, d, old) {
   // what is not in the space is not free
   g.fillStyle = c.free; strip(0, run.sizeAt(p), bar);
   // a range of less than three pixels covers a part of them
-  const thin = new Coverage(Math.round(w * d), ROWS, c.ages), [ranges, others] = run.near(p), next = run.begunAt(p);
+  const thin = new Coverage(Math.round(w * d), ROWS, c.inks), [ranges, others] = run.near(p), next = run.begunAt(p), ink = inking(run);
   let last = -1;
   const whole = (o, n, age) => strip(o, n, (x, y, z) => {
     if (z <= 3) return thin.add(age, x / w * thin.wide, y, (x + z) / w * thin.wide, y + 1);
     // to set a colour takes longer than to draw
-    if (age !== last) g.fillStyle = c.ages[last = age];
+    if (age !== last) g.fillStyle = c.inks[last = age];
     bar(x, y, z - 1); });
-  coverLine(thin, ranges, Math.max(0, ranges.upTo(from) - 1), ranges.upTo(to), p, next, from, to, span, whole);
-  coverLine(thin, others, 0, others.count, p, next, from, to, span, whole);
+  coverLine(thin, ranges, Math.max(0, ranges.upTo(from) - 1), ranges.upTo(to), p, next, from, to, span, ink, whole);
+  coverLine(thin, others, 0, others.count, p, next, from, to, span, ink, whole);
   thin.paint(); g.imageSmoothingEnabled = false;
   for (let y = 0; y < ROWS; y++) g.drawImage(thin.sheet, 0, y, thin.wide, 1, GUTTER, y * rh + 1, w, rh - 2);
   return sheet;
 }
 // Draws those of some ranges that are live: what is less than a pixel in one line here, the others by a function.
-function coverLine(thin, { o, n, born, to: ends, l }, i, count, p, next, from, to, span, other) {
+function coverLine(thin, { o, n, born, to: ends, l }, i, count, p, next, from, to, span, ink, other) {
   const scale = thin.wide / span, all = thin.sums.map((_, ink) => thin.sumsOf(ink)), step = thin.wide + 2;
   for (; i < count; i++) {
     const at = o[i], units = n[i];
     if (ends[i] <= p || l[i] >= next || at >= to || at + units <= from) continue;
-    const age = ageOf(p - born[i]), y = Math.floor((at - from) / span), x = (at - from - y * span) * scale, end = x + units * scale, j = Math.floor(x);
+    const lived = ageOf(p - born[i]), age = ink ? ink(l[i], lived) : lived, y = Math.floor((at - from) / span), x = (at - from - y * span) * scale, end = x + units * scale, j = Math.floor(x);
     if (units && at >= from && end < j + 1) { const s = all[age], k = y * step + j; s[k] += end - x; s[k + 1] -= end - x; } else other(at, units, age);
   }
 }
@@ -123,10 +123,11 @@ function unitAt(event, from, to) {
   return from + (y + x) * (to - from) / ROWS;
 }
 // Where refusals are marked on a width of so many calls; kept, as there may be very many.
-function ticks(run, n, w) {
+function ticks(run, from, to, w) {
   run.ticks = run.ticks || new Map();
-  const key = `${n} ${w}`;
-  if (!run.ticks.has(key)) run.ticks.set(key, new Set(run.refusals.map(p => Math.round(p / n * w))));
+  const key = `${from} ${to} ${w}`;
+  if (run.ticks.size > 9) run.ticks.clear();
+  if (!run.ticks.has(key)) run.ticks.set(key, new Set(run.refusals.filter(p => p >= from && p <= to).map(p => Math.round((p - from) / (to - from) * w))));
   return run.ticks.get(key);
 }
 // The lives of all ranges, drawn once for each size of the window and scheme of colours, in turns: what is missing comes
@@ -135,50 +136,109 @@ const TURN = 12;
 function drawLives(id, run, at, isTurn = false) {
   const p = at();
   if (p === null) return;
-  const [g, w0, h0, d] = canvas($(id)), w = w0 - GUTTER, h = h0 - 16, c = colors(), n = run.count + 1;
-  const key = [w, h, d, c.bg, run.count].join();
+  const [g, w0, h0, d] = canvas($(id)), w = w0 - GUTTER, h = h0 - 16, c = colors(), n = run.count + 1, [p0, p1, o0, o1] = shownLives(id, run);
+  const key = [w, h, d, c.bg, run.count, p0, p1, o0, o1, lookOf(run)].join();
   // a run that is compared is drawn in two sizes
   if (run.picture?.key !== key) [run.picture, run.other] = [run.other?.key === key ? run.other : null, run.picture];
   if (!run.picture) {
-    const drawn = new Coverage(Math.round(w * d), Math.round(h * d), c.ages);
+    const drawn = new Coverage(Math.round(w * d), Math.round(h * d), c.inks);
     run.picture = { key, next: 0, line: 0, isDone: false, drawn, sheet: drawn.sheet, due: 0 };
   }
   const s = run.picture, { wide, high } = s.drawn;
   if (!s.isDone && (isTurn || !s.due)) {
-    const y = o => (1 - o / run.top) * high, t = performance.now(), all = run.lives.list;
+    const y = o => (1 - (o - o0) / (o1 - o0)) * high, x = p => (p - p0) / (p1 - p0) * wide, t = performance.now(), all = run.lives.list, ink = inking(run);
     while (s.line < high && performance.now() - t <= TURN) {
       if (s.next === run.lifeCount) { s.drawn.paint(s.line, 16); s.line += 16; }
       for (const end = Math.min(run.lifeCount, s.next + 1000); s.next < end; s.next++) {
-        const l = LIFE * s.next, o = all[l + O];
-        s.drawn.add(ageOf(run.lived(s.next, n)), all[l + FROM] / n * wide, y(o + all[l + N]), Math.min(all[l + TO], n) / n * wide, y(o));
+        const l = LIFE * s.next, o = all[l + O], end = o + all[l + N], from = all[l + FROM], to = Math.min(all[l + TO], n), age = ageOf(run.lived(s.next, n));
+        if (from < p1 && to > p0 && o <= o1 && end >= o0)
+          s.drawn.add(ink ? ink(s.next, age) : age, Math.max(0, x(from)), Math.max(0, y(end)), Math.min(wide, x(to)), Math.min(high, y(o)));
       }
     }
     s.isDone = s.line >= high;
     if (s.isDone) s.drawn.sums = null; else s.due = requestAnimationFrame(() => {
       s.due = 0; if ([run.picture, run.other].includes(s)) drawLives(id, run, at, true); });
   }
-  const cx = Math.min(w, (p + 1) / n * w), part = (from, to) => to > from &&
+  const cx = Math.max(0, Math.min(w, (p + 1 - p0) / (p1 - p0) * w)), part = (from, to) => to > from &&
     g.drawImage(s.sheet, from * d, 0, (to - from) * d, h * d, GUTTER + from, 0, to - from, h);
   part(0, cx); g.globalAlpha = 0.25; part(cx, w); g.globalAlpha = 1;
   g.beginPath();
-  for (const x of ticks(run, n, w)) { g.moveTo(GUTTER + x + 0.5, 0); g.lineTo(GUTTER + x + 0.5, 10); }
+  for (const x of ticks(run, p0, p1, w)) { g.moveTo(GUTTER + x + 0.5, 0); g.lineTo(GUTTER + x + 0.5, 10); }
   const line = GUTTER + Math.round(Math.min(cx, w - 2));
   for (const [edge, style] of [[1, c.bg], [0, c.mark]]) {
     g.lineWidth = 1 + 2 * edge; g.strokeStyle = g.fillStyle = style; g.stroke();
     g.fillRect(line - edge, 0, 2 + 2 * edge, h); }
   g.fillStyle = c.dim; g.textAlign = 'right';
-  for (const [part0, y] of [[1, 7], [0.5, h / 2], [0, h - 6]]) g.fillText(short(Math.round(run.top * part0)), GUTTER - 4, y);
-  g.textAlign = 'left'; g.fillText('row 0', GUTTER, h + 9); g.textAlign = 'right'; g.fillText(whole(run.count), w0, h + 9);
+  for (const [part0, y] of [[1, 7], [0.5, h / 2], [0, h - 6]]) g.fillText(short(Math.round(o0 + (o1 - o0) * part0)), GUTTER - 4, y);
+  g.textAlign = 'left'; g.fillText(`row ${whole(Math.round(p0))}`, GUTTER, h + 9); g.textAlign = 'right'; g.fillText(whole(Math.round(p1 - 1)), w0, h + 9);
 }
-const rowAt = (event, id, count) => {
-  const b = $(id).getBoundingClientRect();
-  return Math.round(Math.max(0, Math.min(1, (event.clientX - b.left - GUTTER) / (b.width - GUTTER))) * (count + 1)) - 1;
+// The rows and offsets that are shown of the lives.
+const shownLives = (id, run) => id === 'life' && S.life || [0, run.count + 1, 0, run.top];
+// The units in use, and the largest request that is granted, over the rows of the lives: of many calls in a pixel the most in
+// use, and the least request.
+const BUCKET = 64;
+function summed(run) {
+  const count = Math.ceil(run.count / BUCKET), used = new Uint32Array(count), largest = new Uint32Array(count).fill(LARGEST), rows = run.rows.list;
+  for (let i = 0; i < run.count; i++) {
+    const b = i >> 6;
+    if (run.used.list[i] > used[b]) used[b] = run.used.list[i];
+    if (rows[8 * i + 5] < largest[b]) largest[b] = rows[8 * i + 5];
+  }
+  return { used, largest };
+}
+function drawCurves(run, p) {
+  const [g, w0, h, d] = canvas($('curves')), w = w0 - GUTTER, c = colors(), [p0, p1] = shownLives('life', run), key = [w, h, d, p0, p1, c.bg, S.unit].join();
+  if (run.curves?.key !== key) {
+    run.sums = run.sums || summed(run);
+    const wide = Math.max(1, Math.floor(w)), used = new Float64Array(wide), largest = new Float64Array(wide).fill(Infinity);
+    const from = Math.max(0, Math.floor(p0) - 1), to = Math.min(run.count, Math.ceil(p1)), isFew = to - from < BUCKET * wide, step = isFew ? 1 : BUCKET;
+    for (let i = isFew ? from : from - from % BUCKET; i < to; i += step) {
+      // a call is shown from its row on, to the next
+      const first = Math.max(0, Math.floor((i + 1 - p0) / (p1 - p0) * wide)), last = Math.min(wide, Math.max(first + 1, Math.floor((i + 1 + step - p0) / (p1 - p0) * wide)));
+      const u = isFew ? run.used.list[i] : run.sums.used[i / BUCKET], most = isFew ? run.rows.list[8 * i + 5] : run.sums.largest[i / BUCKET];
+      for (let x = first; x < last; x++) { if (u > used[x]) used[x] = u; if (most < largest[x]) largest[x] = most; }
+    }
+    const sheet = new OffscreenCanvas(Math.max(1, Math.round(w0 * d)), Math.max(1, Math.round(h * d))), s = prepared(sheet, d);
+    const most = run.sizes.reduce((m, s) => Math.max(m, s[1]), 1), y = v => (h - 2) - v / most * (h - 4);
+    for (const [list, style] of [[used, c.ages[1]], [largest, c.ages[5]]]) {
+      s.strokeStyle = style; s.lineWidth = 1.5; s.beginPath();
+      for (let x = 0; x < list.length; x++) if (list[x] !== Infinity) s.lineTo(GUTTER + x + 0.5, y(list[x]));
+      s.stroke();
+    }
+    s.fillStyle = c.dim; s.textAlign = 'right'; s.fillText(short(most), GUTTER - 4, 7); s.fillText('0', GUTTER - 4, h - 6);
+    run.curves = { key, used, largest, sheet };
+  }
+  g.resetTransform(); g.drawImage(run.curves.sheet, 0, 0); g.scale(d, d);
+  g.fillStyle = c.mark; g.fillRect(GUTTER + Math.round(Math.max(0, Math.min(w - 2, (p + 1 - p0) / (p1 - p0) * w))), 0, 1, h);
+}
+// Shows a part of the lives: at least eight rows, and eight units.
+function zoomLives(p0, p1, o0, o1) {
+  const { run } = S, within = (from, to, all) => {
+    const size = Math.max(Math.min(8, all), Math.min(all, to - from)), at = Math.max(0, Math.min(all - size, (from + to - size) / 2));
+    return [Math.round(at), Math.round(at + size)]; };
+  const next = [...within(p0, p1, run.count + 1), ...within(o0, o1, run.top)];
+  S.life = next[0] > 0 || next[1] < run.count + 1 || next[2] > 0 || next[3] < run.top ? next : null;
+  draw();
+}
+// By how much the rows and the offsets become fewer, about a point that has parts of both, from 0 to 1.
+function zoomLivesBy(rows, offsets, x = 0.5, y = 0.5) {
+  const [p0, p1, o0, o1] = shownLives('life', S.run), at = p0 + x * (p1 - p0), o = o1 - y * (o1 - o0);
+  zoomLives(at - (at - p0) * rows, at + (p1 - at) * rows, o - (o - o0) * offsets, o + (o1 - o) * offsets);
+}
+// The part of a canvas of lives where an event is.
+const partOf = (event, id) => {
+  const b = $(id).getBoundingClientRect(), part = v => Math.max(0, Math.min(1, v));
+  return [part((event.clientX - b.left - GUTTER) / (b.width - GUTTER)), part((event.clientY - b.top) / (b.height - 16))];
+};
+const rowAt = (event, id, run) => {
+  const [p0, p1] = shownLives(id, run);
+  return Math.round(p0 + partOf(event, id)[0] * (p1 - p0)) - 1;
 };
 // The marks of refusals above the slider, whose thumb is 16 pixels wide.
 function drawMarks(run) {
   const [g, w, h] = canvas($('marks'));
   g.fillStyle = colors().mark;
-  for (const x of ticks(run, Math.max(1, run.count), w - 16)) g.fillRect(8 + x - 0.5, 0, 1.5, h);
+  for (const x of ticks(run, 0, Math.max(1, run.count), w - 16)) g.fillRect(8 + x - 0.5, 0, 1.5, h);
 }
 // The bins, one for each size class: left the top mask, a bit for each word; right a bit for each that has a free block.
 function drawBins(bins, searched, taken) {

@@ -47,7 +47,7 @@ const cell = (row, text, name, title = '') => {
   const s = document.createElement('span'); s.textContent = text; if (title) s.title = title; if (name) s.className = name; row.append(s); };
 // A row of the calls: its number, the call, its answer, and its name.
 function drawCall(row, i) {
-  const run = S.run, p = run.shown ? run.refusals[i] - 1 : i, [op, ...of] = run.call(p), r = run.row(p);
+  const run = S.run, p = callAt(i) - 1, [op, ...of] = run.call(p), r = run.row(p);
   cell(row, whole(p + 1), 'n'); cell(row, said(op, ...of), 'c');
   cell(row, answered(run, p), r[0] === ANSWER.refused ? 'bad' : '');
   const name = run.callName(p) || (isOnGrant(op) ? run.nameOf(of[0]) : '');
@@ -55,25 +55,37 @@ function drawCall(row, i) {
   if (r[7]) cell(row, REASONS[r[7]], 'bad', REASONS[r[7]]);
   if (p >= S.p) row.classList.add('later');
 }
+// The rows of the calls that are listed, or null for all: those that are refused, or fit what is looked for.
+function listedRows(run) {
+  const key = `${$('only').checked} ${run.found?.key}`;
+  if (run.listed?.key === key) return run.listed.rows;
+  const found = run.found && run.found.rows, refused = new Set(found && $('only').checked ? run.refusals : []);
+  const rows = !$('only').checked ? found : found ? found.filter(p => refused.has(p)) : run.refusals;
+  run.listed = { key, rows };
+  return rows;
+}
+const callAt = i => { const rows = listedRows(S.run); return rows ? rows[i] : i + 1; };
 // The live ranges: those of a view, by their places there, sorted.
 const SORTS = { grant: v => i => v.k[i], offset: null, units: v => i => LARGEST - v.n[i], since: v => i => v.born[i], name: v => i => S.run.ranks[v.k[i]] };
 let sorted = 'offset', ranges = new Uint32Array(0), rangesOf = null;
 const rangeAt = i => rangesOf.at(ranges[i]);
 function drawRange(row, i) {
   const b = rangeAt(i);
-  cell(row, b.k, 'n'); cell(row, whole(b.o), 'u'); cell(row, whole(b.n), 'u'); cell(row, whole(S.run.born.list[b.k]), 'n');
+  cell(row, b.k, 'n'); cell(row, whole(b.o), 'u'); cell(row, sized(b.n), 'u'); cell(row, whole(S.run.born.list[b.k]), 'n');
   cell(row, S.run.nameOf(b.k), 'dim', S.run.nameOf(b.k));
 }
 function showRanges(v) {
   const run = S.run;
   rangesOf = $('atend').checked ? run.end : v;
   ranges = SORTS[sorted] ? inOrder(rangesOf.count, SORTS[sorted](rangesOf)) : rangesOf.o.map((_, i) => i);
+  if (run.found) { const { k } = rangesOf, { flags } = run.found; ranges = ranges.filter(i => flags[k[i]]); }
   for (const b of document.querySelectorAll('#sorts button')) b.setAttribute('aria-pressed', b.dataset.by === sorted);
   L.ranges.chosen = S.grant ? ranges.indexOf(rangesOf.k.indexOf(S.grant)) : -1;
   L.ranges.set(ranges.length);
   $('rangesum').textContent = `Live now: ${counted(v.count, 'range')}, ${units(run.usedAt(S.p))}. ` +
     `Still live at the end: ${counted(run.lifeCount - run.ends.length, 'range')}, ${units(run.usedAt(run.count))}.`;
   showSizes();
+  showGroups(v);
 }
 // Sorts by another column. For names each grant gets a rank, once.
 async function sortBy(by) {
@@ -117,7 +129,7 @@ function showSizes() {
     const row = document.createElement('div'); row.className = 'size';
     cell(row, e < 0 ? '0' : e ? `${short(2 ** e)} to ${short(2 ** (e + 1) - 1)}` : '1', 'u');
     const bar = document.createElement('span'); bar.className = 'bar2'; bar.style.setProperty('--part', n / most); row.append(bar);
-    cell(row, `${counted(n, 'range')}, ${short(sum)} units`);
+    cell(row, `${counted(n, 'range')}, ${short(sum)}${S.unit ? '' : ' units'}`);
     return row;
   }));
 }
@@ -128,7 +140,7 @@ function showBins(v, searched, taken) {
   $('binrows').replaceChildren(...list.map(([c, n]) => {
     const row = document.createElement('tr');
     row.id = `bin-${c}`; if (c === taken) row.className = 'now';
-    for (const text of [c, sizesOf(c), whole(n), whole(sums[c])]) row.insertCell().textContent = text;
+    for (const text of [c, sizesOf(c), whole(n), sized(sums[c])]) row.insertCell().textContent = text;
     return row;
   }));
   $('binsum').textContent = `${counted(count, 'free block')} of ${counted(list.length, 'class', 'classes')}.` +

@@ -2,7 +2,12 @@
 const LARGEST = 4294967295;
 const inEnglish = new Intl.NumberFormat('en'), whole = n => inEnglish.format(n);
 const counted = (n, one, more = one + 's') => `${whole(n)} ${n === 1 ? one : more}`;
-const units = n => counted(n, 'unit');
+// A size in bytes, where it is known how many a unit has.
+const inBytes = n => {
+  const v = n * S.unit, i = v < 1024 ? 0 : Math.min(5, Math.floor(Math.log2(v) / 10)), shown = v / 1024 ** i;
+  return `${i && shown < 100 ? shown.toFixed(shown < 10 ? 2 : 1) : whole(Math.round(shown))} ${['B', 'KiB', 'MiB', 'GiB', 'TiB', 'PiB'][i]}`; };
+const sized = n => S.unit ? inBytes(n) : whole(n);
+const units = n => counted(n, 'unit') + (S.unit ? ` (${inBytes(n)})` : '');
 const sizesOf = c => {
   const [least, most] = [valueOf(c), Math.min(LARGEST, valueOf(c + 1) - 1)];
   return most > least ? `${whole(least)} to ${whole(most)}` : whole(least);

@@ -29,6 +29,12 @@ class View {
     if (unit < this.endOf(i - 1)) return this.at(i - 1);
     return unit < this.size ? { i, o: this.endOf(i - 1), n: this.before(i), k: 0 } : null;
   }
+  // The block after another, or before it; without one the first, or the last.
+  beside(b, step) {
+    const all = this.given, i = all && (b ? all.findIndex(a => a.o === b.o && a.k === b.k) + step : step > 0 ? 0 : all.length - 1);
+    if (all) return all[Math.max(0, Math.min(all.length - 1, i))];
+    return this.with(step > 0 ? (b ? b.o + b.n : 0) : (b ? b.o : this.size) - 1) || b;
+  }
   // How many ranges begin at a unit or before it.
   upTo(unit) { return firstOf(this.count, i => this.o[i] > unit); }
   // Whether it holds of the offset and units of a free block.

@@ -9,7 +9,7 @@ function draw() {
   // in a large space, what needs all its blocks follows once the slider rests, or a few times a second while the run plays
   const isQuick = rest > FEW && (isMoving || (playing && t0 - listed < FOLLOWS)), v = isQuick ? null : run.view(p);
   clearTimeout(following);
-  if (isQuick) following = setTimeout(() => { isMoving = false; draw(); }, FOLLOWS);
+  if (isQuick) { following = setTimeout(() => { isMoving = false; draw(); }, FOLLOWS); $('why').hidden = true; }
   let taken = null, searched = 256, bin = 256;
   if (r && (op[0] === 0 || op[0] === 1)) searched = Math.min(256, roundedUp(Math.min(LARGEST, op[0] ? op[1] + op[2] - 1 : op[1])));
   if (v && r && r[0] === ANSWER.grant) {
@@ -20,6 +20,7 @@ function draw() {
   }
   showSpace();
   drawLives('life', run, () => S.run === run ? S.p : null);
+  drawCurves(run, p);
   drawMarks(run);
   const free = size - run.usedAt(p), share = (100 * run.usedAt(p) / Math.max(1, size)).toFixed(1);
   let reports = `${units(size)}: ${whole(run.usedAt(p))} used (${share}%), ${whole(free)} free. ` +
@@ -35,7 +36,8 @@ function draw() {
     (S.zoom ? `, ${((to - from) / Math.max(1, size) * 100).toPrecision(2)}% of the space` : ', all of the space') +
     `; a line is ${units(Math.ceil((to - from) / ROWS))}.`;
   $('lives').textContent = `Up to ${whole(run.top)}, the highest end of a range, of ${units(run.sizes.at(-1)[1])}. ` +
-    'The line is the position; ticks are refusals.';
+    'The line is the position; ticks are refusals. Below: the units in use (lighter), and the largest request that is granted (darker).';
+  $('lzall').disabled = !S.life;
   $('at').value = p; $('row').value = p; $('now').ariaLive = playing ? 'off' : 'polite';
   $('at').setAttribute('aria-valuetext', p ? `row ${p}: ${said(...op)}, ${answered(run, p - 1)}` : 'before the first row');
   $('place').textContent = `of ${whole(run.count)}`;
@@ -63,9 +65,9 @@ function showSpace() {
 function lists(v, searched, bin) {
   const { run, p } = S;
   why(run, p);
-  run.shown = $('only').checked;
-  L.calls.count = run.shown ? run.refusals.length : run.count;
-  L.calls.chosen = run.shown ? run.refusals.indexOf(p) : p - 1;
+  const rows = listedRows(run);
+  L.calls.count = rows ? rows.length : run.count;
+  L.calls.chosen = rows ? rows.indexOf(p) : p - 1;
   L.calls.set(L.calls.count);
   if (L.calls.chosen >= 0 || !p) L.calls.show(Math.max(0, L.calls.chosen));
   showRanges(v);
@@ -129,8 +131,7 @@ function describe(b) {
     (b.k ? `, live since row ${whole(run.born.list[b.k])}.` : '.'));
 }
 function chooseBlock(step) {
-  const at = chosenBlock(), { blocks } = S.run.view(S.p), i = at ? blocks.findIndex(b => b.o === at.o && b.k === at.k) + step : step > 0 ? 0 : blocks.length - 1;
-  const b = blocks[Math.max(0, Math.min(blocks.length - 1, i))];
+  const b = S.run.view(S.p).beside(chosenBlock(), step);
   if (!b) return;
   pointer = null; chosenIs(b);
 }

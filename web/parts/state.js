@@ -1,5 +1,5 @@
 // What the page shows: a run, a position in it, and what was added to it. The original is kept until another is read.
-const S = { run: null, base: null, name: '', title: '', bytes: null, p: 0, past: [], ahead: [], grant: 0, zoom: null };
+const S = { run: null, base: null, name: '', title: '', bytes: null, p: 0, past: [], ahead: [], grant: 0, zoom: null, find: null, byName: false, unit: 0, life: null };
 const L = {}, OWN = 'Your script';
 // The message at the lower edge, always in sight: of a fault, or of what was done.
 function say(text, isFault = false, actions = []) {
@@ -43,13 +43,14 @@ async function load(bytes, name, title) {
   if (!run) { if (S.run) $('trace').value = S.name; return false; }
   leave();
   const before = { ...S };
-  Object.assign(S, { run, base: run, name, title, bytes, past: [], ahead: [], grant: 0, zoom: null });
+  Object.assign(S, { run, base: run, name, title, bytes, past: [], ahead: [], grant: 0, zoom: null, find: null, life: null });
   say('');
   // another run takes nothing away: calls that were added come back by a click
   if (before.run !== before.base) say(`Your calls in ${before.title} are left.`, false, [['Back to them', () => {
-    Object.assign(S, before, { other: null }); say(''); showNames(); dropOther(); go(before.p); }]]);
+    Object.assign(S, before, { other: null }); say(''); showNames(); dropOther(); look().then(() => go(before.p)); }]]);
   dropOther();
   showNames();
+  await look();
   return true;
 }
 // Names of the run, where they are shown.
@@ -101,16 +102,18 @@ async function take(bytes, title, isTyped = false) {
   return true;
 }
 // Back and Forward: each run and each row that the user jumps to is a place, with all that is shown there; steps from row to row
-// stay at one. The places of some runs are kept.
-const places = new Map(), MOST_RUNS = 3;
+// stay at one. The places of the run and of the last ones before are kept, of so many calls in all.
+const places = new Map(), MOST_RUNS = 2, MOST_KEPT = 1e6;
 let here = null;
 function leave() { if (here) places.set(here, { ...S, past: [...S.past], ahead: [...S.ahead] }); }
 function enter(isNew = true) {
   here = `${performance.timeOrigin} ${performance.now()}`;
   leave();
   history[isNew ? 'pushState' : 'replaceState']({ id: here, name: S.name, title: S.title, p: S.p }, '');
-  const runs = [...new Set([...places.values()].map(place => place.base))].slice(0, -MOST_RUNS);
-  for (const [id, place] of places) if (runs.includes(place.base) && place.base !== S.base) places.delete(id);
+  const before = [...new Set([...places.values()].map(place => place.base))].reverse().filter(base => base !== S.base);
+  let calls = 0;
+  const kept = [S.base, ...before.slice(0, MOST_RUNS).filter(base => (calls += base.count) <= MOST_KEPT)];
+  for (const [id, place] of places) if (!kept.includes(place.base)) places.delete(id);
 }
 function jump(p) { stop(); if (p === S.p) return draw(); leave(); go(p); enter(); }
 async function come({ id, name, title, p }) {
@@ -119,7 +122,7 @@ async function come({ id, name, title, p }) {
   if (place) {
     Object.assign(S, place); say(''); showNames();
     if (S.other) $('compared').hidden = false; else dropOther();
-    go(S.p);
+    await look(); go(S.p);
   } else if (name === S.name && title === S.title) go(p);
   else if (!Object.hasOwn(TRACES, name)) say(`${title} is not kept: give its file again.`);
   else { here = null; if (await load(await inflated(TRACES[name]), name, title)) go(p); here = id; leave(); }
@@ -152,8 +155,8 @@ async function set({ kept, edits, p, isBase }, left) {
   const { base } = S, was = { kept: S.run.kept, edits: S.run.edits, p: S.p, isBase: S.run === base };
   const run = isBase ? base : await during('Playing', work => base.branch(kept, edits, work));
   if (!run || S.base !== base) return;
-  left()[0].push(was); S.run = run;
-  showNames(); dropOther(); go(p);
+  left()[0].push(was); S.run = run; S.life = null;
+  showNames(); dropOther(); await look(); go(p);
 }
 function undo(from, to) { if (from.length) return set(from.at(-1), () => { from.pop(); return [to]; }); }
 function original() { if (S.run !== S.base) return set({ isBase: true, p: Math.min(S.p, S.run.kept) }, () => [S.past]); }
@@ -193,6 +196,10 @@ async function link() {
   if (S.zoom) q.set('z', S.zoom.join('.'));
   const filters = Object.keys(FILTERS).filter(f => $(FILTERS[f]).checked).join('');
   if (filters) q.set('f', filters);
+  if (S.find) q.set('q', S.find.slice(0, 4).concat(S.find[5], S.find[4]).join('.'));
+  if (S.byName) q.set('h', 1);
+  if (S.unit) q.set('u', S.unit);
+  if (S.life) q.set('w', S.life.join('.'));
   if (String(q).length > MOST_LINK) {
     say(`This run is too large for a link (${counted(String(q).length, 'character')}): send its file, and the number of the row.`, true);
     return;
@@ -227,6 +234,19 @@ async function restore() {
     const filters = q.get('f') || '';
     for (const f of Object.keys(FILTERS)) $(FILTERS[f]).checked = filters.includes(f);
     if (!/^r?e?$/.test(filters)) throw Error();
+    if (q.has('u')) S.unit = oneOf(q.get('u'));
+    if (q.has('w')) {
+      const [p0, p1, o0, o1, more] = numbersOf(q.get('w'));
+      if (o1 === undefined || more !== undefined || p0 >= p1 || o0 >= o1 || p1 > S.run.count + 1 || o1 > S.run.top) throw Error();
+      S.life = [p0, p1, o0, o1];
+    }
+    if (q.has('h')) S.byName = true;
+    if (q.has('q')) {
+      const [min, max, from, to, isNever, ...name] = q.get('q').split('.');
+      if (!name.length || ![min, max, from, to].every(isCount) || !/^1?$/.test(isNever)) throw Error();
+      S.find = [min, max, from, to, name.join('.'), isNever];
+    }
+    await look();
     if (q.has('z')) {
       const [from, to, more] = numbersOf(q.get('z')), size = S.run.sizeAt(p === null ? 0 : Math.min(p, S.run.count));
       if (to === undefined || more !== undefined || to - from < ROWS || to > size) throw Error();

@@ -20,7 +20,7 @@ pub trait Space: Drop {
     fn make(alloc: Global, size: u32, max_allocs: u32) -> Result<Self, AllocError>;
 
     /// A step on a slot, and a number for its result: where the slot is empty, a request for units from a
-    /// multiple of `align` on, which is 1 or another power of two, and else the release of its grant.
+    /// multiple of `align` on, which is at least 1, and else the release of its grant.
     fn take(&mut self, slot: &mut Self::Slot, size: u32, align: u32) -> u64;
 
     /// Why a request for units is refused, as a number.
@@ -65,7 +65,7 @@ impl<T: Tables> Space for AllocatorOf<T> {
             None => {
                 let granted = if align == 1 {
                     self.allocate(size)
-                } else if align.is_power_of_two() {
+                } else if align > 0 {
                     self.allocate_aligned(size, align)
                 } else {
                     None
@@ -118,7 +118,7 @@ impl<NI: NodeIndex> Space for Guarded<NI> {
             None => {
                 let granted = if align == 1 {
                     self.allocate(size)
-                } else if align.is_power_of_two() {
+                } else if align > 0 {
                     self.allocate_aligned(size, align)
                 } else {
                     None

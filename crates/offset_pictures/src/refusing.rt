@@ -1,8 +1,8 @@
 //! Which calls were refused, and why: what a space says after a refused call, which left it as it was. It
 //! only asks the space.
 
-ghost use Rattle.std.specs.Prelude.{◌≡◌, ◌++◌, [], true, IsTrue, OnOk, option_to_list, if◌then◌else◌};
-ghost use Rattle.offset_allocator.specs.Requests.{IsAlignment, CanGrant, blocks_needed, units_needed};
+ghost use Rattle.std.specs.Prelude.{◌≡◌, ◌≤◌, ◌++◌, [], true, IsTrue, OnOk, option_to_list, if◌then◌else◌};
+ghost use Rattle.offset_allocator.specs.Requests.{CanGrant, blocks_needed, units_needed};
 ghost use Rattle.offset_script.specs.Grammar.{has_valid_alignment};
 ghost use Rattle.offset_script.specs.Machine.{answer_view};
 ghost use Rattle.offset_pictures.specs.Refusals.{IsRefusedBy, is_refusal, numbers_of_view, refused_call};
@@ -63,7 +63,7 @@ pub fn is_refusal(answer: &Answer) -> bool
 
 // Why a space refuses a request.
 fn shortage<T: Tables>(space: &AllocatorOf<T>, size: u32, align: u32) -> Refusal
-    requires power { IsAlignment align }
+    requires alignment { 1 ≤ align }
     requires refuses { CanGrant (blocks_needed align) (units_needed size align) space.now → ⊥ }
     ensures { result ≡ shortage (blocks_needed align) (units_needed size align) (numbers_of_view space.now) }
 {

@@ -1,0 +1,180 @@
+"""What is looked for by name, units and rows; names by how they begin; what is never freed; curves and zoom of the lives; and sizes
+in bytes."""
+
+from .base import give, holds, recorded, row, same, to, until
+from .lists import ROWS
+from .pictures import DRAWN
+from .refusals import FRAGMENTED
+
+# grants 1 to 5 in rows 1 to 4 and 6, of which 2 and 4 are freed in rows 5 and 8; row 7 is refused
+NAMED = """space 10000 nodes 64 index 32
+# mesh/a
+alloc 100
+# mesh/b
+alloc 200
+# texture: rock
+alloc 300
+alloc 400
+free 2
+# mesh/c
+alloc 150
+# texture: big
+alloc 20000
+free 4
+"""
+
+
+def look(b, **fields):
+    """Fills in what is looked for, as the user does, and returns the rows of calls, the grants that are listed, and the totals."""
+    b.run("for (const [id, v] of Object.entries(arguments[0])) if (typeof v === 'boolean') $(id).checked = v; else $(id).value = v; return $(Object.keys(arguments[0])[0]).onchange()", fields)
+    return listed(b)
+
+
+def listed(b):
+    return [[int(r[0]) for r in b.run(ROWS, "#calls")], sorted(int(r[0]) for r in b.run(ROWS, "#ranges")), b.run("return $('found').textContent")]
+
+
+def ranges_are_looked_for(b):
+    b.size(1100, 1250)
+    b.open()
+    give(b, NAMED, "named.script")
+    b.run("go(8)")
+    all_calls = [list(range(1, 9)), [1, 3, 5], ""]
+    same(listed(b), all_calls, "all calls, and what is live")
+    mesh = "3 ranges granted, 450 units; never freed: 2 ranges, 250 units."
+    same(look(b, fname="mesh"), [[1, 2, 5, 6], [1, 5], mesh], "a part of the name: the grants, and the release of one")
+    same(look(b, fname="/a"), [[1], [1], "1 range granted, 100 units; never freed: 1 range, 100 units."], "any part")
+    same(look(b, fname="/a*"), [[], [], "0 ranges granted, 0 units; never freed: 0 ranges, 0 units."], "none begins so")
+    same(look(b, fname="texture*"), [[3, 7], [3], "1 range granted, 300 units; never freed: 1 range, 300 units."], "how names begin: the refused call has a name too")
+    b.click("#only")
+    same(listed(b)[0], [7], "refusals only")
+    b.click("#only")
+    same(look(b, fname="", fmin="150", fmax="300"), [[2, 3, 5, 6], [3, 5], "3 ranges granted, 650 units; never freed: 2 ranges, 450 units."], "by units")
+    same(look(b, fmin="", fmax="", ffrom="3", fto="6", fnever=True), [[3, 6], [3, 5], "2 ranges granted, 450 units; never freed: 2 ranges, 450 units."],
+         "what is granted between two rows and never freed")
+    b.run("go(2)")
+    b.click("#ffromhere")
+    b.run("go(4)")
+    b.click("#ftohere")
+    until(b, "$('fto').value === '4' && $('ffrom').value === '3'", "rows are taken from the position")
+    b.run("go(8)")
+    found = listed(b)
+    same(found, [[3], [3], "1 range granted, 300 units; never freed: 1 range, 300 units."], "after one position and up to another")
+    b.run("return link()")
+    b.open(b.run("return location.hash"))
+    same(listed(b), found, "a link keeps what is looked for")
+    b.click("#fclear")
+    until(b, "!S.find", "nothing is looked for")
+    same(listed(b), all_calls, "all again")
+    b.run("$('fmin').value = '-1'; return $('fmin').onchange()")
+    same(b.run("return $('fault').textContent"), "Look for: numbers from 0 to 4,294,967,295", "no such number of units")
+
+
+INK = """const c = $('space'), g = c.getContext('2d'), at = unit => { const y = Math.floor(unit / (10000 / 6)), x = GUTTER + (unit / (10000 / 6) - y) * (c.width - GUTTER);
+  return '#' + [...g.getImageData(Math.round(x), Math.round((y + 0.5) * c.height / 6), 1, 1).data.slice(0, 3)].map(v => v.toString(16).padStart(2, '0')).join(''); };
+  const named = Object.fromEntries([...colors().ages.map((v, i) => [v, `age${i + 1}`]), [colors().line, 'line']]);
+  return S.run.view(S.p).blocks.filter(b => b.k).sort((a, b) => a.k - b.k).map(b => [b.k, named[at(b.o + b.n / 2)] || at(b.o + b.n / 2)])"""
+
+
+def names_have_colours(b):
+    b.size(1100, 1250)
+    b.open()
+    give(b, NAMED, "named.script")
+    b.run("go(8)")
+    same([b.run(INK), b.run("return $('groups').hidden")], [[[1, "age1"], [3, "age1"], [5, "age1"]], True], "by age first: all are young")
+    b.run("$('byname').value = '1'; return $('byname').onchange()")
+    # mesh has 450 units over the run, texture 300; those without a name come last
+    same(b.run(INK), [[1, "age1"], [3, "age2"], [5, "age1"]], "ranges in the colour of how their names begin")
+    same(b.run("return $('legend').textContent"), "Names that begin withmeshtextureothersfree", "the legend has the names")
+    same(b.run("return [...$('grouprows').rows].map(r => [...r.cells].map(c => c.textContent))"),
+         [["texture", "1", "300", "1", "300"], ["mesh", "2", "250", "2", "250"], ["no name", "0", "0", "0", "0"]], "totals of how names begin, what is live and what is never freed")
+    b.run("go(4)")
+    same(b.run("return [...$('grouprows').rows].map(r => [...r.cells].slice(0, 3).map(c => c.textContent))"), [["no name", "1", "400"], ["mesh", "2", "300"], ["texture", "1", "300"]], "at each row")
+    b.run("go(8); [...$('grouprows').querySelectorAll('button')].find(e => e.textContent === 'mesh').click()")
+    until(b, "S.run.found", "its ranges are looked for")
+    same([listed(b)[1], b.run(INK)], [[1, 5], [[1, "age1"], [3, "line"], [5, "age1"]]], "a click looks for these, and the others are faint")
+    b.run(DRAWN)
+    b.run("return link()")
+    b.open(b.run("return location.hash"))
+    same(b.run(INK), [[1, "age1"], [3, "line"], [5, "age1"]], "a link keeps the colours")
+
+
+def curves_are_right(b):
+    b.size(1100, 1250)
+    b.open()
+    play_text = FRAGMENTED
+    give(b, play_text, "fragmented.script")
+    lines = play_text.splitlines()
+    reports = [recorded("\n".join([*lines[:i + 1], "report"]) + "\n")[0].splitlines()[-1].split() for i in range(1, len(lines))]
+    expected = [[1000 - int(r[1]), int(r[3])] for r in reports]
+    n = len(expected)
+    found = "const { used, largest } = S.run.curves, [p0, p1] = S.life || [0, S.run.count + 1]; return arguments[0].map(i => { const x = Math.round((i + 1.5 - p0) / (p1 - p0) * used.length); return [used[x], largest[x]]; })"
+    same(b.run(found, list(range(n))), expected, "the units in use and the largest request that is granted, at each row")
+    b.run("zoomLives(4, 13, 0, S.run.top)")
+    same(b.run(found, list(range(4, 11))), expected[4:11], "in a part of the rows too")
+    drawn = b.run("const c = $('curves'), a = c.getContext('2d').getImageData(GUTTER, 0, c.width - GUTTER, c.height).data, seen = new Set(); for (let i = 0; i < a.length; i += 4) if (a[i + 3] > 200) seen.add([a[i], a[i + 1], a[i + 2]].join()); "
+                  "return [1, 5].map(i => seen.has(rgb(colors().ages[i]).join()))")
+    same(drawn, [True, True], "both are drawn")
+    b.open("#t=voxel-game&p=9000")
+    most = "const { used, largest } = S.run.curves, rows = S.run.rows.list; let a = 0, b = Infinity; for (let i = 0; i < S.run.count; i++) { a = Math.max(a, S.run.used.list[i]); b = Math.min(b, rows[8 * i + 5]); } " \
+        "return [Math.max(...used) === a, Math.min(...largest) === b]"
+    same(b.run(most), [True, True], "of many calls in a pixel the most in use and the least request")
+
+
+EVENT = """const r = $('life').getBoundingClientRect(), at = ([x, y]) => ({ clientX: r.left + GUTTER + x * (r.width - GUTTER), clientY: r.top + y * (r.height - 16), bubbles: true, cancelable: true, pointerId: 1, buttons: 1 });
+  $('life').setPointerCapture = () => {}; const [kind, from, to, more] = arguments;
+  if (kind === 'wheel') $('life').dispatchEvent(new WheelEvent('wheel', { ...at(from), ...more }));
+  else { $('life').dispatchEvent(new PointerEvent('pointerdown', { ...at(from), ...more })); $('life').dispatchEvent(new PointerEvent('pointermove', { ...at(to), ...more }));
+    $('life').dispatchEvent(new PointerEvent('pointerup', { ...at(to), ...more, buttons: 0 })); }
+  return S.life"""
+
+
+def near(found, expected, what):
+    holds(found is not None and all(abs(f - e) <= 1.5 + abs(e) / 200 for f, e in zip(found, expected)), what, (found, expected))
+
+
+def lives_can_be_zoomed(b):
+    b.size(1100, 1250)
+    b.open()
+    # 199 calls: one range is live in rows 50 to 150 at 0 to 50, another all the time at 500 to 510
+    text = "space 2000 nodes 16 index 32\nalloc 500\nalloc 10\nfree 1\n" + "report\n" * 47 + "alloc 50\n" + "report\n" * 98 + "free 3\n" + "report\n" * 49
+    give(b, text, "zoom.script")
+    to(b, 60)
+    count, top = b.run("return [S.run.count, S.run.top]")
+    same([count, top], [199, 510], "the rows and offsets of the run")
+    near(b.run(EVENT, "wheel", [0.5, 0.5], None, {"deltaY": -500}), [100 - 36.8, 100 + 36.8, 0, 510], "the wheel zooms the rows about the pointer")
+    same(row(b), 60, "and leaves the row")
+    near(b.run(EVENT, "drag", [0.5, 0.5], [0.25, 0.5], {"altKey": True}), [63.2 + 18.4, 136.8 + 18.4, 0, 510], "Alt and a drag move")
+    b.click("#lzall")
+    same(b.run("return S.life"), None, "a button shows the whole run")
+    near(b.run(EVENT, "drag", [0.4, 0.95], [0.5, 0.99], {"shiftKey": True}), [80, 100, 5.1, 25.5], "Shift and a drag take the part in a box")
+    b.run(DRAWN)
+    colours = b.run("const s = S.run.picture.sheet, a = s.getContext('2d').getImageData(0, 0, s.width, s.height).data; const seen = new Set(); for (let i = 0; i < a.length; i += 4) seen.add(a[i + 3]); return [...seen]")
+    same(colours, [255], "which is all of the range that is live there")
+    b.run("const r = $('life').getBoundingClientRect(); $('life').dispatchEvent(new PointerEvent('click', { clientX: r.left + GUTTER + 0.5 * (r.width - GUTTER), clientY: r.top + 20 }))")
+    holds(abs(row(b) - 89) <= 1, "a click goes to the row under it", row(b))
+    life = b.run("return S.life")
+    b.run("return link()")
+    b.open(b.run("return location.hash"))
+    same(b.run("return S.life"), life, "a link keeps the part")
+    near(b.run(EVENT, "wheel", [0.5, 0.5], None, {"deltaY": 900, "shiftKey": True})[2:], [0, 4 * (life[3] - life[2])], "with Shift the wheel zooms the offsets, by four at most")
+
+
+def sizes_in_bytes(b):
+    b.open()
+    give(b, NAMED, "named.script")
+    b.run("go(8)")
+    b.run("$('unit').value = '16'; return $('unit').onchange()")
+    # 550 units are 8,800 bytes
+    same(b.run("return $('rangesum').textContent"), "Live now: 3 ranges, 550 units (8.59 KiB). Still live at the end: 3 ranges, 550 units (8.59 KiB).", "a sum in KiB")
+    b.click("#sorts [data-by=grant]")
+    same([r[2] for r in b.run(ROWS, "#ranges")], ["1.56 KiB", "4.69 KiB", "2.34 KiB"], "the sizes of ranges")
+    same(b.run("S.unit = 65536; return [0, 1, 10, 16, 1000, 65536, 16777216].map(n => inBytes(n))"), ["0 B", "64.0 KiB", "640 KiB", "1.00 MiB", "62.5 MiB", "4.00 GiB", "1.00 TiB"], "B to TiB")
+    b.run("S.unit = 16; return link()")
+    b.open(b.run("return location.hash"))
+    holds("(8.59 KiB)" in b.run("return $('rangesum').textContent"), "a link keeps the size of a unit")
+    b.run("$('unit').value = ''; return $('unit').onchange()")
+    holds("550 units. Still" in b.run("return $('rangesum').textContent"), "without it all is in units")
+
+
+ALL = [ranges_are_looked_for, names_have_colours, curves_are_right, lives_can_be_zoomed, sizes_in_bytes]
