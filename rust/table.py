@@ -81,10 +81,12 @@ pub use offset_allocator_memory::{AllocError, Global};
 # warn of one that no longer occurs.
 LINTS = {
     "offset_allocator": {
+        "clippy::collapsible_if": "each test has a name of its own in the proof",
         "clippy::derivable_impls": "an `impl Default` is where a contract says what the value is",
         "clippy::len_without_is_empty": "tables are never empty: they have a node from the start",
         "clippy::manual_map": "a `match` needs no closure, whose calls would need a proof",
         "clippy::needless_range_loop": "a loop over places calls no iterator, which might count accesses of its own",
+        "clippy::question_mark": "a `match` needs no call, whose contract a proof would need",
         "unused_variables": "a parameter may be there for a contract only",
     },
     "offset_guarded": {
