@@ -29,7 +29,7 @@ class Browser:
             self.driver.wait()
         assert self.base, "chromedriver does not start"
         flags = ["--headless=new", "--no-sandbox", "--disable-gpu", "--window-size=1100,1250"]
-        new = {"capabilities": {"alwaysMatch": {"goog:chromeOptions": {"args": flags}, "goog:loggingPrefs": {"browser": "ALL"}}}}
+        new = {"capabilities": {"alwaysMatch": {"goog:chromeOptions": {"args": flags}, "goog:loggingPrefs": {"browser": "ALL"}, "timeouts": {"script": 90000}}}}
         try:
             self.base += "/session/" + self.call("/session", new)["sessionId"]
         except BaseException:
