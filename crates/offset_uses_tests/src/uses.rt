@@ -125,9 +125,11 @@ const CASES: [Case; 14] = [
         size: 4096,
         limit: 1_000,
         uses: &[
-            Gives(Upload(3, 3), None),
+            Gives(Upload(3, 0), None),
             Gives(Upload(3, 1), Some((0, 3))),
             Gives(Upload(100, 64), Some((64, 100))),
+            // from 3 to 64 it is free: the first multiple of 12 is 12
+            Gives(Upload(10, 12), Some((12, 10))),
         ],
     },
     // 8 units and 8 more are enough for 10; then 6 of the 16 are free, and one more is too few for 9.
