@@ -162,14 +162,18 @@ def links_keep_edits(b):
     for name, k, n in (("alloc", 1, 1000), ("align", 1, 100), ("shrink", 2, 40), ("grow", 2, 50), ("compact", 1, 1), ("free", 1, 1), ("extend", 1, 60), ("reset", 1, 1)):
         b.run("$('k').value = arguments[0]; $('n').value = arguments[1]; act(arguments[2])", k, n, name)
     state = "return [S.p, S.run.count, S.run.kept, S.run.edits, S.run.view(S.p).blocks, [...Array(S.run.count).keys()].map(i => answered(S.run, i))]"
+    b.run("$('a').value = 12; $('n').value = 20; act('align')")
     b.run("go(14)")
     kept = b.run(state)
     b.run("return link()")
     b.open(b.run("return location.hash"))
     same(b.run(state), kept, "a link keeps the calls that were added")
-    for bad in ("#t=voxel-game&p=3&kept=4&c=1.2.3", "#t=voxel-game&kept=4&c=11.2.3", "#t=voxel-game&kept=99999&c=0.2.0", "#t=nothing", "#s=abc", "#t=voxel-game&kept=4&c=0.2", "#t=voxel-game&x=1.1.1.1"):
+    for bad in ("#t=voxel-game&p=3&kept=4&c=1.2.0", "#t=voxel-game&p=3&kept=4&c=14.2.0", "#t=voxel-game&kept=4&c=11.2.3", "#t=voxel-game&kept=99999&c=0.2.0", "#t=nothing", "#s=abc", "#t=voxel-game&kept=4&c=0.2", "#t=voxel-game&x=1.1.1.1"):
         b.open(bad)
         same([b.run("return $('fault').textContent !== ''"), b.run("return S.run.count > 0 && $('now').textContent !== ''")], [True, True], f"a faulty link: {bad}")
+    for good in ("#t=voxel-game&p=3&kept=4&c=1.2.12", "#t=voxel-game&p=3&kept=4&c=14.2.12"):
+        b.open(good)
+        same([b.run("return $('fault').textContent"), b.run("return S.run.count")], ["", 5], f"a link with a call at a multiple of 12: {good}")
 
 
 def links_keep_the_view(b):

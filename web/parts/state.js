@@ -130,14 +130,13 @@ async function come({ id, name, title, p }) {
 function go(p) { S.p = Math.max(0, Math.min(S.run.count, Math.trunc(p) || 0)); draw(); }
 // A call of the user's: the run is left at the position, and the call is added. The original stays.
 const TAKES = { alloc: 'n', align: 'na', free: 'k', shrink: 'kn', grow: 'kn', compact: '', extend: 'n', reset: '' };
-const isPower = n => n > 0 && 2 ** Math.round(Math.log2(n)) === n;
 const FIELDS = { n: 'Units', a: 'Alignment', k: 'Grant' };
 function act(name) {
   const values = [];
   for (const id of TAKES[name]) {
     const v = $(id).value.trim() === '' ? NaN : Number($(id).value), isWrong = !Number.isInteger(v) || v < 0 || v > LARGEST;
-    if (isWrong || (id === 'a' && !isPower(v))) {
-      say(`${name}: ${FIELDS[id]} ${isWrong ? `has to be a number from 0 to ${whole(LARGEST)}` : 'has to be a power of two'}`, true);
+    if (isWrong || (id === 'a' && v < 1)) {
+      say(`${name}: ${FIELDS[id]} ${isWrong ? `has to be a number from 0 to ${whole(LARGEST)}` : 'has to be at least 1'}`, true);
       $(id).focus(); return; }
     values.push(v);
   }
@@ -210,7 +209,7 @@ async function link() {
   try { await navigator.clipboard.writeText(location.href); say(`The link to this state is copied: ${size}.${long}`); }
   catch { say(`The link to this state is in the address bar: ${size}.${long}`); }
 }
-const ADDED = [...Array(11).keys(), OP.tight, OP.room, OP.retract];
+const ADDED = [...Array(11).keys(), OP.tight, OP.tightAligned, OP.room, OP.retract];
 const numbersOf = text => text.split('.').map(x => { if (!/^\d{1,10}$/.test(x) || Number(x) > LARGEST) throw Error(); return Number(x); });
 const oneOf = text => { const n = numbersOf(text); if (n.length !== 1) throw Error(); return n[0]; };
 async function restore() {
@@ -225,7 +224,7 @@ async function restore() {
     if (q.get('c')) {
       const kept = oneOf(q.get('kept') || ''), c = numbersOf(q.get('c')), edits = [];
       for (let i = 0; i < c.length; i += 3) {
-        if (i + 2 >= c.length || !ADDED.includes(c[i]) || (c[i] === 1 && !isPower(c[i + 2]))) throw Error();
+        if (i + 2 >= c.length || !ADDED.includes(c[i]) || ((c[i] === 1 || c[i] === OP.tightAligned) && c[i + 2] < 1)) throw Error();
         edits.push(c.slice(i, i + 3)); }
       if (kept > S.base.count) throw Error();
       S.run = await during('Playing', work => S.base.branch(kept, edits, work)) || S.run; showNames();

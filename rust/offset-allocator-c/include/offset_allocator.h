@@ -234,8 +234,8 @@ oa_allocation oa_allocate_tight_aligned(oa_allocator *space, uint32_t size, uint
 
 /* Grants the `size` units that begin at `offset`, where one free block holds them all: for addresses that were captured, or
  * that are reserved. A range of no units is taken of the last free block that begins at `offset` or before. Both parts are
- * OA_NO_SPACE, and nothing changes, where no free block holds them (oa_in_the_way says which range to free), where no node is
- * left for the blocks that are added, one for the units of the block before the range, one for those after it, and at least
+ * OA_NO_SPACE, and nothing changes, where no free block holds them (oa_in_the_way has the last live range in the way), where no node
+ * is left for the blocks that are added, one for the units of the block before the range, one for those after it, and at least
  * one, or if the allocator is null. Cost: 80 accesses, and 3 for each block, from the last one back. */
 oa_allocation oa_allocate_at(oa_allocator *space, uint32_t offset, uint32_t size);
 
@@ -249,7 +249,7 @@ bool oa_is_free_at(const oa_allocator *space, uint32_t offset, uint32_t size);
 oa_allocation oa_handle_at(const oa_allocator *space, uint32_t offset);
 
 /* The handle of the last live range that is in the way of the `size` units that begin at `offset`: it has one of them, or lies
- * among them, as a range of no units may. Both parts are OA_NO_SPACE where there is none, or if the allocator is null. Cost: 5
+ * among them, as a range of no units may; of no units, it has units on both sides of `offset`. Both parts are OA_NO_SPACE where there is none, or if the allocator is null. Cost: 5
  * accesses, and 5 for each block, from the last one back. */
 oa_allocation oa_in_the_way(const oa_allocator *space, uint32_t offset, uint32_t size);
 
