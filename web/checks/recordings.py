@@ -83,7 +83,7 @@ def names_and_commands(b):
     b.click("#export")
     until(b, "S.saved", "the edited text")
     same(b.run("return S.saved.text()"), "space 1000 nodes 32 index 16\n# texture: rock_albedo\nalloc 100\nalloc 50\ncompact\n", "an edited recording is exported with its names")
-    for bad in ("grow 1", "compact 0", "compact 1 2 3", "room 8 3 1", "where", "why free 1"):
+    for bad in ("grow 1", "compact 0", "compact 1 2 3", "room 8 0 1", "where", "why free 1"):
         give(b, f"space 9 nodes 8 index 32\n{bad}\n", "bad.script")
         same(b.run("return $('fault').textContent"), f"bad.script, line 2: bad command: “{bad}”", "a faulty recording")
 
