@@ -1,5 +1,5 @@
 """Measures the colours of ages, in the pictures and in the page: web/colours.py [page | pictures]. It fails where two neighbours of a scale
-are told apart worse than FLOOR, and where an age of the page has less than CONTRAST to its free units or its background.
+are told apart worse than FLOOR, and where an age has less than CONTRAST to its background or to free units, and where the page and the pictures have other colours.
 
 The formulas: sRGB to CIE L*a*b* (D65, IEC 61966-2-1); protanopia, deuteranopia and tritanopia by the matrices of Machado,
 Oliveira and Fernandes (2009) at severity 1.0, on linear RGB; grey print by L* alone; the difference by CIEDE2000 (Sharma,
@@ -114,6 +114,7 @@ def measure(name, colors):
 
 def main():
     here = pathlib.Path(__file__).resolve().parent
+    scales_seen = {}
     wrong = [f"the formula gives {difference(a, b):.4f}, not {d}" for a, b, d in KNOWN if abs(difference(a, b) - d) > 0.0001]
     for name, path, pattern in (("page", here / "source.html", r"--age(\d): (#\w+)"),
                                 ("pictures", here / "../crates/offset_pictures/src/style.rt", r"\.age(\d)\{fill:(#\w+)\}")):
@@ -122,11 +123,13 @@ def main():
         found = scales(path.read_text(), pattern)
         for scheme, part in zip(("light", "dark"), path.read_text().split("prefers-color-scheme", 1)):
             wrong += measure(f"{name}, {scheme}", found[scheme])
-            for beside in ("free", "bg") if name == "page" else ():
-                least = min(contrast(age, re.search(rf"--{beside}: (#\w+)", part)[1]) for age in found[scheme])
-                print(f"  least contrast to --{beside}: {least:.2f}")
+            for beside, of in (("free", r"--free: (#\w+)"), ("bg", r"--bg: (#\w+)")) if name == "page" else (("back", r"\.back\{fill:(#\w+)\}"),):
+                least = min(contrast(age, re.search(of, part)[1]) for age in found[scheme])
+                print(f"  least contrast to {beside}: {least:.2f}")
                 if least < CONTRAST:
-                    wrong.append(f"{name}, {scheme}: an age has a contrast of {least:.2f} to --{beside}")
+                    wrong.append(f"{name}, {scheme}: an age has a contrast of {least:.2f} to {beside}")
+        if scales_seen.setdefault("both", found) != found:
+            wrong.append("the page and the pictures have other colours")
     for fault in wrong:
         print(fault)
     return 1 if wrong else 0

@@ -20,6 +20,7 @@ pub mod Tallies
 pub mod Released
 pub mod Resizing
 pub mod Served
+pub mod Scaling
 pub mod Sound
 pub mod Reading
 pub mod Views

@@ -1,11 +1,12 @@
 -- The same space under a larger node limit: it is sound, and calls that are not refused for nodes have the same answers.
-use Rattle.offset_allocator.proofs.{Decided.allocates_decided, Decided.aligns_decided, Decided.relocates_decided, Decided.tight_decided, DecidedChanges.compacts_decided, DecidedChanges.extends_decided, DecidedChanges.frees_decided, DecidedChanges.grows_decided}
+use Rattle.offset_allocator.proofs.{AtPlace.at_decided, Decided.allocates_decided, Decided.aligns_decided, Decided.relocates_aligned_decided, Decided.relocates_decided, Decided.tight_decided, DecidedChanges.compacts_decided, DecidedChanges.extends_decided, DecidedChanges.frees_decided, DecidedChanges.grows_decided}
 use Rattle.offset_allocator.proofs.{DecidedChanges.resets_decided, DecidedChanges.retracts_decided, DecidedChanges.shrinks_decided, Linking.Rows.IsRow-kept}
 use Rattle.offset_allocator.proofs.Common.{◌≡◌, ℕ, zero, suc, ◌+◌, ◌<◌, ◌≤◌, Bool, true, false, List, [], ◌∷◌, length, Option, Some, None, refl, sym, ap, subst, ◌∙◌, inl, inr, arith}
 use Rattle.offset_allocator.proofs.Common.{ChainCells, Cells, node, blocks, IsChain, IsSound, view_of, Block, View, Handle, IsWellFormed, IsNew, free_sizes, sum, HasRoomFor, blocks_needed}
 use Rattle.offset_allocator.proofs.Common.{Splits, Allocates, Aligns, Frees, Adds, Extends, Resets, Resizes, Shrinks, Grows, Compacts, IsFresh, size_of}
 use Rattle.offset_allocator.specs.Chain.{blocks_back}
-use Rattle.offset_allocator.specs.Moving.Relocating.{Relocates, WouldBegin}
+use Rattle.offset_allocator.specs.AtPlace.{AllocatesAt}
+use Rattle.offset_allocator.specs.Moving.Relocating.{Relocates, RelocatesAligned, WouldBegin}
 use Rattle.offset_allocator.specs.Moving.Retracting.{Cuts, Retracts}
 use Rattle.offset_allocator.specs.Relations.{FreesLast, IsRaised, SameUnder}
 use Rattle.offset_allocator.specs.Tight.{AlignsTight}
@@ -206,6 +207,23 @@ module _ (limit : ℕ) (v w : View) (l : v.max_allocs ≤ limit) where
   relocates_under x room None a = (λ o h. a.0 o (begins_under limit room h), ap (under limit) a.1)
   relocates_under x room (Some g) a = (allocates_under (size_of x v) room (Some g) a.0, a.1)
 
+  relocates_aligned_under : (x align : ℕ) → 1 ≤ align → HasRoomFor (blocks_needed align) v → (r : Option Handle) → RelocatesAligned x align v w r → RelocatesAligned x align (under limit v) (under limit w) r
+  unfolding aligns_under split_under
+  relocates_aligned_under x align some room None a = (λ o _ h. a.0 o room (begins_under limit (omega (arith, some, room)) h), ap (under limit) a.1)
+  relocates_aligned_under x align some room (Some g) a = (aligns_under (size_of x v) align room (Some g) a.0, a.1)
+
+  at_under : (offset n : ℕ) → HasRoomFor 2 v → (r : Option Handle) → AllocatesAt offset n v w r → AllocatesAt offset n (under limit v) (under limit w) r
+  at_under offset n room None a = (
+    λ h. a.0 (record { at = record { place = h.at.place; there = h.at.there; free = h.at.free; holds = h.at.holds }; room = omega (arith, room) }),
+    ap (under limit) a.1,
+  )
+  at_under offset n room (Some g) a = record {
+    at = record { place = a.at.place; there = a.at.there; free = a.at.free; holds = a.at.holds };
+    room = omega (arith, a.room, l);
+    last = a.last;
+    split = split_under limit l a.split;
+  }
+
   retracts_under : (less : ℕ) (r : Bool) → Retracts less v w r → Retracts less (under limit v) (under limit w) r
   retracts_under less true (inl a) = inl (a.0, ap (under limit) a.1)
   retracts_under less true (inr a) = inr (a.0, cuts_under limit a.1)
@@ -251,6 +269,14 @@ module _ (limit : ℕ) (v v' w w' : View) (known : IsWellFormed v) (l : v.max_al
 
   pub relocates_raised : (x : ℕ) → HasRoomFor 1 v → (r r' : Option Handle) → Relocates x v w r → Relocates x v' w' r' → (r ≡ r') × SameUnder limit w w'
   relocates_raised x room r r' a b = relocates_decided x (under limit v) v' (under limit w) w' (well_under v limit l known) same r r' (relocates_under limit v w l x room r a) b
+
+  pub relocates_aligned_raised : (x align : ℕ) → 1 ≤ align → HasRoomFor (blocks_needed align) v → (r r' : Option Handle) → RelocatesAligned x align v w r → RelocatesAligned x align v' w' r'
+      → (r ≡ r') × SameUnder limit w w'
+  relocates_aligned_raised x align some room r r' a b =
+      relocates_aligned_decided x align (under limit v) v' (under limit w) w' some (well_under v limit l known) same r r' (relocates_aligned_under limit v w l x align some room r a) b
+
+  pub at_raised : (offset n : ℕ) → HasRoomFor 2 v → (r r' : Option Handle) → AllocatesAt offset n v w r → AllocatesAt offset n v' w' r' → (r ≡ r') × SameUnder limit w w'
+  at_raised offset n room r r' a b = at_decided offset n (under limit v) v' (under limit w) w' (well_under v limit l known) same r r' (at_under limit v w l offset n room r a) b
 
   pub retracts_raised : (less : ℕ) → (r r' : Bool) → Retracts less v w r → Retracts less v' w' r' → (r ≡ r') × SameUnder limit w w'
   retracts_raised less r r' a b = retracts_decided less (under limit v) v' (under limit w) w' same r r' (retracts_under limit v w l less r a) b

@@ -8,6 +8,7 @@ pub mod Freed
 pub mod Headed
 pub mod Laying
 pub mod Marks
+pub mod Reads
 pub mod Restored
 pub mod Saved
 pub mod StateWords

@@ -5,6 +5,7 @@ ghost use Rattle.std.specs.Prelude.{◌≡◌, ◌≢◌, ◌<◌, ◌≤◌, �
 ghost use Rattle.std.specs.Prelude.{[], Bool, IsTrue, None, Option, Some, length, min, reverse, sum};
 ghost use Rattle.std.specs.List.{AllByRecursion};
 ghost use Rattle.offset_allocator.specs.Accesses.{Costs};
+ghost use Rattle.offset_allocator.specs.AtPlace.{AllocatesAt, IsFreeAt, in_the_way};
 ghost use Rattle.offset_allocator.specs.Reporting.Beside.{AreOfLive, IsWalk, first_live, last_live};
 ghost use Rattle.offset_allocator.specs.Reporting.Beside.{live_after, live_before, live_handles};
 ghost use Rattle.offset_allocator.specs.Classes.{value, up, down};
@@ -280,6 +281,15 @@ pub fn each_live_range_is_met_once<T: Tables>(allocator: &AllocatorOf<T>)
     allocator.formed();
 }
 
+/// Of units that lie in the space, one at least, either a free block holds them all, or a live range is in the
+/// way.
+pub fn units_are_free_or_in_the_way<T: Tables>(allocator: &AllocatorOf<T>)
+    ensures { (offset n : ℕ) → 1 ≤ n → offset + n ≤ allocator.now.size
+        → IsFreeAt offset n allocator.now ↔ (in_the_way offset n allocator.now ≡ None) }
+{
+    allocator.formed();
+}
+
 /// Each move of `compact`, and of the run of blocks that `make_room` slides, goes to a smaller offset, and ends
 /// before all units that later moves have yet to read. It lies in the run, and so in the space.
 pub fn moves_are_safe()
@@ -356,6 +366,9 @@ pub fn a_state_decides_each_step()
     ensures allocate_tight { (n align : ℕ) (v v' w w' : View) → IsWellFormed v → SameState v v'
         → (r r' : Option Handle) → AlignsTight n align v w r → AlignsTight n align v' w' r'
         → (r ≡ r') × SameState w w' }
+    ensures allocate_at { (offset n : ℕ) (v v' w w' : View) → IsWellFormed v → SameState v v'
+        → (r r' : Option Handle) → AllocatesAt offset n v w r → AllocatesAt offset n v' w' r'
+        → (r ≡ r') × SameState w w' }
     ensures relocate { (x : ℕ) (v v' w w' : View) → IsWellFormed v → SameState v v'
         → (r r' : Option Handle) → Relocates x v w r → Relocates x v' w' r' → (r ≡ r') × SameState w w' }
     ensures relocate_aligned { (x align : ℕ) (v v' w w' : View) → 1 ≤ align → IsWellFormed v → SameState v v'
@@ -401,10 +414,11 @@ pub fn a_state_decides_each_step()
         → (r ≡ r') × (ms ≡ ms') × SameState w w' }
 {}
 
-/// The same call, in a space and in the same one under a larger limit, returns the same, handles included, and
-/// leaves the same state under that limit, where the first space has room for the blocks that the call may add.
-/// So a space that `raised` returned continues as the first one would, as long as that one would refuse
-/// nothing for nodes. A fresh space becomes the one that `with_max_allocs` makes with the larger limit.
+/// Each of these calls, in a space and in the same one under a larger limit, returns the same, handles included,
+/// and leaves the same state under that limit, where the first space has room for the blocks that the call may
+/// add. So by them a space that `raised` returned continues as the first one would, as long as that one would
+/// refuse nothing for nodes. Nothing is said of reports, which count unused nodes, nor of the slides that look
+/// at them. A fresh space becomes the one that `with_max_allocs` makes with the larger limit.
 pub fn a_raised_limit_changes_no_answer()
     ensures fresh { (size m limit : ℕ) (v w : View) → m ≤ limit → IsFresh size m v → IsRaised limit v w
         → IsFresh size limit w }
@@ -423,6 +437,14 @@ pub fn a_raised_limit_changes_no_answer()
     ensures relocate { (limit x : ℕ) (v v' w w' : View) → IsWellFormed v → v.max_allocs ≤ limit
         → SameUnder limit v v' → HasRoomFor 1 v → (r r' : Option Handle)
         → Relocates x v w r → Relocates x v' w' r' → (r ≡ r') × SameUnder limit w w' }
+    ensures relocate_aligned { (limit x align : ℕ) (v v' w w' : View) → 1 ≤ align → IsWellFormed v
+        → v.max_allocs ≤ limit → SameUnder limit v v' → HasRoomFor (blocks_needed align) v
+        → (r r' : Option Handle) → RelocatesAligned x align v w r → RelocatesAligned x align v' w' r'
+        → (r ≡ r') × SameUnder limit w w' }
+    // at most two blocks are added
+    ensures allocate_at { (limit offset n : ℕ) (v v' w w' : View) → IsWellFormed v → v.max_allocs ≤ limit
+        → SameUnder limit v v' → HasRoomFor 2 v → (r r' : Option Handle)
+        → AllocatesAt offset n v w r → AllocatesAt offset n v' w' r' → (r ≡ r') × SameUnder limit w w' }
     ensures free { (limit x : ℕ) (v v' w w' : View) → IsWellFormed v → v.max_allocs ≤ limit
         → SameUnder limit v v' → Frees x v w → Frees x v' w' → SameUnder limit w w' }
     ensures reset { (limit : ℕ) (v v' w w' : View) → IsWellFormed v → v.max_allocs ≤ limit

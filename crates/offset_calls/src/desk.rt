@@ -66,7 +66,7 @@ fn allocate_aligned<T: Tables>(
 ) -> Result<Answer, AllocError>
     requires ledger { IsLedger desk.old.space desk.old.tickets.items }
     requires left { HasSerialLeft desk.old.space }
-    requires power { IsTrue (has_valid_alignment (Command.Align size align)) }
+    requires alignment { IsTrue (has_valid_alignment (Command.Align size align)) }
     ensures { IfOk result (λ a. Serves (Call.Command (Command.Align size align))
         desk.old.space desk.old.tickets.items desk.new.space desk.new.tickets.items
         (plain.Answer (answer_view a))) }
@@ -217,7 +217,7 @@ pub(crate) fn answer<T: Tables>(
 ) -> Result<Answer, AllocError>
     requires ledger { IsLedger desk.old.space desk.old.tickets.items }
     requires left { HasSerialLeft desk.old.space }
-    requires power { IsTrue (has_valid_alignment command) }
+    requires alignment { IsTrue (has_valid_alignment command) }
     ensures { IfOk result (λ a. (k : ℕ) → IsNumberOf k ticket desk.old.space desk.old.tickets.items
         → Serves (renumber (λ j. k) (Call.Command command)) desk.old.space desk.old.tickets.items
         desk.new.space desk.new.tickets.items (plain.Answer (answer_view a))) }

@@ -2,6 +2,7 @@
 ghost use Rattle.std.specs.Prelude.{◌≡◌, ◌+◌, ◌*◌, ◌<◌, ◌≤◌, ℕ, IfErr, IfOk, IfSome, IsErr, IsSome, None};
 ghost use Rattle.std.specs.Prelude.{length};
 ghost use Rattle.offset_allocator.specs.Ranges as named;
+ghost use Rattle.offset_allocator.specs.Saving.StateFaults.{IfFault};
 ghost use Rattle.offset_guarded.specs.Guard.{Guard, cell};
 ghost use Rattle.offset_guarded.specs.State.{IsHeader, IsNoState, IsRestored, IsStateOf, IsWellFormed};
 ghost use Rattle.offset_guarded.specs.StateFaults.{IsFault, IsFaultOf, IsSerialFault};
@@ -12,8 +13,8 @@ use crate::numbers::{checksum, number};
 use crate::serials::Serials;
 use crate::state::{FORM, StateFault, StateFaultKind, VERSION};
 use offset_allocator::laws::a_state_is_read_back;
-use offset_allocator::{Allocation, AllocatorOf, Tables};
-use std::alloc::{AllocError, Global};
+use offset_allocator::{Allocation, AllocatorOf, ReadError, Tables};
+use std::alloc::Global;
 
 // What the numbers before the serials say.
 #[derive(Drop)]
@@ -115,7 +116,7 @@ fn serial_fault<T: Tables>(space: &AllocatorOf<T>, serials: &Serials) -> Option<
 
 impl<T: Tables> GuardedOf<T> {
     /// The guarded allocator of these bytes, which `write_state` has made, or what is wrong with them, and
-    /// where: any bytes are read. It has the same space, the same serials and the same realm as the one that
+    /// where: any bytes are taken. It has the same space, the same serials and the same realm as the one that
     /// was written: so each ticket that was live there is live here, with its range, and no other is.
     ///
     /// Serials go on from the number that was stored, as they do in the one that was written, and in every
@@ -129,36 +130,39 @@ impl<T: Tables> GuardedOf<T> {
     ///
     /// # Errors
     ///
-    /// An error is returned only where an allocation failed; then nothing is made.
+    /// `ReadError::Fault` is returned exactly where the bytes are those of no state that is accepted, unless
+    /// an allocation failed before that was known, which is `ReadError::Memory`. Then nothing is made.
     ///
     /// ```
     /// let mesh = guarded.allocate(300).unwrap();
     /// let bytes = guarded.write_state(alloc)?;
-    /// let same = Guarded::<u32>::read_state(alloc, &bytes, 131_072)?.unwrap();
+    /// let same = Guarded::<u32>::read_state(alloc, &bytes, 131_072).unwrap();
     /// assert!(same.is_live(mesh));
     /// ```
     pub fn read_state(
         alloc: Global,
         bytes: &[u8],
         most_allocs: u32,
-    ) -> Result<Result<Self, StateFault>, AllocError>
+    ) -> Result<Self, ReadError<StateFault>>
         // Where it returns one, the bytes are those of a state of it.
-        ensures read { IfOk result (λ r. IfOk r (IsRestored bytes.now most_allocs)) }
-        ensures formed { IfOk result (λ r. IfOk r IsWellFormed) }
+        ensures read { IfOk result (IsRestored bytes.now most_allocs) }
+        ensures formed { IfOk result IsWellFormed }
         // Where it returns a fault, they are those of none whose node limit is admitted.
-        ensures refused { IfOk result (λ r. IsErr r → IsNoState T.Index.MAX most_allocs bytes.now) }
+        ensures refused { IfErr result
+            (λ e. IfFault e (λ _. IsNoState T.Index.MAX most_allocs bytes.now)) }
         // A fault is the first of those of the numbers of tickets, and where it is; or else that of the space,
         // or the first of a serial.
-        ensures fault { IfOk result (λ r. IfErr r (IsFault T.Index.MAX most_allocs bytes.now)) }
+        ensures fault { IfErr result (λ e. IfFault e (IsFault T.Index.MAX most_allocs bytes.now)) }
     {
         let header = match header_of(bytes) {
-            Err(fault) => return Ok(Err(fault)),
+            Err(fault) => return Err(ReadError::Fault(fault)),
             Ok(header) => header,
         };
         let end = 48 + 8 * header.count;
-        let space = match AllocatorOf::read_state(alloc, &bytes[end..], most_allocs)? {
-            Err(fault) => {
-                return Ok(Err(StateFault {
+        let space = match AllocatorOf::read_state(alloc, &bytes[end..], most_allocs) {
+            Err(ReadError::Memory) => return Err(ReadError::Memory),
+            Err(ReadError::Fault(fault)) => {
+                return Err(ReadError::Fault(StateFault {
                     at: end.wrapping_add(fault.at),
                     kind: StateFaultKind::Allocator(fault.kind),
                 }));
@@ -174,12 +178,12 @@ impl<T: Tables> GuardedOf<T> {
             space.max_allocs(),
         )?;
         if let Some(fault) = serial_fault(&space, &serials) {
-            return Ok(Err(fault));
+            return Err(ReadError::Fault(fault));
         }
-        Ok(Ok(GuardedOf {
+        Ok(GuardedOf {
             space,
             serials,
             realm: header.realm,
-        }))
+        })
     }
 }

@@ -22,7 +22,7 @@ impl<T: Tables> GuardedOf<T> {
     ///
     /// ```
     /// let bytes = guarded.write_state(alloc)?;
-    /// let same = Guarded::<u32>::read_state(alloc, &bytes, 131_072)?.unwrap();
+    /// let same = Guarded::<u32>::read_state(alloc, &bytes, 131_072).unwrap();
     /// assert_eq!(same.realm(), 1);
     /// ```
     pub fn write_state(&self, alloc: Global) -> Result<Vec<u8>, AllocError>

@@ -1,6 +1,7 @@
 //! Many heaps from the bytes of their state, or what is wrong with them. It makes heaps, and their index.
 ghost use Rattle.std.specs.Prelude.{ℕ, ◌≡◌, ◌↔◌, ◌+◌, ◌*◌, ◌<◌, ◌≤◌, Err, IfErr, IfOk, IsErr, IsTrue};
 ghost use Rattle.std.specs.Prelude.{Option, length};
+ghost use Rattle.offset_allocator.specs.Saving.StateFaults.{IfFault};
 ghost use Rattle.offset_guarded.specs.Guard.{Guard};
 ghost use Rattle.offset_heaps.specs.Heaps.{IsOfKind};
 ghost use Rattle.offset_heaps.specs.State.{AreNone, AreRead, IsHeader, IsHeapAdmitted, IsHeapFormed};
@@ -13,7 +14,7 @@ use crate::fresh::LARGER_LIMIT;
 use crate::limits::Limits;
 use crate::slots::Slots;
 use crate::state::{FORM, StateFault, StateFaultKind, VERSION};
-use offset_allocator::{Accesses, NodeIndex, Tables};
+use offset_allocator::{Accesses, NodeIndex, ReadError, Tables};
 use offset_guarded::GuardedOf;
 use offset_guarded::laws::a_state_is_read_back;
 use offset_guarded::numbers::{checksum, number};
@@ -126,8 +127,9 @@ fn read_heap<T: Tables>(
     if bytes.len() == 0 {
         return Ok(Ok(None));
     }
-    let heap = match GuardedOf::read_state(alloc, bytes, most_allocs)? {
-        Err(fault) => {
+    let heap = match GuardedOf::read_state(alloc, bytes, most_allocs) {
+        Err(ReadError::Memory) => return Err(AllocError),
+        Err(ReadError::Fault(fault)) => {
             return Ok(Err(StateFault {
                 at: fault.at,
                 kind: StateFaultKind::Heap(fault.kind),
@@ -205,7 +207,7 @@ fn read_slots<T: Tables>(
 
 impl<T: Tables> HeapsOf<T> {
     /// The heaps of these bytes, which `write_state` has made, or what is wrong with them, and where: any
-    /// bytes are read. They have the same limits, realm and heaps, by number, as those that were written: so
+    /// bytes are taken. They have the same limits, realm and heaps, by number, as those that were written: so
     /// each place that was live there is live here, with its range, and no other is. The index is made again.
     /// Make the buffer of each number that has a heap, of the size that `heap` says.
     ///
@@ -220,12 +222,13 @@ impl<T: Tables> HeapsOf<T> {
     ///
     /// # Errors
     ///
-    /// An error is returned only where an allocation failed; then nothing is made.
+    /// `ReadError::Fault` is returned exactly where the bytes are those of no state that is accepted, unless
+    /// an allocation failed before that was known, which is `ReadError::Memory`. Then nothing is made.
     ///
     /// ```
     /// let mesh = heaps.allocate(300).unwrap().place;
     /// let bytes = heaps.write_state(alloc)?;
-    /// let same = Heaps::<u32>::read_state(alloc, &bytes, 100, 1000)?.unwrap();
+    /// let same = Heaps::<u32>::read_state(alloc, &bytes, 100, 1000).unwrap();
     /// assert!(same.is_live(mesh));
     /// ```
     pub fn read_state(
@@ -233,32 +236,33 @@ impl<T: Tables> HeapsOf<T> {
         bytes: &[u8],
         most_heaps: u32,
         most_allocs: u32,
-    ) -> Result<Result<Self, StateFault>, AllocError>
+    ) -> Result<Self, ReadError<StateFault>>
         // Where it returns heaps, the bytes are those of a state of them.
-        ensures read { IfOk result (λ r. IfOk r (IsRestored bytes.now T.Index.MAX most_heaps most_allocs)) }
-        ensures formed { IfOk result (λ r. IfOk r IsWellFormed) }
+        ensures read { IfOk result (IsRestored bytes.now T.Index.MAX most_heaps most_allocs) }
+        ensures formed { IfOk result IsWellFormed }
         // Where it returns a fault, they are those of none that are admitted.
-        ensures refused { IfOk result (λ r. IsErr r
-            → IsNoState T.Index.MAX most_heaps most_allocs bytes.now) }
+        ensures refused { IfErr result
+            (λ e. IfFault e (λ _. IsNoState T.Index.MAX most_heaps most_allocs bytes.now)) }
         // A fault is the first, and where it is: of the numbers, of where the states of all heaps begin and
         // end, or of the first heap that is wrong.
-        ensures fault { IfOk result (λ r. IfErr r (IsFault T.Index.MAX most_heaps most_allocs bytes.now)) }
+        ensures fault { IfErr result
+            (λ e. IfFault e (IsFault T.Index.MAX most_heaps most_allocs bytes.now)) }
     {
         let header = match header_of::<T>(bytes, most_heaps, most_allocs) {
-            Err(fault) => return Ok(Err(fault)),
+            Err(fault) => return Err(ReadError::Fault(fault)),
             Ok(header) => header,
         };
         let limits = header.limits;
         let count = limits.most + limits.most_larger;
         let states = &bytes[80 + 8 * count as usize..];
         if number(bytes, 8) != 0 {
-            return Ok(Err(StateFault {
+            return Err(ReadError::Fault(StateFault {
                 at: 64,
                 kind: StateFaultKind::Place,
             }));
         }
         if number(bytes, 8 + count as usize) != states.len() as u64 {
-            return Ok(Err(StateFault {
+            return Err(ReadError::Fault(StateFault {
                 at: 64 + 8 * count as usize,
                 kind: StateFaultKind::Place,
             }));
@@ -272,11 +276,11 @@ impl<T: Tables> HeapsOf<T> {
             header.made,
             most_allocs,
         )? {
-            Err(fault) => return Ok(Err(fault)),
+            Err(fault) => return Err(ReadError::Fault(fault)),
             Ok(slots) => slots,
         };
         let index = index_of(alloc, &slots, limits)?;
-        Ok(Ok(HeapsOf {
+        Ok(HeapsOf {
             alloc,
             slots,
             index,
@@ -284,6 +288,6 @@ impl<T: Tables> HeapsOf<T> {
             made: header.made,
             realm: header.realm,
             accesses: Accesses::new(),
-        }))
+        })
     }
 }

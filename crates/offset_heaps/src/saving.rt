@@ -59,7 +59,7 @@ impl<T: Tables> HeapsOf<T> {
     ///
     /// ```
     /// let bytes = heaps.write_state(alloc)?;
-    /// let same = Heaps::<u32>::read_state(alloc, &bytes, 100, 1000)?.unwrap();
+    /// let same = Heaps::<u32>::read_state(alloc, &bytes, 100, 1000).unwrap();
     /// assert_eq!(same.limits(), heaps.limits());
     /// ```
     pub fn write_state(&self, alloc: Global) -> Result<Vec<u8>, AllocError>

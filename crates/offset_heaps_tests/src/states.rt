@@ -2,7 +2,7 @@
 //! that were read or copied.
 
 use crate::asserts::{assert_same, assert_that};
-use offset_allocator::{ByField, ByNode, Tables};
+use offset_allocator::{ByField, ByNode, ReadError, Tables};
 use offset_guarded::StateFaultKind as HeapFault;
 use offset_heaps::StateFaultKind::{
     Checksum, Counts, Form, Heap, Length, Limits as OfLimits, Place as OfPlace, Realm, Size,
@@ -183,8 +183,11 @@ fn state_of(rt: &impl Abort, alloc: Global, numbers: &[u64], start: u64) -> Vec<
 fn expect_faults<T: Tables>(rt: &impl Abort, alloc: Global) {
     for case in &CASES {
         let bytes = state_of(rt, alloc, case.numbers, case.start);
-        match HeapsOf::<T>::read_state(alloc, &bytes, 40, 5).expect(rt, "memory") {
-            Err(StateFault { at, kind }) => assert_same(rt, &Some((at, kind)), &case.fault),
+        match HeapsOf::<T>::read_state(alloc, &bytes, 40, 5) {
+            Err(ReadError::Memory) => assert_that(rt, false),
+            Err(ReadError::Fault(StateFault { at, kind })) => {
+                assert_same(rt, &Some((at, kind)), &case.fault)
+            }
             Ok(heaps) => {
                 assert_same(rt, &None, &case.fault);
                 let written = heaps.write_state(alloc).expect(rt, "memory");
@@ -218,7 +221,7 @@ fn expect_state<T: Tables>(rt: &impl Abort, alloc: Global, heaps: &mut HeapsOf<T
     assert_same(rt, &written.as_slice(), &bytes.as_slice());
     let mut copy = heaps.try_clone(alloc).expect(rt, "memory");
     expect_place(rt, &mut copy, granted.place);
-    match HeapsOf::<T>::read_state(alloc, &bytes, 2, 4).expect(rt, "memory") {
+    match HeapsOf::<T>::read_state(alloc, &bytes, 2, 4) {
         Err(_) => assert_that(rt, false),
         Ok(read) => {
             let mut read = read;

@@ -89,7 +89,7 @@ fn why_extend<T: Tables>(space: &AllocatorOf<T>, more: u32) -> Reason
 
 // What the call asked for and why it was refused; `None` for a command that is never refused.
 fn refused_call<T: Tables>(space: &AllocatorOf<T>, call: usize, command: Command) -> Option<Refused>
-    requires power { IsTrue (has_valid_alignment command) }
+    requires alignment { IsTrue (has_valid_alignment command) }
     requires refuses { IsRefusedBy space.now command }
     ensures { option_to_list result ≡ refused_call call command (numbers_of_view space.now) }
 {
@@ -116,7 +116,7 @@ pub fn note<T: Tables>(
     command: Command,
     answer: &Answer,
 ) -> Result<(), AllocError>
-    requires power { IsTrue (has_valid_alignment command) }
+    requires alignment { IsTrue (has_valid_alignment command) }
     requires refuses { is_refusal (answer_view answer.now) ≡ true → IsRefusedBy space.now command }
     ensures { OnOk result (refused.new.items ≡ refused.old.items
         ++ (if is_refusal (answer_view answer.now)

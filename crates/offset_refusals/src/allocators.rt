@@ -3,7 +3,7 @@
 use crate::layouts::{Kept, Work};
 use crate::numbers::{Cells, put, put_answers, put_report};
 use crate::outcomes::Failure;
-use offset_allocator::{AllocatorOf, NodeIndex, Tables};
+use offset_allocator::{AllocatorOf, NodeIndex, ReadError, Tables};
 use offset_script::{Script, play_of};
 use offset_test_base::mixed::mixed_calls;
 use std::alloc::Global;
@@ -97,7 +97,11 @@ impl Work for MakeAndStore {
         let copy = allocator.try_clone(alloc)?;
         let larger = raised(alloc, &allocator)?;
         let bytes = allocator.write_state(alloc)?;
-        let read = AllocatorOf::<T>::read_state(alloc, &bytes, script.max_allocs)?;
+        let read = match AllocatorOf::<T>::read_state(alloc, &bytes, script.max_allocs) {
+            Err(ReadError::Memory) => return Err(Failure::OutOfMemory),
+            Err(ReadError::Fault(fault)) => Err(fault),
+            Ok(read) => Ok(read),
+        };
         // nothing is put before the last request
         put(cells, sum);
         put_report_of(cells, copy);

@@ -3,7 +3,7 @@
 use crate::layouts::{Kept, Work};
 use crate::numbers::{Cells, put};
 use crate::outcomes::Failure;
-use offset_allocator::{NodeIndex, Tables};
+use offset_allocator::{NodeIndex, ReadError, Tables};
 use offset_heaps::{HeapsOf, Limits, Place, Refusal, Totals};
 use offset_script::Script;
 use offset_test_base::random::Random;
@@ -189,7 +189,11 @@ impl Work for MakeHeapsAndStore {
         let _sum = checksum(&mut heaps, &mut counts)?;
         let copy = heaps.try_clone(alloc)?;
         let bytes = heaps.write_state(alloc)?;
-        let read = HeapsOf::<T>::read_state(alloc, &bytes, 7, script.max_allocs)?;
+        let read = match HeapsOf::<T>::read_state(alloc, &bytes, 7, script.max_allocs) {
+            Err(ReadError::Memory) => return Err(Failure::OutOfMemory),
+            Err(ReadError::Fault(fault)) => Err(fault),
+            Ok(read) => Ok(read),
+        };
         // nothing is put before the last request
         put(cells, usual(&heaps));
         put_totals(cells, copy.totals());

@@ -3,7 +3,7 @@
 use crate::layouts::{Kept, Work};
 use crate::numbers::{Cells, put};
 use crate::outcomes::Failure;
-use offset_allocator::{NodeIndex, Tables};
+use offset_allocator::{NodeIndex, ReadError, Tables};
 use offset_guarded::{GuardedOf, Ticket};
 use offset_script::Script;
 use offset_test_base::random::Random;
@@ -125,7 +125,11 @@ impl Work for MakeGuardedAndStore {
         let mut space = GuardedOf::<T>::with_max_allocs(alloc, script.size, limit, 1)?;
         let sum = checksum(&mut space);
         let bytes = space.write_state(alloc)?;
-        let read = GuardedOf::<T>::read_state(alloc, &bytes, limit)?;
+        let read = match GuardedOf::<T>::read_state(alloc, &bytes, limit) {
+            Err(ReadError::Memory) => return Err(Failure::OutOfMemory),
+            Err(ReadError::Fault(fault)) => Err(fault),
+            Ok(read) => Ok(read),
+        };
         // nothing is put before the last request
         put(cells, sum);
         put(cells, bytes.len() as u64);

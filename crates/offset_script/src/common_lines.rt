@@ -136,7 +136,7 @@ pub fn read_common(lines: &mut Lines, commands: &mut Vec<Command>) -> Result<(),
     ensures read { IfOk result (λ _. ReadsCommands
         (significant_from lines.old.number lines.old.rest.now) commands.old.items
         (significant_from lines.new.number lines.new.rest.now) commands.new.items) }
-    ensures powers { IfOk result (λ _. All (λ c. IsTrue (has_valid_alignment c)) commands.old.items
+    ensures alignments { IfOk result (λ _. All (λ c. IsTrue (has_valid_alignment c)) commands.old.items
         → All (λ c. IsTrue (has_valid_alignment c)) commands.new.items) }
     ensures shorter { length lines.new.rest.now ≤ length lines.old.rest.now }
 {

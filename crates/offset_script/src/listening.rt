@@ -21,11 +21,11 @@ pub trait Listener: Drop {
     ghost played: { Command → Command };
 
     /// Returns the command that is played in place of this one. A picture, for one, needs no full reports,
-    /// and has a short one played in their place. The alignment of either is a power of two.
+    /// and has a short one played in their place. The alignment of either is at least 1.
     fn played(command: Command) -> Command
         requires { IsTrue (has_valid_alignment command) }
         ensures command { result ≡ played command }
-        ensures power { IsTrue (has_valid_alignment result) };
+        ensures alignment { IsTrue (has_valid_alignment result) };
 
     /// Returns a listener that has heard nothing, at the space before the first of this number of commands.
     ///
@@ -51,7 +51,7 @@ pub trait Listener: Drop {
         command: Command,
         answer: Answer,
     ) -> Result<(), AllocError>
-        requires power { IsTrue (has_valid_alignment command) }
+        requires alignment { IsTrue (has_valid_alignment command) }
         // A named step of the allocator gave this answer, and in some state the plain machine gives it too,
         // and leaves what the space shows.
         requires told { (s : State) × IsTold command s space.now (answer_view answer) }

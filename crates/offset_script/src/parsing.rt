@@ -19,7 +19,7 @@ pub const MAX_TEXT: usize = 1_048_576;
 // The command of one word.
 fn one_word_command(name: &[u8]) -> Option<Command>
     ensures command { result ≡ one_word_command name.now }
-    ensures power { IfSome result (λ c. IsTrue (has_valid_alignment c)) }
+    ensures alignment { IfSome result (λ c. IsTrue (has_valid_alignment c)) }
 {
     if name == b"report".as_slice() {
         Some(Command::Report)
@@ -35,7 +35,7 @@ fn one_word_command(name: &[u8]) -> Option<Command>
 // The command of a word and a number.
 fn number_command(name: &[u8], n: u32) -> Option<Command>
     ensures command { result ≡ number_command name.now n }
-    ensures power { IfSome result (λ c. IsTrue (has_valid_alignment c)) }
+    ensures alignment { IfSome result (λ c. IsTrue (has_valid_alignment c)) }
 {
     if name == b"alloc".as_slice() {
         Some(Command::Alloc(n))
@@ -54,7 +54,7 @@ fn number_command(name: &[u8], n: u32) -> Option<Command>
 #[tactic(auto, using(crate::proofs::Numbers::power_some))]
 fn pair_command(name: &[u8], n: u32, a: u32) -> Option<Command>
     ensures command { result ≡ pair_command name.now n a }
-    ensures power { IfSome result (λ c. IsTrue (has_valid_alignment c)) }
+    ensures alignment { IfSome result (λ c. IsTrue (has_valid_alignment c)) }
 {
     if name == b"align".as_slice() && a.is_power_of_two() {
         Some(Command::Align(n, a))
@@ -67,7 +67,7 @@ fn pair_command(name: &[u8], n: u32, a: u32) -> Option<Command>
 #[tactic(auto, using(crate::proofs::FirstLine::four_words), unfolding(crate::specs::Grammar::command_of_words))]
 fn command(line: &[u8]) -> Option<Command>
     ensures command { result ≡ command_of line.now }
-    ensures power { IfSome result (λ c. IsTrue (has_valid_alignment c)) }
+    ensures alignment { IfSome result (λ c. IsTrue (has_valid_alignment c)) }
 {
     let (name, rest) = split_once(line, b' ');
     let Some(rest) = rest else {

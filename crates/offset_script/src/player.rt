@@ -189,7 +189,7 @@ impl<T: Tables> PlayerOf<T> {
 
     // The answer to `align`.
     fn allocate_aligned(&mut self, size: u32, align: u32) -> Result<Answer, AllocError>
-        requires power { IsTrue (has_valid_alignment (Command.Align size align)) }
+        requires alignment { IsTrue (has_valid_alignment (Command.Align size align)) }
         requires held { AreHeld self.old.space self.old.handles.items }
         ensures takes { IfOk result (λ a. Takes (Command.Align size align) self.old.space self.old.handles.items
             self.new.space self.new.handles.items (answer_view a)) }
@@ -216,7 +216,7 @@ impl<T: Tables> PlayerOf<T> {
         }
     }
 
-    /// Carries out one command, and returns its answer. The alignment of a request has to be a power of two.
+    /// Carries out one command, and returns its answer. The alignment of a request has to be at least 1.
     /// Each handle that is kept has to be live, and no two may have one name: so it is in a player that
     /// `start` made, and after each `call` and each `keep`.
     ///
@@ -231,7 +231,7 @@ impl<T: Tables> PlayerOf<T> {
     /// ```
     pub fn call(&mut self, alloc: Global, command: Command) -> Result<Answer, AllocError>
         requires held { AreHeld self.old.space self.old.handles.items }
-        requires power { IsTrue (has_valid_alignment command) }
+        requires alignment { IsTrue (has_valid_alignment command) }
         // The step of the command, with its answer.
         ensures takes { IfOk result (λ a. Takes command self.old.space self.old.handles.items
             self.new.space self.new.handles.items (answer_view a)) }

@@ -19,7 +19,7 @@ use std::alloc::{AllocError, Global};
 /// Plays commands on an allocator of `size` units with the node limit `max_allocs`, drops its space, and
 /// returns the listener that has heard them.
 ///
-/// The limit has to be 2 to `T::Index::MAX - 2`, and each alignment a power of two.
+/// The limit has to be 2 to `T::Index::MAX - 2`, and each alignment at least 1.
 ///
 /// # Errors
 ///
@@ -33,7 +33,7 @@ pub(crate) fn play_to<T: Tables, L: Listener>(
 ) -> Result<L, AllocError>
     requires low { 2 ≤ max_allocs }
     requires high { max_allocs + 1 < T.Index.MAX }
-    requires powers { All (λ c. IsTrue (has_valid_alignment c)) commands.now }
+    requires alignments { All (λ c. IsTrue (has_valid_alignment c)) commands.now }
     // It has heard the commands that are played in place of these, from one free block of `size` units.
     ensures heard { IfOk result (λ l. L.Heard l (start size max_allocs) (map L.played commands.now)) }
     // The answers of the plain machine to them are those of the allocator's named steps, one after the other.
@@ -116,7 +116,7 @@ impl Listener for Vec<Answer> {
 /// Plays commands on an allocator of `size` units with the node limit `max_allocs`, and returns their answers
 /// in order, one for each.
 ///
-/// The limit has to be 2 to `T::Index::MAX - 2`, and each alignment a power of two. All answers are kept in
+/// The limit has to be 2 to `T::Index::MAX - 2`, and each alignment at least 1. All answers are kept in
 /// memory. It fails only where an allocation fails: of the allocator's tables, of the list of handles, or of
 /// the answers.
 ///
@@ -134,8 +134,8 @@ pub fn play_of<T: Tables>(
     requires low { 2 ≤ max_allocs }
     // The index type admits the node limit.
     requires high { max_allocs + 1 < T.Index.MAX }
-    // Each alignment is a power of two.
-    requires powers { All (λ c. IsTrue (has_valid_alignment c)) commands.now }
+    // Each alignment is at least 1.
+    requires alignments { All (λ c. IsTrue (has_valid_alignment c)) commands.now }
     // The answers are those of the plain machine to these commands, from one free block of `size` units. They
     // are also those of the allocator's named steps, one after the other, and three laws on histories hold of
     // them.
@@ -158,7 +158,7 @@ pub fn play<NI: NodeIndex>(
 ) -> Result<Vec<Answer>, AllocError>
     requires low { 2 ≤ max_allocs }
     requires high { max_allocs + 1 < NI.MAX }
-    requires powers { All (λ c. IsTrue (has_valid_alignment c)) commands.now }
+    requires alignments { All (λ c. IsTrue (has_valid_alignment c)) commands.now }
     ensures { IfOk result (λ found. AreAnswers size max_allocs commands.now (map answer_view found.items)) }
 {
     play_of::<ByNode<NI>>(alloc, size, max_allocs, commands)

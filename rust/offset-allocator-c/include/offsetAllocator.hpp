@@ -693,6 +693,24 @@ inline bool copyInPieces(Move range, uint32 most, F &&copy) {
 // The smallest size of a fresh space that grants a request of this size; 0 above 4026531840.
 inline uint32 minAllocatorSize(uint32 size) { return oa_min_allocator_size(size); }
 
+// How units of a space are bytes: a unit has `unit` bytes, and the first begins at the address `base`. Each number is there
+// where `fits`; when it does not, oa_scale_units says.
+struct Scale {
+    uint64_t base;
+    uint64_t unit;
+
+    using Scaled = oa_scaled;
+
+    // The fewest units that hold so many bytes.
+    Scaled unitsOf(uint64_t bytes) const { return oa_scale_units({base, unit}, bytes); }
+    Scaled bytesOf(uint32 units) const { return oa_scale_bytes({base, unit}, units); }
+    Scaled addressOf(uint32 offset) const { return oa_scale_address({base, unit}, offset); }
+    // The offset of the unit that has the byte at an address.
+    Scaled offsetAt(uint64_t address) const { return oa_scale_offset({base, unit}, address); }
+    // The alignment, in units, of the offsets whose addresses are multiples of so many bytes.
+    Scaled alignOf(uint64_t bytes) const { return oa_scale_align({base, unit}, bytes); }
+};
+
 // The size classes, by the names of the original.
 namespace SmallFloat {
 inline uint32 uintToFloatRoundUp(uint32 size) { return oa_uint_to_float_round_up(size); }

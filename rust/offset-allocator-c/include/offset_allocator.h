@@ -152,7 +152,7 @@ typedef enum oa_found {
     OA_BAD_LENGTH = 2,     /* They are not as many as their counts say, or no multiple of 4. */
     OA_BAD_FORM = 3,       /* They do not begin as a state does, or are of another version. */
     OA_BAD_LIMIT = 4,      /* The node limit is above the one that is admitted. */
-    OA_BAD_COUNTS = 5,     /* No block, or more blocks and unused nodes than the node limit admits. */
+    OA_BAD_COUNTS = 5,     /* No block, or more blocks and unused nodes, or live ranges, than the node limit admits. */
     OA_BAD_CHECKSUM = 6,
     OA_BAD_BLOCK = 7,      /* A block with a wrong name, or the sizes are not that of the space. */
     OA_BAD_UNUSED = 8,     /* An unused name that is wrong, or listed twice. */
@@ -395,7 +395,7 @@ oa_reason oa_refusal(const oa_allocator *space, uint32_t size);
 oa_reason oa_refusal_aligned(const oa_allocator *space, uint32_t size, uint32_t align);
 
 /* Why oa_allocate_tight and oa_allocate_tight_aligned would be refused now. OA_TOO_LARGE: the space has fewer units.
- * OA_SPACE: so are all free units, or there are none. OA_FRAGMENTED: they are enough, but no free block holds the request;
+ * OA_SPACE: all free units together are fewer, or none is free. OA_FRAGMENTED: they are enough, but no free block holds it;
  * after oa_compact a request without alignment is granted. Cost: 2 accesses, and 6 for each free block of the class of
  * `size` or above. */
 oa_reason oa_refusal_tight(const oa_allocator *space, uint32_t size);
@@ -417,6 +417,30 @@ oa_room oa_room_cost_by(const oa_allocator *space, uint32_t size, uint32_t align
 
 /* The smallest size of a fresh space that grants a request of this size; 0 above 4026531840, where none does. */
 uint32_t oa_min_allocator_size(uint32_t size);
+
+/* How units of a space are bytes of something larger: each unit has `unit` bytes, and the first begins at the address `base`,
+ * both of 64 bits. So a space stands for addresses of a device, or for a heap of more than 4 GiB. */
+typedef struct oa_scale {
+    uint64_t base;
+    uint64_t unit;
+} oa_scale;
+
+/* A number, where `fits`; else 0. */
+typedef struct oa_scaled {
+    bool fits;
+    uint64_t value;
+} oa_scaled;
+
+/* The fewest units that hold so many bytes; the bytes of units; the address at which the unit of an offset begins; the offset
+ * of the unit that has the byte at an address; and the alignment in units of the offsets whose addresses are multiples of so
+ * many bytes: exactly these are multiples of it. None fits where the number would have more than 32 bits, or 64 of bytes and
+ * addresses; where the address is before the base; of an alignment where it is 0, where the base is no multiple of it, and
+ * where neither of it and the unit is a multiple of the other; with a unit of 0 only bytes and addresses do. Nothing is read. */
+oa_scaled oa_scale_units(oa_scale scale, uint64_t bytes);
+oa_scaled oa_scale_bytes(oa_scale scale, uint32_t units);
+oa_scaled oa_scale_address(oa_scale scale, uint32_t offset);
+oa_scaled oa_scale_offset(oa_scale scale, uint64_t address);
+oa_scaled oa_scale_align(oa_scale scale, uint64_t bytes);
 
 /* The size classes of the original's SmallFloat: the smallest class whose value is at least `size` (240, which no block
  * has, above 4026531840), the largest whose value is at most `size`, and the value of a class: of those from 240 on the

@@ -1,6 +1,6 @@
 //! The C interface of `offset-allocator-heaps`. `include/offset_allocator_heaps.h` documents each function.
 
-use offset_allocator_heaps::{memory, AllocError, Global, Granted, Heaps, Limits, Place, Refusal, StateFaultKind, Ticket};
+use offset_allocator_heaps::{memory, AllocError, Global, Granted, Heaps, Limits, Place, ReadError, Refusal, StateFaultKind, Ticket};
 use offset_allocator_proved::json_of;
 
 use crate::{boxed, guarded_fault, short, text, totals, Found, Guard, Report, State, Text, Totals, NO_REPORT, NO_SPACE, NO_TICKET};
@@ -115,12 +115,12 @@ fn fault(kind: StateFaultKind) -> Found {
 fn read(state: &[u8], most_heaps: u32, most_allocs: u32) -> HeapsRead {
     let lost = |found, at| HeapsRead { heaps: None, found, at };
     match Heaps::read_state(Global, state, most_heaps, most_allocs) {
-        Err(_) => lost(Found::OutOfMemory, 0),
-        Ok(Ok(heaps)) => match boxed(heaps) {
+        Err(ReadError::Memory) => lost(Found::OutOfMemory, 0),
+        Err(ReadError::Fault(wrong)) => lost(fault(wrong.kind), wrong.at),
+        Ok(heaps) => match boxed(heaps) {
             None => lost(Found::OutOfMemory, 0),
             heaps => HeapsRead { heaps, found: Found::Space, at: state.len() },
         },
-        Ok(Err(wrong)) => lost(fault(wrong.kind), wrong.at),
     }
 }
 
@@ -134,7 +134,7 @@ fn json(heaps: &Heaps) -> Result<memory::String, AllocError> {
     let mut comma = "";
     for number in 0..most + most_larger {
         if let Some(heap) = heaps.heap(number) {
-            write!(text, "{comma}{{\"number\":{number},\"space\":{}}}", json_of(heap.allocator(), Global)?)?;
+            write!(text, "{comma}{{\"number\":{number},\"space\":{}}}", json_of(Global, heap.allocator())?)?;
             comma = ",";
         }
     }

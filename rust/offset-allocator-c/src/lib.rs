@@ -15,7 +15,7 @@ use offset_allocator_proved::ext::min_allocator_size;
 use offset_allocator_proved::small_float::{float_to_uint, uint_to_float_round_down, uint_to_float_round_up};
 use offset_allocator_proved::{
     json_of, memory, vma_json_of, AllocError, Allocation, Allocator, AllocatorOf, Global, Move, MovePieces, Piece, Progress,
-    Refusal, RoomCost, StateFaultKind, Tables,
+    ReadError, Refusal, RoomCost, Scale, StateFaultKind, Tables,
 };
 
 /// The value of a missing offset or name.
@@ -49,6 +49,32 @@ pub struct Handle {
 pub struct Report {
     total_free_space: u32,
     largest_free_region: u32,
+}
+
+/// How units are bytes: those of a unit, and the address of the first one.
+#[repr(C)]
+#[derive(Clone, Copy)]
+pub struct Scaling {
+    base: u64,
+    unit: u64,
+}
+
+impl Scaling {
+    fn scale(self) -> Scale {
+        Scale { base: self.base, unit: self.unit }
+    }
+}
+
+/// A number, where there is one.
+#[repr(C)]
+#[derive(Default)]
+pub struct Scaled {
+    fits: bool,
+    value: u64,
+}
+
+fn scaled(value: Option<impl Into<u64>>) -> Scaled {
+    value.map_or(Scaled::default(), |it| Scaled { fits: true, value: it.into() })
 }
 
 /// What is live and what is free.
@@ -317,24 +343,24 @@ fn guarded_fault(kind: offset_allocator_guarded::StateFaultKind) -> Found {
 fn read(state: &[u8], most_allocs: u32) -> Read {
     let lost = |found, at| Read { space: None, found, at };
     match Allocator::read_state(Global, state, most_allocs) {
-        Err(_) => lost(Found::OutOfMemory, 0),
-        Ok(Ok(space)) => match boxed(space) {
+        Err(ReadError::Memory) => lost(Found::OutOfMemory, 0),
+        Err(ReadError::Fault(wrong)) => lost(fault(wrong.kind), wrong.at),
+        Ok(space) => match boxed(space) {
             None => lost(Found::OutOfMemory, 0),
             space => Read { space, found: Found::Space, at: state.len() },
         },
-        Ok(Err(wrong)) => lost(fault(wrong.kind), wrong.at),
     }
 }
 
 fn guarded_read(state: &[u8], most_allocs: u32) -> GuardedRead {
     let lost = |found, at| GuardedRead { space: None, found, at };
     match Guarded::read_state(Global, state, most_allocs) {
-        Err(_) => lost(Found::OutOfMemory, 0),
-        Ok(Ok(space)) => match boxed(space) {
+        Err(ReadError::Memory) => lost(Found::OutOfMemory, 0),
+        Err(ReadError::Fault(wrong)) => lost(guarded_fault(wrong.kind), wrong.at),
+        Ok(space) => match boxed(space) {
             None => lost(Found::OutOfMemory, 0),
             space => GuardedRead { space, found: Found::Space, at: state.len() },
         },
-        Ok(Err(wrong)) => lost(guarded_fault(wrong.kind), wrong.at),
     }
 }
 
@@ -646,6 +672,16 @@ exports! {
         if size <= 4_026_531_840 { min_allocator_size(size) } else { 0 }
     } else 0;
 
+    fn oa_scale_units(scale: Scaling, bytes: u64) -> Scaled { scaled(scale.scale().units_of(bytes)) } else Scaled::default();
+
+    fn oa_scale_bytes(scale: Scaling, units: u32) -> Scaled { scaled(scale.scale().bytes_of(units)) } else Scaled::default();
+
+    fn oa_scale_address(scale: Scaling, offset: u32) -> Scaled { scaled(scale.scale().address_of(offset)) } else Scaled::default();
+
+    fn oa_scale_offset(scale: Scaling, address: u64) -> Scaled { scaled(scale.scale().offset_at(address)) } else Scaled::default();
+
+    fn oa_scale_align(scale: Scaling, bytes: u64) -> Scaled { scaled(scale.scale().align_of(bytes)) } else Scaled::default();
+
     fn oa_uint_to_float_round_up(size: u32) -> u32 { uint_to_float_round_up(size) } else 0;
 
     fn oa_uint_to_float_round_down(size: u32) -> u32 { uint_to_float_round_down(size) } else 0;
@@ -668,9 +704,9 @@ exports! {
 
     fn oa_blocks_drop(blocks: Option<Box<Blocks>>) -> () { drop(blocks) } else ();
 
-    fn oa_json([space: &Space],) -> Option<Box<Text>> { text(json_of(space, Global)) } else None;
+    fn oa_json([space: &Space],) -> Option<Box<Text>> { text(json_of(Global, space)) } else None;
 
-    fn oa_vma_json([space: &Space],) -> Option<Box<Text>> { text(vma_json_of(space, Global)) } else None;
+    fn oa_vma_json([space: &Space],) -> Option<Box<Text>> { text(vma_json_of(Global, space)) } else None;
 
     fn oa_text_bytes([text: &Text],) -> *const c_char { text.as_ptr().cast() } else null();
 
@@ -871,9 +907,9 @@ exports! {
 
     fn oag_blocks_new([space: &GuardedSpace],) -> Option<Box<Blocks>> { listed(space.allocator()) } else None;
 
-    fn oag_json([space: &GuardedSpace],) -> Option<Box<Text>> { text(json_of(space.allocator(), Global)) } else None;
+    fn oag_json([space: &GuardedSpace],) -> Option<Box<Text>> { text(json_of(Global, space.allocator())) } else None;
 
-    fn oag_vma_json([space: &GuardedSpace],) -> Option<Box<Text>> { text(vma_json_of(space.allocator(), Global)) } else None;
+    fn oag_vma_json([space: &GuardedSpace],) -> Option<Box<Text>> { text(vma_json_of(Global, space.allocator())) } else None;
 
     fn oag_storage_report([space: &GuardedSpace],) -> Report { short(space.allocator()) } else NO_REPORT;
 

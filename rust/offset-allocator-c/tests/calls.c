@@ -205,6 +205,33 @@ static void reasons(void) {
     oa_drop(space);
 }
 
+static bool is(oa_scaled found, uint64_t value) { return found.fits && found.value == value; }
+
+static bool is_none(oa_scaled found) { return !found.fits && found.value == 0; }
+
+/* units of 256 bytes from an address of 64 bits on, each number by hand */
+static void scales(void) {
+    oa_scale scale = {UINT64_C(1) << 40, 256}, all = {0, 1}, none = {16, 0}, stride = {4800, 12};
+    CHECK(is(oa_scale_units(scale, 0), 0) && is(oa_scale_units(scale, 1), 1) && is(oa_scale_units(scale, 256), 1));
+    CHECK(is(oa_scale_units(scale, 257), 2) && is(oa_scale_units(scale, UINT64_C(1099511627520)), 4294967295u));
+    CHECK(is_none(oa_scale_units(scale, UINT64_C(1099511627521))) && is_none(oa_scale_units(none, 0)));
+    CHECK(is(oa_scale_bytes(scale, 4294967295u), UINT64_C(1099511627520)) && is(oa_scale_bytes(none, 7), 0));
+    scale.unit = UINT64_C(1) << 60;
+    CHECK(is(oa_scale_bytes(scale, 15), UINT64_C(15) << 60) && is_none(oa_scale_bytes(scale, 16)));
+    scale.unit = 256;
+    CHECK(is(oa_scale_address(scale, 3), (UINT64_C(1) << 40) + 768) && is(oa_scale_address(none, 9), 16));
+    scale.base = UINT64_MAX - 255;
+    CHECK(is(oa_scale_address(scale, 0), UINT64_MAX - 255) && is_none(oa_scale_address(scale, 1)));
+    scale.base = 4096;
+    CHECK(is(oa_scale_offset(scale, 4096), 0) && is(oa_scale_offset(scale, 5119), 3) && is(oa_scale_offset(scale, 5120), 4));
+    CHECK(is_none(oa_scale_offset(scale, 4095)) && is_none(oa_scale_offset(none, 16)));
+    CHECK(is(oa_scale_offset(all, 4294967295u), 4294967295u) && is_none(oa_scale_offset(all, UINT64_C(4294967296))));
+    CHECK(is(oa_scale_align(scale, 16), 1) && is(oa_scale_align(scale, 256), 1) && is(oa_scale_align(scale, 4096), 16));
+    CHECK(is_none(oa_scale_align(scale, 0)) && is_none(oa_scale_align(scale, 8192)) && is_none(oa_scale_align(none, 16)));
+    /* 48 is 4 of 12, 16 is no multiple of 12, and of 4800 bytes 36 is none */
+    CHECK(is(oa_scale_align(stride, 48), 4) && is_none(oa_scale_align(stride, 16)) && is_none(oa_scale_align(stride, 36)));
+}
+
 struct copied { unsigned char bytes[100]; int moves; oa_allocation last; };
 
 static void copy(void *user, oa_move range) {
@@ -662,6 +689,7 @@ int main(void) {
     tight();
     aligned();
     places();
+    scales();
     resizes();
     reasons();
     compacts();

@@ -197,6 +197,13 @@ static void minSize() {
     CHECK(minAllocatorSize(4026531841u) == 0);
 }
 
+static void scales() {
+    Scale scale{4096, 256};
+    CHECK(scale.unitsOf(257).fits && scale.unitsOf(257).value == 2 && scale.bytesOf(3).value == 768);
+    CHECK(scale.addressOf(3).value == 4864 && scale.offsetAt(5119).value == 3 && !scale.offsetAt(4095).fits);
+    CHECK(scale.alignOf(4096).value == 16 && !scale.alignOf(8192).fits);
+}
+
 // What the class has.
 static void surface() {
     static_assert(!std::is_copy_constructible<Allocator>::value && !std::is_copy_assignable<Allocator>::value, "");
@@ -537,6 +544,7 @@ int main() {
     reuseComplex();
     zeroFragmentation();
     minSize();
+    scales();
     sideTable();
     relocateToAMultiple();
     emptyTheEnd();

@@ -44,6 +44,7 @@ mod state;
 mod ticket;
 
 use offset_allocator::{Allocation, AllocatorOf, ByNode, NodeIndex, Tables};
+pub use offset_allocator::ReadError;
 pub use refusal::Refusal;
 use serials::Serials;
 pub use state::{StateFault, StateFaultKind};

@@ -6,8 +6,8 @@ use crate::GuardedOf;
 use crate::numbers::{checksum, number};
 use crate::serials::Serials;
 use crate::state::{FORM, StateFault, StateFaultKind, VERSION};
-use offset_allocator::{Allocation, AllocatorOf, Tables};
-use crate::memory::{AllocError, Global};
+use offset_allocator::{Allocation, AllocatorOf, ReadError, Tables};
+use crate::memory::Global;
 
 // What the numbers before the serials say.
 pub(crate) struct Header {
@@ -90,7 +90,7 @@ fn serial_fault<T: Tables>(space: &AllocatorOf<T>, serials: &Serials) -> Option<
 
 impl<T: Tables> GuardedOf<T> {
     /// The guarded allocator of these bytes, which `write_state` has made, or what is wrong with them, and
-    /// where: any bytes are read. It has the same space, the same serials and the same realm as the one that
+    /// where: any bytes are taken. It has the same space, the same serials and the same realm as the one that
     /// was written: so each ticket that was live there is live here, with its range, and no other is.
     ///
     /// Serials go on from the number that was stored, as they do in the one that was written, and in every
@@ -104,7 +104,8 @@ impl<T: Tables> GuardedOf<T> {
     ///
     /// # Errors
     ///
-    /// An error is returned only where an allocation failed; then nothing is made.
+    /// `ReadError::Fault` is returned exactly where the bytes are those of no state that is accepted, unless
+    /// an allocation failed before that was known, which is `ReadError::Memory`. Then nothing is made.
     ///
     /// ```
     /// # use offset_allocator_guarded::*;
@@ -112,7 +113,7 @@ impl<T: Tables> GuardedOf<T> {
     /// let mut guarded = Guarded::<u32>::new(alloc, 1000, 1)?;
     /// let mesh = guarded.allocate(300).unwrap();
     /// let bytes = guarded.write_state(alloc)?;
-    /// let same = Guarded::<u32>::read_state(alloc, &bytes, 131_072)?.unwrap();
+    /// let same = Guarded::<u32>::read_state(alloc, &bytes, 131_072).unwrap();
     /// assert!(same.is_live(mesh));
     /// # Ok::<(), AllocError>(())
     /// ```
@@ -120,15 +121,16 @@ impl<T: Tables> GuardedOf<T> {
         alloc: Global,
         bytes: &[u8],
         most_allocs: u32,
-    ) -> Result<Result<Self, StateFault>, AllocError> {
+    ) -> Result<Self, ReadError<StateFault>> {
         let header = match header_of(bytes) {
-            Err(fault) => return Ok(Err(fault)),
+            Err(fault) => return Err(ReadError::Fault(fault)),
             Ok(header) => header,
         };
         let end = 48 + 8 * header.count;
-        let space = match AllocatorOf::read_state(alloc, &bytes[end..], most_allocs)? {
-            Err(fault) => {
-                return Ok(Err(StateFault {
+        let space = match AllocatorOf::read_state(alloc, &bytes[end..], most_allocs) {
+            Err(ReadError::Memory) => return Err(ReadError::Memory),
+            Err(ReadError::Fault(fault)) => {
+                return Err(ReadError::Fault(StateFault {
                     at: end.wrapping_add(fault.at),
                     kind: StateFaultKind::Allocator(fault.kind),
                 }));
@@ -142,12 +144,12 @@ impl<T: Tables> GuardedOf<T> {
             space.max_allocs(),
         )?;
         if let Some(fault) = serial_fault(&space, &serials) {
-            return Ok(Err(fault));
+            return Err(ReadError::Fault(fault));
         }
-        Ok(Ok(GuardedOf {
+        Ok(GuardedOf {
             space,
             serials,
             realm: header.realm,
-        }))
+        })
     }
 }

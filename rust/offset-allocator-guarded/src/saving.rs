@@ -26,7 +26,7 @@ impl<T: Tables> GuardedOf<T> {
     /// # let alloc = Global;
     /// let mut guarded = Guarded::<u32>::new(alloc, 1000, 1)?;
     /// let bytes = guarded.write_state(alloc)?;
-    /// let same = Guarded::<u32>::read_state(alloc, &bytes, 131_072)?.unwrap();
+    /// let same = Guarded::<u32>::read_state(alloc, &bytes, 131_072).unwrap();
     /// assert_eq!(same.realm(), 1);
     /// # Ok::<(), AllocError>(())
     /// ```

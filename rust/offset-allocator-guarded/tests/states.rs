@@ -8,9 +8,17 @@
 mod random;
 
 use offset_allocator::{ByField, ByNode, StateFaultKind as SpaceFault, Tables};
-use offset_allocator_guarded::{Global, GuardedOf, StateFault, StateFaultKind, Ticket};
+use offset_allocator_guarded::{Global, GuardedOf, ReadError, StateFault, StateFaultKind, Ticket};
 use random::Random;
 use std::collections::{BTreeMap, HashMap};
+
+// What was read, or what is wrong with the bytes: memory is not out here.
+fn known<T, F>(read: Result<T, ReadError<F>>) -> Result<T, F> {
+    read.map_err(|error| match error {
+        ReadError::Memory => panic!("memory"),
+        ReadError::Fault(fault) => fault,
+    })
+}
 
 fn count() -> u64 {
     std::env::var("STATES").map_or(200_000, |it| it.parse().expect("a number"))
@@ -108,7 +116,7 @@ fn goes_on<T: Tables<Index = u32>>(seed: u64, rounds: u64) {
         assert_eq!(numbers, [&header[..], &serials].concat());
         assert_eq!(rest, <Vec<u8>>::from(own.space.allocator().write_state(Global).unwrap()));
         assert_eq!(joined(&numbers, &rest), state);
-        let space = GuardedOf::<T>::read_state(Global, &state, own.space.allocator().max_allocs()).unwrap().unwrap();
+        let space = known(GuardedOf::<T>::read_state(Global, &state, own.space.allocator().max_allocs())).unwrap();
         assert_eq!(written(&space), state);
         let mut read = Worked { space, held: own.held.clone(), last: own.last.clone() };
         for ticket in &own.held {
@@ -194,7 +202,7 @@ fn changed_states_are_read_or_refused() {
         // as many numbers as the third says are in their place: else the checksum is that of others
         let is_counted = numbers[2] == numbers.len() as u64 - 5;
         let live: Vec<u32> = own.space.allocator().blocks().filter_map(|it| it.allocation).map(|it| it.to_parts().1).collect();
-        match GuardedOf::<ByNode<u32>>::read_state(Global, &state, 1_000).unwrap() {
+        match known(GuardedOf::<ByNode<u32>>::read_state(Global, &state, 1_000)) {
             Err(StateFault { at, kind }) => {
                 assert!(at <= state.len());
                 let wanted = fault_of(&numbers, &live, state.len());
@@ -239,7 +247,7 @@ fn changed_bytes_are_refused() {
     for _ in 0..count() / 50 {
         let own = worked::<ByNode<u32>>(&mut random);
         let mut state = written(&own.space);
-        let read = |state: &[u8]| GuardedOf::<ByNode<u32>>::read_state(Global, state, 1_000).unwrap();
+        let read = |state: &[u8]| known(GuardedOf::<ByNode<u32>>::read_state(Global, state, 1_000));
         let cut = random.below(state.len() as u32) as usize;
         let fault = read(&state[..cut]).err().unwrap();
         let tickets = 48 + 8 * parts(&state).0[2] as usize;
@@ -265,12 +273,14 @@ fn made_up_bytes_are_refused() {
         if length >= 16 && random.below(2) == 0 {
             made[..16].copy_from_slice(b"OATK\0\0\0\0\x01\0\0\0\0\0\0\0");
         }
-        assert!(GuardedOf::<ByNode<u32>>::read_state(Global, &made, u32::MAX).unwrap().is_err());
+        assert!(known(GuardedOf::<ByNode<u32>>::read_state(Global, &made, u32::MAX)).is_err());
     }
     // a node limit is no number to request memory by before the caller admits it
     let space: GuardedOf<ByNode<u32>> = GuardedOf::with_max_allocs(Global, 10, 100, 7).unwrap();
-    let fault = GuardedOf::<ByNode<u32>>::read_state(Global, &written(&space), 99).unwrap().err().unwrap();
+    let fault = known(GuardedOf::<ByNode<u32>>::read_state(Global, &written(&space), 99)).err().unwrap();
     assert_eq!((fault.at, fault.kind), (48 + 12, StateFaultKind::Allocator(SpaceFault::Limit)));
+    let error: Box<dyn std::error::Error> = fault.into();
+    assert_eq!(error.to_string(), "a node limit that is not admitted, at byte 60");
 }
 
 #[test]
@@ -279,10 +289,10 @@ fn the_last_serial_may_be_given() {
     let first = space.allocate(10).unwrap();
     let (mut numbers, rest) = parts(&written(&space));
     numbers[3] = u64::MAX;
-    let mut spent = GuardedOf::<ByNode<u32>>::read_state(Global, &joined(&numbers, &rest), 10).unwrap().unwrap();
+    let mut spent = known(GuardedOf::<ByNode<u32>>::read_state(Global, &joined(&numbers, &rest), 10)).unwrap();
     assert!(spent.is_spent() && spent.allocate(1).is_none() && spent.is_live(first) && spent.free(first));
     numbers[3] -= 1;
-    let mut last = GuardedOf::<ByNode<u32>>::read_state(Global, &joined(&numbers, &rest), 10).unwrap().unwrap();
+    let mut last = known(GuardedOf::<ByNode<u32>>::read_state(Global, &joined(&numbers, &rest), 10)).unwrap();
     assert_eq!(last.allocate(1).map(|it| it.serial), Some(u64::MAX));
     assert!(last.is_spent() && last.allocate(1).is_none());
 }

@@ -63,6 +63,7 @@ use index::Index;
 pub use limits::Limits;
 use offset_allocator::{Accesses, ByNode, Tables};
 use offset_guarded::GuardedOf;
+pub use offset_allocator::ReadError;
 pub use place::{Granted, Place};
 pub use refusal::Refusal;
 use slots::Slots;

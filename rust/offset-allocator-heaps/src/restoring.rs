@@ -8,7 +8,7 @@ use crate::fresh::LARGER_LIMIT;
 use crate::limits::Limits;
 use crate::slots::Slots;
 use crate::state::{FORM, StateFault, StateFaultKind, VERSION};
-use offset_allocator::{Accesses, NodeIndex, Tables};
+use offset_allocator::{Accesses, NodeIndex, ReadError, Tables};
 use offset_guarded::GuardedOf;
 use offset_guarded::numbers::{checksum, number};
 use crate::memory::{AllocError, Global};
@@ -105,8 +105,9 @@ fn read_heap<T: Tables>(
     if bytes.len() == 0 {
         return Ok(Ok(None));
     }
-    let heap = match GuardedOf::read_state(alloc, bytes, most_allocs)? {
-        Err(fault) => {
+    let heap = match GuardedOf::read_state(alloc, bytes, most_allocs) {
+        Err(ReadError::Memory) => return Err(AllocError),
+        Err(ReadError::Fault(fault)) => {
             return Ok(Err(StateFault {
                 at: fault.at,
                 kind: StateFaultKind::Heap(fault.kind),
@@ -174,7 +175,7 @@ fn read_slots<T: Tables>(
 
 impl<T: Tables> HeapsOf<T> {
     /// The heaps of these bytes, which `write_state` has made, or what is wrong with them, and where: any
-    /// bytes are read. They have the same limits, realm and heaps, by number, as those that were written: so
+    /// bytes are taken. They have the same limits, realm and heaps, by number, as those that were written: so
     /// each place that was live there is live here, with its range, and no other is. The index is made again.
     /// Make the buffer of each number that has a heap, of the size that `heap` says.
     ///
@@ -189,7 +190,8 @@ impl<T: Tables> HeapsOf<T> {
     ///
     /// # Errors
     ///
-    /// An error is returned only where an allocation failed; then nothing is made.
+    /// `ReadError::Fault` is returned exactly where the bytes are those of no state that is accepted, unless
+    /// an allocation failed before that was known, which is `ReadError::Memory`. Then nothing is made.
     ///
     /// ```
     /// # use offset_allocator_heaps::*;
@@ -198,7 +200,7 @@ impl<T: Tables> HeapsOf<T> {
     /// let mut heaps = Heaps::<u32>::new(alloc, limits, 1)?;
     /// let mesh = heaps.allocate(300).unwrap().place;
     /// let bytes = heaps.write_state(alloc)?;
-    /// let same = Heaps::<u32>::read_state(alloc, &bytes, 100, 1000)?.unwrap();
+    /// let same = Heaps::<u32>::read_state(alloc, &bytes, 100, 1000).unwrap();
     /// assert!(same.is_live(mesh));
     /// # Ok::<(), AllocError>(())
     /// ```
@@ -207,22 +209,22 @@ impl<T: Tables> HeapsOf<T> {
         bytes: &[u8],
         most_heaps: u32,
         most_allocs: u32,
-    ) -> Result<Result<Self, StateFault>, AllocError> {
+    ) -> Result<Self, ReadError<StateFault>> {
         let header = match header_of::<T>(bytes, most_heaps, most_allocs) {
-            Err(fault) => return Ok(Err(fault)),
+            Err(fault) => return Err(ReadError::Fault(fault)),
             Ok(header) => header,
         };
         let limits = header.limits;
         let count = limits.most + limits.most_larger;
         let states = &bytes[80 + 8 * count as usize..];
         if number(bytes, 8) != 0 {
-            return Ok(Err(StateFault {
+            return Err(ReadError::Fault(StateFault {
                 at: 64,
                 kind: StateFaultKind::Place,
             }));
         }
         if number(bytes, 8 + count as usize) != states.len() as u64 {
-            return Ok(Err(StateFault {
+            return Err(ReadError::Fault(StateFault {
                 at: 64 + 8 * count as usize,
                 kind: StateFaultKind::Place,
             }));
@@ -236,11 +238,11 @@ impl<T: Tables> HeapsOf<T> {
             header.made,
             most_allocs,
         )? {
-            Err(fault) => return Ok(Err(fault)),
+            Err(fault) => return Err(ReadError::Fault(fault)),
             Ok(slots) => slots,
         };
         let index = index_of(alloc, &slots, limits)?;
-        Ok(Ok(HeapsOf {
+        Ok(HeapsOf {
             alloc,
             slots,
             index,
@@ -248,6 +250,6 @@ impl<T: Tables> HeapsOf<T> {
             made: header.made,
             realm: header.realm,
             accesses: Accesses::new(),
-        }))
+        })
     }
 }

@@ -58,7 +58,7 @@ impl<T: Tables> HeapsOf<T> {
     /// let limits = Limits { size: 1000, max_allocs: 100, most: 2, most_larger: 1 };
     /// let mut heaps = Heaps::<u32>::new(alloc, limits, 1)?;
     /// let bytes = heaps.write_state(alloc)?;
-    /// let same = Heaps::<u32>::read_state(alloc, &bytes, 100, 1000)?.unwrap();
+    /// let same = Heaps::<u32>::read_state(alloc, &bytes, 100, 1000).unwrap();
     /// assert_eq!(same.limits(), heaps.limits());
     /// # Ok::<(), AllocError>(())
     /// ```

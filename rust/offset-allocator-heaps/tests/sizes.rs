@@ -2,7 +2,7 @@
 //! of two: no clause says when memory is out, so a body that gives up at some sizes is proved, and refused here.
 
 use offset_allocator::{AllocError, ByField, ByNode, Global, NodeIndex, Tables};
-use offset_allocator_heaps::{HeapsOf, Limits, Refusal};
+use offset_allocator_heaps::{HeapsOf, Limits, ReadError, Refusal};
 
 // Makes a request, and returns whether a heap was made for it.
 fn is_made<T: Tables>(heaps: &mut HeapsOf<T>, size: u32, align: u32) -> Result<bool, AllocError> {
@@ -11,6 +11,14 @@ fn is_made<T: Tables>(heaps: &mut HeapsOf<T>, size: u32, align: u32) -> Result<b
         Err(Refusal::Memory) => Err(AllocError),
         Err(_) => Ok(false),
     }
+}
+
+// What is read of a state, where memory is not out.
+fn read<T, F: core::fmt::Debug>(read: Result<T, ReadError<F>>) -> Result<T, AllocError> {
+    read.map_err(|error| match error {
+        ReadError::Memory => AllocError,
+        ReadError::Fault(fault) => panic!("{fault:?}"),
+    })
 }
 
 // Every call of heaps of which as many are made of the usual size, and as many larger ones, as there may be.
@@ -33,7 +41,7 @@ fn use_of<T: Tables>(size: u32, max_allocs: u32, most: u32) -> Result<(), AllocE
     assert!(!is_made(&mut heaps, 1, 8)?);
     let copy = heaps.try_clone(Global)?;
     let bytes = copy.write_state(Global)?;
-    assert!(HeapsOf::<T>::read_state(Global, &bytes, 2 * most, max_allocs)?.is_ok());
+    read(HeapsOf::<T>::read_state(Global, &bytes, 2 * most, max_allocs))?;
     heaps.reset();
     assert!(!is_made(&mut heaps, 1, 8)?);
     if let Ok(granted) = heaps.allocate(1) {
@@ -95,7 +103,7 @@ fn filled<T: Tables>(nodes: u32) -> Result<(), AllocError> {
     let copy = heaps.try_clone(Global)?;
     assert_eq!(copy.totals(), heaps.totals());
     let bytes = heaps.write_state(Global)?;
-    let read = HeapsOf::<T>::read_state(Global, &bytes, 2, nodes + 2)?.expect("a state");
+    let read = read(HeapsOf::<T>::read_state(Global, &bytes, 2, nodes + 2))?;
     assert_eq!(read.totals(), heaps.totals());
     for place in places {
         assert_eq!(read.is_live(place), heaps.is_live(place));

@@ -8,10 +8,18 @@
 mod random;
 
 use offset_allocator::{ByField, ByNode, Tables};
-use offset_allocator_heaps::{Global, Heaps, HeapsOf, Limits, Place, StateFault, StateFaultKind};
+use offset_allocator_heaps::{Global, Heaps, HeapsOf, Limits, Place, ReadError, StateFault, StateFaultKind};
 use offset_guarded::GuardedOf;
 use random::Random;
 use std::collections::BTreeMap;
+
+// What was read, or what is wrong with the bytes: memory is not out here.
+fn known<T, F>(read: Result<T, ReadError<F>>) -> Result<T, F> {
+    read.map_err(|error| match error {
+        ReadError::Memory => panic!("memory"),
+        ReadError::Fault(fault) => fault,
+    })
+}
 
 fn count() -> u64 {
     std::env::var("STATES").map_or(100_000, |it| it.parse().expect("a number"))
@@ -106,7 +114,7 @@ fn goes_on<T: Tables<Index = u32>>(seed: u64, rounds: u64) {
         assert_eq!(parts(&state), (wanted.clone(), states.clone()));
         assert_eq!(joined(&wanted, &states), state);
         let heaps = if round % 2 == 0 {
-            HeapsOf::<T>::read_state(Global, &state, slots, limits.max_allocs).unwrap().unwrap()
+            known(HeapsOf::<T>::read_state(Global, &state, slots, limits.max_allocs)).unwrap()
         } else {
             own.heaps.try_clone(Global).unwrap()
         };
@@ -194,7 +202,7 @@ fn changed_states_are_read_or_refused() {
         change(&mut numbers, &mut random);
         let state = joined(&numbers, &rest);
         let wanted = fault_of(&numbers, rest.len());
-        match Heaps::<u32>::read_state(Global, &state, MOST as u32, MOST as u32).unwrap() {
+        match known(Heaps::<u32>::read_state(Global, &state, MOST as u32, MOST as u32)) {
             Err(StateFault { at, kind }) => {
                 assert!(at <= state.len());
                 match wanted {
@@ -250,7 +258,7 @@ fn changed_bytes_are_refused() {
     for _ in 0..count() / 50 {
         let own = worked::<ByNode<u32>>(&mut random);
         let mut state = written(&own.heaps);
-        let read = |state: &[u8]| Heaps::<u32>::read_state(Global, state, 100, 100).unwrap();
+        let read = |state: &[u8]| known(Heaps::<u32>::read_state(Global, state, 100, 100));
         let last = 8 * parts(&state).0.len() - 8;
         let cut = random.below(state.len() as u32) as usize;
         let fault = read(&state[..cut]).err().unwrap();
@@ -270,7 +278,7 @@ fn changed_bytes_are_refused() {
             let start = last + 16;
             let heap = (9..numbers.len()).find(|k| place < start + numbers[*k] as usize).unwrap();
             let (from, to) = (numbers[heap - 1] as usize, numbers[heap] as usize);
-            let own = GuardedOf::<ByNode<u32>>::read_state(Global, &rest[from..to], 100).unwrap().err().unwrap();
+            let own = known(GuardedOf::<ByNode<u32>>::read_state(Global, &rest[from..to], 100)).err().unwrap();
             assert_eq!((fault.at, fault.kind), (start + from + own.at, StateFaultKind::Heap(own.kind)));
             later += u32::from(from > 0);
         }
@@ -287,15 +295,17 @@ fn made_up_bytes_are_refused() {
         if length >= 16 && random.below(2) == 0 {
             made[..16].copy_from_slice(b"OAHS\0\0\0\0\x01\0\0\0\0\0\0\0");
         }
-        assert!(Heaps::<u32>::read_state(Global, &made, u32::MAX, u32::MAX).unwrap().is_err());
+        assert!(known(Heaps::<u32>::read_state(Global, &made, u32::MAX, u32::MAX)).is_err());
     }
     // no limit is a number to request memory by before the caller admits it
     let limits = Limits { size: 10, max_allocs: 100, most: 3, most_larger: 2 };
     let heaps = Heaps::<u32>::new(Global, limits, 7).unwrap();
     let state = written(&heaps);
-    let fault = |most, allocs| Heaps::<u32>::read_state(Global, &state, most, allocs).unwrap().err();
+    let fault = |most, allocs| known(Heaps::<u32>::read_state(Global, &state, most, allocs)).err();
     assert_eq!(fault(5, 100), None);
     assert_eq!(fault(5, 99), Some(StateFault { at: 24, kind: StateFaultKind::Limits }));
     assert_eq!(fault(4, 100), Some(StateFault { at: 40, kind: StateFaultKind::Limits }));
     assert_eq!(fault(2, 100), Some(StateFault { at: 32, kind: StateFaultKind::Limits }));
+    let error: Box<dyn std::error::Error> = fault(2, 100).unwrap().into();
+    assert_eq!(error.to_string(), "limits that are not admitted, at byte 32");
 }

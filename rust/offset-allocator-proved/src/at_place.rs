@@ -30,7 +30,8 @@ fn is_among(offset: u32, units: u32, begin: u32, size: u32) -> bool {
     (begin as u64) < offset as u64 + units as u64 && (offset as u64) < begin as u64 + size as u64
 }
 
-// The parts of a block of `whole` units where `size` of them are taken after so many, if it has them.
+// The parts of a block of `whole` units where `size` of them are taken after the first `padding`, if it has
+// them.
 fn parts_of(padding: u32, size: u32, whole: u32) -> Option<Parts> {
     let left = whole.checked_sub(padding)?;
     let remainder = left.checked_sub(size)?;
@@ -68,16 +69,17 @@ impl<T: Tables> AllocatorOf<T> {
     }
 
     /// Grants the `size` units that begin at `offset`, where one free block holds them all, and returns their
-    /// handle: for addresses that were recorded, or that are reserved. The units of that block before the
+    /// handle: for addresses that were captured, or that are reserved. The units of that block before the
     /// range and after it stay free, each the newest of its bin; where both are of one class, those after it
     /// are the newer ones. A range of no units is taken of the last free block that begins at `offset` or
     /// before.
     ///
     /// `None` is returned where no free block holds them, or where there is no room for the blocks that are
     /// added: one for the units before the range, one for those after it, and at least one. Then the space is
-    /// as it was; `in_the_way` says which live range is to be freed. Which block it is is found by a walk
-    /// back from the end of the space: it makes at most 80 accesses to the tables, and 3 for each block, and
-    /// takes no memory.
+    /// as it was. Where live ranges are in the way, `in_the_way` returns the last of them; there is none where
+    /// the units end after the space, or where there is only no room for blocks. Which block it is is found by
+    /// a walk back from the end of the space: it makes at most 80 accesses to the tables, and 3 for each
+    /// block, and takes no memory.
     ///
     /// ```
     /// # use offset_allocator_proved::*;
@@ -137,7 +139,8 @@ impl<T: Tables> AllocatorOf<T> {
     }
 
     /// The handle of the last live range that is in the way of the `size` units that begin at `offset`: it
-    /// has one of them, or lies among them, as a range of no units may. `None` where there is none. It walks
+    /// has one of them, or lies among them, as a range of no units may; for a `size` of 0, a range that has
+    /// units on both sides of `offset`. `None` where there is none. It walks
     /// back from the end of the space, and makes at most 5 accesses to the tables for each block, and 5.
     ///
     /// ```

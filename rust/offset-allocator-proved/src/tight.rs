@@ -203,8 +203,8 @@ impl<T: Tables> AllocatorOf<T> {
     }
 
     /// Why `allocate_tight(size)` would be refused now, or `None` exactly where it would be granted.
-    /// `TooLarge`: the space has fewer units. `Space`: so are all free units together, or, for a request of 0
-    /// units, no unit is free. `Fragmented`: they are enough, and after `compact` the request is granted. It
+    /// `TooLarge`: the space has fewer units. `Space`: all free units together are fewer, or, for a request of
+    /// 0 units, no unit is free. `Fragmented`: they are enough, and after `compact` the request is granted. It
     /// makes at most 2 accesses to the tables, and 6 for each free block of the class of `size` or above.
     ///
     /// ```

@@ -6,8 +6,16 @@
 #[path = "../../random.rs"]
 mod random;
 
-use offset_allocator_proved::{Allocation, AllocatorOf, ByField, ByNode, Global, StateFaultKind, Tables};
+use offset_allocator_proved::{Allocation, Allocator, AllocatorOf, ByField, ByNode, Global, ReadError, StateFaultKind, Tables};
 use random::Random;
+
+// What was read, or what is wrong with the bytes: memory is not out here.
+fn known<T, F>(read: Result<T, ReadError<F>>) -> Result<T, F> {
+    read.map_err(|error| match error {
+        ReadError::Memory => panic!("memory"),
+        ReadError::Fault(fault) => fault,
+    })
+}
 
 fn count() -> u64 {
     std::env::var("STATES").map_or(200_000, |it| it.parse().expect("a number"))
@@ -94,7 +102,7 @@ fn goes_on<T: Tables<Index = u32>>(seed: u64, rounds: u64) {
         let (mut space, mut held) = worked::<T>(&mut random);
         let state = written(&space);
         let mut copy = space.try_clone(Global).unwrap();
-        let mut read = AllocatorOf::<T>::read_state(Global, &state, space.max_allocs()).unwrap().unwrap();
+        let mut read = known(AllocatorOf::<T>::read_state(Global, &state, space.max_allocs())).unwrap();
         assert_eq!((written(&copy), written(&read)), (state.clone(), state.clone()));
         // as many bytes as the documentation says
         let free = space.statistics().free_blocks;
@@ -160,7 +168,7 @@ fn changed_states_are_read_or_refused() {
             state = written(&worked::<ByNode<u32>>(&mut random).0);
         }
         let changed = changed(&state, &mut random);
-        match AllocatorOf::<ByNode<u32>>::read_state(Global, &changed, 1_000).unwrap() {
+        match known(AllocatorOf::<ByNode<u32>>::read_state(Global, &changed, 1_000)) {
             Err(fault) => {
                 assert!(fault.at <= changed.len(), "{fault:?}");
                 *kinds.entry(format!("{:?}", fault.kind)).or_default() += 1;
@@ -189,10 +197,24 @@ fn made_up_bytes_are_refused() {
     for _ in 0..count() / 4 {
         let length = random.below(80) as usize;
         let made: Vec<u8> = (0..length).map(|_| if random.below(3) == 0 { random.next() as u8 } else { 0 }).collect();
-        assert!(AllocatorOf::<ByNode<u32>>::read_state(Global, &made, u32::MAX).unwrap().is_err());
+        assert!(known(AllocatorOf::<ByNode<u32>>::read_state(Global, &made, u32::MAX)).is_err());
     }
     // a node limit is no number to request memory by before the caller admits it
     let space: AllocatorOf<ByNode<u32>> = AllocatorOf::with_max_allocs(Global, 10, 100).unwrap();
-    let fault = AllocatorOf::<ByNode<u32>>::read_state(Global, &written(&space), 99).unwrap().err().unwrap();
+    let fault = known(AllocatorOf::<ByNode<u32>>::read_state(Global, &written(&space), 99)).err().unwrap();
     assert_eq!((fault.at, fault.kind), (12, StateFaultKind::Limit));
+    assert_eq!(fault.to_string(), "a node limit that is not admitted, at byte 12");
+}
+
+#[test]
+fn a_state_is_read_by_one_result() {
+    fn read(bytes: &[u8]) -> Result<Allocator<u32>, Box<dyn std::error::Error>> {
+        Ok(Allocator::read_state(Global, bytes, 1_000)?)
+    }
+    let space: Allocator<u32> = Allocator::with_max_allocs(Global, 10, 100).unwrap();
+    let mut bytes = written(&space);
+    assert_eq!(read(&bytes).unwrap().size(), 10);
+    bytes.pop();
+    let words = format!("another number of bytes than the counts say, at byte {}", bytes.len());
+    assert_eq!(read(&bytes).unwrap_err().to_string(), words);
 }

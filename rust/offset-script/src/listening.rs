@@ -11,7 +11,7 @@ use crate::memory::{AllocError, Global};
 /// Makes something of commands while they are played: of their answers, and of what their space says.
 pub trait Listener: Sized {
     /// Returns the command that is played in place of this one. A picture, for one, needs no full reports,
-    /// and has a short one played in their place. The alignment of either is a power of two.
+    /// and has a short one played in their place. The alignment of either is at least 1.
     fn played(command: Command) -> Command;
 
     /// Returns a listener that has heard nothing, at the space before the first of this number of commands.

@@ -171,7 +171,7 @@ impl<T: Tables> PlayerOf<T> {
         }
     }
 
-    /// Carries out one command, and returns its answer. The alignment of a request has to be a power of two.
+    /// Carries out one command, and returns its answer. The alignment of a request has to be at least 1.
     /// Each handle that is kept has to be live, and no two may have one name: so it is in a player that
     /// `start` made, and after each `call` and each `keep`.
     ///

@@ -14,7 +14,7 @@ use crate::memory::{AllocError, Global};
 /// Plays commands on an allocator of `size` units with the node limit `max_allocs`, drops its space, and
 /// returns the listener that has heard them.
 ///
-/// The limit has to be 2 to `T::Index::MAX - 2`, and each alignment a power of two.
+/// The limit has to be 2 to `T::Index::MAX - 2`, and each alignment at least 1.
 ///
 /// # Errors
 ///
@@ -95,7 +95,7 @@ impl Listener for Vec<Answer> {
 /// Plays commands on an allocator of `size` units with the node limit `max_allocs`, and returns their answers
 /// in order, one for each.
 ///
-/// The limit has to be 2 to `T::Index::MAX - 2`, and each alignment a power of two. All answers are kept in
+/// The limit has to be 2 to `T::Index::MAX - 2`, and each alignment at least 1. All answers are kept in
 /// memory. It fails only where an allocation fails: of the allocator's tables, of the list of handles, or of
 /// the answers.
 ///

@@ -20,7 +20,8 @@ pub enum Command {
     Full,
     /// Frees the whole space.
     Reset,
-    /// Requests this number of units, from a multiple of the second number on, which is a power of two.
+    /// Requests this number of units, from a multiple of the second number on, which is at least 1. (In a text it
+    /// is a power of two.)
     Align(u32, u32),
     /// Adds this number of units at the end of the space.
     Extend(u32),
@@ -49,7 +50,7 @@ pub struct Header {
 /// A whole script: the space of its header, of `size` units, its node limit, the width of its node indices,
 /// and its commands.
 ///
-/// The limit is at least 2 and admitted for the width, and each alignment is a power of two.
+/// The limit is at least 2 and admitted for the width, and each alignment is at least 1.
 pub struct Script {
     /// The units of the space.
     pub size: u32,

@@ -25,12 +25,12 @@ fn spaces_as_json() {
          \"largest_free_block\":76,\"largest_free_region\":72,\"unused_nodes\":13,\"blocks\":[{{\"offset\":0,\"size\":16}},\
          {{\"offset\":16,\"size\":8,\"name\":{name}}},{{\"offset\":24,\"size\":76}}]}}"
     );
-    assert_eq!(json_of(&space, Global).unwrap().as_str(), wanted);
+    assert_eq!(json_of(Global, &space).unwrap().as_str(), wanted);
     let wanted = "{\"General\":{\"API\":\"Vulkan\"},\"DefaultPools\":{\"Type 0\":{\"PreferredBlockSize\":100,\"Blocks\":{\"0\":{\
                   \"TotalBytes\":100,\"UnusedBytes\":92,\"Allocations\":1,\"UnusedRanges\":2,\"Suballocations\":[\
                   {\"Offset\":0,\"Type\":\"FREE\",\"Size\":16},{\"Offset\":16,\"Type\":\"UNKNOWN\",\"Size\":8},\
                   {\"Offset\":24,\"Type\":\"FREE\",\"Size\":76}]}}}}}";
-    assert_eq!(vma_json_of(&space, Global).unwrap(), wanted);
+    assert_eq!(vma_json_of(Global, &space).unwrap(), wanted);
 }
 
 #[test]

@@ -6,6 +6,8 @@ use Rattle.offset_allocator.specs.Saving.State.{checksum_from, freed, state_form
 use Rattle.offset_allocator.specs.View.{Block as BlockOf, AreCoalesced, used_of}
 use Rattle.offset_allocator.specs.declared.states.building.Wrong.{Wrong}
 use Rattle.offset_allocator.specs.declared.states.building.Wrong.TheVariants as wrong
+use Rattle.offset_allocator.specs.declared.states.state.ReadError.{ReadError}
+use Rattle.offset_allocator.specs.declared.states.state.ReadError.TheVariants.{Memory, Fault}
 use Rattle.offset_allocator.specs.declared.states.state.StateFault.{StateFault}
 use Rattle.offset_allocator.specs.declared.states.state.StateFaultKind.{StateFaultKind}
 use Rattle.offset_allocator.specs.declared.states.state.StateFaultKind.TheVariants.{Length, Form, Limit, Counts, Checksum, Block, Unused, Free, Neighbours}
@@ -81,3 +83,8 @@ IsFaultOf max most ws at Neighbours = IsHeaded max most ws × ((i : ℕ) × (at 
 abbrev pub IsFault : ℕ → ℕ → List ℕ → StateFault → Type 0
 IsFault max most bytes f = ((length bytes % 4 ≢ 0) × (f ≡ record { at = length bytes; kind = Length }))
     ⊎ ((length bytes % 4 ≡ 0) × IsFaultOf max most (words_in bytes) f.at f.kind)
+
+-- what holds of the fault, where bytes were not read for one
+abbrev pub IfFault : {F : Type 0} → ReadError F → (F → Type 0) → Type 0
+IfFault Memory holds = Unit {0}
+IfFault (Fault f) holds = holds f

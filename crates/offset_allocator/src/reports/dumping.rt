@@ -170,10 +170,10 @@ fn put_vma_numbers(text: &mut String, size: u32, sums: &Statistics) -> Result<()
 /// It returns the text, or `AllocError` where an allocation fails.
 ///
 /// ```
-/// let text = json_of(&space, alloc)?;
+/// let text = json_of(alloc, &space)?;
 /// assert!(text.starts_with("{\"size\":1000,"));
 /// ```
-pub fn json_of<T: Tables>(space: &AllocatorOf<T>, alloc: Global) -> Result<String, AllocError>
+pub fn json_of<T: Tables>(alloc: Global, space: &AllocatorOf<T>) -> Result<String, AllocError>
     ensures { IfOk result (λ text. (s : Statistics) × AreStatistics s space.now
         × (string_bytes text ≡ space_json s space.now)) }
 {
@@ -192,10 +192,10 @@ pub fn json_of<T: Tables>(space: &AllocatorOf<T>, alloc: Global) -> Result<Strin
 /// It returns the text, or `AllocError` where an allocation fails.
 ///
 /// ```
-/// let text = vma_json_of(&space, alloc)?;
+/// let text = vma_json_of(alloc, &space)?;
 /// assert!(text.starts_with("{\"General\":{\"API\":\"Vulkan\"}"));
 /// ```
-pub fn vma_json_of<T: Tables>(space: &AllocatorOf<T>, alloc: Global) -> Result<String, AllocError>
+pub fn vma_json_of<T: Tables>(alloc: Global, space: &AllocatorOf<T>) -> Result<String, AllocError>
     ensures { IfOk result (λ text. (s : Statistics) × AreStatistics s space.now
         × (string_bytes text ≡ vma_space_json s space.now)) }
 {

@@ -2,14 +2,17 @@
 ghost use Rattle.std.specs.Prelude.{◌≡◌, ◌+◌, ◌*◌, ◌%◌, ◌<◌, ◌≤◌, ℕ, List, IfErr, IfOk, IsErr, length};
 ghost use Rattle.offset_allocator.specs.Saving.ListFaults.{word};
 ghost use Rattle.offset_allocator.specs.Saving.State.{IsHeader, IsNoState, IsOfWords, IsRestored, state_text};
-ghost use Rattle.offset_allocator.specs.Saving.StateFaults.{IsFault, IsFaultOf, IsHeaded, IsWrongIn};
+ghost use Rattle.offset_allocator.specs.Saving.StateFaults.{IfFault, IsFault, IsFaultOf, IsHeaded};
+ghost use Rattle.offset_allocator.specs.Saving.StateFaults.{IsWrongIn};
 ghost use Rattle.offset_allocator.specs.View.{View, AreNames, IsWellFormed};
 
 use crate::AllocatorOf;
 use crate::accesses::Accesses;
 use crate::index::NodeIndex;
 use crate::states::building::{Wrong, build};
-use crate::states::state::{FORM, StateFault, StateFaultKind, VERSION, checksum, words_of};
+use crate::states::state::{
+    FORM, ReadError, StateFault, StateFaultKind, VERSION, checksum, words_of,
+};
 use crate::tables::Tables;
 use std::alloc::{AllocError, Global};
 
@@ -156,7 +159,7 @@ fn of_words<T: Tables>(
 
 impl<T: Tables> AllocatorOf<T> {
     /// The space of these bytes, which `write_state` has made, or what is wrong with them, and where: any
-    /// bytes are read. The space has the same handles, the same order in bins and the same unused names, in
+    /// bytes are taken. The space has the same handles, the same order in bins and the same unused names, in
     /// the same order, as the one that was written.
     ///
     /// `most_allocs` is the largest node limit that is accepted, since memory for the limit is reserved, as
@@ -165,33 +168,38 @@ impl<T: Tables> AllocatorOf<T> {
     ///
     /// # Errors
     ///
-    /// An error is returned only where an allocation failed; then nothing is made.
+    /// `ReadError::Fault` is returned exactly where the bytes are those of no state that is accepted, unless
+    /// an allocation failed before that was known, which is `ReadError::Memory`. Then nothing is made.
     ///
     /// ```
     /// let mesh = space.allocate(300).unwrap();
     /// let bytes = space.write_state(alloc)?;
-    /// let same = Allocator::<u32>::read_state(alloc, &bytes, 131_072)?.unwrap();
+    /// let same = Allocator::<u32>::read_state(alloc, &bytes, 131_072).unwrap();
     /// assert!(same.is_live(mesh));
     /// ```
     pub fn read_state(
         alloc: Global,
         bytes: &[u8],
         most_allocs: u32,
-    ) -> Result<Result<Self, StateFault>, AllocError>
+    ) -> Result<Self, ReadError<StateFault>>
         // Where it returns a space, the bytes are those of a state of that space.
-        ensures read { IfOk result (λ r. IfOk r (IsRestored bytes.now most_allocs)) }
+        ensures read { IfOk result (IsRestored bytes.now most_allocs) }
         // Where it returns a fault, they are those of no space whose node limit is admitted.
-        ensures refused { IfOk result (λ r. IsErr r → IsNoState T.Index.MAX most_allocs bytes.now) }
+        ensures refused { IfErr result
+            (λ e. IfFault e (λ _. IsNoState T.Index.MAX most_allocs bytes.now)) }
         // A fault is the first of those before the lists, and where it is; or else the first of the lists.
-        ensures fault { IfOk result (λ r. IfErr r (IsFault T.Index.MAX most_allocs bytes.now)) }
+        ensures fault { IfErr result (λ e. IfFault e (IsFault T.Index.MAX most_allocs bytes.now)) }
     {
         if bytes.len() % 4 != 0 {
-            return Ok(Err(StateFault {
+            return Err(ReadError::Fault(StateFault {
                 at: bytes.len(),
                 kind: StateFaultKind::Length,
             }));
         }
         let words = words_of(alloc, bytes)?;
-        of_words(alloc, &words, most_allocs)
+        match of_words(alloc, &words, most_allocs)? {
+            Err(fault) => Err(ReadError::Fault(fault)),
+            Ok(space) => Ok(space),
+        }
     }
 }

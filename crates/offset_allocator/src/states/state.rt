@@ -1,6 +1,7 @@
 //! The numbers of a state: bytes as numbers, their checksum, and their faults. It touches no space.
 ghost use Rattle.std.specs.Prelude.{◌≡◌, ◌++◌, ◌+◌, ◌*◌, ◌%◌, ◌<◌, ◌≤◌, [], ◌∷◌, ℕ, List, IfOk, length};
 ghost use Rattle.offset_allocator.specs.Saving.State.{checksum_from, words_in};
+ghost use Rattle.offset_allocator.specs.declared.states.state.ReadError.TheVariants.{Memory};
 
 use std::alloc::{AllocError, Global};
 use std::fmt;
@@ -34,8 +35,8 @@ pub enum StateFaultKind {
     Form,
     /// The node limit is above that which the caller or the index type admits.
     Limit,
-    /// There is no block, or more blocks and unused nodes than the node limit admits; or more of the blocks
-    /// are live. The place is that of the number of blocks.
+    /// There is no block, or more blocks and unused nodes than the node limit admits; or more than
+    /// `max_allocs - 2` of the blocks are live. The place is that of the number of blocks.
     Counts,
     /// The checksum is not that of the bytes.
     Checksum,
@@ -53,6 +54,23 @@ pub enum StateFaultKind {
     /// This block and the one after it in space are both free: the last such block of the space. The place is
     /// that of its name in the list of blocks.
     Neighbours,
+}
+
+/// Why bytes were not read as a state.
+#[derive(Clone, Copy, PartialEq, Debug)]
+pub enum ReadError<F> {
+    /// An allocation failed: the bytes may be those of a state.
+    Memory,
+    /// The bytes are none, and this is wrong with them.
+    Fault(F),
+}
+
+impl<F> From<AllocError> for ReadError<F> {
+    ghost from_gives = { λ _ e. e ≡ Memory };
+
+    fn from(_error: AllocError) -> Self {
+        ReadError::Memory
+    }
 }
 
 impl fmt::Display for StateFaultKind {

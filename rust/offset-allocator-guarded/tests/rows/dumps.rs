@@ -27,9 +27,9 @@ impl Expectation for Dumps {
     fn check<T: Tables>(&self) {
         let mut space = AllocatorOf::<T>::new(Global, 20).expect("memory");
         let handle = space.allocate(3).expect("room");
-        let found = json_of(&space, Global).expect("memory");
+        let found = json_of(Global, &space).expect("memory");
         assert_same(&*found, wanted(space.max_allocs(), handle.name()).as_str());
-        let found = vma_json_of(&space, Global).expect("memory");
+        let found = vma_json_of(Global, &space).expect("memory");
         assert_same(&*found, VMA);
     }
 }

@@ -4,7 +4,7 @@
 
 use super::layouts::{check_each, Expectation, ALL};
 use offset_allocator::{json_of, vma_json_of};
-use offset_allocator::{AllocError, Allocation, AllocatorOf, Global, NodeIndex, StorageReport, Tables};
+use offset_allocator::{AllocError, Allocation, AllocatorOf, Global, NodeIndex, ReadError, StorageReport, Tables};
 use offset_allocator_guarded::{GuardedOf, Ticket};
 use offset_script::full_answer;
 
@@ -16,6 +16,14 @@ fn is_admitted<T: Tables>(limit: u32) -> bool {
 // Twice this limit, or the largest that the index type admits.
 fn limit_above<T: Tables>(limit: u32) -> u32 {
     limit.saturating_mul(2).min(T::Index::MAX - 2)
+}
+
+// What is read of a state, where memory is not out.
+fn read<T, F: core::fmt::Debug>(read: Result<T, ReadError<F>>) -> Result<T, AllocError> {
+    read.map_err(|error| match error {
+        ReadError::Memory => AllocError,
+        ReadError::Fault(fault) => panic!("{fault:?}"),
+    })
 }
 
 // Every call of a space and of a guarded one, with requests of `units` units, where the limit is admitted.
@@ -31,7 +39,7 @@ fn use_of<T: Tables>(max_allocs: u32, units: u32) -> Result<u32, AllocError> {
     space.try_clone(Global)?;
     space.raised(Global, limit_above::<T>(max_allocs))?;
     let bytes = space.write_state(Global)?;
-    assert!(AllocatorOf::<T>::read_state(Global, &bytes, max_allocs)?.is_ok());
+    read(AllocatorOf::<T>::read_state(Global, &bytes, max_allocs))?;
     space.reset();
     let mut guarded = GuardedOf::<T>::with_max_allocs(Global, units, max_allocs, 1)?;
     if let Some(ticket) = guarded.allocate(units) {
@@ -43,7 +51,7 @@ fn use_of<T: Tables>(max_allocs: u32, units: u32) -> Result<u32, AllocError> {
     guarded.try_clone(Global)?;
     guarded.raised(Global, limit_above::<T>(max_allocs))?;
     let bytes = guarded.write_state(Global)?;
-    assert!(GuardedOf::<T>::read_state(Global, &bytes, max_allocs)?.is_ok());
+    read(GuardedOf::<T>::read_state(Global, &bytes, max_allocs))?;
     guarded.reset();
     Ok(1)
 }
@@ -185,17 +193,17 @@ fn rows<T: Tables>() -> [Row<T>; 11] {
         }),
         ("read_state", |space, _| {
             let bytes = space.write_state(Global)?;
-            let read = AllocatorOf::<T>::read_state(Global, &bytes, space.max_allocs())?.expect("a state");
+            let read = read(AllocatorOf::<T>::read_state(Global, &bytes, space.max_allocs()))?;
             assert_eq!(read.statistics(), space.statistics());
             assert_eq!(read.node_count(), space.node_count());
             Ok(())
         }),
         ("json_of", |space, _| {
-            assert!(json_of(space, Global)?.len() > 20 * space.block_count() as usize);
+            assert!(json_of(Global, space)?.len() > 20 * space.block_count() as usize);
             Ok(())
         }),
         ("vma_json_of", |space, _| {
-            assert!(vma_json_of(space, Global)?.len() > 20 * space.block_count() as usize);
+            assert!(vma_json_of(Global, space)?.len() > 20 * space.block_count() as usize);
             Ok(())
         }),
         ("full_answer", |space, _| full_answer(Global, space).map(|_| ())),
@@ -220,7 +228,7 @@ fn rows<T: Tables>() -> [Row<T>; 11] {
         ("read_state with tickets", |_, guarded| {
             let bytes = guarded.write_state(Global)?;
             let limit = guarded.allocator().max_allocs();
-            let read = GuardedOf::<T>::read_state(Global, &bytes, limit)?.expect("a state");
+            let read = read(GuardedOf::<T>::read_state(Global, &bytes, limit))?;
             assert_eq!(read.allocator().statistics(), guarded.allocator().statistics());
             Ok(())
         }),

@@ -6,7 +6,7 @@ use offset_allocator::Global;
 use offset_allocator::StateFaultKind::{
     Block, Checksum, Counts, Form, Free, Length, Limit, Neighbours, Unused,
 };
-use offset_allocator::{Allocation, AllocatorOf, NodeIndex, StateFault, StateFaultKind, Tables};
+use offset_allocator::{Allocation, AllocatorOf, NodeIndex, ReadError, StateFault, StateFaultKind, Tables};
 
 // The first number of each state: "OAST".
 pub(super) const FORM: u32 = 0x5453_414F;
@@ -115,9 +115,9 @@ impl Expectation for Faults {
     fn check<T: Tables>(&self) {
         for case in &CASES {
             let bytes = bytes_of(case.words);
-            let read = AllocatorOf::<T>::read_state(Global, &bytes, 10).expect("memory");
-            match read {
-                Err(StateFault { at, kind }) => {
+            match AllocatorOf::<T>::read_state(Global, &bytes, 10) {
+                Err(ReadError::Memory) => panic!("memory"),
+                Err(ReadError::Fault(StateFault { at, kind })) => {
                     assert_same_at(&case.words, &Some((at, kind)), &case.fault)
                 }
                 Ok(space) => {
@@ -144,12 +144,12 @@ impl Expectation for Checksums {
         let words = [FORM, 1, 100, 5, 1, 1, 0, 0, 100, 0];
         for start in [1, 2, u32::MAX] {
             let bytes = bytes_from(&words, start);
-            let read = AllocatorOf::<T>::read_state(Global, &bytes, 10).expect("memory");
+            let read = AllocatorOf::<T>::read_state(Global, &bytes, 10);
             let fault = StateFault {
                 at: 40,
                 kind: Checksum,
             };
-            assert_same_at(&start, &read.err(), &Some(fault));
+            assert_same_at(&start, &read.err(), &Some(ReadError::Fault(fault)));
         }
     }
 }
@@ -224,7 +224,7 @@ impl Expectation for GoesOn {
         let mut copy = space.try_clone(Global).expect("memory");
         let same = copy.write_state(Global).expect("memory");
         assert_same(&*same, &*bytes);
-        let mut read = match AllocatorOf::<T>::read_state(Global, &bytes, 12).expect("memory") {
+        let mut read = match AllocatorOf::<T>::read_state(Global, &bytes, 12) {
             Ok(read) => read,
             Err(_) => return assert_that(false),
         };

@@ -5,7 +5,7 @@ use super::asserts::{assert_same, assert_same_at, assert_that};
 use super::layouts::{check, check_each, Expectation, Layout};
 use super::states::{bytes_of, FORM as SPACE_FORM};
 use offset_allocator::Global;
-use offset_allocator::{NodeIndex, StateFaultKind as SpaceFault, Tables};
+use offset_allocator::{NodeIndex, ReadError, StateFaultKind as SpaceFault, Tables};
 use offset_allocator_guarded::StateFaultKind::{Allocator, Checksum, Form, Length, Realm, Serial};
 use offset_allocator_guarded::{GuardedOf, StateFault, StateFaultKind};
 
@@ -122,9 +122,9 @@ impl Expectation for Faults {
     fn check<T: Tables>(&self) {
         for case in &CASES {
             let bytes = state_of(case.numbers, case.start);
-            let read = GuardedOf::<T>::read_state(Global, &bytes, 5).expect("memory");
-            match read {
-                Err(StateFault { at, kind }) => {
+            match GuardedOf::<T>::read_state(Global, &bytes, 5) {
+                Err(ReadError::Memory) => panic!("memory"),
+                Err(ReadError::Fault(StateFault { at, kind })) => {
                     assert_same_at(&case.numbers, &Some((at, kind)), &case.fault)
                 }
                 Ok(space) => {
@@ -136,12 +136,12 @@ impl Expectation for Faults {
         }
         // a limit that is not admitted, 12 bytes behind the 64 of the tickets
         let bytes = state_of(&[FORM, 1, 2, 1, 7, 1, 0], 0);
-        let read = GuardedOf::<T>::read_state(Global, &bytes, 4).expect("memory");
+        let read = GuardedOf::<T>::read_state(Global, &bytes, 4);
         let fault = StateFault {
             at: 76,
             kind: Allocator(SpaceFault::Limit),
         };
-        assert_same(&read.err(), &Some(fault));
+        assert_same(&read.err(), &Some(ReadError::Fault(fault)));
     }
 }
 
@@ -187,7 +187,7 @@ impl Expectation for GoesOn {
         assert_that(space.free(first));
         let bytes = space.write_state(Global).expect("memory");
         assert_that(space.free(second));
-        let mut read = match GuardedOf::<T>::read_state(Global, &bytes, u32::MAX).expect("memory") {
+        let mut read = match GuardedOf::<T>::read_state(Global, &bytes, u32::MAX) {
             Ok(read) => read,
             Err(_) => return assert_that(false),
         };

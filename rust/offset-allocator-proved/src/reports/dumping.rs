@@ -145,11 +145,11 @@ fn put_vma_numbers(text: &mut String, size: u32, sums: &Statistics) -> Result<()
 /// # use offset_allocator_proved::*;
 /// # let alloc = Global;
 /// let mut space = Allocator::<u32>::new(alloc, 1000)?;
-/// let text = json_of(&space, alloc)?;
+/// let text = json_of(alloc, &space)?;
 /// assert!(text.starts_with("{\"size\":1000,"));
 /// # Ok::<(), AllocError>(())
 /// ```
-pub fn json_of<T: Tables>(space: &AllocatorOf<T>, alloc: Global) -> Result<String, AllocError> {
+pub fn json_of<T: Tables>(alloc: Global, space: &AllocatorOf<T>) -> Result<String, AllocError> {
     let blocks = blocks_in_order(alloc, space)?;
     let mut text = String::new(alloc);
     let sums = space.statistics();
@@ -168,11 +168,11 @@ pub fn json_of<T: Tables>(space: &AllocatorOf<T>, alloc: Global) -> Result<Strin
 /// # use offset_allocator_proved::*;
 /// # let alloc = Global;
 /// let mut space = Allocator::<u32>::new(alloc, 1000)?;
-/// let text = vma_json_of(&space, alloc)?;
+/// let text = vma_json_of(alloc, &space)?;
 /// assert!(text.starts_with("{\"General\":{\"API\":\"Vulkan\"}"));
 /// # Ok::<(), AllocError>(())
 /// ```
-pub fn vma_json_of<T: Tables>(space: &AllocatorOf<T>, alloc: Global) -> Result<String, AllocError> {
+pub fn vma_json_of<T: Tables>(alloc: Global, space: &AllocatorOf<T>) -> Result<String, AllocError> {
     let blocks = blocks_in_order(alloc, space)?;
     let mut text = String::new(alloc);
     let sums = space.statistics();

@@ -6,7 +6,9 @@ use crate::AllocatorOf;
 use crate::accesses::Accesses;
 use crate::index::NodeIndex;
 use crate::states::building::{Wrong, build};
-use crate::states::state::{FORM, StateFault, StateFaultKind, VERSION, checksum, words_of};
+use crate::states::state::{
+    FORM, ReadError, StateFault, StateFaultKind, VERSION, checksum, words_of,
+};
 use crate::tables::Tables;
 use crate::memory::{AllocError, Global};
 
@@ -137,7 +139,7 @@ fn of_words<T: Tables>(
 
 impl<T: Tables> AllocatorOf<T> {
     /// The space of these bytes, which `write_state` has made, or what is wrong with them, and where: any
-    /// bytes are read. The space has the same handles, the same order in bins and the same unused names, in
+    /// bytes are taken. The space has the same handles, the same order in bins and the same unused names, in
     /// the same order, as the one that was written.
     ///
     /// `most_allocs` is the largest node limit that is accepted, since memory for the limit is reserved, as
@@ -146,7 +148,8 @@ impl<T: Tables> AllocatorOf<T> {
     ///
     /// # Errors
     ///
-    /// An error is returned only where an allocation failed; then nothing is made.
+    /// `ReadError::Fault` is returned exactly where the bytes are those of no state that is accepted, unless
+    /// an allocation failed before that was known, which is `ReadError::Memory`. Then nothing is made.
     ///
     /// ```
     /// # use offset_allocator_proved::*;
@@ -154,7 +157,7 @@ impl<T: Tables> AllocatorOf<T> {
     /// let mut space = Allocator::<u32>::new(alloc, 1000)?;
     /// let mesh = space.allocate(300).unwrap();
     /// let bytes = space.write_state(alloc)?;
-    /// let same = Allocator::<u32>::read_state(alloc, &bytes, 131_072)?.unwrap();
+    /// let same = Allocator::<u32>::read_state(alloc, &bytes, 131_072).unwrap();
     /// assert!(same.is_live(mesh));
     /// # Ok::<(), AllocError>(())
     /// ```
@@ -162,14 +165,17 @@ impl<T: Tables> AllocatorOf<T> {
         alloc: Global,
         bytes: &[u8],
         most_allocs: u32,
-    ) -> Result<Result<Self, StateFault>, AllocError> {
+    ) -> Result<Self, ReadError<StateFault>> {
         if bytes.len() % 4 != 0 {
-            return Ok(Err(StateFault {
+            return Err(ReadError::Fault(StateFault {
                 at: bytes.len(),
                 kind: StateFaultKind::Length,
             }));
         }
         let words = words_of(alloc, bytes)?;
-        of_words(alloc, &words, most_allocs)
+        match of_words(alloc, &words, most_allocs)? {
+            Err(fault) => Err(ReadError::Fault(fault)),
+            Ok(space) => Ok(space),
+        }
     }
 }

@@ -1,4 +1,4 @@
-use Rattle.offset_allocator.proofs.{Decided.allocates_decided, Decided.aligns_decided, Decided.relocates_decided, Decided.relocates_aligned_decided, Decided.tight_decided, Moving.DecidedRooms.least_decided}
+use Rattle.offset_allocator.proofs.{AtPlace.at_decided, Decided.allocates_decided, Decided.aligns_decided, Decided.relocates_decided, Decided.relocates_aligned_decided, Decided.tight_decided, Moving.DecidedRooms.least_decided}
 use Rattle.offset_allocator.proofs.{Moving.DecidedRooms.noted_decided, Moving.DecidedSteps.compacts_by_decided}
 use Rattle.offset_allocator.proofs.Moving.DecidedRoomsBySteps.{least_by_decided, noted_by_decided}
 use Rattle.offset_allocator.proofs.DecidedChanges.{compacts_decided, extends_decided, frees_decided, grows_decided, resets_decided, retracts_decided, shrinks_decided}
@@ -10,6 +10,7 @@ returns c = record {
   allocate = allocates_decided;
   allocate_aligned = aligns_decided;
   allocate_tight = tight_decided;
+  allocate_at = at_decided;
   relocate = relocates_decided;
   relocate_aligned = relocates_aligned_decided;
   free = frees_decided;

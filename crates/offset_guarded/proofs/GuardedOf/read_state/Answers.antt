@@ -9,30 +9,31 @@ use Rattle.offset_allocator.specs.Saving.StateFaults as faults
 use Rattle.offset_guarded.proofs.{Headed.headed, Guards.guard, Bytes.length-numbers, Bytes.numbers_sliced, Bytes.rest_of, States.parts, States.serials_of, States.tickets_read}
 use Rattle.offset_guarded.proofs.GuardedOf.read_state.Goals as goal
 
-pub returns-in-Err-2-clause-refused : goal.returns-in-Err-2-clause-refused
-returns-in-Err-2-clause-refused g c _ v w admitted asked st =
+pub returns-in-Err-Fault-clause-refused : goal.returns-in-Err-Fault-clause-refused
+returns-in-Err-Fault-clause-refused g c v w admitted asked st =
     let bs : List ℕ = c.args.bytes.now in
     let count : c.in-Ok.header.count ≡ length v.serials = sym c.in-Ok.ensures.header.count ∙ (parts v bs st).count in
-    let b = rw c.in-Err-2.is at c.in_ok-fault.ensures.refused in
+    let b = rw c.in-Err-Fault.field-0-is at c.in-Err-Fault.ensures.refused in
     let state : allocator.IsStateOf v.space (drop (48 + 8 * c.in-Ok.header.count) bs) = subst (λ n. allocator.IsStateOf v.space (drop (48 + 8 * n) bs)) (sym count) st.space in
-    b refl v.space w.space w.names admitted asked (subst (allocator.IsStateOf v.space) (sym (rest_of (48 + 8 * c.in-Ok.header.count) bs)) state)
+    b v.space w.space w.names admitted asked (subst (allocator.IsStateOf v.space) (sym (rest_of (48 + 8 * c.in-Ok.header.count) bs)) state)
 
 pub returns-in-Err-clause-fault : goal.returns-in-Err-clause-fault
 returns-in-Err-clause-fault g c = rw c.in-Err.is at (c.header_of.ensures.fault g.T.Index.NodeIndex.MAX c.args.most_allocs)
 
-pub returns-in-Err-2-clause-fault : goal.returns-in-Err-2-clause-fault
-returns-in-Err-2-clause-fault g c =
+pub returns-in-Err-Fault-clause-fault : goal.returns-in-Err-Fault-clause-fault
+returns-in-Err-Fault-clause-fault g c =
     let bs : List ℕ = c.args.bytes.now in
     let hd = c.in-Ok.ensures.header in
     let end : ℕ = 48 + 8 * c.in-Ok.header.count in
-    let b = rw c.in-Err-2.is at c.in_ok-fault.ensures.fault in
-    let wrong = subst (λ k. faults.IsFault g.T.Index.NodeIndex.MAX c.args.most_allocs k c.in-Err-2.fault) (rest_of end bs) b in
-    let within = fault_within g.T.Index.NodeIndex.MAX c.args.most_allocs (drop end bs) c.in-Err-2.fault wrong in (
+    let b = rw c.in-Err-Fault.field-0-is at c.in-Err-Fault.ensures.fault in
+    let wrong = subst (λ k. faults.IsFault g.T.Index.NodeIndex.MAX c.args.most_allocs k c.in-Err-Fault.fault) (rest_of end bs) b in
+    let within = fault_within g.T.Index.NodeIndex.MAX c.args.most_allocs (drop end bs) c.in-Err-Fault.fault wrong in
+    rw c.in-Err-Fault.fault-is (
       headed hd,
       (
-        c.in-Err-2.fault.at,
+        c.in-Err-Fault.fault.at,
         omega (arith, hd.count, hd.long, within, length-drop end bs),
-        subst (λ n. faults.IsFault g.T.Index.NodeIndex.MAX c.args.most_allocs (drop (48 + 8 * n) bs) c.in-Err-2.fault) (sym hd.count) wrong,
+        subst (λ n. faults.IsFault g.T.Index.NodeIndex.MAX c.args.most_allocs (drop (48 + 8 * n) bs) c.in-Err-Fault.fault) (sym hd.count) wrong,
       ),
     )
 
@@ -42,8 +43,8 @@ returns-in-Some-clause-fault g c =
     let hd = c.in-Ok.ensures.header in
     let count : ℕ = c.in-Ok.header.count in
     let at : ℕ = c.in-Some.fault.at in
-    let v : View = c.in-Ok-2.space in
-    let b = rw c.in-Ok-2.is at c.in_ok-fault.ensures.read in
+    let v : View = c.in-Ok-read_state.space in
+    let b = rw c.in-Ok-read_state.is at c.read_state.ensures.read in
     let state = subst (allocator.IsStateOf v) (rest_of (48 + 8 * count) bs) b.0 in
     let given : c.in_ok-serials.serials.given ≡ number_at bs 3 = c.in_ok-serials.ensures.given ∙ sym hd.given in
     let cells : c.in_ok-serials.serials.cells ≡ numbers (number_at bs 2) (drop 40 bs) =
@@ -64,15 +65,15 @@ returns-in-Some-clause-fault g c =
     )
 
 pub returns-in-Some-clause-refused : goal.returns-in-Some-clause-refused
-returns-in-Some-clause-refused g c _ v w admitted asked st =
+returns-in-Some-clause-refused g c v w admitted asked st =
     let bs : List ℕ = c.args.bytes.now in
     let hd = c.in-Ok.ensures.header in
     let p = parts v bs st in
     let count : c.in-Ok.header.count ≡ length v.serials = sym hd.count ∙ p.count in
-    let b = rw c.in-Ok-2.is at c.in_ok-fault.ensures.read in
-    let state : allocator.IsStateOf c.in-Ok-2.space (drop (48 + 8 * c.in-Ok.header.count) bs) = subst (allocator.IsStateOf c.in-Ok-2.space) (rest_of (48 + 8 * c.in-Ok.header.count) bs) b.0 in
-    let same = c.a_state_is_read_back.ensures.one v.space c.in-Ok-2.space (drop (48 + 8 * length v.serials) bs) w.space c.a_state_is_read_back.ensures.formed st.space
-    (subst (λ n. allocator.IsStateOf c.in-Ok-2.space (drop (48 + 8 * n) bs)) count state) in
+    let b = rw c.in-Ok-read_state.is at c.read_state.ensures.read in
+    let state : allocator.IsStateOf c.in-Ok-read_state.space (drop (48 + 8 * c.in-Ok.header.count) bs) = subst (allocator.IsStateOf c.in-Ok-read_state.space) (rest_of (48 + 8 * c.in-Ok.header.count) bs) b.0 in
+    let same = c.a_state_is_read_back.ensures.one v.space c.in-Ok-read_state.space (drop (48 + 8 * length v.serials) bs) w.space c.a_state_is_read_back.ensures.formed st.space
+    (subst (λ n. allocator.IsStateOf c.in-Ok-read_state.space (drop (48 + 8 * n) bs)) count state) in
     let cells : c.in_ok-serials.serials.cells ≡ v.serials =
     c.in_ok-serials.ensures.cells ∙ numbers_sliced c.in-Ok.header.count _ (drop 40 bs) (omega arith) (omega (arith, hd.long, length-drop 40 bs))
     ∙ ap (λ n. numbers n (drop 40 bs)) count ∙ serials_of v bs st in
@@ -95,8 +96,8 @@ pub returns-clause-read : goal.returns-clause-read
 returns-clause-read g c =
     let bs : List ℕ = c.args.bytes.now in
     let hd = c.in-Ok.ensures.header in
-    let b = rw c.in-Ok-2.is at c.in_ok-fault.ensures.read in
-    let v : Guard = guard c.in-Ok-2.space c.in_ok-serials.serials c.in-Ok.header.realm in
+    let b = rw c.in-Ok-read_state.is at c.read_state.ensures.read in
+    let v : Guard = guard c.in-Ok-read_state.space c.in_ok-serials.serials c.in-Ok.header.realm in
     let cells : v.serials ≡ numbers c.in-Ok.header.count (drop 40 bs) =
     c.in_ok-serials.ensures.cells ∙ numbers_sliced c.in-Ok.header.count _ (drop 40 bs) (omega arith) (omega (arith, hd.long, length-drop 40 bs)) in
     let count : length v.serials ≡ c.in-Ok.header.count = ap length cells ∙ length-numbers c.in-Ok.header.count (drop 40 bs) in (

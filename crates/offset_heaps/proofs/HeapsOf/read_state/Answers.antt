@@ -7,12 +7,12 @@ use Rattle.offset_heaps.proofs.States.{heap_between, parts, read_restored, read_
 use Rattle.offset_heaps.proofs.HeapsOf.read_state.Goals as goal
 
 pub returns-then-number-ne0-clause-refused : goal.returns-then-number-ne0-clause-refused
-returns-then-number-ne0-clause-refused g c _ hs w adm st =
+returns-then-number-ne0-clause-refused g c hs w adm st =
     let p = parts hs c.args.bytes.now st in
     c.if-number-ne0.true (c.number.ensures ∙ p.places 0 (omega arith) ∙ st.heaps.first)
 
 pub returns-then-number-states-clause-refused : goal.returns-then-number-states-clause-refused
-returns-then-number-states-clause-refused g c _ hs w adm st =
+returns-then-number-states-clause-refused g c hs w adm st =
     let bs : List ℕ = c.args.bytes.now in
     let p = parts hs bs st in
     let lim = c.in-Ok.header.limits in
@@ -23,7 +23,7 @@ returns-then-number-states-clause-refused g c _ hs w adm st =
     ∙ sym (ap length (rest_of (80 + 8 * (lim.most + lim.most_larger)) bs)))
 
 pub returns-in-Err-2-clause-refused : goal.returns-in-Err-2-clause-refused
-returns-in-Err-2-clause-refused g c _ hs w adm st =
+returns-in-Err-2-clause-refused g c hs w adm st =
     let bs : List ℕ = c.args.bytes.now in
     let p = parts hs bs st in
     let lim = c.in-Ok.header.limits in
@@ -103,3 +103,6 @@ returns-in-Err-2-clause-fault g c =
       subst (λ r. IsStatesFault h.limits g.T.Index.NodeIndex.MAX h.made c.args.most_allocs m bs r wrong.at wrong.kind) (rest_of (80 + 8 * m) bs)
           (inr (sym c.number.ensures ∙ c.if-number-ne0.false, sym c.number-2.ensures ∙ c.if-number-states.false, f)),
     )
+
+pub returns-in-Err-clause-refused : goal.returns-in-Err-clause-refused
+returns-in-Err-clause-refused g c = c.in-Err.ensures.wrong refl

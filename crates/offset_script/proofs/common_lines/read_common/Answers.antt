@@ -11,7 +11,7 @@ loop-command-preserved c =
       read = rw c.in_ok-push.ensures.items
           (reads_one_more c.loop-command.number c.loop-command.rest.now c.in-Some.after.now c.in-Some.command _ c.args.commands.now.items c.loop-command.commands.items c.loop-command.invariant.read
           head);
-      powers = λ valid. rw c.in_ok-push.ensures.items
-          (All-push (λ x. IsTrue (has_valid_alignment x)) c.loop-command.commands.items c.in-Some.command (c.loop-command.invariant.powers valid) (is_valid c.in-Some.command head.line head.spells));
+      alignments = λ valid. rw c.in_ok-push.ensures.items
+          (All-push (λ x. IsTrue (has_valid_alignment x)) c.loop-command.commands.items c.in-Some.command (c.loop-command.invariant.alignments valid) (is_valid c.in-Some.command head.line head.spells));
       shorter = omega arith;
     }

@@ -6,7 +6,7 @@ abbrev pub invariant-loop-command : goal.invariant-loop-command
 invariant-loop-command l = record {
   fits : l.number + length l.rest < 2 ^ 32;
   read : ReadsCommands (significant_from l.fn.lines.number l.fn.lines.rest.now) l.fn.commands.items (significant_from l.number l.rest) l.commands.items;
-  powers : All (λ c. IsTrue (has_valid_alignment c)) l.fn.commands.items → All (λ c. IsTrue (has_valid_alignment c)) l.commands.items;
+  alignments : All (λ c. IsTrue (has_valid_alignment c)) l.fn.commands.items → All (λ c. IsTrue (has_valid_alignment c)) l.commands.items;
   shorter : length l.rest ≤ length l.fn.lines.rest.now;
 }
 

@@ -12,7 +12,7 @@ loop-number-init c =
           (has_header c.args.text.now (record { number = c.in-Some.number; text = c.in-Some.line.now }) _ c.in-Some-header.header (omega arith) from_start (sym c.header.ensures ∙ c.in-Some-header.is)
           (sym c.is_admitted.ensures ∙ c.if-not-is_admitted.false))
           reads;
-      powers = c.in_ok-read_common.ensures.powers (rw c.new-commands.ensures.items (λ k d lt. absurd (omega arith)));
+      alignments = c.in_ok-read_common.ensures.alignments (rw c.new-commands.ensures.items (λ k d lt. absurd (omega arith)));
     }
 
 pub returns-in_default-command : goal.returns-in_default-command
@@ -27,8 +27,8 @@ loop-number-preserved c =
           (goes_on c.in-Some-header.header c.loop-number.commands.items _ (record { number = c.in-Some-next_line.number; text = c.in-Some-next_line.line.now }) _ c.in-Some-command.command _
           c.loop-number.invariant.read c.in-Some-next_line.ensures.line (sym c.command.ensures.command ∙ c.in-Some-command.is))
           reads;
-      powers = c.in_ok-read_common-2.ensures.powers (rw c.in_ok-push.ensures.items
-          (All-push (λ x. IsTrue (has_valid_alignment x)) c.loop-number.commands.items c.in-Some-command.command c.loop-number.invariant.powers c.in-Some-command.ensures.power));
+      alignments = c.in_ok-read_common-2.ensures.alignments (rw c.in_ok-push.ensures.items
+          (All-push (λ x. IsTrue (has_valid_alignment x)) c.loop-number.commands.items c.in-Some-command.command c.loop-number.invariant.alignments c.in-Some-command.ensures.alignment));
     }
 
 pub invariant_of-result-clause-low : goal.invariant_of-result-clause-low

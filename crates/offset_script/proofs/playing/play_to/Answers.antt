@@ -4,15 +4,15 @@ use Rattle.offset_script.proofs.{Simulation.steps_end, Agreement.IsAtState, Aski
 use Rattle.offset_script.proofs.playing.play_to.Goals as goal
 
 pub call-requires : goal.call-requires
-call-requires g c = record { held = c.loop-command.invariant.held; power = c.played-asked.ensures.power }
+call-requires g c = record { held = c.loop-command.invariant.held; alignment = c.played-asked.ensures.alignment }
 
 pub hear-requires : goal.hear-requires
 hear-requires g c =
     let s = start c.args.size c.args.max_allocs in
     let before = map g.L.Listener.played (take c.loop-command.command-index c.args.commands.now) in
     let t = told c.played-asked.result (after before s) _ _ _ _ _ (well_after before s (well_start c.args.size c.args.max_allocs c.requires.low)) c.loop-command.invariant.represents
-    c.played-asked.ensures.power c.is_well_formed-in-loop-command.ensures c.in_ok-answer.ensures.takes in
-    record { power = c.played-asked.ensures.power; told = (after before s, t.0) }
+    c.played-asked.ensures.alignment c.is_well_formed-in-loop-command.ensures c.in_ok-answer.ensures.takes in
+    record { alignment = c.played-asked.ensures.alignment; told = (after before s, t.0) }
 
 pub loop-command-init : goal.loop-command-init
 loop-command-init g c =
@@ -35,7 +35,7 @@ loop-command-preserved g c =
     let q : Command = c.played-asked.result in
     let within : i < length cs = omega arith in
     let t = told q (after before s) _ _ _ _ _ (well_after before s (well_start c.args.size c.args.max_allocs c.requires.low)) c.loop-command.invariant.represents
-    c.played-asked.ensures.power c.is_well_formed-in-loop-command.ensures c.in_ok-answer.ensures.takes in
+    c.played-asked.ensures.alignment c.is_well_formed-in-loop-command.ensures c.in_ok-answer.ensures.takes in
     let more : map g.L.Listener.played (take (i + 1) cs) ≡ before ++ q ∷ [] =
     ap (map g.L.Listener.played) (take_more cs i _ within) ∙ map-append g.L.Listener.played (take i cs) _ ∙ ap (λ x. before ++ x ∷ []) (sym c.played-asked.ensures.command) in
     record {
