@@ -188,6 +188,26 @@ PAIRS = [
         "pub use answers::{Answer, FullRow, full_answer, put_answer};",
         "the same",
     ),
+    (
+        "self.heads[class as usize]",
+        "self.heads[class as u8 as usize]",
+        "a class is below 256, as the contract requires: a place that is read from a `u8` needs no test",
+    ),
+    (
+        "self.masks[word as usize]",
+        "self.masks[word as usize % 4]",
+        "a word is below 4, as the contract requires: the same",
+    ),
+    (
+        "class_of(size - 1, size.ilog2()) + 1",
+        "(class_of(size - 1, size.ilog2()) + 1) as u8 as u32",
+        "the class is at most 240, as its contract says: with this the compiler knows it too, and tests no place for it",
+    ),
+    (
+        "class_of(size, (size | MANTISSA_VALUE).ilog2())",
+        "class_of(size, (size | MANTISSA_VALUE).ilog2()) as u8 as u32",
+        "the class is at most 239: the same",
+    ),
 ]
 
 # What a public function requires of its caller: the clause, the test that is made at the call, the panic's message, and
