@@ -3,10 +3,10 @@
 //! - `list`: the name and the number of steps of each.
 //! - `time NAME COUNT`: the nanoseconds of the fastest of COUNT runs, and of the fastest of as many without steps, and the
 //!   checksum of the answers.
-//! - `play NAME all|none`: one run with all of its steps or with none, for a counter of instructions.
+//! - `play NAME COUNT`: one run with at most so many of its steps, for a counter of instructions: how many, and the checksum.
 //! - `elsewhere`: calls the second call sites, which a compiler would leave out otherwise.
-// not all of what the sides share is used by each
-#![allow(dead_code)]
+// not all of what the programs share is used by each
+#![allow(dead_code, unused_imports, unused_macros)]
 #[cfg(feature = "original")]
 mod original;
 #[cfg(not(feature = "original"))]
@@ -27,7 +27,15 @@ use workloads::{Step, Work, Workload};
 /// The workloads beside the recorded programs: the last but one has 262,144 live ranges.
 const RANDOM: [&str; 5] = ["random, 1k live", "random, 16k live", "random, 60k live", "growth, 1048576 nodes", "random, a million live"];
 
-/// The nanoseconds of a run with so many of the steps, and its checksum.
+/// A workload, its slots and its steps.
+fn workload(name: &str) -> (Workload, usize, Vec<Step>) {
+    let mut found = workloads::all(Some(name)).pop().unwrap_or_else(|| panic!("no workload {name}"));
+    let Work::Steps { slots, steps } = &mut found.work else { panic!("{name} has no steps") };
+    let (slots, steps) = (*slots, std::mem::take(steps));
+    (found, slots, steps)
+}
+
+/// The nanoseconds of a run with these steps, and its checksum.
 fn timed(w: &Workload, slots: usize, steps: &[Step]) -> (f64, u64) {
     let start = Instant::now();
     let sum = black_box(unsafe { play(w.space, w.nodes, slots, steps.as_ptr(), steps.len()) });
@@ -44,28 +52,26 @@ fn elsewhere(space: &mut Allocator, size: u32) -> bool {
 fn main() {
     let words: Vec<String> = std::env::args().skip(1).collect();
     let words: Vec<&str> = words.iter().map(String::as_str).collect();
-    let workload = |name: &str| workloads::all(Some(name)).pop().unwrap_or_else(|| panic!("no workload {name}"));
     match words[..] {
         ["list"] => {
             for name in traces::names().into_iter().chain(RANDOM.map(String::from)) {
-                println!("{name}\t{}", workload(&name).count());
+                println!("{name}\t{}", workload(&name).2.len());
             }
         }
         ["time", name, count] => {
-            let w = workload(name);
-            let Work::Steps { slots, ref steps } = w.work else { panic!("{name} has no steps") };
+            let (w, slots, steps) = workload(name);
             let (mut all, mut none, mut sum) = (f64::MAX, f64::MAX, 0);
             for _ in 0..count.parse().unwrap() {
-                let (taken, found) = timed(&w, slots, steps);
+                let (taken, found) = timed(&w, slots, &steps);
                 (all, sum) = (all.min(taken), found);
                 none = none.min(timed(&w, slots, &[]).0);
             }
             println!("{all}\t{none}\t{sum}");
         }
-        ["play", name, what @ ("all" | "none")] => {
-            let w = workload(name);
-            let Work::Steps { slots, ref steps } = w.work else { panic!("{name} has no steps") };
-            println!("{}", timed(&w, slots, if what == "all" { steps } else { &[] }).1);
+        ["play", name, count] => {
+            let (w, slots, steps) = workload(name);
+            let steps = &steps[..steps.len().min(count.parse().unwrap())];
+            println!("{}\t{}", steps.len(), timed(&w, slots, steps).1);
         }
         #[cfg(feature = "two-sites")]
         ["elsewhere"] => println!("{}", elsewhere(&mut <Allocator as player::Space>::make(1000, 100), 1000)),
