@@ -22,7 +22,7 @@ pub struct Trace {
 }
 
 /// The folder of the scripts, in the checkout that this package is of.
-fn folder() -> PathBuf {
+pub fn folder() -> PathBuf {
     let above = Path::new(env!("CARGO_MANIFEST_DIR")).ancestors();
     above.map(|it| it.join("bench/traces")).find(|it| it.is_dir()).unwrap()
 }
