@@ -10,17 +10,17 @@ SIDES, PROFILES, SITES = ("original", "ours"), ("release", "lto"), ("one", "two"
 BUILDS = [(profile, sites) for profile in PROFILES for sites in SITES]
 # the programs, in the order in which they take turns
 PROGRAMS = [(side, *build) for build in BUILDS for side in SIDES]
-# the turns, and the runs of a program in a turn; no further turn is begun for a workload after so many seconds, but for LEAST
-TURNS, RUNS, ENOUGH, LEAST = int(os.environ.get("TURNS", 15)), 2, 25, 5
-# the most steps of a run that is counted
+# the turns, and the fewest; no further one is begun for a workload after so many seconds
+TURNS, LEAST, ENOUGH = int(os.environ.get("TURNS", 12)), 5, 20
+# the most steps of a recorded program that are counted
 COUNTED = 200_000
 # the names of the workloads that are not recorded programs, and the most of the original's time that each may take
 RANDOM = {"random, 1k live": (0.70, "random, 1,000 live"), "random, 16k live": (0.70, "random, 16,000 live"), "random, 60k live": (0.70, "random, 60,000 live"),
           "growth, 1048576 nodes": (0.85, "random, 262,144 live"), "random, a million live": (0.85, "random, a million live")}
 RECORDED = 0.65
 AIMS = {"recorded programs": RECORDED, "random, to 60,000 live": 0.70, "random, more": 0.85}
-# what is counted: larger tables take long
-BELOW = 0.70
+# the random workload that is counted: one is as the others, and larger tables take long
+ALSO = "random, 60k live"
 # memset by vectors: callgrind counts each byte of `rep stosb`
 AROUND = {**os.environ, "GLIBC_TUNABLES": "glibc.cpu.x86_rep_stosb_threshold=4000000000"}
 
@@ -53,7 +53,7 @@ def times():
             if turn >= LEAST and time.time() - start > ENOUGH:
                 break
             for program in PROGRAMS:
-                *taken, checksum = printed(program, "time", name, str(RUNS)).split()
+                *taken, checksum = printed(program, "time", name, "1" if count > 2_000_000 else "2").split()
                 fastest[program] = [min(a, float(b)) for a, b in zip(fastest[program], taken)]
                 sums.add(checksum)
         assert len(sums) == 1, f"{name}: the answers differ"
@@ -78,8 +78,8 @@ def counted(program, name, count):
 def counts():
     """Of each workload and program the instructions of a step, and the jumps that depend on something."""
     with ThreadPoolExecutor(os.cpu_count()) as pool:
-        jobs = {(name, program): [pool.submit(counted, program, name, count) for count in (COUNTED, 0)]
-                for name in works() if most(name) <= BELOW for program in PROGRAMS}
+        jobs = {(name, program): [pool.submit(counted, program, name, most) for most in (COUNTED if name not in RANDOM else count, 0)]
+                for name, count in works().items() if name not in RANDOM or name == ALSO for program in PROGRAMS}
         found = {}
         for (name, program), both in jobs.items():
             (*all, steps), (*none, _) = (job.result() for job in both)
@@ -103,7 +103,7 @@ def cell(value, limit=float("inf")):
 
 
 def kind(name):
-    return "recorded programs" if name not in RANDOM else "random, to 60,000 live" if most(name) <= BELOW else "random, more"
+    return "recorded programs" if name not in RANDOM else "random, to 60,000 live" if most(name) == RANDOM[ALSO][0] else "random, more"
 
 
 HEADS = [f"{profile}: {sites}" for profile, sites in BUILDS]
