@@ -1,6 +1,7 @@
 """What `erase` may do besides leaving out contracts: the one table that a reader has to judge.
 
-No entry depends on what a crate computes. Texts are compared by their tokens, so layout does not matter.
+No entry depends on what a crate computes, but for four: a class is below 256, and a word of the masks below 4, which
+contracts say. Texts are compared by their tokens, so layout does not matter.
 An entry that is not used by the sources stops `erase`, so that none outlives its reason.
 """
 
