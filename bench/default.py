@@ -3,6 +3,7 @@ report prints the tables, and writes them into default.txt and the first part of
 import hashlib, json, os, pathlib, subprocess, sys, tempfile, time
 from concurrent.futures import ThreadPoolExecutor
 import pages
+from measures import processors
 
 OUT = pathlib.Path(sys.argv[1])
 HERE = pathlib.Path(__file__).resolve().parent
@@ -45,7 +46,7 @@ def most(name):
 
 def times():
     """Of each workload and program the nanoseconds of a step in the fastest run."""
-    began, found = time.time(), {}
+    began, before, found = time.time(), processors(), {}
     for name, count in works().items():
         fastest, sums = {program: [float("inf")] * 2 for program in PROGRAMS}, set()
         start = time.time()
@@ -61,7 +62,9 @@ def times():
         print(name, *(f"{ns:.1f}" for ns in found[name].values()), file=sys.stderr)
     with open("/proc/cpuinfo") as file:
         processor = next((line.split(": ")[1].strip() for line in file if line.startswith("model name")), "unknown")
-    return {"work": found, "minutes": (time.time() - began) / 60, "processor": processor,
+    seconds = time.time() - began
+    spent, _steal, own = (b - a for a, b in zip(before, processors()))
+    return {"work": found, "minutes": seconds / 60, "others": (spent - own) / seconds, "processor": processor,
             "rustc": subprocess.run(["rustc", "--version"], check=True, capture_output=True, text=True).stdout.strip().split(" (")[0]}
 
 
@@ -131,7 +134,7 @@ def report():
             above = sum(round(value, 2) > limit for value in values)
             aims.append([f"{what}, {profile}", f"{limit:.2f}", cell(max(values), limit), f"{above} of {len(values)}"])
     when = (f"All times took {timed['minutes']:.0f} minutes ({timed['processor']}, {timed['rustc']}), by turns, and the fastest run counts. "
-            "All answers were equal.")
+            f"Meanwhile other programs took {timed['others']:.2f} of a processor. All answers were equal.")
     explained = ("*release* is `cargo build --release` with no flag, *lto* has `lto = true` and `codegen-units = 1`; ours is the crate for cargo. "
                  "Each program has one side, and calls each function from one place or from two.")
     shown = ["# As a user builds it", "", explained, "", when, "",
