@@ -81,6 +81,21 @@ def text_of(report):
     return "\n".join(lines).strip() + "\n"
 
 
+# the page of results, whose two parts are of two reports
+HEAD = ["# Results", "", "For whoever compares speed. [README.md](README.md) says how all is measured."]
+PARTS = ("## As a user builds it", "## Special builds")
+
+
+def put(folder, part, page, name, report):
+    """Writes one part of RESULTS.md, and leaves the other; and the whole report, into NAME.txt."""
+    path = folder / "RESULTS.md"
+    text = path.read_text() if path.exists() else ""
+    bodies = [found[1] if (found := re.search(rf"^{heading}\n\n(.*?)(?=^## |\Z)", text, re.M | re.S)) else "" for heading in PARTS]
+    bodies[part] = "\n".join(page)
+    path.write_text("\n\n".join(["\n".join(HEAD), *(f"{heading}\n\n{body.strip()}" for heading, body in zip(PARTS, bodies))]) + "\n")
+    (folder / f"{name}.txt").write_text(text_of(report))
+
+
 def write(folder, name, page, report):
     """Writes the page NAME.md, and the whole report beside it."""
     (folder / f"{name.upper()}.md").write_text("\n".join(page).strip() + "\n")

@@ -1,5 +1,5 @@
 """Prints what bench/run has measured with the programs in the folder $1, and writes it into results.txt,
-RESULTS.md, which has the chief of it, and plot.svg. With $2 it measures the workloads with this text in their
+the second part of RESULTS.md, which has the chief of it, and plot.svg. With $2 it measures the workloads with this text in their
 names itself, and writes no file; with a further word `counts` it takes no times."""
 import math, sys
 from typing import NamedTuple
@@ -365,21 +365,18 @@ AMONG = ("random, 60k live", "random, a million live", "frames of 60,000, each r
 
 
 def brief(report):
-    """The page: the aims, and of the steps the recorded programs and some workloads more."""
+    """The part of the page: the aims, and of the steps the recorded programs and some workloads more."""
     when = next((line for line in report if line.startswith("All times took")), "")
     # without the place of the most
     head, *aims = [[*row[:3], row[4]] for row in pages.table(report, "Aims")]
-    missed = [row for row in aims if "**" in row[2]]
     steps = [row for row in pages.table(report, "A step")[1:] if row[0] in AMONG or row[0] in traces()]
-    return ["# Results", "",
-            "For whoever compares speed: *ours* is what the prover's toolchain builds, *erased* the crate for `cargo`. "
-            "[results.txt](results.txt) has all tables, [README.md](README.md) how they are measured.", "",
+    return ["*ours* is what the prover's toolchain builds, *erased* the crate for `cargo`: all for x86-64-v2, and for times without "
+            "jumps that cross 32 bytes. [results.txt](results.txt) has all tables.", "",
             when, "",
-            "## Aims", "",
-            "Missed:", "",
-            *pages.lines_of(head, missed), "",
-            f"The other {len(aims) - len(missed)} are met.", "",
-            "## A step", "",
+            "### Aims", "",
+            "In bold: missed.", "",
+            *pages.lines_of(head, aims), "",
+            "### A step", "",
             "Without the construction. All sides returned the same offsets and refusals.", "",
             *pages.lines_of([*map(str.strip, CHIEF)], [[row[at] for at in CHIEF.values()] for row in steps])]
 
@@ -464,7 +461,7 @@ def main():
                   "The erased side, per live range.", "",
                   *compacting_table(compacting)]
     if not part:
-        pages.write(HERE, "results", brief(shown), shown)
+        pages.put(HERE, 1, brief(shown), "results", shown)
         (HERE / "plot.svg").write_text(plot(work, growth))
     print(pages.text_of(shown))
     missed = sum(value > most for _what, most, values in found for value, _ in values)

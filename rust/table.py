@@ -1,6 +1,7 @@
 """What `erase` may do besides leaving out contracts: the one table that a reader has to judge.
 
-No entry depends on what a crate computes. Texts are compared by their tokens, so layout does not matter.
+No entry depends on what a crate computes, but for four: a class is below 256, and a word of the masks below 4, which
+contracts say. Texts are compared by their tokens, so layout does not matter.
 An entry that is not used by the sources stops `erase`, so that none outlives its reason.
 """
 
@@ -187,6 +188,26 @@ PAIRS = [
         "pub use answers::{Answer, FullRow, full_answer};",
         "pub use answers::{Answer, FullRow, full_answer, put_answer};",
         "the same",
+    ),
+    (
+        "self.heads[class as usize]",
+        "self.heads[class as u8 as usize]",
+        "a class is below 256, as the contract requires: a place that is read from a `u8` needs no test",
+    ),
+    (
+        "self.masks[word as usize]",
+        "self.masks[word as usize % 4]",
+        "a word is below 4, as the contract requires: the same",
+    ),
+    (
+        "class_of(size - 1, size.ilog2()) + 1",
+        "(class_of(size - 1, size.ilog2()) + 1) as u8 as u32",
+        "the class is at most 240, as its contract says: with this the compiler knows it too, and tests no place for it",
+    ),
+    (
+        "class_of(size, (size | MANTISSA_VALUE).ilog2())",
+        "class_of(size, (size | MANTISSA_VALUE).ilog2()) as u8 as u32",
+        "the class is at most 239: the same",
     ),
 ]
 

@@ -1,5 +1,5 @@
 //! Ours as plain Rust.
-use crate::peers::REFUSED;
+use crate::traces::REFUSED;
 use crate::player::{exported, Space};
 use offset_allocator_proved::{Allocation, Allocator, Global, NodeIndex};
 

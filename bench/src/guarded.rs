@@ -1,5 +1,5 @@
 //! Ours as plain Rust, with tickets in place of handles.
-use crate::peers::REFUSED;
+use crate::traces::REFUSED;
 use crate::player::{exported, second_site, Space};
 use offset_allocator_guarded::{Global, Guarded, Ticket};
 use offset_allocator_proved::NodeIndex;

@@ -1,5 +1,5 @@
 //! The original.
-use crate::peers::REFUSED;
+use crate::traces::REFUSED;
 use crate::player::{exported, Space};
 use offset_allocator::{Allocation, Allocator, NodeIndex};
 

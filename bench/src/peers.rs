@@ -1,14 +1,11 @@
 //! The peers that are linked.
+pub use crate::traces::{REFUSED, RELEASED};
 use crate::traces::Step;
 use std::ffi::{c_char, CStr};
 
 pub type Play = unsafe extern "C" fn(u32, u32, usize, *const Step, usize) -> u64;
 /// Plays the steps, and stores every answer.
 pub type Answers = unsafe extern "C" fn(u32, u32, usize, *const Step, usize, *mut u64) -> u64;
-
-/// The two answers to a step that are not an offset.
-pub const REFUSED: u64 = 1 << 32;
-pub const RELEASED: u64 = 1 << 33;
 
 #[repr(C)]
 struct Peer {

@@ -1,6 +1,5 @@
 //! The player of the sides in Rust: the same steps on each.
-use crate::peers::{REFUSED, RELEASED};
-use crate::workloads::Step;
+use crate::traces::{Step, REFUSED, RELEASED};
 
 /// A space of a side, whose grants the caller keeps in slots.
 pub trait Space: Sized {

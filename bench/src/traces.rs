@@ -1,4 +1,5 @@
 //! The recorded programs in `traces/`: each script there, as steps.
+use std::path::{Path, PathBuf};
 
 #[repr(C)]
 #[derive(Clone, Copy)]
@@ -8,6 +9,10 @@ pub struct Step {
     pub size: u32,
 }
 
+/// The two answers to a step that are not an offset.
+pub const REFUSED: u64 = 1 << 32;
+pub const RELEASED: u64 = 1 << 33;
+
 /// What a program requested and released, once. Each grant has a slot of its own.
 pub struct Trace {
     pub space: u32,
@@ -16,11 +21,15 @@ pub struct Trace {
     pub steps: Vec<Step>,
 }
 
-const FOLDER: &str = concat!(env!("CARGO_MANIFEST_DIR"), "/traces");
+/// The folder of the scripts, in the checkout that this package is of.
+pub fn folder() -> PathBuf {
+    let above = Path::new(env!("CARGO_MANIFEST_DIR")).ancestors();
+    above.map(|it| it.join("bench/traces")).find(|it| it.is_dir()).unwrap()
+}
 
 /// The names of all, in order.
 pub fn names() -> Vec<String> {
-    let files = std::fs::read_dir(FOLDER).unwrap().map(|entry| entry.unwrap().file_name().into_string().unwrap());
+    let files = std::fs::read_dir(folder()).unwrap().map(|entry| entry.unwrap().file_name().into_string().unwrap());
     let mut found: Vec<String> = files.filter_map(|file| Some(file.strip_suffix(".script")?.to_string())).collect();
     found.sort();
     found
@@ -28,11 +37,11 @@ pub fn names() -> Vec<String> {
 
 /// This name, if it is one of them.
 pub fn name(name: &str) -> Option<String> {
-    std::path::Path::new(FOLDER).join(format!("{name}.script")).exists().then(|| name.to_string())
+    folder().join(format!("{name}.script")).exists().then(|| name.to_string())
 }
 
 pub fn read(name: &str) -> Trace {
-    let text = std::fs::read_to_string(format!("{FOLDER}/{name}.script")).unwrap();
+    let text = std::fs::read_to_string(folder().join(format!("{name}.script"))).unwrap();
     let number = |word: &str| word.parse::<u32>().unwrap_or_else(|_| panic!("{name}: a number: {word}"));
     let mut lines = text.lines().map(|line| line.split(' ').collect::<Vec<&str>>());
     let header = lines.next().unwrap_or_default();

@@ -218,21 +218,21 @@ impl<NI: NodeIndex> Tables for ByNode<NI> {
 
     fn head(&self, class: u32, count: &mut Accesses) -> u32 {
         count.tick();
-        self.heads[class as usize]
+        self.heads[class as u8 as usize]
     }
 
     fn set_head(&mut self, class: u32, name: u32, count: &mut Accesses) {
         count.tick();
-        self.heads[class as usize] = name;
+        self.heads[class as u8 as usize] = name;
     }
 
     fn mask(&self, word: u32, count: &mut Accesses) -> u64 {
         count.tick();
-        self.masks[word as usize]
+        self.masks[word as usize % 4]
     }
 
     fn set_mask(&mut self, word: u32, mask: u64, count: &mut Accesses) {
         count.tick();
-        self.masks[word as usize] = mask;
+        self.masks[word as usize % 4] = mask;
     }
 }
