@@ -266,6 +266,7 @@ class Run {
   // This run, left after so many calls, and others from there on.
   async branch(kept, edits, work) {
     const b = new Run(this.head, this.calls.list.slice(0, WIDE * kept), this.names, this.lines);
+    Object.assign(b, { file: this.file, part: this.part });
     Object.assign(b, { kept, edits, named: Math.min(kept, this.named), count: kept, every: this.every, base: this.base || this });
     b.rows = this.rows.copy(8 * kept); b.used = this.used.copy(kept); b.inUse = this.usedAt(kept);
     b.refusals = this.refusals.filter(p => p <= kept); b.sizes = this.sizes.filter(([p]) => p <= kept);

@@ -1,0 +1,85 @@
+// Many heaps of one file: rows, of which each is opened as a space. Their time is that of the file, in its lines.
+const STEPS = 120, WHY_NOT = ['the request is for no unit', 'the request is larger than any heap may be', 'no heap has room, and no other may be made', 'no memory is left for another heap'];
+const nameOfPart = (file, i) => {
+  const { heap, title, head } = file.parts[i], same = file.parts.slice(0, i).filter(of => of.heap === heap).length;
+  return (heap === null ? (same ? `limit ${whole(head[1])}` : 'as it began') : `heap ${whole(heap)}` + (same ? ` (${whole(same + 1)})` : '')) + (title ? ` “${title}”` : ''); };
+const isSeveral = file => file.parts.length > 1 || file.isMany;
+// Plays each part for what its row shows. A call on a heap that was dropped is a fault.
+async function surveyed(file, bytes, work) {
+  let done = 0;
+  const all = file.parts.reduce((sum, of) => sum + of.lines.length, 0), last = file.lines + 1;
+  for (const of of file.parts) {
+    const run = of.run, curve = new Float32Array(STEPS).fill(-1), to = (of.to ?? last), step = line => Math.min(STEPS - 1, Math.floor(line / last * STEPS));
+    run.start(of.lines.length); run.left = 0;
+    let before = 0;
+    while (run.count < of.lines.length) {
+      // it stops behind a call that may slide ranges
+      done -= run.count; run.step(Math.min(512, of.lines.length - run.count)); done += run.count;
+      await work.turn(done, all);
+    }
+    for (const { p, line, next } of of.drops) if (next !== null && run.begunAt(p) === run.endedAt(p)) throw new Fault(`line ${next}: bad command`, next, ...spanOf(bytes, next));
+    const size = run.sizes.reduce((m, s) => Math.max(m, s[1]), 1);
+    for (let s = step(of.from), i = 0; s <= step(to) && s < STEPS; s++) {
+      let highest = before;
+      for (; i < of.lines.length && step(of.lines[i]) <= s; i++) { before = run.used.list[i]; highest = Math.max(highest, before); }
+      curve[s] = highest / size;
+    }
+    of.seen = { size: run.sizeAt(run.count), most: most(run.used.list, run.count, 1, 0), live: of.end ? 0 : run.lifeCount - run.ends.length, units: of.end ? 0 : run.usedAt(run.count), refused: run.refusals.length, curve };
+  }
+}
+function drawHeap(row, i) {
+  const { file } = S.run, of = file.parts[i], { seen } = of;
+  cell(row, nameOfPart(file, i), 'h', nameOfPart(file, i)); cell(row, sized(seen.size), 'u'); cell(row, `${whole(seen.live)}, ${sized(seen.units)}`, 'u'); cell(row, sized(seen.most), 'u');
+  cell(row, whole(of.lines.length), 'n'); cell(row, seen.refused ? whole(seen.refused) : '', 'n bad'); cell(row, of.end || '', 'e');
+  const c = document.createElement('canvas'); c.className = 'strip'; row.append(c);
+  if (i === S.part) row.classList.add('now');
+  requestAnimationFrame(() => {
+    if (!c.isConnected) return;
+    const [g, w, h] = canvas(c), at = lineAt(S.run, S.p) / (file.lines + 1) * w, ink = colors();
+    g.fillStyle = ink.free; const first = seen.curve.findIndex(v => v >= 0), end = seen.curve.findLastIndex(v => v >= 0) + 1;
+    g.fillRect(first / STEPS * w, 2, (end - first) / STEPS * w, h - 4);
+    g.fillStyle = ink.ages[3];
+    for (let s = first; s < end; s++) g.fillRect(s / STEPS * w, h - 2 - seen.curve[s] * (h - 4), w / STEPS + 0.5, seen.curve[s] * (h - 4));
+    g.fillStyle = ink.mark; g.fillRect(Math.min(w - 1, at), 0, 1.5, h);
+  });
+}
+// The line of the file that a position is at.
+const lineAt = (run, p) => p ? run.lines[Math.min(p, run.lines.length) - 1] || run.part.from : run.part ? run.part.from : 0;
+function showHeaps() {
+  const { file } = S.run, isShown = Boolean(file && isSeveral(file));
+  $('heaps').hidden = !isShown;
+  if (!isShown) return;
+  const { parts, others } = file, refused = others.filter(o => o.kind === OTHER.refused);
+  tell('heapshead', file.isMany ? `${counted(parts.length, 'heap')} in this file` : `${counted(parts.length, 'space')} in this file, one after the other`);
+  const left = parts.reduce((sum, of) => sum + of.seen.units, 0);
+  tell('heapsum', `Shown below: ${nameOfPart(file, S.part)}. Live at the end in all: ${counted(parts.reduce((sum, of) => sum + of.seen.live, 0), 'range')}, ${units(left)}.` +
+    (file.isMany ? ` ${refused.length ? counted(refused.length, 'request') : 'No request'} that no heap granted.` : ''));
+  L.heaps.chosen = S.part; if (L.heaps.count !== parts.length || L.heaps.of !== file) { L.heaps.of = file; L.heaps.set(parts.length); L.heaps.show(S.part); } else L.heaps.paint();
+  $('nogrant').hidden = !others.length;
+  if (L.others.of !== file) { L.others.of = file; L.others.set(others.length); }
+  $('nogranthead').textContent = `${counted(others.length, 'call')} that changed no heap`;
+}
+function saidOf({ kind, n, a, why }) {
+  if (kind === OTHER.gone) return ['a place that is not live', 'gone'];
+  const request = a > 1 ? `align ${n} ${a}` : `alloc ${n}`;
+  return kind === OTHER.kept ? [`relocate ${units(n)}${a > 1 ? ` at a multiple of ${whole(a)}` : ''}`, 'no other heap takes it'] : [request, WHY_NOT[why]];
+}
+function drawOther(row, i) {
+  const other = S.run.file.others[i], [what, why] = saidOf(other);
+  cell(row, whole(other.line), 'n', 'The line of the file'); cell(row, what, 'c'); cell(row, why, other.kind === OTHER.refused ? 'bad' : '', why);
+  if (other.name) cell(row, other.name, 'dim', other.name);
+}
+// Opens another part, at the time of the file that is shown, or at a line.
+async function openPart(i, line = lineAt(S.run, S.p)) {
+  stop();
+  if (i === S.part) return jump(rowAtLine(S.run, line));
+  const { file } = S.run, of = file.parts[i];
+  const run = await during('Playing', work => of.run.survey(work));
+  if (!run) return null;
+  leave();
+  Object.assign(run, { file, part: of });
+  Object.assign(S, { run, base: run, part: i, past: [], ahead: [], grant: 0, free: undefined, zoom: null, life: null, find: null });
+  dropOther(); showNames(); await look(); go(rowAtLine(run, line)); enter();
+  return null;
+}
+const rowAtLine = (run, line) => firstOf(run.lines.length, i => run.lines[i] > line);
