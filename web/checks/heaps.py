@@ -296,7 +296,7 @@ def dumps(b):
          [["heap 0 “DefaultPools, Type 0, block 0”", 268435456, 2], ["heap 1 “DefaultPools, Type 0, block 7”", 1024, 0],
           ["heap 2 “DefaultPools, Type 0, dedicated 0”", 33554432, 1], ["heap 3 “CustomPools, Type 1, staging, block 0”", 4096, 1]], "a dump of VMA has a heap for each block")
     same(b.run(ranges), [[0, 65536, "BUFFER: vertices"], [66560, 100, "IMAGE_OPTIMAL: 0x7f"]], "with its ranges")
-    same(b.run("return [S.unit, $('heapsum').textContent]"), [1, "Shown below: heap 0 “DefaultPools, Type 0, block 0”. Live at the end in all: 4 ranges, 33,624,164 units (32.1 MiB). No request that no heap granted."], "in bytes")
+    same(b.run("return [S.unit, $('heapsum').textContent]"), [1, "Shown below: heap 0 “DefaultPools, Type 0, block 0”. Live at the end in all: 4 ranges, 33,624,164 units (32.1 MiB)."], "in bytes")
     large = json.dumps({"DefaultPools": {"Type 0": {"Blocks": {"0": {"TotalBytes": 1 << 34, "Suballocations": [{"Offset": 768, "Type": "BUFFER", "Size": 1 << 33}]}}}}})
     give(b, large, "large.json")
     same([b.run("return [S.unit, S.run.head[0]]"), b.run(ranges)], [[256, 1 << 26], [[3, 1 << 25, "BUFFER"]]], "what is larger than a space is counted in larger units")

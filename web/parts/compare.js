@@ -32,7 +32,7 @@ async function another(run, [size, nodes, unit, compact], work) {
 async function besideFile(bytes, name) {
   const found = await during('Reading', async work => {
     const file = await readText(bytes, work), i = Math.max(0, file.parts.findIndex(of => of.heap === S.run.part.heap)), of = file.parts[i];
-    return Object.assign(await of.run.survey(work), { file, part: of });
+    return Object.assign(await of.run().survey(work), { file, part: of });
   }, bytes, name);
   if (!found) return;
   const a = S.run, b = found, at = new Uint32Array(a.count + 1), ends = run => {

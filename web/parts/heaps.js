@@ -7,9 +7,10 @@ const isSeveral = file => file.parts.length > 1 || file.isMany;
 // Plays each part for what its row shows. A call on a heap that was dropped is a fault.
 async function surveyed(file, bytes, work) {
   let done = 0;
+  const m = new Module();
   const all = file.parts.reduce((sum, of) => sum + of.lines.length, 0), last = file.lines + 1;
   for (const of of file.parts) {
-    const run = of.run, curve = new Float32Array(STEPS).fill(-1), to = (of.to ?? last), step = line => Math.min(STEPS - 1, Math.floor(line / last * STEPS));
+    const run = of.run(m), curve = new Float32Array(STEPS).fill(-1), to = (of.to ?? last), step = line => Math.min(STEPS - 1, Math.floor(line / last * STEPS));
     run.start(of.lines.length); run.left = 0;
     let before = 0;
     while (run.count < of.lines.length) {
@@ -53,7 +54,7 @@ function showHeaps() {
   tell('heapshead', file.isMany ? `${counted(parts.length, 'heap')} in this file` : `${counted(parts.length, 'space')} in this file, one after the other`);
   const left = parts.reduce((sum, of) => sum + of.seen.units, 0);
   tell('heapsum', `Shown below: ${nameOfPart(file, S.part)}. Live at the end in all: ${counted(parts.reduce((sum, of) => sum + of.seen.live, 0), 'range')}, ${units(left)}.` +
-    (file.isMany ? ` ${refused.length ? counted(refused.length, 'request') : 'No request'} that no heap granted.` : ''));
+    (refused.length ? ` ${counted(refused.length, 'request')} that no heap granted.` : ''));
   L.heaps.chosen = S.part; if (L.heaps.count !== parts.length || L.heaps.of !== file) { L.heaps.of = file; L.heaps.set(parts.length); L.heaps.show(S.part); } else L.heaps.paint();
   $('nogrant').hidden = !others.length;
   if (L.others.of !== file) { L.others.of = file; L.others.set(others.length); }
@@ -74,7 +75,7 @@ async function openPart(i, line = lineAt(S.run, S.p)) {
   stop();
   if (i === S.part) return jump(rowAtLine(S.run, line));
   const { file } = S.run, of = file.parts[i];
-  const run = await during('Playing', work => of.run.survey(work));
+  const run = await during('Playing', work => of.run().survey(work));
   if (!run) return null;
   leave();
   Object.assign(run, { file, part: of });

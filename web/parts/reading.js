@@ -50,7 +50,7 @@ class Part {
   constructor(heap, head, from, title) {
     Object.assign(this, { heap, head, from, title, calls: new Growing(Uint32Array, 64 * WIDE), lines: new Growing(Uint32Array, 64), names: new Map(), drops: [], to: null, end: '' });
   }
-  get run() { return new Run(this.head, this.calls, this.names, this.lines); }
+  run(m) { return new Run(this.head, this.calls, this.names, this.lines, m); }
 }
 async function readText(bytes, work) {
   const m = new Module(), decoder = new TextDecoder(), one = new Map(), file = { parts: [], marks: [], others: [], isMany: false, lines: 0 }, open = new Map();
@@ -140,8 +140,10 @@ function mended(given) {
 }
 // The text of calls: what reads as them again.
 async function writeText(run, work) {
-  const parts = [`space ${run.head[0]} nodes ${run.head[1]} index ${run.head[2]}\n`];
-  for (let i = 0; i < run.count; i++) {
+  const parts = [`space ${run.head[0]} nodes ${run.head[1]} index ${run.head[2]}\n`], flags = flagsOf(run);
+  for (let i = 0, mark = 0; i <= run.count; i++) {
+    for (; mark < flags.length && flags[mark] <= i; mark++) if (run.file.marks[mark].line > run.part.from) parts.push(`#! ${run.file.marks[mark].text}\n`);
+    if (i === run.count) break;
     const name = run.callName(i);
     parts.push((name ? `# ${name}\n` : '') + said(...run.call(i)) + '\n');
     if (i % 4096 === 0) await work.turn(i, run.count);

@@ -96,8 +96,8 @@ function picked(source, old, others) {
   return list;
 }
 class Run {
-  constructor(head, calls, names, lines) {
-    Object.assign(this, { head, names, lines, count: 0, at: 0, held: null, m: new Module(), marks: [], kept: 0, edits: [], named: Infinity });
+  constructor(head, calls, names, lines, m = new Module()) {
+    Object.assign(this, { head, names, lines, count: 0, at: 0, held: null, m, marks: [], kept: 0, edits: [], named: Infinity });
     this.calls = new Growing(Uint32Array, 0);
     this.calls.list = calls; this.calls.length = calls.length;
     this.rows = new Growing(Uint32Array, 8 * this.all + 8);

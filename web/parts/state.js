@@ -40,7 +40,7 @@ async function load(bytes, name, title, part = 0) {
     if (!of) throw new Fault(`the file has ${counted(file.parts.length, 'space')}, and none of the number ${whole(part)}`);
     work.what = 'Playing';
     if (isSeveral(file)) await surveyed(file, bytes, work);
-    return Object.assign(await of.run.survey(work), { file, part: of });
+    return Object.assign(await of.run().survey(work), { file, part: of });
   }, bytes, name === 'own' && title !== OWN ? title : '');
   if (!run) { if (S.run) $('trace').value = S.name; return false; }
   leave();

@@ -305,6 +305,10 @@ private:
 class Recording {
 public:
     explicit Recording(std::FILE *file) noexcept : out(file), heaps(0) {}
+    // The name of the next heap, which has to be made next: a comment before its first line.
+    void name(const char *text) {
+        if (out && text) detail::Tape(out).comment(text);
+    }
     Recording(const Recording &) = delete;
     Recording &operator=(const Recording &) = delete;
 

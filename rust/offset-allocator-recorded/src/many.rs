@@ -34,18 +34,26 @@ use std::sync::{Arc, Mutex};
 pub struct Recording<W: Write> {
     out: Arc<Mutex<W>>,
     heaps: u32,
+    // the name of the next heap
+    name: Vec<u8>,
 }
 
 impl<W: Write> Recording<W> {
     /// A recording of no heap yet.
     pub fn new(out: W) -> Self {
-        Recording { out: Arc::new(Mutex::new(out)), heaps: 0 }
+        Recording { out: Arc::new(Mutex::new(out)), heaps: 0, name: Vec::new() }
+    }
+
+    /// The name of the next heap, for who reads the recording. Line ends become spaces.
+    pub fn name(&mut self, name: &str) -> &mut Self {
+        self.name = format!("# {}\n", in_one_line(name)).into_bytes();
+        self
     }
 
     // the writer of the next heap
     fn part(&mut self) -> Part<W> {
         self.heaps += 1;
-        Part { out: self.out.clone(), heap: self.heaps - 1, held: Vec::new() }
+        Part { out: self.out.clone(), heap: self.heaps - 1, thread: Vec::new(), held: std::mem::take(&mut self.name) }
     }
 
     /// Records one more allocator, as `Recorded::new` does.
@@ -69,7 +77,8 @@ impl<W: Write> Recording<W> {
 pub struct Part<W: Write> {
     out: Arc<Mutex<W>>,
     heap: u32,
-    // a name, which goes out with its request
+    // the mark of a thread, and a name, which go out with the next line
+    thread: Vec<u8>,
     held: Vec<u8>,
 }
 
@@ -84,23 +93,26 @@ impl<W: Write> Write for Part<W> {
     // Each line comes at once, with its end.
     fn write(&mut self, line: &[u8]) -> io::Result<usize> {
         let is_mark = line.starts_with(b"#!");
+        if line.starts_with(b"#! thread ") {
+            self.thread = line.to_vec();
+            return Ok(line.len());
+        }
         if line.starts_with(b"#") && !is_mark {
             self.held.clear();
             self.held.extend_from_slice(line);
             return Ok(line.len());
         }
-        let mut out = self.out.lock().unwrap_or_else(|broken| broken.into_inner());
-        if is_mark {
-            out.write_all(line)?;
-        } else {
+        // a name stays that of the next request
+        let mut all = std::mem::take(&mut self.thread);
+        if !is_mark {
+            all.append(&mut self.held);
             if line != b"\n" {
-                write!(self.held, "heap {} ", self.heap)?;
+                write!(all, "heap {} ", self.heap)?;
             }
-            self.held.extend_from_slice(line);
-            let found = out.write_all(&self.held);
-            self.held.clear();
-            found?;
         }
+        all.extend_from_slice(line);
+        let mut out = self.out.lock().unwrap_or_else(|broken| broken.into_inner());
+        out.write_all(&all)?;
         out.flush()?;
         Ok(line.len())
     }

@@ -67,7 +67,7 @@ fn allocators_of_ones_own() {
     let mut meshes = recording.guarded(Guarded::<u32>::with_max_allocs(Global, 100, 8, 1).unwrap()).unwrap();
     let mut space = Allocator::<u16>::with_max_allocs(Global, 50, 8).unwrap();
     let old = space.allocate(9).unwrap();
-    let mut textures = recording.allocator(space).unwrap();
+    let mut textures = recording.name("the\ntextures").allocator(space).unwrap();
     meshes.name("mesh");
     textures.frame_end();
     textures.name("lost");
@@ -85,7 +85,7 @@ fn allocators_of_ones_own() {
     let text = String::from_utf8(recording.finish().unwrap()).unwrap();
     assert_eq!(
         text,
-        "heap 0 space 100 nodes 8 index 32\nheap 1 space 50 nodes 8 index 16\nheap 1 at 0 50\nheap 1 shrink 1 9\n#! begun\n#! frame\n# lost\n\n\
+        "heap 0 space 100 nodes 8 index 32\n# the textures\nheap 1 space 50 nodes 8 index 16\nheap 1 at 0 50\nheap 1 shrink 1 9\n#! begun\n#! frame\n# lost\n\n\
          heap 1 alloc 5\n# mesh\nheap 0 alloc 20\nheap 1 free 1\nheap 0 space 100 nodes 9 index 32\nheap 0 at 0 100\nheap 0 shrink 1 20\n#! begun\n\
          heap 0 room 70\n"
     );
@@ -104,6 +104,7 @@ fn several_threads_write_whole_lines() {
         for heap in &mut heaps {
             scope.spawn(|| {
                 for i in 1..1000 {
+                    heap.thread(u64::from(i));
                     heap.name(&format!("range {i}")).allocate(i % 50);
                 }
             });
@@ -112,11 +113,11 @@ fn several_threads_write_whole_lines() {
     drop(heaps);
     let text = String::from_utf8(recording.finish().unwrap()).unwrap();
     assert_eq!(answers(&text).len(), 4 * 999);
-    // each request has its name directly before it
+    // each request has its thread and its name directly before it
     let lines: Vec<&str> = text.lines().skip(4).collect();
-    for pair in lines.chunks_exact(2) {
-        let i: u32 = pair[0].strip_prefix("# range ").unwrap().parse().unwrap();
-        assert!(pair[1].ends_with(&format!("alloc {}", i % 50)), "{pair:?}");
+    for three in lines.chunks_exact(3) {
+        let i: u32 = three[1].strip_prefix("# range ").unwrap().parse().unwrap();
+        assert!(three[0] == format!("#! thread {i}") && three[2].ends_with(&format!("alloc {}", i % 50)), "{three:?}");
     }
 }
 
