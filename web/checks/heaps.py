@@ -154,13 +154,20 @@ def faulty_heaps(b):
 def a_space_that_there_was(b):
     """A recording of a space that there was begins at its mark; a raised limit is another space."""
     begun = "space 100 nodes 4 index 32\nat 0 15\nat 15 85\nshrink 2 5\nshrink 1 10\n#! begun\n"
-    text = begun + "# big\nalloc 64\nalloc 70\nspace 100 nodes 40 index 32\nat 0 15\nat 15 85\nshrink 2 5\nshrink 1 10\n#! begun\nalloc 64\nalloc 3\n"
+    text = begun + "# big\nalloc 64\nalloc 70\nfree 3\nspace 100 nodes 40 index 32\nat 0 15\nat 15 85\nshrink 2 5\nshrink 1 10\n#! begun\n# big\nalloc 64\nalloc 3\n"
     b.open()
     give(b, text, "raised.script")
-    same([row(b), b.run("return [S.run.count, $('heapshead').textContent]")], [4, [6, "2 spaces in this file, one after the other"]], "it begins at its mark")
+    same([row(b), b.run("return [S.run.count, $('heapshead').textContent]")], [4, [7, "2 spaces in this file, one after the other"]], "it begins at its mark")
     same(b.run("return [...document.querySelectorAll('#heaprows .h')].map(e => e.textContent)"), ["as it began", "limit 40"], "each has a row")
     b.run("return openPart(1)")
-    same(b.run("return [...Array(S.run.count).keys()].map(i => answered(S.run, i))"), recorded(text)[0].splitlines()[6:], "the second is played with the larger limit")
+    same(b.run("return [...Array(S.run.count).keys()].map(i => answered(S.run, i))"), recorded(text)[0].splitlines()[7:], "the second is played with the larger limit")
+    same(b.run("return [S.run.nameOf(1), S.run.nameOf(2), S.run.nameOf(3)]"), ["", "", "big"], "the names of its own")
+    # a range keeps its name in what takes the place of its space, also where it has moved before; a heap too
+    moved = "# meshes\nheap 4 space 100 nodes 8 index 32\n# a\nheap 4 alloc 10\n# b\nheap 4 alloc 10\n# c\nheap 4 alloc 10\nheap 4 free 1\nheap 4 compact\n" \
+        "heap 4 space 100 nodes 9 index 32\nheap 4 at 0 10\nheap 4 at 10 90\nheap 4 shrink 2 10\n#! begun\nheap 4 at 30 5\n"
+    give(b, moved, "moved.script")
+    b.run("return openPart(1, 99)")
+    same(b.run("return [S.run.nameOf(1), S.run.nameOf(2), S.run.nameOf(3), nameOfPart(S.run.file, 1)]"), ["b", "c", "", "heap 4 (2) “meshes”"], "names go on")
     give(b, "space 9 nodes 9 index 32\nalloc 1\n", "one.script")
     same(b.run("return $('heaps').hidden"), True, "a recording of one space has no rows of heaps")
 
@@ -300,6 +307,8 @@ def dumps(b):
     large = json.dumps({"DefaultPools": {"Type 0": {"Blocks": {"0": {"TotalBytes": 1 << 34, "Suballocations": [{"Offset": 768, "Type": "BUFFER", "Size": 1 << 33}]}}}}})
     give(b, large, "large.json")
     same([b.run("return [S.unit, S.run.head[0]]"), b.run(ranges)], [[256, 1 << 26], [[3, 1 << 25, "BUFFER"]]], "what is larger than a space is counted in larger units")
+    give(b, "space 100 nodes 16 index 32\n#! unit 4096\nalloc 10\n", "unit.script")
+    same(b.run("return [S.unit, $('unit').value, $('marked').hidden, $('reports').textContent.slice(0, 21)]"), [4096, "4096", True, "100 units (400 KiB): "], "a recording says how large a unit is")
     before = b.run("return [S.name, S.run.count, S.title]")
     for text, why in [("{", "a text that begins with { is read as a dump, and is no JSON"), ("{}", "the JSON has no block with Suballocations"), ('{"a":[1,2,{"b":null}]}', "the JSON has no block"),
                       (OURS.replace('"Offset":0', '"Offset":-1'), "Offset is no number of bytes"), (OURS.replace('"Size":3', '"Size":"x"'), "Size is no number of bytes"),

@@ -2,7 +2,7 @@
 // whose ranges are requested at their places.
 const isDump = bytes => { let i = begins(bytes, 0xef, 0xbb, 0xbf) ? 3 : 0; while ([9, 10, 13, 32].includes(bytes[i])) i++; return bytes[i] === 0x7b; };
 const MOST_DUMPED = 1e6, MOST_DEEP = 12;
-// The text of a dump, and how many bytes a unit has, or 0 where it says nothing of bytes.
+// The text of a dump. It says how many bytes a unit has, where the dump is in bytes.
 function dumpText(bytes) {
   let dump;
   try { dump = JSON.parse(new TextDecoder().decode(bytes)); } catch (fault) { throw new Fault(`a text that begins with { is read as a dump, and is no JSON: ${fault.message}`); }
@@ -55,5 +55,6 @@ function dumpText(bytes) {
       lines.push(`# ${clean(r.name)}`, `${before}at ${r.o / unit} ${r.n / unit}`);
     }
   }
-  return { text: lines.join('\n') + '\n', unit: isVma || unit > 1 ? unit : 0 };
+  if (isVma || unit > 1) lines.unshift(`#! unit ${unit}`);
+  return lines.join('\n') + '\n';
 }

@@ -4,12 +4,20 @@ const nameOfPart = (file, i) => {
   const { heap, title, head } = file.parts[i], same = file.parts.slice(0, i).filter(of => of.heap === heap).length;
   return (heap === null ? (same ? `limit ${whole(head[1])}` : 'as it began') : `heap ${whole(heap)}` + (same ? ` (${whole(same + 1)})` : '')) + (title ? ` “${title}”` : ''); };
 const isSeveral = file => file.parts.length > 1 || file.isMany;
+// The ranges of a part that takes the place of another have the names that they had there: its first lines say where they are.
+function carryNames(of) {
+  const { named } = of.before;
+  for (let i = 0; i < of.lines.length && of.calls[WIDE * i] === OP.at; i++) {
+    const name = named.get(of.calls[WIDE * i + 1]);
+    if (name && !of.names.has(i)) of.names.set(i, name); }
+}
 // Plays each part for what its row shows. A call on a heap that was dropped is a fault.
 async function surveyed(file, bytes, work) {
   let done = 0;
   const m = new Module();
   const all = file.parts.reduce((sum, of) => sum + of.lines.length, 0), last = file.lines + 1;
   for (const of of file.parts) {
+    if (of.before) carryNames(of);
     const run = of.run(m), curve = new Float32Array(STEPS).fill(-1), to = (of.to ?? last), step = line => Math.min(STEPS - 1, Math.floor(line / last * STEPS));
     run.start(of.lines.length); run.left = 0;
     let before = 0;
@@ -19,6 +27,11 @@ async function surveyed(file, bytes, work) {
       await work.turn(done, all);
     }
     for (const { p, line, next } of of.drops) if (next !== null && run.begunAt(p) === run.endedAt(p)) throw new Fault(`line ${next}: bad command`, next, ...spanOf(bytes, next));
+    if (of.end === 'replaced') {
+      // a range is the last life of its grant
+      of.named = new Map();
+      for (let k = 1; k < run.born.length; k++) if (run.died.list[k] === ALIVE && run.nameOf(k)) of.named.set(run.life(run.last.list[k]).o, run.nameOf(k));
+    }
     const size = run.sizes.reduce((m, s) => Math.max(m, s[1]), 1);
     for (let s = step(of.from), i = 0; s <= step(to) && s < STEPS; s++) {
       let highest = before;

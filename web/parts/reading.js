@@ -48,12 +48,12 @@ function inOrder(count, key) {
 // A part is the recording of one space: of one heap of many, or of what takes the place of the one before.
 class Part {
   constructor(heap, head, from, title) {
-    Object.assign(this, { heap, head, from, title, calls: new Growing(Uint32Array, 64 * WIDE), lines: new Growing(Uint32Array, 64), names: new Map(), drops: [], to: null, end: '' });
+    Object.assign(this, { heap, head, from, title, calls: new Growing(Uint32Array, 64 * WIDE), lines: new Growing(Uint32Array, 64), names: new Map(), drops: [], to: null, end: '', before: null });
   }
   run(m) { return new Run(this.head, this.calls, this.names, this.lines, m); }
 }
 async function readText(bytes, work) {
-  const m = new Module(), decoder = new TextDecoder(), one = new Map(), file = { parts: [], marks: [], others: [], isMany: false, lines: 0 }, open = new Map();
+  const m = new Module(), decoder = new TextDecoder(), one = new Map(), file = { parts: [], marks: [], others: [], isMany: false, lines: 0, unit: 0 }, open = new Map();
   const bad = line => new Fault(`line ${line}: bad command`, line, ...spanOf(bytes, line));
   let at = 0, part = 0;
   do {
@@ -86,7 +86,9 @@ async function readText(bytes, work) {
         for (let j = 0; j < WIDE; j++) of.calls.list[of.calls.length++] = rows[i + j];
         of.lines.push(line);
       } else if (kind === OTHER.header || kind === OTHER.heap) {
-        const before = open.get(heap), next = new Part(kind === OTHER.heap ? heap : null, [rows[i + 1], rows[i + 2], rows[i + 3]], line, word);
+        const before = open.get(heap), isMore = before && !before.drops.length;
+        const next = new Part(kind === OTHER.heap ? heap : null, [rows[i + 1], rows[i + 2], rows[i + 3]], line, word || (isMore ? before.title : ''));
+        if (isMore) next.before = before;
         if (before) Object.assign(before, { to: before.drops.length ? before.drops.at(-1).line : line, end: before.drops.length ? 'dropped' : 'replaced' });
         file.isMany ||= kind === OTHER.heap;
         open.set(heap, next); file.parts.push(next);
@@ -94,7 +96,8 @@ async function readText(bytes, work) {
       } else if (kind === OTHER.giveUp) {
         const of = open.get(heap);
         if (of) { of.to = line; of.end = 'given up'; open.delete(heap); }
-      } else if (kind === OTHER.mark) file.marks.push(marked(file.marks.at(-1), line, word));
+      } else if (kind === OTHER.mark && /^unit \d{1,10}$/.test(word)) file.unit = Math.min(LARGEST, Number(word.slice(5)));
+      else if (kind === OTHER.mark) file.marks.push(marked(file.marks.at(-1), line, word));
       else { file.isMany = true; file.others.push({ line, kind, n: rows[i + 1], a: rows[i + 2], why: rows[i + 3], name: word }); }
     }
     at = end; part = 1;
@@ -140,7 +143,7 @@ function mended(given) {
 }
 // The text of calls: what reads as them again.
 async function writeText(run, work) {
-  const parts = [`space ${run.head[0]} nodes ${run.head[1]} index ${run.head[2]}\n`], flags = flagsOf(run);
+  const parts = [`space ${run.head[0]} nodes ${run.head[1]} index ${run.head[2]}\n${run.file?.unit ? `#! unit ${run.file.unit}\n` : ''}`], flags = flagsOf(run);
   for (let i = 0, mark = 0; i <= run.count; i++) {
     for (; mark < flags.length && flags[mark] <= i; mark++) if (run.file.marks[mark].line > run.part.from) parts.push(`#! ${run.file.marks[mark].text}\n`);
     if (i === run.count) break;

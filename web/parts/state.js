@@ -45,7 +45,7 @@ async function load(bytes, name, title, part = 0) {
   if (!run) { if (S.run) $('trace').value = S.name; return false; }
   leave();
   const before = { ...S };
-  Object.assign(S, { run, base: run, name, title, bytes, part, past: [], ahead: [], grant: 0, zoom: null, find: null, life: null });
+  Object.assign(S, { run, base: run, name, title, bytes, part, past: [], ahead: [], grant: 0, zoom: null, find: null, life: null, unit: run.file.unit || S.unit });
   say('');
   // another run takes nothing away: calls that were added come back by a click
   if (before.run !== before.base) say(`Your calls in ${before.title} are left.`, false, [['Back to them', () => {
@@ -95,8 +95,7 @@ async function take(bytes, title, isTyped = false) {
   if (isDump(bytes)) {
     let made;
     try { made = dumpText(bytes); } catch (fault) { say(`${title ? title + ', ' : ''}${fault.message}`, true); return false; }
-    if (!await load(new TextEncoder().encode(made.text), 'own', title || OWN)) return false;
-    if (made.unit) { S.unit = made.unit; await look(); }
+    if (!await load(new TextEncoder().encode(made), 'own', title || OWN)) return false;
     go(S.run.count); enter();
     return true;
   }

@@ -342,8 +342,10 @@ public:
     // name.
     void name(const char *text) { tape.comment(text); }
     // Marks, which change no answer, and between which the page shows what lives: a frame's end, a time in nanoseconds from a
-    // begin of the program's, the number of the thread of the calls from here on, and a text of the program's.
+    // begin of the program's, the number of the thread of the calls from here on, and a text of the program's. And how many bytes a
+    // unit has.
     void frameEnd() { tape.mark("frame"); }
+    void unit(uint32 bytes) { tape.mark("unit", bytes); }
     void time(uint64_t nanoseconds) { tape.mark("time", nanoseconds); }
     void thread(uint64_t number) { tape.mark("thread", number); }
     void mark(const char *text) {
@@ -496,6 +498,7 @@ public:
         next = copied(text);
     }
     void frameEnd() { tape.mark("frame"); }
+    void unit(uint32 bytes) { tape.mark("unit", bytes); }
     void time(uint64_t nanoseconds) { tape.mark("time", nanoseconds); }
     void thread(uint64_t number) { tape.mark("thread", number); }
     void mark(const char *text) {

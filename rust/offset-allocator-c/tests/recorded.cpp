@@ -123,11 +123,12 @@ static void beginnings(const std::string &path) {
         heap.frameEnd();
         heap.time(18446744073709551615u);
         heap.thread(3);
+        heap.unit(256);
         heap.mark("a level\nnamed x");
         check(heap.allocateAt(90, 10).offset == 90 && heap.allocateAt(90, 1).offset == Allocation::NO_SPACE, "at a place");
         check(heap.raiseLimit(20) && !heap.raiseLimit(19) && heap->maxAllocs() == 20, "a larger limit");
         check(heap.free(held[0]), "an old handle");
-        check(of(file, path) == begun + "# named\n#! frame\n#! time 18446744073709551615\n#! thread 3\n#! mark a level named x\nat 90 10\nat 90 1\n"
+        check(of(file, path) == begun + "# named\n#! frame\n#! time 18446744073709551615\n#! thread 3\n#! unit 256\n#! mark a level named x\nat 90 10\nat 90 1\n"
               "space 100 nodes 20 index 32\nat 0 15\nat 15 10\nat 25 65\nat 90 10\nshrink 3 5\nshrink 2 5\nshrink 1 10\n#! begun\nfree 1\n", "all lines");
     }
     // as many blocks as may be, of which only the first is free
@@ -187,12 +188,13 @@ static void manyHeaps(const std::string &path) {
     heaps.dropEmpty(0, [&](uint32 number) { dropped += number == 2; });
     check(dropped == 1 && heaps.giveUp(1) && heaps.allocate(900).place.heap == 1, "another heap of the number");
     heaps.reset();
+    heaps.unit(16);
     heaps.mark("end");
     check(!heaps.isFailed(), "to its end");
     check(of(file, path) == "heap 0 space 1000 nodes 16 index 32\n# mesh: rock and moss\nheap 0 alloc 300\nheap 2 space 5001 nodes 4 index 32\n# level\nheap 2 tight 5001\n"
           "#! frame\nnone alloc 0 empty\n# too large\nnone align 5001 8 full\nheap 0 align 24 64\nheap 1 space 1000 nodes 16 index 32\nheap 1 alloc 660\n"
           "none relocate 660 1\n# mesh: rock and moss (of grant 1, heap 0)\nheap 1 align 300 8\nheap 0 free 1\nnone free\nnone relocate\nheap 1 drop\n"
-          "heap 2 free 1\nheap 2 drop\nheap 1 give up\nheap 1 space 1000 nodes 16 index 32\nheap 1 alloc 900\nheap 0 reset\nheap 1 reset\n#! mark end\n", "the lines");
+          "heap 2 free 1\nheap 2 drop\nheap 1 give up\nheap 1 space 1000 nodes 16 index 32\nheap 1 alloc 900\nheap 0 reset\nheap 1 reset\n#! unit 16\n#! mark end\n", "the lines");
     RecordedHeaps none(nullptr, {1000, 16, 2, 1});
     check(none.isFailed() && none.allocate(10), "without a file calls go on");
 }

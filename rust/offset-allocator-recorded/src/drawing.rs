@@ -58,6 +58,14 @@ impl<NI: NodeIndex> Following<NI> {
         (0..self.grants.len()).for_each(|place| self.end(calls, place));
     }
 
+    fn names(&self, names: &BTreeMap<u64, std::string::String>) -> BTreeMap<u32, std::string::String> {
+        let live = self.grants.iter().zip(self.before + 1..).filter_map(|(grant, number)| {
+            let life = &self.course.lives[*grant.as_ref()?.lives.last()?];
+            Some((life.offset, names.get(&number)?.clone()))
+        });
+        live.collect()
+    }
+
     fn finish(mut self, calls: usize) -> Course {
         self.end_all(calls);
         self.course
@@ -210,6 +218,15 @@ impl Held {
         }
     }
 
+    /// The names of live grants, by the offsets of their ranges.
+    fn names(&self, names: &BTreeMap<u64, std::string::String>) -> BTreeMap<u32, std::string::String> {
+        match self {
+            Held::None => BTreeMap::new(),
+            Held::Narrow(following) => following.names(names),
+            Held::Wide(following) => following.names(names),
+        }
+    }
+
     fn clear(&mut self, calls: usize) {
         match self {
             Held::None => (),
@@ -224,6 +241,8 @@ fn follow(from: impl BufRead, heap: Option<u32>) -> Result<Named, RunFault> {
     let mut lines = Lines::new(from);
     let (mut held, mut heap, mut calls, mut is_gone) = (Held::None, heap, 0, false);
     let mut names = BTreeMap::new();
+    // those of ranges of the space before, while the first lines say where they are
+    let mut before = BTreeMap::new();
     while let Some(line) = lines.next_line()? {
         let line = match line {
             Line::Header(header) => HeapLine::Header(header),
@@ -233,16 +252,26 @@ fn follow(from: impl BufRead, heap: Option<u32>) -> Result<Named, RunFault> {
         };
         match line {
             HeapLine::Header(header) => {
+                before = if is_gone { BTreeMap::new() } else { held.names(&names) };
                 held = held.begin(header, calls)?;
                 is_gone = false;
             }
             HeapLine::Call(_) if is_gone => return Err(RunFault::from(ScriptFault::BadCommand(lines.line()))),
             HeapLine::Call(call) => {
-                let before = held.grants();
+                let grants = held.grants();
                 held.call(calls, call)?;
                 calls += 1;
-                if held.grants() > before && !lines.name().is_empty() {
+                let kept = match call {
+                    Call::AllocateAt(offset, _) => before.remove(&offset),
+                    _ => {
+                        before.clear();
+                        None
+                    }
+                };
+                if held.grants() > grants && !lines.name().is_empty() {
                     names.insert(held.grants(), std::string::String::from_utf8_lossy(lines.name()).into_owned());
+                } else if let (Some(name), true) = (kept, held.grants() > grants) {
+                    names.insert(held.grants(), name);
                 }
             }
             HeapLine::Drop | HeapLine::GiveUp => {

@@ -49,6 +49,11 @@ impl<A, W: Write> Recorded<A, W> {
         self
     }
 
+    /// How many bytes a unit has, for the page: a mark.
+    pub fn unit(&mut self, bytes: u32) {
+        self.tape.mark(format_args!("unit {bytes}"));
+    }
+
     /// A frame ends here: a mark, which changes no answer. The page shows what lives from one mark to another.
     pub fn frame_end(&mut self) {
         self.tape.mark(format_args!("frame"));

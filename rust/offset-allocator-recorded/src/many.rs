@@ -187,6 +187,11 @@ impl<T: Tables, W: Write> RecordedHeaps<T, W> {
         self
     }
 
+    /// How many bytes a unit has, for the page: a mark.
+    pub fn unit(&mut self, bytes: u32) {
+        self.tape.mark(format_args!("unit {bytes}"));
+    }
+
     /// A frame ends here: a mark, as `Recorded::frame_end` makes.
     pub fn frame_end(&mut self) {
         self.tape.mark(format_args!("frame"));

@@ -43,6 +43,7 @@ fn each_call_of_heaps_is_a_line() {
     // the number has another heap
     assert_eq!(heaps.allocate(900).unwrap().place.heap, 1);
     heaps.reset();
+    heaps.unit(16);
     heaps.mark("end");
     assert_eq!(heaps.totals().heaps, 2);
     let text = String::from_utf8(heaps.finish().1.unwrap()).unwrap();
@@ -51,7 +52,7 @@ fn each_call_of_heaps_is_a_line() {
         "heap 0 space 1000 nodes 16 index 16\n# mesh: rock and moss\nheap 0 alloc 300\nheap 2 space 5001 nodes 4 index 16\n# level\nheap 2 tight 5001\n\
          #! frame\nnone alloc 0 empty\n# too large\nnone align 5001 8 full\nheap 0 align 24 64\nheap 1 space 1000 nodes 16 index 16\nheap 1 alloc 660\n\
          none relocate 660 1\n# mesh: rock and moss (of grant 1, heap 0)\nheap 1 align 300 8\nheap 0 free 1\nnone free\nnone relocate\nheap 1 drop\n\
-         heap 2 free 1\nheap 2 drop\nheap 1 give up\nheap 1 space 1000 nodes 16 index 16\nheap 1 alloc 900\nheap 0 reset\nheap 1 reset\n#! mark end\n"
+         heap 2 free 1\nheap 2 drop\nheap 1 give up\nheap 1 space 1000 nodes 16 index 16\nheap 1 alloc 900\nheap 0 reset\nheap 1 reset\n#! unit 16\n#! mark end\n"
     );
     assert_eq!(
         answers(&text),
@@ -275,6 +276,10 @@ fn one_heap_of_many_is_drawn() {
     assert!(drawn.contains("<title>grant 1 “a &lt;b&gt; &amp; c”, offset 0, size 10, calls 1-3</title>"), "{drawn}");
     assert!(drawn.contains("<title>grant 2, offset 10, size 7, calls 2-3</title>"), "{drawn}");
     assert!(drawn.contains("<title>grant 3 “again”, offset 0, size 3, calls 3-end</title>"), "{drawn}");
+    // a range keeps its name in the space that takes the place of the one that it was in
+    let raised = "space 100 nodes 8 index 32\n# a\nalloc 10\n# b\nalloc 10\nfree 1\ncompact\nspace 100 nodes 9 index 32\nat 0 100\nshrink 1 10\n#! begun\nat 30 5\n";
+    let drawn = draw_heap("t", raised.as_bytes(), None).unwrap();
+    assert!(drawn.contains("<title>grant 3 “b”, offset 0,") && drawn.contains("<title>grant 4, offset 30,"), "{drawn}");
     let other = draw_heap("t", text.as_bytes(), Some(7)).unwrap();
     assert!(other.contains("<title>grant 1, offset 0, size 5, calls 1-end</title>") && !other.contains("grant 2"), "{other}");
     assert_eq!(draw_heap("t", text.as_bytes(), Some(6)).unwrap_err().to_string(), "line 11: bad header");

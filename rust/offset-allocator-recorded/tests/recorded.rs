@@ -206,10 +206,11 @@ fn calls_at_a_place_a_raised_limit_and_marks() {
     heap.name("named").mark("a level\nnamed x");
     heap.time(u64::MAX);
     heap.thread(3);
+    heap.unit(256);
     assert_eq!(heap.allocate(1).unwrap().offset, 7);
     let text = "space 100 nodes 5 index 16\n# reserved\nat 20 30\nat 40 20\nalloc 7\nalloc 1\n\
         space 100 nodes 100 index 16\nat 0 20\nat 20 80\nshrink 2 30\nshrink 1 7\n#! begun\nfree 2\n\
-        #! frame\n# named\n#! mark a level named x\n#! time 18446744073709551615\n#! thread 3\nalloc 1\n";
+        #! frame\n# named\n#! mark a level named x\n#! time 18446744073709551615\n#! thread 3\n#! unit 256\nalloc 1\n";
     assert_eq!(seen.text(), text);
     assert_eq!(answers(text), ["grant 1 at 20", "none", "grant 2 at 0", "none", "grant 1 at 0", "grant 2 at 20", "shrunk", "shrunk", "freed", "grant 3 at 7"]);
     // as `raised` does
