@@ -117,6 +117,17 @@ def heaps_are_rows(b):
             b.run("return openPart(arguments[0], arguments[1])", i, line)
             assert row(b) == sum(n <= line for n in row_["lines"]), (row(b), line, row_)
         print("passed: and at a line of the file", flush=True)
+    # what the heaps had when one was refused, of two of 1,000 units: 300 are used in one, and the other is full but for 100
+    small = "heap 0 space 1000 nodes 40 index 32\nheap 1 space 1000 nodes 40 index 32\nheap 0 alloc 300\nheap 1 tight 900\nnone alloc 800 full\nheap 0 free 1\nnone free\nheap 1 give up\nnone relocate 7 4\n"
+    give(b, small, "small.script")
+    b.run("$('nogrant').open = true; showUngranted(0)")
+    same(b.run("return $('told').textContent"), "Line 5: alloc 800: no heap has room, and no other may be made. Then there were 2 heaps, with 800 units free in all; "
+         "the largest request that one granted was 640 units, of heap 0.", "what the heaps had when a request was refused")
+    b.run("showUngranted(2)")
+    same(b.run("return $('told').textContent"), "Line 9: relocate 7 units at a multiple of 4: no other heap takes it. Then there was 1 heap, with 1,000 units free in all; "
+         "the largest request that one granted was 960 units, of heap 0.", "and when a range stayed")
+    give(b, text, "many.script")
+    b.run("return openPart(2)")
     b.run("go(2)")
     b.run("return link()")
     kept = b.run("return [S.part, S.p, S.run.count, $('now').textContent, document.title]")
@@ -127,6 +138,25 @@ def heaps_are_rows(b):
     until(b, f"S.part === {kept[0]}", "Back goes to the heap before")
     b.open("#t=voxel-game&m=1")
     same(b.run("return $('fault').textContent"), "The link is faulty: what it names is not there. This is the nearest state.", "no such heap")
+
+
+def rows_of_heaps_fit(b):
+    text = many(3)[0].replace("heap 0 space", "# device-local memory, of which the buffers of all levels are\nheap 0 space", 1)
+    for scheme in ("light", "dark"):
+        for width in (320, 360, 768, 1280, 3840):
+            b.size(width, 900, 1, scheme)
+            b.open()
+            give(b, text, "many.script")
+            b.run("$('unit').value = 65536; $('unit').onchange(); $('nogrant').open = true; return openPart(2)")
+            same(b.run("return document.documentElement.scrollWidth - document.documentElement.clientWidth"), 0, f"no overflow at {width} pixels")
+            cut = b.run("return [...document.querySelectorAll('.heads, #heaprows .row')].flatMap(r => { const c = [...r.children].filter(e => e.getClientRects().length); "
+                        "return c.filter((e, i) => !e.matches('.h') && e.scrollWidth > e.clientWidth + 1 || i && e.getBoundingClientRect().left < c[i - 1].getBoundingClientRect().right - 1 || "
+                        "e.getBoundingClientRect().right > r.getBoundingClientRect().right + 1).map(e => e.className + e.textContent); })")
+            same(cut, [], f"nothing of the rows of heaps is cut, or over another, at {width} pixels")
+            names = b.run("return [...document.querySelectorAll('#heaprows .h')].filter(e => e.textContent.length < 9 && e.scrollWidth > e.clientWidth).map(e => e.textContent)")
+            same(names, [], "nor a short name")
+        size = b.run("return [...document.querySelectorAll('.strip')].filter(c => c.tagName === 'CANVAS' && c.clientWidth < 30).length")
+        same(size, 0, "each has room for its time")
 
 
 FAULTY = ["heap 0 alloc 1", "heap 3 space 9 nodes 1 index 32", "heap 3 space 9 nodes 9 index 32\nalloc 1", "heap 3 space 9 nodes 9 index 32\nheap 4 alloc 1",
@@ -321,4 +351,4 @@ def dumps(b):
         same(b.run("return [S.name, S.run.count, S.title]"), before, "changes nothing")
 
 
-ALL = [heaps_are_rows, faulty_heaps, a_space_that_there_was, between_marks, refused_at_a_place, two_files, dumps]
+ALL = [heaps_are_rows, rows_of_heaps_fit, faulty_heaps, a_space_that_there_was, between_marks, refused_at_a_place, two_files, dumps]

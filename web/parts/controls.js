@@ -18,7 +18,7 @@ const to = p => { stop(); go(p); };
 L.calls = new List('calls', drawCall, i => jump(callAt(i)));
 L.ranges = new List('ranges', drawRange, i => { const b = rangeAt(i); pointer = null; chosenIs(b); jump(S.run.born.list[b.k]); });
 L.heaps = new List('heaprows', drawHeap, i => openPart(i));
-L.others = new List('others', drawOther, i => jump(rowAtLine(S.run, S.run.file.others[i].line)));
+L.others = new List('others', drawOther, showUngranted);
 for (const by of Object.keys(SORTS)) {
   const b = document.createElement('button'); b.textContent = by; b.dataset.by = by;
   b.onclick = () => sortBy(by); $('sorts').append(b); }

@@ -38,6 +38,7 @@ async function surveyed(file, bytes, work) {
       for (; i < of.lines.length && step(of.lines[i]) <= s; i++) { before = run.used.list[i]; highest = Math.max(highest, before); }
       curve[s] = highest / size;
     }
+    of.used = run.used.copy(run.count).whole(); of.largest = Uint32Array.from(of.lines, (_, i) => run.rows.list[8 * i + 5]); of.sizes = run.sizes;
     of.seen = { size: run.sizeAt(run.count), most: most(run.used.list, run.count, 1, 0), live: of.end ? 0 : run.lifeCount - run.ends.length, units: of.end ? 0 : run.usedAt(run.count), refused: run.refusals.length, curve };
   }
 }
@@ -82,6 +83,19 @@ function drawOther(row, i) {
   const other = S.run.file.others[i], [what, why] = saidOf(other);
   cell(row, whole(other.line), 'n', 'The line of the file'); cell(row, what, 'c'); cell(row, why, other.kind === OTHER.refused ? 'bad' : '', why);
   if (other.name) cell(row, other.name, 'dim', other.name);
+}
+// What the heaps had when a call changed none of them: shown with the call.
+function showUngranted(i) {
+  const { file } = S.run, other = file.others[i], [what, why] = saidOf(other), there = [];
+  for (const [j, of] of file.parts.entries()) {
+    if (of.from > other.line || (of.to !== null && of.to <= other.line)) continue;
+    const p = rowAtLine(of, other.line), size = of.sizes.findLast(([row]) => row <= p)[1];
+    there.push({ j, free: size - (p ? of.used[p - 1] : 0), largest: p ? of.largest[p - 1] : valueOf(classOf(size)) });
+  }
+  jump(rowAtLine(S.run, other.line));
+  const best = there.reduce((b, h) => !b || h.largest > b.largest ? h : b, null), free = there.reduce((sum, h) => sum + h.free, 0);
+  say(`Line ${whole(other.line)}: ${what}: ${why}. Then there ${there.length === 1 ? 'was' : 'were'} ${counted(there.length, 'heap')}, with ${units(free)} free in all` +
+    (best ? `; the largest request that one granted was ${units(best.largest)}, of ${nameOfPart(file, best.j)}` : '') + '.', false, best ? [['Open it', () => openPart(best.j, other.line)]] : []);
 }
 // Opens another part, at the time of the file that is shown, or at a line.
 async function openPart(i, line = lineAt(S.run, S.p)) {
