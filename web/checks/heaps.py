@@ -159,6 +159,20 @@ def rows_of_heaps_fit(b):
         same(size, 0, "each has room for its time")
 
 
+def sizes_fit(b):
+    """The sizes of live ranges, in bytes too, are beside their bars and not under them."""
+    text = "space 100000000 nodes 99 index 32\n" + "".join(f"alloc {int(2.9 ** i)}\n" for i in range(17))
+    for width in (360, 768, 1280, 3840):
+        for unit in (0, 1000):
+            b.size(width, 900)
+            b.open()
+            give(b, text, "sizes.script")
+            b.run("go(S.run.count); $('unit').value = arguments[0]; return $('unit').onchange()", unit)
+            cut = b.run("return [...document.querySelectorAll('.size')].flatMap(r => [...r.children].filter((e, i) => e.scrollWidth > e.clientWidth + 1 || "
+                        "i && e.getBoundingClientRect().left < r.children[i - 1].getBoundingClientRect().right || e.getBoundingClientRect().right > r.getBoundingClientRect().right + 1).map(e => e.textContent))")
+            same(cut, [], f"sizes at {width} pixels, a unit of {unit}")
+
+
 FAULTY = ["heap 0 alloc 1", "heap 3 space 9 nodes 1 index 32", "heap 3 space 9 nodes 9 index 32\nalloc 1", "heap 3 space 9 nodes 9 index 32\nheap 4 alloc 1",
           "heap 3 space 9 nodes 9 index 32\nheap 3 give up\nheap 3 alloc 1", "heap 3 space 9 nodes 9 index 32\nheap 3 drop\nheap 3 alloc 1\nheap 3 alloc 1",
           "heap 3 space 9 nodes 9 index 32\nnone alloc 1 small", "space 9 nodes 9 index 32\nheap 0 alloc 1", "heap 4294967296 space 9 nodes 9 index 32",
@@ -351,4 +365,4 @@ def dumps(b):
         same(b.run("return [S.name, S.run.count, S.title]"), before, "changes nothing")
 
 
-ALL = [heaps_are_rows, rows_of_heaps_fit, faulty_heaps, a_space_that_there_was, between_marks, refused_at_a_place, two_files, dumps]
+ALL = [heaps_are_rows, rows_of_heaps_fit, sizes_fit, faulty_heaps, a_space_that_there_was, between_marks, refused_at_a_place, two_files, dumps]

@@ -38,7 +38,7 @@ function draw() {
     (S.zoom ? `, ${((to - from) / Math.max(1, size) * 100).toPrecision(2)}% of the space` : ', all of the space') +
     `; a line is ${units(Math.ceil((to - from) / ROWS))}.`;
   $('lives').textContent = `Up to ${sized(run.top)}, the highest end of a range, of ${units(run.sizes.at(-1)[1])}. ` +
-    'The line is the position; ticks are refusals. Below: the units in use (lighter), and the largest request that is granted (darker).';
+    `The line is the position; ticks are refusals${flagsOf(run).length ? ', those at the lower edge marks' : ''}. ` + 'Below: the units in use (lighter), and the largest request that is granted (darker).';
   $('lzall').disabled = !S.life;
   $('at').value = p; $('row').value = p; $('now').ariaLive = playing ? 'off' : 'polite';
   $('at').setAttribute('aria-valuetext', p ? `row ${p}: ${said(...op)}, ${answered(run, p - 1)}` : 'before the first row');
