@@ -342,6 +342,10 @@ def dumps(b):
     same(b.run(ranges), [[0, 3, "UNKNOWN"]], "its ranges")
     give(b, SPACE, "space.json")
     same([b.run("return [S.run.head[0], $('fault').textContent]"), b.run(ranges)], [[20, ""], [[0, 3, "range 5"]]], "a space as JSON")
+    heaps = '{"totals":{"heaps":2,"units":70},"heaps":[{"number":0,"space":' + SPACE + '},{"number":3,"space":' + SPACE.replace('"size":20', '"size":50').replace("17", "47") + "}]}"
+    give(b, heaps, "heaps.json")
+    same(b.run("return S.run.file.parts.map((of, i) => [nameOfPart(S.run.file, i), of.head, of.lines.length])"),
+         [["heap 0 “number 0”", [20, 9, 32], 1], ["heap 1 “number 3”", [50, 9, 32], 1]], "many heaps as JSON")
     give(b, json.dumps(VMA, indent=1), "vma.json")
     same(b.run("return S.run.file.parts.map((of, i) => [nameOfPart(S.run.file, i), of.head[0], of.lines.length])"),
          [["heap 0 “DefaultPools, Type 0, block 0”", 268435456, 2], ["heap 1 “DefaultPools, Type 0, block 7”", 1024, 0],

@@ -1,4 +1,4 @@
-// Dumps of the Vulkan Memory Allocator, of ours in its form, and JSON of ours: as recordings with a heap for each block of memory,
+// Dumps of the Vulkan Memory Allocator, of ours in its form, and JSON of ours, of many heaps too: as recordings with a heap for each block of memory,
 // whose ranges are requested at their places.
 const isDump = bytes => { let i = begins(bytes, 0xef, 0xbb, 0xbf) ? 3 : 0; while ([9, 10, 13, 32].includes(bytes[i])) i++; return bytes[i] === 0x7b; };
 const MOST_DUMPED = 1e6, MOST_DEEP = 12;
@@ -11,7 +11,7 @@ function dumpText(bytes) {
   const number = (v, what, where) => {
     if (!Number.isSafeInteger(v) || v < 0) throw new Fault(`${where}: ${what} is no number of bytes`);
     return v; };
-  const add = (title, size, ranges) => { if ((all += ranges.length + 1) > MOST_DUMPED) throw new Fault('the dump has more than a million ranges'); blocks.push({ title, size, ranges }); };
+  const add = (title, size, ranges, limit = 0) => { if ((all += ranges.length + 1) > MOST_DUMPED) throw new Fault('the dump has more than a million ranges'); blocks.push({ title, size, ranges, limit }); };
   const word = v => typeof v === 'string' ? v : '';
   const rangeOf = (r, where) => {
     if (!isObject(r)) throw new Fault(`${where}: a range is no object`);
@@ -25,10 +25,13 @@ function dumpText(bytes) {
       return add(where, number(v.TotalBytes ?? v.Suballocations.reduce((m, r) => Math.max(m, r.Offset + r.Size), 0), 'TotalBytes', where), ranges);
     }
     if (Array.isArray(v.blocks) && v.size !== undefined)
-      return add(where, number(v.size, 'size', where), v.blocks.filter(r => isObject(r) && r.name !== undefined).map(r => rangeOf(r, where)));
+      // more nodes than blocks are needed to request them again
+      return add(path.length ? where : 'the space', number(v.size, 'size', where), v.blocks.filter(r => isObject(r) ? r.name !== undefined : true).map(r => rangeOf(r, where)),
+        Number.isInteger(v.max_allocs) && v.max_allocs > v.blocks.length + 2 && v.max_allocs < LARGEST - 1 ? v.max_allocs : 0);
     for (const [key, inner] of Object.entries(v)) {
       if (key === 'DedicatedAllocations' && Array.isArray(inner))
         for (const [i, r] of inner.entries()) { const range = rangeOf(r, where); add([...path, `dedicated ${i}`].join(', '), range.n, [{ ...range, o: 0 }]); }
+      else if (isObject(inner) && key === 'space' && Number.isInteger(v.number)) walk(inner, [`number ${v.number}`]);
       else if (isObject(inner)) walk(inner, key === 'Blocks' ? path : [...path, word(inner.Name) || (isBlocks ? `block ${key}` : key)], key === 'Blocks');
     }
   };
@@ -44,10 +47,10 @@ function dumpText(bytes) {
     if (blocks.some(b => b.size / unit > LARGEST)) throw new Fault(`a block has more than ${whole(LARGEST)} units of ${whole(unit)}, which divide all its numbers`);
   }
   const lines = [], isOne = blocks.length === 1, clean = text => text.replace(/[\r\n]/g, ' ').slice(0, 200);
-  for (const [i, { title, size, ranges }] of blocks.entries()) {
+  for (const [i, { title, size, ranges, limit }] of blocks.entries()) {
     const before = isOne ? '' : `heap ${i} `;
     ranges.sort((a, b) => a.o - b.o || a.n - b.n);
-    lines.push(`# ${clean(title)}`, `${before}space ${size / unit} nodes ${2 * ranges.length + 4} index 32`);
+    lines.push(`# ${clean(title)}`, `${before}space ${size / unit} nodes ${limit || 2 * ranges.length + 4} index 32`);
     let end = 0;
     for (const r of ranges) {
       if (r.o < end || r.o + r.n > size) throw new Fault(`${title}: the range at ${whole(r.o)}, of ${whole(r.n)}, ${r.o < end ? 'overlaps the one before' : 'ends behind the block'}`);

@@ -50,13 +50,19 @@ function drawHeap(row, i) {
   if (i === S.part) row.classList.add('now');
   requestAnimationFrame(() => {
     if (!c.isConnected) return;
-    const [g, w, h] = canvas(c), at = lineAt(S.run, S.p) / (file.lines + 1) * w, ink = colors();
+    const [g, w, h] = canvas(c), ink = colors();
     g.fillStyle = ink.free; const first = seen.curve.findIndex(v => v >= 0), end = seen.curve.findLastIndex(v => v >= 0) + 1;
     g.fillRect(first / STEPS * w, 2, (end - first) / STEPS * w, h - 4);
     g.fillStyle = ink.ages[3];
     for (let s = first; s < end; s++) g.fillRect(s / STEPS * w, h - 2 - seen.curve[s] * (h - 4), w / STEPS + 0.5, seen.curve[s] * (h - 4));
-    g.fillStyle = ink.mark; g.fillRect(Math.min(w - 1, at), 0, 1.5, h);
   });
+}
+// The line at the position, over the time of all rows.
+function showTime() {
+  const strip = document.querySelector('#heaprows .strip'), { file } = S.run;
+  if (!strip) return;
+  const { left, width } = strip.getBoundingClientRect();
+  $('heapat').style.left = `${left - $('heaprows').getBoundingClientRect().left + Math.min(width - 1, lineAt(S.run, S.p) / (file.lines + 1) * width)}px`;
 }
 // The line of the file that a position is at.
 const lineAt = (run, p) => p ? run.lines[Math.min(p, run.lines.length) - 1] || run.part.from : run.part ? run.part.from : 0;
@@ -64,12 +70,16 @@ function showHeaps() {
   const { file } = S.run, isShown = Boolean(file && isSeveral(file));
   $('heaps').hidden = !isShown;
   if (!isShown) return;
-  const { parts, others } = file, refused = others.filter(o => o.kind === OTHER.refused);
+  const { parts, others } = file;
+  file.refused ??= others.filter(o => o.kind === OTHER.refused).length; file.left ??= [parts.reduce((sum, of) => sum + of.seen.live, 0), parts.reduce((sum, of) => sum + of.seen.units, 0)];
   tell('heapshead', file.isMany ? `${counted(parts.length, 'heap')} in this file` : `${counted(parts.length, 'space')} in this file, one after the other`);
-  const left = parts.reduce((sum, of) => sum + of.seen.units, 0);
-  tell('heapsum', `Shown below: ${nameOfPart(file, S.part)}. Live at the end in all: ${counted(parts.reduce((sum, of) => sum + of.seen.live, 0), 'range')}, ${units(left)}.` +
-    (refused.length ? ` ${counted(refused.length, 'request')} that no heap granted.` : ''));
-  L.heaps.chosen = S.part; if (L.heaps.count !== parts.length || L.heaps.of !== file) { L.heaps.of = file; L.heaps.set(parts.length); L.heaps.show(S.part); } else L.heaps.paint();
+  tell('heapsum', `Shown below: ${nameOfPart(file, S.part)}. Live at the end in all: ${counted(file.left[0], 'range')}, ${units(file.left[1])}.` +
+    (file.refused ? ` ${counted(file.refused, 'request')} that no heap granted.` : ''));
+  // rows are made again only where what they show is another
+  const key = [S.part, S.unit, colors().bg, $('heaps').clientWidth].join();
+  L.heaps.chosen = S.part;
+  if (L.heaps.of !== file) { L.heaps.of = file; L.heaps.set(parts.length); L.heaps.show(S.part); } else if (L.heaps.key !== key) L.heaps.paint();
+  L.heaps.key = key; showTime();
   $('nogrant').hidden = !others.length;
   if (L.others.of !== file) { L.others.of = file; L.others.set(others.length); }
   $('nogranthead').textContent = `${counted(others.length, 'call')} that changed no heap`;
