@@ -33,6 +33,13 @@ impl From<AllocError> for NoBeginning {
     }
 }
 
+// A list with room for so many.
+fn room_for<I>(count: usize) -> Result<Vec<I>, NoBeginning> {
+    let mut list = Vec::new();
+    list.try_reserve_exact(count).map_err(|_| NoBeginning::Memory)?;
+    Ok(list)
+}
+
 // A block: its name, where it begins, its units, and, where it is free, its place in the lists of all bins.
 struct Block {
     name: u32,
@@ -42,33 +49,31 @@ struct Block {
 }
 
 // The blocks of a space, from its start. The bytes of a state have the lists of its bins: `docs/STATES.md` says how.
-fn blocks_of<T: Tables>(space: &AllocatorOf<T>) -> Result<Vec<Block>, AllocError> {
+fn blocks_of<T: Tables>(space: &AllocatorOf<T>) -> Result<Vec<Block>, NoBeginning> {
     let bytes = space.write_state(Global)?;
-    let words: Vec<u32> = bytes.chunks_exact(4).map(|b| u32::from_le_bytes([b[0], b[1], b[2], b[3]])).collect();
-    let (count, free) = (words[4] as usize, words[5] as usize);
-    let (blocks, lists) = words[7..].split_at(2 * count);
-    let mut places: Vec<(u32, usize)> = lists[..free].iter().copied().zip(0..).collect();
+    let word = |i: usize| u32::from_le_bytes([bytes[4 * i], bytes[4 * i + 1], bytes[4 * i + 2], bytes[4 * i + 3]]);
+    let (count, free) = (word(4) as usize, word(5) as usize);
+    let mut places: Vec<(u32, usize)> = room_for(free)?;
+    places.extend((0..free).map(|i| (word(7 + 2 * count + i), i)));
     places.sort_unstable();
-    let mut end = 0;
-    let mut found: Vec<Block> = blocks
-        .chunks_exact(2)
-        .rev()
-        .map(|block| {
-            let (name, size, offset) = (block[0], block[1], end);
-            end += size;
-            let place = places.binary_search_by_key(&name, |place| place.0).ok();
-            Block { name, offset, size, free: place.map(|i| places[i].1) }
-        })
-        .collect();
-    found.shrink_to_fit();
-    Ok(found)
+    let mut blocks = room_for(count)?;
+    let mut offset = 0;
+    for i in (0..count).rev() {
+        let (name, size) = (word(7 + 2 * i), word(8 + 2 * i));
+        let place = places.binary_search_by_key(&name, |place| place.0).ok();
+        blocks.push(Block { name, offset, size, free: place.map(|i| places[i].1) });
+        offset += size;
+    }
+    Ok(blocks)
 }
 
 /// The lines for a space, in which live ranges are granted at their places, each with the free block behind it, and then
 /// give that back, the oldest free block of a bin first.
 pub(crate) fn beginning<T: Tables>(space: &AllocatorOf<T>) -> Result<Beginning, NoBeginning> {
     let blocks = blocks_of(space)?;
-    let (mut size, mut steps) = (space.size(), Vec::new());
+    let mut size = space.size();
+    // a line for each block, and one to retract
+    let mut steps = room_for(blocks.len() + 1)?;
     if blocks.iter().all(|block| block.free.is_some()) {
         return Ok(Beginning { size, steps });
     }
@@ -83,7 +88,7 @@ pub(crate) fn beginning<T: Tables>(space: &AllocatorOf<T>) -> Result<Beginning, 
     if is_longer {
         size = size.checked_add(1).ok_or(NoBeginning::Full)?;
     }
-    let mut given_back: Vec<(usize, Step)> = Vec::new();
+    let mut given_back: Vec<(usize, Step)> = room_for(blocks.len())?;
     for block in &blocks {
         match (block.free, steps.last_mut()) {
             // behind a range; a free block of no units is none of it
@@ -107,7 +112,8 @@ pub(crate) fn beginning<T: Tables>(space: &AllocatorOf<T>) -> Result<Beginning, 
         steps.push(Step::Retract);
     }
     // the newest free block of a class is the first in its list
-    given_back.sort_by_key(|back| std::cmp::Reverse(back.0));
+    given_back.sort_unstable_by_key(|back| std::cmp::Reverse(back.0));
+    steps.try_reserve(given_back.len()).map_err(|_| NoBeginning::Memory)?;
     steps.extend(given_back.into_iter().map(|back| back.1));
     Ok(Beginning { size, steps })
 }

@@ -225,15 +225,23 @@ impl<T: Tables, W: Write> RecordedHeaps<T, W> {
         }
         let heap = place.heap;
         self.tape.write(format_args!("heap {heap} {request}"));
-        let (numbers, names) = self.grants.entry(heap).or_default();
-        let found = numbers.grant(place.ticket.name);
-        names.remove(&place.ticket.name);
-        if let Some(name) = name {
-            names.insert(place.ticket.name, name);
-        }
-        if let Err(error) = found {
+        if let Err(error) = self.keep(place, name) {
             self.tape.fail(error);
         }
+    }
+
+    // The next grant of a heap is that of a place. An error where memory is out: the recording ends, and not the program.
+    fn keep(&mut self, place: Place, name: Option<String>) -> io::Result<()> {
+        let out = |_| io::Error::from(io::ErrorKind::OutOfMemory);
+        self.grants.try_reserve(1).map_err(out)?;
+        let (numbers, names) = self.grants.entry(place.heap).or_default();
+        numbers.grant(place.ticket.name)?;
+        names.remove(&place.ticket.name);
+        if let Some(name) = name {
+            names.try_reserve(1).map_err(out)?;
+            names.insert(place.ticket.name, name);
+        }
+        Ok(())
     }
 
     /// `HeapsOf::allocate`.
