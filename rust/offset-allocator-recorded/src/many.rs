@@ -274,7 +274,6 @@ impl<T: Tables, W: Write> RecordedHeaps<T, W> {
                         let (size, max_allocs) = (space.size(), space.max_allocs());
                         self.tape.write(format_args!("heap {heap} space {size} nodes {max_allocs} index {bits}"));
                     }
-                    self.grants.remove(&heap);
                 }
                 // a fresh heap grants its first range at 0, a multiple of all; a larger one all its units
                 match (granted.is_new, align) {

@@ -244,7 +244,10 @@ fn faults() {
         ("none align 1 0 full", "bad command"), ("none relocate 1", "bad command"), ("none relocate 1 0", "bad command"), ("none free 1", "bad command"),
         ("none alloc 4294967296 full", "bad command"), ("none tight 1 full", "bad command"), ("heap 3 heap 3 alloc 1", "bad command"),
     ] {
-        assert_eq!(fault(&format!("{begin}{line}\n")), format!("line 2: {why}"), "{line}");
+        let text = format!("{begin}{line}\n");
+        assert_eq!(fault(&text), format!("line 2: {why}"), "{line}");
+        // drawn too
+        assert_eq!(course(text.as_bytes()).err().unwrap().to_string(), format!("line 2: {why}"), "{line}");
     }
     for (text, why) in [
         ("heap 0 alloc 1\n", "line 1: bad header"), ("none alloc 1\n", "line 1: bad header"), ("none alloc 1 full\nalloc 1\n", "line 2: bad command"), ("heap 0 space 9 nodes 1 index 32\n", "line 1: bad limit"),
