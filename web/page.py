@@ -11,7 +11,7 @@ import zlib
 here = pathlib.Path(__file__).resolve().parent
 # in the order in which they come in the page
 PARTS = [here / "parts" / f"{name}.js" for name in
-         ("module", "work", "reading", "run", "reasons", "draw", "lists", "find", "state", "compare", "show", "picture", "controls")]
+         ("module", "work", "reading", "dumps", "run", "reasons", "draw", "lists", "find", "marks", "heaps", "state", "compare", "show", "picture", "controls")]
 
 
 def base(data):
@@ -30,7 +30,8 @@ def traces():
 def sum_of_sources():
     """The sum of all that the page is made of, except the compiler and std."""
     crates = [here / "../rust" / name for name in
-              ("offset-allocator-memory", "offset-allocator-proved", "offset-allocator-guarded", "offset-script", "offset-calls", "offset-pictures", "offset-allocator-recorded")]
+              ("offset-allocator-memory", "offset-allocator-proved", "offset-allocator-guarded", "offset-allocator-heaps",
+               "offset-script", "offset-calls", "offset-pictures", "offset-allocator-recorded")]
     files = [here / "source.html", here / "page.py", *PARTS, *sorted((here / "module").glob("*.*")), *traces()]
     for crate in crates:
         files += [crate / "Cargo.toml", *sorted(crate.glob("src/**/*.rs"))]

@@ -99,10 +99,11 @@ def each_line_is_played(b):
     where the program, asked for the offset of each grant, says that they are."""
     text = TRACES["every"].read_text()
     table = re.findall(r"^\| (`.*?) \| ", (WEB / "../docs/RECORDINGS.md").read_text(), re.M)
-    forms = {form(line) for cell in table for line in re.findall("`([^`]*)`", cell)}
+    # those of many heaps have a check of their own
+    forms = {form(line) for cell in table for line in re.findall("`([^`]*)`", cell) if line.split()[0] not in ("heap", "none")}
     lines = [line for line in text.splitlines() if line and line[0] != "#"]
     calls = lines[1:]
-    holds(len(forms) == 25, "the forms of docs/RECORDINGS.md", forms)
+    holds(len(forms) == 26, "the forms of docs/RECORDINGS.md", forms)
     same(sorted(forms - {form(line) for line in calls}), [], "each is in every.script")
     b.open("#t=every&p=0")
     same(b.run("return [S.run.count, $('fault').textContent]"), [len(calls), ""], "every.script is read")

@@ -4,7 +4,7 @@
 //! the page asks for. No pointer is followed here: the page reads and writes the module's memory.
 
 use offset_allocator::{AllocatorOf, ByNode, NodeIndex, Refusal};
-use offset_allocator_recorded::{put_reply, Call, CallPlayer, Command, Global, Header, IndexWidth, Line, Reader, Reply, RunFault};
+use offset_allocator_recorded::{put_reply, Call, CallPlayer, Command, Global, Header, HeapLine, IndexWidth, Line, NoHeap, Reader, Reply, RunFault};
 use std::sync::Mutex;
 
 type Text = offset_script::memory::Vec<u8>;
@@ -15,8 +15,16 @@ type Row = [u32; 8];
 
 // A call: its kind, and its numbers.
 const WIDE: usize = 5;
-// in place of the kind of a call
+// In place of the kind of a call: a space begins, of one heap of many too; a heap is dropped, or given up; a request that no heap
+// granted, a range that no other heap took, and a call on a place that is not live; a mark.
 const HEADER: u32 = 255;
+const HEAP: u32 = 254;
+const DROP: u32 = 253;
+const GIVE_UP: u32 = 252;
+const REFUSED: u32 = 251;
+const KEPT: u32 = 250;
+const GONE: u32 = 249;
+const MARK: u32 = 248;
 
 /// A space; the number of the grant that had a node last, by the node; and of each range that the last call moved its
 /// grant's number, and where it begins now.
@@ -36,7 +44,6 @@ struct State {
     bytes: Vec<u8>,
     words: Vec<u32>,
     reader: Reader,
-    name: Vec<u8>,
     held: Held,
 }
 
@@ -51,7 +58,6 @@ fn with<T>(f: impl FnOnce(&mut State) -> T) -> T {
         bytes: Vec::new(),
         words: Vec::new(),
         reader: Reader::new(),
-        name: Vec::new(),
         held: Held::None,
     }))
 }
@@ -187,9 +193,9 @@ fn word(n: usize) -> u32 {
 /// Reads the bytes as the next lines of a recording; `part` is 0 for its first piece, 1 for a later one. All pieces but
 /// the last end with a line end; with `last` 1 it is the last.
 ///
-/// 0: the numbers are seven for each line that is neither empty nor a comment: 255, the size, node limit and bits, and 0, or
-/// a call as `play` takes it; the number of the line; and the length of its name, the comment directly before it. The bytes
-/// are these names. 1: the line is faulty, and ends the reading: the numbers are its number, and where it begins and
+/// 0: the numbers are eight for each line that is neither empty nor a comment: a call as `play` takes it, or one of the kinds
+/// above, of a header with the size, node limit and bits; the number of the line; the length of its name, or of the text of a
+/// mark; and the number of its heap, or 0. The bytes are these texts. 1: the line is faulty, and ends the reading: the numbers are its number, and where it begins and
 /// ends in the bytes that were given; the bytes are the fault.
 #[unsafe(no_mangle)]
 pub extern "C" fn read(part: u32, last: u32) -> u32 {
@@ -198,31 +204,33 @@ pub extern "C" fn read(part: u32, last: u32) -> u32 {
         s.words.clear();
         if part == 0 {
             s.reader = Reader::new();
-            s.name.clear();
         }
         let (mut at, mut is_whole) = (0, true);
         while at < text.len() {
             let end = text[at..].iter().position(|b| *b == b'\n').map_or(text.len(), |n| at + n);
             is_whole = end < text.len();
             let line = &text[at..end];
-            let row = match s.reader.take(line) {
+            let (row, heap) = match s.reader.take(line) {
                 Err(fault) => return s.fault(RunFault::from(fault), at, end),
                 Ok(Line::Other) => {
-                    s.name.clear();
-                    s.name.extend_from_slice(line.strip_prefix(b"#").unwrap_or(b"").trim_ascii());
-                    None
+                    at = end + 1;
+                    continue;
                 }
-                Ok(Line::Header(Header { size, max_allocs, index })) => {
-                    let bits = if index == IndexWidth::Bits16 { 16 } else { 32 };
-                    Some([HEADER, size, max_allocs, bits, 0])
-                }
-                Ok(Line::Call(call)) => Some(numbers(call)),
+                Ok(Line::Mark) => ([MARK, 0, 0, 0, 0], 0),
+                Ok(Line::Header(header)) => (header_of(HEADER, header), 0),
+                Ok(Line::Call(call)) => (numbers(call), 0),
+                Ok(Line::Heap(heap, HeapLine::Header(header))) => (header_of(HEAP, header), heap),
+                Ok(Line::Heap(heap, HeapLine::Call(call))) => (numbers(call), heap),
+                Ok(Line::Heap(heap, HeapLine::Drop)) => ([DROP, 0, 0, 0, 0], heap),
+                Ok(Line::Heap(heap, HeapLine::GiveUp)) => ([GIVE_UP, 0, 0, 0, 0], heap),
+                Ok(Line::NoHeap(NoHeap::Refused(n, a, why))) => ([REFUSED, n, a, why as u32, 0], 0),
+                Ok(Line::NoHeap(NoHeap::Kept(n, a))) => ([KEPT, n, a, 0, 0], 0),
+                Ok(Line::NoHeap(NoHeap::Gone)) => ([GONE, 0, 0, 0, 0], 0),
             };
-            if let Some(row) = row {
-                s.words.extend_from_slice(&row);
-                s.words.extend_from_slice(&[s.reader.line(), word(s.name.len())]);
-                s.bytes.append(&mut s.name);
-            }
+            let name = if row[0] == MARK { line[2..].trim_ascii() } else { s.reader.name() };
+            s.words.extend_from_slice(&row);
+            s.words.extend_from_slice(&[s.reader.line(), word(name.len()), heap]);
+            s.bytes.extend_from_slice(name);
             at = end + 1;
         }
         match s.reader.end(is_whole) {
@@ -230,6 +238,11 @@ pub extern "C" fn read(part: u32, last: u32) -> u32 {
             _ => 0,
         }
     })
+}
+
+fn header_of(kind: u32, header: Header) -> [u32; WIDE] {
+    let bits = if header.index == IndexWidth::Bits16 { 16 } else { 32 };
+    [kind, header.size, header.max_allocs, bits, 0]
 }
 
 impl State {

@@ -13,9 +13,11 @@ async function another(run, [size, nodes, unit, compact], work) {
   let extra = 0;
   for (let i = 0; i < run.count; i++) {
     const [op, ...numbers] = run.call(i), r = run.row(i), name = run.callName(i);
-    const isServed = op <= 1 || isTight(op), isRequest = isServed || isRelocation(op);
+    const isServed = op <= 1 || isTight(op) || op === OP.at, isRequest = isServed || isRelocation(op);
     // a report changes nothing
     const call = isSlide(op) && compact === COMPACT.never ? [4] : [op, ...[...KINDS[op]].map((kind, j) => scaled[kind](numbers[j]))];
+    // a range at a place has each unit in which it has a part
+    if (op === OP.at) call[2] = Math.min(LARGEST, Math.ceil((numbers[0] + numbers[1]) / unit) - call[1]);
     if (name) b.names.set(b.count, name);
     let found = one(...call);
     if (compact === COMPACT.whereRefused && isServed && found[0] === ANSWER.refused) { one(OP.compact); found = one(...call); }
@@ -26,13 +28,47 @@ async function another(run, [size, nodes, unit, compact], work) {
   }
   return { run: await b.remember(work), at, unit, extra };
 }
+// The recording of another file, beside this run. Where both have frames, their frames are side by side, else their rows.
+async function besideFile(bytes, name) {
+  const found = await during('Reading', async work => {
+    const file = await readText(bytes, work), i = Math.max(0, file.parts.findIndex(of => of.heap === S.run.part.heap)), of = file.parts[i];
+    return Object.assign(await of.run().survey(work), { file, part: of });
+  }, bytes, name);
+  if (!found) return;
+  const a = S.run, b = found, at = new Uint32Array(a.count + 1), ends = run => {
+    const flags = flagsOf(run), all = [0];
+    for (let i = 0; i < flags.length; i++) if (run.file.marks[i].text === 'frame') all.push(flags[i]);
+    return all; };
+  const [x, y] = [ends(a), ends(b)], isByFrame = x.length > 1 && y.length > 1;
+  for (let p = 0, f = 0; p <= a.count; p++) {
+    while (isByFrame && f + 1 < x.length && x[f + 1] <= p) f++;
+    if (!isByFrame) at[p] = Math.min(p, b.count);
+    else if (f >= y.length - 1) at[p] = Math.min(b.count, y[y.length - 1] + p - x[Math.min(f, y.length - 1)]);
+    else at[p] = f + 1 < x.length ? Math.round(y[f] + (p - x[f]) / Math.max(1, x[f + 1] - x[f]) * (y[f + 1] - y[f])) : Math.min(b.count, y[f] + p - x[f]);
+  }
+  compared({ run: b, at, unit: 1, extra: 0, as: null, name, isByFrame });
+}
+function compared(found) {
+  const a = S.run, b = found.run, { unit } = found;
+  S.other = { ...found, ...differing(a, found) };
+  S.other.whole = [
+    ['Refused calls', a.refusals.length, found.as ? S.other.refused.length : b.refusals.length],
+    ['First refusal, row', a.refusals[0] || 'none', (found.as ? S.other.refused[0] : b.refusals[0]) || 'none'],
+    ['Most units in use', most(a.used.list, a.count, 1, 0), most(b.used.list, b.count, 1, 0) * unit],
+    ['Highest end of a range', a.top, b.top * unit],
+    ['Most blocks', most(a.rows.list, a.count, 8, 6), most(b.rows.list, b.count, 8, 6)],
+    ['Units in use at the end', a.usedAt(a.count), b.usedAt(b.count) * unit]];
+  $('otherhead').textContent = found.name ? `The other: ${found.name}` : 'The other';
+  $('compared').hidden = false;
+  showOther();
+}
 // The rows where the two answer otherwise: a request is granted in one only, or another call succeeds in one only. And the
 // rows that the other refuses.
 const outcome = kind => kind === ANSWER.refused || kind === ANSWER.gone ? kind : 0;
 function differing(a, { run: b, at }) {
   const rows = [], refused = [], x = a.rows.list, y = b.rows.list;
   for (let i = 0; i < a.count; i++) {
-    const other = outcome(y[8 * (at[i + 1] - 1)]);
+    const other = at[i + 1] ? outcome(y[8 * (at[i + 1] - 1)]) : 0;
     if (outcome(x[8 * i]) !== other) rows.push(i + 1);
     if (other === ANSWER.refused) refused.push(i + 1);
   }
@@ -47,18 +83,8 @@ async function compare(as) {
   }
   const found = await during('Comparing', work => another(S.run, as, work));
   if (!found) return;
-  const a = S.run, b = found.run;
-  S.other = { ...found, as, ...differing(a, found) };
-  S.other.whole = [
-    ['Refused calls', a.refusals.length, S.other.refused.length],
-    ['First refusal, row', a.refusals[0] || 'none', S.other.refused[0] || 'none'],
-    ['Most units in use', most(a.used.list, a.count, 1, 0), most(b.used.list, b.count, 1, 0) * unit],
-    ['Highest end of a range', a.top, b.top * unit],
-    ['Most blocks', most(a.rows.list, a.count, 8, 6), most(b.rows.list, b.count, 8, 6)],
-    ['Units in use at the end', a.usedAt(a.count), b.usedAt(b.count) * unit]];
   for (const [i, id] of ['xsize', 'xnodes', 'xunit', 'xcompact'].entries()) $(id).value = as[i];
-  $('compared').hidden = false;
-  showOther();
+  compared({ ...found, as });
 }
 function dropOther() {
   S.other = null; $('compared').hidden = true;
@@ -75,14 +101,14 @@ function showOther() {
     ['Blocks', va.count + va.free.count, vb.count + vb.free.count], ['Over all', '', ''], ...S.other.whole];
   $('differences').replaceChildren(...table.map(([name, x, y]) => {
     const row = document.createElement('tr'), th = document.createElement('th');
-    const isNumber = typeof x === 'number' && typeof y === 'number';
+    const isNumber = typeof x === 'number' && typeof y === 'number', isSize = /[Uu]nits|Largest|Highest/.test(name), shown = isSize ? sized : whole;
     th.textContent = name; th.scope = 'row'; row.append(th);
     if (x === '' && y === '') row.className = 'part';
-    for (const v of [x, y, isNumber && x !== y ? y - x : '']) row.insertCell().textContent = typeof v === 'number' ? whole(v) : v;
-    if (isNumber && x !== y) row.cells[3].textContent = (y > x ? '+' : '−') + whole(Math.abs(y - x));
+    for (const v of [x, y, isNumber && x !== y ? y - x : '']) row.insertCell().textContent = typeof v === 'number' ? shown(v) : v;
+    if (isNumber && x !== y) row.cells[3].textContent = (y > x ? '+' : '−') + shown(Math.abs(y - x));
     return row;
   }));
-  $('differ').textContent = (rows.length ? `${counted(rows.length, 'row')} with another outcome, the first is row ${whole(rows[0])}.` :
+  $('differ').textContent = S.other.isByFrame ? 'Both have frames: at each frame of this run that frame of the other is shown.' : (rows.length ? `${counted(rows.length, 'row')} with another outcome, the first is row ${whole(rows[0])}.` :
     'Each call has the same outcome in both.') +
     (extra ? ` ${counted(extra, 'request')} that this run refuses ${extra === 1 ? 'is' : 'are'} granted in the other, and never freed there: ` +
       'the recording has no call for that.' : '');

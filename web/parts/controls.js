@@ -17,6 +17,8 @@ function toggle() {
 const to = p => { stop(); go(p); };
 L.calls = new List('calls', drawCall, i => jump(callAt(i)));
 L.ranges = new List('ranges', drawRange, i => { const b = rangeAt(i); pointer = null; chosenIs(b); jump(S.run.born.list[b.k]); });
+L.heaps = new List('heaprows', drawHeap, i => openPart(i));
+L.others = new List('others', drawOther, showUngranted);
 for (const by of Object.keys(SORTS)) {
   const b = document.createElement('button'); b.textContent = by; b.dataset.by = by;
   b.onclick = () => sortBy(by); $('sorts').append(b); }
@@ -32,6 +34,8 @@ $('row').onchange = () => {
   const p = $('row').valueAsNumber;
   if (Number.isInteger(p) && p >= 0 && p <= S.run.count) return jump(p);
   say(`Row: a number from 0 to ${whole(S.run.count)}`, true); $('row').value = S.p; };
+$('mback').onclick = () => toMark(-1); $('mnext').onclick = () => toMark(1); $('mleft').onclick = betweenMarks;
+$('mfrom').onchange = $('mto').onchange = showMarks;
 $('link').onclick = link; const help = () => { $('help').showModal(); $('closehelp').focus(); };
 $('keys').onclick = help; $('closehelp').onclick = () => $('help').close();
 $('undo').onclick = () => undo(S.past, S.ahead); $('redo').onclick = () => undo(S.ahead, S.past); $('original').onclick = original;
@@ -60,6 +64,11 @@ function takeFrom(event, given) {
   if (file) takeFile(file); else if (text) take(new TextEncoder().encode(text), OWN);
 }
 $('file').onchange = async () => { const f = $('file').files[0]; if (f) await takeFile(f); $('file').value = ''; };
+$('xfile').onchange = async () => {
+  const f = $('xfile').files[0];
+  if (!f) return;
+  try { await besideFile(new Uint8Array(await f.arrayBuffer()), f.name); } catch (fault) { say(`${f.name} cannot be read: ${fault.message}`, true); }
+  $('xfile').value = ''; };
 addEventListener('dragover', event => event.preventDefault());
 addEventListener('drop', event => { if (event.dataTransfer.files.length || !isField(event.target)) takeFrom(event, event.dataTransfer); });
 addEventListener('paste', event => { if (!isField(event.target)) takeFrom(event, event.clipboardData); });
@@ -134,6 +143,7 @@ const KEYS = new Map([
   ['Home', 'before the first row', () => jump(0)], ['End', 'after the last row', () => jump(S.run.count)],
   [' ', 'play or pause, where no button has the focus', toggle], ['p', 'play or pause', toggle],
   ['r', 'next refusal', () => refusal(1)], ['R', 'refusal before', () => refusal(-1)],
+  ['m', 'next mark', () => toMark(1)], ['M', 'mark before', () => toMark(-1)],
   ['b', 'next block', () => chooseBlock(1)], ['B', 'block before', () => chooseBlock(-1)],
   ['Enter', 'the row of the chosen block', () => { if (!$('goto').hidden) $('goto').click(); }],
   ['+', 'zoom in', () => zoom(1 / 4)], ['-', 'zoom out', () => zoom(4)], ['0', 'the whole space', () => $('zall').click()],

@@ -168,7 +168,9 @@ function drawLives(id, run, at, isTurn = false) {
   for (const [edge, style] of [[1, c.bg], [0, c.mark]]) {
     g.lineWidth = 1 + 2 * edge; g.strokeStyle = g.fillStyle = style; g.stroke();
     g.fillRect(line - edge, 0, 2 + 2 * edge, h); }
-  g.fillStyle = c.dim; g.textAlign = 'right';
+  g.fillStyle = c.dim;
+  for (const x of flagTicks(run, p0, p1, w)) g.fillRect(GUTTER + Math.round(x), h - 6, 1, 6);
+  g.textAlign = 'right';
   for (const [part0, y] of [[1, 7], [0.5, h / 2], [0, h - 6]]) g.fillText(short(Math.round(o0 + (o1 - o0) * part0)), GUTTER - 4, y);
   g.textAlign = 'left'; g.fillText(`row ${whole(Math.round(p0))}`, GUTTER, h + 9); g.textAlign = 'right'; g.fillText(whole(Math.round(p1 - 1)), w0, h + 9);
 }

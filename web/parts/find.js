@@ -19,8 +19,8 @@ async function sought(run, find, work) {
     if (k % 4096 === 0) await work.turn(k, flags.length + run.count);
   }
   for (let i = 0; i < run.count; i++) {
-    const op = run.calls.list[WIDE * i], a = run.calls.list[WIDE * i + 1], kind = run.rows.list[8 * i], k = kind === ANSWER.grant ? run.rows.list[8 * i + 1] : isOnGrant(op) ? a : 0;
-    if (k ? flags[k] : kind === ANSWER.refused && !isNever && KINDS[op][0] === 'n' && fits(i + 1, a, run.callName(i) || '')) rows.push(i + 1);
+    const op = run.calls.list[WIDE * i], a = run.calls.list[WIDE * i + 1], n = unitsAsked(op, a, run.calls.list[WIDE * i + 2]), kind = run.rows.list[8 * i], k = kind === ANSWER.grant ? run.rows.list[8 * i + 1] : isOnGrant(op) ? a : 0;
+    if (k ? flags[k] : kind === ANSWER.refused && !isNever && n !== null && fits(i + 1, n, run.callName(i) || '')) rows.push(i + 1);
     if (i % 4096 === 0) await work.turn(flags.length + i, flags.length + run.count);
   }
   return { key: find.join('\n'), flags, rows: rows.whole(), ...sum };

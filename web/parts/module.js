@@ -13,7 +13,7 @@ class Module {
     const at = this.e.room(bytes.length) >>> 0;
     new Uint8Array(this.e.memory.buffer, at, bytes.length).set(bytes);
   }
-  // A piece of a text as rows of seven numbers, and the bytes of their names.
+  // A piece of a text as rows of eight numbers, and the bytes of their names.
   read(bytes, part, last) {
     this.put(bytes);
     if (!this.e.read(part, last ? 1 : 0)) return [this.words(), this.bytes()];

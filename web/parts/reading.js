@@ -1,16 +1,20 @@
 // Texts to calls. A text is a script, or a recording: a script of any length with a line for each other call too.
-const PIECE = 1 << 18, WIDE = 5, HEADER = 255;
+const PIECE = 1 << 18, WIDE = 5, READ = 8;
+// What a row has in place of a call: see lib.rs.
+const OTHER = { header: 255, heap: 254, drop: 253, giveUp: 252, refused: 251, kept: 250, gone: 249, mark: 248 };
 // Each call by its kind: its word, and a letter for each of its numbers: units `n`, alignment `a`, grant `k`, step `s`, units
 // or an offset that a larger unit rounds down `d`, and a count `c`.
 const CALLS = [['alloc', 'n'], ['align', 'na'], ['free', 'k'], ['size', 'k'], ['report', ''], ['full', ''], ['reset', ''],
   ['extend', 'd'], ['shrink', 'kn'], ['grow', 'kn'], ['compact', ''], ['compact', 's'], ['compact', 'sddc'], ['tight', 'n'],
   ['tight', 'na'], ['room', 'n'], ['room', 'nas'], ['relocate', 'k'], ['relocate', 'ka'], ['retract', 'd'], ['offset', 'k'],
   ['where', 'n'], ['where', 'na'], ['first', ''], ['last', ''], ['before', 'k'], ['after', 'k'], ['cost', 'n'], ['cost', 'nas'],
-  ['why alloc', 'n'], ['why align', 'na'], ['why tight', 'n'], ['why tight', 'na']];
-const NAMES = CALLS.map(c => c[0]), KINDS = CALLS.map(c => c[1]), OP = { free: 2, compact: 10, tight: 13, tightAligned: 14, room: 15, retract: 19 };
+  ['why alloc', 'n'], ['why align', 'na'], ['why tight', 'n'], ['why tight', 'na'], ['at', 'dn']];
+const NAMES = CALLS.map(c => c[0]), KINDS = CALLS.map(c => c[1]), OP = { free: 2, compact: 10, tight: 13, tightAligned: 14, room: 15, retract: 19, at: 33 };
 const isOnGrant = op => KINDS[op][0] === 'k', isTight = op => op === OP.tight || op === OP.tightAligned;
 const isRelocation = op => NAMES[op] === 'relocate', isSlide = op => ['compact', 'room'].includes(NAMES[op]);
 const said = (op, ...of) => [NAMES[op], ...of.slice(0, KINDS[op].length)].join(' ');
+// The units that a request asks for, or null for another call.
+const unitsAsked = (op, a, b) => op === OP.at ? b : KINDS[op][0] === 'n' ? a : null;
 const filled = call => [...call, 0, 0, 0, 0].slice(0, WIDE);
 class Growing {
   constructor(type, size) { this.list = new type(size); this.length = 0; }
@@ -40,11 +44,18 @@ function inOrder(count, key) {
   for (let i = 0; i < count; i++) order[i] = keyed[i] - Math.floor(keyed[i] / MOST_KEYED) * MOST_KEYED;
   return order;
 }
-// The header and the calls of a text: five numbers for each, the line of each, and the names of those that have one.
+// A text: its parts, each a space with its calls, their lines and names; its marks; and the calls that changed no heap of many.
+// A part is the recording of one space: of one heap of many, or of what takes the place of the one before.
+class Part {
+  constructor(heap, head, from, title) {
+    Object.assign(this, { heap, head, from, title, calls: new Growing(Uint32Array, 64 * WIDE), lines: new Growing(Uint32Array, 64), names: new Map(), drops: [], to: null, end: '', before: null });
+  }
+  run(m) { return new Run(this.head, this.calls, this.names, this.lines, m); }
+}
 async function readText(bytes, work) {
-  const m = new Module(), calls = new Growing(Uint32Array, 1024 * WIDE), lines = new Growing(Uint32Array, 1024), names = new Map();
-  const decoder = new TextDecoder(), one = new Map();
-  let head = null, at = 0, part = 0;
+  const m = new Module(), decoder = new TextDecoder(), one = new Map(), file = { parts: [], marks: [], others: [], isMany: false, lines: 0, unit: 0 }, open = new Map();
+  const bad = line => new Fault(`line ${line}: bad command`, line, ...spanOf(bytes, line));
+  let at = 0, part = 0;
   do {
     let end = Math.min(bytes.length, at + PIECE);
     if (end < bytes.length) {
@@ -57,26 +68,54 @@ async function readText(bytes, work) {
       throw fault;
     }
     const [rows, text] = found;
-    calls.reserve(rows.length);
-    for (let i = 0, t = 0; i < rows.length; i += WIDE + 2) {
-      const name = rows[i + WIDE + 1];
-      if (rows[i] === HEADER) head = [rows[i + 1], rows[i + 2], rows[i + 3]];
-      else {
-        if (name) {
-          const word = decoder.decode(text.subarray(t, t + name));
-          // a name that many ranges have is kept once
-          if (!one.has(word)) one.set(word, word);
-          names.set(lines.length, one.get(word));
-        }
-        for (let j = 0; j < WIDE; j++) calls.list[calls.length++] = rows[i + j];
-        lines.push(rows[i + WIDE]);
+    for (let i = 0, t = 0; i < rows.length; i += READ) {
+      const kind = rows[i], line = rows[i + WIDE], name = rows[i + WIDE + 1], heap = rows[i + WIDE + 2];
+      let word = '';
+      if (name) {
+        word = decoder.decode(text.subarray(t, t + name)); t += name;
+        // a name that many ranges have is kept once
+        if (one.has(word)) word = one.get(word); else one.set(word, word);
       }
-      t += name;
+      file.lines = line;
+      if (kind < OTHER.mark) {
+        const of = open.get(heap);
+        if (!of) throw bad(line);
+        if (of.drops.length && of.drops.at(-1).next === null) of.drops.at(-1).next = line;
+        if (name) of.names.set(of.lines.length, word);
+        of.calls.reserve(WIDE);
+        for (let j = 0; j < WIDE; j++) of.calls.list[of.calls.length++] = rows[i + j];
+        of.lines.push(line);
+      } else if (kind === OTHER.header || kind === OTHER.heap) {
+        const before = open.get(heap), isMore = before && !before.drops.length;
+        const next = new Part(kind === OTHER.heap ? heap : null, [rows[i + 1], rows[i + 2], rows[i + 3]], line, word || (isMore ? before.title : ''));
+        if (isMore) next.before = before;
+        if (before) Object.assign(before, { to: before.drops.length ? before.drops.at(-1).line : line, end: before.drops.length ? 'dropped' : 'replaced' });
+        file.isMany ||= kind === OTHER.heap;
+        open.set(heap, next); file.parts.push(next);
+      } else if (kind === OTHER.drop) { const of = open.get(heap); if (of) of.drops.push({ line, p: of.lines.length, next: null });
+      } else if (kind === OTHER.giveUp) {
+        const of = open.get(heap);
+        if (of) { of.to = line; of.end = 'given up'; open.delete(heap); }
+      } else if (kind === OTHER.mark && /^unit \d{1,10}$/.test(word)) file.unit = Math.min(LARGEST, Number(word.slice(5)));
+      else if (kind === OTHER.mark) file.marks.push(marked(file.marks.at(-1), line, word));
+      else { file.isMany = true; file.others.push({ line, kind, n: rows[i + 1], a: rows[i + 2], why: rows[i + 3], name: word }); }
     }
     at = end; part = 1;
     await work.turn(at, bytes.length);
   } while (at < bytes.length);
-  return { head, calls: calls.whole(), lines: lines.whole(), names };
+  if (!file.parts.length) throw new Fault(`no heap begins: each of ${counted(file.others.length, 'call')} changed none`);
+  for (const of of file.parts) {
+    of.calls = of.calls.whole(); of.lines = of.lines.whole();
+    if (of.to === null && of.drops.length && of.drops.at(-1).next === null) { of.to = of.drops.at(-1).line; of.end = 'dropped'; }
+  }
+  return file;
+}
+// Where a line begins and ends in a text.
+function spanOf(bytes, line) {
+  let at = 0;
+  for (let i = 1; i < line; i++) at = bytes.indexOf(10, at) + 1;
+  const end = bytes.indexOf(10, at);
+  return [at, end < 0 ? bytes.length : end];
 }
 const quoted = line => '“' + new TextDecoder('utf-8', { ignoreBOM: true }).decode(line.subarray(0, 80)).replace(/^\ufeff|\r.*/gs, '') +
   (line.length > 80 ? '…”' : '”');
@@ -104,8 +143,10 @@ function mended(given) {
 }
 // The text of calls: what reads as them again.
 async function writeText(run, work) {
-  const parts = [`space ${run.head[0]} nodes ${run.head[1]} index ${run.head[2]}\n`];
-  for (let i = 0; i < run.count; i++) {
+  const parts = [`space ${run.head[0]} nodes ${run.head[1]} index ${run.head[2]}\n${run.file?.unit ? `#! unit ${run.file.unit}\n` : ''}`], flags = flagsOf(run);
+  for (let i = 0, mark = 0; i <= run.count; i++) {
+    for (; mark < flags.length && flags[mark] <= i; mark++) if (run.file.marks[mark].line > run.part.from) parts.push(`#! ${run.file.marks[mark].text}\n`);
+    if (i === run.count) break;
     const name = run.callName(i);
     parts.push((name ? `# ${name}\n` : '') + said(...run.call(i)) + '\n');
     if (i % 4096 === 0) await work.turn(i, run.count);

@@ -21,6 +21,7 @@ function* explain(run, p) {
   const out = { title: `Row ${whole(p)}: ${said(op, a, b, ...more)} is refused`, facts: [], helps: [], call: [op, a, b] };
   out.help = (text, calls = null, more = {}) => out.helps.push({ text, calls, ...more });
   if (op <= 1) yield* asked(out, run, p, a, op ? b : 1, before, size);
+  else if (op === OP.at) yield* placed(out, run, p, a, b, before, size);
   else if (isTight(op)) yield* tight(out, run, p, a, b || 1, before, size);
   else if (name === 'extend') yield* extended(out, run, p, a, before, size);
   else if (name === 'retract') yield* retracted(out, run, p, before);
@@ -123,6 +124,28 @@ function* tight(out, run, p, n, align, before, size) {
     out.help(`more nodes: a limit of ${whole(count + (align > 1 ? 3 : 2))} (it is ${whole(run.head[1])}), where the calls before stay the same`, null, { nodes: count + (align > 1 ? 3 : 2) });
   else if (why === 1) out.help('more nodes alone would not do: no free block is large enough');
   yield* evicted(out, run, p, before, n + align - 1, (o, to) => from(o) + n <= to);
+}
+// A request at a place: what is in its way.
+function* placed(out, run, p, o, n, before, size) {
+  const end = o + n, call = run.call(p - 1), first = Math.max(0, before.upTo(o) - 1), inTheWay = [];
+  for (let i = first; i < before.count && before.o[i] < Math.max(end, o + 1); i++) if (before.endOf(i) > o && before.o[i] < end) inTheWay.push(before.at(i));
+  out.facts.push(`asked: ${units(n)} from ${whole(o)} on; the space has ${units(size)}`);
+  if (end > size) {
+    out.facts.push(`it ends at ${whole(end)}, behind the space`);
+    if (end <= LARGEST && (yield* granted(run, p, [[7, end - size], call]))) out.help(`${units(end - size)} more space (extend ${end - size}): then it is granted`, [[7, end - size], out.call]);
+  }
+  if (inTheWay.length) {
+    out.facts.push(`in its way: ${inTheWay.slice(0, MOST_NAMED).map(b => `${named(run, b.k)} at ${whole(b.o)}, ${units(b.n)}`).join('; ')}` +
+      (inTheWay.length > MOST_NAMED ? `; and ${whole(inTheWay.length - MOST_NAMED)} more` : ''));
+    const calls = [...inTheWay.map(b => [OP.free, b.k]), out.call], [a, z] = [inTheWay[0], inTheWay.at(-1)];
+    if (yield* granted(run, p, calls)) out.help(`release ${counted(inTheWay.length, 'range')} (dashed): then it is granted`, calls, { outline: [a.o, z.o + z.n - a.o, true] });
+  } else if (end <= size) {
+    out.facts.push(`one free block has these units, but a node is lacking; blocks: ${blocksOf(run, p)}`);
+    const limit = run.row(p - 1)[6] + 3;
+    out.help(`more nodes: a limit of ${whole(limit)} (it is ${whole(run.head[1])}), where the calls before stay the same`, null, { nodes: limit });
+  }
+  if (n > 0 && (yield* granted(run, p, [[0, n]]))) out.help(`alloc ${n} in its place: elsewhere as many units are granted`, [[0, n]]);
+  else if (n > 0 && (yield* granted(run, p, [[OP.tight, n]]))) out.help(`tight ${n} in its place: elsewhere as many units are granted`, [[OP.tight, n]]);
 }
 function* retracted(out, run, p, before) {
   const { last, tail: free } = before;

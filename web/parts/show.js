@@ -22,9 +22,11 @@ function draw() {
   drawLives('life', run, () => S.run === run ? S.p : null);
   drawCurves(run, p);
   drawMarks(run);
+  showMarks();
+  if (!isQuick) showHeaps();
   const free = size - run.usedAt(p), share = (100 * run.usedAt(p) / Math.max(1, size)).toFixed(1);
-  let reports = `${units(size)}: ${whole(run.usedAt(p))} used (${share}%), ${whole(free)} free. ` +
-    (r ? `Largest request that is granted: ${whole(r[5])}. ` : '');
+  let reports = `${units(size)}: ${sized(run.usedAt(p))} used (${share}%), ${sized(free)} free. ` +
+    (r ? `Largest request that is granted: ${sized(r[5])}. ` : '');
   if (v) {
     drawBins(v.free.bins, searched, bin);
     const kept = free ? 1 - valueOf(classOf(v.free.largest)) / valueOf(classOf(free)) : 0, blocks = v.count + v.free.count;
@@ -35,8 +37,8 @@ function draw() {
   $('shown').textContent = `Shown: units ${whole(Math.floor(from))} to ${whole(Math.floor(to))}` +
     (S.zoom ? `, ${((to - from) / Math.max(1, size) * 100).toPrecision(2)}% of the space` : ', all of the space') +
     `; a line is ${units(Math.ceil((to - from) / ROWS))}.`;
-  $('lives').textContent = `Up to ${whole(run.top)}, the highest end of a range, of ${units(run.sizes.at(-1)[1])}. ` +
-    'The line is the position; ticks are refusals. Below: the units in use (lighter), and the largest request that is granted (darker).';
+  $('lives').textContent = `Up to ${sized(run.top)}, the highest end of a range, of ${units(run.sizes.at(-1)[1])}. ` +
+    `The line is the position; ticks are refusals${flagsOf(run).length ? ', those at the lower edge marks' : ''}. ` + 'Below: the units in use (lighter), and the largest request that is granted (darker).';
   $('lzall').disabled = !S.life;
   $('at').value = p; $('row').value = p; $('now').ariaLive = playing ? 'off' : 'polite';
   $('at').setAttribute('aria-valuetext', p ? `row ${p}: ${said(...op)}, ${answered(run, p - 1)}` : 'before the first row');

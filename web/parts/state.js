@@ -1,5 +1,5 @@
 // What the page shows: a run, a position in it, and what was added to it. The original is kept until another is read.
-const S = { run: null, base: null, name: '', title: '', bytes: null, p: 0, past: [], ahead: [], grant: 0, zoom: null, find: null, byName: false, unit: 0, life: null };
+const S = { run: null, base: null, name: '', title: '', bytes: null, p: 0, past: [], ahead: [], grant: 0, zoom: null, find: null, byName: false, unit: 0, life: null, part: 0 };
 const L = {}, OWN = 'Your script';
 // The message at the lower edge, always in sight: of a fault, or of what was done.
 function say(text, isFault = false, actions = []) {
@@ -34,16 +34,18 @@ function showFault(fault, bytes, file) {
   box.scrollTop = (fault.line - 4) * 19;
 }
 // Reads a text and plays it.
-async function load(bytes, name, title) {
+async function load(bytes, name, title, part = 0) {
   const run = await during('Reading', async work => {
-    const t = await readText(bytes, work);
+    const file = await readText(bytes, work), of = file.parts[part];
+    if (!of) throw new Fault(`the file has ${counted(file.parts.length, 'space')}, and none of the number ${whole(part)}`);
     work.what = 'Playing';
-    return new Run(t.head, t.calls, t.names, t.lines).survey(work);
+    if (isSeveral(file)) await surveyed(file, bytes, work);
+    return Object.assign(await of.run().survey(work), { file, part: of });
   }, bytes, name === 'own' && title !== OWN ? title : '');
   if (!run) { if (S.run) $('trace').value = S.name; return false; }
   leave();
   const before = { ...S };
-  Object.assign(S, { run, base: run, name, title, bytes, past: [], ahead: [], grant: 0, zoom: null, find: null, life: null });
+  Object.assign(S, { run, base: run, name, title, bytes, part, past: [], ahead: [], grant: 0, zoom: null, find: null, life: null, unit: run.file.unit || S.unit });
   say('');
   // another run takes nothing away: calls that were added come back by a click
   if (before.run !== before.base) say(`Your calls in ${before.title} are left.`, false, [['Back to them', () => {
@@ -59,7 +61,7 @@ function showNames() {
   own.textContent = S.name === 'own' ? S.title : OWN;
   for (const o of $('trace').options) o.textContent = o.textContent.replace(/ \(yours, from row .*\)$/, '');
   $('trace').value = S.name;
-  document.title = `${S.title} – offset_allocator`;
+  document.title = `${S.title}${S.run.file && isSeveral(S.run.file) ? `, ${nameOfPart(S.run.file, S.part)}` : ''} – offset_allocator`;
   const b = S.run !== S.base;
   $('branch').hidden = !b && !S.past.length && !S.ahead.length;
   $('original').disabled = !b;
@@ -90,9 +92,16 @@ async function showText() {
 // but where the user typed it.
 async function take(bytes, title, isTyped = false) {
   stop();
+  if (isDump(bytes)) {
+    let made;
+    try { made = dumpText(bytes); } catch (fault) { say(`${title ? title + ', ' : ''}${fault.message}`, true); return false; }
+    if (!await load(new TextEncoder().encode(made), 'own', title || OWN)) return false;
+    go(S.run.count); enter();
+    return true;
+  }
   const end = isTyped || isWide(bytes) ? bytes.length : bytes.lastIndexOf(10) + 1 || bytes.length;
   if (!await load(bytes.subarray(0, end), 'own', title || OWN)) return false;
-  go(0); enter();
+  go(begunAt(S.run)); enter();
   if (end < bytes.length) {
     const told = $('told').textContent, acts = [...$('sayacts').children];
     say(`${told} The last line of ${S.title}, ${quoted(bytes.subarray(end))}, has no line feed: it may be cut, and is not played.`.trim(),
@@ -101,6 +110,8 @@ async function take(bytes, title, isTyped = false) {
   }
   return true;
 }
+// Where a recording of a space that there was begins.
+const begunAt = run => { const i = run.file.marks.findIndex(m => m.text === 'begun' && m.line > run.part.from); return i < 0 ? 0 : flagsOf(run)[i]; };
 // Back and Forward: each run and each row that the user jumps to is a place, with all that is shown there; steps from row to row
 // stay at one. The places of the run and of the last ones before are kept, of so many calls in all.
 const places = new Map(), MOST_RUNS = 2, MOST_KEPT = 1e6;
@@ -129,8 +140,8 @@ async function come({ id, name, title, p }) {
 }
 function go(p) { S.p = Math.max(0, Math.min(S.run.count, Math.trunc(p) || 0)); draw(); }
 // A call of the user's: the run is left at the position, and the call is added. The original stays.
-const TAKES = { alloc: 'n', align: 'na', free: 'k', shrink: 'kn', grow: 'kn', compact: '', extend: 'n', reset: '' };
-const FIELDS = { n: 'Units', a: 'Alignment', k: 'Grant' };
+const TAKES = { alloc: 'n', align: 'na', at: 'on', free: 'k', shrink: 'kn', grow: 'kn', compact: '', extend: 'n', reset: '' };
+const FIELDS = { n: 'Units', a: 'Alignment', k: 'Grant', o: 'Offset' };
 function act(name) {
   const values = [];
   for (const id of TAKES[name]) {
@@ -191,7 +202,8 @@ async function link() {
   if (S.name === 'own') q.set('s', b64(await through(S.bytes, new CompressionStream('deflate-raw')))); else q.set('t', S.name);
   if (S.title !== OWN && S.name === 'own') q.set('n', S.title);
   if (S.run !== S.base) { q.set('kept', S.run.kept); q.set('c', S.run.edits.flat().join('.')); }
-  if (S.other) q.set('x', S.other.as.join('.'));
+  if (S.part) q.set('m', S.part);
+  if (S.other?.as) q.set('x', S.other.as.join('.'));
   if (S.zoom) q.set('z', S.zoom.join('.'));
   const filters = Object.keys(FILTERS).filter(f => $(FILTERS[f]).checked).join('');
   if (filters) q.set('f', filters);
@@ -209,7 +221,7 @@ async function link() {
   try { await navigator.clipboard.writeText(location.href); say(`The link to this state is copied: ${size}.${long}`); }
   catch { say(`The link to this state is in the address bar: ${size}.${long}`); }
 }
-const ADDED = [...Array(11).keys(), OP.tight, OP.tightAligned, OP.room, OP.retract];
+const ADDED = [...Array(11).keys(), OP.tight, OP.tightAligned, OP.room, OP.retract, OP.at];
 const numbersOf = text => text.split('.').map(x => { if (!/^\d{1,10}$/.test(x) || Number(x) > LARGEST) throw Error(); return Number(x); });
 const oneOf = text => { const n = numbersOf(text); if (n.length !== 1) throw Error(); return n[0]; };
 async function restore() {
@@ -217,8 +229,9 @@ async function restore() {
   const q = new URLSearchParams(location.hash.slice(1)), t = q.get('t');
   let isFaulty = t !== null && !Object.hasOwn(TRACES, t), why = 'what it names is not there', p = null;
   try {
-    if (q.has('s')) { if (!await load(await inflated(q.get('s')), 'own', q.get('n') || OWN)) throw null; }
-    else if (t !== null && !isFaulty) await load(await inflated(TRACES[t]), t, titleOf(t));
+    const part = q.has('m') ? oneOf(q.get('m')) : 0;
+    if (q.has('s')) { if (!await load(await inflated(q.get('s')), 'own', q.get('n') || OWN, part)) throw null; }
+    else if (t !== null && !isFaulty) await load(await inflated(TRACES[t]), t, titleOf(t), part);
     else await load(await inflated(TRACES[FIRST]), FIRST, titleOf(FIRST));
     if (q.has('p')) p = oneOf(q.get('p'));
     if (q.get('c')) {

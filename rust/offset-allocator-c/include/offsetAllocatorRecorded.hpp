@@ -9,12 +9,18 @@
 // The calls that change the space are those of A, an Allocator or a GuardedAllocator; its questions are asked by
 // heap->storageReport(), and are not written. A line is flushed before its call is made: so a crash, of the call too, keeps
 // it. Where the file fails or memory is out, the recording ends, and not the program: isFailed says so. No call throws.
+//
+// Several allocators have one file by a Recording, and Heaps by RecordedHeaps. docs/RECORDINGS.md has the form.
 #pragma once
 
 #include "offsetAllocator.hpp"
+#include "offsetAllocatorHeaps.hpp"
 
+#include <algorithm>
 #include <cstdio>
 #include <cstdlib>
+#include <cstring>
+#include <new>
 #include <utility>
 
 namespace OffsetAllocator {
@@ -26,70 +32,291 @@ inline uint32 nameOf(const Ticket &ticket) { return ticket.name; }
 inline bool isGranted(const Allocation &allocation) { return allocation.metadata != Allocation::NO_SPACE; }
 inline bool isGranted(const Ticket &ticket) { return bool(ticket); }
 
-// Writes the lines, and knows the number of the grant that had a name last.
+// Bytes that are assigned, as a vector has them, without exceptions.
+class Bytes {
+public:
+    Bytes() : held(nullptr), count(0) {}
+    Bytes(const Bytes &) = delete;
+    Bytes &operator=(const Bytes &) = delete;
+    ~Bytes() { std::free(held); }
+    void assign(const uint8_t *first, const uint8_t *last) {
+        count = 0;
+        void *found = std::realloc(held, size_t(last - first) + 1);
+        if (!found) return;
+        held = static_cast<uint8_t *>(found);
+        count = size_t(last - first);
+        if (count) std::memcpy(held, first, count);
+    }
+    size_t size() const { return count; }
+    // A number of so many bytes, the lowest first.
+    uint64_t number(size_t at, size_t bytes) const {
+        uint64_t found = 0;
+        for (size_t i = 0; i < bytes; i++) found |= uint64_t(held[at + i]) << 8 * i;
+        return found;
+    }
+
+private:
+    uint8_t *held;
+    size_t count;
+};
+
+// Where the state of the space begins in that of an Allocator, and in that of a GuardedAllocator from a place on.
+inline size_t spaceIn(const Bytes &, const Allocator &) { return 0; }
+inline size_t spaceBehindTickets(const Bytes &bytes, size_t at) { return at + 8 * (6 + size_t(bytes.number(at + 16, 8))); }
+inline size_t spaceIn(const Bytes &bytes, const GuardedAllocator &) { return spaceBehindTickets(bytes, 0); }
+
+// An array that grows, without exceptions; the items are zero at first.
+template <class T> class Items {
+public:
+    Items() : held(nullptr), room(0) {}
+    Items(Items &&other) noexcept : held(other.held), room(other.room) {
+        other.held = nullptr;
+        other.room = 0;
+    }
+    Items(const Items &) = delete;
+    Items &operator=(const Items &) = delete;
+    ~Items() { std::free(held); }
+    // Whether there are so many.
+    bool reserve(size_t count) {
+        if (count <= room) return true;
+        size_t more = count + room;
+        void *found = std::realloc(held, more * sizeof(T));
+        if (!found) return false;
+        held = static_cast<T *>(found);
+        std::memset(static_cast<void *>(held + room), 0, (more - room) * sizeof(T));
+        room = more;
+        return true;
+    }
+    size_t size() const { return room; }
+    T &operator[](size_t i) { return held[i]; }
+    const T &operator[](size_t i) const { return held[i]; }
+    T *begin() { return held; }
+
+private:
+    T *held;
+    size_t room;
+};
+
+// The numbers of grants, by the names of their blocks: a name is below the number of blocks that there were at once.
+class Numbers {
+public:
+    Numbers() : grants(0) {}
+    Numbers(Numbers &&) = default;
+    bool grant(uint32 name) {
+        if (!numbers.reserve(size_t(name) + 1)) return false;
+        numbers[name] = ++grants;
+        return true;
+    }
+    uint32 number(uint32 name) const { return name < numbers.size() ? numbers[name] : 0; }
+    void skip() { grants++; }
+    void clear() {
+        for (size_t i = 0; i < numbers.size(); i++) numbers[i] = 0;
+        grants = 0;
+    }
+
+private:
+    Items<uint32> numbers;
+    uint32 grants;
+};
+
+const uint32 NO_HEAP = 0xffffffff;
+
+// Writes the lines, of one heap of many after its number, and knows the numbers of grants.
 class Tape {
 public:
-    explicit Tape(std::FILE *file) noexcept : out(file), numbers(nullptr), room(0), grants(0), named(false), failed(file == nullptr) {}
-    Tape(Tape &&other) noexcept : out(other.out), numbers(other.numbers), room(other.room), grants(other.grants), named(other.named), failed(other.failed) {
-        other.numbers = nullptr;
-        other.room = 0;
+    explicit Tape(std::FILE *file, uint32 number = NO_HEAP) noexcept : out(file), heap(number), held(nullptr), named(false), failed(file == nullptr) {}
+    Tape(Tape &&other) noexcept
+        : numbers(std::move(other.numbers)), out(other.out), heap(other.heap), held(other.held), named(other.named), failed(other.failed) {
+        other.held = nullptr;
         other.failed = true;
     }
     Tape(const Tape &) = delete;
     Tape &operator=(const Tape &) = delete;
-    ~Tape() { std::free(numbers); }
+    ~Tape() { std::free(held); }
 
-    void write(const char *line) {
+    template <class... Of> void write(const char *format, Of... of) {
         if (failed) return;
-        named = false;
-        failed = std::fputs(line, out) == EOF || std::fflush(out) != 0;
-    }
-    template <class... Numbers> void write(const char *format, Numbers... of) {
-        if (failed) return;
-        named = false;
+        prefix();
         failed = std::fprintf(out, format, static_cast<unsigned>(of)...) < 0 || std::fflush(out) != 0;
     }
+    void write(const char *line) {
+        if (failed) return;
+        prefix();
+        failed = std::fputs(line, out) == EOF || std::fflush(out) != 0;
+    }
+    // A name; that of one heap of many is held until its request comes.
     void comment(const char *text) {
         if (failed || !text) return;
         named = true;
-        std::fputs("# ", out);
-        for (; *text; text++) std::fputc(*text == '\n' || *text == '\r' ? ' ' : *text, out);
-        failed = std::fputc('\n', out) == EOF || std::fflush(out) != 0;
+        if (heap == NO_HEAP) {
+            put("# ", text);
+            failed = std::fflush(out) != 0;
+            return;
+        }
+        std::free(held);
+        size_t size = std::strlen(text) + 1;
+        held = static_cast<char *>(std::malloc(size));
+        if (held) std::memcpy(held, text, size);
+        else failed = true;
     }
     // The next request has no name: an empty line is between.
     void unname() {
-        if (named) write("\n");
+        if (!named || failed) return;
+        putHeld();
+        named = false;
+        failed = std::fputs("\n", out) == EOF || std::fflush(out) != 0;
     }
-    // Room for the numbers of all names there can be: a name is below the number of blocks that there were at once.
-    void grant(uint32 name) {
+    // A mark: a name before it stays that of the next request.
+    void mark(const char *text) {
+        if (failed || !text) return;
+        put("#! ", text);
+        failed = failed || std::fflush(out) != 0;
+    }
+    void markText(const char *text) {
+        if (failed || !text) return;
+        put("#! mark ", text);
+        failed = failed || std::fflush(out) != 0;
+    }
+    void mark(const char *what, uint64_t number) {
         if (failed) return;
-        if (name >= room) {
-            size_t more = size_t(name) + 1 + room;
-            void *found = std::realloc(numbers, more * sizeof(uint32));
-            if (!found) {
-                failed = true;
-                return;
-            }
-            numbers = static_cast<uint32 *>(found);
-            for (size_t i = room; i < more; i++) numbers[i] = 0;
-            room = more;
-        }
-        numbers[name] = ++grants;
+        failed = std::fprintf(out, "#! %s %llu\n", what, static_cast<unsigned long long>(number)) < 0 || std::fflush(out) != 0;
     }
-    uint32 number(uint32 name) const { return name < room ? numbers[name] : 0; }
+    void grant(uint32 name) {
+        if (!failed && !numbers.grant(name)) failed = true;
+    }
+    uint32 number(uint32 name) const { return numbers.number(name); }
     void fail() { failed = true; }
+    std::FILE *file() const { return failed ? nullptr : out; }
     bool isFailed() const { return failed; }
+
+    // Writes a header, and the lines after which its space is as the one whose state begins at a place of bytes, as
+    // docs/STATES.md has it: its live ranges are granted at their places, each with the free block behind it, and then give that
+    // back, the oldest free block of a bin first. Returns whether there are such lines.
+    bool begin(const Bytes &bytes, size_t at) {
+        struct Block {
+            uint32 name, offset, size, given;
+            size_t place;
+            bool isFree, isOwn;
+        };
+        if (failed) return false;
+        auto word = [&](size_t i) { return uint32(bytes.number(at + 4 * i, 4)); };
+        uint32 size = word(2), limit = word(3);
+        size_t count = word(4), free = word(5);
+        struct Place {
+            uint32 name;
+            size_t place;
+        };
+        Items<Block> blocks;
+        Items<Place> places;
+        numbers.clear();
+        if (!blocks.reserve(count) || !places.reserve(free + 1)) {
+            failed = true;
+            return false;
+        }
+        for (size_t i = 0; i < free; i++) places[i] = Place{word(7 + 2 * count + i), i};
+        std::sort(places.begin(), places.begin() + free, [](const Place &a, const Place &b) { return a.name < b.name; });
+        uint32 offset = 0;
+        for (size_t i = 0; i < count; i++) {
+            size_t from = 7 + 2 * (count - 1 - i);
+            Block block = {word(from), offset, word(from + 1), 0, 0, false, true};
+            offset += block.size;
+            Place *end = places.begin() + free;
+            Place *found = std::lower_bound(places.begin(), end, block.name, [](const Place &a, uint32 name) { return a.name < name; });
+            block.isFree = found != end && found->name == block.name;
+            if (block.isFree) block.place = found->place;
+            blocks[i] = block;
+        }
+        bool isLonger = blocks[count - 1].size == 0 && count != free, isFromTheEnd = free == 1 && blocks[0].isFree && blocks[0].size > 0 && !isLonger;
+        // what is granted: the units of a free block come with the range before it
+        size_t granted = 0;
+        if (count != free)
+            for (size_t i = 0; i < count; i++) {
+                Block &block = blocks[i];
+                block.isOwn = !(block.isFree && (isFromTheEnd || (i > 0 && !blocks[i - 1].isFree && block.size > 0)));
+                block.given = block.isOwn ? uint32(++granted) : uint32(granted);
+            }
+        if ((isLonger && size == 0xffffffff) || (!isFromTheEnd && granted != 0 && granted + 2 > limit)) {
+            failed = true;
+            return false;
+        }
+        write("space %u nodes %u index 32\n", size + isLonger, limit);
+        if (granted == 0) return false;
+        for (size_t i = 0; i < count; i++) {
+            // from the end on, each range leaves the units before it, and no further node is lacking
+            const size_t j = isFromTheEnd ? count - 1 - i : i;
+            const Block &block = blocks[j];
+            if (!block.isOwn) continue;
+            bool hasMore = !isFromTheEnd && j + 1 < count && !blocks[j + 1].isOwn;
+            write("at %u %u\n", block.offset, hasMore ? block.size + blocks[j + 1].size : block.size);
+            if (block.isFree) numbers.skip();
+            else grant(block.name);
+        }
+        if (isLonger) write("retract 1\n");
+        if (isFromTheEnd) return true;
+        // the newest free block of a class is the first in its list
+        for (size_t i = 0; i < free; i++) places[i].place = 0;
+        for (size_t i = 0; i < count; i++)
+            if (blocks[i].isFree) places[blocks[i].place].place = i;
+        for (size_t i = free; i-- > 0;) {
+            const Block &block = blocks[places[i].place];
+            if (block.isOwn) write("free %u\n", block.given);
+            else write("shrink %u %u\n", block.given, (&block)[-1].size);
+        }
+        return true;
+    }
+    template <class A> void begin(const A &space) {
+        if (failed) return;
+        Bytes bytes;
+        if (!space || !space.save(bytes) || bytes.size() == 0) failed = true;
+        else if (begin(bytes, spaceIn(bytes, space))) mark("begun");
+    }
+
+protected:
+    Numbers numbers;
 
 private:
     std::FILE *out;
-    uint32 *numbers;
-    size_t room;
-    uint32 grants;
+    uint32 heap;
+    char *held;
     bool named;
     bool failed;
+
+    void put(const char *before, const char *text) {
+        std::fputs(before, out);
+        for (; *text; text++) std::fputc(*text == '\n' || *text == '\r' ? ' ' : *text, out);
+        failed = std::fputc('\n', out) == EOF;
+    }
+    void putHeld() {
+        if (held) put("# ", held);
+        std::free(held);
+        held = nullptr;
+    }
+    void prefix() {
+        named = false;
+        putHeld();
+        if (heap != NO_HEAP) failed = failed || std::fprintf(out, "heap %u ", static_cast<unsigned>(heap)) < 0;
+    }
 };
 
 } // namespace detail
+
+// One recording of several allocators, each of which is a heap with a number, from 0 on: Recorded<A> textures(recording, 1 << 20).
+// The file is not closed. Calls of several threads need a lock of the program's.
+class Recording {
+public:
+    explicit Recording(std::FILE *file) noexcept : out(file), heaps(0) {}
+    // The name of the next heap, which has to be made next: a comment before its first line.
+    void name(const char *text) {
+        if (out && text) detail::Tape(out).comment(text);
+    }
+    Recording(const Recording &) = delete;
+    Recording &operator=(const Recording &) = delete;
+
+private:
+    template <class A> friend class Recorded;
+    std::FILE *out;
+    uint32 heaps;
+};
 
 template <class A> class Recorded {
 public:
@@ -97,9 +324,16 @@ public:
 
     // An allocator made of the other arguments, as A is. The file is not closed; it may be closed when the recording ends.
     explicit Recorded(std::FILE *file, uint32 size, uint32 maxAllocs = 128 * 1024) noexcept
-        : Recorded(A(size, maxAllocs), file) {}
+        : Recorded(file, A(size, maxAllocs)) {}
     // a GuardedAllocator alone has a realm
-    Recorded(std::FILE *file, uint32 size, uint32 maxAllocs, uint32 realm) noexcept : Recorded(A(size, maxAllocs, realm), file) {}
+    Recorded(std::FILE *file, uint32 size, uint32 maxAllocs, uint32 realm) noexcept : Recorded(file, A(size, maxAllocs, realm)) {}
+    // An allocator that there is, from now on: live ranges that it has, as one of load or clone, come first, as the grants from
+    // 1 on. No recording begins with one that has ranges of no units, and lacks a node, or a unit, for one more.
+    Recorded(std::FILE *file, A &&made) noexcept : space(std::move(made)), tape(file) { tape.begin(space); }
+    // The next heap of a recording of several.
+    Recorded(Recording &of, A &&made) noexcept : space(std::move(made)), tape(of.out, of.heaps++) { tape.begin(space); }
+    Recorded(Recording &of, uint32 size, uint32 maxAllocs = 128 * 1024) noexcept : Recorded(of, A(size, maxAllocs)) {}
+    Recorded(Recording &of, uint32 size, uint32 maxAllocs, uint32 realm) noexcept : Recorded(of, A(size, maxAllocs, realm)) {}
     Recorded(Recorded &&other) noexcept : space(std::move(other.space)), tape(std::move(other.tape)) {}
     Recorded(const Recorded &) = delete;
     Recorded &operator=(const Recorded &) = delete;
@@ -107,6 +341,16 @@ public:
     // The name of the next request, for who reads the recording: a comment before it. Line ends become spaces; no text is no
     // name.
     void name(const char *text) { tape.comment(text); }
+    // Marks, which change no answer, and between which the page shows what lives: a frame's end, a time in nanoseconds from a
+    // begin of the program's, the number of the thread of the calls from here on, and a text of the program's. And how many bytes a
+    // unit has.
+    void frameEnd() { tape.mark("frame"); }
+    void unit(uint32 bytes) { tape.mark("unit", bytes); }
+    void time(uint64_t nanoseconds) { tape.mark("time", nanoseconds); }
+    void thread(uint64_t number) { tape.mark("thread", number); }
+    void mark(const char *text) {
+        tape.markText(text);
+    }
     // Whether the recording has ended.
     bool isFailed() const { return tape.isFailed(); }
     // The allocator, for its questions.
@@ -121,6 +365,10 @@ public:
     Handle allocateAligned(uint32 size, uint32 align) {
         if (isValid(align != 0)) tape.write("align %u %u\n", size, align);
         return granted(space.allocateAligned(size, align));
+    }
+    Handle allocateAt(uint32 offset, uint32 size) {
+        tape.write("at %u %u\n", offset, size);
+        return granted(space.allocateAt(offset, size));
     }
     Handle allocateTight(uint32 size) {
         tape.write("tight %u\n", size);
@@ -186,15 +434,18 @@ public:
         tape.write("reset\n");
         space.reset();
     }
+    // After it a line with the larger limit follows, and those after which its space is as this one, whose grants are numbered
+    // from 1 again.
+    bool raiseLimit(uint32 maxAllocs) {
+        bool raised = space.raiseLimit(maxAllocs);
+        if (raised) tape.begin(space);
+        return raised;
+    }
 
 private:
     A space;
     detail::Tape tape;
 
-    Recorded(A &&made, std::FILE *file) noexcept : space(std::move(made)), tape(file) {
-        if (!space) tape.fail();
-        tape.write("space %u nodes %u index 32\n", space.size(), space.maxAllocs());
-    }
     // A call that could not be read again is not written, and a name that was given to it is that of no other call.
     bool isValid(bool valid) {
         if (!valid) tape.unname();
@@ -204,6 +455,216 @@ private:
     Handle granted(Handle handle) {
         if (detail::isGranted(handle)) tape.grant(detail::nameOf(handle));
         return handle;
+    }
+};
+
+// Heaps, whose calls are written to a file as they happen. The line of a call is written after the call, as its heap is known
+// only then.
+class RecordedHeaps {
+public:
+    explicit RecordedHeaps(std::FILE *file, const HeapLimits &limits, uint32 realm = 0) noexcept : RecordedHeaps(file, Heaps(limits, realm)) {}
+    // Heaps that there are, from now on: as Recorded with one allocator.
+    RecordedHeaps(std::FILE *file, Heaps &&made) noexcept : heaps(std::move(made)), tape(file), next(nullptr), usual(0), maxAllocs(0), most(0), all(0) {
+        detail::Bytes bytes;
+        if (!heaps || !heaps.save(bytes) || bytes.size() == 0) {
+            tape.fail();
+            return;
+        }
+        // docs/STATES.md has the form
+        auto word = [&](size_t i) { return bytes.number(8 * i, 8); };
+        usual = uint32(word(2));
+        maxAllocs = uint32(word(3));
+        most = uint32(word(4));
+        all = most + uint32(word(5));
+        bool hasHeaps = false;
+        for (uint32 number = 0; number < all && !tape.isFailed(); number++)
+            if (word(8 + number) != word(9 + number)) {
+                size_t state = 8 * (size_t(all) + 10) + size_t(word(8 + number));
+                if (Grants *of = grants(number)) of->begin(*this, bytes, detail::spaceBehindTickets(bytes, state));
+                hasHeaps = true;
+            }
+        if (hasHeaps) tape.mark("begun");
+    }
+    RecordedHeaps(const RecordedHeaps &) = delete;
+    RecordedHeaps &operator=(const RecordedHeaps &) = delete;
+    ~RecordedHeaps() {
+        for (size_t i = 0; i < held.size(); i++) delete held[i];
+        std::free(next);
+    }
+
+    // The name of the next request, and marks: as those of Recorded.
+    void name(const char *text) {
+        std::free(next);
+        next = copied(text);
+    }
+    void frameEnd() { tape.mark("frame"); }
+    void unit(uint32 bytes) { tape.mark("unit", bytes); }
+    void time(uint64_t nanoseconds) { tape.mark("time", nanoseconds); }
+    void thread(uint64_t number) { tape.mark("thread", number); }
+    void mark(const char *text) {
+        tape.markText(text);
+    }
+    bool isFailed() const { return tape.isFailed(); }
+    // The heaps, for their questions.
+    const Heaps *operator->() const { return &heaps; }
+    const Heaps &operator*() const { return heaps; }
+
+    Granted allocate(uint32 size) { return request(heaps.allocate(size), size, 1); }
+    // An alignment of 0 is refused, and not written.
+    Granted allocateAligned(uint32 size, uint32 align) { return request(heaps.allocateAligned(size, align), size, align); }
+    // For a place that is not live "none free" is written.
+    bool free(const Place &place) {
+        uint32 number = numberOf(place);
+        if (number) tape.write("heap %u free %u\n", place.heap, number);
+        else tape.write("none free\n");
+        return heaps.free(place);
+    }
+    // The second range is a request of the heap that takes it, with the name of the first, and where that was.
+    Place relocate(const Place &place) { return relocated(place, 1); }
+    Place relocateAligned(const Place &place, uint32 align) { return relocated(place, align); }
+    template <class F> void dropEmpty(uint32 keep, F &&dropped) {
+        heaps.dropEmpty(keep, [&](uint32 number) {
+            tape.write("heap %u drop\n", number);
+            dropped(number);
+        });
+    }
+    // Of a number that has no heap nothing is written.
+    bool dropHeap(uint32 number) {
+        bool has = heaps.has(number), isDropped = heaps.dropHeap(number);
+        if (has) tape.write("heap %u drop\n", number);
+        return isDropped;
+    }
+    bool giveUp(uint32 number) {
+        bool isGivenUp = heaps.giveUp(number);
+        if (isGivenUp) tape.write("heap %u give up\n", number);
+        return isGivenUp;
+    }
+    // A line for each heap that there is.
+    void reset() {
+        heaps.reset();
+        uint32 left = heaps.totals().heaps;
+        for (uint32 number = 0; number < all && left; number++)
+            if (heaps.has(number)) {
+                tape.write("heap %u reset\n", number);
+                left--;
+            }
+    }
+
+private:
+    // The numbers of the grants of one heap, and their names.
+    struct Grants : detail::Tape {
+        detail::Items<char *> names;
+
+        explicit Grants(std::FILE *file, uint32 number) : detail::Tape(file, number) {}
+        ~Grants() {
+            for (size_t i = 0; i < names.size(); i++) std::free(names[i]);
+        }
+        void begin(RecordedHeaps &of, const detail::Bytes &bytes, size_t at) {
+            detail::Tape::begin(bytes, at);
+            if (isFailed()) of.tape.fail();
+        }
+        void forget() {
+            numbers.clear();
+            for (size_t i = 0; i < names.size(); i++) {
+                std::free(names[i]);
+                names[i] = nullptr;
+            }
+        }
+        bool granted(uint32 name, char *text) {
+            if (!numbers.grant(name) || !names.reserve(size_t(name) + 1)) {
+                std::free(text);
+                return false;
+            }
+            std::free(names[name]);
+            names[name] = text;
+            return true;
+        }
+    };
+
+    Heaps heaps;
+    detail::Tape tape;
+    detail::Items<Grants *> held;
+    // the name of the next request
+    char *next;
+    // the limits of heaps of the usual size, and how many of all there may be
+    uint32 usual, maxAllocs, most, all;
+
+    static char *copied(const char *text, const char *more = "") {
+        if (!text) return nullptr;
+        size_t size = std::strlen(text), rest = std::strlen(more) + 1;
+        char *found = static_cast<char *>(std::malloc(size + rest));
+        if (found) {
+            std::memcpy(found, text, size);
+            std::memcpy(found + size, more, rest);
+        }
+        return found;
+    }
+    Grants *grants(uint32 number) {
+        if (!held.reserve(size_t(number) + 1)) tape.fail();
+        else if (!held[number]) held[number] = new (std::nothrow) Grants(tape.file(), number);
+        Grants *found = number < held.size() ? held[number] : nullptr;
+        if (!found) tape.fail();
+        return found;
+    }
+    uint32 numberOf(const Place &place) const {
+        return heaps.isLive(place) && place.heap < held.size() && held[place.heap] ? held[place.heap]->number(place.ticket.name) : 0;
+    }
+    void grant(const Place &place, char *text) {
+        Grants *of = grants(place.heap);
+        if (!of) std::free(text);
+        else if (!of->granted(place.ticket.name, text)) tape.fail();
+    }
+    // Only a request that is written takes the name.
+    Granted request(const Granted &found, uint32 units, uint32 align) {
+        if (found.refusal == HeapRefusal::badCall) {
+            std::free(next);
+            next = nullptr;
+            return found;
+        }
+        uint32 heap = found.place.heap;
+        if (!found) {
+            tape.comment(next);
+            static const char *const words[] = {"", "empty", "larger", "full", "memory"};
+            char line[64];
+            if (align == 1) std::snprintf(line, sizeof line, "none alloc %u %s\n", static_cast<unsigned>(units), words[int(found.refusal)]);
+            else std::snprintf(line, sizeof line, "none align %u %u %s\n", static_cast<unsigned>(units), static_cast<unsigned>(align), words[int(found.refusal)]);
+            tape.write(static_cast<const char *>(line));
+            std::free(next);
+            next = nullptr;
+            return found;
+        }
+        bool isLarger = found.isNew && heap >= most;
+        if (found.isNew) {
+            if (Grants *of = grants(heap)) of->forget();
+            // a larger heap has the units of its request, and may have three blocks
+            tape.write("heap %u space %u nodes %u index 32\n", heap, isLarger ? units : usual, isLarger ? 4 : maxAllocs);
+        }
+        tape.comment(next);
+        if (isLarger) tape.write("heap %u tight %u\n", heap, units);
+        else if (align == 1 || found.isNew) tape.write("heap %u alloc %u\n", heap, units);
+        else tape.write("heap %u align %u %u\n", heap, units, align);
+        grant(found.place, next);
+        next = nullptr;
+        return found;
+    }
+    Place relocated(const Place &place, uint32 align) {
+        uint32 number = numberOf(place), units = heaps.sizeOf(place);
+        Place second = heaps.relocateAligned(place, align);
+        if (align == 0) return second;
+        if (!number) tape.write("none relocate\n");
+        else if (!second.ticket) tape.write("none relocate %u %u\n", units, align);
+        else {
+            const Grants *of = held[place.heap];
+            const char *first = place.ticket.name < of->names.size() ? of->names[place.ticket.name] : nullptr;
+            char where[64];
+            std::snprintf(where, sizeof where, "%s(of grant %u, heap %u)", first ? " " : "", static_cast<unsigned>(number), static_cast<unsigned>(place.heap));
+            char *named = copied(first ? first : "", where);
+            tape.comment(named);
+            if (align == 1) tape.write("heap %u alloc %u\n", second.heap, units);
+            else tape.write("heap %u align %u %u\n", second.heap, units, align);
+            grant(second, named);
+        }
+        return second;
     }
 };
 

@@ -2,10 +2,12 @@
 // FOLDER/N.answers, for play-recording.
 #include "offsetAllocatorRecorded.hpp"
 
+#include <algorithm>
 #include <cstdint>
 #include <cstdio>
 #include <cstdlib>
 #include <string>
+#include <utility>
 #include <vector>
 
 using namespace OffsetAllocator;
@@ -81,6 +83,122 @@ static void byHand(const std::string &path) {
     }
 }
 
+// The lines of a recording, from a file that is closed.
+static std::string of(std::FILE *file, const std::string &path) {
+    std::fclose(file);
+    return read(path);
+}
+
+template <class A, class H> static void made(A &space, std::vector<H> &held) {
+    for (uint32_t size : {10u, 5u, 5u, 5u, 5u}) held.push_back(space.allocate(size));
+    space.free(held[3]);
+    space.free(held[1]);
+}
+
+static void beginnings(const std::string &path) {
+    // used 0 to 10, free 10 to 15, used 15 to 20, free 20 to 25, used 25 to 30, free 30 to 100; the first of 5 units is the newer
+    const std::string begun = "space 100 nodes 16 index 32\nat 0 15\nat 15 10\nat 25 75\nshrink 3 5\nshrink 2 5\nshrink 1 10\n#! begun\n";
+    std::vector<uint8_t> bytes;
+    {
+        GuardedAllocator space(100, 16, 7);
+        std::vector<Ticket> held;
+        made(space, held);
+        check(space.save(bytes), "a state");
+        std::FILE *file = std::fopen(path.c_str(), "w");
+        Recorded<GuardedAllocator> copied(file, space.clone());
+        check(copied->offsetOf(copied.allocate(5)) == 10 && copied.free(held[2]), "a copy");
+        check(of(file, path) == begun + "alloc 5\nfree 2\n", "begins with a copy");
+        file = std::fopen(path.c_str(), "w");
+        Recorded<GuardedAllocator> loaded(file, std::move(GuardedAllocator::load(bytes.data(), bytes.size()).space));
+        check(loaded.free(held[4]), "a ticket from before");
+        check(of(file, path) == begun + "free 3\n", "begins with a state");
+    }
+    {
+        Allocator space(100, 16);
+        std::vector<Allocation> held;
+        made(space, held);
+        std::FILE *file = std::fopen(path.c_str(), "w");
+        Recorded<Allocator> heap(file, std::move(space));
+        heap.name("named");
+        heap.frameEnd();
+        heap.time(18446744073709551615u);
+        heap.thread(3);
+        heap.unit(256);
+        heap.mark("a level\nnamed x");
+        check(heap.allocateAt(90, 10).offset == 90 && heap.allocateAt(90, 1).offset == Allocation::NO_SPACE, "at a place");
+        check(heap.raiseLimit(20) && !heap.raiseLimit(19) && heap->maxAllocs() == 20, "a larger limit");
+        check(heap.free(held[0]), "an old handle");
+        check(of(file, path) == begun + "# named\n#! frame\n#! time 18446744073709551615\n#! thread 3\n#! unit 256\n#! mark a level named x\nat 90 10\nat 90 1\n"
+              "space 100 nodes 20 index 32\nat 0 15\nat 15 10\nat 25 65\nat 90 10\nshrink 3 5\nshrink 2 5\nshrink 1 10\n#! begun\nfree 1\n", "all lines");
+    }
+    // as many blocks as may be, of which only the first is free
+    Allocator full(100, 4);
+    Allocation first = full.allocateAt(0, 10);
+    check(full.allocateAt(10, 20).offset == 10 && full.allocateAt(30, 70).offset == Allocation::NO_SPACE, "no node is left");
+    full.free(first);
+    std::FILE *file = std::fopen(path.c_str(), "w");
+    Recorded<Allocator> heap(file, std::move(full));
+    check(!heap.isFailed(), "it begins");
+    check(of(file, path) == "space 100 nodes 4 index 32\nat 0 10\nat 10 90\nshrink 2 20\nfree 1\n#! begun\n", "the oldest first");
+    // a range of no units at the end of all units there can be
+    Allocator empty(4294967295u, 100);
+    check(empty.allocateTight(4294967295u).offset == 0 && !empty.extend(1), "all units");
+    check(!Recorded<Allocator>(std::fopen("/dev/null", "w"), std::move(empty)).isFailed(), "a whole space");
+}
+
+static void several(const std::string &path) {
+    std::FILE *file = std::fopen(path.c_str(), "w");
+    Recording recording(file);
+    Recorded<GuardedAllocator> meshes(recording, 100, 8);
+    recording.name("the\ntextures");
+    Recorded<Allocator> textures(recording, 50, 8u);
+    Recorded<GuardedAllocator> third(recording, 9, 8, 5);
+    check(third->realm() == 5, "the realm");
+    meshes.name("mesh\nrock");
+    textures.frameEnd();
+    textures.name("lost");
+    check(textures.allocateAligned(1, 0).offset == Allocation::NO_SPACE, "no alignment");
+    check(textures.allocate(5).offset == 0 && meshes.allocate(20), "requests");
+    check(meshes.raiseLimit(9) && meshes.makeRoom(70, [](Move) {}).possible, "room");
+    check(of(file, path) == "heap 0 space 100 nodes 8 index 32\n# the textures\nheap 1 space 50 nodes 8 index 32\nheap 2 space 9 nodes 8 index 32\n#! frame\n# lost\n\n"
+          "heap 1 alloc 5\n# mesh rock\nheap 0 alloc 20\nheap 0 space 100 nodes 9 index 32\nheap 0 at 0 100\nheap 0 shrink 1 20\n#! begun\nheap 0 room 70\n",
+          "one file");
+}
+
+static void manyHeaps(const std::string &path) {
+    std::FILE *file = std::fopen(path.c_str(), "w");
+    RecordedHeaps heaps(file, {1000, 16, 2, 1}, 1);
+    heaps.name("mesh: rock\nand moss");
+    Granted rock = heaps.allocate(300);
+    heaps.name("level");
+    Granted big = heaps.allocateAligned(5001, 64);
+    check(rock.isNew && big.place.heap == 2, "new heaps");
+    heaps.frameEnd();
+    check(!heaps.allocate(0) && heaps.allocateAligned(1, 0).refusal == HeapRefusal::badCall, "refused");
+    heaps.name("too large");
+    check(heaps.allocateAligned(5001, 8).refusal == HeapRefusal::full, "full");
+    check(heaps.allocateAligned(24, 64).place.heap == 0, "aligned");
+    Granted page = heaps.allocate(660);
+    check(page.place.heap == 1 && !heaps.relocate(page.place).ticket, "no heap takes it");
+    Place moved = heaps.relocateAligned(rock.place, 8);
+    check(moved.heap == 1 && heaps->offsetOf(moved) == 664, "relocated");
+    check(heaps.free(rock.place) && !heaps.free(rock.place) && !heaps.relocate(rock.place).ticket, "freed once");
+    check(!heaps.dropHeap(1) && !heaps.dropHeap(7) && !heaps.giveUp(7) && heaps.free(big.place), "not empty");
+    int dropped = 0;
+    heaps.dropEmpty(0, [&](uint32 number) { dropped += number == 2; });
+    check(dropped == 1 && heaps.giveUp(1) && heaps.allocate(900).place.heap == 1, "another heap of the number");
+    heaps.reset();
+    heaps.unit(16);
+    heaps.mark("end");
+    check(!heaps.isFailed(), "to its end");
+    check(of(file, path) == "heap 0 space 1000 nodes 16 index 32\n# mesh: rock and moss\nheap 0 alloc 300\nheap 2 space 5001 nodes 4 index 32\n# level\nheap 2 tight 5001\n"
+          "#! frame\nnone alloc 0 empty\n# too large\nnone align 5001 8 full\nheap 0 align 24 64\nheap 1 space 1000 nodes 16 index 32\nheap 1 alloc 660\n"
+          "none relocate 660 1\n# mesh: rock and moss (of grant 1, heap 0)\nheap 1 align 300 8\nheap 0 free 1\nnone free\nnone relocate\nheap 1 drop\n"
+          "heap 2 free 1\nheap 2 drop\nheap 1 give up\nheap 1 space 1000 nodes 16 index 32\nheap 1 alloc 900\nheap 0 reset\nheap 1 reset\n#! unit 16\n#! mark end\n", "the lines");
+    RecordedHeaps none(nullptr, {1000, 16, 2, 1});
+    check(none.isFailed() && none.allocate(10), "without a file calls go on");
+}
+
 static uint32_t below(uint64_t &state, uint32_t n) {
     state = state * 6364136223846793005u + 1442695040888963407u;
     return uint32_t((state >> 33) % n);
@@ -90,6 +208,16 @@ static uint32_t below(uint64_t &state, uint32_t n) {
 static uint32_t alignment(uint64_t &state, uint32_t bits) {
     if (below(state, 2)) return 1u << below(state, bits);
     return 1 + below(state, 1u << bits);
+}
+
+// Whether each free block begins the space, from the last of the lists of bins to the first: docs/STATES.md has the form.
+template <class A> static void frees(const A &space, std::vector<bool> &order) {
+    std::vector<uint8_t> bytes;
+    check(space.save(bytes), "a state");
+    size_t at = bytes[0] == 'O' && bytes[1] == 'A' && bytes[2] == 'T' ? 8 * (6 + size_t(bytes[16] | bytes[17] << 8)) : 0;
+    auto word = [&](size_t i) { return uint32_t(bytes[at + 4 * i] | bytes[at + 4 * i + 1] << 8 | bytes[at + 4 * i + 2] << 16) | uint32_t(bytes[at + 4 * i + 3]) << 24; };
+    uint32_t count = word(4), free = word(5), first = word(7 + 2 * (count - 1));
+    for (uint32_t i = free; i-- > 0;) order.push_back(word(7 + 2 * count + i) == first);
 }
 
 template <class A, class H> static void randomCalls(uint64_t seed, const std::string &path) {
@@ -112,8 +240,39 @@ template <class A, class H> static void randomCalls(uint64_t seed, const std::st
                 if (cost.possible) std::fprintf(answers, "ranges %u units %u\n", cost.ranges, cost.units);
                 else std::fputs("none\n", answers);
             };
-            uint32_t kind = below(state, 24);
-            if (kind < 8 || live.empty()) {
+            uint32_t kind = below(state, 26);
+            if (kind == 25) {
+                granted(heap.allocateAt(below(state, 5000), below(state, 100)));
+            } else if (kind == 24) {
+                // another space takes the place of this one: each live range is a grant, and so is a free block at the start
+                bool isFirstFree = false, hasEmpty = false;
+                uint32_t free = 0;
+                std::vector<uint32_t> offsets;
+                for (Block block : heap->blocks()) {
+                    hasEmpty = hasEmpty || block.size == 0;
+                    isFirstFree = isFirstFree || (!block.used && block.offset == 0);
+                    if (block.used) offsets.push_back(block.offset);
+                    else free++;
+                }
+                // of ranges without units the lines are not worked out here
+                if (hasEmpty || offsets.empty()) {
+                    i--;
+                    continue;
+                }
+                check(heap.raiseLimit(heap->maxAllocs() + below(state, 5)), "a larger limit");
+                std::reverse(offsets.begin(), offsets.end());
+                bool isFromTheEnd = isFirstFree && free == 1;
+                if (isFirstFree && !isFromTheEnd) offsets.insert(offsets.begin(), 0);
+                if (isFromTheEnd) std::reverse(offsets.begin(), offsets.end());
+                grants = 0;
+                for (uint32_t offset : offsets) std::fprintf(answers, "grant %u at %u\n", ++grants, offset);
+                // free blocks in the order of their classes, the largest first: all but the first shrink a range
+                if (!isFromTheEnd) {
+                    std::vector<bool> order;
+                    frees(*heap, order);
+                    for (bool isFirst : order) std::fputs(isFirst ? "freed\n" : "shrunk\n", answers);
+                }
+            } else if (kind < 8 || live.empty()) {
                 granted(kind < 2 ? heap.allocateAligned(below(state, 200), alignment(state, 7)) : heap.allocate(below(state, 300)));
             } else if (kind == 23) {
                 Progress progress = heap.compactWithin(1 + below(state, 20), below(state, 3000), below(state, 500), below(state, 9), [](Move) {});
@@ -157,9 +316,59 @@ template <class A, class H> static void randomCalls(uint64_t seed, const std::st
     std::fclose(answers);
 }
 
+// Random calls on heaps that may have been there before; a grant is known by its heap and its offset.
+static void randomHeaps(uint64_t seed, const std::string &path) {
+    uint64_t state = seed;
+    std::FILE *file = std::fopen((path + ".script").c_str(), "w"), *answers = std::fopen((path + ".answers").c_str(), "w");
+    HeapLimits limits = {200 + below(state, 2000), 4 + below(state, 30), below(state, 5), below(state, 4)};
+    Heaps made(limits, 3);
+    std::vector<Place> places;
+    if (seed % 2)
+        for (int i = 0; i < 20; i++) {
+            Granted granted = made.allocate(1 + below(state, limits.size / 4));
+            if (granted) places.push_back(granted.place);
+            if (i % 3 == 2 && !places.empty()) made.free(places[below(state, uint32_t(places.size()))]);
+        }
+    {
+        RecordedHeaps heaps(file, std::move(made));
+        for (int i = 0; i < 300; i++) {
+            uint32_t kind = below(state, 12);
+            Place place = places.empty() ? Place() : places[below(state, uint32_t(places.size()))];
+            if (kind < 6) {
+                Granted granted = heaps.allocateAligned(below(state, limits.size) * (1 + below(state, 2)), alignment(state, 6));
+                if (granted) places.push_back(granted.place);
+                if (granted) std::fprintf(answers, "heap %u at %u\n", granted.place.heap, heaps->offsetOf(granted.place));
+                else std::fputs("none\n", answers);
+            } else if (kind < 9) {
+                bool freed = heaps.free(place);
+                if (freed) std::fprintf(answers, "heap %u freed\n", place.heap);
+                else std::fputs("gone\n", answers);
+            } else if (kind < 11) {
+                bool isLive = heaps->isLive(place);
+                Place second = heaps.relocateAligned(place, alignment(state, 4));
+                if (second.ticket) places.push_back(second);
+                if (second.ticket) std::fprintf(answers, "heap %u at %u\n", second.heap, heaps->offsetOf(second));
+                else std::fputs(isLive ? "none\n" : "gone\n", answers);
+            } else {
+                uint32_t number = below(state, 9);
+                if (below(state, 2)) {
+                    if (heaps.giveUp(number)) std::fprintf(answers, "heap %u given up\n", number);
+                } else heaps.dropEmpty(below(state, 2), [&](uint32 dropped) { std::fprintf(answers, "heap %u dropped\n", dropped); });
+            }
+        }
+        check(!heaps.isFailed(), "a recording to its end");
+    }
+    std::fclose(file);
+    std::fclose(answers);
+}
+
 int main(int, char **arguments) {
     std::string folder = arguments[1];
     byHand(folder + "/hand.script");
+    beginnings(folder + "/begun.script");
+    several(folder + "/several.script");
+    manyHeaps(folder + "/many.script");
+    for (unsigned i = 0; i < 20; i++) randomHeaps(i + 1, folder + "/heaps-" + std::to_string(i));
     for (unsigned i = 0; i < 20; i++) {
         if (i % 2) randomCalls<Allocator, Allocation>(i + 1, folder + "/" + std::to_string(i));
         else randomCalls<GuardedAllocator, Ticket>(i + 1, folder + "/" + std::to_string(i));

@@ -2,12 +2,13 @@
 
 use crate::tape::Tape;
 use crate::Recorded;
-use offset_allocator_proved::{Allocation, AllocatorOf, Move, Progress, RoomCost, Tables};
+use offset_allocator_proved::{AllocError, Allocation, AllocatorOf, Global, Move, Progress, RoomCost, Tables};
 use std::io::{self, Write};
 
 impl<T: Tables, W: Write> Recorded<AllocatorOf<T>, W> {
-    /// Records an allocator that has no live range. An error is returned where it has one, or where the first line
-    /// cannot be written.
+    /// Records an allocator from now on. Live ranges that it has, as one that `read_state` or `try_clone` made, come first
+    /// in the recording, as the grants from 1 on. An error is returned where the first lines cannot be written; and where the
+    /// allocator has ranges of no units and lacks a node, or a unit, for one more.
     pub fn new(space: AllocatorOf<T>, out: W) -> io::Result<Self> {
         Ok(Recorded { tape: Tape::start(&space, out)?, space })
     }
@@ -50,6 +51,14 @@ impl<T: Tables, W: Write> Recorded<AllocatorOf<T>, W> {
         self.check(align >= 1, "the alignment must be at least 1");
         self.tape.write(format_args!("tight {size} {align}"));
         let found = self.space.allocate_tight_aligned(size, align)?;
+        self.tape.grant(found.to_parts().1);
+        Some(found)
+    }
+
+    /// `AllocatorOf::allocate_at`.
+    pub fn allocate_at(&mut self, offset: u32, size: u32) -> Option<Allocation<T::Index>> {
+        self.tape.write(format_args!("at {offset} {size}"));
+        let found = self.space.allocate_at(offset, size)?;
         self.tape.grant(found.to_parts().1);
         Some(found)
     }
@@ -155,5 +164,22 @@ impl<T: Tables, W: Write> Recorded<AllocatorOf<T>, W> {
     pub fn reset(&mut self) {
         self.tape.write(format_args!("reset"));
         self.space.reset();
+    }
+
+    /// `AllocatorOf::raised` in place of this space: a larger node limit, with all that is live. A `space` line is written, with
+    /// the lines after which its space is as this one, whose grants are numbered from 1 again.
+    ///
+    /// # Errors
+    ///
+    /// An error is returned only where an allocation failed; then nothing has changed.
+    ///
+    /// # Panics
+    ///
+    /// It panics unless `max_allocs` is at least the limit that there is, and at most that of the index type less 2.
+    #[track_caller]
+    pub fn raise_limit(&mut self, max_allocs: u32) -> Result<(), AllocError> {
+        self.space = self.space.raised(Global, max_allocs)?;
+        self.tape.begin(&self.space);
+        Ok(())
     }
 }

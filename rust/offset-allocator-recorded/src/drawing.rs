@@ -1,11 +1,12 @@
 //! Draws recordings: follows the space call by call, for what a picture shows.
 
-use crate::reading::{Header, Lines};
+use crate::reading::{Header, HeapLine, Line, Lines};
 use offset_allocator_memory::Vec;
 use offset_allocator_proved::{NodeIndex, Refusal};
 use offset_calls::{Call, CallPlayer, Reply};
 use offset_pictures::{Asked, Course, Global, Life, Reason, Refused};
-use offset_script::{Answer, Command, IndexWidth, RunFault};
+use offset_script::{Answer, Command, IndexWidth, RunFault, ScriptFault};
+use std::collections::BTreeMap;
 use std::io::BufRead;
 
 /// A live grant: the call that granted it, and its lives so far, one for each range. The last of them goes
@@ -23,25 +24,51 @@ struct Following<NI: NodeIndex> {
     grants: Vec<Option<Grant>>,
     /// So many grants came before the last reset, which ended them.
     ended: usize,
+    /// So many grants had the spaces before this one.
+    before: u64,
 }
 
 impl<NI: NodeIndex> Following<NI> {
-    fn start(header: Header) -> Result<Self, RunFault> {
+    fn start(header: Header, before: Option<Course>) -> Result<Self, RunFault> {
+        // the report before the first call is that of the first space
+        let is_first = before.is_none();
+        let course = before.unwrap_or_else(|| Course {
+            max_allocs: header.max_allocs,
+            grants: 0,
+            lives: Vec::new(Global),
+            reports: Vec::new(Global),
+            sizes: Vec::new(Global),
+            refused: Vec::new(Global),
+        });
         let mut following = Following {
             player: CallPlayer::start(Global, header.size, header.max_allocs)?,
-            course: Course {
-                max_allocs: header.max_allocs,
-                grants: 0,
-                lives: Vec::new(Global),
-                reports: Vec::new(Global),
-                sizes: Vec::new(Global),
-                refused: Vec::new(Global),
-            },
+            before: course.grants as u64,
+            course,
             grants: Vec::new(Global),
             ended: 0,
         };
-        following.see()?;
+        if is_first {
+            following.see()?;
+        }
         Ok(following)
+    }
+
+    /// Ends all grants that are live.
+    fn end_all(&mut self, calls: usize) {
+        (0..self.grants.len()).for_each(|place| self.end(calls, place));
+    }
+
+    fn names(&self, names: &BTreeMap<u64, std::string::String>) -> BTreeMap<u32, std::string::String> {
+        let live = self.grants.iter().zip(self.before + 1..).filter_map(|(grant, number)| {
+            let life = &self.course.lives[*grant.as_ref()?.lives.last()?];
+            Some((life.offset, names.get(&number)?.clone()))
+        });
+        live.collect()
+    }
+
+    fn finish(mut self, calls: usize) -> Course {
+        self.end_all(calls);
+        self.course
     }
 
     /// Adds what the space says after a call, or before the first.
@@ -82,6 +109,7 @@ impl<NI: NodeIndex> Following<NI> {
         }
         grant.lives.try_reserve(1).map_err(|_| RunFault::Memory)?;
         grant.lives.push(self.course.lives.len());
+        let number = self.before + number;
         self.course.lives.push(Life { number, offset, size, first: call, last: call, lived: 0 })?;
         Ok(())
     }
@@ -139,32 +167,182 @@ impl<NI: NodeIndex> Following<NI> {
     }
 }
 
-fn follow<NI: NodeIndex>(header: Header, mut lines: Lines<impl BufRead>) -> Result<Course, RunFault> {
-    let mut following = Following::<NI>::start(header)?;
-    let mut calls = 0;
-    while let Some(call) = lines.next_call()? {
-        following.call(calls, call)?;
-        calls += 1;
-    }
-    (0..following.grants.len()).for_each(|place| following.end(calls, place));
-    Ok(following.course)
+/// The space of one heap that is followed, of either width.
+enum Held {
+    None,
+    Narrow(Following<u16>),
+    Wide(Following<u32>),
 }
 
-/// The course of a recording: all that a picture shows of it. Of refused calls it has those that pictures have words for.
+/// A course, and the names of its grants.
+struct Named {
+    course: Course,
+    names: BTreeMap<u64, std::string::String>,
+}
+
+impl Held {
+    /// Another space, in place of the one that was followed: its lives end here, and the next grant has the next number.
+    fn begin(self, header: Header, calls: usize) -> Result<Self, RunFault> {
+        let mut course = self.end(calls);
+        if let Some(course) = &mut course {
+            course.max_allocs = header.max_allocs;
+        }
+        Ok(match header.index {
+            IndexWidth::Bits16 => Held::Narrow(Following::start(header, course)?),
+            IndexWidth::Bits32 => Held::Wide(Following::start(header, course)?),
+        })
+    }
+
+    fn end(self, calls: usize) -> Option<Course> {
+        match self {
+            Held::None => None,
+            Held::Narrow(following) => Some(following.finish(calls)),
+            Held::Wide(following) => Some(following.finish(calls)),
+        }
+    }
+
+    fn call(&mut self, i: usize, call: Call) -> Result<(), RunFault> {
+        match self {
+            Held::None => Ok(()),
+            Held::Narrow(following) => following.call(i, call),
+            Held::Wide(following) => following.call(i, call),
+        }
+    }
+
+    /// How many grants there were.
+    fn grants(&self) -> u64 {
+        match self {
+            Held::None => 0,
+            Held::Narrow(following) => following.course.grants as u64,
+            Held::Wide(following) => following.course.grants as u64,
+        }
+    }
+
+    /// The names of live grants, by the offsets of their ranges.
+    fn names(&self, names: &BTreeMap<u64, std::string::String>) -> BTreeMap<u32, std::string::String> {
+        match self {
+            Held::None => BTreeMap::new(),
+            Held::Narrow(following) => following.names(names),
+            Held::Wide(following) => following.names(names),
+        }
+    }
+
+    fn clear(&mut self, calls: usize) {
+        match self {
+            Held::None => (),
+            Held::Narrow(following) => following.end_all(calls),
+            Held::Wide(following) => following.end_all(calls),
+        }
+    }
+}
+
+// Follows the recording of one space, or that of one heap of many: the one of this number, or the first.
+fn follow(from: impl BufRead, heap: Option<u32>) -> Result<Named, RunFault> {
+    let mut lines = Lines::new(from);
+    let (mut held, mut heap, mut calls, mut is_gone) = (Held::None, heap, 0, false);
+    let mut names = BTreeMap::new();
+    // those of ranges of the space before, while the first lines say where they are
+    let mut before = BTreeMap::new();
+    while let Some(line) = lines.next_line()? {
+        let line = match line {
+            Line::Header(header) => HeapLine::Header(header),
+            Line::Call(call) => HeapLine::Call(call),
+            Line::Heap(number, line) if *heap.get_or_insert(number) == number => line,
+            _ => continue,
+        };
+        match line {
+            HeapLine::Header(header) => {
+                before = if is_gone { BTreeMap::new() } else { held.names(&names) };
+                held = held.begin(header, calls)?;
+                is_gone = false;
+            }
+            HeapLine::Call(_) if is_gone => return Err(RunFault::from(ScriptFault::BadCommand(lines.line()))),
+            HeapLine::Call(call) => {
+                let grants = held.grants();
+                held.call(calls, call)?;
+                calls += 1;
+                let kept = match call {
+                    Call::AllocateAt(offset, _) => before.remove(&offset),
+                    _ => {
+                        before.clear();
+                        None
+                    }
+                };
+                if held.grants() > grants && !lines.name().is_empty() {
+                    names.insert(held.grants(), std::string::String::from_utf8_lossy(lines.name()).into_owned());
+                } else if let (Some(name), true) = (kept, held.grants() > grants) {
+                    names.insert(held.grants(), name);
+                }
+            }
+            HeapLine::Drop | HeapLine::GiveUp => {
+                held.clear(calls);
+                is_gone = true;
+            }
+        }
+    }
+    match held.end(calls) {
+        Some(course) => Ok(Named { course, names }),
+        // no heap of a recording has the number: it is one of no calls
+        None => Err(RunFault::from(ScriptFault::BadHeader(lines.line()))),
+    }
+}
+
+/// The course of a recording: all that a picture shows of it. Of refused calls it has those that pictures have words for. Of
+/// many heaps it is that of the first.
 ///
 /// A grant whose range is moved, or resized, has a life for each range: the one ends with the
 /// call that changed it, and the next begins there. `lived` of all of them is how long the grant was live in
-/// all, so that none looks younger.
+/// all, so that none looks younger. Where another space takes the place of one, the lives of that one end, and its grants
+/// are numbered on.
 pub fn course(from: impl BufRead) -> Result<Course, RunFault> {
-    let (header, lines) = Lines::begin(from)?;
-    match header.index {
-        IndexWidth::Bits16 => follow::<u16>(header, lines),
-        IndexWidth::Bits32 => follow::<u32>(header, lines),
-    }
+    Ok(follow(from, None)?.course)
 }
 
-/// The picture of a recording, as SVG, with this title: the one that is proved for its course. For a script
-/// it is that of `offset_picture_program`.
+// A text in SVG: no mark-up, and no character that XML 1.0 forbids.
+fn escaped(text: &str) -> std::string::String {
+    let mut out = std::string::String::new();
+    for c in text.chars() {
+        match c {
+            '&' => out.push_str("&amp;"),
+            '<' => out.push_str("&lt;"),
+            '>' => out.push_str("&gt;"),
+            c if c < ' ' || matches!(c, '\u{fffe}' | '\u{ffff}') => out.push(' '),
+            c => out.push(c),
+        }
+    }
+    out
+}
+
+// The titles of ranges with the names of their grants.
+fn with_names(picture: &str, names: &BTreeMap<u64, std::string::String>) -> std::string::String {
+    const TITLE: &str = "<title>grant ";
+    let mut out = std::string::String::with_capacity(picture.len() + 40 * names.len());
+    let mut rest = picture;
+    while let Some(at) = rest.find(TITLE) {
+        let (before, after) = rest.split_at(at + TITLE.len());
+        out.push_str(before);
+        let digits = after.bytes().take_while(u8::is_ascii_digit).count();
+        out.push_str(&after[..digits]);
+        if let Some(name) = after[..digits].parse().ok().and_then(|number: u64| names.get(&number)) {
+            out.push_str(" “");
+            out.push_str(&escaped(name));
+            out.push('”');
+        }
+        rest = &after[digits..];
+    }
+    out.push_str(rest);
+    out
+}
+
+/// The picture of a recording, as SVG, with this title: the one that is proved for its course, and the names of grants in the
+/// titles of their ranges. For a script without names it is that of `offset_picture_program`.
 pub fn draw(title: &str, from: impl BufRead) -> Result<String, RunFault> {
-    Ok(offset_pictures::picture_of(Global, title, &course(from)?)?.into())
+    draw_heap(title, from, None)
+}
+
+/// The picture of the heap of this number of a recording of many, or of the first one that it has.
+pub fn draw_heap(title: &str, from: impl BufRead, heap: Option<u32>) -> Result<String, RunFault> {
+    let found = follow(from, heap)?;
+    let picture: String = offset_pictures::picture_of(Global, title, &found.course)?.into();
+    Ok(if found.names.is_empty() { picture } else { with_names(&picture, &found.names) })
 }

@@ -3,12 +3,13 @@
 use crate::tape::Tape;
 use crate::Recorded;
 use offset_allocator_guarded::{GuardedOf, Ticket};
-use offset_allocator_proved::{Move, Progress, RoomCost, Tables};
+use offset_allocator_proved::{AllocError, Global, Move, Progress, RoomCost, Tables};
 use std::io::{self, Write};
 
 impl<T: Tables, W: Write> Recorded<GuardedOf<T>, W> {
-    /// Records an allocator that has no live range. An error is returned where it has one, or where the first line
-    /// cannot be written.
+    /// Records an allocator from now on. Live ranges that it has, as one that `read_state` or `try_clone` made, come first
+    /// in the recording, as the grants from 1 on. An error is returned where the first lines cannot be written; and where the
+    /// allocator has ranges of no units and lacks a node, or a unit, for one more.
     pub fn guarded(space: GuardedOf<T>, out: W) -> io::Result<Self> {
         Ok(Recorded { tape: Tape::start(space.allocator(), out)?, space })
     }
@@ -50,6 +51,14 @@ impl<T: Tables, W: Write> Recorded<GuardedOf<T>, W> {
         self.check(align >= 1, "the alignment must be at least 1");
         self.tape.write(format_args!("tight {size} {align}"));
         let found = self.space.allocate_tight_aligned(size, align)?;
+        self.tape.grant(found.name);
+        Some(found)
+    }
+
+    /// `GuardedOf::allocate_at`.
+    pub fn allocate_at(&mut self, offset: u32, size: u32) -> Option<Ticket> {
+        self.tape.write(format_args!("at {offset} {size}"));
+        let found = self.space.allocate_at(offset, size)?;
         self.tape.grant(found.name);
         Some(found)
     }
@@ -151,5 +160,22 @@ impl<T: Tables, W: Write> Recorded<GuardedOf<T>, W> {
     pub fn reset(&mut self) {
         self.tape.write(format_args!("reset"));
         self.space.reset();
+    }
+
+    /// `GuardedOf::raised` in place of this space: a larger node limit, with all that is live. A `space` line is written, with
+    /// the lines after which its space is as this one, whose grants are numbered from 1 again.
+    ///
+    /// # Errors
+    ///
+    /// An error is returned only where an allocation failed; then nothing has changed.
+    ///
+    /// # Panics
+    ///
+    /// It panics unless `max_allocs` is at least the limit that there is, and at most that of the index type less 2.
+    #[track_caller]
+    pub fn raise_limit(&mut self, max_allocs: u32) -> Result<(), AllocError> {
+        self.space = self.space.raised(Global, max_allocs)?;
+        self.tape.begin(self.space.allocator());
+        Ok(())
     }
 }

@@ -7,19 +7,24 @@
 #![warn(missing_docs)]
 
 mod allocator;
+mod beginning;
 mod drawing;
 mod guarded;
+mod many;
 mod playing;
 mod reading;
 mod tape;
 
-pub use drawing::{course, draw};
+pub use drawing::{course, draw, draw_heap};
+pub use many::{Part, Recording, RecordedHeaps};
 pub use offset_allocator_guarded::{GuardedOf, Ticket};
+pub use offset_allocator_heaps::HeapsOf;
 pub use offset_allocator_proved::{AllocError, Allocation, AllocatorOf, Global, Move, Progress, RoomCost, Tables};
 pub use offset_calls::{Call, CallPlayer, Reply};
 pub use offset_script::{Command, IndexWidth, RunFault};
 pub use playing::{play, put_reply};
-pub use reading::{Header, Line, Lines, Reader, call};
+pub use reading::{Header, HeapLine, Line, Lines, NoHeap, Reader, call};
+use reading::word_of;
 use std::io::{self, Write};
 use std::ops::Deref;
 use tape::Tape;
@@ -42,6 +47,31 @@ impl<A, W: Write> Recorded<A, W> {
     pub fn name(&mut self, name: &str) -> &mut Self {
         self.tape.comment(name);
         self
+    }
+
+    /// How many bytes a unit has, for the page: a mark.
+    pub fn unit(&mut self, bytes: u32) {
+        self.tape.mark(format_args!("unit {bytes}"));
+    }
+
+    /// A frame ends here: a mark, which changes no answer. The page shows what lives from one mark to another.
+    pub fn frame_end(&mut self) {
+        self.tape.mark(format_args!("frame"));
+    }
+
+    /// A time, in nanoseconds from a begin of the caller's: a mark.
+    pub fn time(&mut self, nanoseconds: u64) {
+        self.tape.mark(format_args!("time {nanoseconds}"));
+    }
+
+    /// The calls from here on are those of the thread of this number: a mark.
+    pub fn thread(&mut self, number: u64) {
+        self.tape.mark(format_args!("thread {number}"));
+    }
+
+    /// A mark with a text of the caller's, such as the name of a level. Line ends become spaces.
+    pub fn mark(&mut self, text: &str) {
+        self.tape.mark(format_args!("mark {}", tape::in_one_line(text)));
     }
 
     // Panics where a call could not be read again. A name that was given to it is that of no other call.

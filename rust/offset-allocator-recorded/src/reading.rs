@@ -1,11 +1,13 @@
 //! Reads recordings: scripts of any length, with a line for each call that scripts lack.
 
+use offset_allocator_heaps::Refusal;
 use offset_allocator_memory::Global;
 use offset_calls::Call;
 use offset_script::{parse, Command, IndexWidth, RunFault, ScriptFault};
+use std::collections::BTreeSet;
 use std::io::BufRead;
 
-/// The first line of a recording that is neither empty nor a comment.
+/// The line with which a space begins.
 #[derive(Clone, Copy, PartialEq, Debug)]
 pub struct Header {
     /// The units of the space.
@@ -44,6 +46,7 @@ pub fn call(line: &[u8]) -> Option<Call> {
         [b"compact"] => Call::Compact,
         [b"compact", s] => Call::CompactBy(number(s)?),
         [b"compact", s, o, u, r] => Call::CompactWithin(number(s)?, number(o)?, number(u)?, number(r)?),
+        [b"at", o, n] => Call::AllocateAt(number(o)?, number(n)?),
         [b"tight", n] => Call::Tight(number(n)?),
         [b"tight", n, a] => Call::TightAligned(number(n)?, number(a)?),
         [b"room", n] => Call::MakeRoom(number(n)?),
@@ -74,17 +77,102 @@ pub fn call(line: &[u8]) -> Option<Call> {
 pub enum Line {
     /// Empty, or a comment.
     Other,
-    /// The first line that is neither.
+    /// A mark: a comment that begins with `#!`.
+    Mark,
+    /// A space begins: the first line that is neither; or a later one, whose space takes the place of the one before.
     Header(Header),
     /// A later one.
     Call(Call),
+    /// A line of the heap of this number, one of many.
+    Heap(u32, HeapLine),
+    /// A call on many heaps that changes none of them.
+    NoHeap(NoHeap),
+}
+
+/// A line of one of many heaps.
+#[derive(Clone, Copy, PartialEq, Debug)]
+pub enum HeapLine {
+    /// The heap begins, in place of the one that had the number before.
+    Header(Header),
+    /// A call on it.
+    Call(Call),
+    /// It is dropped, where nothing is live in it.
+    Drop,
+    /// It is given up, with all that is live in it.
+    GiveUp,
+}
+
+/// A call on many heaps that changes none of them, as it went.
+#[derive(Clone, Copy, PartialEq, Debug)]
+pub enum NoHeap {
+    /// A request for this many units, from a multiple of the second number on, was refused, and why.
+    Refused(u32, u32, Refusal),
+    /// No other heap takes this many units, from a multiple of the second number on.
+    Kept(u32, u32),
+    /// The call was on a place that is not live.
+    Gone,
+}
+
+// The words for why many heaps refuse a request.
+const WHY: [(&[u8], Refusal); 4] =
+    [(b"empty", Refusal::Empty), (b"larger", Refusal::TooLarge), (b"full", Refusal::Full), (b"memory", Refusal::Memory)];
+
+/// The word of a recording for why many heaps refuse a request.
+pub(crate) fn word_of(why: Refusal) -> &'static str {
+    match why {
+        Refusal::Empty => "empty",
+        Refusal::TooLarge => "larger",
+        Refusal::Full => "full",
+        Refusal::Memory => "memory",
+    }
+}
+
+fn why(word: &[u8]) -> Option<Refusal> {
+    WHY.iter().find(|it| it.0 == word).map(|it| it.1)
+}
+
+// What a line says that changes no heap, after its first word.
+fn no_heap(rest: &[u8]) -> Option<NoHeap> {
+    let (mut words, mut count) = ([&[][..]; 4], 0);
+    for word in rest.split(|b| *b == b' ') {
+        *words.get_mut(count)? = word;
+        count += 1;
+    }
+    Some(match words[..count] {
+        [b"alloc", n, w] => NoHeap::Refused(number(n)?, 1, why(w)?),
+        [b"align", n, a, w] => NoHeap::Refused(number(n)?, number(a).filter(|a| *a >= 1)?, why(w)?),
+        [b"relocate", n, a] => NoHeap::Kept(number(n)?, number(a).filter(|a| *a >= 1)?),
+        [b"free"] | [b"relocate"] => NoHeap::Gone,
+        _ => return None,
+    })
+}
+
+// The heap that a line names, and the rest of the line.
+fn of_heap(line: &[u8]) -> Option<(u32, &[u8])> {
+    let rest = line.strip_prefix(b"heap ")?;
+    let end = rest.iter().position(|b| *b == b' ')?;
+    Some((number(&rest[..end])?, &rest[end + 1..]))
+}
+
+// Whether a recording is of one space, or of many heaps.
+#[derive(Clone, Copy, PartialEq, Default)]
+enum Kind {
+    #[default]
+    Unknown,
+    One,
+    Many,
 }
 
 /// Takes the lines of a recording one by one, without their ends, and counts them from 1.
 #[derive(Default)]
 pub struct Reader {
     line: u32,
-    is_begun: bool,
+    kind: Kind,
+    // the heaps that have begun
+    heaps: BTreeSet<u32>,
+    // the text of the comment directly before the next line, but for marks; and of that before the last call
+    pending: Vec<u8>,
+    name: Vec<u8>,
 }
 
 impl Reader {
@@ -96,19 +184,75 @@ impl Reader {
     /// What the next line is, or its fault: the one that the proved program has for a script.
     pub fn take(&mut self, line: &[u8]) -> Result<Line, ScriptFault> {
         self.line = self.line.saturating_add(1);
+        if line.starts_with(b"#!") {
+            return Ok(Line::Mark);
+        }
         if line.is_empty() || line[0] == b'#' {
+            self.pending.clear();
+            self.pending.extend_from_slice(line.strip_prefix(b"#").unwrap_or(b"").trim_ascii());
             return Ok(Line::Other);
         }
-        if self.is_begun {
-            return call(line).map(Line::Call).ok_or(ScriptFault::BadCommand(self.line));
+        std::mem::swap(&mut self.pending, &mut self.name);
+        self.pending.clear();
+        let bad = ScriptFault::BadCommand(self.line);
+        match self.kind {
+            Kind::Unknown => {
+                if let Some(rest) = line.strip_prefix(b"none ") {
+                    self.kind = Kind::Many;
+                    return no_heap(rest).map(Line::NoHeap).ok_or(ScriptFault::BadHeader(self.line));
+                }
+                let found = match of_heap(line) {
+                    None => self.header(line).map(Line::Header),
+                    Some((heap, rest)) => self.header(rest).map(|header| Line::Heap(heap, HeapLine::Header(header))),
+                }?;
+                self.kind = Kind::One;
+                if let Line::Heap(heap, _) = found {
+                    self.kind = Kind::Many;
+                    self.heaps.insert(heap);
+                }
+                Ok(found)
+            }
+            Kind::One if line.starts_with(b"space ") => self.header(line).map(Line::Header).map_err(|fault| self.later(fault)),
+            Kind::One => call(line).map(Line::Call).ok_or(bad),
+            Kind::Many => {
+                if let Some(rest) = line.strip_prefix(b"none ") {
+                    return no_heap(rest).map(Line::NoHeap).ok_or(bad);
+                }
+                let (heap, rest) = of_heap(line).ok_or(bad)?;
+                if rest.starts_with(b"space ") {
+                    let header = self.header(rest).map_err(|fault| self.later(fault))?;
+                    self.heaps.insert(heap);
+                    return Ok(Line::Heap(heap, HeapLine::Header(header)));
+                }
+                if !self.heaps.contains(&heap) {
+                    return Err(bad);
+                }
+                let found = match rest {
+                    b"drop" => HeapLine::Drop,
+                    b"give up" => HeapLine::GiveUp,
+                    _ => HeapLine::Call(call(rest).ok_or(bad)?),
+                };
+                Ok(Line::Heap(heap, found))
+            }
         }
+    }
+
+    // The header that a line spells.
+    fn header(&self, line: &[u8]) -> Result<Header, ScriptFault> {
         // a script of this line alone
         let found = parse(Global, line).map_err(|fault| match fault {
             ScriptFault::BadLimit(_) => ScriptFault::BadLimit(self.line),
             _ => ScriptFault::BadHeader(self.line),
         })?;
-        self.is_begun = true;
-        Ok(Line::Header(Header { size: found.size, max_allocs: found.max_allocs, index: found.index }))
+        Ok(Header { size: found.size, max_allocs: found.max_allocs, index: found.index })
+    }
+
+    // A later line that is no header is a bad command.
+    fn later(&self, fault: ScriptFault) -> ScriptFault {
+        match fault {
+            ScriptFault::BadHeader(line) => ScriptFault::BadCommand(line),
+            _ => fault,
+        }
     }
 
     /// The number of the last line, or 0.
@@ -116,9 +260,15 @@ impl Reader {
         self.line
     }
 
+    /// The name of the last line that is no comment: the text of the comment directly before it, or none. Marks may be
+    /// between.
+    pub fn name(&self) -> &[u8] {
+        &self.name
+    }
+
     /// The end of the recording: a fault where it had no header. `is_whole` is whether the last line had a line end.
     pub fn end(&self, is_whole: bool) -> Result<(), ScriptFault> {
-        if self.is_begun {
+        if self.kind != Kind::Unknown {
             return Ok(());
         }
         Err(ScriptFault::BadHeader(if is_whole { self.line.saturating_add(1) } else { self.line.max(1) }))
@@ -134,25 +284,13 @@ pub struct Lines<R: BufRead> {
 }
 
 impl<R: BufRead> Lines<R> {
-    /// The header, and the lines after it.
-    pub fn begin(from: R) -> Result<(Header, Self), RunFault> {
-        let mut lines = Lines { from, line: Vec::new(), reader: Reader::new(), is_whole: true };
-        match lines.next_line()? {
-            Some(Line::Header(header)) => Ok((header, lines)),
-            // the first line is a header, or a fault
-            _ => Err(RunFault::from(ScriptFault::BadHeader(1))),
-        }
+    /// All lines of a source.
+    pub fn new(from: R) -> Self {
+        Lines { from, line: Vec::new(), reader: Reader::new(), is_whole: true }
     }
 
-    /// The next call, or `None` at the end.
-    pub fn next_call(&mut self) -> Result<Option<Call>, RunFault> {
-        Ok(match self.next_line()? {
-            Some(Line::Call(call)) => Some(call),
-            _ => None,
-        })
-    }
-
-    fn next_line(&mut self) -> Result<Option<Line>, RunFault> {
+    /// The next line that is no comment, or `None` at the end.
+    pub fn next_line(&mut self) -> Result<Option<Line>, RunFault> {
         loop {
             self.line.clear();
             match self.from.read_until(b'\n', &mut self.line) {
@@ -165,9 +303,19 @@ impl<R: BufRead> Lines<R> {
                 self.line.pop();
             }
             match self.reader.take(&self.line)? {
-                Line::Other => (),
+                Line::Other | Line::Mark => (),
                 line => return Ok(Some(line)),
             }
         }
+    }
+
+    /// The number of the last line that was read.
+    pub fn line(&self) -> u32 {
+        self.reader.line()
+    }
+
+    /// Its name, as `Reader::name` has it.
+    pub fn name(&self) -> &[u8] {
+        self.reader.name()
     }
 }

@@ -1,6 +1,7 @@
 //! Writes the lines of a recording, and knows the number of each live grant.
 
-use offset_allocator_proved::{AllocatorOf, Tables};
+use crate::beginning::{beginning, NoBeginning, Step};
+use offset_allocator_proved::{AllocatorOf, NodeIndex, Tables};
 use std::io::{self, Write};
 
 pub(crate) struct Tape<W: Write> {
@@ -10,24 +11,107 @@ pub(crate) struct Tape<W: Write> {
     line: Vec<u8>,
     // whether the last line is a name
     named: bool,
+    numbers: Numbers,
+}
+
+/// The numbers of grants, by the names of their blocks.
+#[derive(Default)]
+pub(crate) struct Numbers {
     // the number of the grant that had a name last, 0 for none
     numbers: Vec<u32>,
     grants: u32,
 }
 
-impl<W: Write> Tape<W> {
-    /// A recording of a space that has no live range: an error where it has one.
-    pub(crate) fn start<T: Tables>(space: &AllocatorOf<T>, out: W) -> io::Result<Self> {
-        if space.blocks().any(|block| block.allocation.is_some()) {
-            return Err(io::Error::new(io::ErrorKind::InvalidInput, "a recording begins with a space that has no live range"));
+impl Numbers {
+    /// The next grant has this name. An error where memory is out.
+    pub(crate) fn grant(&mut self, name: u32) -> io::Result<u32> {
+        let place = name as usize;
+        if place >= self.numbers.len() {
+            if self.numbers.try_reserve(place + 1 - self.numbers.len()).is_err() {
+                return Err(io::ErrorKind::OutOfMemory.into());
+            }
+            self.numbers.resize(place + 1, 0);
         }
-        let mut tape = Tape { out, failure: None, line: Vec::new(), named: false, numbers: Vec::new(), grants: 0 };
-        let bits = if <T::Index as offset_allocator_proved::NodeIndex>::MAX <= 65535 { 16 } else { 32 };
-        tape.write(format_args!("space {} nodes {} index {bits}", space.size(), space.max_allocs()));
-        match tape.failure.take() {
+        self.grants = self.grants.saturating_add(1);
+        self.numbers[place] = self.grants;
+        Ok(self.grants)
+    }
+
+    /// The number of the grant of this live name, or 0, which is of no grant.
+    pub(crate) fn number(&self, name: Option<u32>) -> u32 {
+        name.and_then(|place| self.numbers.get(place as usize).copied()).unwrap_or(0)
+    }
+
+    /// Writes a header, and the lines after which its space is as this one. Returns whether there are such lines.
+    pub(crate) fn begin<T: Tables>(
+        &mut self,
+        space: &AllocatorOf<T>,
+        write: &mut impl FnMut(std::fmt::Arguments),
+    ) -> io::Result<bool> {
+        let begun = beginning(space).map_err(|why| match why {
+            NoBeginning::Full => io::Error::new(
+                io::ErrorKind::InvalidInput,
+                "no recording begins with this space: it has ranges of no units, and no node or no unit more",
+            ),
+            NoBeginning::Memory => io::ErrorKind::OutOfMemory.into(),
+        })?;
+        *self = Numbers::default();
+        let bits = bits_of::<T>();
+        write(format_args!("space {} nodes {} index {bits}", begun.size, space.max_allocs()));
+        for step in &begun.steps {
+            match step {
+                Step::At(name, offset, size) => {
+                    write(format_args!("at {offset} {size}"));
+                    match name {
+                        Some(name) => self.grant(*name).map(|_| ())?,
+                        None => self.grants = self.grants.saturating_add(1),
+                    }
+                }
+                Step::Shrink(number, size) => write(format_args!("shrink {number} {size}")),
+                Step::Free(number) => write(format_args!("free {number}")),
+                Step::Retract => write(format_args!("retract 1")),
+            }
+        }
+        Ok(!begun.steps.is_empty())
+    }
+}
+
+impl<W: Write> Tape<W> {
+    /// A recording that begins with this space.
+    pub(crate) fn start<T: Tables>(space: &AllocatorOf<T>, out: W) -> io::Result<Self> {
+        let mut tape = Self::new(out);
+        tape.begin(space);
+        match tape.take_failure() {
             None => Ok(tape),
             Some(error) => Err(error),
         }
+    }
+
+    pub(crate) fn new(out: W) -> Self {
+        Tape { out, failure: None, line: Vec::new(), named: false, numbers: Numbers::default() }
+    }
+
+    /// Another space takes the place of the one before.
+    pub(crate) fn begin<T: Tables>(&mut self, space: &AllocatorOf<T>) {
+        if self.failure.is_some() {
+            return;
+        }
+        let mut numbers = std::mem::take(&mut self.numbers);
+        let found = numbers.begin(space, &mut |line| self.write(line));
+        self.numbers = numbers;
+        match found {
+            Ok(false) => (),
+            Ok(true) => self.mark(format_args!("begun")),
+            Err(error) => self.fail(error),
+        }
+    }
+
+    pub(crate) fn take_failure(&mut self) -> Option<io::Error> {
+        self.failure.take()
+    }
+
+    pub(crate) fn fail(&mut self, error: io::Error) {
+        self.failure.get_or_insert(error);
     }
 
     /// Writes a line, and flushes it.
@@ -47,8 +131,15 @@ impl<W: Write> Tape<W> {
     }
 
     pub(crate) fn comment(&mut self, text: &str) {
-        self.write(format_args!("# {}", text.replace(['\n', '\r'], " ")));
+        self.write(format_args!("# {}", in_one_line(text)));
         self.named = true;
+    }
+
+    /// A mark. A name before it stays that of the next request.
+    pub(crate) fn mark(&mut self, text: std::fmt::Arguments) {
+        let named = self.named;
+        self.write(format_args!("#! {text}"));
+        self.named = named;
     }
 
     /// The next request has no name: an empty line is between.
@@ -63,21 +154,14 @@ impl<W: Write> Tape<W> {
         if self.failure.is_some() {
             return;
         }
-        let place = name as usize;
-        if place >= self.numbers.len() {
-            if self.numbers.try_reserve(place + 1 - self.numbers.len()).is_err() {
-                self.failure = Some(io::ErrorKind::OutOfMemory.into());
-                return;
-            }
-            self.numbers.resize(place + 1, 0);
+        if let Err(error) = self.numbers.grant(name) {
+            self.fail(error);
         }
-        self.grants = self.grants.saturating_add(1);
-        self.numbers[place] = self.grants;
     }
 
     /// The number of the grant of this live name, or 0, which is of no grant.
     pub(crate) fn number(&self, name: Option<u32>) -> u32 {
-        name.and_then(|place| self.numbers.get(place as usize).copied()).unwrap_or(0)
+        self.numbers.number(name)
     }
 
     pub(crate) fn failure(&self) -> Option<&io::Error> {
@@ -90,4 +174,14 @@ impl<W: Write> Tape<W> {
             None => self.out.flush().map(|()| self.out),
         }
     }
+}
+
+/// The bits of node indices.
+pub(crate) fn bits_of<T: Tables>() -> u32 {
+    if <T::Index as NodeIndex>::MAX <= 65535 { 16 } else { 32 }
+}
+
+/// A text without line ends.
+pub(crate) fn in_one_line(text: &str) -> String {
+    text.replace(['\n', '\r'], " ")
 }

@@ -124,6 +124,26 @@ fn any_alignment() {
     assert_eq!(theirs(script).unwrap_err().to_string(), "line 3: bad command");
 }
 
+// A range at a place; a mark, which is no line; and another space, whose grants are numbered from 1.
+#[test]
+fn at_a_place_marks_and_another_space() {
+    let text = b"space 100 nodes 16 index 32\n#! frame\nat 20 30\nat 49 1\nat 100 1\nalloc 21\n#! any text\nat 10 0\nlast\nspace 8 nodes 4 index 16\nfree 1\nat 4 4\nalloc 4\n";
+    // 21 units are rounded up to 22, of the 50 behind; a range of no units is within the free block from 0 to 20
+    let expected = "grant 1 at 20\nnone\nnone\ngrant 2 at 50\ngrant 3 at 10\nrange 2 at 50\ngone\ngrant 1 at 4\ngrant 2 at 0\n";
+    assert_eq!(String::from_utf8(ours(text).unwrap()).unwrap(), expected);
+    for line in ["at", "at 1", "at 1 2 3", "at x 1", "at 1 4294967296", "at  1 2", "why at 1 2", "space", "space 9 nodes 9 index 32 ", "!"] {
+        let text = format!("space 100 nodes 16 index 32\n{line}\n");
+        assert_eq!(ours(text.as_bytes()).unwrap_err().to_string(), "line 2: bad command", "{line}");
+    }
+    let mut reader = offset_allocator_recorded::Reader::new();
+    let mut name = |line: &str| {
+        reader.take(line.as_bytes()).unwrap();
+        String::from_utf8(reader.name().to_vec()).unwrap()
+    };
+    // a name is directly before its call, but for marks
+    assert_eq!(["space 9 nodes 9 index 32", "# a", "#! frame", "alloc 1", "alloc 1", "#b ", "", "alloc 1"].map(&mut name), ["", "", "", "a", "", "", "", ""]);
+}
+
 // Each line with its answer.
 const ROWS: &[(&str, &str)] = &[
     ("alloc 10", "grant 1 at 0"),

@@ -179,22 +179,48 @@ fn a_full_disk_ends_the_recording_alone() {
 }
 
 #[test]
-fn a_recording_begins_with_an_empty_space() {
+fn a_space_without_live_ranges_is_a_header() {
+    let seen = Seen::default();
     let mut space = Allocator::<u32>::with_max_allocs(Global, 100, 8).unwrap();
     let range = space.allocate(10).unwrap();
-    let seen = Seen::default();
-    assert_eq!(Recorded::new(space, seen.clone()).err().unwrap().kind(), io::ErrorKind::InvalidInput);
-    assert_eq!(seen.text(), "");
-    // one block, and that is used
-    let mut space = Allocator::<u32>::with_max_allocs(Global, 96, 8).unwrap();
-    assert!(space.allocate(96).is_some() && space.block_count() == 1);
-    assert!(Recorded::new(space, seen.clone()).is_err());
-    let mut space = Allocator::<u32>::with_max_allocs(Global, 100, 8).unwrap();
-    assert_eq!(space.allocate(10), Some(range));
     assert!(space.extend(11));
     space.free(range);
     assert!(Recorded::new(space, seen.clone()).is_ok());
     assert_eq!(seen.text(), "space 111 nodes 8 index 32\n");
+}
+
+#[test]
+fn calls_at_a_place_a_raised_limit_and_marks() {
+    let seen = Seen::default();
+    let mut heap = Recorded::guarded(Guarded::<u16>::with_max_allocs(Global, 100, 5, 1).unwrap(), seen.clone()).unwrap();
+    let first = heap.name("reserved").allocate_at(20, 30).unwrap();
+    assert_eq!((first.offset, heap.allocate_at(40, 20)), (20, None));
+    // of the 20 units before it 7, and then there are as many blocks as there may be
+    let second = heap.allocate(7).unwrap();
+    assert_eq!((second.offset, heap.allocate(1)), (0, None));
+    heap.raise_limit(100).unwrap();
+    // both tickets are live on
+    assert_eq!((heap.allocator().max_allocs(), heap.size_of(second)), (100, Some(7)));
+    assert!(heap.free(first));
+    heap.frame_end();
+    heap.name("named").mark("a level\nnamed x");
+    heap.time(u64::MAX);
+    heap.thread(3);
+    heap.unit(256);
+    assert_eq!(heap.allocate(1).unwrap().offset, 7);
+    let text = "space 100 nodes 5 index 16\n# reserved\nat 20 30\nat 40 20\nalloc 7\nalloc 1\n\
+        space 100 nodes 100 index 16\nat 0 20\nat 20 80\nshrink 2 30\nshrink 1 7\n#! begun\nfree 2\n\
+        #! frame\n# named\n#! mark a level named x\n#! time 18446744073709551615\n#! thread 3\n#! unit 256\nalloc 1\n";
+    assert_eq!(seen.text(), text);
+    assert_eq!(answers(text), ["grant 1 at 20", "none", "grant 2 at 0", "none", "grant 1 at 0", "grant 2 at 20", "shrunk", "shrunk", "freed", "grant 3 at 7"]);
+    // as `raised` does
+    assert!(catch_unwind(AssertUnwindSafe(|| heap.raise_limit(99))).is_err());
+    let mut plain = Recorded::new(Allocator::<u16>::with_max_allocs(Global, 100, 5).unwrap(), seen.clone()).unwrap();
+    assert!(plain.allocate_at(90, 10).is_some() && plain.allocate_at(90, 1).is_none());
+    plain.raise_limit(6).unwrap();
+    let text = "space 100 nodes 5 index 16\nat 90 10\nat 90 1\nspace 100 nodes 6 index 16\nat 90 10\n#! begun\n";
+    assert!(seen.text().ends_with(text), "{}", seen.text());
+    assert_eq!(answers(text), ["grant 1 at 90", "none", "grant 1 at 90"]);
 }
 
 struct Random(u64);
@@ -229,7 +255,7 @@ fn random_calls<T: Tables>(seed: u64) {
     let seen = Seen::default();
     let (size, nodes) = (random.below(5000) + 100, random.below(60) + 4);
     let mut heap = Recorded::new(AllocatorOf::<T>::with_max_allocs(Global, size, nodes).unwrap(), seen.clone()).unwrap();
-    let (mut live, mut grants, mut expected) = (Vec::new(), 0, Vec::new());
+    let (mut live, mut grants, mut expected, mut raised) = (Vec::new(), 0, Vec::new(), 0);
     for _ in 0..300 {
         let granted = |found: Option<offset_allocator_proved::Allocation<T::Index>>, live: &mut Vec<_>, grants: &mut u32| match found {
             None => "none".to_owned(),
@@ -243,7 +269,24 @@ fn random_calls<T: Tables>(seed: u64) {
             None => "none".to_owned(),
             Some(cost) => format!("ranges {} units {}", cost.ranges, cost.units),
         };
-        expected.push(match random.below(28) {
+        if random.below(40) == 0 {
+            // a space takes the place of this one, whose grants are numbered by what `play` answers to its first lines
+            let more = if nodes + raised < 65000 && random.below(2) == 0 { 1 + random.below(9) } else { 0 };
+            raised += more;
+            let before = seen.text().lines().filter(|line| !line.starts_with("space ") && !line.starts_with('#')).count();
+            heap.raise_limit(nodes + raised).unwrap();
+            let begun = heap.blocks().filter(|block| block.allocation.is_some()).count();
+            assert_eq!(expected.len(), before);
+            let answered = answers(&seen.text()).split_off(before);
+            let places: std::collections::BTreeSet<String> = live.iter().map(|handle| format!(" at {}", heap.allocation_offset(*handle).unwrap())).collect();
+            let given: std::collections::BTreeSet<String> = answered.iter().filter_map(|line| line.find(" at ").map(|at| line[at..].to_owned())).collect();
+            assert!(places.is_subset(&given) && begun == live.len(), "seed {seed}: {answered:?}");
+            grants = answered.iter().filter(|line| line.starts_with("grant")).count() as u32;
+            expected.extend(answered);
+            continue;
+        }
+        expected.push(match random.below(31) {
+            28..=30 => granted(heap.allocate_at(random.below(size), random.below(size / 8)), &mut live, &mut grants),
             22 => granted(heap.allocate_tight(random.below(size / 8)), &mut live, &mut grants),
             23 => granted(heap.allocate_tight_aligned(random.below(size / 8), alignment(&mut random, 8)), &mut live, &mut grants),
             24 => cost(heap.make_room(random.below(size), &mut |_| ())),

@@ -1,0 +1,390 @@
+//! One recording of many heaps, whose calls are written in the order in which they happen.
+
+use crate::tape::{bits_of, in_one_line, Numbers, Tape};
+use crate::{word_of, Recorded};
+use offset_allocator_guarded::GuardedOf;
+use offset_allocator_heaps::{Granted, HeapsOf, Place, Refusal};
+use offset_allocator_proved::{AllocatorOf, Tables};
+use std::collections::HashMap;
+use std::io::{self, Write};
+use std::ops::Deref;
+use std::sync::{Arc, Mutex};
+
+/// A recording of several allocators of the program's own, each of which is a heap with a number, from 0 on.
+///
+/// The parts may be on several threads: a line, with its name, is written at once.
+///
+/// ```
+/// # use offset_allocator_recorded::*;
+/// # use offset_allocator_guarded::Guarded;
+/// let mut recording = Recording::new(Vec::new());
+/// let mut meshes = recording.guarded(Guarded::<u32>::with_max_allocs(Global, 1000, 16, 1).unwrap()).unwrap();
+/// let mut textures = recording.guarded(Guarded::<u32>::with_max_allocs(Global, 5000, 16, 2).unwrap()).unwrap();
+/// let rock = meshes.name("mesh: rock").allocate(100).unwrap();
+/// textures.allocate(300);
+/// meshes.free(rock);
+/// drop((meshes, textures));
+/// let text = String::from_utf8(recording.finish().unwrap()).unwrap();
+/// assert_eq!(
+///     text,
+///     "heap 0 space 1000 nodes 16 index 32\nheap 1 space 5000 nodes 16 index 32\n\
+///     \x23 mesh: rock\nheap 0 alloc 100\nheap 1 alloc 300\nheap 0 free 1\n"
+/// );
+/// ```
+pub struct Recording<W: Write> {
+    out: Arc<Mutex<W>>,
+    heaps: u32,
+    // the name of the next heap
+    name: Vec<u8>,
+}
+
+impl<W: Write> Recording<W> {
+    /// A recording of no heap yet.
+    pub fn new(out: W) -> Self {
+        Recording { out: Arc::new(Mutex::new(out)), heaps: 0, name: Vec::new() }
+    }
+
+    /// The name of the next heap, for who reads the recording. Line ends become spaces.
+    pub fn name(&mut self, name: &str) -> &mut Self {
+        self.name = format!("# {}\n", in_one_line(name)).into_bytes();
+        self
+    }
+
+    // the writer of the next heap
+    fn part(&mut self) -> Part<W> {
+        self.heaps += 1;
+        Part { out: self.out.clone(), heap: self.heaps - 1, thread: Vec::new(), held: std::mem::take(&mut self.name) }
+    }
+
+    /// Records one more allocator, as `Recorded::new` does.
+    pub fn allocator<T: Tables>(&mut self, space: AllocatorOf<T>) -> io::Result<Recorded<AllocatorOf<T>, Part<W>>> {
+        Recorded::new(space, self.part())
+    }
+
+    /// Records one more allocator with tickets, as `Recorded::guarded` does.
+    pub fn guarded<T: Tables>(&mut self, space: GuardedOf<T>) -> io::Result<Recorded<GuardedOf<T>, Part<W>>> {
+        Recorded::guarded(space, self.part())
+    }
+
+    /// The writer, or `None` while an allocator of the recording is still recorded.
+    pub fn finish(self) -> Option<W> {
+        let out = Arc::try_unwrap(self.out).ok()?;
+        Some(out.into_inner().unwrap_or_else(|broken| broken.into_inner()))
+    }
+}
+
+/// What writes the lines of one heap of a recording.
+pub struct Part<W: Write> {
+    out: Arc<Mutex<W>>,
+    heap: u32,
+    // the mark of a thread, and a name, which go out with the next line
+    thread: Vec<u8>,
+    held: Vec<u8>,
+}
+
+impl<W: Write> Part<W> {
+    /// The number of the heap.
+    pub fn heap(&self) -> u32 {
+        self.heap
+    }
+}
+
+impl<W: Write> Write for Part<W> {
+    // Each line comes at once, with its end.
+    fn write(&mut self, line: &[u8]) -> io::Result<usize> {
+        let is_mark = line.starts_with(b"#!");
+        if line.starts_with(b"#! thread ") {
+            self.thread = line.to_vec();
+            return Ok(line.len());
+        }
+        if line.starts_with(b"#") && !is_mark {
+            self.held.clear();
+            self.held.extend_from_slice(line);
+            return Ok(line.len());
+        }
+        // a name stays that of the next request
+        let mut all = std::mem::take(&mut self.thread);
+        if !is_mark {
+            all.append(&mut self.held);
+            if line != b"\n" {
+                write!(all, "heap {} ", self.heap)?;
+            }
+        }
+        all.extend_from_slice(line);
+        let mut out = self.out.lock().unwrap_or_else(|broken| broken.into_inner());
+        out.write_all(&all)?;
+        out.flush()?;
+        Ok(line.len())
+    }
+
+    fn flush(&mut self) -> io::Result<()> {
+        Ok(())
+    }
+}
+
+/// `HeapsOf`, whose calls are written to `out` as they happen: as `Recorded` is, but the line of a call is written after the
+/// call, as its heap is known only then.
+///
+/// ```
+/// # use offset_allocator_recorded::*;
+/// # use offset_allocator_heaps::{Heaps, Limits};
+/// let limits = Limits { size: 1000, max_allocs: 16, most: 2, most_larger: 1 };
+/// let mut heaps = RecordedHeaps::new(Heaps::<u32>::new(Global, limits, 1).unwrap(), Vec::new()).unwrap();
+/// let rock = heaps.name("mesh: rock").allocate(300).unwrap();
+/// assert!(heaps.allocate(0).is_err());
+/// assert!(heaps.free(rock.place) && heaps.drop_heap(0));
+/// let text = String::from_utf8(heaps.finish().1.unwrap()).unwrap();
+/// assert_eq!(text, "heap 0 space 1000 nodes 16 index 32\n# mesh: rock\nheap 0 alloc 300\nnone alloc 0 empty\nheap 0 free 1\nheap 0 drop\n");
+/// ```
+pub struct RecordedHeaps<T: Tables, W: Write> {
+    heaps: HeapsOf<T>,
+    tape: Tape<W>,
+    // of each heap the numbers of its grants, and the names of those that have one, by the names of their blocks
+    grants: HashMap<u32, (Numbers, HashMap<u32, String>)>,
+    // the name of the next request
+    name: Option<String>,
+}
+
+impl<T: Tables, W: Write> RecordedHeaps<T, W> {
+    /// Records heaps from now on; those that there are, with what is live in them, come first. An error is returned where
+    /// the first lines cannot be written, and as by `Recorded::new`.
+    pub fn new(heaps: HeapsOf<T>, out: W) -> io::Result<Self> {
+        let limits = heaps.limits();
+        let mut recorded = RecordedHeaps { heaps, tape: Tape::new(out), grants: HashMap::new(), name: None };
+        let mut left = recorded.heaps.totals().heaps;
+        for number in 0..limits.most + limits.most_larger {
+            if left == 0 {
+                break;
+            }
+            if recorded.heaps.heap(number).is_some() {
+                recorded.begin(number);
+                left -= 1;
+            }
+        }
+        if recorded.heaps.totals().heaps > 0 {
+            recorded.tape.mark(format_args!("begun"));
+        }
+        match recorded.tape.take_failure() {
+            None => Ok(recorded),
+            Some(error) => Err(error),
+        }
+    }
+
+    // Writes the lines with which a heap begins.
+    fn begin(&mut self, number: u32) {
+        let Some(heap) = self.heaps.heap(number) else { return };
+        let mut numbers = Numbers::default();
+        let tape = &mut self.tape;
+        if let Err(error) = numbers.begin(heap.allocator(), &mut |line| tape.write(format_args!("heap {number} {line}"))) {
+            self.tape.fail(error);
+        }
+        self.grants.insert(number, (numbers, HashMap::new()));
+    }
+
+    /// The name of the next request, for who reads the recording. Line ends become spaces.
+    pub fn name(&mut self, name: &str) -> &mut Self {
+        self.name = Some(in_one_line(name));
+        self
+    }
+
+    /// How many bytes a unit has, for the page: a mark.
+    pub fn unit(&mut self, bytes: u32) {
+        self.tape.mark(format_args!("unit {bytes}"));
+    }
+
+    /// A frame ends here: a mark, as `Recorded::frame_end` makes.
+    pub fn frame_end(&mut self) {
+        self.tape.mark(format_args!("frame"));
+    }
+
+    /// A time, in nanoseconds from a begin of the caller's: a mark.
+    pub fn time(&mut self, nanoseconds: u64) {
+        self.tape.mark(format_args!("time {nanoseconds}"));
+    }
+
+    /// The calls from here on are those of the thread of this number: a mark.
+    pub fn thread(&mut self, number: u64) {
+        self.tape.mark(format_args!("thread {number}"));
+    }
+
+    /// A mark with a text of the caller's. Line ends become spaces.
+    pub fn mark(&mut self, text: &str) {
+        self.tape.mark(format_args!("mark {}", in_one_line(text)));
+    }
+
+    // The number of the grant of a place: 0, which no grant has, where it is not live.
+    fn number(&self, place: Place) -> u32 {
+        let live = self.heaps.is_live(place).then_some(place.ticket.name);
+        self.grants.get(&place.heap).map_or(0, |grants| grants.0.number(live))
+    }
+
+    // Writes a granted request, with its name.
+    fn grant(&mut self, place: Place, request: std::fmt::Arguments, name: Option<String>) {
+        if let Some(name) = &name {
+            self.tape.write(format_args!("# {name}"));
+        }
+        let heap = place.heap;
+        self.tape.write(format_args!("heap {heap} {request}"));
+        if let Err(error) = self.keep(place, name) {
+            self.tape.fail(error);
+        }
+    }
+
+    // The next grant of a heap is that of a place. An error where memory is out: the recording ends, and not the program.
+    fn keep(&mut self, place: Place, name: Option<String>) -> io::Result<()> {
+        let out = |_| io::Error::from(io::ErrorKind::OutOfMemory);
+        self.grants.try_reserve(1).map_err(out)?;
+        let (numbers, names) = self.grants.entry(place.heap).or_default();
+        numbers.grant(place.ticket.name)?;
+        names.remove(&place.ticket.name);
+        if let Some(name) = name {
+            names.try_reserve(1).map_err(out)?;
+            names.insert(place.ticket.name, name);
+        }
+        Ok(())
+    }
+
+    /// `HeapsOf::allocate`.
+    pub fn allocate(&mut self, size: u32) -> Result<Granted, Refusal> {
+        self.allocate_aligned(size, 1)
+    }
+
+    /// `HeapsOf::allocate_aligned`: `align` has to be at least 1. For 0 it panics, and writes nothing.
+    #[track_caller]
+    pub fn allocate_aligned(&mut self, size: u32, align: u32) -> Result<Granted, Refusal> {
+        let name = self.name.take();
+        let found = self.heaps.allocate_aligned(size, align);
+        match &found {
+            Err(why) => {
+                if let Some(name) = name {
+                    self.tape.write(format_args!("# {name}"));
+                }
+                let why = word_of(*why);
+                if align == 1 {
+                    self.tape.write(format_args!("none alloc {size} {why}"));
+                } else {
+                    self.tape.write(format_args!("none align {size} {align} {why}"));
+                }
+            }
+            Ok(granted) => {
+                let heap = granted.place.heap;
+                if granted.is_new {
+                    if let Some(space) = self.heaps.heap(heap).map(|heap| heap.allocator()) {
+                        let bits = bits_of::<T>();
+                        let (size, max_allocs) = (space.size(), space.max_allocs());
+                        self.tape.write(format_args!("heap {heap} space {size} nodes {max_allocs} index {bits}"));
+                    }
+                }
+                // a fresh heap grants its first range at 0, a multiple of all; a larger one all its units
+                match (granted.is_new, align) {
+                    (true, _) if heap >= self.heaps.limits().most => self.grant(granted.place, format_args!("tight {size}"), name),
+                    (true, _) | (_, 1) => self.grant(granted.place, format_args!("alloc {size}"), name),
+                    _ => self.grant(granted.place, format_args!("align {size} {align}"), name),
+                }
+            }
+        }
+        found
+    }
+
+    /// `HeapsOf::free`: for a place that is not live `none free` is written.
+    pub fn free(&mut self, place: Place) -> bool {
+        match self.number(place) {
+            0 => self.tape.write(format_args!("none free")),
+            number => self.tape.write(format_args!("heap {} free {number}", place.heap)),
+        }
+        self.heaps.free(place)
+    }
+
+    /// `HeapsOf::relocate`.
+    pub fn relocate(&mut self, place: Place) -> Option<Place> {
+        self.relocate_aligned(place, 1)
+    }
+
+    /// `HeapsOf::relocate_aligned`: `align` has to be at least 1. For 0 it panics, and writes nothing. The second range is
+    /// a request of the heap that takes it, with the name of the first, and where that was. For a place that is not live
+    /// `none relocate` is written.
+    #[track_caller]
+    pub fn relocate_aligned(&mut self, place: Place, align: u32) -> Option<Place> {
+        let size = self.heaps.size_of(place);
+        let found = self.heaps.relocate_aligned(place, align);
+        match (size, found) {
+            (None, _) => self.tape.write(format_args!("none relocate")),
+            (Some(size), None) => self.tape.write(format_args!("none relocate {size} {align}")),
+            (Some(size), Some(second)) => {
+                let named = self.grants.get(&place.heap).and_then(|grants| grants.1.get(&place.ticket.name));
+                let of = format!("(of grant {}, heap {})", self.number(place), place.heap);
+                let name = named.map_or_else(|| of.clone(), |name| format!("{name} {of}"));
+                match align {
+                    1 => self.grant(second, format_args!("alloc {size}"), Some(name)),
+                    _ => self.grant(second, format_args!("align {size} {align}"), Some(name)),
+                }
+            }
+        }
+        found
+    }
+
+    /// `HeapsOf::drop_empty`.
+    pub fn drop_empty(&mut self, keep: u32) -> Option<u32> {
+        let found = self.heaps.drop_empty(keep)?;
+        self.tape.write(format_args!("heap {found} drop"));
+        self.grants.remove(&found);
+        Some(found)
+    }
+
+    /// `HeapsOf::drop_heap`. Of a number that has no heap nothing is written.
+    pub fn drop_heap(&mut self, number: u32) -> bool {
+        let has = self.heaps.heap(number).is_some();
+        let is_dropped = self.heaps.drop_heap(number);
+        if has {
+            self.tape.write(format_args!("heap {number} drop"));
+        }
+        if is_dropped {
+            self.grants.remove(&number);
+        }
+        is_dropped
+    }
+
+    /// `HeapsOf::give_up`. Of a number that has no heap nothing is written.
+    pub fn give_up(&mut self, number: u32) -> bool {
+        let is_given_up = self.heaps.give_up(number);
+        if is_given_up {
+            self.tape.write(format_args!("heap {number} give up"));
+            self.grants.remove(&number);
+        }
+        is_given_up
+    }
+
+    /// `HeapsOf::reset`: a line for each heap that there is.
+    pub fn reset(&mut self) {
+        self.heaps.reset();
+        let limits = self.heaps.limits();
+        let mut left = self.heaps.totals().heaps;
+        for number in 0..limits.most + limits.most_larger {
+            if left == 0 {
+                break;
+            }
+            if self.heaps.heap(number).is_some() {
+                self.tape.write(format_args!("heap {number} reset"));
+                left -= 1;
+            }
+        }
+    }
+
+    /// The error that ended the recording, if one did.
+    pub fn failure(&self) -> Option<&io::Error> {
+        self.tape.failure()
+    }
+
+    /// Ends the recording: the heaps go on without, and what was written is flushed.
+    pub fn finish(self) -> (HeapsOf<T>, io::Result<W>) {
+        (self.heaps, self.tape.finish())
+    }
+}
+
+impl<T: Tables, W: Write> Deref for RecordedHeaps<T, W> {
+    type Target = HeapsOf<T>;
+
+    fn deref(&self) -> &HeapsOf<T> {
+        &self.heaps
+    }
+}

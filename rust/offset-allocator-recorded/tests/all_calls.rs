@@ -1,0 +1,87 @@
+//! That the recorders, here and in C++, have each call that changes a space or many heaps.
+
+use std::collections::BTreeSet;
+use std::path::Path;
+
+fn text(path: &str) -> String {
+    let path = Path::new(env!("CARGO_MANIFEST_DIR")).join("..").join(path);
+    if path.is_dir() {
+        let mut all: Vec<_> = std::fs::read_dir(path).unwrap().map(|entry| entry.unwrap().path()).collect();
+        all.sort();
+        return all.iter().map(|path| text(path.to_str().unwrap())).collect();
+    }
+    std::fs::read_to_string(path).unwrap()
+}
+
+// The parts of a text in the blocks that begin with a line, up to the line that ends them.
+fn blocks<'a>(text: &'a str, begin: &'a str, end: &'a str) -> impl Iterator<Item = &'a str> {
+    text.split(begin).skip(1).map(move |block| block.split(end).next().unwrap())
+}
+
+// The public methods by `&mut self` in the blocks of a type.
+fn mutable(text: &str, of: &str) -> BTreeSet<String> {
+    let mut found = BTreeSet::new();
+    for block in blocks(text, of, "\n}\n") {
+        for call in block.split("pub fn ").skip(1) {
+            let name: String = call.chars().take_while(|c| c.is_alphanumeric() || *c == '_').collect();
+            if call.split('{').next().unwrap().contains("&mut self") {
+                found.insert(name);
+            }
+        }
+    }
+    found
+}
+
+// The public methods of a class that may change it: those without `const`.
+fn changing(text: &str, class: &str) -> BTreeSet<String> {
+    let body = blocks(text, class, "\nprivate:").next().unwrap();
+    let mut found = BTreeSet::new();
+    for line in body.lines().filter(|line| line.starts_with("    ") && !line.starts_with("     ") && line.ends_with('{') || line.ends_with("; }")) {
+        let Some(at) = line.find('(') else { continue };
+        let name = line[..at].rsplit(' ').next().unwrap();
+        let after = &line[line.rfind(") const").unwrap_or(0)..];
+        let is_made = line.contains("operator") || line.contains("static ") || line.contains("explicit ") || name.starts_with('~') || class.contains(&format!(" {name} "));
+        if !after.starts_with(") const") && !is_made {
+            found.insert(name.to_owned());
+        }
+    }
+    found
+}
+
+#[test]
+fn in_rust() {
+    if !Path::new(env!("CARGO_MANIFEST_DIR")).join("../offset-allocator-proved").is_dir() {
+        return;
+    }
+    let space = mutable(&text("offset-allocator-proved/src"), "impl<T: Tables> AllocatorOf<T> {");
+    let tickets = mutable(&text("offset-allocator-guarded/src"), "impl<T: Tables> GuardedOf<T> {");
+    let heaps = mutable(&text("offset-allocator-heaps/src"), "impl<T: Tables> HeapsOf<T> {");
+    assert!(space.contains("allocate_at") && space.contains("make_room_by") && heaps.contains("give_up"), "{space:?} {heaps:?}");
+    let src = text("offset-allocator-recorded/src");
+    let lacking = |all: BTreeSet<String>, of| -> Vec<String> { all.difference(&mutable(&src, of)).cloned().collect() };
+    assert!(space.len() == 18 && tickets.len() == 18 && heaps.len() == 9, "{space:?} {tickets:?} {heaps:?}");
+    assert_eq!(lacking(space, "impl<T: Tables, W: Write> Recorded<AllocatorOf<T>, W> {"), [""; 0]);
+    assert_eq!(lacking(tickets, "impl<T: Tables, W: Write> Recorded<GuardedOf<T>, W> {"), [""; 0]);
+    assert_eq!(lacking(heaps, "impl<T: Tables, W: Write> RecordedHeaps<T, W> {"), [""; 0]);
+}
+
+#[test]
+fn in_cpp() {
+    if !Path::new(env!("CARGO_MANIFEST_DIR")).join("../offset-allocator-c/include").is_dir() {
+        return;
+    }
+    let all = text("offset-allocator-c/include/offsetAllocator.hpp");
+    let heaps = changing(&text("offset-allocator-c/include/offsetAllocatorHeaps.hpp"), "class Heaps {\n");
+    let recorder = text("offset-allocator-c/include/offsetAllocatorRecorded.hpp");
+    let recorded = changing(&recorder, "template <class A> class Recorded {\n");
+    for class in ["class Allocator {\n", "class GuardedAllocator {\n"] {
+        let calls = changing(&all, class);
+        assert!(calls.contains("allocateAt") && calls.contains("raiseLimit") && !calls.contains("save"), "{calls:?}");
+        // a swap of two spaces is none of their calls
+        let lacking: Vec<_> = calls.difference(&recorded).filter(|name| *name != "swap").collect();
+        assert_eq!(lacking, [""; 0], "{class}");
+    }
+    assert!(heaps.contains("dropEmpty"), "{heaps:?}");
+    let lacking: Vec<_> = heaps.difference(&changing(&recorder, "class RecordedHeaps {\n")).filter(|name| *name != "swap").cloned().collect();
+    assert_eq!(lacking, [""; 0]);
+}

@@ -1,0 +1,123 @@
+// Many heaps of one file: rows, of which each is opened as a space. Their time is that of the file, in its lines.
+const STEPS = 120, WHY_NOT = ['the request is for no unit', 'the request is larger than any heap may be', 'no heap has room, and no other may be made', 'no memory is left for another heap'];
+const nameOfPart = (file, i) => {
+  const { heap, title, head } = file.parts[i], same = file.parts.slice(0, i).filter(of => of.heap === heap).length;
+  return (heap === null ? (same ? `limit ${whole(head[1])}` : 'as it began') : `heap ${whole(heap)}` + (same ? ` (${whole(same + 1)})` : '')) + (title ? ` “${title}”` : ''); };
+const isSeveral = file => file.parts.length > 1 || file.isMany;
+// The ranges of a part that takes the place of another have the names that they had there: its first lines say where they are.
+function carryNames(of) {
+  const { named } = of.before;
+  for (let i = 0; i < of.lines.length && of.calls[WIDE * i] === OP.at; i++) {
+    const name = named.get(of.calls[WIDE * i + 1]);
+    if (name && !of.names.has(i)) of.names.set(i, name); }
+}
+// Plays each part for what its row shows. A call on a heap that was dropped is a fault.
+async function surveyed(file, bytes, work) {
+  let done = 0;
+  const m = new Module();
+  const all = file.parts.reduce((sum, of) => sum + of.lines.length, 0), last = file.lines + 1;
+  for (const of of file.parts) {
+    if (of.before) carryNames(of);
+    const run = of.run(m), curve = new Float32Array(STEPS).fill(-1), to = (of.to ?? last), step = line => Math.min(STEPS - 1, Math.floor(line / last * STEPS));
+    run.start(of.lines.length); run.left = 0;
+    let before = 0;
+    while (run.count < of.lines.length) {
+      // it stops behind a call that may slide ranges
+      done -= run.count; run.step(Math.min(512, of.lines.length - run.count)); done += run.count;
+      await work.turn(done, all);
+    }
+    for (const { p, line, next } of of.drops) if (next !== null && run.begunAt(p) === run.endedAt(p)) throw new Fault(`line ${next}: bad command`, next, ...spanOf(bytes, next));
+    if (of.end === 'replaced') {
+      // a range is the last life of its grant
+      of.named = new Map();
+      for (let k = 1; k < run.born.length; k++) if (run.died.list[k] === ALIVE && run.nameOf(k)) of.named.set(run.life(run.last.list[k]).o, run.nameOf(k));
+    }
+    const size = run.sizes.reduce((m, s) => Math.max(m, s[1]), 1);
+    for (let s = step(of.from), i = 0; s <= step(to) && s < STEPS; s++) {
+      let highest = before;
+      for (; i < of.lines.length && step(of.lines[i]) <= s; i++) { before = run.used.list[i]; highest = Math.max(highest, before); }
+      curve[s] = highest / size;
+    }
+    of.used = run.used.copy(run.count).whole(); of.largest = Uint32Array.from(of.lines, (_, i) => run.rows.list[8 * i + 5]); of.sizes = run.sizes;
+    of.seen = { size: run.sizeAt(run.count), most: most(run.used.list, run.count, 1, 0), live: of.end ? 0 : run.lifeCount - run.ends.length, units: of.end ? 0 : run.usedAt(run.count), refused: run.refusals.length, curve };
+  }
+}
+function drawHeap(row, i) {
+  const { file } = S.run, of = file.parts[i], { seen } = of;
+  cell(row, nameOfPart(file, i), 'h', nameOfPart(file, i)); cell(row, sized(seen.size), 'u'); cell(row, `${whole(seen.live)}, ${sized(seen.units)}`, 'u'); cell(row, sized(seen.most), 'u');
+  cell(row, whole(of.lines.length), 'n'); cell(row, seen.refused ? whole(seen.refused) : '', 'n bad'); cell(row, of.end || '', 'e');
+  const c = document.createElement('canvas'); c.className = 'strip'; row.append(c);
+  if (i === S.part) row.classList.add('now');
+  requestAnimationFrame(() => {
+    if (!c.isConnected) return;
+    const [g, w, h] = canvas(c), ink = colors();
+    g.fillStyle = ink.free; const first = seen.curve.findIndex(v => v >= 0), end = seen.curve.findLastIndex(v => v >= 0) + 1;
+    g.fillRect(first / STEPS * w, 2, (end - first) / STEPS * w, h - 4);
+    g.fillStyle = ink.ages[3];
+    for (let s = first; s < end; s++) g.fillRect(s / STEPS * w, h - 2 - seen.curve[s] * (h - 4), w / STEPS + 0.5, seen.curve[s] * (h - 4));
+  });
+}
+// The line at the position, over the time of all rows.
+function showTime() {
+  const strip = document.querySelector('#heaprows .strip'), { file } = S.run;
+  if (!strip) return;
+  const { left, width } = strip.getBoundingClientRect();
+  $('heapat').style.left = `${left - $('heaprows').getBoundingClientRect().left + Math.min(width - 1, lineAt(S.run, S.p) / (file.lines + 1) * width)}px`;
+}
+// The line of the file that a position is at.
+const lineAt = (run, p) => p ? run.lines[Math.min(p, run.lines.length) - 1] || run.part.from : run.part ? run.part.from : 0;
+function showHeaps() {
+  const { file } = S.run, isShown = Boolean(file && isSeveral(file));
+  $('heaps').hidden = !isShown;
+  if (!isShown) return;
+  const { parts, others } = file;
+  file.refused ??= others.filter(o => o.kind === OTHER.refused).length; file.left ??= [parts.reduce((sum, of) => sum + of.seen.live, 0), parts.reduce((sum, of) => sum + of.seen.units, 0)];
+  tell('heapshead', file.isMany ? `${counted(parts.length, 'heap')} in this file` : `${counted(parts.length, 'space')} in this file, one after the other`);
+  tell('heapsum', `Shown below: ${nameOfPart(file, S.part)}. Live at the end in all: ${counted(file.left[0], 'range')}, ${units(file.left[1])}.` +
+    (file.refused ? ` ${counted(file.refused, 'request')} that no heap granted.` : ''));
+  // rows are made again only where what they show is another
+  const key = [S.part, S.unit, colors().bg, $('heaps').clientWidth].join();
+  L.heaps.chosen = S.part;
+  if (L.heaps.of !== file) { L.heaps.of = file; L.heaps.set(parts.length); L.heaps.show(S.part); } else if (L.heaps.key !== key) L.heaps.paint();
+  L.heaps.key = key; showTime();
+  $('nogrant').hidden = !others.length;
+  if (L.others.of !== file) { L.others.of = file; L.others.set(others.length); }
+  $('nogranthead').textContent = `${counted(others.length, 'call')} that changed no heap`;
+}
+function saidOf({ kind, n, a, why }) {
+  if (kind === OTHER.gone) return ['a place that is not live', 'gone'];
+  const request = a > 1 ? `align ${n} ${a}` : `alloc ${n}`;
+  return kind === OTHER.kept ? [`relocate ${units(n)}${a > 1 ? ` at a multiple of ${whole(a)}` : ''}`, 'no other heap takes it'] : [request, WHY_NOT[why]];
+}
+function drawOther(row, i) {
+  const other = S.run.file.others[i], [what, why] = saidOf(other);
+  cell(row, whole(other.line), 'n', 'The line of the file'); cell(row, what, 'c'); cell(row, why, other.kind === OTHER.refused ? 'bad' : '', why);
+  if (other.name) cell(row, other.name, 'dim', other.name);
+}
+// What the heaps had when a call changed none of them: shown with the call.
+function showUngranted(i) {
+  const { file } = S.run, other = file.others[i], [what, why] = saidOf(other), there = [];
+  for (const [j, of] of file.parts.entries()) {
+    if (of.from > other.line || (of.to !== null && of.to <= other.line)) continue;
+    const p = rowAtLine(of, other.line), size = of.sizes.findLast(([row]) => row <= p)[1];
+    there.push({ j, free: size - (p ? of.used[p - 1] : 0), largest: p ? of.largest[p - 1] : valueOf(classOf(size)) });
+  }
+  jump(rowAtLine(S.run, other.line));
+  const best = there.reduce((b, h) => !b || h.largest > b.largest ? h : b, null), free = there.reduce((sum, h) => sum + h.free, 0);
+  say(`Line ${whole(other.line)}: ${what}: ${why}. Then there ${there.length === 1 ? 'was' : 'were'} ${counted(there.length, 'heap')}, with ${units(free)} free in all` +
+    (best ? `; the largest request that one granted was ${units(best.largest)}, of ${nameOfPart(file, best.j)}` : '') + '.', false, best ? [['Open it', () => openPart(best.j, other.line)]] : []);
+}
+// Opens another part, at the time of the file that is shown, or at a line.
+async function openPart(i, line = lineAt(S.run, S.p)) {
+  stop();
+  if (i === S.part) return jump(rowAtLine(S.run, line));
+  const { file } = S.run, of = file.parts[i];
+  const run = await during('Playing', work => of.run().survey(work));
+  if (!run) return null;
+  leave();
+  Object.assign(run, { file, part: of });
+  Object.assign(S, { run, base: run, part: i, past: [], ahead: [], grant: 0, free: undefined, zoom: null, life: null, find: null });
+  dropOther(); showNames(); await look(); go(rowAtLine(run, line)); enter();
+  return null;
+}
+const rowAtLine = (run, line) => firstOf(run.lines.length, i => run.lines[i] > line);
