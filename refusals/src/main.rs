@@ -259,12 +259,12 @@ impl Check<'_> {
         self.fail_each(call, &header, 0, &Outcome::new(ANSWERED, &[100, 96]));
     }
 
-    /// Room for seven heaps, and 1,000 calls: the slots, three trees of 16 numbers, and then, for each heap
+    /// Room for seven heaps, and 1,000 calls: the slots, four trees of 16 numbers, and then, for each heap
     /// that is made, what a guarded allocator requests. A larger heap has the node limit 4.
     fn heaps(&mut self, layout: Layout, nodes: usize, bits: usize, size: u64) {
         let header = &format!("space {size} nodes {nodes} index {bits}");
         let (_, room) = self.with_ample_memory(HEAPS.on(layout), header);
-        let is_right = room.len() == 4 && room[0] % 7 == 0 && room[1..] == [64; 3];
+        let is_right = room.len() == 5 && room[0] % 7 == 0 && room[1..] == [64; 4];
         self.must(is_right, HEAPS.on(layout), header, format!("{room:?}"));
         self.fail_each(HEAPS.on(layout), header, 0, &Outcome::new(ANSWERED, &[0]));
         let call = HEAPS_CALLS.on(layout);

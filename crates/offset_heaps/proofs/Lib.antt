@@ -1,3 +1,4 @@
+pub mod Counting
 pub mod Decided
 pub mod DecidedCalls
 pub mod DecidedWalks

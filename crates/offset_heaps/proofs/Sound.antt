@@ -6,7 +6,7 @@ use Rattle.offset_allocator.specs.View.{View}
 use Rattle.offset_guarded.specs.Guard.{Guard}
 use Rattle.offset_heaps.specs.declared.limits.Limits.{Limits}
 use Rattle.offset_heaps.specs.declared.index.Index.{Index}
-use Rattle.offset_heaps.specs.{Heaps.IsOfKind, Heaps.slot, Heaps.room_of, Slots.Changes, Slots.ResetsIn, Soundness.IsNoted, Soundness.IsSound, Soundness.IsWide, Soundness.spare_of, Maxima.cell}
+use Rattle.offset_heaps.specs.{Heaps.IsOfKind, Heaps.slot, Heaps.room_of, Slots.Changes, Slots.ResetsIn, Soundness.IsNoted, Soundness.IsSound, Soundness.IsWide, Soundness.empty_key, Soundness.spare_of, Maxima.cell}
 use Rattle.offset_heaps.proofs.Numbers.{slot_other, slot_same}
 
 pub wide_put : (slots : List (Option Guard)) (index : Index) (k : ℕ) (o : Option Guard) → IsWide slots index → IsWide (slice_set slots k o) index
@@ -15,7 +15,16 @@ wide_put slots index k o w =
     let one = w.one in
     let two = w.two in
     let spare = w.spare in
-    record { one = omega arith; two = omega arith; spare = omega arith; level_two = w.level_two; level_spare = w.level_spare }
+    let empty = w.empty in
+    record {
+      one = omega arith;
+      two = omega arith;
+      spare = omega arith;
+      empty = omega arith;
+      level_two = w.level_two;
+      level_spare = w.level_spare;
+      level_empty = w.level_empty;
+    }
 
 pub noted_other : (limits : Limits) (slots : List (Option Guard)) (index : Index) (k j : ℕ) (o : Option Guard) → j ≢ k → IsNoted limits slots index j
     → IsNoted limits (slice_set slots k o) index j
@@ -25,6 +34,7 @@ noted_other limits slots index k j o n is =
       one = is.one ∙ ap (room_of 1) e;
       two = is.two ∙ ap (room_of 2) e;
       spare = is.spare ∙ ap (spare_of limits j) e;
+      empty = is.empty ∙ ap empty_key e;
     }
 
 module _ (max : ℕ) (slots : List (Option Guard)) (limits : Limits) (made then : ℕ) (old new : Index) (k : ℕ) (o : Option Guard) (is : IsSound max slots limits made old) (later : made ≤ then) where
@@ -91,9 +101,9 @@ empty_slot n k = elim (cases_lt k n) [
   | inr past ↦ get_or_past (replicate n None) k None (let same = length-replicate {A = Option Guard} n None in omega arith)
 ]
 
-pub noted_past : (limits : Limits) (n p k : ℕ) (index : Index) → index.one.keys ≡ replicate p 0 → index.two.keys ≡ index.one.keys → index.spare.keys ≡ index.one.keys
+pub noted_past : (limits : Limits) (n p k : ℕ) (index : Index) → index.one.keys ≡ replicate p 0 → index.two.keys ≡ index.one.keys → index.spare.keys ≡ index.one.keys → index.empty.keys ≡ index.one.keys
     → limits.most + limits.most_larger ≤ k → IsNoted limits (replicate n None) index k
-noted_past limits n p k index one two spare past =
+noted_past limits n p k index one two spare empty past =
     let zero_key : cell k index.one.keys ≡ 0 = ap (cell k) one ∙ empty_cell p k in
     let none : slot k (replicate n None) ≡ None = empty_slot n k in
     let before : limits.most ≤ k = omega arith in
@@ -101,6 +111,7 @@ noted_past limits n p k index one two spare past =
       one = rw none zero_key;
       two = rw none (ap (cell k) two ∙ zero_key);
       spare = rw (none, le-ltb k limits.most before, le-ltb k (limits.most + limits.most_larger) past) (ap (cell k) spare ∙ zero_key);
+      empty = rw none (ap (cell k) empty ∙ zero_key);
     }
 
 pub noted_more : (limits : Limits) (slots : List (Option Guard)) (old new : Index) (n count : ℕ) → IsNoted limits slots new n
@@ -117,14 +128,23 @@ noted_more limits slots old new n count here others known k within = elim (cases
 
 pub started : (limits : Limits) (n p : ℕ) (slots : List (Option Guard)) (index : Index) → slots ≡ replicate n None → limits.most + limits.most_larger ≡ n → n ≤ p
     → index.one.keys ≡ replicate p 0 → (index.two.keys ≡ index.one.keys) × (index.two.height ≡ index.one.height) → (index.spare.keys ≡ index.one.keys) × (index.spare.height ≡ index.one.height)
-    → IsWide slots index × ((k : ℕ) → n ≤ k → IsNoted limits slots index k)
-started limits n p slots index none count room one two spare =
+    → (index.empty.keys ≡ index.one.keys) × (index.empty.height ≡ index.one.height) → IsWide slots index × ((k : ℕ) → n ≤ k → IsNoted limits slots index k)
+started limits n p slots index none count room one two spare empty =
     let few : length slots ≡ n = ap length none ∙ length-replicate {A = Option Guard} n None in
     let wide : length index.one.keys ≡ p = ap length one ∙ length-replicate {A = ℕ} p 0 in
     let wide_two : length index.two.keys ≡ length index.one.keys = ap length two.0 in
-    let wide_spare : length index.spare.keys ≡ length index.one.keys = ap length spare.0 in (
-      record { one = omega arith; two = omega arith; spare = omega arith; level_two = two.1; level_spare = spare.1 },
-      λ k past. rw none (noted_past limits n p k index one two.0 spare.0 (omega arith)),
+    let wide_spare : length index.spare.keys ≡ length index.one.keys = ap length spare.0 in
+    let wide_empty : length index.empty.keys ≡ length index.one.keys = ap length empty.0 in (
+      record {
+        one = omega arith;
+        two = omega arith;
+        spare = omega arith;
+        empty = omega arith;
+        level_two = two.1;
+        level_spare = spare.1;
+        level_empty = empty.1;
+      },
+      λ k past. rw none (noted_past limits n p k index one two.0 spare.0 empty.0 (omega arith)),
     )
 
 -- a heap that was made has the next realm

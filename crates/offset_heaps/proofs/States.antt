@@ -22,8 +22,8 @@ use Rattle.offset_heaps.proofs.{Numbers.slot_other, Numbers.slot_past, Numbers.s
 
 -- before any number is noted, what is behind the last one is
 past_noted : (limits : Limits) (p k : ℕ) (slots : List (Option Guard)) (index : Index) → index.one.keys ≡ replicate p 0 → index.two.keys ≡ index.one.keys → index.spare.keys ≡ index.one.keys
-    → length slots ≡ limits.most + limits.most_larger → limits.most + limits.most_larger ≤ k → IsNoted limits slots index k
-past_noted limits p k slots index one two spare count past =
+    → index.empty.keys ≡ index.one.keys → length slots ≡ limits.most + limits.most_larger → limits.most + limits.most_larger ≤ k → IsNoted limits slots index k
+past_noted limits p k slots index one two spare empty count past =
     let zero_key : cell k index.one.keys ≡ 0 = ap (cell k) one ∙ empty_cell p k in
     let none : slot k slots ≡ None = slot_past slots k (omega (arith, count, past)) in
     let before : limits.most ≤ k = omega (arith, past) in
@@ -31,24 +31,28 @@ past_noted limits p k slots index one two spare count past =
       one = rw none zero_key;
       two = rw none (ap (cell k) two ∙ zero_key);
       spare = rw (none, le-ltb k limits.most before, le-ltb k (limits.most + limits.most_larger) past) (ap (cell k) spare ∙ zero_key);
+      empty = rw none (ap (cell k) empty ∙ zero_key);
     }
 
 pub started_at : (limits : Limits) (p : ℕ) (slots : List (Option Guard)) (index : Index) → length slots ≡ limits.most + limits.most_larger → limits.most + limits.most_larger ≤ p
     → index.one.keys ≡ replicate p 0 → (index.two.keys ≡ index.one.keys) × (index.two.height ≡ index.one.height) → (index.spare.keys ≡ index.one.keys) × (index.spare.height ≡ index.one.height)
+    → (index.empty.keys ≡ index.one.keys) × (index.empty.height ≡ index.one.height)
     → IsWide slots index × ((k : ℕ) → limits.most + limits.most_larger ≤ k → IsNoted limits slots index k)
-started_at limits p slots index count room one two spare =
+started_at limits p slots index count room one two spare empty =
     let wide : length index.one.keys ≡ p = ap length one ∙ length-replicate {A = ℕ} p 0 in
     let wide_two : length index.two.keys ≡ length index.one.keys = ap length two.0 in
-    let wide_spare : length index.spare.keys ≡ length index.one.keys = ap length spare.0 in (
+    let wide_spare : length index.spare.keys ≡ length index.one.keys = ap length spare.0 in
+    let wide_empty : length index.empty.keys ≡ length index.one.keys = ap length empty.0 in (
       record {
         one = omega (arith, wide, count, room);
         two = omega (arith, wide, wide_two, count, room);
         spare = omega (arith, wide, wide_spare, count, room);
+        empty = omega (arith, wide, wide_empty, count, room);
         level_two = two.1;
-        level_spare =
-            spare.1;
+        level_spare = spare.1;
+        level_empty = empty.1;
       },
-      λ k past. past_noted limits p k slots index one two.0 spare.0 count past,
+      λ k past. past_noted limits p k slots index one two.0 spare.0 empty.0 count past,
     )
 
 -- the heaps of which no access was counted

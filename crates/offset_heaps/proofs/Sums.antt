@@ -1,13 +1,9 @@
 -- Sums over heaps, number by number.
-use Rattle.std.proofs.Common.{◌≡◌, ℕ, zero, suc, ◌+◌, ◌<◌, ◌≤◌, max, true, false, length, List, [], ◌∷◌, Option, Some, None, take, if◌then◌else◌, nat_eq, refl, sym, ap, ap₂, ◌∙◌, inl, inr}
+use Rattle.std.proofs.Common.{◌≡◌, ℕ, zero, suc, ◌+◌, ◌<◌, max, length, List, [], ◌∷◌, Option, take, refl, sym, ap, ap₂, ◌∙◌}
 use Rattle.std.proofs.Common.{arith, add-one}
-use Rattle.std.proofs.lemmas.Bool.{cases_eq, cases_lt}
-use Rattle.offset_allocator.specs.View.{used_of}
 use Rattle.offset_guarded.specs.Guard.{Guard}
 use Rattle.offset_heaps.specs.declared.totals.Totals.{Totals}
-use Rattle.offset_heaps.specs.Heaps.{AreTotals, empties, free_of, is_empty, largest_room, live_of, part, room_of, size_of, slot, total}
-use Rattle.offset_heaps.specs.Slots.{HasEmpty}
-use Rattle.offset_heaps.proofs.Numbers.{slot_past}
+use Rattle.offset_heaps.specs.Heaps.{AreTotals, free_of, largest_room, live_of, part, room_of, size_of, slot, total}
 
 total_next : (f : Guard → ℕ) (slots : List (Option Guard)) (n : ℕ) → n < length slots → total f (take (suc n) slots) ≡ total f (take n slots) + part f (slot n slots)
 total_next f [] n l = absurd (omega arith)
@@ -30,56 +26,6 @@ take_all [] zero e = refl
 take_all [] (suc n) e = refl
 take_all (o ∷ slots) zero e = absurd (omega arith)
 take_all (o ∷ slots) (suc n) e = ap (λ s. o ∷ s) (take_all slots n (omega arith))
-
--- one more number, whose heap is empty
-counts_one : (o : Option Guard) → is_empty o ≡ true → part (λ (g : Guard). if nat_eq (used_of g.space.blocks) 0 then 1 else 0) o ≡ 1
-counts_one None e = cc
-counts_one (Some g) e = rw e refl
-
-counts_none : (o : Option Guard) → is_empty o ≡ false → part (λ (g : Guard). if nat_eq (used_of g.space.blocks) 0 then 1 else 0) o ≡ 0
-counts_none None e = refl
-counts_none (Some g) e = rw e refl
-
-pub one_more_empty : (n found at : ℕ) (slots : List (Option Guard)) → n < length slots → HasEmpty n found at slots → is_empty (slot n slots) ≡ true → HasEmpty (n + 1) (found + 1) n slots
-one_more_empty n found at slots l h e =
-    let more = total_more (λ (g : Guard). if nat_eq (used_of g.space.blocks) 0 then 1 else 0) slots n l in
-    let one = counts_one (slot n slots) e in
-    let count = h.count in
-    let few = h.few in
-    record {
-      count = omega arith;
-      few = omega arith;
-      last = λ some. (omega arith, e, λ j after before. absurd (omega arith));
-    }
-
-pub one_more_other : (n found at : ℕ) (slots : List (Option Guard)) → n < length slots → HasEmpty n found at slots → is_empty (slot n slots) ≡ false → HasEmpty (n + 1) found at slots
-one_more_other n found at slots l h e =
-    let more = total_more (λ (g : Guard). if nat_eq (used_of g.space.blocks) 0 then 1 else 0) slots n l in
-    let none = counts_none (slot n slots) e in
-    let count = h.count in
-    let few = h.few in
-    record {
-      count = omega arith;
-      few = omega arith;
-      last = λ some. let was = h.last some in (
-        let low = was.0 in omega arith,
-        was.1,
-        λ j after before. elim (cases_eq j n) [
-          | inl here ↦ rw here e
-          | inr d ↦ was.2 j after (omega arith)
-        ],
-      );
-    }
-
--- behind the last number no heap is empty
-pub last_of_all : (n found at : ℕ) (slots : List (Option Guard)) → n ≡ length slots → HasEmpty n found at slots → 1 ≤ found → (j : ℕ) → at < j → is_empty (slot j slots) ≡ false
-last_of_all n found at slots all h some j after = elim (cases_lt j n) [
-  | inl before ↦ (h.last some).2 j after before
-  | inr past ↦ ap is_empty (slot_past slots j (omega arith))
-]
-
-pub found_all : (n found at : ℕ) (slots : List (Option Guard)) → n ≡ length slots → HasEmpty n found at slots → found ≡ empties slots
-found_all n found at slots all h = h.count ∙ ap empties (take_all slots n all)
 
 -- the numbers of one more heap
 pub totals_more : (slots : List (Option Guard)) (n : ℕ) (t u : Totals) (o : Option Guard) → o ≡ slot n slots → n < length slots → AreTotals t (take n slots)

@@ -1,10 +1,10 @@
 -- Trees of maxima: a search from the top, and a change from below.
-use Rattle.std.proofs.Common.{◌≡◌, ◌≢◌, ℕ, zero, suc, ◌+◌, ◌-◌, ◌*◌, ◌^◌, ◌/◌, ◌<◌, ◌≤◌, max, length, List, [], ◌∷◌, drop, slice_set, refl, ap, ◌∙◌, subst, inl, inr, arith}
+use Rattle.std.proofs.Common.{◌≡◌, ◌≢◌, ℕ, zero, suc, ◌+◌, ◌-◌, ◌*◌, ◌^◌, ◌/◌, ◌<◌, ◌≤◌, max, length, List, [], ◌∷◌, drop, slice_set, refl, sym, ap, ◌∙◌, subst, inl, inr, arith}
 use Rattle.std.proofs.lemmas.Bool.{cases_eq, cases_lt}
 use Rattle.std.proofs.lemmas.List.{get_or-set_same, get_or-set_other, get_or-drop, get_or_past, length-drop, length-set}
 use Rattle.std.proofs.lemmas.Grind.{pow_more}
 use Rattle.std.proofs.Math.Pow.{pow_mono}
-use Rattle.offset_heaps.specs.Maxima.{AreBelow, IsTree, IsAbove, IsTreeBut, Leads, cell}
+use Rattle.offset_heaps.specs.Maxima.{AreBelow, IsTree, IsAbove, IsTreeBut, Leads, Trails, cell}
 
 pub cell_same : (cells : List ℕ) (k v : ℕ) → k < length cells → cell k (slice_set cells k v) ≡ v
 cell_same cells k v l = get_or-set_same cells k v 0 l
@@ -114,6 +114,62 @@ step_right height level least place cells t low is less =
       ];
     }
 
+-- the same from the right: the cells below a level are within the tree
+pub in_width_last : (height level least place : ℕ) (cells : List ℕ) → IsTree height cells → level < height → Trails least level place cells → 2 * place + 1 < length cells
+in_width_last height level least place cells t low is =
+    let power : 2 ^ (level + 1) ≤ 2 ^ height = pow_mono (omega arith) in
+    let next = pow_more 2 level in
+    let to = is.to in
+    let wide = t.wide in
+    omega arith
+
+-- a cell of the next level, right of those below this one
+right_of : (height level least place j : ℕ) (cells : List ℕ) → IsTree height cells → level < height → Trails least level place cells
+    → 2 * place + 1 < j → j < 2 * 2 ^ (level + 1) → cell j cells < least
+right_of height level least place j cells t low is behind to =
+    let power : 2 ^ (level + 1) ≤ 2 ^ height = pow_mono (omega arith) in
+    let next = pow_more 2 level in
+    let p = j / 2 in
+    let small : cell p cells < least = is.right p (omega arith) (omega arith) in
+    let top : cell p cells ≡ max (cell (2 * p) cells) (cell (2 * p + 1) cells) = t.over p (omega arith) (omega arith) in
+    elim (cases_eq j (2 * p)) [
+      | inl e ↦ rw e (omega arith)
+      | inr m ↦ let e : j ≡ 2 * p + 1 = omega arith in rw e (omega arith)
+    ]
+
+pub last_right : (height level least place : ℕ) (cells : List ℕ) → IsTree height cells → level < height → Trails least level place cells
+    → least ≤ cell (2 * place + 1) cells → Trails least (level + 1) (2 * place + 1) cells
+last_right height level least place cells t low is enough =
+    let next = pow_more 2 level in
+    let from = is.from in
+    let to = is.to in
+    record {
+      from = omega arith;
+      to = omega arith;
+      enough = enough;
+      right = λ j behind before. right_of height level least place j cells t low is behind before;
+    }
+
+pub last_left : (height level least place q : ℕ) (cells : List ℕ) → IsTree height cells → level < height → Trails least level place cells
+    → q ≡ 2 * place → cell (2 * place + 1) cells < least → Trails least (level + 1) q cells
+last_left height level least place q cells t low is e less =
+    let power : 2 ^ (level + 1) ≤ 2 ^ height = pow_mono (omega arith) in
+    let next = pow_more 2 level in
+    let from = is.from in
+    let to = is.to in
+    let some : 1 ≤ 2 ^ level = pow_mono {i = 0} (omega arith) in
+    let top : cell place cells ≡ max (cell (2 * place) cells) (cell (2 * place + 1) cells) = t.over place (omega arith) (omega arith) in
+    let had = is.enough in
+    rw e (record {
+      from = omega arith;
+      to = omega arith;
+      enough = omega arith;
+      right = λ j behind before. elim (cases_eq j (2 * place + 1)) [
+        | inl e ↦ rw e less
+        | inr n ↦ right_of height level least place j cells t low is (omega arith) before
+      ];
+    })
+
 -- where the topmost cell is too small, so is each number
 pub none_leads : (height least : ℕ) (cells : List ℕ) → IsTree height cells → 1 ≤ least → cell 1 cells < least → AreBelow least (drop (2 ^ height) cells)
 none_leads height least cells t some low i = rw (get_or-drop (2 ^ height) cells i 0) (elim (cases_lt (2 ^ height + i) (length cells)) [
@@ -150,6 +206,20 @@ climbs_within height level place low is =
 pub place_within : (height at len : ℕ) (cells : List ℕ) → IsTree height cells → len ≡ length cells → at < length (drop (2 ^ height) cells) → len / 2 + at < length cells
 place_within height at len cells t e low =
     let wide = t.wide in
+    let rest = length-drop (2 ^ height) cells in
+    omega arith
+
+-- its number, and how many there are
+pub own_cell : (height at len : ℕ) (cells : List ℕ) → IsTree height cells → len ≡ length cells → cell (len / 2 + at) cells ≡ cell at (drop (2 ^ height) cells)
+own_cell height at len cells t e =
+    let wide = t.wide in
+    let half : len / 2 + at ≡ 2 ^ height + at = omega arith in
+    ap (λ k. cell k cells) half ∙ sym (get_or-drop (2 ^ height) cells at 0)
+
+pub few_keys : (height : ℕ) (cells : List ℕ) → IsTree height cells → length (drop (2 ^ height) cells) ≤ 2 ^ 32
+few_keys height cells t =
+    let wide = t.wide in
+    let power : 2 ^ height ≤ 2 ^ 32 = pow_mono t.low in
     let rest = length-drop (2 ^ height) cells in
     omega arith
 

@@ -1,5 +1,5 @@
--- Numbers in a row, of which the first that is large enough is found in few steps.
-use Rattle.std.specs.Prelude.{◌≡◌, ℕ, ◌+◌, ◌-◌, ◌*◌, ◌^◌, ◌<◌, ◌≤◌, max, List, length, Option, Some, None, slice_index_or}
+-- Numbers in a row, of which the first and the last that is large enough are found in few steps.
+use Rattle.std.specs.Prelude.{◌≡◌, ℕ, ◌+◌, ◌-◌, ◌*◌, ◌^◌, ◌<◌, ◌≤◌, max, sum, List, length, Option, Some, None, slice_index_or}
 
 -- the numbers, and how many levels of maxima are above them
 pub record Row : Type 0 where
@@ -19,6 +19,16 @@ abbrev pub IsFirst : ℕ → List ℕ → Option ℕ → Type 0
 IsFirst n keys None = AreBelow n keys
 IsFirst n keys (Some i) = (i < length keys) × (n ≤ cell i keys) × ((j : ℕ) → j < i → cell j keys < n)
 
+-- the last number that is at least n, if there is one
+abbrev pub IsLast : ℕ → List ℕ → Option ℕ → Type 0
+IsLast n keys None = AreBelow n keys
+IsLast n keys (Some i) = (i < length keys) × (n ≤ cell i keys) × ((j : ℕ) → i < j → cell j keys < n)
+
+-- each number is 1 or 0, and so many are 1
+pub record AreMarks (marked : ℕ) (keys : List ℕ) : Type 0 where
+  pub count : marked ≡ sum keys
+  pub small : (i : ℕ) → cell i keys ≤ 1
+
 -- the cells from 1 on are a tree: below cell k are the cells 2 k and 2 k + 1, of which it is the larger
 pub record IsTree (height : ℕ) (cells : List ℕ) : Type 0 where
   pub wide : length cells ≡ 2 * 2 ^ height
@@ -37,6 +47,13 @@ pub record Leads (least level place : ℕ) (cells : List ℕ) : Type 0 where
   pub to : place < 2 * 2 ^ level
   pub enough : least ≤ cell place cells
   pub left : (j : ℕ) → 2 ^ level ≤ j → j < place → cell j cells < least
+
+-- of the cells of a level, this one is the last that is large enough
+pub record Trails (least level place : ℕ) (cells : List ℕ) : Type 0 where
+  pub from : 2 ^ level ≤ place
+  pub to : place < 2 * 2 ^ level
+  pub enough : least ≤ cell place cells
+  pub right : (j : ℕ) → place < j → j < 2 * 2 ^ level → cell j cells < least
 
 -- a cell of the tree, that many levels above the numbers
 pub record IsAbove (height level place : ℕ) : Type 0 where

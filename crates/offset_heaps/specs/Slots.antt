@@ -1,5 +1,5 @@
 -- What a call leaves of the heap of one number.
-use Rattle.std.specs.Prelude.{◌≡◌, ℕ, ◌+◌, ◌*◌, ◌%◌, ◌<◌, ◌≤◌, ◌⊎◌, List, Option, Some, None, true, false, length, nat_lt, take, slice_set, if◌then◌else◌}
+use Rattle.std.specs.Prelude.{◌≡◌, ℕ, ◌+◌, ◌*◌, ◌%◌, ◌<◌, ◌≤◌, ◌⊎◌, List, Option, Some, None, length, nat_lt, slice_set, if◌then◌else◌}
 use Rattle.offset_allocator.specs.Classes.{down}
 use Rattle.offset_allocator.specs.Relations.{Aligns, Frees, Resets}
 use Rattle.offset_allocator.specs.Tight.{AlignsTight, CanHold}
@@ -7,7 +7,7 @@ use Rattle.offset_allocator.specs.View.{bin_at}
 use Rattle.offset_guarded.specs.Guard.{Guard, HasSerialLeft, handle_in}
 use Rattle.offset_guarded.specs.Guard as guarded
 use Rattle.offset_guarded.specs.declared.ticket.Ticket.{Ticket}
-use Rattle.offset_heaps.specs.Heaps.{empties, is_empty, slot, range_in}
+use Rattle.offset_heaps.specs.Heaps.{slot, range_in}
 
 -- a heap grants a request
 pub record Serves (size align : ℕ) (old new : Option Guard) (t : Ticket) : Type 0 where
@@ -65,12 +65,6 @@ pub record Changes (k : ℕ) (P : Option Guard → Option Guard → Type 0) (old
 abbrev pub IsBelow : ℕ → Option ℕ → Option ℕ → Type 0
 IsBelow limit None kept = kept ≡ None
 IsBelow limit (Some k) kept = ((k < limit) × (kept ≡ Some k)) ⊎ ((limit ≤ k) × (kept ≡ None))
-
--- of the first n numbers, so many have an empty heap, and this is the last of them
-pub record HasEmpty (n found at : ℕ) (slots : List (Option Guard)) : Type 0 where
-  pub count : found ≡ empties (take n slots)
-  pub few : found ≤ n
-  pub last : 1 ≤ found → (at < n) × (is_empty (slot at slots) ≡ true) × ((j : ℕ) → at < j → j < n → is_empty (slot j slots) ≡ false)
 
 -- of two heaps with so many live units, where there are two, the one with fewer, or else the second
 abbrev pub IsMore : Option (ℕ × ℕ) → ℕ → Option ℕ → Option (ℕ × ℕ) → Type 0

@@ -3,7 +3,7 @@ use Rattle.std.specs.Prelude.{◌≡◌, ℕ, ◌+◌, ◌^◌, ◌<◌, ◌≤�
 use Rattle.offset_guarded.specs.Guard.{Guard}
 use Rattle.offset_heaps.specs.declared.limits.Limits.{Limits}
 use Rattle.offset_heaps.specs.declared.index.Index.{Index}
-use Rattle.offset_heaps.specs.Heaps.{IsOfKind, room_of, slot}
+use Rattle.offset_heaps.specs.Heaps.{IsOfKind, is_empty, room_of, slot}
 use Rattle.offset_heaps.specs.Maxima.{cell}
 
 -- the key of a number that no heap has: 1 for a heap of the usual size, 2 for a larger one
@@ -11,19 +11,26 @@ abbrev pub spare_of : Limits → ℕ → Option Guard → ℕ
 spare_of limits k None = if nat_lt k limits.most then 1 else (if nat_lt k (limits.most + limits.most_larger) then 2 else 0)
 spare_of limits k (Some g) = 0
 
+-- the key of a number whose heap is empty
+abbrev pub empty_key : Option Guard → ℕ
+empty_key o = if is_empty o then 1 else 0
+
 -- what the index has of a number
 pub record IsNoted (limits : Limits) (slots : List (Option Guard)) (index : Index) (k : ℕ) : Type 0 where
   pub one : cell k index.one.keys ≡ room_of 1 (slot k slots)
   pub two : cell k index.two.keys ≡ room_of 2 (slot k slots)
   pub spare : cell k index.spare.keys ≡ spare_of limits k (slot k slots)
+  pub empty : cell k index.empty.keys ≡ empty_key (slot k slots)
 
--- there is a key for each number, and the three rows have as many levels
+-- there is a key for each number, and all rows have as many levels
 pub record IsWide (slots : List (Option Guard)) (index : Index) : Type 0 where
   pub one : length slots ≤ length index.one.keys
   pub two : length slots ≤ length index.two.keys
   pub spare : length slots ≤ length index.spare.keys
+  pub empty : length slots ≤ length index.empty.keys
   pub level_two : index.two.height ≡ index.one.height
   pub level_spare : index.spare.height ≡ index.one.height
+  pub level_empty : index.empty.height ≡ index.one.height
 
 -- what is true of the fields between two calls
 pub record IsSound (max : ℕ) (slots : List (Option Guard)) (limits : Limits) (made : ℕ) (index : Index) : Type 0 where

@@ -93,7 +93,7 @@ impl<T: Tables> HeapsOf<T> {
         ensures found { result.is_new ≡ false }
         ensures aligned { result.place.ticket.offset % align ≡ 0 }
         ensures steps { (bits : ℕ) → numbers self.old ≤ 2 ^ bits
-            → self.new.accesses ≤ self.old.accesses + 12 * bits + 8 }
+            → self.new.accesses ≤ self.old.accesses + 12 * bits + 10 }
     {
         let ticket = self.slots.grant(number, size, align, &mut self.accesses);
         self.index
@@ -120,7 +120,7 @@ impl<T: Tables> HeapsOf<T> {
           is_new = true;
         } }
         ensures steps { (bits : ℕ) → numbers self.old ≤ 2 ^ bits
-            → self.new.accesses ≤ self.old.accesses + 12 * bits + 8 }
+            → self.new.accesses ≤ self.old.accesses + 12 * bits + 10 }
     {
         self.slots.put(number, slot, &mut self.accesses);
         self.made += 1;
@@ -149,7 +149,7 @@ impl<T: Tables> HeapsOf<T> {
             × (self.old.made < last_realm)) }
         ensures aligned { IfOk result (λ g. g.place.ticket.offset % align ≡ 0) }
         ensures steps { (bits : ℕ) → numbers self.old ≤ 2 ^ bits
-            → self.new.accesses ≤ self.old.accesses + 12 * bits + 8 }
+            → self.new.accesses ≤ self.old.accesses + 12 * bits + 10 }
     {
         if self.made == u32::MAX {
             return Err(Refusal::Full);
@@ -173,7 +173,7 @@ impl<T: Tables> HeapsOf<T> {
             × (self.old.made < last_realm)) }
         ensures aligned { IfOk result (λ g. g.place.ticket.offset % align ≡ 0) }
         ensures steps { (bits : ℕ) → numbers self.old ≤ 2 ^ bits
-            → self.new.accesses ≤ self.old.accesses + 12 * bits + 8 }
+            → self.new.accesses ≤ self.old.accesses + 12 * bits + 10 }
     {
         if self.made == u32::MAX {
             return Err(Refusal::Full);
@@ -276,7 +276,8 @@ impl<T: Tables> HeapsOf<T> {
     /// whose first range begins at 0, a multiple of every alignment: so it needs room for `size` units alone.
     /// If a fresh heap of the usual size has that, it is such a heap, with the first number below `most` that
     /// no heap has; else a larger heap of exactly `size` units, all of which are granted, with the first
-    /// number from `most` on that no heap has. Only then memory is requested.
+    /// number from `most` on that no heap has, and with the node limit 4: it never has more than two live
+    /// ranges. Only then memory is requested.
     ///
     /// Where the request is refused, all is as it was, and the `Refusal` says why.
     ///

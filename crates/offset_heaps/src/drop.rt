@@ -11,10 +11,10 @@ impl<T: Tables> HeapsOf<T> {
 
     /// Drops the last empty heap, by number, if more than `keep` heaps are empty, and returns its number:
     /// drop its buffer. `None` is returned where at most `keep` are empty; then nothing changes. Call it
-    /// until it returns `None`.
+    /// until it returns `None`: each call takes some steps for each bit of the numbers.
     ///
     /// No place loses its range, and a place that the heap granted is never live again, though a later heap
-    /// may have its number. It reads the slot of each number once.
+    /// may have its number.
     ///
     /// ```
     /// let mesh = heaps.allocate(300).unwrap().place;
@@ -31,14 +31,12 @@ impl<T: Tables> HeapsOf<T> {
         // All other heaps stay, and every place keeps its range.
         ensures heaps { IfSome result (λ k. Puts k None self.old self.new) }
         ensures places { KeepsAll self.old self.new }
-        ensures steps { (bits : ℕ) → numbers self.old ≤ 2 ^ bits
-            → self.new.accesses ≤ self.old.accesses + numbers self.old + 16 * bits + 32 }
+        ensures steps { TakesFewSteps self.old self.new }
     {
-        let numbers = self.limits.most + self.limits.most_larger;
-        let (count, last) = self.slots.last_empty(numbers, &mut self.accesses);
-        if count <= keep {
+        if self.index.empty.count() <= keep as u64 {
             return None;
         }
+        let last = self.index.empty.last(&mut self.accesses)?;
         self.give_up(last);
         Some(last)
     }

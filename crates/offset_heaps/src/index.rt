@@ -1,13 +1,15 @@
-//! Which heaps have room, and which numbers have no heap. It touches its own rows alone, and reads one slot.
+//! Which heaps have room, which are empty, and which numbers have no heap. It touches its own rows alone, and
+//! reads one slot.
 ghost use Rattle.std.specs.Prelude.{ℕ, ◌≡◌, ◌↔◌, ◌+◌, ◌*◌, ◌^◌, ◌<◌, ◌≤◌, IfOk, IsTrue, length, max};
 ghost use Rattle.std.specs.Prelude.{option_copied, replicate};
 ghost use Rattle.offset_allocator.specs.Accesses.{Costs};
 ghost use Rattle.offset_guarded.specs.Guard.{HasSerialLeft};
-ghost use Rattle.offset_heaps.specs.Heaps.{room_of, slot};
+ghost use Rattle.offset_heaps.specs.Heaps.{is_empty, room_of, slot};
 ghost use Rattle.offset_heaps.specs.Soundness.{spare_of};
 ghost use Rattle.offset_heaps.specs.Maxima.{IsFirst};
 
 use crate::limits::Limits;
+use crate::marks::Marks;
 use crate::maxima::{Maxima, levels_for};
 use crate::slots::Slots;
 use offset_allocator::laws::unused_nodes;
@@ -15,13 +17,14 @@ use offset_allocator::{Accesses, Tables};
 use offset_guarded::{GuardedOf, Refusal};
 use std::alloc::{AllocError, Global};
 
-/// Three keys of each number: the largest requests that its heap grants where it may add one and two blocks,
-/// or 0, and whether it has no heap.
+/// Four keys of each number: the largest requests that its heap grants where it may add one and two blocks,
+/// or 0, whether it has no heap, and whether its heap is empty.
 #[derive(Drop)]
 pub(crate) struct Index {
     pub(crate) one: Maxima,
     pub(crate) two: Maxima,
     pub(crate) spare: Maxima,
+    pub(crate) empty: Marks,
 }
 
 // Whether a serial is left for one more grant. A request that is larger than the space costs the least to
@@ -69,6 +72,16 @@ fn spare<T: Tables>(heap: Option<&GuardedOf<T>>, number: u32, limits: Limits) ->
     }
 }
 
+/// Whether there is a heap, and it has no live range.
+pub(crate) fn is_empty_heap<T: Tables>(heap: Option<&GuardedOf<T>>) -> bool
+    ensures { result ≡ is_empty (option_copied heap.entry) }
+{
+    match heap {
+        None => false,
+        Some(heap) => heap.allocator().is_empty(),
+    }
+}
+
 impl Index {
     ghost use Rattle.offset_heaps.specs.Soundness.{IsNoted, IsWide};
 
@@ -77,6 +90,7 @@ impl Index {
         ensures one { IfOk result (λ i. i.one.keys ≡ replicate (2 ^ i.one.height) 0) }
         ensures two { IfOk result (λ i. (i.two.keys ≡ i.one.keys) × (i.two.height ≡ i.one.height)) }
         ensures spare { IfOk result (λ i. (i.spare.keys ≡ i.one.keys) × (i.spare.height ≡ i.one.height)) }
+        ensures empty { IfOk result (λ i. (i.empty.keys ≡ i.one.keys) × (i.empty.height ≡ i.one.height)) }
         ensures room { IfOk result (λ i. count ≤ 2 ^ i.one.height) }
         ensures least { IfOk result (λ i. (bits : ℕ) → count ≤ 2 ^ bits → i.one.height ≤ bits) }
     {
@@ -85,6 +99,7 @@ impl Index {
             one: Maxima::with_height(alloc, height, places)?,
             two: Maxima::with_height(alloc, height, places)?,
             spare: Maxima::with_height(alloc, height, places)?,
+            empty: Marks::with_height(alloc, height, places)?,
         })
     }
 
@@ -103,13 +118,14 @@ impl Index {
             → IsNoted limits slots.now self.new k }
         ensures wide { IsWide slots.now self.new }
         ensures levels { self.new.one.height ≡ self.old.one.height }
-        ensures accesses { Costs 4 (12 * self.old.one.height + 7) count.old count.new }
+        ensures accesses { Costs 5 (12 * self.old.one.height + 9) count.old count.new }
     {
         let heap = slots.at(number, count);
         let (one, two) = rooms(heap);
         self.one.set(number, one, count);
         self.two.set(number, two, count);
         self.spare.set(number, spare(heap, number, limits), count);
+        self.empty.set(number, is_empty_heap(heap), count);
     }
 
     /// The first number whose heap has room for a request of these units at a multiple of `align`.

@@ -1,8 +1,8 @@
-//! A row of numbers, of which the first that is large enough is found in few steps: a tree of maxima. It
-//! touches its own cells alone, and counts each access.
-ghost use Rattle.std.specs.Prelude.{ℕ, ◌≡◌, ◌+◌, ◌*◌, ◌^◌, ◌<◌, ◌≤◌, IfOk, length, max, replicate, slice_set};
+//! A row of numbers, of which the first and the last that is large enough are found in few steps: a tree of
+//! maxima. It touches its own cells alone, and counts each access.
+ghost use Rattle.std.specs.Prelude.{ℕ, ◌≡◌, ◌+◌, ◌*◌, ◌/◌, ◌^◌, ◌<◌, ◌≤◌, IfOk, length, max, replicate, slice_set};
 ghost use Rattle.offset_allocator.specs.Accesses.{Costs};
-ghost use Rattle.offset_heaps.specs.Maxima.{AreBelow, IsFirst, cell};
+ghost use Rattle.offset_heaps.specs.Maxima.{AreBelow, IsFirst, IsLast, cell};
 
 use offset_allocator::Accesses;
 use std::alloc::{AllocError, Global};
@@ -38,16 +38,20 @@ fn read(cells: &Vec<u32>, place: usize, count: &mut Accesses) -> u32
     cells[place]
 }
 
-// The larger one of the two numbers below a cell.
+// The larger one of a cell's number, which is given, and that of the other cell below the same one.
 #[inline(always)]
-fn larger_below(cells: &Vec<u32>, place: usize, count: &mut Accesses) -> u32
-    requires { 2 * place + 1 < length cells.now.items }
-    ensures larger { result ≡ max (cell (2 * place) cells.now.items) (cell (2 * place + 1) cells.now.items) }
-    ensures accesses { count.new ≡ count.old + 2 }
+fn larger_of_two(cells: &Vec<u32>, place: usize, key: u32, count: &mut Accesses) -> u32
+    requires there { 2 * (place / 2) + 1 < length cells.now.items }
+    requires key { key ≡ cell place cells.now.items }
+    ensures larger { result
+        ≡ max (cell (2 * (place / 2)) cells.now.items) (cell (2 * (place / 2) + 1) cells.now.items) }
+    ensures accesses { count.new ≡ count.old + 1 }
 {
-    let left = read(cells, 2 * place, count);
-    let right = read(cells, 2 * place + 1, count);
-    left.max(right)
+    if place % 2 == 0 {
+        key.max(read(cells, place + 1, count))
+    } else {
+        key.max(read(cells, place - 1, count))
+    }
 }
 
 // Writes a cell.
@@ -111,25 +115,49 @@ impl Maxima {
         Some((place - self.cells.len() / 2) as u32)
     }
 
-    /// Writes the number at a place.
-    pub(crate) fn set(&mut self, at: u32, key: u32, count: &mut Accesses)
+    /// The last place whose number is at least `least`, or `None` where there is none.
+    pub(crate) fn last_at_least(&self, least: u64, count: &mut Accesses) -> Option<u32>
+        requires { 1 ≤ least }
+        ensures last { IsLast least self.now.keys result }
+        ensures accesses { Costs 1 (self.now.height + 1) count.old count.new }
+    {
+        let mut last = 1;
+        if (read(&self.cells, last, count) as u64) < least {
+            return None;
+        }
+        for _level in 0..self.height {
+            last = 2 * last + 1;
+            if (read(&self.cells, last, count) as u64) < least {
+                last -= 1;
+            }
+        }
+        Some((last - self.cells.len() / 2) as u32)
+    }
+
+    /// Writes the number at a place, and returns the one that was there.
+    pub(crate) fn set(&mut self, at: u32, key: u32, count: &mut Accesses) -> u32
         requires { at < length self.old.keys }
+        ensures was { result ≡ cell at self.old.keys }
         ensures keys { self.new.keys ≡ slice_set self.old.keys at key }
         ensures height { self.new.height ≡ self.old.height }
-        ensures accesses { Costs 1 (4 * self.old.height + 2) count.old count.new }
+        ensures few { length self.old.keys ≤ 2 ^ 32 }
+        ensures accesses { Costs 1 (3 * self.old.height + 2) count.old count.new }
     {
         let mut place = self.cells.len() / 2 + at as usize;
-        if read(&self.cells, place, count) == key {
-            return;
+        let was = read(&self.cells, place, count);
+        if was == key {
+            return was;
         }
         write(&mut self.cells, place, key, count);
+        let mut larger = key;
         for _level in 0..self.height {
+            larger = larger_of_two(&self.cells, place, larger, count);
             place /= 2;
-            let larger = larger_below(&self.cells, place, count);
             if read(&self.cells, place, count) == larger {
-                return;
+                return was;
             }
             write(&mut self.cells, place, larger, count);
         }
+        was
     }
 }

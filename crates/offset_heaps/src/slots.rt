@@ -2,16 +2,16 @@
 //! touches.
 ghost use Rattle.std.specs.Prelude.{◌≡◌, ◌↔◌, ◌+◌, ◌^◌, ◌<◌, ◌≤◌, IsTrue, IsSome, None, Some, false, length};
 ghost use Rattle.std.specs.Prelude.{IfOk, MatchOption, is_some, option_copied, replicate};
-ghost use Rattle.std.specs.Prelude.{ℕ, slice_set, true, if◌then◌else◌};
+ghost use Rattle.std.specs.Prelude.{ℕ, slice_set, true};
 ghost use Rattle.offset_allocator.specs.Requests.{blocks_needed, units_needed};
 ghost use Rattle.offset_allocator.specs.Tight.{CanHold};
 ghost use Rattle.offset_guarded.specs.Guard.{Guard, HasSerialLeft};
 ghost use Rattle.offset_heaps.specs.Heaps.{is_empty, live_of, part, range_in, room, room_of, slot};
 ghost use Rattle.offset_heaps.specs.Relocating.{HasLive, IsEmptiest, NoneLive, TakesUnits, units_in};
-ghost use Rattle.offset_heaps.specs.Slots.{CanHoldIn, Changes, FreesIn, HasEmpty, KeepsOthersIn};
+ghost use Rattle.offset_heaps.specs.Slots.{CanHoldIn, Changes, FreesIn, KeepsOthersIn};
 ghost use Rattle.offset_heaps.specs.Slots.{IsMore, ResetsIn, Serves, ServesTight};
 
-use crate::index::rooms;
+use crate::index::{is_empty_heap, rooms};
 use offset_allocator::laws::is_well_formed;
 use offset_allocator::{Accesses, Tables};
 use offset_guarded::{GuardedOf, Ticket};
@@ -97,14 +97,6 @@ fn reset_in<T: Tables>(slot: &mut Option<GuardedOf<T>>)
         Some(heap) => heap.reset(),
         None => {}
     }
-}
-
-// The empty heaps that were seen, how many and the last, with one more heap.
-fn with_number(seen: (u32, u32), number: u32, empty: bool) -> (u32, u32)
-    requires { seen.0 + 1 < 2 ^ 32 }
-    ensures { result ≡ (if empty then record { 0 = seen.0 + 1; 1 = number } else seen) }
-{
-    if empty { (seen.0 + 1, number) } else { seen }
 }
 
 // The emptiest heap so far, and its live units, with those of one more heap.
@@ -221,24 +213,7 @@ impl<T: Tables> Slots<T> {
         ensures empty { result ≡ is_empty (slot number self.now) }
         ensures accesses { count.new ≡ count.old + 1 }
     {
-        match self.at(number, count) {
-            None => false,
-            Some(heap) => heap.allocator().is_empty(),
-        }
-    }
-
-    /// The empty heaps of the first `numbers` numbers: how many, and the last of them.
-    pub(crate) fn last_empty(&self, numbers: u32, count: &mut Accesses) -> (u32, u32)
-        requires { numbers ≤ length self.now }
-        ensures empty { HasEmpty numbers result.0 result.1 self.now }
-        ensures accesses { count.new ≡ count.old + numbers }
-    {
-        let mut seen = (0, 0);
-        for number in 0..numbers {
-            let empty = self.is_empty_at(number, count);
-            seen = with_number(seen, number, empty);
-        }
-        seen
+        is_empty_heap(self.at(number, count))
     }
 
     /// The units of the range of a ticket in the heap of a number, or 0, and the units that are live there.

@@ -19,8 +19,9 @@ pub struct Totals {
     pub live_units: u64,
     /// The units of all free blocks.
     pub free_units: u64,
-    /// The largest `largest_free_region` of a heap, or 0 where there is none: a request of at least one unit
-    /// is granted by a heap that is there exactly when it is at most this.
+    /// The largest `largest_free_region` of a heap, or 0 where there is none; one that has given all its
+    /// serials counts as 0 here, and in no other field. A request of at least one unit is granted by a heap
+    /// that is there exactly when it is at most this.
     pub largest_free_region: u32,
 }
 

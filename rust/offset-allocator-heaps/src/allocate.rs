@@ -159,7 +159,8 @@ impl<T: Tables> HeapsOf<T> {
     /// whose first range begins at 0, a multiple of every alignment: so it needs room for `size` units alone.
     /// If a fresh heap of the usual size has that, it is such a heap, with the first number below `most` that
     /// no heap has; else a larger heap of exactly `size` units, all of which are granted, with the first
-    /// number from `most` on that no heap has. Only then memory is requested.
+    /// number from `most` on that no heap has, and with the node limit 4: it never has more than two live
+    /// ranges. Only then memory is requested.
     ///
     /// Where the request is refused, all is as it was, and the `Refusal` says why.
     ///

@@ -8,10 +8,10 @@ use offset_allocator::Tables;
 impl<T: Tables> HeapsOf<T> {
     /// Drops the last empty heap, by number, if more than `keep` heaps are empty, and returns its number:
     /// drop its buffer. `None` is returned where at most `keep` are empty; then nothing changes. Call it
-    /// until it returns `None`.
+    /// until it returns `None`: each call takes some steps for each bit of the numbers.
     ///
     /// No place loses its range, and a place that the heap granted is never live again, though a later heap
-    /// may have its number. It reads the slot of each number once.
+    /// may have its number.
     ///
     /// ```
     /// # use offset_allocator_heaps::*;
@@ -25,11 +25,10 @@ impl<T: Tables> HeapsOf<T> {
     /// # Ok::<(), AllocError>(())
     /// ```
     pub fn drop_empty(&mut self, keep: u32) -> Option<u32> {
-        let numbers = self.limits.most + self.limits.most_larger;
-        let (count, last) = self.slots.last_empty(numbers, &mut self.accesses);
-        if count <= keep {
+        if self.index.empty.count() <= keep as u64 {
             return None;
         }
+        let last = self.index.empty.last(&mut self.accesses)?;
         self.give_up(last);
         Some(last)
     }

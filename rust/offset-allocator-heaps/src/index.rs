@@ -1,8 +1,10 @@
 // Printed by rust/erase from crates/offset_heaps/src/index.rt: change it there.
 
-//! Which heaps have room, and which numbers have no heap. It touches its own rows alone, and reads one slot.
+//! Which heaps have room, which are empty, and which numbers have no heap. It touches its own rows alone, and
+//! reads one slot.
 
 use crate::limits::Limits;
+use crate::marks::Marks;
 use crate::maxima::{Maxima, levels_for};
 use crate::slots::Slots;
 use offset_allocator::laws::unused_nodes;
@@ -10,12 +12,13 @@ use offset_allocator::{Accesses, Tables};
 use offset_guarded::{GuardedOf, Refusal};
 use crate::memory::{AllocError, Global};
 
-/// Three keys of each number: the largest requests that its heap grants where it may add one and two blocks,
-/// or 0, and whether it has no heap.
+/// Four keys of each number: the largest requests that its heap grants where it may add one and two blocks,
+/// or 0, whether it has no heap, and whether its heap is empty.
 pub(crate) struct Index {
     pub(crate) one: Maxima,
     pub(crate) two: Maxima,
     pub(crate) spare: Maxima,
+    pub(crate) empty: Marks,
 }
 
 // Whether a serial is left for one more grant. A request that is larger than the space costs the least to
@@ -56,6 +59,14 @@ fn spare<T: Tables>(heap: Option<&GuardedOf<T>>, number: u32, limits: Limits) ->
     }
 }
 
+/// Whether there is a heap, and it has no live range.
+pub(crate) fn is_empty_heap<T: Tables>(heap: Option<&GuardedOf<T>>) -> bool {
+    match heap {
+        None => false,
+        Some(heap) => heap.allocator().is_empty(),
+    }
+}
+
 impl Index {
     /// Keys for `count` numbers, each 0.
     pub(crate) fn with_room(alloc: Global, count: u32) -> Result<Self, AllocError> {
@@ -64,6 +75,7 @@ impl Index {
             one: Maxima::with_height(alloc, height, places)?,
             two: Maxima::with_height(alloc, height, places)?,
             spare: Maxima::with_height(alloc, height, places)?,
+            empty: Marks::with_height(alloc, height, places)?,
         })
     }
 
@@ -80,6 +92,7 @@ impl Index {
         self.one.set(number, one, count);
         self.two.set(number, two, count);
         self.spare.set(number, spare(heap, number, limits), count);
+        self.empty.set(number, is_empty_heap(heap), count);
     }
 
     /// The first number whose heap has room for a request of these units at a multiple of `align`.

@@ -49,6 +49,7 @@ mod fresh;
 mod index;
 pub mod laws;
 mod limits;
+mod marks;
 mod maxima;
 mod place;
 mod refusal;

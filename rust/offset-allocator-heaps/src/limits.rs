@@ -12,6 +12,7 @@ pub struct Limits {
     /// How many heaps of the usual size there may be at a time: they have the numbers below this one.
     pub most: u32,
     /// How many larger heaps there may be at a time, each of the size of the request that it was made for:
-    /// they have the numbers from `most` on. Together there are at most 4294967295.
+    /// they have the numbers from `most` on. Together there are at most 4294967295. The node limit of a larger
+    /// heap is 4, whatever `max_allocs` is: at most two ranges are live in it.
     pub most_larger: u32,
 }

@@ -1,7 +1,7 @@
 // Printed by rust/erase from crates/offset_heaps/src/maxima.rt: change it there.
 
-//! A row of numbers, of which the first that is large enough is found in few steps: a tree of maxima. It
-//! touches its own cells alone, and counts each access.
+//! A row of numbers, of which the first and the last that is large enough are found in few steps: a tree of
+//! maxima. It touches its own cells alone, and counts each access.
 
 use offset_allocator::Accesses;
 use crate::memory::Vec;
@@ -21,12 +21,14 @@ fn read(cells: &Vec<u32>, place: usize, count: &mut Accesses) -> u32 {
     cells[place]
 }
 
-// The larger one of the two numbers below a cell.
+// The larger one of a cell's number, which is given, and that of the other cell below the same one.
 #[inline(always)]
-fn larger_below(cells: &Vec<u32>, place: usize, count: &mut Accesses) -> u32 {
-    let left = read(cells, 2 * place, count);
-    let right = read(cells, 2 * place + 1, count);
-    left.max(right)
+fn larger_of_two(cells: &Vec<u32>, place: usize, key: u32, count: &mut Accesses) -> u32 {
+    if place % 2 == 0 {
+        key.max(read(cells, place + 1, count))
+    } else {
+        key.max(read(cells, place - 1, count))
+    }
 }
 
 // Writes a cell.
@@ -72,20 +74,38 @@ impl Maxima {
         Some((place - self.cells.len() / 2) as u32)
     }
 
-    /// Writes the number at a place.
-    pub(crate) fn set(&mut self, at: u32, key: u32, count: &mut Accesses) {
+    /// The last place whose number is at least `least`, or `None` where there is none.
+    pub(crate) fn last_at_least(&self, least: u64, count: &mut Accesses) -> Option<u32> {
+        let mut last = 1;
+        if (read(&self.cells, last, count) as u64) < least {
+            return None;
+        }
+        for _level in 0..self.height {
+            last = 2 * last + 1;
+            if (read(&self.cells, last, count) as u64) < least {
+                last -= 1;
+            }
+        }
+        Some((last - self.cells.len() / 2) as u32)
+    }
+
+    /// Writes the number at a place, and returns the one that was there.
+    pub(crate) fn set(&mut self, at: u32, key: u32, count: &mut Accesses) -> u32 {
         let mut place = self.cells.len() / 2 + at as usize;
-        if read(&self.cells, place, count) == key {
-            return;
+        let was = read(&self.cells, place, count);
+        if was == key {
+            return was;
         }
         write(&mut self.cells, place, key, count);
+        let mut larger = key;
         for _level in 0..self.height {
+            larger = larger_of_two(&self.cells, place, larger, count);
             place /= 2;
-            let larger = larger_below(&self.cells, place, count);
             if read(&self.cells, place, count) == larger {
-                return;
+                return was;
             }
             write(&mut self.cells, place, larger, count);
         }
+        was
     }
 }

@@ -3,7 +3,7 @@
 //! The heaps by their numbers: no other module reads or writes them. Each function counts the slots that it
 //! touches.
 
-use crate::index::rooms;
+use crate::index::{is_empty_heap, rooms};
 use offset_allocator::{Accesses, Tables};
 use offset_guarded::{GuardedOf, Ticket};
 use crate::memory::Vec;
@@ -58,11 +58,6 @@ fn reset_in<T: Tables>(slot: &mut Option<GuardedOf<T>>) {
         Some(heap) => heap.reset(),
         None => {}
     }
-}
-
-// The empty heaps that were seen, how many and the last, with one more heap.
-fn with_number(seen: (u32, u32), number: u32, empty: bool) -> (u32, u32) {
-    if empty { (seen.0 + 1, number) } else { seen }
 }
 
 // The emptiest heap so far, and its live units, with those of one more heap.
@@ -142,20 +137,7 @@ impl<T: Tables> Slots<T> {
 
     /// Whether the heap of a number has no live range.
     pub(crate) fn is_empty_at(&self, number: u32, count: &mut Accesses) -> bool {
-        match self.at(number, count) {
-            None => false,
-            Some(heap) => heap.allocator().is_empty(),
-        }
-    }
-
-    /// The empty heaps of the first `numbers` numbers: how many, and the last of them.
-    pub(crate) fn last_empty(&self, numbers: u32, count: &mut Accesses) -> (u32, u32) {
-        let mut seen = (0, 0);
-        for number in 0..numbers {
-            let empty = self.is_empty_at(number, count);
-            seen = with_number(seen, number, empty);
-        }
-        seen
+        is_empty_heap(self.at(number, count))
     }
 
     /// The units of the range of a ticket in the heap of a number, or 0, and the units that are live there.

@@ -31,7 +31,8 @@ pub enum StateFaultKind {
     Form,
     /// The limits are none that `new` takes, or more than the caller admits.
     Limits,
-    /// The number of heaps that were made, or the realm, has more than 32 bits.
+    /// The number of heaps that were made, or the realm, has more than 32 bits. A heap's own counts are in
+    /// `Heap`: also that more than `max_allocs - 2` of its ranges are live.
     Counts,
     /// The checksum is not that of the numbers of many heaps.
     Checksum,

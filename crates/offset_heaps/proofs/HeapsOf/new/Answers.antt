@@ -5,7 +5,7 @@ use Rattle.offset_heaps.proofs.HeapsOf.new.Goals as goal
 pub loop-number-init : goal.loop-number-init
 loop-number-init g c =
     let begun = started c.args.limits (c.args.limits.most + c.args.limits.most_larger) (2 ^ c.in_ok-index.index.one.height) c.in_ok-slots.slots c.in_ok-index.index c.in_ok-slots.ensures refl
-    c.in_ok-index.ensures.room c.in_ok-index.ensures.one c.in_ok-index.ensures.two c.in_ok-index.ensures.spare in
+    c.in_ok-index.ensures.room c.in_ok-index.ensures.one c.in_ok-index.ensures.two c.in_ok-index.ensures.spare c.in_ok-index.ensures.empty in
     record {
       wide = begun.0;
       noted = λ k within. elim within [ inl l ↦ absurd (omega arith) | inr past ↦ begun.1 k past ];
