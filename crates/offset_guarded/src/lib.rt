@@ -37,9 +37,9 @@ mod serials;
 mod state;
 mod ticket;
 
+pub use offset_allocator::ReadError;
 use offset_allocator::laws::is_well_formed;
 use offset_allocator::{Allocation, AllocatorOf, ByNode, NodeIndex, Tables};
-pub use offset_allocator::ReadError;
 pub use refusal::Refusal;
 use serials::Serials;
 pub use state::{StateFault, StateFaultKind};

@@ -47,9 +47,9 @@ mod totals;
 
 use index::Index;
 pub use limits::Limits;
+pub use offset_allocator::ReadError;
 use offset_allocator::{Accesses, ByNode, Tables};
 use offset_guarded::GuardedOf;
-pub use offset_allocator::ReadError;
 pub use place::{Granted, Place};
 pub use refusal::Refusal;
 use slots::Slots;

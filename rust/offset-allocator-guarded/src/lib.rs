@@ -43,8 +43,8 @@ mod serials;
 mod state;
 mod ticket;
 
-use offset_allocator::{Allocation, AllocatorOf, ByNode, NodeIndex, Tables};
 pub use offset_allocator::ReadError;
+use offset_allocator::{Allocation, AllocatorOf, ByNode, NodeIndex, Tables};
 pub use refusal::Refusal;
 use serials::Serials;
 pub use state::{StateFault, StateFaultKind};
