@@ -89,7 +89,7 @@ fn bench() {
     const TURNS: u32 = 5;
     let beside = original();
     if beside.is_none() {
-        println!("ours alone: OFFSET_ALLOCATOR_SOURCE names no sources of the original");
+        println!("ours alone: OFFSET_ALLOCATOR_SOURCE is not set, or what it names was not built");
     }
     println!("{:26}{:>8}{}", "nanoseconds a step", "ours", if beside.is_some() { "  original   ours/original" } else { "" });
     for name in names() {

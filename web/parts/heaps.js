@@ -18,15 +18,17 @@ async function surveyed(file, bytes, work) {
   const all = file.parts.reduce((sum, of) => sum + of.lines.length, 0), last = file.lines + 1;
   for (const of of file.parts) {
     if (of.before) carryNames(of);
-    const run = of.run(m), curve = new Float32Array(STEPS).fill(-1), to = (of.to ?? last), step = line => Math.min(STEPS - 1, Math.floor(line / last * STEPS));
+    const run = of.run(m), curve = new Float32Array(STEPS).fill(-1), step = line => Math.min(STEPS - 1, Math.floor(line / last * STEPS));
     run.start(of.lines.length); run.left = 0;
-    let before = 0;
+    let before = 0, to = of.to ?? last;
     while (run.count < of.lines.length) {
       // it stops behind a call that may slide ranges
       done -= run.count; run.step(Math.min(512, of.lines.length - run.count)); done += run.count;
       await work.turn(done, all);
     }
     for (const { p, line, next } of of.drops) if (next !== null && run.begunAt(p) === run.endedAt(p)) throw new Fault(`line ${next}: bad command`, next, ...spanOf(bytes, next));
+    // a drop is refused where something is live
+    if (of.end === 'dropped' && run.begunAt(of.drops.at(-1).p) !== run.endedAt(of.drops.at(-1).p)) { of.end = ''; of.to = null; to = last; }
     if (of.end === 'replaced') {
       // a range is the last life of its grant
       of.named = new Map();

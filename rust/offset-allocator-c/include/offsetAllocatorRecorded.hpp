@@ -137,12 +137,12 @@ public:
     template <class... Of> void write(const char *format, Of... of) {
         if (failed) return;
         prefix();
-        failed = std::fprintf(out, format, static_cast<unsigned>(of)...) < 0 || std::fflush(out) != 0;
+        failed = failed || std::fprintf(out, format, static_cast<unsigned>(of)...) < 0 || std::fflush(out) != 0;
     }
     void write(const char *line) {
         if (failed) return;
         prefix();
-        failed = std::fputs(line, out) == EOF || std::fflush(out) != 0;
+        failed = failed || std::fputs(line, out) == EOF || std::fflush(out) != 0;
     }
     // A name; that of one heap of many is held until its request comes.
     void comment(const char *text) {
@@ -150,7 +150,7 @@ public:
         named = true;
         if (heap == NO_HEAP) {
             put("# ", text);
-            failed = std::fflush(out) != 0;
+            failed = failed || std::fflush(out) != 0;
             return;
         }
         std::free(held);
@@ -164,7 +164,7 @@ public:
         if (!named || failed) return;
         putHeld();
         named = false;
-        failed = std::fputs("\n", out) == EOF || std::fflush(out) != 0;
+        failed = failed || std::fputs("\n", out) == EOF || std::fflush(out) != 0;
     }
     // A mark: a name before it stays that of the next request.
     void mark(const char *text) {
@@ -458,7 +458,7 @@ private:
     }
 };
 
-// Heaps, whose calls are written to a file as they happen. The line of a call is written after the call, as its heap is known
+// Heaps, whose calls are written to a file as they happen. The line of a call, but of free, is written after it, as its heap is known
 // only then.
 class RecordedHeaps {
 public:

@@ -433,9 +433,10 @@ typedef struct oa_scaled {
 
 /* The fewest units that hold so many bytes; the bytes of units; the address at which the unit of an offset begins; the offset
  * of the unit that has the byte at an address; and the alignment in units of the offsets whose addresses are multiples of so
- * many bytes: exactly these are multiples of it. None fits where the number would have more than 32 bits, or 64 of bytes and
- * addresses; where the address is before the base; of an alignment where it is 0, where the base is no multiple of it, and
- * where neither of it and the unit is a multiple of the other; with a unit of 0 only bytes and addresses do. Nothing is read. */
+ * many bytes: exactly these are multiples of it. `fits` is false where the number would have more than 32 bits (of bytes and
+ * addresses 64); where the address is before the base; of an alignment where it is 0, where the base is no multiple of it, and
+ * where neither of it and the unit is a multiple of the other; and with a unit of 0, but of bytes and addresses. No space is
+ * touched. */
 oa_scaled oa_scale_units(oa_scale scale, uint64_t bytes);
 oa_scaled oa_scale_bytes(oa_scale scale, uint32_t units);
 oa_scaled oa_scale_address(oa_scale scale, uint32_t offset);

@@ -193,6 +193,15 @@ impl Held {
         })
     }
 
+    /// Whether something is live.
+    fn has_live(&self) -> bool {
+        match self {
+            Held::None => false,
+            Held::Narrow(following) => following.grants.iter().any(Option::is_some),
+            Held::Wide(following) => following.grants.iter().any(Option::is_some),
+        }
+    }
+
     fn end(self, calls: usize) -> Option<Course> {
         match self {
             Held::None => None,
@@ -274,6 +283,8 @@ fn follow(from: impl BufRead, heap: Option<u32>) -> Result<Named, RunFault> {
                     names.insert(held.grants(), name);
                 }
             }
+            // a drop is refused where something is live
+            HeapLine::Drop if held.has_live() => (),
             HeapLine::Drop | HeapLine::GiveUp => {
                 held.clear(calls);
                 is_gone = true;
@@ -317,7 +328,10 @@ fn escaped(text: &str) -> std::string::String {
 fn with_names(picture: &str, names: &BTreeMap<u64, std::string::String>) -> std::string::String {
     const TITLE: &str = "<title>grant ";
     let mut out = std::string::String::with_capacity(picture.len() + 40 * names.len());
-    let mut rest = picture;
+    // the picture's own title is none of a range
+    let start = picture.find("</title>").map_or(0, |at| at + "</title>".len());
+    out.push_str(&picture[..start]);
+    let mut rest = &picture[start..];
     while let Some(at) = rest.find(TITLE) {
         let (before, after) = rest.split_at(at + TITLE.len());
         out.push_str(before);

@@ -122,8 +122,8 @@ impl<W: Write> Write for Part<W> {
     }
 }
 
-/// `HeapsOf`, whose calls are written to `out` as they happen: as `Recorded` is, but the line of a call is written after the
-/// call, as its heap is known only then.
+/// `HeapsOf`, whose calls are written to `out` as they happen: as `Recorded` is, but the line of a call, other than `free`, is
+/// written after the call, as the heap of a request is known only then.
 ///
 /// ```
 /// # use offset_allocator_recorded::*;

@@ -125,7 +125,7 @@ fn states_and_copies() {
     let held: Vec<_> = [10, 5, 5, 5, 5].iter().map(|size| space.allocate(*size).unwrap()).collect();
     assert!(space.free(held[3]) && space.free(held[1]));
     let bytes = space.write_state(Global).unwrap();
-    let restored = GuardedOf::<ByNode<u32>>::read_state(Global, &bytes, 16).unwrap().unwrap();
+    let restored = GuardedOf::<ByNode<u32>>::read_state(Global, &bytes, 16).unwrap();
     let copied = space.try_clone(Global).unwrap();
     for space in [restored, copied] {
         let mut text = Vec::new();
@@ -152,7 +152,7 @@ fn as_many_blocks_as_may_be() {
     let first = space.allocate_at(0, 10).unwrap();
     assert!(space.allocate_at(10, 10).is_some());
     space.free(first);
-    let mut space = Allocator::<u32>::read_state(Global, &space.write_state(Global).unwrap(), 4).unwrap().unwrap();
+    let mut space = Allocator::<u32>::read_state(Global, &space.write_state(Global).unwrap(), 4).unwrap();
     assert_eq!(space.block_count(), 3);
     assert_eq!(space.allocate(1), None);
     let mut text = Vec::new();

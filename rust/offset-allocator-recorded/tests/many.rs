@@ -159,7 +159,7 @@ fn random_heaps<T: Tables>(seed: u64) -> (usize, usize) {
                 _ => places.extend(heaps.allocate_aligned(1 + random.below(limits.size / 4), 1 + random.below(9)).map(|it| it.place).ok()),
             }
         }
-        heaps = HeapsOf::<T>::read_state(Global, &heaps.write_state(Global).unwrap(), 99, 99).unwrap().unwrap();
+        heaps = HeapsOf::<T>::read_state(Global, &heaps.write_state(Global).unwrap(), 99, 99).unwrap();
     }
     let mut text = Vec::new();
     let mut expected: Vec<String> = Vec::new();
@@ -264,6 +264,17 @@ fn faults() {
     // each space by itself is refused: their memory is not held together
     let large = "space 9 nodes 4294967293 index 32\n";
     assert_eq!(fault(&large.repeat(2)), "out of memory");
+}
+
+#[test]
+fn a_refused_drop_ends_no_life() {
+    let text = "heap 3 space 100 nodes 16 index 32\nheap 3 alloc 10\nheap 3 drop\nheap 3 alloc 5\nheap 3 free 1\nheap 3 free 2\nheap 3 drop\n";
+    let drawn = draw_heap("grant 1", text.as_bytes(), None).unwrap();
+    assert!(drawn.contains("<title>grant 1, offset 0, size 10, calls 1-3</title>"), "{drawn}");
+    assert!(drawn.contains("<title>grant 2, offset 10, size 5, calls 2-4</title>"), "{drawn}");
+    // the picture's own title gets no name
+    let named = draw_heap("grant 1", "space 9 nodes 9 index 32\n# a\nalloc 1\n".as_bytes(), None).unwrap();
+    assert!(named.contains("<title>grant 1</title>") && named.contains("<title>grant 1 “a”, "), "{named}");
 }
 
 #[test]
