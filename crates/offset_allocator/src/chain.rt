@@ -32,6 +32,18 @@ pub(crate) fn start<T: Tables>(tables: &mut T, size: u32, max_allocs: u32, count
     tables.set_block(0, 0, size, no_link(), no_link(), count);
 }
 
+/// The node that a link names, if any.
+#[inline(always)]
+pub(crate) fn named<T: Tables>(tables: &T, link: T::Index) -> Option<u32>
+    requires { IfSome (link_of T.Index.MAX (T.Index.number link))
+        (λ name. name < length (T.cells tables.now).chain.nodes) }
+    ensures { result ≡ link_of T.Index.MAX (T.Index.number link) }
+{
+    tables.shape();
+    let name = number(link);
+    if tables.has(name) { Some(name) } else { None }
+}
+
 /// Whether a block is used.
 pub(crate) fn is_used<T: Tables>(tables: &T, name: u32, count: &mut Accesses) -> bool
     requires { name < length (T.cells tables.now).chain.nodes }
@@ -49,7 +61,7 @@ pub(crate) fn is_live<T: Tables>(tables: &T, name: u32, count: &mut Accesses) ->
         ≡ is_used_at (place_of name (blocks (T.cells tables.now).chain last)) }
     ensures accesses { count.new ≡ count.old + 1 }
 {
-    if name < tables.len() {
+    if tables.has(name) {
         is_used(tables, name, count)
     } else {
         count.tick();
@@ -97,7 +109,7 @@ pub(crate) fn point_back<T: Tables>(
     ensures last { MatchOption (link_of T.Index.MAX (T.Index.number link))
         (last.new ≡ name) (λ _. last.new ≡ last.old) }
 {
-    match linked(link) {
+    match named(tables, link) {
         Some(after) => {
             let back = tables.link_to(name);
             tables.set_before(after, back, count)
@@ -120,7 +132,7 @@ pub(crate) fn point_on<T: Tables>(tables: &mut T, link: T::Index, name: u32, cou
     ensures bins { (T.cells tables.new).bins ≡ (T.cells tables.old).bins }
     ensures accesses { Costs 0 1 count.old count.new }
 {
-    if let Some(before) = linked(link) {
+    if let Some(before) = named(tables, link) {
         let on = tables.link_to(name);
         tables.set_after(before, on, count);
     }

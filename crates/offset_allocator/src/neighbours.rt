@@ -26,7 +26,8 @@ fn free_before<T: Tables>(tables: &T, name: u32, count: &mut Accesses) -> Option
     ensures free { IsFreeBefore (T.cells tables.now).chain name result }
     ensures accesses { Costs 1 2 count.old count.new }
 {
-    if let Some(previous) = chain::before(tables, name, count) {
+    let link = tables.before(name, count);
+    if let Some(previous) = chain::named(tables, link) {
         if !chain::is_used(tables, previous, count) {
             return Some(previous);
         }
@@ -42,7 +43,8 @@ pub(crate) fn free_after<T: Tables>(tables: &T, name: u32, count: &mut Accesses)
     ensures free { IsFreeAfter (T.cells tables.now).chain name result }
     ensures accesses { Costs 1 2 count.old count.new }
 {
-    if let Some(following) = chain::after(tables, name, count) {
+    let link = tables.after(name, count);
+    if let Some(following) = chain::named(tables, link) {
         if !chain::is_used(tables, following, count) {
             return Some(following);
         }

@@ -3,7 +3,7 @@
 //! neither counts.
 
 ghost use Rattle.std.specs.Prelude.{◌≡◌, ◌≢◌, ◌+◌, ◌-◌, ◌<◌, ◌≤◌, false, Some, [], ◌∷◌, ◌++◌, length};
-ghost use Rattle.std.specs.Prelude.{slice_set, slice_index, IfOk};
+ghost use Rattle.std.specs.Prelude.{slice_set, slice_index, IfOk, IsTrue};
 ghost use Rattle.offset_allocator.specs.Cells.{Cells, AreEmpty, AreShaped, IsBare, link_of, mark_of, node};
 ghost use Rattle.offset_allocator.specs.Cells.{put, with_node, with_spare};
 
@@ -41,6 +41,12 @@ pub trait Tables: Drop {
     /// The number of nodes that were made.
     fn len(&self) -> u32
         ensures { result ≡ length (cells self.now).chain.nodes };
+
+    /// Whether a number is the name of a node that was made. Where it is not, as with the largest number,
+    /// it is no place in the tables either: so one test is both.
+    fn has(&self, name: u32) -> bool
+        ensures made { IsTrue result → name < length (cells self.now).chain.nodes }
+        ensures past { result ≡ false → length (cells self.now).chain.nodes ≤ name };
 
     /// Makes one more node, which is blank. Its name is a new last entry of the stack of unused names, and
     /// becomes the one at a place of it.

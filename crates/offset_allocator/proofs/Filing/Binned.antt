@@ -76,6 +76,11 @@ module _ {none : ℕ} {t : BinCells} {ls : List (List ℕ)} (k : HasBins none t 
     none_left [] b d e = refl
     none_left (x ∷ xs) b d e = absurd (omega (arith, d.0, k.names_small))
 
+    -- as far as the first name, where it is that of no node
+    pub past_none : (xs : List ℕ) (b : ℕ) → IsLinked none t b xs → length t.newer ≤ first_of none xs → xs ≡ []
+    past_none [] b d l = refl
+    past_none (x ∷ xs) b d l = absurd (omega (arith, d.0, l))
+
     pub is_first : (x : ℕ) → IsAmong x (bin_at ls c) → slice_index t.newer x ≡ none → (bin_at ls c ≢ []) × (slice_index t.heads c ≡ x)
     is_first x a e = elim (found none t k.names_small none x (bin_at ls c) (k.links c ch) a) [
       | inl f ↦ (λ n. let q = ap (times x) n in omega arith, k.heads c ch ∙ ap (first_of none) f.1)
@@ -100,6 +105,10 @@ module _ {none : ℕ} {t : BinCells} {ls : List (List ℕ)} (k : HasBins none t 
         let f = is_later x a n in
         let w : ℕ = slice_index t.newer x in
         below w (omega (arith, ap (times w) f.is, times-join w f.front (w ∷ x ∷ f.rest), one-same w))
+
+    -- a link to a newer name that is that of no node is none
+    pub newer_past : (x : ℕ) → IsAmong x (bin_at ls c) → length t.newer ≤ slice_index t.newer x → slice_index t.newer x ≡ none
+    newer_past x a l = elim (cases_eq (slice_index t.newer x) none) [ inl e ↦ e | inr n ↦ absurd (omega (arith, newer_in x a n, l)) ]
 
     pub later_masked : (x : ℕ) {masks : List ℕ} {top : ℕ} → IsAmong x (bin_at ls c) → slice_index t.newer x ≢ none → AreMasks ls masks top
         → AreMasks (slice_set ls c (without x (bin_at ls c))) masks top

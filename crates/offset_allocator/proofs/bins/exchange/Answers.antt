@@ -1,4 +1,4 @@
-use Rattle.offset_allocator.proofs.{Common.◌≡◌, Common.◌∙◌, Common.sym, Common.arith, Common.refl, Common.length-set, Common.down, Filing.Binned.below, Filing.Binned.older_in, Filing.Binned.is_first}
+use Rattle.offset_allocator.proofs.{Common.◌≡◌, Common.◌∙◌, Common.sym, Common.arith, Common.refl, Common.length-set, Common.down, Filing.Binned.below, Filing.Binned.older_in, Filing.Binned.newer_past, Filing.Binned.is_first}
 use Rattle.offset_allocator.proofs.{Filing.Binned.exchanged}
 use Rattle.offset_allocator.proofs.{Filing.Binned.exchange_masked, Filing.Binned.changed, Classes.down_small, Views.ViewBins.unlisted_removed, Filing.Uses.after_idle, Filing.Uses.no_mark}
 use Rattle.offset_allocator.proofs.bins.exchange.Goals as goal
@@ -32,8 +32,8 @@ pub returns-then-class-uint_to_float_round_down : goal.returns-then-class-uint_t
 returns-then-class-uint_to_float_round_down g c =
     let k = c.requires.binned.linked in
     let same : c.args.class ≡ down c.args.size = c.if-class-uint_to_float_round_down.true ∙ c.uint_to_float_round_down.ensures.is in
-    let z : g.T.Index.NodeIndex.number c.newer-newer.result ≡ g.T.Index.NodeIndex.MAX = omega arith in
-    let f = is_first k _ (down_small c.args.size) _ c.requires.listed (sym c.newer-newer.ensures.cell ∙ z) in
+    let z = newer_past k _ (down_small c.args.size) _ c.requires.listed (omega (arith, c.newer-newer.ensures.cell, c.shape.ensures.newer, c.if-not-has.ensures.past refl)) in
+    let f = is_first k _ (down_small c.args.size) _ c.requires.listed z in
     let e = rw (c.set_links.ensures.cells, c.set_head.ensures.cells) at c.link_newer.ensures.cells in
     let next = rw (← f.1) at (c.older-older.ensures.cell) in
     rw same (changed (rw f.1 at (exchanged k _ (down_small c.args.size) (g.T.Tables.cells c.link_newer.new.tables).bins c.args.name _

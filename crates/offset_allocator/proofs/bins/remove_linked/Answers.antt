@@ -1,5 +1,5 @@
 use Rattle.offset_allocator.proofs.{Common.◌≡◌, Common.◌≢◌, Common.◌∙◌, Common.arith, Common.refl, Common.slice_index, Classes.down_small, Filing.Uses.after_idle, Filing.Uses.no_mark}
-use Rattle.offset_allocator.proofs.Filing.Binned.{below, newer_in, older_in, is_first, is_later, later_masked, left, changed}
+use Rattle.offset_allocator.proofs.Filing.Binned.{below, newer_in, newer_past, older_in, is_first, is_later, later_masked, left, changed}
 use Rattle.offset_allocator.proofs.bins.remove_linked.Goals as goal
 
 pub older-older-requires : goal.older-older-requires
@@ -14,12 +14,12 @@ remove_newest-requires-clause-some g c = grind (arith, is_first, down_small)
 
 pub remove_newest-requires-clause-older : goal.remove_newest-requires-clause-older
 remove_newest-requires-clause-older g c =
-    let z : slice_index (g.T.Tables.cells c.args.store.now.tables).bins.newer c.args.name ≡ g.T.Index.NodeIndex.MAX = omega (arith, c.requires.newer) in
+    let z = newer_past c.requires.binned.linked _ (down_small c.args.size) _ c.requires.listed (omega (arith, c.requires.newer, c.shape.ensures.newer, c.if-not-has.ensures.past refl)) in
     rw (c.uint_to_float_round_down.ensures.is, (is_first c.requires.binned.linked _ (down_small c.args.size) _ c.requires.listed z).1) c.older-older.ensures.cell
 
-pub returns-then-number-MAX-clause-lists : goal.returns-then-number-MAX-clause-lists
-returns-then-number-MAX-clause-lists g c =
-    let z : slice_index (g.T.Tables.cells c.args.store.now.tables).bins.newer c.args.name ≡ g.T.Index.NodeIndex.MAX = omega (arith, c.requires.newer) in
+pub returns-then-not-has-clause-lists : goal.returns-then-not-has-clause-lists
+returns-then-not-has-clause-lists g c =
+    let z = newer_past c.requires.binned.linked _ (down_small c.args.size) _ c.requires.listed (omega (arith, c.requires.newer, c.shape.ensures.newer, c.if-not-has.ensures.past refl)) in
     rw (c.remove_newest.ensures.lists, c.uint_to_float_round_down.ensures.is, (is_first c.requires.binned.linked _ (down_small c.args.size) _ c.requires.listed z).1) refl
 
 -- a later name
@@ -37,15 +37,15 @@ link_newer-requires-clause-link g c =
 
 pub set_older-requires : goal.set_older-requires
 set_older-requires g c =
-    let l = newer_in c.requires.binned.linked _ (down_small c.args.size) _ c.requires.listed (λ e. absurd (omega (arith, c.requires.newer))) in
-    rw c.link_newer.ensures.cells (omega (arith, l, c.requires.newer, c.requires.binned.linked.older_len))
+    rw c.link_newer.ensures.cells (omega (arith, c.if-not-has.ensures.made refl, c.shape.ensures.newer, c.requires.binned.linked.older_len))
 
-pub returns-else-number-MAX : goal.returns-else-number-MAX
-returns-else-number-MAX g c =
+pub returns-else-not-has : goal.returns-else-not-has
+returns-else-not-has g c =
     let k = c.requires.binned.linked in
-    let n : slice_index (g.T.Tables.cells c.args.store.now.tables).bins.newer c.args.name ≢ g.T.Index.NodeIndex.MAX = λ e. absurd (omega (arith, c.requires.newer)) in
+    let n : slice_index (g.T.Tables.cells c.args.store.now.tables).bins.newer c.args.name ≢ g.T.Index.NodeIndex.MAX =
+    λ e. absurd (omega (arith, e, c.requires.newer, c.shape.ensures, c.if-not-has.ensures.made refl)) in
     let e = rw c.link_newer.ensures.cells at c.set_older.ensures.cells in
     changed (left k _ (down_small c.args.size) (g.T.Tables.cells c.set_older.new.self).bins _ _ _ (is_later k _ (down_small c.args.size) _ c.requires.listed n)
     c.requires.newer c.older-older.ensures.cell
-    (rw e) (rw (e, c.number-else-number-MAX.ensures.number)) (rw e))
+    (rw e) (rw (e, c.number-else-not-has.ensures.number)) (rw e))
     (rw e (later_masked k _ (down_small c.args.size) _ c.requires.listed n c.requires.binned.masked)) (rw e, refl, refl) (omega arith, omega arith)
