@@ -177,4 +177,51 @@ def sizes_in_bytes(b):
     holds("550 units. Still" in b.run("return $('rangesum').textContent"), "without it all is in units")
 
 
-ALL = [ranges_are_looked_for, names_have_colours, curves_are_right, lives_can_be_zoomed, sizes_in_bytes]
+def exactly(v):
+    """A number of bytes in the largest unit of which it has whole sixteenths."""
+    names = ["B", "KiB", "MiB", "GiB", "TiB", "PiB"]
+    while v >= 1024 and v % 64 == 0 and len(names) > 1:
+        v, names = v / 1024, names[1:]
+    return f"{v:,.4f}".rstrip("0").rstrip(".") + " " + names[0]
+
+
+def places_and_classes_in_bytes(b):
+    """Offsets, size classes, hover texts and reasons, where a unit has 1,600 bytes: 100 units are 156.25 KiB."""
+    b.size(1100, 1250)
+    b.open()
+    give(b, FRAGMENTED, "fragmented.script")
+    b.run("$('unit').value = '1600'; return $('unit').onchange()")
+    texts = "return arguments[0].map(id => $(id).textContent)"
+    b.run("go(9)")
+    same(b.run(texts, ["now", "shown"]), ["Row 9: alloc 100: grant 9 at 800 (1,250 KiB), from the free block at 800 (1,250 KiB) of 200 units (313 KiB)",
+                                          "Shown: units 0 to 1,000 (1,562.5 KiB), all of the space; a line is 167 units (261 KiB)."], "the row, and the part of the space")
+    same([r[1] for r in b.run(ROWS, "#ranges")], [exactly(1600 * o) for o in range(0, 900, 100)], "the offsets of ranges, each exactly")
+    titles = "return [...document.querySelectorAll(arguments[0])].map(r => [...r.children].map(c => c.title))"
+    same(b.run(titles, "#ranges .row")[3][:3], ["", "offset 300", "100 units"], "with units as tooltips")
+    same(b.run("go(17); return [...document.querySelectorAll('#calls .row')].find(r => r.textContent.includes('align 100 256')).children[1].title"), "100 units (156 KiB), a multiple of 256 units (400 KiB)", "calls in bytes as tooltips")
+    b.run("go(9); document.activeElement.blur()")
+    b.keys("b", "b")
+    same(b.run("return $('block').textContent"), "Grant 2 at 100 (156.25 KiB): 100 units (156 KiB), class 36 (96 to 103 units, 150 KiB to 161 KiB), live since row 2.", "the chosen block")
+    b.run("go(14)")
+    same(b.run("return [...$('binrows').rows].map(r => [...r.cells].map(c => [c.textContent, c.title]))"),
+         [[["36", ""], ["150 KiB to 161 KiB", "96 to 103 units"], ["5", ""], ["781 KiB", "500 units"]]], "the size classes")
+    same(b.run("return $('binsum').textContent"), "5 free blocks of 1 class. Searched from class 50, 320 to 351 units (500 KiB to 548 KiB).", "where the search begins")
+    b.run("const r = $('bins').getBoundingClientRect(); $('bins').onpointermove({ clientX: r.left + 42.5 / 67 * r.width, clientY: r.top + 5 })")
+    same(b.run("return $('bin').textContent"), "Class 39: blocks of 120 to 127 units (188 KiB to 198 KiB); 0 free blocks.", "the class under the pointer")
+    helps = b.run("return [...$('helps').children].map(e => e.textContent)")
+    holds("move 3 ranges of 300 units (469 KiB), from 100 (156.25 KiB) to 600 (937.5 KiB) (outlined): grant 2 of 100 units (156 KiB)" in helps[3], "what is to move", helps)
+    give(b, "space 1000 nodes 16 index 32\nalloc 100\nalloc 100\ngrow 1 150\nat 150 100\nalign 900 64\n", "reasons.script")
+    b.run("$('unit').value = '1600'; return $('unit').onchange()")
+    facts = b.run("return [3, 4, 5].map(p => { go(p); return [...$('facts').children].map(e => e.textContent); })")
+    same([facts[0][0], facts[1], facts[2][1]],
+         ["grant 1 has 100 units (156 KiB), at 0", ["asked: 100 units (156 KiB) from 150 (234.375 KiB) on; the space has 1,000 units (1.53 MiB)", "in its way: grant 2 at 100 (156.25 KiB), 100 units (156 KiB)"],
+          "asked: 900 units (1.37 MiB) at a multiple of 64 (100 KiB), so a block for 963 (1.47 MiB); rounded up to class 64: 1,024 units (1.56 MiB)"], "reasons")
+    same(b.run("S.unit = 48; return [0, 1, 4, 1000, 4194304, 4294967295].map(place)"),
+         ["0", "1 (48 B)", "4 (192 B)", f"1,000 ({exactly(48000)})", f"4,194,304 ({exactly(48 << 22)})", f"4,294,967,295 ({exactly(48 * 4294967295)})"], "from bytes on")
+    b.run("$('unit').value = ''; return $('unit').onchange()")
+    said = b.run("const all = []; for (let p = 0; p <= S.run.count; p++) { go(p); all.push($('now').textContent, $('why').textContent, $('shown').textContent, $('binrows').textContent, $('block').textContent); } "
+                 "return all.concat([...document.querySelectorAll('#calls .row, #ranges .row')].map(r => r.textContent + [...r.children].map(c => c.title))).filter(t => /\\d [KMGT]?i?B\\b/.test(t))")
+    same(said, [], "without a size of a unit nothing is in bytes")
+
+
+ALL = [ranges_are_looked_for, names_have_colours, curves_are_right, lives_can_be_zoomed, sizes_in_bytes, places_and_classes_in_bytes]

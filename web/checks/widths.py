@@ -4,6 +4,7 @@ program: colours of points within blocks and lives."""
 import bisect
 import random
 
+from . import heaps
 from .base import TRACES, holds, program, same, to
 from .lists import live_at
 
@@ -133,13 +134,32 @@ def readme_s_picture(b):
     holds(right <= 390, "and none is cut", right)
 
 
+# What is looked at by eye: how each view comes about.
+NAMED = "space 65536 nodes 64 index 32\n#! unit 256\n" + "".join(f"# {kind}: number {i}\nalloc {units}\n#! frame\n" for i, (kind, units) in enumerate(
+    [("texture", 9000), ("mesh", 700), ("texture", 12000), ("sound", 3000), ("mesh", 500), ("texture", 16000), ("mesh", 900), ("sound", 4100)], 1)) + \
+    "free 1\nfree 3\n# mesh: again\nalloc 640\n#! mark level two\nfree 5\nfree 8\n# texture: that nothing has room for\nalloc 30000\nalloc 2000\n#! frame\n"
+VIEWS = {
+    "first": "",
+    "refused": "await take(new TextEncoder().encode(text), 'named.script'); refusal(1);",
+    "lives": "S.life = null; zoomLives(3000, 9000, 0, S.run.top);",
+    "heaps": "await take(new TextEncoder().encode(many), 'many.script'); $('nogrant').open = true; await openPart(2);",
+    "compare": "await take(new TextEncoder().encode(text), 'named.script'); refusal(1); await compare([65536, 16, 256, 1]);",
+    "leaks": "await take(new TextEncoder().encode(text), 'named.script'); await lookFor({ byName: true }); $('mfrom').value = 2; $('mto').value = 10; await betweenMarks();",
+    "try": "await take(new TextEncoder().encode(text), 'named.script'); refusal(1); $('helps').querySelector('button').click(); await new Promise(r => setTimeout(r, 300));",
+}
+
+
 def shots(b, folder):
     folder.mkdir(parents=True, exist_ok=True)
+    many = heaps.many(3)[0].replace("heap 0 space", "# device-local memory, of which the buffers of all levels are\nheap 0 space", 1)
     for scheme in ("light", "dark"):
-        for width in (320, 390, 800, 1920):
-            b.size(width, 900, 1, scheme)
-            b.open("#t=voxel-game&p=9000")
-            (folder / f"{scheme}-{width}.png").write_bytes(b.picture(whole=True))
+        for width in (360, 768, 1280, 3840):
+            for name, script in VIEWS.items():
+                b.size(width, 900, 1, scheme)
+                b.open("#t=voxel-game&p=9000" if name == "lives" else "")
+                b.run("const [text, many] = arguments; return (async () => { " + script + " })()", NAMED, many)
+                b.run("return new Promise(r => { const f = () => !S.run.picture?.isDone ? setTimeout(f, 20) : r(draw()); f(); })")
+                (folder / f"{name}-{scheme}-{width}.png").write_bytes(b.picture(whole=True))
 
 
 ALL = [drawings_are_right, nothing_is_cut, readme_s_picture]

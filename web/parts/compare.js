@@ -95,7 +95,7 @@ function showOther() {
   const { run: b, at, unit, rows, extra } = S.other, a = S.run, p = S.p, q = at[p];
   const va = a.view(p), vb = b.view(q), size = a.sizeAt(p), [from, to] = S.zoom || [0, size];
   const free = (run, n) => run.sizeAt(n) - run.usedAt(n), largest = (run, n) => n ? run.row(n - 1)[5] : 0;
-  const table = [['At this row', '', ''], ['Answer', p ? answered(a, p - 1) : '', q ? answered(b, q - 1) : ''],
+  const table = [['At this row', '', ''], ['Answer', p ? answeredInBytes(a, p - 1) : '', q ? (unit === 1 ? answeredInBytes : answered)(b, q - 1) : ''],
     ['Units in use', a.usedAt(p), b.usedAt(q) * unit],
     ['Units free', free(a, p), free(b, q) * unit], ['Largest request granted', largest(a, p), largest(b, q) * unit],
     ['Blocks', va.count + va.free.count, vb.count + vb.free.count], ['Over all', '', ''], ...S.other.whole];

@@ -135,7 +135,7 @@ for (const id of ['life', 'lifeA']) {
 $('bins').onpointermove = $('bins').onclick = event => {
   const c = binAt(event), n = c < 0 ? 0 : S.run.view(S.p).free.bins[c];
   $('bin').textContent = c < 0 ? '' : c >= BINS ? `Class ${c}: larger than any space.` :
-    `Class ${c}: blocks of ${sizesOf(c)} units; ${counted(n, 'free block')}.`; };
+    `Class ${c}: blocks of ${sizesOf(c)} units${S.unit ? ` (${bytesOf(c)})` : ''}; ${counted(n, 'free block')}.`; };
 // The keys, wherever the focus is, but in text: what each does.
 const KEYS = new Map([
   ['ArrowLeft', 'one row back', () => to(S.p - 1)], ['ArrowRight', 'one row on', () => to(S.p + 1)],

@@ -308,3 +308,8 @@ function answered(run, i) {
     `ranges ${r[1]} units ${r[3]} next ${r[2]}`, `ranges ${r[1]} units ${r[3]} end`, 'retracted', `offset ${r[2]}`,
     `range ${r[1]} at ${r[2]}`, REASONS[r[3]] || 'granted'][r[0]];
 }
+// Where the range is that an answer names, or ''.
+const PLACED = [ANSWER.grant, ANSWER.offset, ANSWER.beside, ANSWER.within];
+const whereOf = (run, i) => { const r = run.row(i); return PLACED.includes(r[0]) ? `at ${place(r[2])}` : ''; };
+// The answer, and where that is in bytes.
+const answeredInBytes = (run, i) => { const at = S.unit && whereOf(run, i); return answered(run, i) + (at ? at.slice(at.indexOf(' (')) : ''); };

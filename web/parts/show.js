@@ -34,7 +34,7 @@ function draw() {
       `Fragmentation ${(kept * 100).toFixed(1)}% (of the largest request, were all free units one block).`;
   }
   $('reports').textContent = reports;
-  $('shown').textContent = `Shown: units ${whole(Math.floor(from))} to ${whole(Math.floor(to))}` +
+  $('shown').textContent = `Shown: units ${place(Math.floor(from))} to ${place(Math.floor(to))}` +
     (S.zoom ? `, ${((to - from) / Math.max(1, size) * 100).toPrecision(2)}% of the space` : ', all of the space') +
     `; a line is ${units(Math.ceil((to - from) / ROWS))}.`;
   $('lives').textContent = `Up to ${sized(run.top)}, the highest end of a range, of ${units(run.sizes.at(-1)[1])}. ` +
@@ -45,8 +45,8 @@ function draw() {
   $('place').textContent = `of ${whole(run.count)}`;
   $('refusals').textContent = run.refusals.length ? `${counted(run.refusals.length, 'refusal')}` : 'no refusals';
   $('rback').disabled = !(run.refusals[0] < p); $('rnext').disabled = !(run.refusals.at(-1) > p);
-  tell('now', p ? `Row ${whole(p)}: ${said(...op)}: ${answered(run, p - 1)}` +
-    (taken ? `, from the free block at ${whole(taken.o)} of ${units(taken.n)}` : '') +
+  tell('now', p ? `Row ${whole(p)}: ${said(...op)}: ${answeredInBytes(run, p - 1)}` +
+    (taken ? `, from the free block at ${place(taken.o)} of ${units(taken.n)}` : '') +
     (run.callName(p - 1) ? ` “${run.callName(p - 1)}”` : '') : 'Before the first row.');
   const t1 = performance.now();
   // while the run plays, the lists follow a few times a second
@@ -129,7 +129,7 @@ function describe(b) {
   if (b) $('goto').textContent = `Go to row ${whole(run.born.list[b.k] || 0)}`;
   if (b && b.k) $('goto').onclick = () => { pointer = null; S.grant = b.k; jump(run.born.list[b.k]); };
   tell('block', !b ? (S.grant ? `${named(run, S.grant)} is not live here.` : 'Point at a block, or choose one by the keys b and B.') :
-    (b.k ? named(run, b.k).replace('g', 'G') : 'Free') + ` at ${whole(b.o)}: ${units(b.n)}, class ${classOf(b.n)} (${sizesOf(classOf(b.n))})` +
+    (b.k ? named(run, b.k).replace('g', 'G') : 'Free') + ` at ${place(b.o)}: ${units(b.n)}, class ${classOf(b.n)} (${sizesOf(classOf(b.n))}${S.unit ? ` units, ${bytesOf(classOf(b.n))}` : ''})` +
     (b.k ? `, live since row ${whole(run.born.list[b.k])}.` : '.'));
 }
 function chooseBlock(step) {
