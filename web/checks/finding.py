@@ -170,6 +170,7 @@ def sizes_in_bytes(b):
     b.click("#sorts [data-by=grant]")
     same([r[2] for r in b.run(ROWS, "#ranges")], ["1.56 KiB", "4.69 KiB", "2.34 KiB"], "the sizes of ranges")
     same(b.run("S.unit = 65536; return [0, 1, 10, 16, 1000, 65536, 16777216].map(n => inBytes(n))"), ["0 B", "64.0 KiB", "640 KiB", "1.00 MiB", "62.5 MiB", "4.00 GiB", "1.00 TiB"], "B to TiB")
+    same(b.run("S.unit = 1; return [1023, 1048575, 1023 * 1024 + 511, 1023 * 1024 + 512].map(n => inBytes(n))"), ["1,023 B", "1.00 MiB", "1,023 KiB", "1.00 MiB"], "what is rounded to 1,024 is one of the next")
     b.run("S.unit = 16; return link()")
     b.open(b.run("return location.hash"))
     holds("(8.59 KiB)" in b.run("return $('rangesum').textContent"), "a link keeps the size of a unit")

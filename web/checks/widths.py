@@ -149,6 +149,45 @@ VIEWS = {
 }
 
 
+def what_helps_reads_as_a_list(b):
+    """Each help's bullet is beside its first line; what a row of a list has no room for ends in dots, the reason before the name."""
+    for width in (360, 768, 1280, 3840):
+        b.size(width, 900)
+        b.open()
+        b.run("return take(new TextEncoder().encode(arguments[0]), 'named.script')", NAMED)
+        b.run("refusal(1)")
+        off = b.run("""return [...document.querySelectorAll('#helps button')].map(e => { const probe = document.createElement('span'); probe.textContent = '\\u2060'; e.before(probe);
+          const off = Math.abs(probe.getBoundingClientRect().top - e.getBoundingClientRect().top); probe.remove(); return off; })""")
+        holds(len(off) > 3 and max(off) < 8, f"bullets are beside the first lines, at {width} pixels", off)
+        cut = b.run("""return [...document.querySelectorAll('#calls .row, #ranges .row')].flatMap(r => [...r.children].filter(e => (e.scrollWidth > e.clientWidth + 1 && getComputedStyle(e).textOverflow !== 'ellipsis') ||
+          e.getBoundingClientRect().right > r.getBoundingClientRect().right + 1).map(e => e.textContent))""")
+        same(cut, [], f"what a row has no room for ends in dots, at {width} pixels")
+        name, reason = b.run("return [...document.querySelectorAll('#calls .now .dim, #calls .now .bad:last-child')].map(e => e.clientWidth / e.scrollWidth)")
+        holds(name >= reason, "the reason gives way before the name", (name, reason))
+
+
+def fields_and_columns_are_in_line(b):
+    """From and to are on one line, heads are over their columns, and no number of a comparison is broken."""
+    b.size(360, 900)
+    b.open("#t=voxel-game&p=9000")
+    tops = b.run("return [['fmin', 'fmax'], ['ffrom', 'ffromhere'], ['fto', 'ftohere'], ['n', 'a'], ['o', 'k']].map(ids => { const [x, y] = ids.map(id => $(id).getBoundingClientRect()); return Math.abs(x.top + x.bottom - y.top - y.bottom) / 2; })")
+    holds(max(tops) < 8, "fields that belong together are on one line at 360 pixels", tops)
+    for width in (360, 768, 1280, 3840):
+        b.size(width, 900)
+        b.open()
+        b.run("return take(new TextEncoder().encode(arguments[0]), 'named.script')", NAMED)
+        b.run("refusal(1); return compare([65536, 16, 256, 1])")
+        broken = b.run("return [...document.querySelectorAll('#differences tr:not(.said) td')].filter(e => { const r = document.createRange(); r.selectNodeContents(e); return new Set([...r.getClientRects()].map(l => Math.round(l.top))).size > 1 && e.textContent !== answered(S.run, S.p - 1) && e.textContent !== answered(S.other.run, S.other.at[S.p] - 1); }).map(e => e.textContent)")
+        over = b.run("return [...document.querySelectorAll('.scroll')].filter(e => e.scrollWidth > e.clientWidth + 1).length")
+        same([broken, over], [[], 0], f"the table of a comparison at {width} pixels")
+        b.run("$('byname').value = '1'; return $('byname').onchange()")
+        left = b.run("const c = [document.querySelector('#groups thead th'), document.querySelector('#grouprows th')]; return c.map(e => { const r = document.createRange(); r.selectNodeContents(e); return r.getBoundingClientRect().left; })")
+        holds(abs(left[0] - left[1]) < 3, f"the head of names is over them at {width} pixels", left)
+    same(b.run("return $('calls').offsetHeight"), 232, "a list in a low window")
+    b.size(3840, 2000)
+    holds(b.run("return $('calls').clientHeight > 400 && $('life').clientHeight > 300"), "a large window has longer lists and larger pictures")
+
+
 def shots(b, folder):
     folder.mkdir(parents=True, exist_ok=True)
     many = heaps.many(3)[0].replace("heap 0 space", "# device-local memory, of which the buffers of all levels are\nheap 0 space", 1)
@@ -158,8 +197,10 @@ def shots(b, folder):
                 b.size(width, 900, 1, scheme)
                 b.open("#t=voxel-game&p=9000" if name == "lives" else "")
                 b.run("const [text, many] = arguments; return (async () => { " + script + " })()", NAMED, many)
-                b.run("return new Promise(r => { const f = () => !S.run.picture?.isDone ? setTimeout(f, 20) : r(draw()); f(); })")
-                (folder / f"{name}-{scheme}-{width}.png").write_bytes(b.picture(whole=True))
+                # what is drawn in turns is drawn again in another size
+                b.size(width, b.run("return document.documentElement.scrollHeight"), 1, scheme)
+                b.run("return new Promise(r => { const f = () => !S.run.picture?.isDone ? setTimeout(f, 50) : r(draw()); setTimeout(f, 200); })")
+                (folder / f"{name}-{scheme}-{width}.png").write_bytes(b.picture())
 
 
-ALL = [drawings_are_right, nothing_is_cut, readme_s_picture]
+ALL = [drawings_are_right, nothing_is_cut, readme_s_picture, what_helps_reads_as_a_list, fields_and_columns_are_in_line]

@@ -5,8 +5,10 @@ const counted = (n, one, more = one + 's') => `${whole(n)} ${n === 1 ? one : mor
 // A size in bytes, where it is known how many a unit has.
 const BYTES = ['B', 'KiB', 'MiB', 'GiB', 'TiB', 'PiB'];
 const inBytes = n => {
-  const v = n * S.unit, i = v < 1024 ? 0 : Math.min(5, Math.floor(Math.log2(v) / 10)), shown = v / 1024 ** i;
-  return `${i && shown < 100 ? shown.toFixed(shown < 10 ? 2 : 1) : whole(Math.round(shown))} ${BYTES[i]}`; };
+  let v = n * S.unit, i = 0;
+  // what is rounded to 1,024 is one of the next
+  while (i < 5 && Math.round(v) >= 1024) { v /= 1024; i++; }
+  return `${i && v < 100 ? v.toFixed(v < 10 ? 2 : 1) : whole(Math.round(v))} ${BYTES[i]}`; };
 const sized = n => S.unit ? inBytes(n) : whole(n);
 const units = n => counted(n, 'unit') + (S.unit ? ` (${inBytes(n)})` : '');
 // An offset in bytes, exactly: in the largest unit of which it has whole sixteenths.

@@ -95,9 +95,10 @@ function picked(source, old, others) {
   for (let i = 0; i < source.length; i++) { const s = source[i]; list[i] = s < 0 ? others[~s] : old[s]; }
   return list;
 }
+// `scale`: how many units of the run beside it one of its units is.
 class Run {
   constructor(head, calls, names, lines, m = new Module()) {
-    Object.assign(this, { head, names, lines, count: 0, at: 0, held: null, m, marks: [], kept: 0, edits: [], named: Infinity });
+    Object.assign(this, { head, names, lines, count: 0, at: 0, held: null, m, marks: [], kept: 0, edits: [], named: Infinity, scale: 1 });
     this.calls = new Growing(Uint32Array, 0);
     this.calls.list = calls; this.calls.length = calls.length;
     this.rows = new Growing(Uint32Array, 8 * this.all + 8);
