@@ -169,9 +169,16 @@ def what_helps_reads_as_a_list(b):
 def fields_and_columns_are_in_line(b):
     """From and to are on one line, heads are over their columns, and no number of a comparison is broken."""
     b.size(360, 900)
-    b.open("#t=voxel-game&p=9000")
-    tops = b.run("return [['fmin', 'fmax'], ['ffrom', 'ffromhere'], ['fto', 'ftohere'], ['n', 'a'], ['o', 'k']].map(ids => { const [x, y] = ids.map(id => $(id).getBoundingClientRect()); return Math.abs(x.top + x.bottom - y.top - y.bottom) / 2; })")
+    b.open()
+    b.run("return take(new TextEncoder().encode(arguments[0]), 'named.script')", NAMED)
+    tops = b.run("return [['fmin', 'fmax'], ['ffrom', 'ffromhere'], ['fto', 'ftohere'], ['mfrom', 'mfromis'], ['mto', 'mtois'], ['n', 'a'], ['o', 'k']].map(ids => { const [x, y] = ids.map(id => $(id).getBoundingClientRect()); return Math.abs(x.top + x.bottom - y.top - y.bottom) / 2; })")
     holds(max(tops) < 8, "fields that belong together are on one line at 360 pixels", tops)
+    b.open("#t=voxel-game&p=9000")
+    for id_ in ("xsize", "fmin", "n", "row"):
+        cut = b.run("const e = $(arguments[0]); e.value = 4294967295; return e.scrollWidth > e.clientWidth", id_)
+        same(cut, False, f"a number of ten digits is whole in {id_} at 360 pixels")
+    b.run("$('row').value = 9000")
+    same(b.run("return $('sizes').scrollHeight > $('sizes').clientHeight"), False, "the sizes of ranges of a game need no scroll bar")
     for width in (360, 768, 1280, 3840):
         b.size(width, 900)
         b.open()
