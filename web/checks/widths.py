@@ -171,7 +171,7 @@ def fields_and_columns_are_in_line(b):
     b.size(360, 900)
     b.open()
     b.run("return take(new TextEncoder().encode(arguments[0]), 'named.script')", NAMED)
-    tops = b.run("return [['fmin', 'fmax'], ['ffrom', 'ffromhere'], ['fto', 'ftohere'], ['mfrom', 'mfromis'], ['mto', 'mtois'], ['n', 'a'], ['o', 'k']].map(ids => { const [x, y] = ids.map(id => $(id).getBoundingClientRect()); return Math.abs(x.top + x.bottom - y.top - y.bottom) / 2; })")
+    tops = b.run("return [['fmin', 'fmax'], ['ffrom', 'ffromhere'], ['fto', 'ftohere'], ['mfrom', 'mfromis'], ['mto', 'mtois'], ['fnever', 'fclear'], ['n', 'a'], ['o', 'k']].map(ids => { const [x, y] = ids.map(id => $(id).getBoundingClientRect()); return Math.abs(x.top + x.bottom - y.top - y.bottom) / 2; })")
     holds(max(tops) < 8, "fields that belong together are on one line at 360 pixels", tops)
     b.open("#t=voxel-game&p=9000")
     for id_ in ("xsize", "fmin", "n", "row"):
@@ -204,8 +204,9 @@ def shots(b, folder):
                 b.size(width, 900, 1, scheme)
                 b.open("#t=voxel-game&p=9000" if name == "lives" else "")
                 b.run("const [text, many] = arguments; return (async () => { " + script + " })()", NAMED, many)
-                # what is drawn in turns is drawn again in another size
-                b.size(width, b.run("return document.documentElement.scrollHeight"), 1, scheme)
+                # a high window has longer lists; and what is drawn in turns is drawn again in another size
+                for _ in range(2):
+                    b.size(width, b.run("return document.documentElement.scrollHeight"), 1, scheme)
                 b.run("return new Promise(r => { const f = () => !S.run.picture?.isDone ? setTimeout(f, 50) : r(draw()); setTimeout(f, 200); })")
                 (folder / f"{name}-{scheme}-{width}.png").write_bytes(b.picture())
 
