@@ -1,6 +1,8 @@
 """What is looked for by name, units and rows; names by how they begin; what is never freed; curves and zoom of the lives; and sizes
 in bytes."""
 
+import re
+
 from .base import give, holds, recorded, row, same, to, until
 from .lists import ROWS
 from .pictures import DRAWN
@@ -160,6 +162,39 @@ def lives_can_be_zoomed(b):
     near(b.run(EVENT, "wheel", [0.5, 0.5], None, {"deltaY": 900, "shiftKey": True})[2:], [0, 4 * (life[3] - life[2])], "with Shift the wheel zooms the offsets, by four at most")
 
 
+def lives_tell_what_is_under_the_pointer(b):
+    b.size(1100, 1250)
+    b.open()
+    # 199 calls: grant 1 has 0 to 500 in rows 1 and 2, grant 2 500 to 510, grant 3 0 to 50 from row 51 to 150
+    give(b, "space 2000 nodes 16 index 32\nalloc 500\n# thin\nalloc 10\nfree 1\n" + "report\n" * 47 + "# low\nalloc 50\n" + "report\n" * 98 + "free 3\n" + "report\n" * 49, "under.script")
+    to(b, 60)
+    move = """const [kind, p, o] = arguments, r = $('life').getBoundingClientRect(), [p0, p1, o0, o1] = shownLives('life', S.run), text = $('under').textContent;
+      $('life').dispatchEvent(new PointerEvent(kind, { clientX: r.left + GUTTER + (p + 0.5 - p0) / (p1 - p0) * (r.width - GUTTER), clientY: r.top + (1 - (o + 0.5 - o0) / (o1 - o0)) * (r.height - 16), bubbles: true, pointerType: kind === 'click' ? 'touch' : 'mouse' }));
+      return new Promise(done => setTimeout(() => done($('under').textContent), 150))"""
+    same(b.run("return $('under').textContent"), "Point at a range here to see which it is.", "what to do is said")
+    low = "grant 3 “low”, 50 units at 0, live since row 51, up to row 150."
+    for p, o, said in ((2, 30, "grant 1, 500 units at 0, live since row 1, up to row 3."), (20, 30, "free, 500 units at 0."), (51, 3, low), (149, 49, low), (150, 3, "free, 500 units at 0."),
+                       (90, 200, "free, 450 units at 50."), (190, 505, "grant 2 “thin”, 10 units at 500, live since row 2, and never freed.")):
+        found = b.run(move, "pointermove", p, o)
+        parts = re.match(r"Row (\d+), offset (\d+): (.*)", found)
+        holds(parts and int(parts[1]) == p and abs(int(parts[2]) - o) <= 3, f"the place under the pointer: row {p}, offset {o}", found)
+        same(parts[3], said, "and the range there")
+    same(row(b), 60, "the row stays")
+    b.run("zoomLives(40, 60, 0, 60)")
+    same(b.run(move, "pointermove", 52, 10).split(": ", 1)[1], low, "in a part of the lives too")
+    b.run("$('unit').value = 1024; return $('unit').onchange()")
+    same(b.run("return new Promise(done => setTimeout(() => done($('under').textContent), 150))"), "Row 52, offset 10 (10 KiB): grant 3 “low”, 50 units (50.0 KiB) at 0, live since row 51, up to row 150.", "in bytes too")
+    b.run("$('life').dispatchEvent(new PointerEvent('pointerleave', { pointerType: 'mouse' }))")
+    same(b.run("return $('under').textContent"), "Point at a range here to see which it is.", "nothing is under it once it has left")
+    holds(b.run(move, "click", 52, 10).endswith("up to row 150."), "a tap tells it too")
+    # a range of no units, for which the space is played again
+    b.run("$('unit').value = ''; return $('unit').onchange()")
+    give(b, "space 100 nodes 16 index 32\nalloc 0\nalloc 40\nalloc 20\nfree 2\nreport\nreport\n", "none.script")
+    b.run("go(6)")
+    same(b.run(move, "pointermove", 3, 50).split(": ", 1)[1], "grant 3, 20 units at 40, live since row 3, and never freed.", "beside a range of no units")
+    same(b.run("return [S.p, S.run.view(6).blocks.length]"), [6, 4], "and the space is as before")
+
+
 def sizes_in_bytes(b):
     b.open()
     give(b, NAMED, "named.script")
@@ -225,4 +260,4 @@ def places_and_classes_in_bytes(b):
     same(said, [], "without a size of a unit nothing is in bytes")
 
 
-ALL = [ranges_are_looked_for, names_have_colours, curves_are_right, lives_can_be_zoomed, sizes_in_bytes, places_and_classes_in_bytes]
+ALL = [ranges_are_looked_for, names_have_colours, curves_are_right, lives_can_be_zoomed, lives_tell_what_is_under_the_pointer, sizes_in_bytes, places_and_classes_in_bytes]
