@@ -54,7 +54,8 @@ class Browser:
     def command(self, name, **params):
         return self.call("/goog/cdp/execute", {"cmd": name, "params": params})
 
-    def open(self, fragment=""):
+    def open(self, fragment="#t=voxel-game&p=4000"):
+        """Opens the page, as it is at first where the fragment is empty."""
         self.call("/url", {"url": "about:blank"})
         self.call("/url", {"url": self.page + fragment})
         self.run("return new Promise(r => { const f = () => window.frameTime ? r(0) : setTimeout(f, 20); f(); })")

@@ -1,3 +1,4 @@
+#!/usr/bin/env python3
 """Measures the colours of ages, in the pictures and in the page: web/colours.py [page | pictures]. It fails where two neighbours of a scale
 are told apart worse than FLOOR, and where an age has less than CONTRAST to its background or to free units, and where the page and the pictures have other colours.
 

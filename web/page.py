@@ -24,7 +24,7 @@ def deflated(path):
 
 
 def traces():
-    return [*sorted((here / "../bench/traces").glob("*.script")), here / "every.script"]
+    return [here / "levels.script", *sorted((here / "../bench/traces").glob("*.script")), here / "every.script"]
 
 
 def sum_of_sources():

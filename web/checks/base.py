@@ -7,7 +7,7 @@ import subprocess
 
 WEB = pathlib.Path(__file__).resolve().parent.parent
 RUST = WEB / "../rust"
-TRACES = {path.stem: path for path in [*sorted((WEB / "../bench/traces").glob("*.script")), WEB / "every.script"]}
+TRACES = {path.stem: path for path in [WEB / "levels.script", *sorted((WEB / "../bench/traces").glob("*.script")), WEB / "every.script"]}
 
 
 @functools.cache

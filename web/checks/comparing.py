@@ -154,4 +154,24 @@ def two_runs(b):
     same(b.run("return $('fault').textContent.startsWith('Compare: the node limit is 2 to')"), True, "an empty field is no number")
 
 
-ALL = [two_runs]
+def the_other_is_in_units_of_this_one(b):
+    """The numbers at the pictures of a run with a larger unit are those of this run's units, and bytes too."""
+    b.open()
+    b.run("return take(new TextEncoder().encode(arguments[0]))", "space 6000 nodes 64 index 32\nalloc 600\nalloc 1200\nfree 1\nalloc 300\n")
+    words = """const said = new Map(), draw = CanvasRenderingContext2D.prototype.fillText, off = OffscreenCanvasRenderingContext2D.prototype.fillText;
+      const note = of => function (text, ...at) { said.get('all').push(text); return of.call(this, text, ...at); };
+      said.set('all', []); CanvasRenderingContext2D.prototype.fillText = note(draw); OffscreenCanvasRenderingContext2D.prototype.fillText = note(off);
+      const of = f => { said.set('all', []); f(); return said.get('all').filter(t => !/^row|^[0-9]$/.test(t)); }, at = () => S.other.at[S.p];
+      S.other.run.space = S.run.space = null;
+      try { return [of(() => drawSpace('spaceA', S.run, S.p, 0, 6000, [])), of(() => drawSpace('spaceB', S.other.run, at(), 0, 6000 / S.other.unit, [])), of(() => drawLives('lifeA', S.run, () => S.p)), of(() => drawLives('lifeB', S.other.run, at))]; }
+      finally { CanvasRenderingContext2D.prototype.fillText = draw; OffscreenCanvasRenderingContext2D.prototype.fillText = off; }"""
+    for bytes_, lines, top in (("", ["1000", "2000", "3000", "4000", "5000"], ["1800", "900"]), ("1024", ["1,000 KiB", "1.95 MiB", "2.93 MiB", "3.91 MiB", "4.88 MiB"], ["1.76 MiB", "900 KiB"])):
+        b.run("return compare([6000, 64, 100, 0])")
+        b.run("$('unit').value = arguments[0]; return $('unit').onchange()", bytes_)
+        b.run("go(4)")
+        found = b.run(words)
+        same([found[0][-5:], found[1][-5:]], [lines, lines], f"the offsets of both spaces, a unit of {bytes_ or 'no'} bytes")
+        same([found[2][:2], found[3][:2]], [top, top], "and of both lives")
+
+
+ALL = [two_runs, the_other_is_in_units_of_this_one]

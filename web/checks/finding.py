@@ -1,6 +1,8 @@
 """What is looked for by name, units and rows; names by how they begin; what is never freed; curves and zoom of the lives; and sizes
 in bytes."""
 
+import re
+
 from .base import give, holds, recorded, row, same, to, until
 from .lists import ROWS
 from .pictures import DRAWN
@@ -160,6 +162,39 @@ def lives_can_be_zoomed(b):
     near(b.run(EVENT, "wheel", [0.5, 0.5], None, {"deltaY": 900, "shiftKey": True})[2:], [0, 4 * (life[3] - life[2])], "with Shift the wheel zooms the offsets, by four at most")
 
 
+def lives_tell_what_is_under_the_pointer(b):
+    b.size(1100, 1250)
+    b.open()
+    # 199 calls: grant 1 has 0 to 500 in rows 1 and 2, grant 2 500 to 510, grant 3 0 to 50 from row 51 to 150
+    give(b, "space 2000 nodes 16 index 32\nalloc 500\n# thin\nalloc 10\nfree 1\n" + "report\n" * 47 + "# low\nalloc 50\n" + "report\n" * 98 + "free 3\n" + "report\n" * 49, "under.script")
+    to(b, 60)
+    move = """const [kind, p, o] = arguments, r = $('life').getBoundingClientRect(), [p0, p1, o0, o1] = shownLives('life', S.run), text = $('under').textContent;
+      $('life').dispatchEvent(new PointerEvent(kind, { clientX: r.left + GUTTER + (p + 0.5 - p0) / (p1 - p0) * (r.width - GUTTER), clientY: r.top + (1 - (o + 0.5 - o0) / (o1 - o0)) * (r.height - 16), bubbles: true, pointerType: kind === 'click' ? 'touch' : 'mouse' }));
+      return new Promise(done => setTimeout(() => done($('under').textContent), 150))"""
+    same(b.run("return $('under').textContent"), "Point at a range here to see which it is.", "what to do is said")
+    low = "grant 3 “low”, 50 units at 0, live since row 51, up to row 150."
+    for p, o, said in ((2, 30, "grant 1, 500 units at 0, live since row 1, up to row 3."), (20, 30, "free, 500 units at 0."), (51, 3, low), (149, 49, low), (150, 3, "free, 500 units at 0."),
+                       (90, 200, "free, 450 units at 50."), (190, 505, "grant 2 “thin”, 10 units at 500, live since row 2, and never freed.")):
+        found = b.run(move, "pointermove", p, o)
+        parts = re.match(r"Row (\d+), offset (\d+): (.*)", found)
+        holds(parts and int(parts[1]) == p and abs(int(parts[2]) - o) <= 3, f"the place under the pointer: row {p}, offset {o}", found)
+        same(parts[3], said, "and the range there")
+    same(row(b), 60, "the row stays")
+    b.run("zoomLives(40, 60, 0, 60)")
+    same(b.run(move, "pointermove", 52, 10).split(": ", 1)[1], low, "in a part of the lives too")
+    b.run("$('unit').value = 1024; return $('unit').onchange()")
+    same(b.run("return new Promise(done => setTimeout(() => done($('under').textContent), 150))"), "Row 52, offset 10 (10 KiB): grant 3 “low”, 50 units (50.0 KiB) at 0, live since row 51, up to row 150.", "in bytes too")
+    b.run("$('life').dispatchEvent(new PointerEvent('pointerleave', { pointerType: 'mouse' }))")
+    same(b.run("return $('under').textContent"), "Point at a range here to see which it is.", "nothing is under it once it has left")
+    holds(b.run(move, "click", 52, 10).endswith("up to row 150."), "a tap tells it too")
+    # a range of no units, for which the space is played again
+    b.run("$('unit').value = ''; return $('unit').onchange()")
+    give(b, "space 100 nodes 16 index 32\nalloc 0\nalloc 40\nalloc 20\nfree 2\nreport\nreport\n", "none.script")
+    b.run("go(6)")
+    same(b.run(move, "pointermove", 3, 50).split(": ", 1)[1], "grant 3, 20 units at 40, live since row 3, and never freed.", "beside a range of no units")
+    same(b.run("return [S.p, S.run.view(6).blocks.length]"), [6, 4], "and the space is as before")
+
+
 def sizes_in_bytes(b):
     b.open()
     give(b, NAMED, "named.script")
@@ -170,6 +205,7 @@ def sizes_in_bytes(b):
     b.click("#sorts [data-by=grant]")
     same([r[2] for r in b.run(ROWS, "#ranges")], ["1.56 KiB", "4.69 KiB", "2.34 KiB"], "the sizes of ranges")
     same(b.run("S.unit = 65536; return [0, 1, 10, 16, 1000, 65536, 16777216].map(n => inBytes(n))"), ["0 B", "64.0 KiB", "640 KiB", "1.00 MiB", "62.5 MiB", "4.00 GiB", "1.00 TiB"], "B to TiB")
+    same(b.run("S.unit = 1; return [1023, 1048575, 1023 * 1024 + 511, 1023 * 1024 + 512].map(n => inBytes(n))"), ["1,023 B", "1.00 MiB", "1,023 KiB", "1.00 MiB"], "what is rounded to 1,024 is one of the next")
     b.run("S.unit = 16; return link()")
     b.open(b.run("return location.hash"))
     holds("(8.59 KiB)" in b.run("return $('rangesum').textContent"), "a link keeps the size of a unit")
@@ -177,4 +213,51 @@ def sizes_in_bytes(b):
     holds("550 units. Still" in b.run("return $('rangesum').textContent"), "without it all is in units")
 
 
-ALL = [ranges_are_looked_for, names_have_colours, curves_are_right, lives_can_be_zoomed, sizes_in_bytes]
+def exactly(v):
+    """A number of bytes in the largest unit of which it has whole sixteenths."""
+    names = ["B", "KiB", "MiB", "GiB", "TiB", "PiB"]
+    while v >= 1024 and v % 64 == 0 and len(names) > 1:
+        v, names = v / 1024, names[1:]
+    return f"{v:,.4f}".rstrip("0").rstrip(".") + " " + names[0]
+
+
+def places_and_classes_in_bytes(b):
+    """Offsets, size classes, hover texts and reasons, where a unit has 1,600 bytes: 100 units are 156.25 KiB."""
+    b.size(1100, 1250)
+    b.open()
+    give(b, FRAGMENTED, "fragmented.script")
+    b.run("$('unit').value = '1600'; return $('unit').onchange()")
+    texts = "return arguments[0].map(id => $(id).textContent)"
+    b.run("go(9)")
+    same(b.run(texts, ["now", "shown"]), ["Row 9: alloc 100: grant 9 at 800 (1,250 KiB), from the free block at 800 (1,250 KiB) of 200 units (313 KiB)",
+                                          "Shown: units 0 to 1,000 (1,562.5 KiB), all of the space; a line is 167 units (261 KiB)."], "the row, and the part of the space")
+    same([r[1] for r in b.run(ROWS, "#ranges")], [exactly(1600 * o) for o in range(0, 900, 100)], "the offsets of ranges, each exactly")
+    titles = "return [...document.querySelectorAll(arguments[0])].map(r => [...r.children].map(c => c.title))"
+    same(b.run(titles, "#ranges .row")[3][:3], ["", "offset 300", "100 units"], "with units as tooltips")
+    same(b.run("go(17); return [...document.querySelectorAll('#calls .row')].find(r => r.textContent.includes('align 100 256')).children[1].title"), "100 units (156 KiB), a multiple of 256 units (400 KiB)", "calls in bytes as tooltips")
+    b.run("go(9); document.activeElement.blur()")
+    b.keys("b", "b")
+    same(b.run("return $('block').textContent"), "Grant 2 at 100 (156.25 KiB): 100 units (156 KiB), class 36 (96 to 103 units, 150 KiB to 161 KiB), live since row 2.", "the chosen block")
+    b.run("go(14)")
+    same(b.run("return [...$('binrows').rows].map(r => [...r.cells].map(c => [c.textContent, c.title]))"),
+         [[["36", ""], ["150 KiB to 161 KiB", "96 to 103 units"], ["5", ""], ["781 KiB", "500 units"]]], "the size classes")
+    same(b.run("return $('binsum').textContent"), "5 free blocks of 1 class. Searched from class 50, 320 to 351 units (500 KiB to 548 KiB).", "where the search begins")
+    b.run("const r = $('bins').getBoundingClientRect(); $('bins').onpointermove({ clientX: r.left + 42.5 / 67 * r.width, clientY: r.top + 5 })")
+    same(b.run("return $('bin').textContent"), "Class 39: blocks of 120 to 127 units (188 KiB to 198 KiB); 0 free blocks.", "the class under the pointer")
+    helps = b.run("return [...$('helps').children].map(e => e.textContent)")
+    holds("move 3 ranges of 300 units (469 KiB), from 100 (156.25 KiB) to 600 (937.5 KiB) (outlined): grant 2 of 100 units (156 KiB)" in helps[3], "what is to move", helps)
+    give(b, "space 1000 nodes 16 index 32\nalloc 100\nalloc 100\ngrow 1 150\nat 150 100\nalign 900 64\n", "reasons.script")
+    b.run("$('unit').value = '1600'; return $('unit').onchange()")
+    facts = b.run("return [3, 4, 5].map(p => { go(p); return [...$('facts').children].map(e => e.textContent); })")
+    same([facts[0][0], facts[1], facts[2][1]],
+         ["grant 1 has 100 units (156 KiB), at 0", ["asked: 100 units (156 KiB) from 150 (234.375 KiB) on; the space has 1,000 units (1.53 MiB)", "in its way: grant 2 at 100 (156.25 KiB), 100 units (156 KiB)"],
+          "asked: 900 units (1.37 MiB) at a multiple of 64 (100 KiB), so a block for 963 (1.47 MiB); rounded up to class 64: 1,024 units (1.56 MiB)"], "reasons")
+    same(b.run("S.unit = 48; return [0, 1, 4, 1000, 4194304, 4294967295].map(place)"),
+         ["0", "1 (48 B)", "4 (192 B)", f"1,000 ({exactly(48000)})", f"4,194,304 ({exactly(48 << 22)})", f"4,294,967,295 ({exactly(48 * 4294967295)})"], "from bytes on")
+    b.run("$('unit').value = ''; return $('unit').onchange()")
+    said = b.run("const all = []; for (let p = 0; p <= S.run.count; p++) { go(p); all.push($('now').textContent, $('why').textContent, $('shown').textContent, $('binrows').textContent, $('block').textContent); } "
+                 "return all.concat([...document.querySelectorAll('#calls .row, #ranges .row')].map(r => r.textContent + [...r.children].map(c => c.title))).filter(t => /\\d [KMGT]?i?B\\b/.test(t))")
+    same(said, [], "without a size of a unit nothing is in bytes")
+
+
+ALL = [ranges_are_looked_for, names_have_colours, curves_are_right, lives_can_be_zoomed, lives_tell_what_is_under_the_pointer, sizes_in_bytes, places_and_classes_in_bytes]

@@ -153,7 +153,10 @@ def rows_of_heaps_fit(b):
                         "return c.filter((e, i) => !e.matches('.h') && e.scrollWidth > e.clientWidth + 1 || i && e.getBoundingClientRect().left < c[i - 1].getBoundingClientRect().right - 1 || "
                         "e.getBoundingClientRect().right > r.getBoundingClientRect().right + 1).map(e => e.className + e.textContent); })")
             same(cut, [], f"nothing of the rows of heaps is cut, or over another, at {width} pixels")
-            names = b.run("return [...document.querySelectorAll('#heaprows .h')].filter(e => e.textContent.length < 9 && e.scrollWidth > e.clientWidth).map(e => e.textContent)")
+            heads = b.run("const [x, y] = ['.heads', '#heaprows .row'].map(s => [...document.querySelector(s).children].filter(e => e.getClientRects().length).map(e => e.getBoundingClientRect().right)); "
+                          "return x.length === y.length && x.every((v, i) => Math.abs(v - y[i]) <= 2) ? '' : [x, y]")
+            same(heads, "", "each column's head is over it")
+            names = b.run("return [...document.querySelectorAll('#heaprows .h')].filter(e => (innerWidth > 1800 || e.textContent.length < 9) && e.scrollWidth > e.clientWidth).map(e => e.textContent)")
             same(names, [], "nor a short name")
         size = b.run("return [...document.querySelectorAll('.strip')].filter(c => c.tagName === 'CANVAS' && c.clientWidth < 30).length")
         same(size, 0, "each has room for its time")

@@ -100,7 +100,7 @@ def a_reload_asks(b):
 
 def links_are_bounded(b):
     b.open(link_of("x" * (80 << 20)))
-    same(b.run(STATE)[:2], [14773, "The link is faulty: its text has more than 64 MiB. This is the nearest state."], "a link of 80 MiB is refused")
+    same(b.run(STATE)[:2], [483, "The link is faulty: its text has more than 64 MiB. This is the nearest state."], "a link of 80 MiB is refused")
     b.open(link_of(TINY + "#" + "x" * (60 << 20) + "\n"))
     same(b.run(STATE)[:2], [2, ""], "one of 60 MiB is read")
 

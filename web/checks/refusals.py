@@ -3,8 +3,9 @@ recordings, with the call before the refused one or another header, and one less
 
 import random
 import re
+import subprocess
 
-from .base import TRACES, built, holds, play, program, recorded, row, same, to, until
+from .base import RUST, TRACES, WEB, built, holds, play, program, recorded, row, same, to, until
 
 FRAGMENTED = "space 1000 nodes 32 index 32\n" + "alloc 100\n" * 9 + "free 1\nfree 3\nfree 5\nfree 7\nalloc 300\nalloc 2000\nreport\nalign 100 256\n"
 # at its first refusal, of 300 units, so of a block of 320: free are 0 to 100, 200 to 300, 400 to 500, 600 to 700 and 900 to 1000. Four of them
@@ -138,6 +139,22 @@ def are_found(b):
     same(b.run("return [...$('helps').children].map(e => e.textContent)"),
          ["compact: after it the request is granted", "220 units more space (extend 220): then it is granted",
           "a smaller request: at most 96 units", MOVED, RELEASED], "what would have helped")
+
+
+def the_first_run_has_a_refusal(b):
+    """The page begins with a run of which r shows a refusal, and that is what its example writes."""
+    written = subprocess.run(["cargo", "run", "--quiet", "--release", "--offline", "-j1", "-p", "offset-allocator-recorded", "--example", "levels"], cwd=RUST, capture_output=True, check=True).stdout
+    same((WEB / "levels.script").read_bytes(), written, "the first run is what the example writes")
+    b.open("")
+    same(b.run("return [S.name, $('fault').textContent, $('why').hidden]"), ["levels", "", True], "the page begins with it")
+    found = []
+    for _ in range(4):
+        b.keys("r")
+        found.append(b.run("return [$('why').hidden, S.run.callName(S.p - 1)]"))
+    answers = recorded(written)[0].splitlines()
+    same([row(b), found[0][0]], [[i + 1 for i, answer in enumerate(answers) if answer == "none"][3], False], "r goes through its refusals, and says why")
+    holds(all(name.startswith("texture/level ") for _, name in found), "which have names", found)
+    holds(len(b.run("return [...$('helps').querySelectorAll('button')].map(e => e.textContent)")) > 0, "and what would have helped")
 
 
 def tight_is_named(b):
@@ -310,5 +327,5 @@ def gone_is_told(b):
     same(b.run("return $('facts').textContent"), "no grant has the number 7 there", "a number of no grant")
 
 
-ALL = [are_found, others_are_explained, are_marked, helps_help, tight_is_named, smaller_is_smaller, extension_lacks_a_node, gone_is_told,
+ALL = [are_found, the_first_run_has_a_refusal, others_are_explained, are_marked, helps_help, tight_is_named, smaller_is_smaller, extension_lacks_a_node, gone_is_told,
        what_would_have_to_go, helps_are_shown]

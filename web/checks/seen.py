@@ -17,11 +17,11 @@ def marks_stand_out(b):
     for scheme in ("light", "dark"):
         b.size(1100, 900, 1, scheme)
         b.open("#t=voxel-game&p=9000")
-        b.run("return new Promise(r => { const f = () => !S.run.picture?.isDone ? setTimeout(f, 20) : r(draw()); f(); })")
         c = b.run(NAMED, [*AGES, "free", "bg", "mark", "dim", "fg"])
         weak = {(one, other): contrast(c[one], c[other]) for one in (*AGES, "mark", "fg") for other in ("free", "bg")}
         weak = {pair: round(found, 2) for pair, found in weak.items() if found < 3}
         same(weak, {}, f"{scheme}: ages and marks have 3:1 to free units and to the background")
+        b.run("return new Promise(r => { const f = () => !S.run.picture?.isDone ? setTimeout(f, 20) : r(draw()); f(); })")
         line = b.run("return GUTTER + (S.p + 1) / (S.run.count + 1) * ($('life').clientWidth - GUTTER)")
         for y in range(10, 180, 5):
             found = b.run(AROUND, "life", line, y)

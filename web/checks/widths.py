@@ -4,6 +4,7 @@ program: colours of points within blocks and lives."""
 import bisect
 import random
 
+from . import heaps
 from .base import TRACES, holds, program, same, to
 from .lists import live_at
 
@@ -133,13 +134,81 @@ def readme_s_picture(b):
     holds(right <= 390, "and none is cut", right)
 
 
+# What is looked at by eye: how each view comes about.
+NAMED = "space 65536 nodes 64 index 32\n#! unit 256\n" + "".join(f"# {kind}: number {i}\nalloc {units}\n#! frame\n" for i, (kind, units) in enumerate(
+    [("texture", 9000), ("mesh", 700), ("texture", 12000), ("sound", 3000), ("mesh", 500), ("texture", 16000), ("mesh", 900), ("sound", 4100)], 1)) + \
+    "free 1\nfree 3\n# mesh: again\nalloc 640\n#! mark level two\nfree 5\nfree 8\n# texture: that nothing has room for\nalloc 30000\nalloc 2000\n#! frame\n"
+VIEWS = {
+    "first": "",
+    "refused": "await take(new TextEncoder().encode(text), 'named.script'); refusal(1);",
+    "lives": "S.life = null; zoomLives(3000, 9000, 0, S.run.top);",
+    "heaps": "await take(new TextEncoder().encode(many), 'many.script'); $('nogrant').open = true; await openPart(2);",
+    "compare": "await take(new TextEncoder().encode(text), 'named.script'); refusal(1); await compare([65536, 16, 256, 1]);",
+    "leaks": "await take(new TextEncoder().encode(text), 'named.script'); await lookFor({ byName: true }); $('mfrom').value = 2; $('mto').value = 10; await betweenMarks();",
+    "try": "await take(new TextEncoder().encode(text), 'named.script'); refusal(1); $('helps').querySelector('button').click(); await new Promise(r => setTimeout(r, 300));",
+}
+
+
+def what_helps_reads_as_a_list(b):
+    """Each help's bullet is beside its first line; what a row of a list has no room for ends in dots, the reason before the name."""
+    for width in (360, 768, 1280, 3840):
+        b.size(width, 900)
+        b.open()
+        b.run("return take(new TextEncoder().encode(arguments[0]), 'named.script')", NAMED)
+        b.run("refusal(1)")
+        off = b.run("""return [...document.querySelectorAll('#helps button')].map(e => { const probe = document.createElement('span'); probe.textContent = '\\u2060'; e.before(probe);
+          const off = Math.abs(probe.getBoundingClientRect().top - e.getBoundingClientRect().top); probe.remove(); return off; })""")
+        holds(len(off) > 3 and max(off) < 8, f"bullets are beside the first lines, at {width} pixels", off)
+        cut = b.run("""return [...document.querySelectorAll('#calls .row, #ranges .row')].flatMap(r => [...r.children].filter(e => (e.scrollWidth > e.clientWidth + 1 && getComputedStyle(e).textOverflow !== 'ellipsis') ||
+          e.getBoundingClientRect().right > r.getBoundingClientRect().right + 1).map(e => e.textContent))""")
+        same(cut, [], f"what a row has no room for ends in dots, at {width} pixels")
+        name, reason = b.run("return [...document.querySelectorAll('#calls .now .dim, #calls .now .bad:last-child')].map(e => e.clientWidth / e.scrollWidth)")
+        holds(name >= reason, "the reason gives way before the name", (name, reason))
+
+
+def fields_and_columns_are_in_line(b):
+    """From and to are on one line, heads are over their columns, and no number of a comparison is broken."""
+    b.size(360, 900)
+    b.open()
+    b.run("return take(new TextEncoder().encode(arguments[0]), 'named.script')", NAMED)
+    tops = b.run("return [['fmin', 'fmax'], ['ffrom', 'ffromhere'], ['fto', 'ftohere'], ['mfrom', 'mfromis'], ['mto', 'mtois'], ['fnever', 'fclear'], ['n', 'a'], ['o', 'k']].map(ids => { const [x, y] = ids.map(id => $(id).getBoundingClientRect()); return Math.abs(x.top + x.bottom - y.top - y.bottom) / 2; })")
+    holds(max(tops) < 8, "fields that belong together are on one line at 360 pixels", tops)
+    b.open("#t=voxel-game&p=9000")
+    for id_ in ("xsize", "fmin", "n", "row"):
+        cut = b.run("const e = $(arguments[0]); e.value = 4294967295; return e.scrollWidth > e.clientWidth", id_)
+        same(cut, False, f"a number of ten digits is whole in {id_} at 360 pixels")
+    b.run("$('row').value = 9000")
+    same(b.run("return $('sizes').scrollHeight > $('sizes').clientHeight"), False, "the sizes of ranges of a game need no scroll bar")
+    for width in (360, 768, 1280, 3840):
+        b.size(width, 900)
+        b.open()
+        b.run("return take(new TextEncoder().encode(arguments[0]), 'named.script')", NAMED)
+        b.run("refusal(1); return compare([65536, 16, 256, 1])")
+        broken = b.run("return [...document.querySelectorAll('#differences tr:not(.said) td')].filter(e => { const r = document.createRange(); r.selectNodeContents(e); return new Set([...r.getClientRects()].map(l => Math.round(l.top))).size > 1 && e.textContent !== answered(S.run, S.p - 1) && e.textContent !== answered(S.other.run, S.other.at[S.p] - 1); }).map(e => e.textContent)")
+        over = b.run("return [...document.querySelectorAll('.scroll')].filter(e => e.scrollWidth > e.clientWidth + 1).length")
+        same([broken, over], [[], 0], f"the table of a comparison at {width} pixels")
+        b.run("$('byname').value = '1'; return $('byname').onchange()")
+        left = b.run("const c = [document.querySelector('#groups thead th'), document.querySelector('#grouprows th')]; return c.map(e => { const r = document.createRange(); r.selectNodeContents(e); return r.getBoundingClientRect().left; })")
+        holds(abs(left[0] - left[1]) < 3, f"the head of names is over them at {width} pixels", left)
+    same(b.run("return $('calls').offsetHeight"), 232, "a list in a low window")
+    b.size(3840, 2000)
+    holds(b.run("return $('calls').clientHeight > 400 && $('life').clientHeight > 300"), "a large window has longer lists and larger pictures")
+
+
 def shots(b, folder):
     folder.mkdir(parents=True, exist_ok=True)
+    many = heaps.many(3)[0].replace("heap 0 space", "# device-local memory, of which the buffers of all levels are\nheap 0 space", 1)
     for scheme in ("light", "dark"):
-        for width in (320, 390, 800, 1920):
-            b.size(width, 900, 1, scheme)
-            b.open("#t=voxel-game&p=9000")
-            (folder / f"{scheme}-{width}.png").write_bytes(b.picture(whole=True))
+        for width in (360, 768, 1280, 3840):
+            for name, script in VIEWS.items():
+                b.size(width, 900, 1, scheme)
+                b.open("#t=voxel-game&p=9000" if name == "lives" else "")
+                b.run("const [text, many] = arguments; return (async () => { " + script + " })()", NAMED, many)
+                # a high window has longer lists; and what is drawn in turns is drawn again in another size
+                for _ in range(2):
+                    b.size(width, b.run("return document.documentElement.scrollHeight"), 1, scheme)
+                b.run("return new Promise(r => { const f = () => !S.run.picture?.isDone ? setTimeout(f, 50) : r(draw()); setTimeout(f, 200); })")
+                (folder / f"{name}-{scheme}-{width}.png").write_bytes(b.picture())
 
 
-ALL = [drawings_are_right, nothing_is_cut, readme_s_picture]
+ALL = [drawings_are_right, nothing_is_cut, readme_s_picture, what_helps_reads_as_a_list, fields_and_columns_are_in_line]

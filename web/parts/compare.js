@@ -5,7 +5,7 @@ const COMPACT = { asIs: 0, whereRefused: 1, never: 2 };
 // B's position by A's.
 async function another(run, [size, nodes, unit, compact], work) {
   const b = new Run([Math.floor(size / unit), nodes, nodes > 65533 ? 32 : run.head[2]], new Uint32Array(0), new Map(), run.lines);
-  b.start(run.count);
+  b.start(run.count); b.scale = unit;
   const at = new Uint32Array(run.count + 1), of = new Map();
   const scaled = { n: v => Math.ceil(v / unit), a: v => Math.max(1, v / unit), k: v => of.get(v) || 0, d: v => Math.floor(v / unit), c: v => v };
   scaled.s = scaled.n;
@@ -95,7 +95,7 @@ function showOther() {
   const { run: b, at, unit, rows, extra } = S.other, a = S.run, p = S.p, q = at[p];
   const va = a.view(p), vb = b.view(q), size = a.sizeAt(p), [from, to] = S.zoom || [0, size];
   const free = (run, n) => run.sizeAt(n) - run.usedAt(n), largest = (run, n) => n ? run.row(n - 1)[5] : 0;
-  const table = [['At this row', '', ''], ['Answer', p ? answered(a, p - 1) : '', q ? answered(b, q - 1) : ''],
+  const table = [['At this row', '', ''], ['Answer', p ? answeredInBytes(a, p - 1) : '', q ? (unit === 1 ? answeredInBytes : answered)(b, q - 1) : ''],
     ['Units in use', a.usedAt(p), b.usedAt(q) * unit],
     ['Units free', free(a, p), free(b, q) * unit], ['Largest request granted', largest(a, p), largest(b, q) * unit],
     ['Blocks', va.count + va.free.count, vb.count + vb.free.count], ['Over all', '', ''], ...S.other.whole];
@@ -103,7 +103,7 @@ function showOther() {
     const row = document.createElement('tr'), th = document.createElement('th');
     const isNumber = typeof x === 'number' && typeof y === 'number', isSize = /[Uu]nits|Largest|Highest/.test(name), shown = isSize ? sized : whole;
     th.textContent = name; th.scope = 'row'; row.append(th);
-    if (x === '' && y === '') row.className = 'part';
+    row.className = x === '' && y === '' ? 'part' : name === 'Answer' ? 'said' : '';
     for (const v of [x, y, isNumber && x !== y ? y - x : '']) row.insertCell().textContent = typeof v === 'number' ? shown(v) : v;
     if (isNumber && x !== y) row.cells[3].textContent = (y > x ? '+' : '−') + shown(Math.abs(y - x));
     return row;

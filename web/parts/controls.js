@@ -120,22 +120,25 @@ function zoomLivesAt(by) {
   const [p0, p1] = shownLives('life', S.run), x = (S.p + 1 - p0) / (p1 - p0);
   zoomLivesBy(by, by, x >= 0 && x <= 1 ? x : 0.5);
 }
+const isTouch = event => event.pointerType === 'touch';
 for (const id of ['life', 'lifeA']) {
   let begun = null;
-  const there = (event, f) => f(Math.max(0, rowAt(event, id, S.run))), isTouch = event => event.pointerType === 'touch';
+  const there = (event, f) => f(Math.max(0, rowAt(event, id, S.run)));
   const isZoom = event => id === 'life' && (event.shiftKey || event.altKey);
   $(id).onpointerdown = event => { if (isZoom(event)) return lifeBegins(event); begun = event; if (!isTouch(event)) { $(id).setPointerCapture(event.pointerId); there(event, jump); } };
   // a swipe up or down scrolls, and is no choice of a row
   $(id).onpointermove = event => {
+    if (id === 'life') { over = partOf(event, 'life'); tellUnder(); }
     if (box || held) return lifeMoves(event);
     const [x, y] = begun ? [event.clientX - begun.clientX, event.clientY - begun.clientY].map(Math.abs) : [0, 0];
     if (event.buttons && (!isTouch(event) || x > y + 8)) there(event, to); };
-  $(id).onclick = event => { if (!isZoom(event)) there(event, jump); };
+  $(id).onclick = event => { if (id === 'life') { over = partOf(event, 'life'); tellUnder(); } if (!isZoom(event)) there(event, jump); };
 }
+$('life').onpointerleave = event => { if (!isTouch(event)) { over = null; tellUnder(); } };
 $('bins').onpointermove = $('bins').onclick = event => {
   const c = binAt(event), n = c < 0 ? 0 : S.run.view(S.p).free.bins[c];
   $('bin').textContent = c < 0 ? '' : c >= BINS ? `Class ${c}: larger than any space.` :
-    `Class ${c}: blocks of ${sizesOf(c)} units; ${counted(n, 'free block')}.`; };
+    `Class ${c}: blocks of ${sizesOf(c)} units${S.unit ? ` (${bytesOf(c)})` : ''}; ${counted(n, 'free block')}.`; };
 // The keys, wherever the focus is, but in text: what each does.
 const KEYS = new Map([
   ['ArrowLeft', 'one row back', () => to(S.p - 1)], ['ArrowRight', 'one row on', () => to(S.p + 1)],

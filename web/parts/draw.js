@@ -88,7 +88,7 @@ function spaceSheet(run, p, from, to, strip, w0, h, d, old) {
   const [wide, high] = [w0, h].map(v => Math.max(1, Math.round(v * d))), sheet = old?.width === wide && old.height === high ? old : new OffscreenCanvas(wide, high), g = prepared(sheet, d);
   const w = w0 - GUTTER, rh = h / ROWS, span = (to - from) / ROWS, c = colors();
   g.textAlign = 'right';
-  for (let y = 0; y < ROWS; y++) g.fillText(short(Math.round(from + y * span)), GUTTER - 4, y * rh + rh / 2);
+  for (let y = 0; y < ROWS; y++) g.fillText(short(Math.round(run.scale * (from + y * span))), GUTTER - 4, y * rh + rh / 2);
   const bar = (x, y, z) => g.fillRect(GUTTER + x, y * rh + 1, z, rh - 2);
   // what is not in the space is not free
   g.fillStyle = c.free; strip(0, run.sizeAt(p), bar);
@@ -171,7 +171,7 @@ function drawLives(id, run, at, isTurn = false) {
   g.fillStyle = c.dim;
   for (const x of flagTicks(run, p0, p1, w)) g.fillRect(GUTTER + Math.round(x), h - 6, 1, 6);
   g.textAlign = 'right';
-  for (const [part0, y] of [[1, 7], [0.5, h / 2], [0, h - 6]]) g.fillText(short(Math.round(o0 + (o1 - o0) * part0)), GUTTER - 4, y);
+  for (const [part0, y] of [[1, 7], [0.5, h / 2], [0, h - 6]]) g.fillText(short(Math.round(run.scale * (o0 + (o1 - o0) * part0))), GUTTER - 4, y);
   g.textAlign = 'left'; g.fillText(`row ${whole(Math.round(p0))}`, GUTTER, h + 9); g.textAlign = 'right'; g.fillText(whole(Math.round(p1 - 1)), w0, h + 9);
 }
 // The rows and offsets that are shown of the lives.

@@ -88,7 +88,7 @@ function showHeaps() {
 }
 function saidOf({ kind, n, a, why }) {
   if (kind === OTHER.gone) return ['a place that is not live', 'gone'];
-  const request = a > 1 ? `align ${n} ${a}` : `alloc ${n}`;
+  const request = (a > 1 ? `align ${n} ${a}` : `alloc ${n}`) + (S.unit && n ? ` (${inBytes(n)})` : '');
   return kind === OTHER.kept ? [`relocate ${units(n)}${a > 1 ? ` at a multiple of ${whole(a)}` : ''}`, 'no other heap takes it'] : [request, WHY_NOT[why]];
 }
 function drawOther(row, i) {

@@ -45,11 +45,14 @@ class List {
 }
 const cell = (row, text, name, title = '') => {
   const s = document.createElement('span'); s.textContent = text; if (title) s.title = title; if (name) s.className = name; row.append(s); };
+// What the numbers of a call are in bytes, where it is known how many a unit has.
+const AMOUNTS = { n: units, s: v => `multiples of ${units(v)}`, a: v => `a multiple of ${units(v)}` };
+const inWords = (op, of) => S.unit ? [...KINDS[op]].flatMap((kind, j) => kind === 'd' ? [(op === OP.at && j === 0) || (op === OP.within && j === 1) ? `at ${place(of[j])}` : units(of[j])] : AMOUNTS[kind] ? [AMOUNTS[kind](of[j])] : []).join(', ') : '';
 // A row of the calls: its number, the call, its answer, and its name.
 function drawCall(row, i) {
   const run = S.run, p = callAt(i) - 1, [op, ...of] = run.call(p), r = run.row(p);
-  cell(row, whole(p + 1), 'n'); cell(row, said(op, ...of), 'c');
-  cell(row, answered(run, p), r[0] === ANSWER.refused ? 'bad' : '');
+  cell(row, whole(p + 1), 'n'); cell(row, said(op, ...of), 'c', inWords(op, of));
+  cell(row, answered(run, p), r[0] === ANSWER.refused ? 'bad' : '', S.unit ? whereOf(run, p) : '');
   const name = run.callName(p) || (isOnGrant(op) ? run.nameOf(of[0]) : '');
   if (name) cell(row, name, 'dim', name);
   if (r[7]) cell(row, REASONS[r[7]], 'bad', REASONS[r[7]]);
@@ -71,7 +74,9 @@ let sorted = 'offset', ranges = new Uint32Array(0), rangesOf = null;
 const rangeAt = i => rangesOf.at(ranges[i]);
 function drawRange(row, i) {
   const b = rangeAt(i);
-  cell(row, b.k, 'n'); cell(row, whole(b.o), 'u'); cell(row, sized(b.n), 'u'); cell(row, whole(S.run.born.list[b.k]), 'n');
+  // in bytes a size is rounded, so its tooltip has the units
+  const [at, size] = S.unit ? [atBytes(b.o), inBytes(b.n)] : [whole(b.o), whole(b.n)], [o, n] = S.unit ? [`offset ${whole(b.o)}`, counted(b.n, 'unit')] : ['', ''];
+  cell(row, b.k, 'n'); cell(row, at, 'u', o); cell(row, size, 'u', n); cell(row, whole(S.run.born.list[b.k]), 'n');
   cell(row, S.run.nameOf(b.k), 'dim', S.run.nameOf(b.k));
 }
 function showRanges(v) {
@@ -129,7 +134,7 @@ function showSizes() {
     const row = document.createElement('div'); row.className = 'size';
     cell(row, e < 0 ? '0' : e ? `${short(2 ** e)} to ${short(2 ** (e + 1) - 1)}` : '1', 'u');
     const bar = document.createElement('span'); bar.className = 'bar2'; bar.style.setProperty('--part', n / most); row.append(bar);
-    cell(row, `${counted(n, 'range')}, ${short(sum)}${S.unit ? '' : ' units'}`);
+    cell(row, `${counted(n, 'range')}, ${short(sum)}${S.unit ? '' : sum === 1 ? ' unit' : ' units'}`);
     return row;
   }));
 }
@@ -140,9 +145,10 @@ function showBins(v, searched, taken) {
   $('binrows').replaceChildren(...list.map(([c, n]) => {
     const row = document.createElement('tr');
     row.id = `bin-${c}`; if (c === taken) row.className = 'now';
-    for (const text of [c, sizesOf(c), whole(n), sized(sums[c])]) row.insertCell().textContent = text;
+    for (const text of [c, bytesOf(c) || sizesOf(c), whole(n), sized(sums[c])]) row.insertCell().textContent = text;
+    if (S.unit) { row.cells[1].title = `${sizesOf(c)} units`; row.cells[3].title = counted(sums[c], 'unit'); }
     return row;
   }));
   $('binsum').textContent = `${counted(count, 'free block')} of ${counted(list.length, 'class', 'classes')}.` +
-    (searched < 256 ? ` Searched from class ${searched}, ${sizesOf(searched)} units` + (taken < 256 ? `; took a block of class ${taken}.` : '.') : '');
+    (searched < 256 ? ` Searched from class ${searched}, ${sizesOf(searched)} units${S.unit ? ` (${bytesOf(searched)})` : ''}` + (taken < 256 ? `; took a block of class ${taken}.` : '.') : '');
 }

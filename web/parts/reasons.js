@@ -3,15 +3,24 @@ const LARGEST = 4294967295;
 const inEnglish = new Intl.NumberFormat('en'), whole = n => inEnglish.format(n);
 const counted = (n, one, more = one + 's') => `${whole(n)} ${n === 1 ? one : more}`;
 // A size in bytes, where it is known how many a unit has.
+const BYTES = ['B', 'KiB', 'MiB', 'GiB', 'TiB', 'PiB'];
 const inBytes = n => {
-  const v = n * S.unit, i = v < 1024 ? 0 : Math.min(5, Math.floor(Math.log2(v) / 10)), shown = v / 1024 ** i;
-  return `${i && shown < 100 ? shown.toFixed(shown < 10 ? 2 : 1) : whole(Math.round(shown))} ${['B', 'KiB', 'MiB', 'GiB', 'TiB', 'PiB'][i]}`; };
+  let v = n * S.unit, i = 0;
+  // what is rounded to 1,024 is one of the next
+  while (i < 5 && Math.round(v) >= 1024) { v /= 1024; i++; }
+  return `${i && v < 100 ? v.toFixed(v < 10 ? 2 : 1) : whole(Math.round(v))} ${BYTES[i]}`; };
 const sized = n => S.unit ? inBytes(n) : whole(n);
 const units = n => counted(n, 'unit') + (S.unit ? ` (${inBytes(n)})` : '');
-const sizesOf = c => {
-  const [least, most] = [valueOf(c), Math.min(LARGEST, valueOf(c + 1) - 1)];
-  return most > least ? `${whole(least)} to ${whole(most)}` : whole(least);
-};
+// An offset in bytes, exactly: in the largest unit of which it has whole sixteenths.
+const atBytes = n => {
+  let v = n * S.unit, i = 0;
+  while (i < 5 && v >= 1024 && v % 64 === 0) { v /= 1024; i++; }
+  return `${whole(v)} ${BYTES[i]}`; };
+const place = o => whole(o) + (S.unit && o ? ` (${atBytes(o)})` : '');
+// Numbers of units, as they are and in bytes.
+const amount = n => whole(n) + (S.unit ? ` (${inBytes(n)})` : '');
+const boundsOf = c => [valueOf(c), Math.min(LARGEST, valueOf(c + 1) - 1)], between = ([least, most], shown) => most > least ? `${shown(least)} to ${shown(most)}` : shown(least);
+const sizesOf = c => between(boundsOf(c), whole), bytesOf = c => S.unit ? between(boundsOf(c), inBytes) : '';
 const isRefusal = (run, p) => p > 0 && run.row(p - 1)[0] === ANSWER.refused;
 // A refused call, p the row after it: what it asked for, why it was refused, and what would have helped: a text, the calls in its
 // place that show it, or the nodes that do, and the units that are outlined. A step at a time, as in a large space each takes
@@ -62,7 +71,7 @@ function* evicted(out, run, p, before, need, fits) {
     (ranges.length > MOST_NAMED ? `, and ${whole(ranges.length - MOST_NAMED)} more` : '');
   const one = (what, ranges, calls, style) => {
     const first = ranges[0], last = ranges.at(-1), end = last.o + last.n;
-    out.help(`${what} ${counted(ranges.length, 'range')} of ${units(ranges.reduce((s, b) => s + b.n, 0))}, from ${whole(first.o)} to ${whole(end)} (${style}): ` +
+    out.help(`${what} ${counted(ranges.length, 'range')} of ${units(ranges.reduce((s, b) => s + b.n, 0))}, from ${place(first.o)} to ${place(end)} (${style}): ` +
       `${list(ranges)}; then it is granted`, calls, { outline: [first.o, end - first.o, style === 'dashed'] });
   };
   const room = [OP.room, need], moved = need <= LARGEST ? yield* granted(run, p, [room, out.call]) : null;
@@ -80,12 +89,12 @@ function* asked(out, run, p, n, align, before, size) {
   const need = n + align - 1, call = run.call(p - 1), limit = run.head[1], [, , , , free, largest, count, why] = run.row(p - 1);
   const { largest: big, units: all } = before.free;
   if (need > LARGEST) {
-    out.facts.push(`${units(n)} at a multiple of ${whole(align)} need a block of ${whole(need)}: more than any space has`);
+    out.facts.push(`${units(n)} at a multiple of ${amount(align)} need a block of ${amount(need)}: more than any space has`);
     return;
   }
   const c = roundedUp(need), value = valueOf(c);
   out.facts.push(why !== 1 && align === 1 && n > 0 && big >= n ? `${REASONS[why]}: for the request rounded up` : REASONS[why]);
-  const aligned = align > 1 ? ` at a multiple of ${whole(align)}, so a block for ${whole(need)}` : '';
+  const aligned = align > 1 ? ` at a multiple of ${amount(align)}, so a block for ${amount(need)}` : '';
   out.facts.push(`asked: ${units(n)}${aligned}; rounded up to class ${c}: ` +
     (c < BINS ? units(value) : 'more than any block has'));
   out.facts.push(`largest free block: ${units(big)}; free in all: ${units(all)}; largest request granted now: ${units(largest)}`);
@@ -112,7 +121,7 @@ function* tight(out, run, p, n, align, before, size) {
   const call = run.call(p - 1), [, , , , , , count, why] = run.row(p - 1), { free, tail } = before, from = o => Math.ceil(o / align) * align;
   const lacks = from(size - tail) + n - size, later = from(size - free.units) + n - size;
   const isHeld = before.anyFree((o, room) => from(o) + n <= o + room);
-  out.facts.push(REASONS[why], `asked: ${units(n)}${align > 1 ? ` at a multiple of ${whole(align)}` : ''}, not rounded up`);
+  out.facts.push(REASONS[why], `asked: ${units(n)}${align > 1 ? ` at a multiple of ${amount(align)}` : ''}, not rounded up`);
   out.facts.push(`largest free block: ${units(free.largest)}; free in all: ${units(free.units)}`);
   out.facts.push(`blocks: ${blocksOf(run, p)}`);
   if (yield* granted(run, p, [[OP.compact], call])) out.help('compact: after it the request is granted', [[OP.compact], out.call]);
@@ -129,13 +138,13 @@ function* tight(out, run, p, n, align, before, size) {
 function* placed(out, run, p, o, n, before, size) {
   const end = o + n, call = run.call(p - 1), first = Math.max(0, before.upTo(o) - 1), inTheWay = [];
   for (let i = first; i < before.count && before.o[i] < Math.max(end, o + 1); i++) if (before.endOf(i) > o && before.o[i] < end) inTheWay.push(before.at(i));
-  out.facts.push(`asked: ${units(n)} from ${whole(o)} on; the space has ${units(size)}`);
+  out.facts.push(`asked: ${units(n)} from ${place(o)} on; the space has ${units(size)}`);
   if (end > size) {
-    out.facts.push(`it ends at ${whole(end)}, behind the space`);
+    out.facts.push(`it ends at ${place(end)}, behind the space`);
     if (end <= LARGEST && (yield* granted(run, p, [[7, end - size], call]))) out.help(`${units(end - size)} more space (extend ${end - size}): then it is granted`, [[7, end - size], out.call]);
   }
   if (inTheWay.length) {
-    out.facts.push(`in its way: ${inTheWay.slice(0, MOST_NAMED).map(b => `${named(run, b.k)} at ${whole(b.o)}, ${units(b.n)}`).join('; ')}` +
+    out.facts.push(`in its way: ${inTheWay.slice(0, MOST_NAMED).map(b => `${named(run, b.k)} at ${place(b.o)}, ${units(b.n)}`).join('; ')}` +
       (inTheWay.length > MOST_NAMED ? `; and ${whole(inTheWay.length - MOST_NAMED)} more` : ''));
     const calls = [...inTheWay.map(b => [OP.free, b.k]), out.call], [a, z] = [inTheWay[0], inTheWay.at(-1)];
     if (yield* granted(run, p, calls)) out.help(`release ${counted(inTheWay.length, 'range')} (dashed): then it is granted`, calls, { outline: [a.o, z.o + z.n - a.o, true] });
@@ -173,13 +182,13 @@ function* unslid(out, run, p) {
 function* unmoved(out, run, p, k, before) {
   const block = before.of(k);
   if (!block) return;
-  out.facts.push(`${named(run, k)} has ${units(block.n)}, at ${whole(block.o)}`);
+  out.facts.push(`${named(run, k)} has ${units(block.n)}, at ${place(block.o)}`);
   out.facts.push(`no second range of as many is granted before it; blocks: ${blocksOf(run, p)}`);
   if (yield* granted(run, p, [[0, block.n]])) out.help(`another range: alloc ${block.n} is granted; copy, then free ${k}`, [[0, block.n], [OP.free, k]]);
 }
 function* extended(out, run, p, more, before, size) {
   if (size + more > LARGEST) {
-    out.facts.push(`the space would have ${whole(size + more)} units, more than ${whole(LARGEST)}`);
+    out.facts.push(`the space would have ${units(size + more)}, more than ${whole(LARGEST)}`);
     if (size < LARGEST) out.help(`at most ${units(LARGEST - size)} more`, [[7, LARGEST - size]]);
     return;
   }
@@ -194,9 +203,9 @@ function* resized(out, run, p, op, k, n, before, size) {
   if (!block) return;
   const room = before.before(block.i + 1), next = room ? null : before.at(block.i + 1);
   const lack = n - block.n;
-  out.facts.push(`${named(run, k)} has ${units(block.n)}, at ${whole(block.o)}`);
+  out.facts.push(`${named(run, k)} has ${units(block.n)}, at ${place(block.o)}`);
   if (op === 8) {
-    if (n > block.n) { out.facts.push(`${whole(n)} is more: shrink makes no range larger`);
+    if (n > block.n) { out.facts.push(`${amount(n)} is more: shrink makes no range larger`);
       if (yield* granted(run, p, [[9, k, n]])) out.help(`grow ${k} ${n} in its place`, [[9, k, n]]);
       return; }
     out.facts.push(`no further block may exist for the units after it, and no free block is directly after it`);
@@ -204,10 +213,10 @@ function* resized(out, run, p, op, k, n, before, size) {
     if (yield* granted(run, p, [[10], run.call(p - 1)])) out.help('compact: after it the range can shrink', [[10], out.call]);
     return;
   }
-  if (lack < 0) { out.facts.push(`${whole(n)} is fewer: grow makes no range smaller`);
+  if (lack < 0) { out.facts.push(`${amount(n)} is fewer: grow makes no range smaller`);
     if (yield* granted(run, p, [[8, k, n]])) out.help(`shrink ${k} ${n} in its place`, [[8, k, n]]);
     return; }
-  if (room) out.facts.push(`directly after it ${units(room)} ${room === 1 ? 'is' : 'are'} free, and it lacks ${whole(lack)}`);
+  if (room) out.facts.push(`directly after it ${units(room)} ${room === 1 ? 'is' : 'are'} free, and it lacks ${amount(lack)}`);
   else out.facts.push(next ? `directly after it is ${named(run, next.k)}, with ${units(next.n)}` : 'it ends where the space ends');
   const isLast = block.i === before.last.i;
   if (isLast && (yield* granted(run, p, [[7, lack - room], run.call(p - 1)])))

@@ -95,9 +95,10 @@ function picked(source, old, others) {
   for (let i = 0; i < source.length; i++) { const s = source[i]; list[i] = s < 0 ? others[~s] : old[s]; }
   return list;
 }
+// `scale`: how many units of the run beside it one of its units is.
 class Run {
   constructor(head, calls, names, lines, m = new Module()) {
-    Object.assign(this, { head, names, lines, count: 0, at: 0, held: null, m, marks: [], kept: 0, edits: [], named: Infinity });
+    Object.assign(this, { head, names, lines, count: 0, at: 0, held: null, m, marks: [], kept: 0, edits: [], named: Infinity, scale: 1 });
     this.calls = new Growing(Uint32Array, 0);
     this.calls.list = calls; this.calls.length = calls.length;
     this.rows = new Growing(Uint32Array, 8 * this.all + 8);
@@ -308,3 +309,8 @@ function answered(run, i) {
     `ranges ${r[1]} units ${r[3]} next ${r[2]}`, `ranges ${r[1]} units ${r[3]} end`, 'retracted', `offset ${r[2]}`,
     `range ${r[1]} at ${r[2]}`, REASONS[r[3]] || 'granted'][r[0]];
 }
+// Where the range is that an answer names, or ''.
+const PLACED = [ANSWER.grant, ANSWER.offset, ANSWER.beside, ANSWER.within];
+const whereOf = (run, i) => { const r = run.row(i); return PLACED.includes(r[0]) ? `at ${place(r[2])}` : ''; };
+// The answer, and where that is in bytes.
+const answeredInBytes = (run, i) => { const at = S.unit && whereOf(run, i); return answered(run, i) + (at ? at.slice(at.indexOf(' (')) : ''); };

@@ -34,19 +34,20 @@ function draw() {
       `Fragmentation ${(kept * 100).toFixed(1)}% (of the largest request, were all free units one block).`;
   }
   $('reports').textContent = reports;
-  $('shown').textContent = `Shown: units ${whole(Math.floor(from))} to ${whole(Math.floor(to))}` +
+  $('shown').textContent = `Shown: units ${place(Math.floor(from))} to ${place(Math.floor(to))}` +
     (S.zoom ? `, ${((to - from) / Math.max(1, size) * 100).toPrecision(2)}% of the space` : ', all of the space') +
     `; a line is ${units(Math.ceil((to - from) / ROWS))}.`;
   $('lives').textContent = `Up to ${sized(run.top)}, the highest end of a range, of ${units(run.sizes.at(-1)[1])}. ` +
     `The line is the position; ticks are refusals${flagsOf(run).length ? ', those at the lower edge marks' : ''}. ` + 'Below: the units in use (lighter), and the largest request that is granted (darker).';
   $('lzall').disabled = !S.life;
+  tellUnder();
   $('at').value = p; $('row').value = p; $('now').ariaLive = playing ? 'off' : 'polite';
   $('at').setAttribute('aria-valuetext', p ? `row ${p}: ${said(...op)}, ${answered(run, p - 1)}` : 'before the first row');
   $('place').textContent = `of ${whole(run.count)}`;
   $('refusals').textContent = run.refusals.length ? `${counted(run.refusals.length, 'refusal')}` : 'no refusals';
   $('rback').disabled = !(run.refusals[0] < p); $('rnext').disabled = !(run.refusals.at(-1) > p);
-  tell('now', p ? `Row ${whole(p)}: ${said(...op)}: ${answered(run, p - 1)}` +
-    (taken ? `, from the free block at ${whole(taken.o)} of ${units(taken.n)}` : '') +
+  tell('now', p ? `Row ${whole(p)}: ${said(...op)}: ${answeredInBytes(run, p - 1)}` +
+    (taken ? `, from the free block at ${place(taken.o)} of ${units(taken.n)}` : '') +
     (run.callName(p - 1) ? ` “${run.callName(p - 1)}”` : '') : 'Before the first row.');
   const t1 = performance.now();
   // while the run plays, the lists follow a few times a second
@@ -129,8 +130,23 @@ function describe(b) {
   if (b) $('goto').textContent = `Go to row ${whole(run.born.list[b.k] || 0)}`;
   if (b && b.k) $('goto').onclick = () => { pointer = null; S.grant = b.k; jump(run.born.list[b.k]); };
   tell('block', !b ? (S.grant ? `${named(run, S.grant)} is not live here.` : 'Point at a block, or choose one by the keys b and B.') :
-    (b.k ? named(run, b.k).replace('g', 'G') : 'Free') + ` at ${whole(b.o)}: ${units(b.n)}, class ${classOf(b.n)} (${sizesOf(classOf(b.n))})` +
+    (b.k ? named(run, b.k).replace('g', 'G') : 'Free') + ` at ${place(b.o)}: ${units(b.n)}, class ${classOf(b.n)} (${sizesOf(classOf(b.n))}${S.unit ? ` units, ${bytesOf(classOf(b.n))}` : ''})` +
     (b.k ? `, live since row ${whole(run.born.list[b.k])}.` : '.'));
+}
+// The range under the pointer in the lives, or where it was tapped: once the pointer rests, as in a large space it takes its time.
+const RESTS = 60;
+let over = null, resting = 0;
+function tellUnder() {
+  clearTimeout(resting);
+  if (over) resting = setTimeout(() => tell('under', underLife(S.run, over)), RESTS);
+  else tell('under', 'Point at a range here to see which it is.');
+}
+function underLife(run, [x, y]) {
+  const [p0, p1, o0, o1] = shownLives('life', run);
+  const p = Math.min(run.count, Math.floor(p0 + x * (p1 - p0))), o = Math.min(Math.floor(o1 - y * (o1 - o0)), o1 - 1);
+  const view = p === S.p ? run.view(p) : run.viewAt(p), b = view.with(o), to = b && b.k ? run.died.list[b.k] : 0;
+  return `Row ${whole(p)}, offset ${place(o)}: ` + (!b ? 'not in the space.' : !b.k ? `free, ${units(b.n)} at ${place(b.o)}.` :
+    `${named(run, b.k)}, ${units(b.n)} at ${place(b.o)}, live since row ${whole(run.born.list[b.k])}${to === ALIVE ? ', and never freed' : `, up to row ${whole(to)}`}.`);
 }
 function chooseBlock(step) {
   const b = S.run.view(S.p).beside(chosenBlock(), step);

@@ -274,7 +274,8 @@ async function restore() {
   }
   S.linked = S.run;
   if (isFaulty) say(`The link is faulty: ${why}. This is the nearest state.`, true);
-  go(p === null ? Math.min(4000, S.run.count) : p);
+  // the first run is shown before its first refusal
+  go(p === null ? (S.name === FIRST ? S.run.count >> 2 : Math.min(4000, S.run.count)) : p);
   enter(false);
 }
 const titleOf = name => name === 'every' ? 'every command' : name.replace('-', ' ');

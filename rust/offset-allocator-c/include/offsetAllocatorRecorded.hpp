@@ -17,6 +17,8 @@
 #include "offsetAllocatorHeaps.hpp"
 
 #include <algorithm>
+#include <atomic>
+#include <cstddef>
 #include <cstdio>
 #include <cstdlib>
 #include <cstring>
@@ -121,12 +123,45 @@ private:
 
 const uint32 NO_HEAP = 0xffffffff;
 
+// The thread that was written last to a file that several heaps have. It lives as long as one of them.
+class LastThread {
+public:
+    LastThread() noexcept : held(new (std::nothrow) Said()) {}
+    explicit LastThread(std::nullptr_t) noexcept : held(nullptr) {}
+    LastThread(const LastThread &other) noexcept : held(other.held) {
+        if (held) held->uses++;
+    }
+    LastThread &operator=(const LastThread &) = delete;
+    ~LastThread() {
+        if (held && --held->uses == 0) delete held;
+    }
+    // Where memory is out it is never known to be this one.
+    bool is(uint64_t number) const { return held && held->isKnown && held->number == number; }
+    void set(uint64_t number) {
+        if (!held) return;
+        held->isKnown = true;
+        held->number = number;
+    }
+
+private:
+    struct Said {
+        std::atomic<unsigned> uses;
+        bool isKnown;
+        uint64_t number;
+        Said() noexcept : uses(1), isKnown(false), number(0) {}
+    };
+    Said *held;
+};
+
 // Writes the lines, of one heap of many after its number, and knows the numbers of grants.
 class Tape {
 public:
-    explicit Tape(std::FILE *file, uint32 number = NO_HEAP) noexcept : out(file), heap(number), held(nullptr), named(false), failed(file == nullptr) {}
+    explicit Tape(std::FILE *file, uint32 number = NO_HEAP) noexcept : Tape(file, number, LastThread(nullptr)) {}
+    Tape(std::FILE *file, uint32 number, const LastThread &of) noexcept
+        : out(file), heap(number), last(of), own(0), hasThread(false), isNew(false), held(nullptr), named(false), failed(file == nullptr) {}
     Tape(Tape &&other) noexcept
-        : numbers(std::move(other.numbers)), out(other.out), heap(other.heap), held(other.held), named(other.named), failed(other.failed) {
+        : numbers(std::move(other.numbers)), out(other.out), heap(other.heap), last(other.last), own(other.own), hasThread(other.hasThread), isNew(other.isNew),
+          held(other.held), named(other.named), failed(other.failed) {
         other.held = nullptr;
         other.failed = true;
     }
@@ -162,6 +197,7 @@ public:
     // The next request has no name: an empty line is between.
     void unname() {
         if (!named || failed) return;
+        putThread();
         putHeld();
         named = false;
         failed = failed || std::fputs("\n", out) == EOF || std::fflush(out) != 0;
@@ -169,17 +205,27 @@ public:
     // A mark: a name before it stays that of the next request.
     void mark(const char *text) {
         if (failed || !text) return;
+        putThread();
         put("#! ", text);
         failed = failed || std::fflush(out) != 0;
     }
     void markText(const char *text) {
         if (failed || !text) return;
+        putThread();
         put("#! mark ", text);
         failed = failed || std::fflush(out) != 0;
     }
     void mark(const char *what, uint64_t number) {
         if (failed) return;
-        failed = std::fprintf(out, "#! %s %llu\n", what, static_cast<unsigned long long>(number)) < 0 || std::fflush(out) != 0;
+        putThread();
+        failed = failed || std::fprintf(out, "#! %s %llu\n", what, static_cast<unsigned long long>(number)) < 0 || std::fflush(out) != 0;
+    }
+    // The thread of the calls from here on. That of one heap of many is held until its next line, and comes again where a line of
+    // another thread is between.
+    void thread(uint64_t number) {
+        if (heap == NO_HEAP) return mark("thread", number);
+        own = number;
+        hasThread = isNew = true;
     }
     void grant(uint32 name) {
         if (!failed && !numbers.grant(name)) failed = true;
@@ -277,6 +323,10 @@ protected:
 private:
     std::FILE *out;
     uint32 heap;
+    LastThread last;
+    // the thread of this heap's calls
+    uint64_t own;
+    bool hasThread, isNew;
     char *held;
     bool named;
     bool failed;
@@ -286,6 +336,12 @@ private:
         for (; *text; text++) std::fputc(*text == '\n' || *text == '\r' ? ' ' : *text, out);
         failed = std::fputc('\n', out) == EOF;
     }
+    void putThread() {
+        if (!hasThread || (!isNew && last.is(own))) return;
+        failed = failed || std::fprintf(out, "#! thread %llu\n", static_cast<unsigned long long>(own)) < 0;
+        last.set(own);
+        isNew = false;
+    }
     void putHeld() {
         if (held) put("# ", held);
         std::free(held);
@@ -293,6 +349,7 @@ private:
     }
     void prefix() {
         named = false;
+        putThread();
         putHeld();
         if (heap != NO_HEAP) failed = failed || std::fprintf(out, "heap %u ", static_cast<unsigned>(heap)) < 0;
     }
@@ -301,7 +358,8 @@ private:
 } // namespace detail
 
 // One recording of several allocators, each of which is a heap with a number, from 0 on: Recorded<A> textures(recording, 1 << 20).
-// The file is not closed. Calls of several threads need a lock of the program's.
+// The file is not closed. Calls of several threads need a lock of the program's. thread of a heap is of its own calls: where a line of
+// another thread has come between, the mark is written again.
 class Recording {
 public:
     explicit Recording(std::FILE *file) noexcept : out(file), heaps(0) {}
@@ -316,6 +374,7 @@ private:
     template <class A> friend class Recorded;
     std::FILE *out;
     uint32 heaps;
+    detail::LastThread last;
 };
 
 template <class A> class Recorded {
@@ -331,7 +390,7 @@ public:
     // 1 on. No recording begins with one that has ranges of no units, and lacks a node, or a unit, for one more.
     Recorded(std::FILE *file, A &&made) noexcept : space(std::move(made)), tape(file) { tape.begin(space); }
     // The next heap of a recording of several.
-    Recorded(Recording &of, A &&made) noexcept : space(std::move(made)), tape(of.out, of.heaps++) { tape.begin(space); }
+    Recorded(Recording &of, A &&made) noexcept : space(std::move(made)), tape(of.out, of.heaps++, of.last) { tape.begin(space); }
     Recorded(Recording &of, uint32 size, uint32 maxAllocs = 128 * 1024) noexcept : Recorded(of, A(size, maxAllocs)) {}
     Recorded(Recording &of, uint32 size, uint32 maxAllocs, uint32 realm) noexcept : Recorded(of, A(size, maxAllocs, realm)) {}
     Recorded(Recorded &&other) noexcept : space(std::move(other.space)), tape(std::move(other.tape)) {}
@@ -347,7 +406,7 @@ public:
     void frameEnd() { tape.mark("frame"); }
     void unit(uint32 bytes) { tape.mark("unit", bytes); }
     void time(uint64_t nanoseconds) { tape.mark("time", nanoseconds); }
-    void thread(uint64_t number) { tape.mark("thread", number); }
+    void thread(uint64_t number) { tape.thread(number); }
     void mark(const char *text) {
         tape.markText(text);
     }
@@ -500,7 +559,7 @@ public:
     void frameEnd() { tape.mark("frame"); }
     void unit(uint32 bytes) { tape.mark("unit", bytes); }
     void time(uint64_t nanoseconds) { tape.mark("time", nanoseconds); }
-    void thread(uint64_t number) { tape.mark("thread", number); }
+    void thread(uint64_t number) { tape.thread(number); }
     void mark(const char *text) {
         tape.markText(text);
     }

@@ -165,6 +165,36 @@ static void several(const std::string &path) {
           "one file");
 }
 
+// Each heap of one file has the thread of its own calls, also where a line of another is between.
+static void threads(const std::string &path) {
+    std::FILE *file = std::fopen(path.c_str(), "w");
+    Recording *recording = new Recording(file);
+    Recorded<GuardedAllocator> meshes(*recording, 100, 8), textures(*recording, 100, 8), sounds(*recording, 100, 8);
+    sounds.allocate(1);
+    meshes.thread(1);
+    Ticket first = meshes.allocate(2);
+    textures.thread(2);
+    textures.name("texture");
+    textures.allocate(3);
+    // the heaps may outlive it
+    delete recording;
+    meshes.frameEnd();
+    check(meshes.free(first), "freed");
+    meshes.allocate(4);
+    sounds.allocate(5);
+    Recorded<GuardedAllocator> moved(std::move(textures));
+    moved.allocate(6);
+    moved.thread(2);
+    moved.allocate(7);
+    meshes.thread(2);
+    meshes.allocate(8);
+    moved.allocate(9);
+    std::string text = of(file, path), heads = "heap 0 space 100 nodes 8 index 32\nheap 1 space 100 nodes 8 index 32\nheap 2 space 100 nodes 8 index 32\n";
+    check(text == heads + "heap 2 alloc 1\n#! thread 1\nheap 0 alloc 2\n#! thread 2\n# texture\nheap 1 alloc 3\n#! thread 1\n#! frame\nheap 0 free 1\nheap 0 alloc 4\n"
+          "heap 2 alloc 5\n#! thread 2\nheap 1 alloc 6\n#! thread 2\nheap 1 alloc 7\n#! thread 2\nheap 0 alloc 8\nheap 1 alloc 9\n",
+          "the thread of each");
+}
+
 static void manyHeaps(const std::string &path) {
     std::FILE *file = std::fopen(path.c_str(), "w");
     RecordedHeaps heaps(file, {1000, 16, 2, 1}, 1);
@@ -367,6 +397,7 @@ int main(int, char **arguments) {
     byHand(folder + "/hand.script");
     beginnings(folder + "/begun.script");
     several(folder + "/several.script");
+    threads(folder + "/threads.script");
     manyHeaps(folder + "/many.script");
     for (unsigned i = 0; i < 20; i++) randomHeaps(i + 1, folder + "/heaps-" + std::to_string(i));
     for (unsigned i = 0; i < 20; i++) {

@@ -12,7 +12,8 @@ use std::sync::{Arc, Mutex};
 
 /// A recording of several allocators of the program's own, each of which is a heap with a number, from 0 on.
 ///
-/// The parts may be on several threads: a line, with its name, is written at once.
+/// The parts may be on several threads: a line, with its name, is written at once. `thread` of a part is of the calls of its own
+/// heap: where a line of another thread has come between, the mark is written again.
 ///
 /// ```
 /// # use offset_allocator_recorded::*;
@@ -32,16 +33,22 @@ use std::sync::{Arc, Mutex};
 /// );
 /// ```
 pub struct Recording<W: Write> {
-    out: Arc<Mutex<W>>,
+    out: Arc<Mutex<Shared<W>>>,
     heaps: u32,
     // the name of the next heap
     name: Vec<u8>,
 }
 
+// What the heaps of one recording share: the writer, and the mark of a thread that was written last.
+struct Shared<W> {
+    out: W,
+    thread: Vec<u8>,
+}
+
 impl<W: Write> Recording<W> {
     /// A recording of no heap yet.
     pub fn new(out: W) -> Self {
-        Recording { out: Arc::new(Mutex::new(out)), heaps: 0, name: Vec::new() }
+        Recording { out: Arc::new(Mutex::new(Shared { out, thread: Vec::new() })), heaps: 0, name: Vec::new() }
     }
 
     /// The name of the next heap, for who reads the recording. Line ends become spaces.
@@ -53,7 +60,7 @@ impl<W: Write> Recording<W> {
     // the writer of the next heap
     fn part(&mut self) -> Part<W> {
         self.heaps += 1;
-        Part { out: self.out.clone(), heap: self.heaps - 1, thread: Vec::new(), held: std::mem::take(&mut self.name) }
+        Part { out: self.out.clone(), heap: self.heaps - 1, thread: Vec::new(), is_new: false, held: std::mem::take(&mut self.name) }
     }
 
     /// Records one more allocator, as `Recorded::new` does.
@@ -66,19 +73,40 @@ impl<W: Write> Recording<W> {
         Recorded::guarded(space, self.part())
     }
 
-    /// The writer, or `None` while an allocator of the recording is still recorded.
-    pub fn finish(self) -> Option<W> {
-        let out = Arc::try_unwrap(self.out).ok()?;
-        Some(out.into_inner().unwrap_or_else(|broken| broken.into_inner()))
+    /// The writer; or the recording itself, which goes on, while an allocator of it is still recorded.
+    ///
+    /// ```
+    /// # use offset_allocator_recorded::*;
+    /// # use offset_allocator_guarded::Guarded;
+    /// let mut recording = Recording::new(Vec::new());
+    /// let meshes = recording.guarded(Guarded::<u32>::with_max_allocs(Global, 1000, 16, 1).unwrap()).unwrap();
+    /// let recording = recording.finish().unwrap_err();
+    /// drop(meshes);
+    /// assert_eq!(recording.finish().unwrap(), b"heap 0 space 1000 nodes 16 index 32\n");
+    /// ```
+    pub fn finish(self) -> Result<W, Self> {
+        let Recording { out, heaps, name } = self;
+        match Arc::try_unwrap(out) {
+            Ok(shared) => Ok(shared.into_inner().unwrap_or_else(|broken| broken.into_inner()).out),
+            Err(out) => Err(Recording { out, heaps, name }),
+        }
+    }
+}
+
+impl<W: Write> std::fmt::Debug for Recording<W> {
+    fn fmt(&self, f: &mut std::fmt::Formatter) -> std::fmt::Result {
+        f.debug_struct("Recording").field("heaps", &self.heaps).finish_non_exhaustive()
     }
 }
 
 /// What writes the lines of one heap of a recording.
 pub struct Part<W: Write> {
-    out: Arc<Mutex<W>>,
+    out: Arc<Mutex<Shared<W>>>,
     heap: u32,
-    // the mark of a thread, and a name, which go out with the next line
+    // the mark of the thread of this heap's calls, which goes out with the next line where it is new, or another was written since
     thread: Vec<u8>,
+    is_new: bool,
+    // a name, which goes out with the next request
     held: Vec<u8>,
 }
 
@@ -95,6 +123,7 @@ impl<W: Write> Write for Part<W> {
         let is_mark = line.starts_with(b"#!");
         if line.starts_with(b"#! thread ") {
             self.thread = line.to_vec();
+            self.is_new = true;
             return Ok(line.len());
         }
         if line.starts_with(b"#") && !is_mark {
@@ -102,8 +131,10 @@ impl<W: Write> Write for Part<W> {
             self.held.extend_from_slice(line);
             return Ok(line.len());
         }
+        let mut shared = self.out.lock().unwrap_or_else(|broken| broken.into_inner());
+        let is_said = !self.is_new && shared.thread == self.thread;
+        let mut all = if is_said { Vec::new() } else { self.thread.clone() };
         // a name stays that of the next request
-        let mut all = std::mem::take(&mut self.thread);
         if !is_mark {
             all.append(&mut self.held);
             if line != b"\n" {
@@ -111,9 +142,12 @@ impl<W: Write> Write for Part<W> {
             }
         }
         all.extend_from_slice(line);
-        let mut out = self.out.lock().unwrap_or_else(|broken| broken.into_inner());
-        out.write_all(&all)?;
-        out.flush()?;
+        shared.out.write_all(&all)?;
+        if !is_said && !self.thread.is_empty() {
+            shared.thread.clone_from(&self.thread);
+        }
+        self.is_new = false;
+        shared.out.flush()?;
         Ok(line.len())
     }
 

@@ -123,6 +123,53 @@ fn several_threads_write_whole_lines() {
 }
 
 #[test]
+fn each_heap_has_the_thread_of_its_own_calls() {
+    let mut recording = Recording::new(Vec::new());
+    let mut meshes = recording.guarded(Guarded::<u32>::with_max_allocs(Global, 100, 8, 1).unwrap()).unwrap();
+    let mut textures = recording.guarded(Guarded::<u32>::with_max_allocs(Global, 100, 8, 2).unwrap()).unwrap();
+    let mut sounds = recording.guarded(Guarded::<u32>::with_max_allocs(Global, 100, 8, 3).unwrap()).unwrap();
+    // it never says its thread
+    sounds.allocate(1);
+    meshes.thread(1);
+    let first = meshes.allocate(2).unwrap();
+    textures.thread(2);
+    textures.name("texture").allocate(3);
+    // the calls of the meshes are still those of thread 1, and their marks too
+    meshes.frame_end();
+    meshes.free(first);
+    meshes.allocate(4);
+    sounds.allocate(5);
+    textures.allocate(6);
+    textures.thread(2);
+    textures.allocate(7);
+    meshes.thread(2);
+    meshes.allocate(8);
+    textures.allocate(9);
+    drop((meshes, textures, sounds));
+    let text = String::from_utf8(recording.finish().unwrap()).unwrap();
+    assert_eq!(
+        text.split_once("\nheap 2 space 100 nodes 8 index 32\n").unwrap().1,
+        "heap 2 alloc 1\n#! thread 1\nheap 0 alloc 2\n#! thread 2\n# texture\nheap 1 alloc 3\n#! thread 1\n#! frame\nheap 0 free 1\nheap 0 alloc 4\n\
+         heap 2 alloc 5\n#! thread 2\nheap 1 alloc 6\n#! thread 2\nheap 1 alloc 7\n#! thread 2\nheap 0 alloc 8\nheap 1 alloc 9\n"
+    );
+}
+
+#[test]
+fn a_recording_that_is_finished_too_early_goes_on() {
+    let mut recording = Recording::new(Vec::new());
+    let mut meshes = recording.guarded(Guarded::<u32>::with_max_allocs(Global, 100, 8, 1).unwrap()).unwrap();
+    recording.name("textures");
+    let mut recording = recording.finish().unwrap_err();
+    assert_eq!(format!("{recording:?}"), "Recording { heaps: 1, .. }");
+    meshes.allocate(9);
+    let textures = recording.guarded(Guarded::<u32>::with_max_allocs(Global, 50, 8, 2).unwrap()).unwrap();
+    let recording = recording.finish().unwrap_err();
+    drop((meshes, textures));
+    let text = String::from_utf8(recording.finish().unwrap()).unwrap();
+    assert_eq!(text, "heap 0 space 100 nodes 8 index 32\nheap 0 alloc 9\n# textures\nheap 1 space 50 nodes 8 index 32\n");
+}
+
+#[test]
 fn a_failure_ends_the_recording_alone() {
     let limits = Limits { size: 1000, max_allocs: 16, most: 2, most_larger: 1 };
     let mut room = [0u8; 60];
