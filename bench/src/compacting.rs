@@ -49,7 +49,7 @@ impl Pool {
 #[inline(never)]
 pub fn compacting_compact(pool: &mut Pool) {
     let mut ranges = pool.ranges.iter_mut();
-    pool.space.compact(&mut |moved| {
+    pool.space.compact(|moved| {
         // the next range that was there: those before the first hole do not move
         ranges.find(|range| range.handle.offset == moved.from).unwrap().handle = moved.allocation();
     });

@@ -103,7 +103,7 @@ fn play<S: Space>(size: u32, trace: &Trace, mut prepare: impl FnMut(&mut S, usiz
 fn once(size: u32, trace: &Trace, at: usize) -> Vec<u64> {
     let prepare = |space: &mut Ours, step: usize, _: u32| {
         if step == at {
-            space.compact(&mut |_| ());
+            space.compact(|_| ());
         }
     };
     play(size, trace, prepare)

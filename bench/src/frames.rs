@@ -66,7 +66,7 @@ impl Player {
     }
 
     fn slide(&mut self, most: u32) -> (u32, u32) {
-        let Some(progress) = self.space.compact_within(1, self.from, most, RANGES, &mut |_| ()) else { return (0, 0) };
+        let Some(progress) = self.space.compact_within(1, self.from, most, RANGES, |_| ()) else { return (0, 0) };
         self.from = progress.next.unwrap_or(0);
         (progress.units, progress.ranges)
     }

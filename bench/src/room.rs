@@ -65,7 +65,7 @@ pub fn room_ask(space: &mut Allocator, size: u32) -> Option<RoomCost> {
 #[inline(never)]
 pub fn room_make(space: &mut Allocator, size: u32) -> Option<RoomCost> {
     let mut found = RoomCost { units: 0, ranges: 0 };
-    let cost = space.make_room(size, &mut |moved| {
+    let cost = space.make_room(size, |moved| {
         found = RoomCost { units: found.units + moved.size, ranges: found.ranges + 1 };
     });
     assert_eq!(cost, Some(found));
@@ -76,7 +76,7 @@ pub fn room_make(space: &mut Allocator, size: u32) -> Option<RoomCost> {
 #[inline(never)]
 pub fn room_compact(space: &mut Allocator, _size: u32) -> Option<RoomCost> {
     let mut found = RoomCost { units: 0, ranges: 0 };
-    space.compact(&mut |moved| {
+    space.compact(|moved| {
         found = RoomCost { units: found.units + moved.size, ranges: found.ranges + 1 };
     });
     Some(found)

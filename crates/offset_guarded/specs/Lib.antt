@@ -3,3 +3,4 @@ pub mod Guard
 pub mod Numbers
 pub mod State
 pub mod StateFaults
+pub mod Values

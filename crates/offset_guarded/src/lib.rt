@@ -36,6 +36,7 @@ mod saving;
 mod serials;
 mod state;
 mod ticket;
+mod values;
 
 pub use offset_allocator::ReadError;
 use offset_allocator::laws::is_well_formed;
@@ -47,6 +48,7 @@ use std::alloc::{AllocError, Global};
 use std::fmt;
 use std::marker::Model;
 pub use ticket::Ticket;
+pub use values::Beside;
 
 /// The allocator of one space, with tickets in place of handles, and one table of nodes.
 pub type Guarded<NI = u32> = GuardedOf<ByNode<NI>>;

@@ -54,7 +54,7 @@ fn main() -> Result<(), Box<dyn std::error::Error>> {
             writeln!(out, "report {} {} {plain} {aligned}", report.total_free_space, report.largest_free_region)?;
         } else if step % 997 == 0 {
             let mut moved = 0u32;
-            a.compact(&mut |range: offset_allocator_proved::Move| {
+            a.compact(|range: offset_allocator_proved::Move| {
                 let name = range.allocation().to_parts().1;
                 let sum = range.from.wrapping_mul(7).wrapping_add(range.to.wrapping_mul(3)).wrapping_add(range.size);
                 moved = moved.wrapping_mul(31).wrapping_add(sum).wrapping_add(name);

@@ -541,7 +541,7 @@ exports! {
         moved: Option<Callback>,
         user: Option<NonNull<c_void>>
     ) -> () {
-        space.compact(&mut calls(moved, user))
+        space.compact(calls(moved, user))
     } else ();
 
     fn oa_compact_by(
@@ -550,7 +550,7 @@ exports! {
         moved: Option<Callback>,
         user: Option<NonNull<c_void>>
     ) -> bool {
-        step != 0 && space.compact_by(step, &mut calls(moved, user))
+        step != 0 && space.compact_by(step, calls(moved, user))
     } else false;
 
     fn oa_compact_within(
@@ -565,7 +565,7 @@ exports! {
         if step == 0 {
             return Progressed::default();
         }
-        progressed(space.compact_within(step, from, most_units, most_ranges, &mut calls(moved, user)))
+        progressed(space.compact_within(step, from, most_units, most_ranges, calls(moved, user)))
     } else Progressed::default();
 
     fn oa_copy_in_pieces(
@@ -606,7 +606,7 @@ exports! {
         moved: Option<Callback>,
         user: Option<NonNull<c_void>>
     ) -> Room {
-        room(space.make_room(size, &mut calls(moved, user)))
+        room(space.make_room(size, calls(moved, user)))
     } else Room::default();
 
     fn oa_make_room_by(
@@ -620,7 +620,7 @@ exports! {
         if align == 0 || step == 0 {
             return Room::default();
         }
-        room(space.make_room_by(size, align, step, &mut calls(moved, user)))
+        room(space.make_room_by(size, align, step, calls(moved, user)))
     } else Room::default();
 
     fn oa_size([space: &Space],) -> u32 { space.size() } else 0;
@@ -825,7 +825,7 @@ exports! {
         moved: Option<Callback>,
         user: Option<NonNull<c_void>>
     ) -> () {
-        space.compact(&mut calls(moved, user))
+        space.compact(calls(moved, user))
     } else ();
 
     fn oag_compact_by(
@@ -834,7 +834,7 @@ exports! {
         moved: Option<Callback>,
         user: Option<NonNull<c_void>>
     ) -> bool {
-        step != 0 && space.compact_by(step, &mut calls(moved, user))
+        step != 0 && space.compact_by(step, calls(moved, user))
     } else false;
 
     fn oag_compact_within(
@@ -849,7 +849,7 @@ exports! {
         if step == 0 {
             return Progressed::default();
         }
-        progressed(space.compact_within(step, from, most_units, most_ranges, &mut calls(moved, user)))
+        progressed(space.compact_within(step, from, most_units, most_ranges, calls(moved, user)))
     } else Progressed::default();
 
     fn oag_make_room(
@@ -858,7 +858,7 @@ exports! {
         moved: Option<Callback>,
         user: Option<NonNull<c_void>>
     ) -> Room {
-        room(space.make_room(size, &mut calls(moved, user)))
+        room(space.make_room(size, calls(moved, user)))
     } else Room::default();
 
     fn oag_make_room_by(
@@ -872,7 +872,7 @@ exports! {
         if align == 0 || step == 0 {
             return Room::default();
         }
-        room(space.make_room_by(size, align, step, &mut calls(moved, user)))
+        room(space.make_room_by(size, align, step, calls(moved, user)))
     } else Room::default();
 
     fn oag_size([space: &GuardedSpace],) -> u32 { space.allocator().size() } else 0;

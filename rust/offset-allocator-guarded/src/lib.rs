@@ -42,6 +42,7 @@ mod saving;
 mod serials;
 mod state;
 mod ticket;
+mod values;
 
 pub use offset_allocator::ReadError;
 use offset_allocator::{Allocation, AllocatorOf, ByNode, NodeIndex, Tables};
@@ -50,6 +51,7 @@ use serials::Serials;
 pub use state::{StateFault, StateFaultKind};
 use core::fmt;
 pub use ticket::Ticket;
+pub use values::Beside;
 
 /// The allocator of one space, with tickets in place of handles, and one table of nodes.
 pub type Guarded<NI = u32> = GuardedOf<ByNode<NI>>;

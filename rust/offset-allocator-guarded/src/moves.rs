@@ -18,12 +18,12 @@ impl<T: Tables> GuardedOf<T> {
     /// let hole = guarded.allocate(300).unwrap();
     /// let mesh = guarded.allocate(100).unwrap();
     /// guarded.free(hole);
-    /// guarded.compact(&mut |it| assert_eq!((it.from, it.to, it.size), (300, 0, 100)));
+    /// guarded.compact(|it| assert_eq!((it.from, it.to, it.size), (300, 0, 100)));
     /// assert_eq!(guarded.offset_of(mesh), Some(0));
     /// # Ok::<(), AllocError>(())
     /// ```
-    pub fn compact<F: FnMut(Move<T::Index>)>(&mut self, moved: &mut F) {
-        self.space.compact(moved);
+    pub fn compact<F: FnMut(Move<T::Index>)>(&mut self, mut moved: F) {
+        self.space.compact(&mut moved);
     }
 
     /// Slides live ranges to the front of the space by whole steps, as `Allocator::compact_by` does: each keeps
@@ -41,14 +41,14 @@ impl<T: Tables> GuardedOf<T> {
     /// let hole = guarded.allocate(300).unwrap();
     /// let mesh = guarded.allocate_aligned(256, 256).unwrap();
     /// guarded.free(hole);
-    /// assert!(guarded.compact_by(256, &mut |it| assert_eq!((it.from, it.to, it.size), (512, 0, 256))));
+    /// assert!(guarded.compact_by(256, |it| assert_eq!((it.from, it.to, it.size), (512, 0, 256))));
     /// assert_eq!(guarded.offset_of(mesh), Some(0));
     /// # Ok::<(), AllocError>(())
     /// ```
     #[track_caller]
-    pub fn compact_by<F: FnMut(Move<T::Index>)>(&mut self, step: u32, moved: &mut F) -> bool {
+    pub fn compact_by<F: FnMut(Move<T::Index>)>(&mut self, step: u32, mut moved: F) -> bool {
         assert!(1 <= step, "the step must be at least 1");
-        self.space.compact_by(step, moved)
+        self.space.compact_by(step, &mut moved)
     }
 
     /// Slides live ranges to the front by whole steps, from the offset `from` on and within a budget, as
@@ -68,7 +68,7 @@ impl<T: Tables> GuardedOf<T> {
     /// let mesh = guarded.allocate(100).unwrap();
     /// guarded.allocate(100);
     /// guarded.free(hole);
-    /// let progress = guarded.compact_within(1, 0, 150, 8, &mut |_| {}).unwrap();
+    /// let progress = guarded.compact_within(1, 0, 150, 8, |_| {}).unwrap();
     /// assert_eq!((progress.units, progress.ranges, progress.next), (100, 1, Some(400)));
     /// assert_eq!(guarded.offset_of(mesh), Some(0));
     /// # Ok::<(), AllocError>(())
@@ -80,11 +80,11 @@ impl<T: Tables> GuardedOf<T> {
         from: u32,
         most_units: u32,
         most_ranges: u32,
-        moved: &mut F,
+        mut moved: F,
     ) -> Option<Progress> {
         assert!(1 <= step, "the step must be at least 1");
         self.space
-            .compact_within(step, from, most_units, most_ranges, moved)
+            .compact_within(step, from, most_units, most_ranges, &mut moved)
     }
 
     /// Makes room for a request of `size` units, where ranges have to move for it, as `Allocator::make_room`
@@ -99,16 +99,16 @@ impl<T: Tables> GuardedOf<T> {
     /// guarded.allocate(100);
     /// guarded.free(hole);
     /// assert!(guarded.allocate(800).is_none());
-    /// guarded.make_room(800, &mut |it| assert_eq!((it.from, it.to, it.size), (300, 0, 100)));
+    /// guarded.make_room(800, |it| assert_eq!((it.from, it.to, it.size), (300, 0, 100)));
     /// assert!(guarded.allocate(800).is_some());
     /// # Ok::<(), AllocError>(())
     /// ```
     pub fn make_room<F: FnMut(Move<T::Index>)>(
         &mut self,
         size: u32,
-        moved: &mut F,
+        mut moved: F,
     ) -> Option<RoomCost> {
-        self.space.make_room(size, moved)
+        self.space.make_room(size, &mut moved)
     }
 
     /// Makes room for `allocate_aligned(size, align)` by whole steps, as `Allocator::make_room_by` does: each
@@ -128,7 +128,7 @@ impl<T: Tables> GuardedOf<T> {
     /// guarded.allocate_aligned(200, 256);
     /// guarded.free(hole);
     /// assert!(guarded.allocate_aligned(512, 256).is_none());
-    /// guarded.make_room_by(512, 256, 256, &mut |it| assert_eq!((it.from, it.to, it.size), (512, 0, 200)));
+    /// guarded.make_room_by(512, 256, 256, |it| assert_eq!((it.from, it.to, it.size), (512, 0, 200)));
     /// assert!(guarded.allocate_aligned(512, 256).is_some());
     /// # Ok::<(), AllocError>(())
     /// ```
@@ -138,10 +138,10 @@ impl<T: Tables> GuardedOf<T> {
         size: u32,
         align: u32,
         step: u32,
-        moved: &mut F,
+        mut moved: F,
     ) -> Option<RoomCost> {
         assert!(1 <= align, "the alignment must be at least 1");
         assert!(1 <= step, "the step must be at least 1");
-        self.space.make_room_by(size, align, step, moved)
+        self.space.make_room_by(size, align, step, &mut moved)
     }
 }

@@ -163,7 +163,7 @@ impl<T: Tables> Space for AllocatorOf<T> {
 
     fn compact(&mut self, mut moved: impl FnMut(u32, u32, u32)) -> Vec<Option<Self::Grant>> {
         let mut found = Vec::new();
-        self.compact(&mut |range| {
+        self.compact(|range| {
             moved(range.from, range.to, range.size);
             found.push(Some(range.allocation()));
         });
@@ -276,7 +276,7 @@ impl<T: Tables> Space for GuardedOf<T> {
 
     fn compact(&mut self, mut moved: impl FnMut(u32, u32, u32)) -> Vec<Option<Ticket>> {
         let mut found = Vec::new();
-        self.compact(&mut |range| {
+        self.compact(|range| {
             moved(range.from, range.to, range.size);
             found.push(range.allocation());
         });

@@ -126,7 +126,7 @@ fn check<T: Tables>(space: &mut AllocatorOf<T>, step: u32, random: &mut Random, 
         }
     }
     let mut moves = Vec::new();
-    let is_done = space.compact_by(step, &mut |it| {
+    let is_done = space.compact_by(step, |it| {
         moves.push((it.allocation(), it.from, it.to, it.size));
         if size <= MOST_BYTES {
             bytes.copy_within(it.from as usize..(it.from + it.size) as usize, it.to as usize);
@@ -282,8 +282,8 @@ fn check_compact<T: Tables>(space: &AllocatorOf<T>) {
     let mut other = space.try_clone(Global).unwrap();
     let mut by_one = space.try_clone(Global).unwrap();
     let (mut moves, mut moves_by_one) = (Vec::new(), Vec::new());
-    other.compact(&mut |it| moves.push((it.allocation(), it.from, it.to, it.size)));
-    if !by_one.compact_by(1, &mut |it| moves_by_one.push((it.allocation(), it.from, it.to, it.size))) {
+    other.compact(|it| moves.push((it.allocation(), it.from, it.to, it.size)));
+    if !by_one.compact_by(1, |it| moves_by_one.push((it.allocation(), it.from, it.to, it.size))) {
         assert!(by_one.is_full() && moves_by_one.is_empty());
         return;
     }
@@ -413,8 +413,8 @@ fn play_with_tickets<T: Tables>(random: &mut Random) {
         let wanted = expected(&plain, step);
         let ranges = live_ranges(&plain);
         let (mut moves, mut plain_moves) = (Vec::new(), Vec::new());
-        let is_done = copy.compact_by(step, &mut |it| moves.push((it.allocation(), it.from, it.to, it.size)));
-        let plain_done = plain.compact_by(step, &mut |it| plain_moves.push((it.allocation(), it.from, it.to, it.size)));
+        let is_done = copy.compact_by(step, |it| moves.push((it.allocation(), it.from, it.to, it.size)));
+        let plain_done = plain.compact_by(step, |it| plain_moves.push((it.allocation(), it.from, it.to, it.size)));
         assert_eq!((is_done, &moves), (plain_done, &plain_moves));
         assert_eq!(is_done, wanted.is_done);
         for ticket in &held {

@@ -47,7 +47,7 @@ impl Pool {
     /// Moves all meshes to the front of the buffer, and returns how many vertices were copied.
     fn defragment(&mut self) -> u32 {
         let mut copied = 0;
-        self.space.compact(&mut |moved| {
+        self.space.compact(|moved| {
             let from = moved.from as usize;
             self.buffer.copy_within(from..from + moved.size as usize, moved.to as usize);
             copied += moved.size;

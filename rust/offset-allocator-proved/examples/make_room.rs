@@ -46,7 +46,7 @@ impl Pool {
         if !self.space.room_cost(vertices).is_some_and(|cost| cost.units <= BUDGET) {
             return false;
         }
-        self.space.make_room(vertices, &mut |moved| {
+        self.space.make_room(vertices, |moved| {
             let from = moved.from as usize;
             self.buffer.copy_within(from..from + moved.size as usize, moved.to as usize);
             self.copied += u64::from(moved.size);
@@ -61,7 +61,7 @@ impl Pool {
     /// The vertices that `compact` would copy.
     fn copied_by_compact(&self) -> Result<u64, AllocError> {
         let mut copied = 0;
-        self.space.try_clone(Global)?.compact(&mut |moved| copied += u64::from(moved.size));
+        self.space.try_clone(Global)?.compact(|moved| copied += u64::from(moved.size));
         Ok(copied)
     }
 

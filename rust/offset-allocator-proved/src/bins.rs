@@ -76,7 +76,7 @@ pub(crate) fn push<T: Tables>(store: &mut Store<T>, name: u32, class: u32) {
     let newest = tables.head(class, count);
     tables.set_head(class, name, count);
     tables.set_links(name, no_link(), T::Index::from_u32(newest), count);
-    if newest == T::Index::MAX {
+    if !tables.has(newest) {
         let word = class / 64;
         let mask = tables.mask(word, count);
         tables.set_mask(word, mask | 1 << (class % 64), count);
@@ -101,7 +101,7 @@ fn clear_bit<T: Tables>(store: &mut Store<T>, class: u32) {
 
 // Sets the link to a newer node of the node that `at` names, if it names one, to `to`.
 fn link_newer<T: Tables>(tables: &mut T, at: T::Index, to: T::Index, count: &mut Accesses) {
-    if number(at) != T::Index::MAX {
+    if tables.has(number(at)) {
         tables.set_newer(number(at), to, count);
     }
 }
@@ -113,7 +113,7 @@ fn remove_newest<T: Tables>(store: &mut Store<T>, class: u32, older: T::Index) {
     let count = &mut store.accesses;
     let next = number(older);
     tables.set_head(class, next, count);
-    if next == T::Index::MAX {
+    if !tables.has(next) {
         clear_bit(store, class);
     } else {
         tables.set_newer(next, no_link(), count);
@@ -126,7 +126,7 @@ fn remove_linked<T: Tables>(store: &mut Store<T>, name: u32, newer: T::Index, si
     let tables = &mut store.tables;
     let count = &mut store.accesses;
     let older = tables.older(name, count);
-    if number(newer) == T::Index::MAX {
+    if !tables.has(number(newer)) {
         // the head changes only for the newest name, so only then is the class computed
         remove_newest(store, uint_to_float_round_down(size), older);
     } else {
@@ -147,7 +147,7 @@ pub(crate) fn remove<T: Tables>(store: &mut Store<T>, name: u32, size: u32) {
 #[inline(always)]
 pub(crate) fn exchange<T: Tables>(store: &mut Store<T>, gone: u32, size: u32, name: u32, class: u32) {
     let newer = store.tables.newer(gone, &mut store.accesses);
-    if number(newer) == T::Index::MAX && class == uint_to_float_round_down(size) {
+    if !store.tables.has(number(newer)) && class == uint_to_float_round_down(size) {
         // the bin is empty neither before nor after, so the masks stay
         let tables = &mut store.tables;
         let count = &mut store.accesses;

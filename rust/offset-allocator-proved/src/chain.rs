@@ -13,6 +13,13 @@ pub(crate) fn start<T: Tables>(tables: &mut T, size: u32, max_allocs: u32, count
     tables.set_block(0, 0, size, no_link(), no_link(), count);
 }
 
+/// The node that a link names, if any.
+#[inline(always)]
+pub(crate) fn named<T: Tables>(tables: &T, link: T::Index) -> Option<u32> {
+    let name = number(link);
+    if tables.has(name) { Some(name) } else { None }
+}
+
 /// Whether a block is used.
 pub(crate) fn is_used<T: Tables>(tables: &T, name: u32, count: &mut Accesses) -> bool {
     tables.used(name, count)
@@ -20,7 +27,7 @@ pub(crate) fn is_used<T: Tables>(tables: &T, name: u32, count: &mut Accesses) ->
 
 /// Whether any given name is that of a used block. It counts one access for a name that no node has, too.
 pub(crate) fn is_live<T: Tables>(tables: &T, name: u32, count: &mut Accesses) -> bool {
-    if name < tables.len() {
+    if tables.has(name) {
         is_used(tables, name, count)
     } else {
         count.tick();
@@ -46,7 +53,7 @@ pub(crate) fn point_back<T: Tables>(
     name: u32,
     count: &mut Accesses,
 ) {
-    match linked(link) {
+    match named(tables, link) {
         Some(after) => {
             let back = tables.link_to(name);
             tables.set_before(after, back, count)
@@ -57,7 +64,7 @@ pub(crate) fn point_back<T: Tables>(
 
 // Makes `name` the block after the one that `link` names, if any.
 pub(crate) fn point_on<T: Tables>(tables: &mut T, link: T::Index, name: u32, count: &mut Accesses) {
-    if let Some(before) = linked(link) {
+    if let Some(before) = named(tables, link) {
         let on = tables.link_to(name);
         tables.set_after(before, on, count);
     }

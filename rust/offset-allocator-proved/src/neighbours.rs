@@ -12,7 +12,8 @@ use crate::{bins, chain};
 // The name of a free block directly before a block, if there is one.
 #[inline(always)]
 fn free_before<T: Tables>(tables: &T, name: u32, count: &mut Accesses) -> Option<u32> {
-    if let Some(previous) = chain::before(tables, name, count) {
+    let link = tables.before(name, count);
+    if let Some(previous) = chain::named(tables, link) {
         if !chain::is_used(tables, previous, count) {
             return Some(previous);
         }
@@ -23,7 +24,8 @@ fn free_before<T: Tables>(tables: &T, name: u32, count: &mut Accesses) -> Option
 /// The name of a free block directly after a block, if there is one.
 #[inline(always)]
 pub(crate) fn free_after<T: Tables>(tables: &T, name: u32, count: &mut Accesses) -> Option<u32> {
-    if let Some(following) = chain::after(tables, name, count) {
+    let link = tables.after(name, count);
+    if let Some(following) = chain::named(tables, link) {
         if !chain::is_used(tables, following, count) {
             return Some(following);
         }

@@ -37,7 +37,7 @@ fn narrow(number: u64) -> Option<u32> {
 }
 
 impl Scale {
-    /// The units that hold so many bytes, the fewest, or `None` where more than 4294967295 are needed.
+    /// Returns the fewest units that hold `bytes` bytes, or `None` if more than 4294967295 are needed.
     ///
     /// ```
     /// # use offset_allocator_proved::*;
@@ -57,7 +57,7 @@ impl Scale {
         narrow(whole.saturating_add(1))
     }
 
-    /// The bytes of so many units, or `None` where they are more than 64 bits can say.
+    /// Returns the bytes of `units` units, or `None` if they need more than 64 bits.
     ///
     /// ```
     /// # use offset_allocator_proved::*;
@@ -70,7 +70,7 @@ impl Scale {
         self.unit.checked_mul(units as u64)
     }
 
-    /// The address at which the unit of an offset begins, or `None` where it has more than 64 bits.
+    /// Returns the address at which the unit at `offset` begins, or `None` if it needs more than 64 bits.
     ///
     /// ```
     /// # use offset_allocator_proved::*;
@@ -84,8 +84,8 @@ impl Scale {
         self.base.checked_add(bytes)
     }
 
-    /// The offset of the unit that has the byte at an address, or `None` where the address is before the first
-    /// unit, or behind the last one that an offset can have.
+    /// Returns the offset of the unit that has the byte at `address`, or `None` if the address is before the
+    /// first unit, or after the last one that an offset of 32 bits can have.
     ///
     /// ```
     /// # use offset_allocator_proved::*;
@@ -102,10 +102,10 @@ impl Scale {
         narrow((address - self.base) / self.unit)
     }
 
-    /// The alignment, in units, of the offsets whose addresses are multiples of so many bytes: exactly these
-    /// are multiples of it. `None` is returned where `bytes` is 0, where the base is not a multiple of
-    /// `bytes`, where neither of `bytes` and `unit` is a multiple of the other, and where the alignment would
-    /// be above 4294967295.
+    /// Returns the alignment in units: the offsets that are its multiples are exactly those whose addresses
+    /// are multiples of `bytes`. `None` is returned if `bytes` is 0, if the base is not a multiple of `bytes`,
+    /// if neither of `bytes` and `unit` is a multiple of the other, and if the alignment would be above
+    /// 4294967295.
     ///
     /// ```
     /// # use offset_allocator_proved::*;

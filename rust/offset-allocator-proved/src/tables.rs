@@ -27,6 +27,10 @@ pub trait Tables: Sized {
     /// The number of nodes that were made.
     fn len(&self) -> u32;
 
+    /// Whether a number is the name of a node that was made. Where it is not, as with the largest number,
+    /// it is no place in the tables either: so one test is both.
+    fn has(&self, name: u32) -> bool;
+
     /// Makes one more node, which is blank. Its name is a new last entry of the stack of unused names, and
     /// becomes the one at a place of it.
     fn add(&mut self, place: u32, count: &mut Accesses);

@@ -171,7 +171,7 @@ fn compacts() {
     let third = a.allocate(30).unwrap();
     a.free(first);
     let mut moves = Vec::new();
-    a.compact(&mut |range| moves.push((range.from, range.to, range.size, range.allocation())));
+    a.compact(|range| moves.push((range.from, range.to, range.size, range.allocation())));
     let [mut second_now, mut third_now] = [second, third];
     (second_now.offset, third_now.offset) = (0, 20);
     assert_eq!(moves, [(10, 0, 20, second_now), (30, 20, 30, third_now)]);
@@ -236,7 +236,7 @@ fn a_fragmented_request_fits_after_one_compaction() {
     assert_eq!((a.refusal(24), a.refusal(25), a.refusal(48)), (None, Some(Refusal::Fragmented), Some(Refusal::Fragmented)));
     assert_eq!((a.refusal(49), a.refusal(96), a.refusal(97)), (Some(Refusal::Space), Some(Refusal::Space), Some(Refusal::TooLarge)));
     assert_eq!((a.refusal_aligned(33, 16), a.refusal_aligned(34, 16)), (Some(Refusal::Fragmented), Some(Refusal::Space)));
-    a.compact(&mut |_| ());
+    a.compact(|_| ());
     assert_eq!((a.refusal(48), a.refusal(49), a.refusal_aligned(33, 16)), (None, Some(Refusal::Space), None));
     // nothing is fragmented in a fresh space, so compaction is not advised
     assert_eq!(space(u32::MAX, 16).refusal(4_026_531_841), Some(Refusal::TooLarge));

@@ -77,7 +77,7 @@ fn a_side_table_by_name() {
     let rock = heap.blocks().last().and_then(|block| block.allocation).unwrap();
     assert_eq!(meshes[rock.name() as usize].take(), Some("rock"));
     heap.free(rock);
-    heap.compact(&mut |_| {});
+    heap.compact(|_| {});
     let tree = heap.blocks().last().and_then(|block| block.allocation).unwrap();
     assert_eq!((tree.offset, meshes[tree.name() as usize]), (0, Some("tree")));
     assert!(meshes.iter().flatten().count() == 1 && tree.name() < heap.node_count());
@@ -91,7 +91,7 @@ fn a_moved_handle_is_another_key() {
     let known = HashSet::from([second]);
     heap.free(first);
     let mut moved = Vec::new();
-    heap.compact(&mut |range| moved.push(range.allocation()));
+    heap.compact(|range| moved.push(range.allocation()));
     assert!(moved.len() == 1 && !known.contains(&moved[0]) && moved[0].name() == second.name());
 }
 

@@ -41,7 +41,7 @@ where
             95..=96 => format!("{}", space.extend(n)),
             97 => {
                 let mut moves = Vec::new();
-                space.compact(&mut |m: Move<T::Index>| moves.push((m.from, m.to, m.size)));
+                space.compact(|m: Move<T::Index>| moves.push((m.from, m.to, m.size)));
                 format!("{moves:?}")
             }
             98 => {

@@ -174,7 +174,7 @@ impl<NI: NodeIndex> Pair<NI> {
                 if random.below(4) == 0 {
                     let live = &mut self.live;
                     let compact = || {
-                        self.space.compact(&mut |range| {
+                        self.space.compact(|range| {
                             let moved = live.iter_mut().find(|(handle, size)| (handle.offset, *size) == (range.from, range.size));
                             moved.unwrap().0 = range.allocation();
                         })

@@ -103,7 +103,7 @@ fn try_to_make<T: Tables<Index = u32>>(mut space: AllocatorOf<T>, size: u32, wan
         }
     }
     let mut moves = Vec::new();
-    let cost = space.make_room(size, &mut |it| moves.push(it));
+    let cost = space.make_room(size, |it| moves.push(it));
     assert_eq!(cost, wanted.map(|(units, ranges)| RoomCost { units, ranges }));
     let moved = (moves.iter().map(|it| it.size).sum(), moves.len() as u32);
     assert_eq!(moved, wanted.unwrap_or((0, 0)));

@@ -167,7 +167,7 @@ fn try_to_make<T: Tables<Index = u32>>(
         }
     }
     let mut moves = Vec::new();
-    let cost = space.make_room_by(size, align, step, &mut |it| moves.push(it));
+    let cost = space.make_room_by(size, align, step, |it| moves.push(it));
     assert_eq!(cost, wanted.map(|(units, ranges, ..)| RoomCost { units, ranges }));
     let Some((_, ranges, first, last)) = wanted.filter(|it| it.1 > 0) else {
         assert!(moves.is_empty());

@@ -71,7 +71,7 @@ fn call<T: Tables<Index = u32>>(space: &mut AllocatorOf<T>, held: &mut Vec<Alloc
         }
         _ => {
             match random.below(60) {
-                0 => space.compact(&mut |_| {}),
+                0 => space.compact(|_| {}),
                 1 => space.reset(),
                 2 => return (u64::from(space.extend(size)), None),
                 _ => {}

@@ -103,7 +103,7 @@ fn try_call<T: Tables<Index = u32>>(space: &mut AllocatorOf<T>, step: u32, from:
         data[it.offset as usize..(it.offset + it.size) as usize].fill(it.name);
     }
     let mut told = Vec::new();
-    let found = space.compact_within(step, from, budget.0, budget.1, &mut |it| {
+    let found = space.compact_within(step, from, budget.0, budget.1, |it| {
         assert!(it.to < it.from && (it.from - it.to) % step == 0);
         if !data.is_empty() {
             data.copy_within(it.from as usize..(it.from + it.size) as usize, it.to as usize);
@@ -172,7 +172,7 @@ fn try_one<T: Tables<Index = u32>>(random: &mut Random, seen: &mut Seen) {
     }
     // one without: each call comes further, and at its end no step is before a range
     let mut at_once = space.try_clone(Global).unwrap();
-    if !at_once.compact_by(step, &mut |_| ()) {
+    if !at_once.compact_by(step, |_| ()) {
         return;
     }
     let slid = live(&parts(&at_once));

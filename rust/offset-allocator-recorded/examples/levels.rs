@@ -12,7 +12,7 @@ fn load(heap: &mut Heap, left: &mut Vec<Ticket>, name: &str, units: u32) -> Opti
     if let Some(found) = heap.name(name).allocate(units) {
         return Some(found);
     }
-    heap.compact(&mut |_| ());
+    heap.compact(|_| ());
     if let Some(found) = heap.name(name).allocate(units) {
         return Some(found);
     }

@@ -113,14 +113,14 @@ impl<T: Tables, W: Write> Recorded<GuardedOf<T>, W> {
     }
 
     /// `GuardedOf::compact`.
-    pub fn compact<F: FnMut(Move<T::Index>)>(&mut self, moved: &mut F) {
+    pub fn compact<F: FnMut(Move<T::Index>)>(&mut self, moved: F) {
         self.tape.write(format_args!("compact"));
         self.space.compact(moved);
     }
 
     /// `GuardedOf::compact_by`: `step` has to be at least 1. For 0 it panics, and writes nothing.
     #[track_caller]
-    pub fn compact_by<F: FnMut(Move<T::Index>)>(&mut self, step: u32, moved: &mut F) -> bool {
+    pub fn compact_by<F: FnMut(Move<T::Index>)>(&mut self, step: u32, moved: F) -> bool {
         self.check(step >= 1, "step must be at least 1");
         self.tape.write(format_args!("compact {step}"));
         self.space.compact_by(step, moved)
@@ -134,7 +134,7 @@ impl<T: Tables, W: Write> Recorded<GuardedOf<T>, W> {
         from: u32,
         most_units: u32,
         most_ranges: u32,
-        moved: &mut F,
+        moved: F,
     ) -> Option<Progress> {
         self.check(step >= 1, "step must be at least 1");
         self.tape.write(format_args!("compact {step} {from} {most_units} {most_ranges}"));
@@ -142,14 +142,14 @@ impl<T: Tables, W: Write> Recorded<GuardedOf<T>, W> {
     }
 
     /// `GuardedOf::make_room`.
-    pub fn make_room<F: FnMut(Move<T::Index>)>(&mut self, size: u32, moved: &mut F) -> Option<RoomCost> {
+    pub fn make_room<F: FnMut(Move<T::Index>)>(&mut self, size: u32, moved: F) -> Option<RoomCost> {
         self.tape.write(format_args!("room {size}"));
         self.space.make_room(size, moved)
     }
 
     /// `GuardedOf::make_room_by`: `align` and `step` have to be at least 1. For 0 it panics, and writes nothing.
     #[track_caller]
-    pub fn make_room_by<F: FnMut(Move<T::Index>)>(&mut self, size: u32, align: u32, step: u32, moved: &mut F) -> Option<RoomCost> {
+    pub fn make_room_by<F: FnMut(Move<T::Index>)>(&mut self, size: u32, align: u32, step: u32, moved: F) -> Option<RoomCost> {
         self.check(align >= 1, "the alignment must be at least 1");
         self.check(step >= 1, "step must be at least 1");
         self.tape.write(format_args!("room {size} {align} {step}"));

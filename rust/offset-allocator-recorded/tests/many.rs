@@ -78,7 +78,7 @@ fn allocators_of_ones_own() {
     meshes.allocate(20);
     textures.free(old);
     assert!(meshes.raise_limit(9).is_ok());
-    assert!(meshes.make_room(70, &mut |_| ()).is_some());
+    assert!(meshes.make_room(70, |_| ()).is_some());
     let (_, part) = meshes.finish();
     assert_eq!(part.unwrap().heap(), 0);
     assert!(textures.failure().is_none());

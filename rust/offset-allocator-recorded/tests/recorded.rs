@@ -67,7 +67,7 @@ fn each_call_is_a_line() {
     heap.free(rock);
     assert!(heap.extend(24));
     let mut moves = 0;
-    heap.compact(&mut |_| moves += 1);
+    heap.compact(|_| moves += 1);
     assert_eq!((moves, heap.allocation_offset(other)), (1, Some(0)));
     let again = heap.name("two\nlines\r").allocate(1).unwrap();
     let aligned = heap.allocate_aligned(32, 32).unwrap();
@@ -76,16 +76,16 @@ fn each_call_is_a_line() {
     assert_eq!((aligned.offset, second.offset), (64, 0));
     heap.free(second);
     let mut moved = Vec::new();
-    assert!(heap.compact_by(16, &mut |it| moved.push((it.from, it.to))));
+    assert!(heap.compact_by(16, |it| moved.push((it.from, it.to))));
     assert_eq!(moved, [(50, 2), (64, 16)]);
     // again 2 to 3, aligned 16 to 48
-    let pass = heap.compact_within(1, 0, 1, 1, &mut |_| ()).unwrap();
+    let pass = heap.compact_within(1, 0, 1, 1, |_| ()).unwrap();
     assert_eq!((pass.ranges, pass.units, pass.next), (1, 1, Some(16)));
-    assert!(heap.make_room(1000, &mut |_| ()).is_none());
+    assert!(heap.make_room(1000, |_| ()).is_none());
     assert!(heap.retract(24) && heap.extend(24));
     assert!(heap.relocate(again).is_none());
     assert!(heap.allocate_tight(5).is_some());
-    assert_eq!(heap.make_room_by(800, 64, 16, &mut |_| ()).unwrap().ranges, 0);
+    assert_eq!(heap.make_room_by(800, 64, 16, |_| ()).unwrap().ranges, 0);
     assert_eq!(heap.allocate_tight_aligned(800, 64).unwrap().offset, 64);
     heap.free(again);
     heap.reset();
@@ -119,7 +119,7 @@ fn tickets_that_are_not_live_have_no_number() {
     assert_eq!(heap.relocate_aligned(first, 4), None);
     assert_eq!(heap.relocate_aligned(second, 4), None);
     assert_eq!(heap.relocate(first), None);
-    assert!(heap.compact_by(4, &mut |_| ()));
+    assert!(heap.compact_by(4, |_| ()));
     assert_eq!(heap.grow_in_place(second, 20), Some(true));
     assert!(heap.free(second));
     let text = "space 1000 nodes 32 index 32\nalloc 10\nfree 1\nalloc 10\nfree 0\nshrink 0 1\ngrow 0 20\nrelocate 0 4\nrelocate 2 4\nrelocate 0\ncompact 4\ngrow 2 20\nfree 2\n";
@@ -134,7 +134,7 @@ fn a_line_is_flushed_before_its_call() {
     let range = heap.allocate(10).unwrap();
     assert!(seen.is_flushed());
     let written = seen.clone();
-    heap.compact(&mut |_| ());
+    heap.compact(|_| ());
     heap.free(range);
     let found = catch_unwind(AssertUnwindSafe(|| heap.free(range)));
     // the call panics, and its line is there
@@ -144,10 +144,10 @@ fn a_line_is_flushed_before_its_call() {
     // a call that could not be read again is not written
     assert!(catch_unwind(AssertUnwindSafe(|| heap.allocate_aligned(10, 0))).is_err());
     assert!(catch_unwind(AssertUnwindSafe(|| heap.relocate_aligned(range, 0))).is_err());
-    assert!(catch_unwind(AssertUnwindSafe(|| heap.compact_by(0, &mut |_| ()))).is_err());
-    assert!(catch_unwind(AssertUnwindSafe(|| heap.compact_within(0, 0, 1, 1, &mut |_| ()))).is_err());
-    assert!(catch_unwind(AssertUnwindSafe(|| heap.make_room_by(10, 1, 0, &mut |_| ()))).is_err());
-    assert!(catch_unwind(AssertUnwindSafe(|| heap.make_room_by(10, 0, 1, &mut |_| ()))).is_err());
+    assert!(catch_unwind(AssertUnwindSafe(|| heap.compact_by(0, |_| ()))).is_err());
+    assert!(catch_unwind(AssertUnwindSafe(|| heap.compact_within(0, 0, 1, 1, |_| ()))).is_err());
+    assert!(catch_unwind(AssertUnwindSafe(|| heap.make_room_by(10, 1, 0, |_| ()))).is_err());
+    assert!(catch_unwind(AssertUnwindSafe(|| heap.make_room_by(10, 0, 1, |_| ()))).is_err());
     assert!(catch_unwind(AssertUnwindSafe(|| heap.allocate_tight_aligned(10, 0))).is_err());
     assert!(written.text().ends_with("free 0\n"));
     // nor does its name go to the next request
@@ -289,9 +289,9 @@ fn random_calls<T: Tables>(seed: u64) {
             28..=30 => granted(heap.allocate_at(random.below(size), random.below(size / 8)), &mut live, &mut grants),
             22 => granted(heap.allocate_tight(random.below(size / 8)), &mut live, &mut grants),
             23 => granted(heap.allocate_tight_aligned(random.below(size / 8), alignment(&mut random, 8)), &mut live, &mut grants),
-            24 => cost(heap.make_room(random.below(size), &mut |_| ())),
-            25 => cost(heap.make_room_by(random.below(size), alignment(&mut random, 5), random.below(40) + 1, &mut |_| ())),
-            26 => progress(heap.compact_within(random.below(20) + 1, random.below(size), random.below(size), random.below(9), &mut |_| ())),
+            24 => cost(heap.make_room(random.below(size), |_| ())),
+            25 => cost(heap.make_room_by(random.below(size), alignment(&mut random, 5), random.below(40) + 1, |_| ())),
+            26 => progress(heap.compact_within(random.below(20) + 1, random.below(size), random.below(size), random.below(9), |_| ())),
             27 if !live.is_empty() => {
                 let handle = live[random.below(live.len() as u32) as usize];
                 granted(heap.relocate(handle), &mut live, &mut grants)
@@ -312,10 +312,10 @@ fn random_calls<T: Tables>(seed: u64) {
                 if heap.grow_in_place(handle, size) { "grown" } else { "none" }.to_owned()
             }
             18 => {
-                heap.compact(&mut |_| ());
+                heap.compact(|_| ());
                 "compacted".to_owned()
             }
-            20 => if heap.compact_by(1 << random.below(7), &mut |_| ()) { "compacted" } else { "none" }.to_owned(),
+            20 => if heap.compact_by(1 << random.below(7), |_| ()) { "compacted" } else { "none" }.to_owned(),
             21 if !live.is_empty() => {
                 let handle = live[random.below(live.len() as u32) as usize];
                 granted(heap.relocate_aligned(handle, alignment(&mut random, 6)), &mut live, &mut grants)
@@ -354,11 +354,11 @@ fn random_tickets<T: Tables>(seed: u64) {
             Some(true) => word.to_owned(),
         };
         expected.push(match (random.below(9), of(&mut random, &tickets)) {
-            (7, _) => match heap.make_room_by(random.below(3000), alignment(&mut random, 5), random.below(40) + 1, &mut |_| ()) {
+            (7, _) => match heap.make_room_by(random.below(3000), alignment(&mut random, 5), random.below(40) + 1, |_| ()) {
                 None => "none".to_owned(),
                 Some(cost) => format!("ranges {} units {}", cost.ranges, cost.units),
             },
-            (8, _) => progress(heap.compact_within(random.below(20) + 1, random.below(3000), random.below(900), random.below(9), &mut |_| ())),
+            (8, _) => progress(heap.compact_within(random.below(20) + 1, random.below(3000), random.below(900), random.below(9), |_| ())),
             (0..=1, _) | (_, None) => match heap.allocate(random.below(400)) {
                 None => "none".to_owned(),
                 Some(ticket) => {
@@ -368,7 +368,7 @@ fn random_tickets<T: Tables>(seed: u64) {
             },
             (2, Some(ticket)) => if heap.free(ticket) { "freed" } else { "gone" }.to_owned(),
             (3, Some(ticket)) => done(heap.shrink(ticket, random.below(300)), "shrunk"),
-            (5, _) => done(Some(heap.compact_by(random.below(99) + 1, &mut |_| ())), "compacted"),
+            (5, _) => done(Some(heap.compact_by(random.below(99) + 1, |_| ())), "compacted"),
             (6, Some(ticket)) => {
                 let is_live = heap.is_live(ticket);
                 match heap.relocate_aligned(ticket, alignment(&mut random, 6)) {

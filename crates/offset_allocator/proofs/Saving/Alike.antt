@@ -84,7 +84,7 @@ parts c d nodes spare reserved newer older heads masks =
     ∙ ap (λ (x : List ℕ). record c { bins = record c.bins { heads = x; masks = d.bins.masks } }) heads
     ∙ ap (λ (x : List ℕ). record c { bins = record c.bins { masks = x } }) masks
 
--- tables whose cells are alike under each name have the same cells, but for the nodes that they have memory for
+-- if the cells of two tables agree under each name, the tables are the same but for their reserved memory
 pub same_cells : {max limit : ℕ} {c d e : Cells} → AreShaped max c → AreShaped max d → length d.chain.nodes ≡ length c.chain.nodes → d.chain.reserved ≡ limit
     → ((x : ℕ) → x < length c.chain.nodes → IsAlikeAt x c e) → d ≡ record e { bins = record e.bins { heads = c.bins.heads; masks = c.bins.masks } }
     → d ≡ record c { chain = record c.chain { reserved = limit } }

@@ -61,7 +61,7 @@ pub enum StateFaultKind {
 pub enum ReadError<F> {
     /// An allocation failed: the bytes may be those of a state.
     Memory,
-    /// The bytes are none, and this is wrong with them.
+    /// The bytes are not those of a state that is accepted, and this is wrong with them.
     Fault(F),
 }
 

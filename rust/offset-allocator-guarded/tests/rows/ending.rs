@@ -235,7 +235,7 @@ fn moves_say_whether_they_overlap() {
     assert_that(space.is_live(third));
     space.free(third);
     let mut apart = (0u32, 0u32);
-    space.compact(&mut |range| {
+    space.compact(|range| {
         let (yes, no) = apart;
         if range.is_apart() {
             apart = (yes.saturating_add(1), no);

@@ -132,7 +132,7 @@ where
 // The last move of a compaction.
 fn last_move<T: Tables>(space: &mut AllocatorOf<T>) -> Move<T::Index> {
     let mut last = None;
-    space.compact(&mut |range: Move<T::Index>| last = Some(range));
+    space.compact(|range: Move<T::Index>| last = Some(range));
     last.expect("a move")
 }
 
@@ -157,7 +157,7 @@ where
 // The first move of a compaction.
 fn first_move<T: Tables>(space: &mut AllocatorOf<T>) -> Move<T::Index> {
     let mut first = None;
-    space.compact(&mut |range: Move<T::Index>| {
+    space.compact(|range: Move<T::Index>| {
         if first.is_none() {
             first = Some(range);
         }

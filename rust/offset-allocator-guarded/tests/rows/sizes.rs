@@ -35,7 +35,7 @@ fn use_of<T: Tables>(max_allocs: u32, units: u32) -> Result<u32, AllocError> {
     space.allocate(units);
     space.extend(units);
     space.allocate_aligned(1, units);
-    space.compact(&mut |_| {});
+    space.compact(|_| {});
     space.try_clone(Global)?;
     space.raised(Global, limit_above::<T>(max_allocs))?;
     let bytes = space.write_state(Global)?;

@@ -368,7 +368,7 @@ fn expect_moves<T: Tables>(
 ) {
     let mut count = 0usize;
     let mut first_wrong = None;
-    allocator.compact(&mut |range: Move<T::Index>| {
+    allocator.compact(|range: Move<T::Index>| {
         if first_wrong.is_none() && !is_wanted(&range, handles, wanted.get(count)) {
             first_wrong = Some((count, range.from, range.to, range.size));
         }
@@ -388,7 +388,7 @@ fn expect_steps<T: Tables>(
 ) {
     let mut count = 0usize;
     let mut first_wrong = None;
-    let found = allocator.compact_by(step, &mut |range: Move<T::Index>| {
+    let found = allocator.compact_by(step, |range: Move<T::Index>| {
         if first_wrong.is_none() && !is_wanted(&range, handles, wanted.get(count)) {
             first_wrong = Some((count, range.from, range.to, range.size));
         }
@@ -409,7 +409,7 @@ fn expect_made<T: Tables>(
 ) {
     let mut count = 0usize;
     let mut first_wrong = None;
-    let found = allocator.make_room(size, &mut |range: Move<T::Index>| {
+    let found = allocator.make_room(size, |range: Move<T::Index>| {
         if first_wrong.is_none() && !is_wanted(&range, handles, wanted.get(count)) {
             first_wrong = Some((count, range.from, range.to, range.size));
         }

@@ -94,7 +94,7 @@ fn of_another_space<T: Tables>() {
 // Counts the units that move, from the offset 8 to the offset 0.
 fn compacted<T: Tables>(space: &mut GuardedOf<T>) -> u32 {
     let mut moved = 0u32;
-    space.compact(&mut |range: Move<T::Index>| {
+    space.compact(|range: Move<T::Index>| {
         if range.from == 8 && range.to == 0 {
             moved = moved.wrapping_add(range.size);
         }
@@ -125,7 +125,7 @@ fn of_ranges_that_change<T: Tables>() {
 fn compacted_by<T: Tables>(space: &mut GuardedOf<T>, step: u32, from: u32, to: u32) -> Option<u32> {
     let mut moved = 0u32;
     let mut wrong = false;
-    let done = space.compact_by(step, &mut |range: Move<T::Index>| {
+    let done = space.compact_by(step, |range: Move<T::Index>| {
         wrong |= range.from != from || range.to != to;
         moved = moved.wrapping_add(range.size);
     });

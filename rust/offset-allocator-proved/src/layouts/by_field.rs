@@ -77,6 +77,10 @@ impl<NI: NodeIndex> Tables for ByField<NI> {
         self.offset.len() as u32
     }
 
+    fn has(&self, name: u32) -> bool {
+        (name as usize) < self.offset.len()
+    }
+
     #[inline(always)]
     fn add(&mut self, place: u32, count: &mut Accesses) {
         count.tick();

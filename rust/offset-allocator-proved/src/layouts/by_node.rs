@@ -73,6 +73,10 @@ impl<NI: NodeIndex> Tables for ByNode<NI> {
         self.nodes.len() as u32
     }
 
+    fn has(&self, name: u32) -> bool {
+        (name as usize) < self.nodes.len()
+    }
+
     #[inline(always)]
     fn add(&mut self, place: u32, count: &mut Accesses) {
         // six cells of the node, and two of the stack

@@ -132,10 +132,10 @@ impl<T: Tables> AllocatorOf<T> {
     /// let mesh = space.allocate(100).unwrap();
     /// space.allocate(100);
     /// space.free(hole);
-    /// let progress = space.compact_within(1, 0, 150, 8, &mut |_| {}).unwrap();
+    /// let progress = space.compact_within(1, 0, 150, 8, |_| {}).unwrap();
     /// assert_eq!(progress, Progress { units: 100, ranges: 1, next: Some(400) });
     /// assert_eq!(space.allocation_offset(mesh), Some(0));
-    /// let progress = space.compact_within(1, 400, 150, 8, &mut |_| {}).unwrap();
+    /// let progress = space.compact_within(1, 400, 150, 8, |_| {}).unwrap();
     /// assert_eq!(progress, Progress { units: 100, ranges: 1, next: None });
     /// # Ok::<(), AllocError>(())
     /// ```
@@ -146,7 +146,7 @@ impl<T: Tables> AllocatorOf<T> {
         from: u32,
         most_units: u32,
         most_ranges: u32,
-        moved: &mut F,
+        mut moved: F,
     ) -> Option<Progress> {
         assert!(1 <= step, "the step must be at least 1");
         let last = self.store.last;
@@ -173,7 +173,7 @@ impl<T: Tables> AllocatorOf<T> {
         if !self.can_follow(reach.end_used) {
             return None;
         }
-        slide_run(&mut self.store, first, reach.end, step, moved);
+        slide_run(&mut self.store, first, reach.end, step, &mut moved);
         Some(reach.progress)
     }
 }

@@ -141,12 +141,12 @@ impl<T: Tables> AllocatorOf<T> {
     /// let hole = space.allocate(300).unwrap();
     /// let mesh = space.allocate_aligned(256, 256).unwrap();
     /// space.free(hole);
-    /// assert!(space.compact_by(256, &mut |it| assert_eq!((it.from, it.to, it.size), (512, 0, 256))));
+    /// assert!(space.compact_by(256, |it| assert_eq!((it.from, it.to, it.size), (512, 0, 256))));
     /// assert_eq!(space.allocation_offset(mesh), Some(0));
     /// # Ok::<(), AllocError>(())
     /// ```
     #[track_caller]
-    pub fn compact_by<F: FnMut(Move<T::Index>)>(&mut self, step: u32, moved: &mut F) -> bool {
+    pub fn compact_by<F: FnMut(Move<T::Index>)>(&mut self, step: u32, mut moved: F) -> bool {
         assert!(1 <= step, "the step must be at least 1");
         let can = self.can_step();
         let last = self.store.last;
@@ -157,7 +157,7 @@ impl<T: Tables> AllocatorOf<T> {
         if !can {
             return false;
         }
-        slide_run(&mut self.store, first, last, step, moved);
+        slide_run(&mut self.store, first, last, step, &mut moved);
         true
     }
 
@@ -194,7 +194,7 @@ impl<T: Tables> AllocatorOf<T> {
     /// space.free(hole);
     /// assert!(space.allocate_aligned(800, 4).is_none());
     /// // 18 steps: the first 12 units stay free
-    /// let cost = space.make_room_by(800, 4, 16, &mut |it| assert_eq!((it.from, it.to, it.size), (300, 12, 100)));
+    /// let cost = space.make_room_by(800, 4, 16, |it| assert_eq!((it.from, it.to, it.size), (300, 12, 100)));
     /// assert_eq!(cost, Some(RoomCost { units: 100, ranges: 1 }));
     /// assert!(space.allocate_aligned(800, 4).is_some());
     /// # Ok::<(), AllocError>(())
@@ -205,7 +205,7 @@ impl<T: Tables> AllocatorOf<T> {
         size: u32,
         align: u32,
         step: u32,
-        moved: &mut F,
+        mut moved: F,
     ) -> Option<RoomCost> {
         assert!(1 <= align, "the alignment must be at least 1");
         assert!(1 <= step, "the step must be at least 1");
@@ -243,7 +243,7 @@ impl<T: Tables> AllocatorOf<T> {
         if run.cost.ranges == 0 {
             return Some(run.cost);
         }
-        slide_run(&mut self.store, run.first, run.end, step, moved);
+        slide_run(&mut self.store, run.first, run.end, step, &mut moved);
         Some(run.cost)
     }
 }

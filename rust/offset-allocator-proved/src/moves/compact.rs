@@ -113,11 +113,11 @@ impl<T: Tables> AllocatorOf<T> {
     /// let hole = space.allocate(300).unwrap();
     /// let mesh = space.allocate(100).unwrap();
     /// space.free(hole);
-    /// space.compact(&mut |it| assert_eq!((it.from, it.to, it.size), (300, 0, 100)));
+    /// space.compact(|it| assert_eq!((it.from, it.to, it.size), (300, 0, 100)));
     /// assert_eq!(space.allocation_offset(mesh), Some(0));
     /// # Ok::<(), AllocError>(())
     /// ```
-    pub fn compact<F: FnMut(Move<T::Index>)>(&mut self, moved: &mut F) {
+    pub fn compact<F: FnMut(Move<T::Index>)>(&mut self, mut moved: F) {
         let start = search_start(
             &self.store.tables,
             self.store.top_mask,
@@ -134,7 +134,7 @@ impl<T: Tables> AllocatorOf<T> {
         };
         let size = self.store.tables.size(first, &mut self.store.accesses);
         bins::empty(&mut self.store);
-        let hole = slide(&mut self.store, first, size, moved);
+        let hole = slide(&mut self.store, first, size, &mut moved);
         let class = uint_to_float_round_down(hole.size);
         bins::push(&mut self.store, hole.name, class);
     }

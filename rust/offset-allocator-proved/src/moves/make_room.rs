@@ -68,7 +68,7 @@ impl<T: Tables> AllocatorOf<T> {
     /// space.allocate(100);
     /// space.free(hole);
     /// assert!(space.allocate(800).is_none());
-    /// let cost = space.make_room(800, &mut |it| assert_eq!((it.from, it.to, it.size), (300, 0, 100)));
+    /// let cost = space.make_room(800, |it| assert_eq!((it.from, it.to, it.size), (300, 0, 100)));
     /// assert_eq!(cost, Some(RoomCost { units: 100, ranges: 1 }));
     /// assert!(space.allocate(800).is_some());
     /// # Ok::<(), AllocError>(())
@@ -76,7 +76,7 @@ impl<T: Tables> AllocatorOf<T> {
     pub fn make_room<F: FnMut(Move<T::Index>)>(
         &mut self,
         size: u32,
-        moved: &mut F,
+        mut moved: F,
     ) -> Option<RoomCost> {
         let class = uint_to_float_round_up(size);
         let found = bins::find_at_or_above(
@@ -106,7 +106,7 @@ impl<T: Tables> AllocatorOf<T> {
         }
         let first = self.store.tables.size(run.first, &mut self.store.accesses);
         bins::remove(&mut self.store, run.first, first);
-        let hole = slide_to(&mut self.store, run.first, first, run.end, moved);
+        let hole = slide_to(&mut self.store, run.first, first, run.end, &mut moved);
         let class = uint_to_float_round_down(hole.size);
         bins::push(&mut self.store, hole.name, class);
         Some(run.cost)

@@ -50,7 +50,7 @@ impl<NI: NodeIndex, N: NodeIndexNonMax> Move<NI, N> {
     /// let hole = space.allocate(300).unwrap();
     /// let mesh = space.allocate(100).unwrap();
     /// space.free(hole);
-    /// space.compact(&mut |it| assert_eq!(it.allocation().name(), mesh.name()));
+    /// space.compact(|it| assert_eq!(it.allocation().name(), mesh.name()));
     /// # Ok::<(), AllocError>(())
     /// ```
     pub fn allocation(&self) -> Allocation<NI, N> {

@@ -103,7 +103,7 @@ impl<NI: NodeIndex, N: NodeIndexNonMax> Move<NI, N> {
     /// let hole = space.allocate(300).unwrap();
     /// space.allocate(100);
     /// space.free(hole);
-    /// space.compact(&mut |it| assert!(it.is_apart()));
+    /// space.compact(|it| assert!(it.is_apart()));
     /// # Ok::<(), AllocError>(())
     /// ```
     pub fn is_apart(&self) -> bool {
@@ -132,7 +132,7 @@ impl<NI: NodeIndex, N: NodeIndexNonMax> Move<NI, N> {
     /// let hole = space.allocate(300).unwrap();
     /// space.allocate(100);
     /// space.free(hole);
-    /// space.compact(&mut |it| assert_eq!(it.pieces(64).map(|piece| piece.size).sum::<u32>(), 100));
+    /// space.compact(|it| assert_eq!(it.pieces(64).map(|piece| piece.size).sum::<u32>(), 100));
     /// # Ok::<(), AllocError>(())
     /// ```
     #[track_caller]

@@ -104,8 +104,9 @@ impl<T: Tables> AllocatorOf<T> {
 
     /// The space under another node limit, at least as large: a copy as `try_clone` makes it, with
     /// `max_allocs` as its limit. It is for a space that refuses requests as `Nodes`: put it in place of the
-    /// first one, and all handles go on. While the first one has room for the blocks that a call may add, both
-    /// return the same: by `laws::a_raised_limit_changes_no_answer`.
+    /// first one, and all handles go on. While the first one has room for the blocks that they may add,
+    /// requests, second ranges, releases, changes of size and `compact` return the same in both, by
+    /// `laws::a_raised_limit_changes_no_answer`; reports, reasons and `make_room` look at the limit too.
     ///
     /// The limit is at most `T::Index::MAX - 2`. It reserves what `with_max_allocs` does for that limit,
     /// beside the memory of the first space until that is dropped, and takes time for the nodes that were

@@ -1,0 +1,13 @@
+use Rattle.std.proofs.Common.{◌-◌, ◌≤◌, vec_capacity, vec_len}
+use Rattle.offset_guarded.specs.Values.{SameEntries}
+use Rattle.offset_guarded.proofs.values.Beside.cover.Given as goal
+
+-- no entry is another one
+abbrev pub invariant-loop-self : goal.invariant-loop-self
+invariant-loop-self g l = record {
+  same : SameEntries l.fn.self l.self-inside.cells.items;
+  room : l.names ≤ vec_capacity l.self-inside.cells;
+}
+
+abbrev pub decreases-loop-self : goal.decreases-loop-self
+decreases-loop-self g l = l.names - vec_len l.self-inside.cells

@@ -1,0 +1,107 @@
+//! Values beside tickets, between random grants and releases, against a map by name, serial and realm.
+
+#[path = "../../random.rs"]
+mod random;
+
+use offset_allocator_guarded::{Beside, Global, Guarded, Ticket};
+use random::Xorshift as Numbers;
+use std::collections::HashMap;
+
+type Key = (u32, u64, u32);
+
+fn key(ticket: Ticket) -> Key {
+    (ticket.name, ticket.serial, ticket.realm)
+}
+
+// One of the last tickets.
+fn recent(tickets: &[Ticket], number: u64) -> Ticket {
+    let back = number as usize % tickets.len().min(100);
+    tickets[tickets.len() - 1 - back]
+}
+
+#[test]
+fn values_are_those_of_a_map() {
+    let mut numbers = Numbers(0x9e37_79b9_7f4a_7c15);
+    let mut space = Guarded::<u16>::with_max_allocs(Global, 1_000, 60, 1).unwrap();
+    let mut names = Beside::new(Global);
+    let mut model: HashMap<Key, (Ticket, String)> = HashMap::new();
+    let mut tickets = Vec::new();
+    let (mut stale, mut replaced) = (0, 0);
+    for step in 0..100_000u32 {
+        let number = numbers.next() >> 11;
+        match number % 4 {
+            0 => {
+                if let Some(ticket) = space.allocate(1 + (number / 4 % 60) as u32) {
+                    tickets.push(ticket);
+                    let earlier = model.iter().find(|(key, _)| key.0 == ticket.name).map(|(key, _)| *key);
+                    let was = earlier.and_then(|key| model.remove(&key));
+                    assert_eq!(names.put(ticket, step.to_string()), Ok(was));
+                    model.insert(key(ticket), (ticket, step.to_string()));
+                    // the same ticket again has the same name
+                    if number % 64 == 0 {
+                        let was = model.insert(key(ticket), (ticket, "again".to_string()));
+                        assert_eq!(names.put(ticket, "again".to_string()), Ok(was));
+                        replaced += 1;
+                    }
+                }
+            }
+            1 if !tickets.is_empty() => {
+                let ticket = recent(&tickets, number / 4);
+                // one in four values is not taken where its range is freed, nor where it was
+                if space.free(ticket) && number % 16 != 1 {
+                    let value = model.remove(&key(ticket)).map(|(_, value)| value);
+                    assert_eq!(names.take(ticket), value);
+                    assert_eq!(names.take(ticket), None);
+                }
+            }
+            2 if !tickets.is_empty() => {
+                let ticket = recent(&tickets, number / 4);
+                let value = model.get(&key(ticket)).map(|(_, value)| value);
+                assert_eq!(names.get(ticket), value);
+                // a ticket counts by name, serial and realm
+                let moved = Ticket { offset: ticket.offset ^ 1, ..ticket };
+                assert_eq!(names.get(moved), value);
+                assert_eq!(names.get(Ticket { realm: 2, ..ticket }), None);
+                stale += u32::from(value.is_none());
+            }
+            _ => {}
+        }
+    }
+    assert!(stale > 1_000 && replaced > 100);
+    let mut left: Vec<(Ticket, String)> = model.into_values().collect();
+    left.sort_by_key(|(ticket, _)| ticket.name);
+    let leaks: Vec<(Ticket, String)> = names.leaks().iter().flatten().cloned().collect();
+    assert_eq!(leaks, left);
+}
+
+#[test]
+fn no_value_is_lost_or_dropped_twice() {
+    use std::rc::Rc;
+    let value = Rc::new(());
+    let mut space = Guarded::<u32>::with_max_allocs(Global, 100, 10, 1).unwrap();
+    let mut values = Beside::new(Global);
+    let one = space.allocate(10).unwrap();
+    let two = space.allocate(10).unwrap();
+    assert!(values.put(one, value.clone()).is_ok() && values.put(two, value.clone()).is_ok());
+    assert_eq!(Rc::strong_count(&value), 3);
+    drop(values.take(one));
+    assert_eq!(Rc::strong_count(&value), 2);
+    drop(values.put(two, value.clone()));
+    assert_eq!(Rc::strong_count(&value), 2);
+    drop(values);
+    assert_eq!(Rc::strong_count(&value), 1);
+}
+
+#[test]
+fn closures_are_taken_and_lent() {
+    let mut space = Guarded::<u32>::with_max_allocs(Global, 100, 10, 1).unwrap();
+    let first = space.allocate(10).unwrap();
+    space.allocate(20).unwrap();
+    space.free(first);
+    let mut moves = Vec::new();
+    space.compact(|it| moves.push((it.from, it.to, it.size)));
+    assert_eq!(moves, [(10, 0, 20)]);
+    let mut again = |_| unreachable!();
+    space.compact(&mut again);
+    space.compact_by(8, &mut again);
+}
