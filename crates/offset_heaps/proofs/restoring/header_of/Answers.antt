@@ -60,4 +60,4 @@ returns-then-checksum-number-clause-wrong g c _ hs w adm st =
     let p = parts hs bs st in
     let count : length hs.slots ≡ c.number-most.result + c.number-larger.result = omega (arith, st.count, p.most, p.larger, c.number-most.ensures, c.number-larger.ensures) in
     c.if-checksum-number.true
-    (c.checksum.ensures ∙ subst (λ n. checksum_from 0 (numbers (9 + n) bs) ≡ number_at bs (9 + n)) count (sym p.sum) ∙ sym c.number-2.ensures)
+    (c.checksum.ensures ∙ subst (λ n. checksum_from 0 (numbers (10 + n) bs) ≡ number_at bs (10 + n)) count (sym p.sum) ∙ sym c.number-2.ensures)
