@@ -1,4 +1,4 @@
-use Rattle.std.proofs.Common.{◌<◌, ◌+◌, ℕ, MatchOption, IfSome, length, ap, arith, subst, sym, ◌∙◌}
+use Rattle.std.proofs.Common.{◌≡◌, ◌<◌, ◌+◌, ℕ, MatchOption, IfSome, length, ap, arith, subst, sym, ◌∙◌}
 use Rattle.offset_allocator.specs.Requests.{blocks_needed}
 use Rattle.offset_heaps.specs.{Heaps.Heaps, Heaps.room_of, Heaps.slot, Heaps.numbers, Relocating.TakesUnits}
 use Rattle.offset_heaps.proofs.{Places.shown, Takers.all_takers, Takers.taker_there}
@@ -8,7 +8,7 @@ pub returns-clause-first : goal.returns-clause-first
 returns-clause-first g c =
     let e = ap (λ (h : Heaps). h.slots) c.self.view_is ∙ ap (λ (h : Heaps). h.slots) c.first_fit.ensures.same in
     let now : Heaps = shown c.self.inside.slots c.self.inside.limits c.self.inside.made c.self.inside.realm c.self.inside.accesses in
-    let same : now ≡ record c.args.self.now { accesses = c.self.inside.accesses } = c.self.view_is ∙ c.first_fit.ensures.same in
+    let same : now ≡ record c.args.self.now { accesses = c.first_fit.new.self.accesses } = c.self.view_is ∙ c.first_fit.ensures.same in
     subst (λ (h : Heaps). MatchOption c.taker.result ((k : ℕ) → TakesUnits h.limits c.args.own (blocks_needed c.args.align) c.args.units c.args.live h.slots k → ⊥)
     (λ k. TakesUnits h.limits c.args.own (blocks_needed c.args.align) c.args.units c.args.live h.slots k
     × ((j : ℕ) → j < k → TakesUnits h.limits c.args.own (blocks_needed c.args.align) c.args.units c.args.live h.slots j → ⊥))) same
