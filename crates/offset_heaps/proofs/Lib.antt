@@ -7,6 +7,7 @@ pub mod Empties
 pub mod FaultPlaces
 pub mod Finding
 pub mod Grants
+pub mod Growing
 pub mod Histories
 pub mod Numbers
 pub mod Places
