@@ -4,7 +4,7 @@ use crate::layouts::{Kept, Work};
 use crate::numbers::{Cells, put};
 use crate::outcomes::Failure;
 use offset_allocator::{NodeIndex, ReadError, Tables};
-use offset_guarded::{GuardedOf, Ticket};
+use offset_guarded::{Beside, GuardedOf, Ticket};
 use offset_script::Script;
 use offset_test_base::random::Random;
 use std::alloc::Global;
@@ -79,8 +79,36 @@ fn raised<T: Tables>(alloc: Global, space: &GuardedOf<T>) -> Result<GuardedOf<T>
     Ok(space.raised(alloc, (limit + 1).min(T::Index::MAX - 2))?)
 }
 
-/// Makes a guarded allocator, makes 1,000 calls with tickets, copies it, also under a larger limit, and puts
-/// a checksum of the results, that of the same calls on the copy, and that limit into the cells.
+// Puts values beside two tickets, the second of which needs more memory.
+fn values(alloc: Global) -> Result<u64, Failure> {
+    let ticket = Ticket {
+        offset: 0,
+        name: 0,
+        serial: 1,
+        realm: 1,
+    };
+    let other = Ticket {
+        name: 1_000,
+        ..ticket
+    };
+    let mut values = Beside::new(alloc);
+    if let Err(_value) = values.put(ticket, 5u64) {
+        return Err(Failure::OutOfMemory);
+    }
+    if let Err(value) = values.put(other, 7u64) {
+        // the value is given back, and the first one stays
+        return match values.take(ticket) {
+            Some(first) if first.wrapping_add(value) == 12 => Err(Failure::OutOfMemory),
+            _ => Ok(0),
+        };
+    }
+    let first = values.take(ticket).unwrap_or(0);
+    Ok(first.wrapping_add(values.take(other).unwrap_or(0)))
+}
+
+/// Makes a guarded allocator, makes 1,000 calls with tickets, copies it, also under a larger limit, puts
+/// values beside tickets, and puts a checksum of the results, that of the same calls on the copy, that limit
+/// and the sum of the values into the cells.
 pub struct MakeGuardedAndCall;
 
 impl Work for MakeGuardedAndCall {
@@ -99,9 +127,11 @@ impl Work for MakeGuardedAndCall {
         let sum = checksum(&mut space);
         let mut copy = space.try_clone(alloc)?;
         let larger = raised(alloc, &space)?;
+        let values = values(alloc)?;
         put(cells, sum);
         put(cells, checksum(&mut copy));
         put(cells, u64::from(larger.allocator().max_allocs()));
+        put(cells, values);
         Ok(())
     }
 }
