@@ -3,21 +3,8 @@
 use crate::asserts::{assert_same, assert_that_at};
 use offset_allocator::{ByField, Tables};
 use offset_heaps::{Granted, Heaps, HeapsOf, Limits, Place, Refusal};
-use std::alloc::{AllocError, Global};
 use std::process::Abort;
 use std::test::Fail;
-
-// Two heaps of 200 units, which have 40 nodes at most, and one larger heap.
-fn made<T: Tables>(alloc: Global, first_allocs: u32) -> Result<HeapsOf<T>, AllocError> {
-    let limits = Limits {
-        size: 200,
-        max_allocs: 40,
-        first_allocs,
-        most: 2,
-        most_larger: 1,
-    };
-    HeapsOf::new(alloc, limits, 9)
-}
 
 // The node limit of the heap of a number, or 0.
 fn limit_of<T: Tables>(heaps: &HeapsOf<T>, number: u32) -> u32 {
@@ -32,7 +19,7 @@ fn limits_of<T: Tables>(heaps: &HeapsOf<T>) -> (u32, u32, u32) {
     (limit_of(heaps, 0), limit_of(heaps, 1), limit_of(heaps, 2))
 }
 
-// Units of no request are asked for twice: 0, 1, 2, 3 and 4 of them, some at a multiple of 2.
+// A request for 0 to 4 units, from any offset or from an even one on.
 fn request<T: Tables>(heaps: &mut HeapsOf<T>, step: u32) -> Result<Granted, Refusal> {
     heaps.allocate_aligned(step % 5, 1 + step % 2)
 }
@@ -61,7 +48,6 @@ fn expect_alike<T: Tables>(rt: &impl Abort, few: &mut HeapsOf<T>, all: &mut Heap
 // 8 nodes with four blocks grows, and one with three does not.
 fn expect_growth<T: Tables>(rt: &impl Abort, heaps: &mut HeapsOf<T>) {
     assert_same(rt, &limits_of(heaps), &(0, 0, 0));
-    let mut live = 0;
     let mut grown = (0, 0, 0);
     for step in 0..38 {
         let before = limit_of(heaps, 0);
@@ -69,14 +55,13 @@ fn expect_growth<T: Tables>(rt: &impl Abort, heaps: &mut HeapsOf<T>) {
             Err(_) => assert_that_at(rt, &step, false),
             Ok(granted) => assert_that_at(rt, &step, granted.place.heap == 0),
         }
-        live += 1;
         let limit = limit_of(heaps, 0);
         if limit != before && before != 0 {
-            grown = (grown.1, grown.2, live);
+            grown = (grown.1, grown.2, step);
         }
     }
-    // with n live ranges and the free block there are n + 1 blocks
-    assert_same(rt, &grown, &(4, 12, 28));
+    // n live ranges and the free block are n + 1 blocks
+    assert_same(rt, &grown, &(3, 11, 27));
     assert_same(rt, &limits_of(heaps), &(40, 0, 0));
     // 38 live ranges and a free block: of 40 nodes one stays unused, and the next heap has 8 of them
     match heaps.allocate(1) {
@@ -140,14 +125,40 @@ fn expect_relocation<T: Tables>(rt: &impl Abort, heaps: &mut HeapsOf<T>) {
 
 #[test]
 fn heaps_grow(rt: HostRuntime) -> Result<(), Fail> {
-    let mut by_node: Heaps = made(rt.alloc(), 8)?;
+    let limits = Limits {
+        size: 200,
+        max_allocs: 40,
+        first_allocs: 8,
+        most: 2,
+        most_larger: 1,
+    };
+    let mut by_node: Heaps = HeapsOf::new(rt.alloc(), limits, 9)?;
     expect_growth(&rt, &mut by_node);
-    let mut by_field: HeapsOf<ByField<u16>> = made(rt.alloc(), 8)?;
+    let mut by_field: HeapsOf<ByField<u16>> = HeapsOf::new(rt.alloc(), limits, 9)?;
     expect_growth(&rt, &mut by_field);
-    let mut few: Heaps = made(rt.alloc(), 8)?;
-    let mut all: Heaps = made(rt.alloc(), 40)?;
-    expect_alike(&rt, &mut few, &mut all);
-    let mut moving: Heaps = made(rt.alloc(), 8)?;
+    let mut moving: Heaps = HeapsOf::new(rt.alloc(), limits, 9)?;
     expect_relocation(&rt, &mut moving);
+    Ok(())
+}
+
+#[test]
+fn heaps_that_grow_grant_as_others_do(rt: HostRuntime) -> Result<(), Fail> {
+    let limits = Limits {
+        size: 200,
+        max_allocs: 40,
+        first_allocs: 8,
+        most: 2,
+        most_larger: 1,
+    };
+    let whole = Limits {
+        size: 200,
+        max_allocs: 40,
+        first_allocs: 40,
+        most: 2,
+        most_larger: 1,
+    };
+    let mut few: Heaps = HeapsOf::new(rt.alloc(), limits, 9)?;
+    let mut all: Heaps = HeapsOf::new(rt.alloc(), whole, 9)?;
+    expect_alike(&rt, &mut few, &mut all);
     Ok(())
 }

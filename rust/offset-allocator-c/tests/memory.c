@@ -130,6 +130,17 @@ int main(void) {
     CHECK_TEXT(oa_vma_json(space));
     CHECK_TEXT(oah_json(heaps));
     oah_drop(heaps);
+    /* of a heap with four unused nodes; where memory for more is refused, all is as it was */
+    oah_heaps *growing = oah_new_from((oah_limits){200, 100, 1, 0}, 8, 1);
+    for (int i = 0; i < 3; i++) oah_allocate(growing, 10);
+    for (left = 0, raised = 0; oah_totals(growing).live_units == 30; raised++) {
+        long before = held, next = left;
+        oah_refusal found = oah_allocate(growing, 10).refusal;
+        if (found != OAH_GRANTED && (found != OAH_MEMORY || held != before || oah_statistics(growing, 0).unused_nodes != 4)) return printf("a heap that grows keeps memory\n"), 1;
+        left = found == OAH_GRANTED ? -1 : next + 1;
+    }
+    if (raised < 3 || oah_statistics(growing, 0).unused_nodes != 11) return printf("no heap grew\n"), 1;
+    oah_drop(growing);
     /* no other call takes memory */
     left = 0;
     oa_allocation a = oa_allocate(space, 20);

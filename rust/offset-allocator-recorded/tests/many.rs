@@ -122,6 +122,23 @@ fn several_threads_write_whole_lines() {
     }
 }
 
+// Who plays it has heaps that do not grow: so each has the largest limit from the start.
+#[test]
+fn a_heap_that_grows_has_its_largest_limit() {
+    let limits = Limits { size: 1000, max_allocs: 100, first_allocs: 8, most: 1, most_larger: 0 };
+    let mut heaps = RecordedHeaps::new(Heaps::<u32>::new(Global, limits, 1).unwrap(), Vec::new()).unwrap();
+    assert!((0..50).all(|_| heaps.allocate(1).is_ok()));
+    assert_eq!(heaps.heap(0).unwrap().allocator().max_allocs(), 64);
+    let (grown, text) = heaps.finish();
+    let mut later = RecordedHeaps::new(grown, Vec::new()).unwrap();
+    assert!((0..30).all(|_| later.allocate(1).is_ok()));
+    for text in [text, later.finish().1] {
+        let text = String::from_utf8(text.unwrap()).unwrap();
+        assert!(text.starts_with("heap 0 space 1000 nodes 100 index 32\n"), "{text}");
+        assert!(answers(&text).iter().all(|line| line != "none"), "{text}");
+    }
+}
+
 #[test]
 fn each_heap_has_the_thread_of_its_own_calls() {
     let mut recording = Recording::new(Vec::new());
