@@ -7,6 +7,8 @@ mod asserts;
 mod heaps;
 mod histories;
 #[cfg(test)]
+mod in_place;
+#[cfg(test)]
 mod relocating;
 #[cfg(test)]
 mod states;
