@@ -1,7 +1,11 @@
 -- After a change of one heap, in place.
-use Rattle.std.proofs.Common.{◌≡◌, ℕ, ◌<◌, Bool, true, false, length, List, Option, Some, None, slice_set, refl, sym, ap, subst, ◌∙◌, inl, inr}
-use Rattle.std.proofs.lemmas.Bool.{cases_eq}
+use Rattle.std.proofs.Common.{◌≡◌, ℕ, ◌<◌, Bool, true, false, length, List, [], ◌∷◌, ◌++◌, Option, Some, None, slice_set, refl, sym, ap, subst, ◌∙◌, inl, inr, arith}
+use Rattle.std.proofs.lemmas.Bool.{cases_eq, cases_lt}
+use Rattle.std.proofs.lemmas.List.{append_assoc, append-nil}
+use Rattle.std.specs.List.{FoldsTo}
+use Rattle.offset_allocator.specs.{Classes.up, Classes.value, Moving.Compacting.Move, Moving.Compacting.moves, Moving.Room.MakesRoom, View.units}
 use Rattle.offset_allocator.specs.Ranges.{Range}
+use Rattle.offset_allocator.specs.declared.moves.room.RoomCost.{RoomCost}
 use Rattle.offset_allocator.specs.View.{View}
 use Rattle.offset_allocator.specs.Relations.{SameState}
 use Rattle.offset_guarded.specs.Guard.{Guard}
@@ -10,7 +14,8 @@ use Rattle.offset_guarded.specs.declared.ticket.Ticket.{Ticket}
 use Rattle.offset_heaps.specs.declared.place.Place.{Place}
 use Rattle.offset_heaps.specs.declared.resize.Resize.{Resize}
 use Rattle.offset_heaps.specs.declared.resize.Resize.TheVariants.{Shrink, Grow}
-use Rattle.offset_heaps.specs.Changing.{Alters, AltersIn, HasUnits, Resizes, ResizesSpace}
+use Rattle.offset_heaps.specs.Changing.{Alters, AltersIn, HasUnits, MakesRoomAt, MakesRoomIn, Resizes, ResizesSpace}
+use Rattle.offset_heaps.specs.Calls.{Notes}
 use Rattle.offset_heaps.specs.Heaps.{Heaps, KeepsOthers, Puts, heap_at, range_in, range_of, slot}
 use Rattle.offset_heaps.specs.{Slots.Changes, Twins.AreTwins, Twins.IsTwin, Twins.IsTwinIn}
 use Rattle.offset_heaps.proofs.Numbers.{slot_other, slot_same}
@@ -105,3 +110,46 @@ pub others_kept : (p : Place) (P : Guard → Guard → Type 0) (hs ks : Heaps) �
     → guarded.KeepsOthers p.ticket a.before a.after → KeepsOthers p hs ks
 others_kept p P hs ks there a own kept = put_keeps hs ks p.heap (Some a.after) (altered_slots p.heap P hs ks there a) (altered_realm p.heap P hs ks there a) there p refl own
     (λ u apart. kept u apart ∙ sym (ap (range_in u) a.heap))
+
+-- room that is made changes neither
+pub room_limits : {F : Type 0} (R : F → Move → F → Type 0) (size : ℕ) (f : F) (c : Option RoomCost) (f' : F) (g h : Guard) → MakesRoomIn R size f c f' g h
+    → (h.space.size ≡ g.space.size) × (h.space.max_allocs ≡ g.space.max_allocs)
+room_limits R size f c f' g h m = made R (value (up size)) g.space f c h.space f' m.step
+  where
+    made : {F : Type 0} (R : F → Move → F → Type 0) (want : ℕ) (v : View) (f : F) (c : Option RoomCost) (w : View) (f' : F) → MakesRoom R want v f c w f'
+        → (w.size ≡ v.size) × (w.max_allocs ≡ v.max_allocs)
+    made R want v f None w f' s = (ap (λ (z : View). z.size) s.0, ap (λ (z : View). z.max_allocs) s.0)
+    made R want v f (Some c) w f' s = elim (cases_lt 0 c.ranges) [
+      | inl l ↦ let e = (s.1 l).0.view in (ap (λ (z : View). z.size) e, ap (λ (z : View). z.max_allocs) e)
+      | inr l ↦ let e = (s.0 (omega (arith, l))).0 in (ap (λ (z : View). z.size) e, ap (λ (z : View). z.max_allocs) e)
+    ]
+
+-- whatever a closure does, there are the moves that it is called with
+notes_all : (ys xs : List Move) → FoldsTo Notes ys xs (ys ++ xs)
+notes_all ys [] = sym (append-nil ys)
+notes_all ys (x ∷ xs) = (ys ++ x ∷ [], refl, subst (λ z. FoldsTo Notes (ys ++ x ∷ []) xs z) (append_assoc ys (x ∷ []) xs) (notes_all (ys ++ x ∷ []) xs))
+
+noted : {F : Type 0} (R : F → Move → F → Type 0) (want : ℕ) (v : View) (f : F) (c : Option RoomCost) (w : View) (g : F) → MakesRoom R want v f c w g → (xs : List Move) × MakesRoom Notes want v [] c w xs
+noted R want v f None w g s = ([], (s.0, refl))
+noted R want v f (Some c) w g s = elim (cases_lt 0 c.ranges) [
+  | inl l ↦
+      let e = s.1 l in
+      let xs = moves (units e.0.front) (units e.0.front) e.0.run in
+      (xs, (λ z. absurd (omega (arith, l, z)), λ _. (e.0, e.1, notes_all [] xs)))
+  | inr l ↦ let e = s.0 (omega (arith, l)) in ([], (λ _. (e.0, refl), λ m. absurd (omega (arith, l, m))))
+]
+
+pub noted_room : {F : Type 0} (R : F → Move → F → Type 0) (k size : ℕ) (hs : Heaps) (f : F) (c : Option RoomCost) (ks : Heaps) (g : F) → MakesRoomAt R k size hs f c ks g
+    → (xs : List Move) × MakesRoomAt Notes k size hs [] c ks xs
+noted_room R k size hs f c ks g a =
+    let m = a.by in
+    let n = noted R (value (up size)) a.before.space f c a.after.space g m.step in (
+      n.0,
+      record {
+        before = a.before;
+        after = a.after;
+        heap = a.heap;
+        by = record { cost = m.cost; step = n.1; granted = m.granted; serials = m.serials; sizes = m.sizes; accesses = m.accesses };
+        heaps = a.heaps;
+      },
+    )

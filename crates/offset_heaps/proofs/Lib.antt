@@ -8,6 +8,7 @@ pub mod Empties
 pub mod Emptiest
 pub mod FaultPlaces
 pub mod Finding
+pub mod Foretold
 pub mod Grants
 pub mod Histories
 pub mod Numbers
