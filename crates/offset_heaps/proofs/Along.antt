@@ -26,9 +26,9 @@ pub live_there : (p : Place) (hs : Heaps) → IsLive p hs → p.heap < length hs
 live_there p hs live = elim (cases_lt p.heap (length hs.slots)) [
   | inl l ↦ l
   | inr past ↦ absurd (
-    let none : range_of p hs ≡ None = none_if (nat_eq p.realm hs.realm) (range_in p.ticket (heap_at p.heap hs)) (ap (range_in p.ticket) (slot_past hs.slots p.heap past)) in
-    let o : Option Range = None in
-    let no : IsSome o = subst IsSome none live in
-    cc
-  )
+      let none : range_of p hs ≡ None = none_if (nat_eq p.realm hs.realm) (range_in p.ticket (heap_at p.heap hs)) (ap (range_in p.ticket) (slot_past hs.slots p.heap past)) in
+      let o : Option Range = None in
+      let no : IsSome o = subst IsSome none live in
+      cc
+      )
 ]

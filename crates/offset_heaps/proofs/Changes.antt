@@ -12,9 +12,7 @@ use Rattle.offset_guarded.specs.Guard.{Guard}
 use Rattle.offset_guarded.specs.Guard as guarded
 use Rattle.offset_guarded.specs.declared.ticket.Ticket.{Ticket}
 use Rattle.offset_heaps.specs.declared.place.Place.{Place}
-use Rattle.offset_heaps.specs.declared.resize.Resize.{Resize}
-use Rattle.offset_heaps.specs.declared.resize.Resize.TheVariants.{Shrink, Grow}
-use Rattle.offset_heaps.specs.Changing.{Alters, AltersIn, HasUnits, MakesRoomAt, MakesRoomIn, Resizes, ResizesSpace}
+use Rattle.offset_heaps.specs.Changing.{Wanted, Less, More, Alters, AltersIn, HasUnits, MakesRoomAt, MakesRoomIn, Resizes, ResizesSpace}
 use Rattle.offset_heaps.specs.Calls.{Notes}
 use Rattle.offset_heaps.specs.Heaps.{Heaps, KeepsOthers, Puts, heap_at, range_in, range_of, slot}
 use Rattle.offset_heaps.specs.{Slots.Changes, Twins.AreTwins, Twins.IsTwin, Twins.IsTwinIn}
@@ -84,11 +82,11 @@ units_kept p n P hs ks there a own units r e =
     ∙ units r (sym (ap (range_in p.ticket) a.heap) ∙ sym (same_realm p hs own) ∙ e)
 
 -- where it is not done, the heap is as it was
-same_space : (how : Resize) (x : ℕ) (v w : View) → ResizesSpace how x v w false → SameState v w
-same_space (Shrink n) x v w s = s.1
-same_space (Grow n) x v w s = s.1
+same_space : (how : Wanted) (x : ℕ) (v w : View) → ResizesSpace how x v w false → SameState v w
+same_space (Less n) x v w s = s.1
+same_space (More n) x v w s = s.1
 
-pub undone_twin : (how : Resize) (t : Ticket) (g h : Guard) → Resizes how t false g h → IsTwin g h
+pub undone_twin : (how : Wanted) (t : Ticket) (g h : Guard) → Resizes how t false g h → IsTwin g h
 undone_twin how t g h r = record {
   space = same_space how t.name g.space h.space r.step;
   serials = λ x live. r.serials.cells x;
@@ -97,13 +95,13 @@ undone_twin how t g h r = record {
 }
 
 -- a range in place changes no size and no node limit of the space
-pub same_limits : (how : Resize) (x : ℕ) (v w : View) (done : Bool) → ResizesSpace how x v w done → (w.size ≡ v.size) × (w.max_allocs ≡ v.max_allocs)
-same_limits (Shrink n) x v w true (inl s) = (ap (λ (z : View). z.size) s.1, ap (λ (z : View). z.max_allocs) s.1)
-same_limits (Shrink n) x v w true (inr s) = (ap (λ (z : View). z.size) s.2.view, ap (λ (z : View). z.max_allocs) s.2.view)
-same_limits (Shrink n) x v w false s = (ap (λ (z : View). z.size) s.1, ap (λ (z : View). z.max_allocs) s.1)
-same_limits (Grow n) x v w true (inl s) = (ap (λ (z : View). z.size) s.1, ap (λ (z : View). z.max_allocs) s.1)
-same_limits (Grow n) x v w true (inr s) = (ap (λ (z : View). z.size) s.2.view, ap (λ (z : View). z.max_allocs) s.2.view)
-same_limits (Grow n) x v w false s = (ap (λ (z : View). z.size) s.1, ap (λ (z : View). z.max_allocs) s.1)
+pub same_limits : (how : Wanted) (x : ℕ) (v w : View) (done : Bool) → ResizesSpace how x v w done → (w.size ≡ v.size) × (w.max_allocs ≡ v.max_allocs)
+same_limits (Less n) x v w true (inl s) = (ap (λ (z : View). z.size) s.1, ap (λ (z : View). z.max_allocs) s.1)
+same_limits (Less n) x v w true (inr s) = (ap (λ (z : View). z.size) s.2.view, ap (λ (z : View). z.max_allocs) s.2.view)
+same_limits (Less n) x v w false s = (ap (λ (z : View). z.size) s.1, ap (λ (z : View). z.max_allocs) s.1)
+same_limits (More n) x v w true (inl s) = (ap (λ (z : View). z.size) s.1, ap (λ (z : View). z.max_allocs) s.1)
+same_limits (More n) x v w true (inr s) = (ap (λ (z : View). z.size) s.2.view, ap (λ (z : View). z.max_allocs) s.2.view)
+same_limits (More n) x v w false s = (ap (λ (z : View). z.size) s.1, ap (λ (z : View). z.max_allocs) s.1)
 
 -- every other place has the range that it had
 pub others_kept : (p : Place) (P : Guard → Guard → Type 0) (hs ks : Heaps) → p.heap < length hs.slots → (a : Alters p.heap P hs ks) → p.realm ≡ hs.realm

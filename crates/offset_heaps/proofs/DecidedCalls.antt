@@ -10,16 +10,14 @@ use Rattle.offset_heaps.specs.declared.place.Granted.{Granted}
 use Rattle.offset_heaps.specs.declared.place.Place.{Place}
 use Rattle.offset_heaps.specs.declared.refusal.Refusal.{Refusal}
 use Rattle.offset_heaps.specs.declared.refusal.Refusal.TheVariants.{Memory}
-use Rattle.offset_heaps.specs.declared.resize.Resize.{Resize}
-use Rattle.offset_heaps.specs.declared.resize.Resize.TheVariants.{Shrink, Grow}
-use Rattle.offset_heaps.specs.Changing.{Alters, CompactsIn, MakesRoomIn, Resizes, ResizesSpace}
+use Rattle.offset_heaps.specs.Changing.{Wanted, Less, More, Alters, CompactsIn, MakesRoomIn, Resizes, ResizesSpace}
 use Rattle.offset_heaps.specs.Heaps.{Heaps, Grants, IsFirstFit, IsNext, IsSame, IsWhy, NoneFits, Puts, heap_at, is_empty, empties, live_of, numbers, part, slot, AreTotals, free_of, largest_room}
 use Rattle.offset_heaps.specs.{Heaps.room_of, Heaps.size_of, Heaps.total, Histories.ResetsAll, State.quiet, Twins.AreTwins, Twins.IsTwin, Twins.IsTwinIn}
 use Rattle.offset_heaps.specs.declared.totals.Totals.{Totals}
 use Rattle.offset_heaps.specs.Relocating.{HasLive, IsEmptiest, NoneLive, TakesRange, granted, live_at, units_in, units_of}
 use Rattle.offset_heaps.specs.State as state
 use Rattle.offset_heaps.proofs.{States.slot_quiet, Empties.empty_there, Grants.memory_alone, Grants.none_found, Grants.one_reason, Numbers.slot_there}
-use Rattle.offset_heaps.specs.Calls.{Allocates, TakesAll, Call, Allocate, Free, Relocate, Drop_empty, Drop_heap, Give_up, Reset, Resize_range, Compact_heap, Make_room, Drops, DropsEmpty, Frees, GivesUp, IsStarved, Relocates, Reply, Requested, Second, Dropped, Was_done, Resized, Room_made, Takes, TakesRoom, TakesSize, Packs, Notes}
+use Rattle.offset_heaps.specs.Calls.{Allocates, TakesAll, Call, Allocate, Free, Relocate, Drop_empty, Drop_heap, Give_up, Reset, Resize, Compact_heap, Make_room, Drops, DropsEmpty, Frees, GivesUp, IsStarved, Relocates, Reply, Requested, Second, Dropped, Was_done, Resized, Room_made, Takes, TakesRoom, TakesSize, Packs, Notes}
 use Rattle.offset_heaps.proofs.Decided.{first_twins, grants_decided, known, known_at, next_twins, none_fit_twins, one_first, one_fit, one_next, why_twins}
 use Rattle.offset_heaps.proofs.Twins.{as_twin, free_twins, kept_twins, none_twins, option_twin, put_twins, range_twins, reset_twins, room_twins, slid_twins, some_twin, total_twins, twins_sym}
 
@@ -108,11 +106,11 @@ alters_twins k P Q hs hs' ks ks' t a b twin =
 before_twins : (k : ℕ) (P Q : Guard → Guard → Type 0) (hs hs' ks ks' : Heaps) → AreTwins hs hs' → (a : Alters k P hs ks) → (b : Alters k Q hs' ks') → IsTwin a.before b.before
 before_twins k P Q hs hs' ks ks' t a b = some_twin a.before b.before (heap_at k hs) (heap_at k hs') a.heap b.heap (t.heaps k)
 
-space_decided : (how : Resize) (x : ℕ) (v v' w w' : View) → IsWellFormed v → SameState v v' → (r r' : Bool) → ResizesSpace how x v w r → ResizesSpace how x v' w' r' → (r ≡ r') × SameState w w'
-space_decided (Shrink n) x v v' w w' known same r r' s s' = shrinks_decided x n v v' w w' known same r r' s s'
-space_decided (Grow n) x v v' w w' known same r r' s s' = grows_decided x n v v' w w' known same r r' s s'
+space_decided : (how : Wanted) (x : ℕ) (v v' w w' : View) → IsWellFormed v → SameState v v' → (r r' : Bool) → ResizesSpace how x v w r → ResizesSpace how x v' w' r' → (r ≡ r') × SameState w w'
+space_decided (Less n) x v v' w w' known same r r' s s' = shrinks_decided x n v v' w w' known same r r' s s'
+space_decided (More n) x v v' w w' known same r r' s s' = grows_decided x n v v' w w' known same r r' s s'
 
-pub size_decided : (how : Resize) (p : Place) (hs hs' ks ks' : Heaps) → state.IsWellFormed hs → AreTwins hs hs' → (r r' : Option Bool) → TakesSize how p hs ks r → TakesSize how p hs' ks' r' → (r ≡ r') × AreTwins ks ks'
+pub size_decided : (how : Wanted) (p : Place) (hs hs' ks ks' : Heaps) → state.IsWellFormed hs → AreTwins hs hs' → (r r' : Option Bool) → TakesSize how p hs ks r → TakesSize how p hs' ks' r' → (r ≡ r') × AreTwins ks ks'
 size_decided how p hs hs' ks ks' is t None None x y = (refl, same_twins hs hs' ks ks' t (x.gone refl) (y.gone refl))
 size_decided how p hs hs' ks ks' is t None (Some d) x y = absurd (let e : false ≡ true = x.live.1 (subst (λ o. is_some o ≡ true) (range_twins hs hs' t p) (y.live.0 refl)) in cc)
 size_decided how p hs hs' ks ks' is t (Some d) None x y = absurd (let e : false ≡ true = y.live.1 (subst (λ o. is_some o ≡ true) (sym (range_twins hs hs' t p)) (x.live.0 refl)) in cc)
@@ -305,7 +303,7 @@ takes_decided (Drop_empty keep) hs hs' ks ks' is t r r' x y m n = let e = drops_
 takes_decided (Drop_heap k) hs hs' ks ks' is t r r' x y m n = let e = drops_decided k hs hs' ks ks' t x.0 y.0 x.2 y.2 in (x.1 ∙ ap Was_done e.0 ∙ sym y.1, e.1)
 takes_decided (Give_up k) hs hs' ks ks' is t r r' x y m n = let e = gives_up_decided k hs hs' ks ks' t x.0 y.0 x.2 y.2 in (x.1 ∙ ap Was_done e.0 ∙ sym y.1, e.1)
 takes_decided Reset hs hs' ks ks' is t r r' x y m n = (x.0 ∙ sym y.0, resets_decided hs hs' ks ks' is t x.1 y.1)
-takes_decided (Resize_range how p) hs hs' ks ks' is t r r' x y m n = let e = size_decided how p hs hs' ks ks' is t x.0 y.0 x.2 y.2 in (x.1 ∙ ap Resized e.0 ∙ sym y.1, e.1)
+takes_decided (Resize how p) hs hs' ks ks' is t r r' x y m n = let e = size_decided how p hs hs' ks ks' is t x.0 y.0 x.2 y.2 in (x.1 ∙ ap Resized e.0 ∙ sym y.1, e.1)
 takes_decided (Compact_heap k) hs hs' ks ks' is t r r' x y m n = let e = packs_decided k hs hs' ks ks' t x.0 y.0 x.2 y.2 in (x.1 ∙ ap Was_done e.0 ∙ sym y.1, e.1)
 takes_decided (Make_room k size) hs hs' ks ks' is t r r' x y m n = let e = room_decided k size hs hs' ks ks' is t x.0 y.0 x.2 y.2 in (x.1 ∙ ap Room_made e.0 ∙ sym y.1, e.1)
 

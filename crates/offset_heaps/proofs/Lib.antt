@@ -4,6 +4,7 @@ pub mod Counting
 pub mod Decided
 pub mod DecidedCalls
 pub mod DecidedWalks
+pub mod EachOnce
 pub mod Empties
 pub mod Emptiest
 pub mod FaultPlaces

@@ -3,11 +3,10 @@ use Rattle.std.specs.Prelude.{◌≡◌, ◌↔◌, ℕ, ◌<◌, ◌≤◌, Boo
 use Rattle.offset_allocator.specs.Moving.Compacting.{Move}
 use Rattle.offset_allocator.specs.Requests.{blocks_needed, units_needed}
 use Rattle.offset_allocator.specs.declared.moves.room.RoomCost.{RoomCost}
-use Rattle.offset_heaps.specs.Changing.{CompactsHeap, MakesRoomAt, ResizesAt}
+use Rattle.offset_heaps.specs.Changing.{CompactsHeap, MakesRoomAt, ResizesAt, Wanted}
 use Rattle.offset_heaps.specs.declared.place.Granted.{Granted}
 use Rattle.offset_heaps.specs.declared.place.Place.{Place}
 use Rattle.offset_heaps.specs.declared.refusal.Refusal.{Refusal}
-use Rattle.offset_heaps.specs.declared.resize.Resize.{Resize}
 use Rattle.offset_heaps.specs.declared.refusal.Refusal.TheVariants.{Empty, Memory}
 use Rattle.offset_heaps.specs.Heaps.{Heaps, FreesIn, Grants, IsFirstFit, IsLive, IsNext, IsSame, IsWhy, NoneFits, Puts, empties, heap_at, is_empty}
 use Rattle.offset_heaps.specs.Histories.{ResetsAll}
@@ -70,7 +69,7 @@ pub record GivesUp (k : ℕ) (hs ks : Heaps) (r : Bool) : Type 0 where
   pub heaps : r ≡ true → Puts k None hs ks
 
 -- `shrink` and `grow_in_place`
-pub record TakesSize (how : Resize) (p : Place) (hs ks : Heaps) (r : Option Bool) : Type 0 where
+pub record TakesSize (how : Wanted) (p : Place) (hs ks : Heaps) (r : Option Bool) : Type 0 where
   pub live : IsSome r ↔ IsLive p hs
   pub gone : r ≡ None → IsSame hs ks
   pub step : IfSome r (ResizesAt how p hs ks)
@@ -100,7 +99,7 @@ pub data Call : Type 0 where
   Drop_heap : ℕ → Call
   Give_up : ℕ → Call
   Reset : Call
-  Resize_range : Resize → Place → Call
+  Resize : Wanted → Place → Call
   Compact_heap : ℕ → Call
   -- room for so many units in the heap of a number
   Make_room : ℕ → ℕ → Call
@@ -124,7 +123,7 @@ Takes (Drop_empty keep) hs ks reply = (r : Option ℕ) × (reply ≡ Dropped r) 
 Takes (Drop_heap k) hs ks reply = (r : Bool) × (reply ≡ Was_done r) × Drops k hs ks r
 Takes (Give_up k) hs ks reply = (r : Bool) × (reply ≡ Was_done r) × GivesUp k hs ks r
 Takes Reset hs ks reply = (reply ≡ Nothing) × ResetsAll hs ks
-Takes (Resize_range how p) hs ks reply = (r : Option Bool) × (reply ≡ Resized r) × TakesSize how p hs ks r
+Takes (Resize how p) hs ks reply = (r : Option Bool) × (reply ≡ Resized r) × TakesSize how p hs ks r
 Takes (Compact_heap k) hs ks reply = (r : Bool) × (reply ≡ Was_done r) × Packs k hs ks r
 Takes (Make_room k size) hs ks reply = (r : Option RoomCost) × (reply ≡ Room_made r) × TakesRoom k size hs ks r
 

@@ -45,37 +45,46 @@ KeepsLive hs ks = (p : Place) → is_some (range_of p ks) ≡ is_some (range_of 
 abbrev pub HasUnits : Place → ℕ → Heaps → Heaps → Type 0
 HasUnits p n hs ks = (r : Range) → range_of p hs ≡ Some r → range_of p ks ≡ Some (record r { size = n })
 
--- the units that a range is to have
-abbrev pub wanted : Resize → ℕ
-wanted (Shrink n) = n
-wanted (Grow n) = n
+-- how many units a range is to have in place: at most as many as it has, or at least
+pub data Wanted : Type 0 where
+  Less : ℕ → Wanted
+  More : ℕ → Wanted
+
+-- what is wanted of a call
+abbrev pub wanted : Resize → Wanted
+wanted (Shrink n) = Less n
+wanted (Grow n) = More n
+
+abbrev pub units_wanted : Wanted → ℕ
+units_wanted (Less n) = n
+units_wanted (More n) = n
 
 -- a space can do it
-abbrev pub CanResize : Resize → ℕ → View → Type 0
-CanResize (Shrink n) x v = space.CanShrink x n v
-CanResize (Grow n) x v = space.CanGrow x n v
+abbrev pub CanResize : Wanted → ℕ → View → Type 0
+CanResize (Less n) x v = space.CanShrink x n v
+CanResize (More n) x v = space.CanGrow x n v
 
 -- the step of a space, and whether it was done
-abbrev pub ResizesSpace : Resize → ℕ → View → View → Bool → Type 0
-ResizesSpace (Shrink n) x v w done = space.Shrinks x n v w done
-ResizesSpace (Grow n) x v w done = space.Grows x n v w done
+abbrev pub ResizesSpace : Wanted → ℕ → View → View → Bool → Type 0
+ResizesSpace (Less n) x v w done = space.Shrinks x n v w done
+ResizesSpace (More n) x v w done = space.Grows x n v w done
 
 -- the range of a ticket becomes smaller or larger in place, or stays as it is, where that can't be done
-pub record Resizes (how : Resize) (t : Ticket) (done : Bool) (g h : Guard) : Type 0 where
+pub record Resizes (how : Wanted) (t : Ticket) (done : Bool) (g h : Guard) : Type 0 where
   pub step : ResizesSpace how t.name g.space h.space done
   -- no serial changes, and no other ticket is live
   pub serials : guarded.KeepsSerials g h
   pub kept : guarded.KeepsLive g h
   -- the range has so many units, from its first one on, and every other ticket the range that it had
-  pub range : done ≡ true → guarded.HasUnits t (wanted how) g h
+  pub range : done ≡ true → guarded.HasUnits t (units_wanted how) g h
   pub others : guarded.KeepsOthers t g h
   pub accesses : h.space.accesses ≤ g.space.accesses + 128
 
 -- the range of a place
-abbrev pub ResizesAt : Resize → Place → Heaps → Heaps → Bool → Type 0
+abbrev pub ResizesAt : Wanted → Place → Heaps → Heaps → Bool → Type 0
 ResizesAt how p hs ks done = Alters p.heap (Resizes how p.ticket done) hs ks
 
-abbrev pub CanResizeAt : Resize → Place → Heaps → Type 0
+abbrev pub CanResizeAt : Wanted → Place → Heaps → Type 0
 CanResizeAt how p hs = HoldsIn (CanResize how p.ticket.name) (heap_at p.heap hs)
 
 -- every place has as many units as it had, and no other is live

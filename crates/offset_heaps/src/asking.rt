@@ -9,7 +9,7 @@ use crate::refusal::Refusal;
 use offset_allocator::{Accesses, Tables};
 
 /// As `refusal_aligned` of `Heaps`. The count grows by some for each bit of the numbers.
-pub fn refusal_counted<T: Tables>(
+pub fn refusal_aligned_counted<T: Tables>(
     heaps: &HeapsOf<T>,
     size: u32,
     align: u32,
@@ -89,6 +89,6 @@ impl<T: Tables> HeapsOf<T> {
         requires alignment { 1 ≤ align }
         ensures { MatchOption result (IsServed size align self.now) (IsRefusedFor size align self.now) }
     {
-        refusal_counted(self, size, align, &mut Accesses::new())
+        refusal_aligned_counted(self, size, align, &mut Accesses::new())
     }
 }

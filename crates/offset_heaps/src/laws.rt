@@ -11,6 +11,7 @@ ghost use Rattle.offset_heaps.specs.Heaps.{Heaps, room, AreAlike, AreTotals, hea
 ghost use Rattle.offset_heaps.specs.Heaps.{Grants, IsFirstFit, IsLive, IsNext, IsUsual, IsWhy, Puts};
 ghost use Rattle.offset_heaps.specs.Heaps.{size_of, total};
 ghost use Rattle.offset_heaps.specs.Histories.{AreSteps, IsGone, IsStep, ResetsAll};
+ghost use Rattle.offset_heaps.specs.Numbering.{AreOfLive, MeetsPlaces, first_from, live_places, next_place};
 ghost use Rattle.offset_heaps.specs.State.{IsCopy, IsStateOf, IsWellFormed, SameHeaps};
 ghost use Rattle.offset_heaps.specs.Relocating.{IsEmptiest, NoneLive, last_place, place_before};
 ghost use Rattle.offset_heaps.specs.Relocating.{live_at, squares, units_of};
@@ -18,7 +19,7 @@ ghost use Rattle.offset_heaps.specs.Twins.{AreTwins};
 ghost use Rattle.offset_heaps.specs.Calls.{Allocates, TakesAll, Call, Drops, DropsEmpty, Frees, GivesUp};
 ghost use Rattle.offset_heaps.specs.Calls.{GoAll, Goes, Packs, Relocates, Reply, TakesRoom, TakesSize};
 ghost use Rattle.offset_heaps.specs.Asking.{IsRefusedFor, IsServed};
-ghost use Rattle.offset_heaps.specs.declared.resize.Resize.{Resize};
+ghost use Rattle.offset_heaps.specs.Changing.{Wanted};
 ghost use Rattle.offset_allocator.specs.declared.moves.room.RoomCost.{RoomCost};
 ghost use Rattle.offset_heaps.specs.declared.place.Granted.{Granted};
 ghost use Rattle.offset_heaps.specs.declared.place.Place.{Place};
@@ -27,8 +28,8 @@ ghost use Rattle.offset_heaps.specs.declared.totals.Totals.{Totals};
 ghost use Rattle.offset_heaps.specs.declared.refusal.Refusal.TheVariants.{Memory};
 
 use crate::HeapsOf;
-pub use crate::asking::refusal_counted;
-pub use crate::numbering::heap_from_counted;
+pub use crate::asking::refusal_aligned_counted;
+pub use crate::numbering::{first_heap_counted, heap_after_counted};
 pub use crate::relocate::emptiest_counted;
 use offset_allocator::Tables;
 use offset_allocator::laws::{is_well_formed, ranges_are_disjoint};
@@ -124,6 +125,16 @@ pub fn relocations_end()
         → squares hs + 2 * length ps ≤ total (λ g. size_of g * size_of g) hs.slots }
 {}
 
+/// A walk from `first_place` on by `place_after` meets the places of all live ranges, by the numbers of their
+/// heaps, and in a heap in space order: each live place once, and no other. It looks at each slot.
+pub fn each_live_place_is_met_once<T: Tables>(heaps: &HeapsOf<T>)
+    ensures walk { MeetsPlaces (λ p. next_place p heaps.now) (first_from 0 heaps.now)
+        (live_places heaps.now) }
+    ensures once { AreOfLive (live_places heaps.now) heaps.now }
+{
+    a_state_is_read_back(heaps);
+}
+
 // How many heaps were made.
 fn made<T: Tables>(heaps: &HeapsOf<T>) -> u32
     ensures { result ≡ heaps.now.made }
@@ -176,7 +187,7 @@ pub fn a_state_decides_each_step()
         → GivesUp k hs ks r → GivesUp k hs' ks' r' → (r ≡ r') × AreTwins ks ks' }
     ensures reset { (hs hs' ks ks' : Heaps) → IsWellFormed hs → AreTwins hs hs' → ResetsAll hs ks
         → ResetsAll hs' ks' → AreTwins ks ks' }
-    ensures resize { (how : Resize) (p : Place) (hs hs' ks ks' : Heaps) → IsWellFormed hs → AreTwins hs hs'
+    ensures resize { (how : Wanted) (p : Place) (hs hs' ks ks' : Heaps) → IsWellFormed hs → AreTwins hs hs'
         → (r r' : Option Bool) → TakesSize how p hs ks r → TakesSize how p hs' ks' r'
         → (r ≡ r') × AreTwins ks ks' }
     ensures compact_heap { (k : ℕ) (hs hs' ks ks' : Heaps) → AreTwins hs hs' → (r r' : Bool)

@@ -8,20 +8,33 @@ use crate::HeapsOf;
 use crate::place::Place;
 use offset_allocator::{Accesses, Tables};
 
-/// As `heap_after` of `Heaps`, of the numbers from `from` on. The count grows at most by the number of
-/// numbers, one for each slot.
-pub fn heap_from_counted<T: Tables>(heaps: &HeapsOf<T>, from: u32, count: &mut Accesses) -> Option<u32>
-    ensures first { MatchOption result (NoHeapFrom from heaps.now.slots)
-        (IsHeapFrom from heaps.now.slots) }
-    ensures there { IfSome result (λ k. k < numbers heaps.now) }
+/// As `first_heap` of `Heaps`. The count grows at most by the number of numbers, one for each slot.
+pub fn first_heap_counted<T: Tables>(heaps: &HeapsOf<T>, count: &mut Accesses) -> Option<u32>
+    ensures first { MatchOption result (NoHeapFrom 0 heaps.now.slots) (IsHeapFrom 0 heaps.now.slots) }
+    ensures accesses { count.new ≤ count.old + numbers heaps.now }
+{
+    let limits = heaps.limits;
+    heaps
+        .slots
+        .heap_from(0, limits.most + limits.most_larger, count)
+}
+
+/// As `heap_after` of `Heaps`. The count grows at most by the number of numbers, one for each slot.
+pub fn heap_after_counted<T: Tables>(
+    heaps: &HeapsOf<T>,
+    number: u32,
+    count: &mut Accesses,
+) -> Option<u32>
+    ensures first { MatchOption result (NoHeapFrom (number + 1) heaps.now.slots)
+        (IsHeapFrom (number + 1) heaps.now.slots) }
     ensures accesses { count.new ≤ count.old + numbers heaps.now }
 {
     let limits = heaps.limits;
     let numbers = limits.most + limits.most_larger;
-    if from >= numbers {
+    if number >= numbers {
         return None;
     }
-    heaps.slots.heap_from(from, numbers, count)
+    heaps.slots.heap_from(number + 1, numbers, count)
 }
 
 impl<T: Tables> HeapsOf<T> {
@@ -51,7 +64,7 @@ impl<T: Tables> HeapsOf<T> {
     pub fn first_heap(&self) -> Option<u32>
         ensures { MatchOption result (NoHeapFrom 0 self.now.slots) (IsHeapFrom 0 self.now.slots) }
     {
-        heap_from_counted(self, 0, &mut Accesses::new())
+        first_heap_counted(self, &mut Accesses::new())
     }
 
     /// The first number after this one that has a heap, or `None` where none has. Any number is taken. It
@@ -66,11 +79,7 @@ impl<T: Tables> HeapsOf<T> {
         ensures { MatchOption result (NoHeapFrom (number + 1) self.now.slots)
             (IsHeapFrom (number + 1) self.now.slots) }
     {
-        let limits = self.limits;
-        if number >= limits.most + limits.most_larger {
-            return None;
-        }
-        heap_from_counted(self, number + 1, &mut Accesses::new())
+        heap_after_counted(self, number, &mut Accesses::new())
     }
 
     // The first live place of the heaps from a number on.

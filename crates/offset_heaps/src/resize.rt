@@ -1,8 +1,8 @@
 //! Ranges that become smaller or larger in place. It changes one slot, and notes it in the index.
 ghost use Rattle.std.specs.Prelude.{◌≡◌, ◌↔◌, None, Some, IfSome, IsSome, IsTrue, false, true};
-ghost use Rattle.offset_heaps.specs.Changing.{CanResizeAt, HasUnits, KeepsLive, ResizesAt, wanted};
+ghost use Rattle.offset_heaps.specs.Changing.{CanResizeAt, HasUnits, KeepsLive, Less, More, ResizesAt};
+ghost use Rattle.offset_heaps.specs.Changing.{units_wanted, wanted};
 ghost use Rattle.offset_heaps.specs.Twins.{AreTwins};
-ghost use Rattle.offset_heaps.specs.declared.resize.Resize.TheVariants.{Grow, Shrink};
 
 use crate::HeapsOf;
 use crate::place::Place;
@@ -23,13 +23,13 @@ impl<T: Tables> HeapsOf<T> {
     // Makes the range of a place smaller or larger in place.
     fn resize(&mut self, place: Place, how: Resize) -> Option<bool>
         ensures live { IsSome result ↔ IsLive place self.old }
-        ensures done { IfSome result (λ done. IsTrue done ↔ CanResizeAt how place self.old) }
-        ensures range { result ≡ Some true → HasUnits place (wanted how) self.old self.new }
+        ensures done { IfSome result (λ done. IsTrue done ↔ CanResizeAt (wanted how) place self.old) }
+        ensures range { result ≡ Some true → HasUnits place (units_wanted (wanted how)) self.old self.new }
         ensures others { KeepsOthers place self.old self.new }
         ensures kept { KeepsLive self.old self.new }
         ensures refused { result ≡ Some false → AreTwins self.old self.new }
         ensures gone { result ≡ None → IsSame self.old self.new }
-        ensures step { IfSome result (ResizesAt how place self.old self.new) }
+        ensures step { IfSome result (ResizesAt (wanted how) place self.old self.new) }
         ensures steps { TakesFewSteps self.old self.new }
     {
         if place.realm != self.realm {
@@ -55,7 +55,7 @@ impl<T: Tables> HeapsOf<T> {
     /// ```
     pub fn shrink(&mut self, place: Place, size: u32) -> Option<bool>
         ensures live { IsSome result ↔ IsLive place self.old }
-        ensures done { IfSome result (λ done. IsTrue done ↔ CanResizeAt (Shrink size) place self.old) }
+        ensures done { IfSome result (λ done. IsTrue done ↔ CanResizeAt (Less size) place self.old) }
         // Then the range has `size` units, from its first one on. Every other place keeps its range.
         ensures range { result ≡ Some true → HasUnits place size self.old self.new }
         ensures others { KeepsOthers place self.old self.new }
@@ -64,7 +64,7 @@ impl<T: Tables> HeapsOf<T> {
         ensures refused { result ≡ Some false → AreTwins self.old self.new }
         ensures gone { result ≡ None → IsSame self.old self.new }
         // The step of its heap. All other heaps are as they were.
-        ensures step { IfSome result (ResizesAt (Shrink size) place self.old self.new) }
+        ensures step { IfSome result (ResizesAt (Less size) place self.old self.new) }
         ensures steps { TakesFewSteps self.old self.new }
     {
         self.resize(place, Resize::Shrink(size))
@@ -82,7 +82,7 @@ impl<T: Tables> HeapsOf<T> {
     /// ```
     pub fn grow_in_place(&mut self, place: Place, size: u32) -> Option<bool>
         ensures live { IsSome result ↔ IsLive place self.old }
-        ensures done { IfSome result (λ done. IsTrue done ↔ CanResizeAt (Grow size) place self.old) }
+        ensures done { IfSome result (λ done. IsTrue done ↔ CanResizeAt (More size) place self.old) }
         // Then the range has `size` units, from its first one on. Every other place keeps its range.
         ensures range { result ≡ Some true → HasUnits place size self.old self.new }
         ensures others { KeepsOthers place self.old self.new }
@@ -91,7 +91,7 @@ impl<T: Tables> HeapsOf<T> {
         ensures refused { result ≡ Some false → AreTwins self.old self.new }
         ensures gone { result ≡ None → IsSame self.old self.new }
         // The step of its heap. All other heaps are as they were.
-        ensures step { IfSome result (ResizesAt (Grow size) place self.old self.new) }
+        ensures step { IfSome result (ResizesAt (More size) place self.old self.new) }
         ensures steps { TakesFewSteps self.old self.new }
     {
         self.resize(place, Resize::Grow(size))

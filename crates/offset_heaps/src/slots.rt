@@ -9,7 +9,7 @@ ghost use Rattle.offset_allocator.specs.Tight.{CanHold};
 ghost use Rattle.offset_guarded.specs.Guard.{Guard, HasSerialLeft};
 ghost use Rattle.offset_allocator.specs.Moving.Compacting.{IsCalledWith};
 ghost use Rattle.offset_heaps.specs.Changing.{AltersIn, CanResize, CompactsIn, HoldsIn, MakesRoomIn, Resizes};
-ghost use Rattle.offset_heaps.specs.Changing.{moves_in};
+ghost use Rattle.offset_heaps.specs.Changing.{moves_in, wanted};
 ghost use Rattle.offset_heaps.specs.Heaps.{is_empty, live_of, part, range_in, room, room_of, slot};
 ghost use Rattle.offset_heaps.specs.Numbering.{IsHeapFrom, NoHeapFrom};
 ghost use Rattle.offset_heaps.specs.Relocating.{HasLive, IsEmptiest, NoneLive, TakesUnits, units_in};
@@ -102,8 +102,8 @@ fn resize_in<T: Tables>(
     how: Resize,
 ) -> Option<bool>
     ensures live { IsSome result ↔ IsSome (range_in ticket slot.old) }
-    ensures done { IfSome result (λ done. IsTrue done ↔ HoldsIn (CanResize how ticket.name) slot.old) }
-    ensures change { IfSome result (λ done. AltersIn (Resizes how ticket done) slot.old slot.new) }
+    ensures done { IfSome result (λ done. IsTrue done ↔ HoldsIn (CanResize (wanted how) ticket.name) slot.old) }
+    ensures change { IfSome result (λ done. AltersIn (Resizes (wanted how) ticket done) slot.old slot.new) }
     ensures same { result ≡ None → slot.new ≡ slot.old }
 {
     match slot {
@@ -268,9 +268,9 @@ impl<T: Tables> Slots<T> {
         ensures live { IsSome result ↔ IsSome (range_in ticket (slot number self.old)) }
         ensures there { IsSome result → number < length self.old }
         ensures done { IfSome result
-            (λ done. IsTrue done ↔ HoldsIn (CanResize how ticket.name) (slot number self.old)) }
+            (λ done. IsTrue done ↔ HoldsIn (CanResize (wanted how) ticket.name) (slot number self.old)) }
         ensures change { IfSome result
-            (λ done. Changes number (AltersIn (Resizes how ticket done)) self.old self.new) }
+            (λ done. Changes number (AltersIn (Resizes (wanted how) ticket done)) self.old self.new) }
         ensures same { result ≡ None → self.new ≡ self.old }
         ensures accesses { count.new ≡ count.old + 1 }
     {
@@ -329,14 +329,14 @@ impl<T: Tables> Slots<T> {
     }
 
     /// The first number, from one on, that has a heap.
-    pub(crate) fn heap_from(&self, from: u32, numbers: u32, count: &mut Accesses) -> Option<u32>
-        requires from { from ≤ numbers }
+    pub(crate) fn heap_from(&self, start: u32, numbers: u32, count: &mut Accesses) -> Option<u32>
+        requires start { start ≤ numbers }
         requires numbers { length self.now ≡ numbers }
-        ensures first { MatchOption result (NoHeapFrom from self.now) (IsHeapFrom from self.now) }
+        ensures first { MatchOption result (NoHeapFrom start self.now) (IsHeapFrom start self.now) }
         ensures there { IfSome result (λ k. k < numbers) }
         ensures accesses { count.new ≤ count.old + numbers }
     {
-        for number in from..numbers {
+        for number in start..numbers {
             if self.has(number, count) {
                 return Some(number);
             }

@@ -34,7 +34,11 @@ fn granted<T: Tables>(heaps: &mut HeapsOf<T>, size: u32) -> Place {
 
 // The heaps 0, 1 and 3 are met, and in them all live ranges, from the first one on.
 fn expect_walks<T: Tables>(rt: &impl Abort, heaps: &mut HeapsOf<T>) {
-    assert_same(rt, &(heaps.first_heap(), heaps.first_place()), &(None, None));
+    assert_same(
+        rt,
+        &(heaps.first_heap(), heaps.first_place()),
+        &(None, None),
+    );
     let a = granted(heaps, 60);
     let b = granted(heaps, 30);
     let c = granted(heaps, 50);
@@ -44,17 +48,53 @@ fn expect_walks<T: Tables>(rt: &impl Abort, heaps: &mut HeapsOf<T>) {
     assert_same(rt, &heaps.units_of_heap(1), &Some(100));
     assert_same(rt, &heaps.units_of_heap(2), &None);
     assert_same(rt, &heaps.units_of_heap(3), &Some(120));
-    assert_same(rt, &(heaps.first_heap(), heaps.heap_after(0)), &(Some(0), Some(1)));
-    assert_same(rt, &(heaps.heap_after(1), heaps.heap_after(2)), &(Some(3), Some(3)));
-    assert_same(rt, &(heaps.heap_after(3), heaps.heap_after(u32::MAX)), &(None, None));
-    assert_same(rt, &(heaps.first_place(), heaps.place_after(a)), &(Some(a), Some(b)));
-    assert_same(rt, &(heaps.place_after(b), heaps.place_after(c)), &(Some(c), Some(d)));
-    assert_same(rt, &(heaps.place_after(d), heaps.place_after(large)), &(None, None));
-    assert_same(rt, &(heaps.first_live(0), heaps.first_live(2)), &(Some(a), None));
-    assert_same(rt, &(heaps.live_after(a), heaps.live_after(b)), &(Some(b), None));
+    assert_same(
+        rt,
+        &(heaps.first_heap(), heaps.heap_after(0)),
+        &(Some(0), Some(1)),
+    );
+    assert_same(
+        rt,
+        &(heaps.heap_after(1), heaps.heap_after(2)),
+        &(Some(3), Some(3)),
+    );
+    assert_same(
+        rt,
+        &(heaps.heap_after(3), heaps.heap_after(u32::MAX)),
+        &(None, None),
+    );
+    assert_same(
+        rt,
+        &(heaps.first_place(), heaps.place_after(a)),
+        &(Some(a), Some(b)),
+    );
+    assert_same(
+        rt,
+        &(heaps.place_after(b), heaps.place_after(c)),
+        &(Some(c), Some(d)),
+    );
+    assert_same(
+        rt,
+        &(heaps.place_after(d), heaps.place_after(large)),
+        &(None, None),
+    );
+    assert_same(
+        rt,
+        &(heaps.first_live(0), heaps.first_live(2)),
+        &(Some(a), None),
+    );
+    assert_same(
+        rt,
+        &(heaps.live_after(a), heaps.live_after(b)),
+        &(Some(b), None),
+    );
     // a heap with no live range is passed over
     assert_that(rt, heaps.free(c));
-    assert_same(rt, &(heaps.live_after(c), heaps.place_after(b)), &(None, Some(d)));
+    assert_same(
+        rt,
+        &(heaps.live_after(c), heaps.place_after(b)),
+        &(None, Some(d)),
+    );
 }
 
 // The answers of `shrink` and `grow_in_place`, and what they leave for others.
@@ -69,14 +109,26 @@ fn expect_sizes<T: Tables>(rt: &impl Abort, heaps: &mut HeapsOf<T>) {
     assert_same(rt, &heaps.totals().free_units, &0);
     assert_same(rt, &heaps.shrink(a, 61), &Some(false));
     assert_same(rt, &heaps.shrink(a, 40), &Some(true));
-    assert_same(rt, &(heaps.size_of(a), heaps.size_of(b)), &(Some(40), Some(40)));
+    assert_same(
+        rt,
+        &(heaps.size_of(a), heaps.size_of(b)),
+        &(Some(40), Some(40)),
+    );
     // the 20 units between them are noted
     let c = granted(heaps, 20);
     assert_same(rt, &(c.heap, c.ticket.offset), &(0, 40));
     let other = Place { realm: 8, ..a };
-    assert_same(rt, &(heaps.shrink(other, 10), heaps.grow_in_place(other, 50)), &(None, None));
+    assert_same(
+        rt,
+        &(heaps.shrink(other, 10), heaps.grow_in_place(other, 50)),
+        &(None, None),
+    );
     assert_that(rt, heaps.free(b));
-    assert_same(rt, &(heaps.shrink(b, 10), heaps.grow_in_place(b, 50)), &(None, None));
+    assert_same(
+        rt,
+        &(heaps.shrink(b, 10), heaps.grow_in_place(b, 50)),
+        &(None, None),
+    );
 }
 
 // What is foretold is what a request is answered then.
@@ -107,7 +159,11 @@ fn expect_compaction<T: Tables>(rt: &impl Abort, heaps: &mut HeapsOf<T>) {
     assert_that(rt, heaps.free(hole));
     let mut units = 0u64;
     assert_that(rt, heaps.compact_heap(0, &mut |it| units += it.size as u64));
-    assert_same(rt, &(heaps.offset_of(a), heaps.offset_of(b)), &(Some(0), Some(20)));
+    assert_same(
+        rt,
+        &(heaps.offset_of(a), heaps.offset_of(b)),
+        &(Some(0), Some(20)),
+    );
     assert_that(rt, !heaps.compact_heap(1, &mut |_| ()));
     assert_that(rt, !heaps.compact_heap(9, &mut |_| ()));
     assert_same(rt, &granted(heaps, 60).heap, &0);

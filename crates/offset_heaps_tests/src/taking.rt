@@ -5,7 +5,7 @@ ghost use Rattle.std.specs.Prelude.{◌≤◌};
 ghost use Rattle.offset_heaps.specs.Calls.{Allocates, Drops, DropsEmpty, Frees, GivesUp, Packs, Relocates};
 ghost use Rattle.offset_heaps.specs.Calls.{TakesRoom, TakesSize};
 ghost use Rattle.offset_heaps.specs.Histories.{ResetsAll};
-ghost use Rattle.offset_heaps.specs.declared.resize.Resize.TheVariants.{Grow, Shrink};
+ghost use Rattle.offset_heaps.specs.Changing.{Less, More};
 
 use offset_allocator::{Move, RoomCost};
 use offset_heaps::{Granted, Heaps, Place, Refusal};
@@ -77,14 +77,14 @@ pub fn reset(heaps: &mut Heaps)
 
 /// Makes a range smaller in place.
 pub fn shrink(heaps: &mut Heaps, place: Place, size: u32) -> Option<bool>
-    ensures { TakesSize (Shrink size) place heaps.old heaps.new result }
+    ensures { TakesSize (Less size) place heaps.old heaps.new result }
 {
     heaps.shrink(place, size)
 }
 
 /// Makes a range larger in place.
 pub fn grow_in_place(heaps: &mut Heaps, place: Place, size: u32) -> Option<bool>
-    ensures { TakesSize (Grow size) place heaps.old heaps.new result }
+    ensures { TakesSize (More size) place heaps.old heaps.new result }
 {
     heaps.grow_in_place(place, size)
 }

@@ -11,7 +11,7 @@ use offset_allocator::small_float::{uint_to_float_round_down, uint_to_float_roun
 use offset_guarded::{GuardedOf, Ticket};
 
 // A number, where it is below a limit.
-fn below(found: Option<u32>, limit: u32) -> Option<u32> {
+pub(crate) fn below(found: Option<u32>, limit: u32) -> Option<u32> {
     match found {
         None => None,
         Some(number) => {
@@ -30,7 +30,7 @@ impl<T: Tables> HeapsOf<T> {
     }
 
     // Whether a fresh heap of the usual size has that many units for a request.
-    fn is_usual(&self, size: u32) -> bool {
+    pub(crate) fn is_usual(&self, size: u32) -> bool {
         let all = self.limits.size;
         let class = uint_to_float_round_down(all);
         if size > all {

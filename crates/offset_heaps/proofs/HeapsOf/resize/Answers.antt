@@ -1,6 +1,6 @@
 use Rattle.std.proofs.Common.{Bool, refl, arith, is_some, subst}
 use Rattle.offset_guarded.specs.Guard.{Guard}
-use Rattle.offset_heaps.specs.Changing.{Resizes}
+use Rattle.offset_heaps.specs.Changing.{Resizes, wanted}
 use Rattle.offset_heaps.proofs.Changes.{alike, altered, kept_of_places, others_kept, same_limits, undone_twin}
 use Rattle.offset_heaps.proofs.{Places.shown, Sound.kind_kept, Sound.realm_kept, Sound.sound_put}
 use Rattle.offset_heaps.proofs.HeapsOf.resize.Goals as goal
@@ -11,7 +11,7 @@ invariant_of-self-2 g c =
     let change = c.in_ok-done.ensures.change in
     let by = change.by in
     let e = change.slots in
-    let limits = same_limits c.args.how c.args.place.ticket.name by.before.space by.after.space c.in_ok-done.done by.by.step in
+    let limits = same_limits (wanted c.args.how) c.args.place.ticket.name by.before.space by.after.space c.in_ok-done.done by.by.step in
     let below = realm_kept c.self.inside.made _ change.now by.before by.after by.was by.is by.by.serials.realm (c.self.invariant.realms c.args.place.heap) in
     let kind = kind_kept c.self.inside.limits c.args.place.heap _ change.now by.before by.after by.was by.is limits.0 limits.1 (c.self.invariant.kinds c.args.place.heap) in
     rw e (sound_put g.T.Index.NodeIndex.MAX c.self.inside.slots c.self.inside.limits c.self.inside.made c.self.inside.made c.self.inside.index c.note.new.self c.args.place.heap change.now
@@ -21,7 +21,7 @@ pub returns-clause-others : goal.returns-clause-others
 returns-clause-others g c =
     let old = shown c.self.inside.slots c.self.inside.limits c.self.inside.made c.self.inside.realm c.self.inside.accesses in
     let new = shown c.resize.new.self c.self.inside.limits c.self.inside.made c.self.inside.realm c.note.new.count in
-    let P = Resizes c.args.how c.args.place.ticket c.in_ok-done.done in
+    let P = Resizes (wanted c.args.how) c.args.place.ticket c.in_ok-done.done in
     let a = altered c.args.place.heap P old new c.in_ok-done.ensures.change refl in
     rw (← c.self.view_is) (others_kept c.args.place P old new (c.in_ok-done.ensures.there refl) a c.if-place-self.false a.by.others)
 
@@ -29,7 +29,7 @@ pub returns-clause-kept : goal.returns-clause-kept
 returns-clause-kept g c =
     let old = shown c.self.inside.slots c.self.inside.limits c.self.inside.made c.self.inside.realm c.self.inside.accesses in
     let new = shown c.resize.new.self c.self.inside.limits c.self.inside.made c.self.inside.realm c.note.new.count in
-    let P = Resizes c.args.how c.args.place.ticket c.in_ok-done.done in
+    let P = Resizes (wanted c.args.how) c.args.place.ticket c.in_ok-done.done in
     let a = altered c.args.place.heap P old new c.in_ok-done.ensures.change refl in
     rw (← c.self.view_is) (kept_of_places c.args.place.heap P old new (c.in_ok-done.ensures.there refl) a is_some a.by.kept)
 
@@ -37,7 +37,7 @@ pub returns-clause-refused : goal.returns-clause-refused
 returns-clause-refused g c e =
     let old = shown c.self.inside.slots c.self.inside.limits c.self.inside.made c.self.inside.realm c.self.inside.accesses in
     let new = shown c.resize.new.self c.self.inside.limits c.self.inside.made c.self.inside.realm c.note.new.count in
-    let P = Resizes c.args.how c.args.place.ticket c.in_ok-done.done in
+    let P = Resizes (wanted c.args.how) c.args.place.ticket c.in_ok-done.done in
     let a = altered c.args.place.heap P old new c.in_ok-done.ensures.change refl in
     rw (← c.self.view_is) (alike c.args.place.heap P old new (c.in_ok-done.ensures.there refl) a
-    (undone_twin c.args.how c.args.place.ticket a.before a.after (subst (λ (b : Bool). Resizes c.args.how c.args.place.ticket b a.before a.after) (cc) a.by)))
+    (undone_twin (wanted c.args.how) c.args.place.ticket a.before a.after (subst (λ (b : Bool). Resizes (wanted c.args.how) c.args.place.ticket b a.before a.after) (cc) a.by)))

@@ -1,6 +1,6 @@
 use Rattle.std.proofs.Common.{◌+◌, ◌-◌, ◌≤◌, arith, sym, ◌∙◌}
 use Rattle.offset_heaps.proofs.{Finding.first_fits, Places.shown, Refusals.answered, Refusals.found_served, Refusals.none_fits}
-use Rattle.offset_heaps.proofs.asking.refusal_counted.Goals as goal
+use Rattle.offset_heaps.proofs.asking.refusal_aligned_counted.Goals as goal
 
 pub returns-then-is_some-clause-why : goal.returns-then-is_some-clause-why
 returns-then-is_some-clause-why g c =
