@@ -221,6 +221,8 @@ REQUIRES = [
     ("self.now.space.max_allocs ≤ max_allocs", "self.space.max_allocs() <= max_allocs", "max_allocs must be at least the limit that there is"),
     ("4 ≤ limits.max_allocs", "4 <= limits.max_allocs", "max_allocs must be at least 4"),
     ("limits.max_allocs + 1 < T.Index.MAX", "limits.max_allocs < <T::Index as offset_allocator::NodeIndex>::MAX - 1", "max_allocs must be at most NI::MAX - 2"),
+    ("min 8 limits.max_allocs ≤ limits.first_allocs", "limits.max_allocs.min(8) <= limits.first_allocs", "first_allocs must be at least 8, or max_allocs"),
+    ("limits.first_allocs ≤ limits.max_allocs", "limits.first_allocs <= limits.max_allocs", "first_allocs must be at most max_allocs"),
     ("limits.most + limits.most_larger < 2 ^ 32", "limits.most.checked_add(limits.most_larger).is_some()", "there may be at most 4294967295 heaps"),
     ("0 < most", "0 < most", "a piece must have at least 1 unit"),
     ("1 ≤ step", "1 <= step", "the step must be at least 1"),
@@ -306,7 +308,7 @@ EXAMPLES = {
         ["use offset_allocator_heaps::*;", "let alloc = Global;"],
         ["# Ok::<(), AllocError>(())"],
         {
-            "heaps": "let limits = Limits { size: 1000, max_allocs: 100, most: 2, most_larger: 1 };\n"
+            "heaps": "let limits = Limits { size: 1000, max_allocs: 100, first_allocs: 8, most: 2, most_larger: 1 };\n"
             "let mut heaps = Heaps::<u32>::new(alloc, limits, 1)?;",
         },
     ),

@@ -282,7 +282,22 @@ impl Check<'_> {
         let what = format!("{found:?}, {requested:?}, not {wanted:?}");
         self.must(is_right, call, header, what);
         self.fail_each_as_by_node(HEAPS_CALLS, layout, header, 0);
+        self.heaps_grown(layout, header, nodes, bits);
         self.heaps_stored(layout, header, nodes, bits);
+    }
+
+    /// A heap that begins with 8 nodes, under doubled limits up to its largest: room for seven heaps, and then
+    /// what a guarded allocator requests under each limit. The numbers are its limit, and how often one unit
+    /// was granted.
+    fn heaps_grown(&mut self, layout: Layout, header: &str, nodes: usize, bits: usize) {
+        let call = HEAPS_GROW.on(layout);
+        let (_, room) = self.with_ample_memory(HEAPS.on(layout), header);
+        let doubled = std::iter::successors(Some(8), |it| (*it < nodes).then(|| nodes.min(2 * it)));
+        let grown = doubled.flat_map(|limit| guarded_requests(layout, limit, bits));
+        let wanted: Vec<usize> = room.into_iter().chain(grown).collect();
+        self.expect_requests(call, header, &wanted);
+        let numbers = [nodes as u64, nodes as u64 - 4];
+        self.fail_each(call, header, 0, &Outcome::new(ANSWERED, &numbers));
     }
 
     /// Heaps that are copied, written and read: what the calls request first, then for the copy and for what

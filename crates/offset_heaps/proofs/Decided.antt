@@ -11,10 +11,11 @@ use Rattle.offset_heaps.specs.declared.place.Granted.{Granted}
 use Rattle.offset_heaps.specs.declared.place.Place.{Place}
 use Rattle.offset_heaps.specs.declared.refusal.Refusal.{Refusal}
 use Rattle.offset_heaps.specs.declared.refusal.Refusal.TheVariants.{Empty, TooLarge, Full, Memory}
-use Rattle.offset_heaps.specs.Heaps.{Heaps, Grants, IsBefore, IsFirstFit, IsNew, IsNext, IsSpareLarger, IsSpareUsual, IsUsual, IsWhy, MayEverFit, NoneFits, heap_at, larger_limit, room_of, slot}
+use Rattle.offset_heaps.specs.Heaps.{Heaps, Grants, IsBefore, IsFirstFit, IsGrown, IsNew, IsNext, IsSpareLarger, IsSpareUsual, IsUsual, IsWhy, MayEverFit, MustGrow, MustGrowIn, NoneFits, grown_limit, heap_at, larger_limit, room_of, slot}
 use Rattle.offset_heaps.specs.State as state
 use Rattle.offset_heaps.specs.Twins.{AreTwins, IsTwin, IsTwinIn}
-use Rattle.offset_heaps.proofs.Twins.{grant_twins, none_twins, own_twin, put_twins, room_twins, same_ticket, some_twin, twins_sym}
+use Rattle.offset_heaps.proofs.Growing.{grown_formed}
+use Rattle.offset_heaps.proofs.Twins.{as_twin, grant_twins, none_twins, own_twin, put_twins, room_twins, same_ticket, some_twin, twin_sym, twins_sym}
 
 -- ---- what a request finds
 module _ (hs ks : Heaps) (t : AreTwins hs ks) where
@@ -43,6 +44,34 @@ module _ (hs ks : Heaps) (t : AreTwins hs ks) where
     λ j l. subst (λ n. n < units) (sym (room_twins hs ks t blocks j)) (f.1 j l),
   )
 
+-- ---- a heap that has to grow
+must_twin : (limits : Limits) (k : ℕ) (g h : Guard) → IsTwin g h → MustGrow limits k g → MustGrow limits k h
+must_twin limits k g h t must = subst (MustGrow limits k) (sym (as_twin g h t)) must
+
+must_twin_in : (limits : Limits) (k : ℕ) (o p : Option Guard) → IsTwinIn o p → MustGrowIn limits k o → MustGrowIn limits k p
+must_twin_in limits k None p t must = absurd must
+must_twin_in limits k (Some g) p t must = subst (MustGrowIn limits k) (sym t.1) (must_twin limits k g t.0 t.2 must)
+
+pub must_in_twins : (hs ks : Heaps) → AreTwins hs ks → (k : ℕ) → MustGrowIn hs.limits k (heap_at k hs) → MustGrowIn ks.limits k (heap_at k ks)
+must_in_twins hs ks t k must = subst (λ (l : Limits). MustGrowIn l k (heap_at k ks)) (sym t.limits) (must_twin_in hs.limits k (heap_at k hs) (heap_at k ks) (t.heaps k) must)
+
+-- under the doubled limit it is a twin of the other one under it
+raised_twin : (limit limit' : ℕ) (g h : Guard) → limit' ≡ limit → IsTwin g h
+    → IsTwin (record g { space = record g.space { max_allocs = limit; accesses = 0 } }) (record h { space = record h.space { max_allocs = limit'; accesses = 0 } })
+raised_twin limit limit' g h same t = record {
+  space = ap (λ (v : View). record v { max_allocs = limit'; accesses = 0 }) t.space ∙ ap (λ (m : ℕ). record g.space { max_allocs = m; accesses = 0 }) same;
+  serials = t.serials;
+  given = t.given;
+  realm = t.realm;
+}
+
+grown_twin : (limits : Limits) (k : ℕ) (g g' h h' : Guard) → IsTwin g g' → (IsTwin g' g) → IsGrown limits k g h → IsGrown limits k g' h' → IsTwin h h'
+grown_twin limits k g g' h h' t s (inl a) (inl b) =
+    subst₂ IsTwin (sym a.1) (sym b.1) (raised_twin (grown_limit limits g) (grown_limit limits g') g g' (ap (grown_limit limits) (as_twin g g' t)) t)
+grown_twin limits k g g' h h' t s (inl a) (inr b) = absurd (b.0 (must_twin limits k g g' t a.0))
+grown_twin limits k g g' h h' t s (inr a) (inl b) = absurd (a.0 (must_twin limits k g' g s b.0))
+grown_twin limits k g g' h h' t s (inr a) (inr b) = subst₂ IsTwin (sym a.1) (sym b.1) t
+
 pub next_twins : (hs ks : Heaps) → AreTwins hs ks → (units k : ℕ) → IsNext units k hs → IsNext units k ks
 next_twins hs ks t units k n =
     let s = twins_sym hs ks t in (
@@ -62,10 +91,12 @@ why_twins hs ks t size align Full w = (
   may_twins hs ks t size w.1,
   λ k n. w.2 k (next_twins ks hs (twins_sym hs ks t) size k n),
 )
-why_twins hs ks t size align Memory w = (
+why_twins hs ks t size align Memory (inl w) = inl (
   (w.0.0, none_fit_twins hs ks t (blocks_needed align) (units_needed size align) w.0.1),
   (w.1.0, next_twins hs ks t size w.1.0 w.1.1),
 )
+why_twins hs ks t size align Memory (inr w) =
+    inr (w.0, (w.1.0, first_twins hs ks t (blocks_needed align) (units_needed size align) w.1.0 w.1.1, must_in_twins hs ks t w.1.0 w.1.2))
 
 -- of the first numbers there is one
 pub one_first : (P : ℕ → Type 0) (k j : ℕ) → P k → ((i : ℕ) → i < k → P i → ⊥) → P j → ((i : ℕ) → i < j → P i → ⊥) → k ≡ j
@@ -109,10 +140,10 @@ new_formed size max number g new limit small = subst IsWellFormed (sym new.space
 pub record IsKnown (hs : Heaps) : Type 0 where
   pub heaps : (k : ℕ) → IfSome (heap_at k hs) (λ g. IsWellFormed g.space)
   pub size : hs.limits.size ≤ 4294967295
-  pub limit : 2 ≤ hs.limits.max_allocs
+  pub limit : 2 ≤ hs.limits.first_allocs
 
 pub known : (hs : Heaps) → state.IsWellFormed hs → IsKnown hs
-known hs w = record { heaps = λ k. go hs.limits hs.made k (heap_at k hs) (w.heaps k); size = w.size; limit = let l = w.limit in omega (arith, l) }
+known hs w = record { heaps = λ k. go hs.limits hs.made k (heap_at k hs) (w.heaps k); size = w.size; limit = let l = w.limit in let f = w.first.0 in omega (arith, l, f) }
   where
     go : (limits : Limits) (made k : ℕ) (o : Option Guard) → state.IsHeapFormed limits made k o → IfSome o (λ g. IsWellFormed g.space)
     go limits made k None f = tt
@@ -126,28 +157,30 @@ module _ (size align : ℕ) (hs hs' ks ks' : Heaps) (grant grant' : Granted) (sm
     (new : grant.is_new ≡ grant'.is_new) (s : Grants size align hs ks grant) (s' : Grants size align hs' ks' grant') where
   -- the two kinds of new heaps
   abbrev New : Heaps → Guard → Type 0
-  New hs g = (IsUsual size hs × IsNew hs.limits.size hs.limits.max_allocs (hs.made + 1) g)
+  New hs g = (IsUsual size hs × IsNew hs.limits.size hs.limits.first_allocs (hs.made + 1) g)
       ⊎ ((IsUsual size hs → ⊥) × IsNew size larger_limit (hs.made + 1) g)
 
   new_back : (g : Guard) → New hs' g → New hs g
   new_back g (inl n) =
       inl (
         usual_twins hs' hs (twins_sym hs hs' t) size n.0,
-        subst₂ (λ (l : Limits) (m : ℕ). IsNew l.size l.max_allocs (m + 1) g) t.limits t.made n.1,
+        subst₂ (λ (l : Limits) (m : ℕ). IsNew l.size l.first_allocs (m + 1) g) t.limits t.made n.1,
       )
   new_back g (inr n) = inr (λ u. n.0 (usual_twins hs hs' t size u), subst (λ (m : ℕ). IsNew size larger_limit (m + 1) g) t.made n.1)
 
   one_kind : (g h : Guard) → size ≤ 4294967295 → New hs g → New hs h → (g ≡ h) × IsWellFormed g.space
-  one_kind g h fits (inl a) (inl b) = (one_new hs.limits.size hs.limits.max_allocs (hs.made + 1) g h a.1 b.1, new_formed hs.limits.size hs.limits.max_allocs (hs.made + 1) g a.1 is.limit is.size)
+  one_kind g h fits (inl a) (inl b) = (one_new hs.limits.size hs.limits.first_allocs (hs.made + 1) g h a.1 b.1, new_formed hs.limits.size hs.limits.first_allocs (hs.made + 1) g a.1 is.limit is.size)
   one_kind g h fits (inl a) (inr b) = absurd (b.0 a.0)
   one_kind g h fits (inr a) (inl b) = absurd (a.0 b.0)
   one_kind g h fits (inr a) (inr b) = (one_new size larger_limit (hs.made + 1) g h a.1 b.1, new_formed size larger_limit (hs.made + 1) g a.1 (omega arith) fits)
 
   befores : (g h : Guard) → IsBefore size hs grant g → IsBefore size hs' grant' h → IsTwin g h × IsWellFormed g.space
-  befores g h (inl a) (inl b) = (
-    some_twin g h (heap_at grant.place.heap hs) (heap_at grant.place.heap hs') a.1 (ap (λ k. heap_at k hs') number ∙ b.1) (t.heaps grant.place.heap),
-    known_at hs is grant.place.heap g a.1,
-  )
+  befores g h (inl a) (inl b) =
+      let k : ℕ = grant.place.heap in
+      let there : heap_at k hs' ≡ Some b.1.0 = ap (λ k. heap_at k hs') number ∙ b.1.1 in
+      let was = some_twin a.1.0 b.1.0 (heap_at k hs) (heap_at k hs') a.1.1 there (t.heaps k) in
+      let grown = subst₂ (λ (l : Limits) (j : ℕ). IsGrown l j b.1.0 h) t.limits (sym number) b.1.2 in
+      (grown_twin hs.limits k a.1.0 b.1.0 g h was (twin_sym a.1.0 b.1.0 was) a.1.2 grown, grown_formed hs.limits k a.1.0 g a.1.2 (known_at hs is k a.1.0 a.1.1))
   befores g h (inl a) (inr b) = absurd (let e = sym a.0 ∙ new ∙ b.0 in cc)
   befores g h (inr a) (inl b) = absurd (let e = sym b.0 ∙ sym new ∙ a.0 in cc)
   befores g h (inr a) (inr b) =

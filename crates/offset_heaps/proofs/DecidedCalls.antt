@@ -18,7 +18,7 @@ use Rattle.offset_heaps.specs.Relocating.{HasLive, IsEmptiest, NoneLive, TakesRa
 use Rattle.offset_heaps.specs.State as state
 use Rattle.offset_heaps.proofs.{States.slot_quiet, Empties.empty_there, Grants.memory_alone, Grants.none_found, Grants.one_reason, Numbers.slot_there}
 use Rattle.offset_heaps.specs.Calls.{Allocates, TakesAll, Call, Allocate, Free, Relocate, Drop_empty, Drop_heap, Give_up, Reset, Resize, Compact_heap, Make_room, Drops, DropsEmpty, Frees, GivesUp, IsStarved, Relocates, Reply, Requested, Second, Dropped, Was_done, Resized, Room_made, Takes, TakesRoom, TakesSize, Packs, Notes}
-use Rattle.offset_heaps.proofs.Decided.{first_twins, grants_decided, known, known_at, next_twins, none_fit_twins, one_first, one_fit, one_next, why_twins}
+use Rattle.offset_heaps.proofs.Decided.{first_twins, grants_decided, known, known_at, must_in_twins, next_twins, none_fit_twins, one_first, one_fit, one_next, why_twins}
 use Rattle.offset_heaps.proofs.Twins.{as_twin, free_twins, kept_twins, none_twins, option_twin, put_twins, range_twins, reset_twins, room_twins, slid_twins, some_twin, total_twins, twins_sym}
 
 -- ---- what calls leave
@@ -40,7 +40,7 @@ refused size align hs why g some w other found made =
     let one : 1 ≤ size = elim (cases_eq size 0) [ inl e ↦ absurd (some e) | inr d ↦ omega (arith, d) ] in
     elim (cases_Bool g.is_new) [
       | inl e ↦ other (memory_alone size align g.place.heap hs why one (made e) w)
-      | inr e ↦ none_found size align g.place.heap hs why one (found e).0 w
+      | inr e ↦ other (none_found size align g.place.heap hs why one (found e) w).0
     ]
 
 both_granted : (size align : ℕ) (hs hs' : Heaps) (g h : Granted) → AreTwins hs hs'
@@ -167,6 +167,7 @@ module _ (p : Place) (hs ks : Heaps) (t : AreTwins hs ks) where
     record {
       other = takes.1.other;
       room = let room = takes.1.room in omega (arith, room, units_twins, room_twins hs ks t (blocks_needed align) k);
+      stays = λ must. takes.1.stays (must_in_twins ks hs (twins_sym hs ks t) k must);
       full = let full = takes.1.full in omega (arith, full, live_twins p.heap, live_twins k);
     },
   )

@@ -14,7 +14,7 @@ pub foretold : (size align : ℕ) (hs ks : Heaps) (why : Option Refusal) (r : Re
     → Allocates size align hs ks r → MatchOption why (IfErr r (λ w. w ≡ Memory)) (λ w. r ≡ Err w)
 foretold size align hs ks None (Ok g) served x = tt
 foretold size align hs ks None (Err w) served x = elim served.1 [
-  | inl found ↦ absurd (none_found size align found.0 hs w served.0 found.1.0 x.why)
+  | inl found ↦ (none_found size align found.0 hs w served.0 found.1 x.why).0
   | inr made ↦ memory_alone size align made.1.0 hs w served.0 made.1.1 x.why
 ]
 foretold size align hs ks (Some w) (Ok g) why x =

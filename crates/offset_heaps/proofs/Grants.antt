@@ -1,7 +1,7 @@
 -- Grants: of a heap that was there, and of a new one.
 use Rattle.std.proofs.Common.{◌≡◌, ◌↔◌, ℕ, ◌+◌, ◌<◌, ◌≤◌, ◌⊎◌, true, false, Result, Ok, Err, IfOk, IfErr, length, List, Option, Some, None, slice_set, nat_eq, refl, sym, ap, ◌∙◌, subst, inl}
-use Rattle.std.proofs.Common.{inr, arith}
-use Rattle.std.proofs.lemmas.Bool.{cases_Bool}
+use Rattle.std.proofs.Common.{inr, arith, if◌then◌else◌}
+use Rattle.std.proofs.lemmas.Bool.{cases_Bool, cases_lt}
 use Rattle.offset_allocator.specs.Requests.{blocks_needed, units_needed}
 use Rattle.offset_guarded.specs.Guard.{Guard}
 use Rattle.offset_guarded.specs.Guard as guarded
@@ -10,8 +10,9 @@ use Rattle.offset_heaps.specs.declared.limits.Limits.{Limits}
 use Rattle.offset_heaps.specs.declared.place.Granted.{Granted}
 use Rattle.offset_heaps.specs.declared.refusal.Refusal.{Refusal}
 use Rattle.offset_heaps.specs.declared.refusal.Refusal.TheVariants.{Empty, TooLarge, Full, Memory}
-use Rattle.offset_heaps.specs.Heaps.{Heaps, Adds, Grants, IsBefore, IsFirstFit, IsForRoom, IsNext, IsWhy, MayEverFit, NoneFits, IsNew, IsSame, IsSpareLarger, IsSpareUsual, IsUsual, KeepsOthers, heap_at}
-use Rattle.offset_heaps.specs.{Heaps.larger_limit, Heaps.last_realm, Heaps.range_in, Heaps.range_of, Heaps.room_of, Heaps.slot, Slots.Changes, Slots.KeepsOthersIn, Slots.Serves, Slots.ServesTight}
+use Rattle.offset_heaps.specs.Heaps.{Heaps, Adds, Grants, IsBefore, IsFirstFit, IsForRoom, IsNext, IsWhy, MayEverFit, NoneFits, IsNew, IsSame, IsSpareLarger, IsSpareUsual, IsUsual, KeepsOthers, IsGrown, MustGrowIn, heap_at}
+use Rattle.offset_heaps.specs.{Heaps.larger_limit, Heaps.last_realm, Heaps.range_in, Heaps.range_of, Heaps.room_of, Heaps.slot, Slots.Changes, Slots.GrowsIn, Slots.KeepsOthersIn, Slots.Serves, Slots.ServesTight}
+use Rattle.offset_heaps.proofs.{Growing.grown_range, Growing.must_in, Growing.set_twice}
 use Rattle.offset_heaps.proofs.{Numbers.slot_same, Places.none_if, Places.put_keeps, Places.same_realm, Places.shown, Rooms.fresh_none, Rooms.some_same}
 
 -- a grant at a number
@@ -19,14 +20,14 @@ abbrev pub grant_at : ℕ → ℕ → Ticket → Granted
 grant_at number realm ticket = record { place = record { heap = number; realm = realm; ticket = ticket }; is_new = false }
 
 pub granted_at : (slots now : List (Option Guard)) (limits : Limits) (made realm before after number size align : ℕ) (ticket : Ticket) → number < length slots
-    → Changes number (λ o p. Serves size align o p ticket) slots now
+    → (MustGrowIn limits number (slot number slots) → ⊥) → Changes number (λ o p. Serves size align o p ticket) slots now
     → Grants size align (shown slots limits made realm before) (shown now limits made realm after) (grant_at number realm ticket)
-granted_at slots now limits made realm before after number size align ticket there change =
+granted_at slots now limits made realm before after number size align ticket there stays change =
     let by = change.by in
     record {
       before = by.before;
       after = by.after;
-      heap = inl (refl, by.was);
+      heap = inl (refl, (by.before, by.was, inr (λ must. stays (must_in limits number (slot number slots) by.before by.was must), refl)));
       step = inl (λ new. absurd (cc), by.step, by.accesses);
       grants = by.grants;
       realm = refl;
@@ -39,13 +40,13 @@ module _ (hs ks : Heaps) (number size align : ℕ) (o : Option Guard) (ticket : 
   abbrev grant : Granted
   grant = record { place = record { heap = number; realm = hs.realm; ticket = ticket }; is_new = true }
 
-  pub granted_usual : (g : Guard) → IsSpareUsual number hs → IsUsual size hs → IsNew hs.limits.size hs.limits.max_allocs (hs.made + 1) g
+  pub granted_usual : (g : Guard) → IsSpareUsual number hs → IsUsual size hs → IsNew hs.limits.size hs.limits.first_allocs (hs.made + 1) g
       → Serves size 1 (Some g) o ticket → Grants size align hs ks grant
   granted_usual g spare usual new by =
       record {
         before = by.before;
         after = by.after;
-        heap = inr (refl, spare.1, inl (usual, subst (IsNew hs.limits.size hs.limits.max_allocs (hs.made + 1)) (some_same g by.before by.was) new));
+        heap = inr (refl, spare.1, inl (usual, subst (IsNew hs.limits.size hs.limits.first_allocs (hs.made + 1)) (some_same g by.before by.was) new));
         step = inl (λ new. usual, by.step, by.accesses);
         grants = by.grants;
         realm = refl;
@@ -66,6 +67,50 @@ module _ (hs ks : Heaps) (number size align : ℕ) (o : Option Guard) (ticket : 
         number = there;
         heaps = subst (λ o. Adds number o hs ks) by.is adds;
       }
+
+-- a grant in a heap that grew before, is one of the heap that was there
+module _ (hs between ks : Heaps) (size align number : ℕ) (grant : Granted) (there : number < length hs.slots) (change : Changes number (GrowsIn hs.limits number) hs.slots between.slots)
+    (rest : between ≡ record hs { slots = between.slots; accesses = between.accesses }) (none : MustGrowIn hs.limits number (slot number between.slots) → ⊥) (old : grant.is_new ≡ false)
+    (at : grant.place.heap ≡ number) where
+  found : slot number between.slots ≡ change.now
+  found = ap (slot number) change.slots ∙ slot_same hs.slots number change.now there
+
+  was : (o now : Option Guard) → GrowsIn hs.limits number o now → (g h : Guard) → now ≡ Some g → IsGrown hs.limits number g h → (MustGrowIn hs.limits number now → ⊥)
+      → (b : Guard) × (o ≡ Some b) × IsGrown hs.limits number b h
+  was None now grows g h e grown stays = absurd (let none = sym grows ∙ e in cc)
+  was (Some b) now grows g h e (inl up) stays = absurd (stays (must_in hs.limits number now g e up.0))
+  was (Some b) now grows g h e (inr kept) stays =
+      let same : grows.0 ≡ g = some_same grows.0 g (sym grows.1 ∙ e) in
+      (b, refl, subst (IsGrown hs.limits number b) (same ∙ sym kept.1) grows.2)
+
+  pub granted_grown : Grants size align between ks grant → Grants size align hs ks grant
+  granted_grown given =
+      let g : Grants size align (record hs { slots = between.slots; accesses = between.accesses }) ks grant = subst (λ (h : Heaps). Grants size align h ks grant) rest given in
+      record {
+        before = g.before;
+        after = g.after;
+        heap = heap g;
+        step = g.step;
+        grants = g.grants;
+        realm = g.realm;
+        number = subst (λ k. k < length hs.slots) (sym at) there;
+        heaps = g.heaps ∙ ap (λ (s : List (Option Guard)). record hs { slots = s; made = (if grant.is_new then hs.made + 1 else hs.made); accesses = ks.accesses }) (again g.after);
+      }
+    where
+      again : (after : Guard) → slice_set between.slots grant.place.heap (Some after) ≡ slice_set hs.slots grant.place.heap (Some after)
+      again after =
+          ap (λ (s : List (Option Guard)). slice_set s grant.place.heap (Some after)) (change.slots ∙ ap (λ k. slice_set hs.slots k change.now) (sym at))
+          ∙ set_twice hs.slots grant.place.heap change.now (Some after)
+
+      heap : (g : Grants size align (record hs { slots = between.slots; accesses = between.accesses }) ks grant) → IsBefore size hs grant g.before
+      heap g = elim g.heap [
+        | inr new ↦ absurd (let e = sym old ∙ new.0 in cc)
+        | inl is ↦
+            let e : change.now ≡ Some is.1.0 = sym found ∙ ap (λ k. slot k between.slots) (sym at) ∙ is.1.1 in
+            let w = was (slot number hs.slots) change.now change.by is.1.0 g.before e (subst (λ k. IsGrown hs.limits k is.1.0 g.before) at is.1.2)
+            (λ must. none (subst (MustGrowIn hs.limits number) (sym found) must)) in
+            inl (is.0, (w.0, ap (λ k. slot k hs.slots) at ∙ w.1, subst (λ k. IsGrown hs.limits k w.0 g.before) (sym at) w.2))
+      ]
 
 -- a count of accesses changes nothing of a grant
 pub granted_since : (size align : ℕ) (hs ks ls : Heaps) (grant : Granted) → IsSame hs ks → Grants size align ks ls grant → Grants size align hs ls grant
@@ -111,19 +156,19 @@ module _ (size align : ℕ) (hs ks : Heaps) (grant : Granted) (g : Grants size a
   not_live_before = none_if (nat_eq grant.place.realm hs.realm) (range_in grant.place.ticket (heap_at grant.place.heap hs)) (none g.heap)
     where
       none : IsBefore size hs grant g.before → range_in grant.place.ticket (heap_at grant.place.heap hs) ≡ None
-      none (inl old) = ap (range_in grant.place.ticket) old.1 ∙ g.grants.not_live
+      none (inl old) = ap (range_in grant.place.ticket) old.1.1 ∙ sym (grown_range hs.limits grant.place.heap grant.place.ticket old.1.0 g.before old.1.2) ∙ g.grants.not_live
       none (inr new) = ap (range_in grant.place.ticket) new.1
 
   pub others_kept : KeepsOthers grant.place hs ks
   others_kept = put_keeps hs ks grant.place.heap (Some g.after) slots realms g.number grant.place refl g.realm (kept g.heap)
     where
-      fresh : (t : Ticket) → ((IsUsual size hs × IsNew hs.limits.size hs.limits.max_allocs (hs.made + 1) g.before)
+      fresh : (t : Ticket) → ((IsUsual size hs × IsNew hs.limits.size hs.limits.first_allocs (hs.made + 1) g.before)
           ⊎ ((IsUsual size hs → ⊥) × IsNew size larger_limit (hs.made + 1) g.before)) → guarded.range_of t g.before ≡ None
-      fresh t (inl usual) = fresh_none hs.limits.size hs.limits.max_allocs (hs.made + 1) g.before t usual.1
+      fresh t (inl usual) = fresh_none hs.limits.size hs.limits.first_allocs (hs.made + 1) g.before t usual.1
       fresh t (inr larger) = fresh_none size larger_limit (hs.made + 1) g.before t larger.1
 
       kept : IsBefore size hs grant g.before → KeepsOthersIn grant.place.ticket (slot grant.place.heap hs.slots) (Some g.after)
-      kept (inl old) u apart = g.grants.others u apart ∙ sym (ap (range_in u) old.1)
+      kept (inl old) u apart = g.grants.others u apart ∙ grown_range hs.limits grant.place.heap u old.1.0 g.before old.1.2 ∙ sym (ap (range_in u) old.1.1)
       kept (inr new) u apart = g.grants.others u apart ∙ fresh u new.2 ∙ sym (ap (range_in u) new.1)
 
 -- what is made for a request may be large enough for it
@@ -157,7 +202,8 @@ no_room size align hs r empty why found made = (refused r empty why, kept r why 
     kept (Err Full) why found made h = inl refl
     kept (Err TooLarge) why found made h = inr refl
     kept (Err Empty) why found made h = let some = h.0 in absurd (omega (arith, why))
-    kept (Err Memory) why found made h = absurd (h.2 why.1.0 why.1.1)
+    kept (Err Memory) (inl why) found made h = absurd (h.2 why.1.0 why.1.1)
+    kept (Err Memory) (inr why) found made h = absurd (let less = h.1 why.1.0 in let fits = why.1.1.0 in omega (arith, less, fits))
     kept (Ok g) why found made h = elim (cases_Bool g.is_new) [
       | inl e ↦ absurd (h.2 g.place.heap (made e).1)
       | inr e ↦ absurd (let fit = (found e).0 in let less = h.1 g.place.heap in omega arith)
@@ -168,26 +214,45 @@ pub one_reason : (size align : ℕ) (hs : Heaps) (r s : Refusal) → IsWhy size 
 one_reason size align hs Empty Empty a b = refl
 one_reason size align hs Empty TooLarge a b = absurd (omega (arith, a, b.0.0))
 one_reason size align hs Empty Full a b = absurd (omega (arith, a, b.0.0))
-one_reason size align hs Empty Memory a b = absurd (omega (arith, a, b.0.0))
+one_reason size align hs Empty Memory a (inl b) = absurd (omega (arith, a, b.0.0))
+one_reason size align hs Empty Memory a (inr b) = absurd (omega (arith, a, b.0))
 one_reason size align hs TooLarge Empty a b = absurd (omega (arith, a.0.0, b))
 one_reason size align hs TooLarge TooLarge a b = refl
 one_reason size align hs TooLarge Full a b = absurd (a.1 b.1)
-one_reason size align hs TooLarge Memory a b = absurd (a.1 (next_fits size b.1.0 hs b.1.1))
+one_reason size align hs TooLarge Memory a (inl b) = absurd (a.1 (next_fits size b.1.0 hs b.1.1))
+one_reason size align hs TooLarge Memory a (inr b) = absurd (let less = a.0.1 b.1.0 in let fits = b.1.1.0 in omega (arith, less, fits))
 one_reason size align hs Full Empty a b = absurd (omega (arith, a.0.0, b))
 one_reason size align hs Full TooLarge a b = absurd (b.1 a.1)
 one_reason size align hs Full Full a b = refl
-one_reason size align hs Full Memory a b = absurd (a.2 b.1.0 b.1.1)
-one_reason size align hs Memory Empty a b = absurd (omega (arith, a.0.0, b))
-one_reason size align hs Memory TooLarge a b = absurd (b.1 (next_fits size a.1.0 hs a.1.1))
-one_reason size align hs Memory Full a b = absurd (b.2 a.1.0 a.1.1)
+one_reason size align hs Full Memory a (inl b) = absurd (a.2 b.1.0 b.1.1)
+one_reason size align hs Full Memory a (inr b) = absurd (let less = a.0.1 b.1.0 in let fits = b.1.1.0 in omega (arith, less, fits))
+one_reason size align hs Memory Empty (inl a) b = absurd (omega (arith, a.0.0, b))
+one_reason size align hs Memory Empty (inr a) b = absurd (omega (arith, a.0, b))
+one_reason size align hs Memory TooLarge (inl a) b = absurd (b.1 (next_fits size a.1.0 hs a.1.1))
+one_reason size align hs Memory TooLarge (inr a) b = absurd (let less = b.0.1 a.1.0 in let fits = a.1.1.0 in omega (arith, less, fits))
+one_reason size align hs Memory Full (inl a) b = absurd (b.2 a.1.0 a.1.1)
+one_reason size align hs Memory Full (inr a) b = absurd (let less = b.0.1 a.1.0 in let fits = a.1.1.0 in omega (arith, less, fits))
 one_reason size align hs Memory Memory a b = refl
 
--- none where a heap has room
-pub none_found : (size align k : ℕ) (hs : Heaps) (r : Refusal) → 1 ≤ size → units_needed size align ≤ room_of (blocks_needed align) (heap_at k hs) → IsWhy size align hs r → ⊥
-none_found size align k hs Empty some fits why = omega (arith, some, why)
-none_found size align k hs TooLarge some fits why = omega (arith, fits, why.0.1 k)
-none_found size align k hs Full some fits why = omega (arith, fits, why.0.1 k)
-none_found size align k hs Memory some fits why = omega (arith, fits, why.0.1 k)
+-- of two first heaps that have room each is the other
+one_found : (blocks units k j : ℕ) (hs : Heaps) → IsFirstFit blocks units k hs → IsFirstFit blocks units j hs → k ≡ j
+one_found blocks units k j hs a b = elim (cases_lt k j) [
+  | inl l ↦ absurd (let less = b.1 k l in let fits = a.0 in omega (arith, less, fits))
+  | inr m ↦ elim (cases_lt j k) [
+    | inl l ↦ absurd (let less = a.1 j l in let fits = b.0 in omega (arith, less, fits))
+    | inr n ↦ omega (arith, m, n)
+  ]
+]
+
+-- where a heap has room, none but memory, for more nodes of the first
+pub none_found : (size align k : ℕ) (hs : Heaps) (r : Refusal) → 1 ≤ size → IsFirstFit (blocks_needed align) (units_needed size align) k hs → IsWhy size align hs r
+    → (r ≡ Memory) × MustGrowIn hs.limits k (heap_at k hs)
+none_found size align k hs Empty some first why = absurd (omega (arith, some, why))
+none_found size align k hs TooLarge some first why = absurd (let less = why.0.1 k in let fits = first.0 in omega (arith, less, fits))
+none_found size align k hs Full some first why = absurd (let less = why.0.1 k in let fits = first.0 in omega (arith, less, fits))
+none_found size align k hs Memory some first (inl why) = absurd (let less = why.0.1 k in let fits = first.0 in omega (arith, less, fits))
+none_found size align k hs Memory some first (inr why) =
+    (refl, subst (λ j. MustGrowIn hs.limits j (heap_at j hs)) (one_found (blocks_needed align) (units_needed size align) why.1.0 k hs why.1.1 first) why.1.2)
 
 -- and where another heap may be made, no reason but its memory
 pub memory_alone : (size align k : ℕ) (hs : Heaps) (r : Refusal) → 1 ≤ size → IsNext size k hs → IsWhy size align hs r → r ≡ Memory

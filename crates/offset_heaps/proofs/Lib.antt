@@ -11,6 +11,7 @@ pub mod FaultPlaces
 pub mod Finding
 pub mod Foretold
 pub mod Grants
+pub mod Growing
 pub mod Histories
 pub mod Numbers
 pub mod Places

@@ -17,7 +17,7 @@ use Rattle.offset_heaps.specs.Heaps.{Heaps, FreesIn, Grants, heap_at, live_of, p
 use Rattle.offset_heaps.specs.Relocating.{TakesRange, granted, live_at, square_of, squares, units_in, units_of}
 use Rattle.offset_heaps.specs.State as state
 use Rattle.offset_heaps.proofs.Decided.{known, known_at}
-use Rattle.offset_heaps.proofs.Numbers.{slot_other, slot_there}
+use Rattle.offset_heaps.proofs.{Growing.must_in, Numbers.slot_other, Numbers.slot_there}
 
 -- ---- the live units of one heap
 used_part : (x n : ℕ) → used_units (free_part x n) ≡ 0
@@ -124,7 +124,13 @@ module _ (p q : Place) (hs ks : Heaps) (known_well : state.IsWellFormed hs) (goe
   f = goes.frees.step refl
 
   to : heap_at q.heap hs ≡ Some s.before
-  to = elim s.heap [ inl old ↦ old.1 | inr new ↦ absurd (let e : false ≡ true = new.0 in cc) ]
+  to = elim s.heap [
+    | inl old ↦ elim old.1.2 [
+      | inl up ↦ absurd (takes.1.stays (must_in hs.limits q.heap (heap_at q.heap hs) old.1.0 old.1.1 up.0))
+      | inr kept ↦ old.1.1 ∙ ap Some (sym kept.1)
+    ]
+    | inr new ↦ absurd (let e : false ≡ true = new.0 in cc)
+  ]
 
   slots : ls.slots ≡ slice_set hs.slots q.heap (Some s.after)
   slots = ap (λ (h : Heaps). h.slots) s.heaps

@@ -3,21 +3,22 @@ use Rattle.std.proofs.Common.{◌≡◌, ℕ, ◌<◌, ◌≤◌, length, List, 
 use Rattle.std.proofs.lemmas.Bool.{cases_lt}
 use Rattle.offset_allocator.specs.Requests.{blocks_needed, units_needed}
 use Rattle.offset_guarded.specs.Guard.{Guard}
+use Rattle.offset_heaps.specs.declared.limits.Limits.{Limits}
 use Rattle.offset_heaps.specs.declared.place.Place.{Place}
 use Rattle.offset_heaps.specs.Heaps.{Heaps, heap_at, live_of, part, range_in, room_of, slot}
 use Rattle.offset_heaps.specs.Relocating.{TakesUnits, TakesRange, live_at, units_in, units_of}
 use Rattle.offset_heaps.proofs.{Numbers.room_there, Places.same_realm}
 
 -- before the first heap that has room, and behind the last number, none takes units
-pub all_takers : (own blocks units live from count : ℕ) (slots : List (Option Guard)) (r : Option ℕ) → 1 ≤ units → length slots ≡ count → ((j : ℕ) → j < from → room_of blocks (slot j slots) < units)
-    → MatchOption r ((k : ℕ) → from ≤ k → k < count → TakesUnits own blocks units live slots k → ⊥)
-    (λ k. (k < count) × TakesUnits own blocks units live slots k × ((j : ℕ) → from ≤ j → j < k → TakesUnits own blocks units live slots j → ⊥))
-    → MatchOption r ((k : ℕ) → TakesUnits own blocks units live slots k → ⊥) (λ k. TakesUnits own blocks units live slots k × ((j : ℕ) → j < k → TakesUnits own blocks units live slots j → ⊥))
-all_takers own blocks units live from count slots None some long before h = λ k t. elim (cases_lt k from) [
+pub all_takers : (limits : Limits) (own blocks units live from count : ℕ) (slots : List (Option Guard)) (r : Option ℕ) → 1 ≤ units → length slots ≡ count → ((j : ℕ) → j < from → room_of blocks (slot j slots) < units)
+    → MatchOption r ((k : ℕ) → from ≤ k → k < count → TakesUnits limits own blocks units live slots k → ⊥)
+    (λ k. (k < count) × TakesUnits limits own blocks units live slots k × ((j : ℕ) → from ≤ j → j < k → TakesUnits limits own blocks units live slots j → ⊥))
+    → MatchOption r ((k : ℕ) → TakesUnits limits own blocks units live slots k → ⊥) (λ k. TakesUnits limits own blocks units live slots k × ((j : ℕ) → j < k → TakesUnits limits own blocks units live slots j → ⊥))
+all_takers limits own blocks units live from count slots None some long before h = λ k t. elim (cases_lt k from) [
   | inl l ↦ let low = before k l in let room = t.room in absurd (omega (arith, low, room))
   | inr past ↦ let there = room_there slots blocks k units some t.room in h k past (omega (arith, long, there)) t
 ]
-all_takers own blocks units live from count slots (Some i) some long before h = (
+all_takers limits own blocks units live from count slots (Some i) some long before h = (
   h.1,
   λ j l t. elim (cases_lt j from) [
     | inl front ↦ let low = before j front in let room = t.room in absurd (omega (arith, low, room))
@@ -25,21 +26,21 @@ all_takers own blocks units live from count slots (Some i) some long before h = 
   ],
 )
 
-pub taker_there : (own blocks units live count : ℕ) (from : ℕ) (slots : List (Option Guard)) (r : Option ℕ) → length slots ≡ count
-    → MatchOption r ((k : ℕ) → from ≤ k → k < count → TakesUnits own blocks units live slots k → ⊥)
-    (λ k. (k < count) × TakesUnits own blocks units live slots k × ((j : ℕ) → from ≤ j → j < k → TakesUnits own blocks units live slots j → ⊥))
+pub taker_there : (limits : Limits) (own blocks units live count : ℕ) (from : ℕ) (slots : List (Option Guard)) (r : Option ℕ) → length slots ≡ count
+    → MatchOption r ((k : ℕ) → from ≤ k → k < count → TakesUnits limits own blocks units live slots k → ⊥)
+    (λ k. (k < count) × TakesUnits limits own blocks units live slots k × ((j : ℕ) → from ≤ j → j < k → TakesUnits limits own blocks units live slots j → ⊥))
     → IfSome r (λ k. k < length slots)
-taker_there own blocks units live count from slots None long h = tt
-taker_there own blocks units live count from slots (Some i) long h = let l = h.0 in omega (arith, long, l)
+taker_there limits own blocks units live count from slots None long h = tt
+taker_there limits own blocks units live count from slots (Some i) long h = let l = h.0 in omega (arith, long, l)
 
 module _ (p : Place) (align : ℕ) (hs : Heaps) (size live : ℕ) (here : p.realm ≡ hs.realm) (u : size ≡ units_in (range_in p.ticket (heap_at p.heap hs))) (l : live ≡ part live_of (heap_at p.heap hs)) where
   pub units_here : size ≡ units_of p hs
   units_here = u ∙ ap units_in (sym (same_realm p hs here))
 
-  pub takes_range : (k : ℕ) → 1 ≤ size → TakesUnits p.heap (blocks_needed align) (units_needed size align) live hs.slots k → TakesRange p align hs k
-  takes_range k some t = subst (λ n. (1 ≤ n) × TakesUnits p.heap (blocks_needed align) (units_needed n align) (live_at p.heap hs) hs.slots k) units_here
-      (some, subst (λ n. TakesUnits p.heap (blocks_needed align) (units_needed size align) n hs.slots k) l t)
+  pub takes_range : (k : ℕ) → 1 ≤ size → TakesUnits hs.limits p.heap (blocks_needed align) (units_needed size align) live hs.slots k → TakesRange p align hs k
+  takes_range k some t = subst (λ n. (1 ≤ n) × TakesUnits hs.limits p.heap (blocks_needed align) (units_needed n align) (live_at p.heap hs) hs.slots k) units_here
+      (some, subst (λ n. TakesUnits hs.limits p.heap (blocks_needed align) (units_needed size align) n hs.slots k) l t)
 
-  pub takes_units : (k : ℕ) → TakesRange p align hs k → TakesUnits p.heap (blocks_needed align) (units_needed size align) live hs.slots k
-  takes_units k t = subst (λ n. TakesUnits p.heap (blocks_needed align) (units_needed n align) live hs.slots k) (sym units_here)
-      (subst (λ n. TakesUnits p.heap (blocks_needed align) (units_needed (units_of p hs) align) n hs.slots k) (sym l) t.1)
+  pub takes_units : (k : ℕ) → TakesRange p align hs k → TakesUnits hs.limits p.heap (blocks_needed align) (units_needed size align) live hs.slots k
+  takes_units k t = subst (λ n. TakesUnits hs.limits p.heap (blocks_needed align) (units_needed n align) live hs.slots k) (sym units_here)
+      (subst (λ n. TakesUnits hs.limits p.heap (blocks_needed align) (units_needed (units_of p hs) align) n hs.slots k) (sym l) t.1)

@@ -1,6 +1,6 @@
 -- What contracts see of many heaps, and what each call leaves of them.
 use Rattle.std.specs.Prelude.{codes, ◌≡◌, ℕ, ◌+◌, ◌*◌, ◌^◌, ◌<◌, ◌≤◌, ◌⊎◌, Bool, true, false, ◌&&◌, List, [], ◌∷◌, Option, Some, None, IsSome, Result, Err, length, nat_eq, nat_lt}
-use Rattle.std.specs.Prelude.{slice_index_or, slice_set, max, sum, if◌then◌else◌}
+use Rattle.std.specs.Prelude.{slice_index_or, slice_set, max, min, sum, if◌then◌else◌}
 use Rattle.offset_allocator.specs.Classes.{value, down}
 use Rattle.offset_allocator.specs.Ranges.{Range}
 use Rattle.offset_allocator.specs.Relations.{Aligns, Frees, IsFresh}
@@ -86,6 +86,25 @@ IsNext size k hs = (hs.made < last_realm)
     × ((IsUsual size hs × IsSpareUsual k hs × ((j : ℕ) → j < k → IsSpareUsual j hs → ⊥))
     ⊎ ((IsUsual size hs → ⊥) × IsSpareLarger k hs × ((j : ℕ) → j < k → IsSpareLarger j hs → ⊥)))
 
+-- the node limit of a heap of the usual size has to grow before a grant: it is below the largest one, and fewer than five
+-- nodes are unused
+abbrev pub MustGrow : Limits → ℕ → Guard → Type 0
+MustGrow limits k g = (k < limits.most) × (g.space.max_allocs < limits.max_allocs) × (g.space.max_allocs < length g.space.blocks + 5)
+
+-- the same of the heap of a number, where there is one
+abbrev pub MustGrowIn : Limits → ℕ → Option Guard → Type 0
+MustGrowIn limits k None = ⊥
+MustGrowIn limits k (Some g) = MustGrow limits k g
+
+-- the limit that it has then: twice as much, and at most the largest one
+abbrev pub grown_limit : Limits → Guard → ℕ
+grown_limit limits g = min (2 * g.space.max_allocs) limits.max_allocs
+
+-- a heap as a grant finds it: under that limit exactly where it has to grow, and else as it was
+abbrev pub IsGrown : Limits → ℕ → Guard → Guard → Type 0
+IsGrown limits k g h = (MustGrow limits k g × guarded.IsRaised (grown_limit limits g) g h)
+    ⊎ ((MustGrow limits k g → ⊥) × (h ≡ g))
+
 -- no heap has room for a request of at least one unit
 abbrev pub IsUnmet : ℕ → ℕ → Heaps → Type 0
 IsUnmet size align hs = (1 ≤ size) × NoneFits (blocks_needed align) (units_needed size align) hs
@@ -95,13 +114,14 @@ abbrev pub MayEverFit : ℕ → Heaps → Type 0
 MayEverFit size hs = IsUsual size hs ⊎ (1 ≤ hs.limits.most_larger)
 
 -- why a request is refused. Empty: it is for no unit. TooLarge: no heap has room, and none may ever be large enough. Full:
--- no heap has room, and though one may be large enough, none may be made for it now. Memory: one may be made, but its
--- memory was refused
+-- no heap has room, and though one may be large enough, none may be made for it now. Memory: none has room, and one may be
+-- made; or the first one that has room has to grow; but the memory for that was refused
 abbrev pub IsWhy : ℕ → ℕ → Heaps → Refusal → Type 0
 IsWhy size align hs Empty = size ≡ 0
 IsWhy size align hs TooLarge = IsUnmet size align hs × (MayEverFit size hs → ⊥)
 IsWhy size align hs Full = IsUnmet size align hs × MayEverFit size hs × ((k : ℕ) → IsNext size k hs → ⊥)
-IsWhy size align hs Memory = IsUnmet size align hs × ((k : ℕ) × IsNext size k hs)
+IsWhy size align hs Memory = (IsUnmet size align hs × ((k : ℕ) × IsNext size k hs))
+    ⊎ ((1 ≤ size) × ((k : ℕ) × IsFirstFit (blocks_needed align) (units_needed size align) k hs × MustGrowIn hs.limits k (heap_at k hs)))
 
 -- a refusal for room
 abbrev pub IsForRoom : Result Granted Refusal → Type 0
@@ -119,17 +139,29 @@ pub record IsNew (size max_allocs number : ℕ) (g : Guard) : Type 0 where
   pub serials : (g.given ≡ 0) × (g.serials ≡ [])
   pub realm : g.realm ≡ number
 
--- the heap of a number has the size and the node limit of its kind: those that the limits say of a heap of the usual size,
+-- the node limit that a heap of the usual size begins with: the largest one, or at least 8
+abbrev pub IsFirstLimit : Limits → Type 0
+IsFirstLimit limits = (min 8 limits.max_allocs ≤ limits.first_allocs) × (limits.first_allocs ≤ limits.max_allocs)
+
+-- its limit is one between these, and below the largest one at least three nodes are unused: so it has room for two blocks
+-- more, as it would have under that limit
+abbrev pub HasNodesLeft : Limits → Guard → Type 0
+HasNodesLeft limits g = (limits.first_allocs ≤ g.space.max_allocs) × (g.space.max_allocs ≤ limits.max_allocs)
+    × (min limits.max_allocs (length g.space.blocks + 3) ≤ g.space.max_allocs)
+
+-- the heap of a number has the size and a node limit of its kind: those that the limits say of a heap of the usual size,
 -- where the number is below most, and else those of a larger one, which has the units of some request
 abbrev pub IsOfKind : Limits → ℕ → Guard → Type 0
-IsOfKind limits k g = ((k < limits.most) × (g.space.size ≡ limits.size) × (g.space.max_allocs ≡ limits.max_allocs))
+IsOfKind limits k g = ((k < limits.most) × (g.space.size ≡ limits.size) × HasNodesLeft limits g)
     ⊎ ((limits.most ≤ k) × (1 ≤ g.space.size) × (g.space.max_allocs ≡ larger_limit))
 
--- the heap of a grant, as it was before: one that was there, a new one of the usual size, or one of the request's own size
+-- the heap of a grant, as it was before: one that was there, grown where it has to; a new one of the usual size, or one of
+-- the request's own size
 abbrev pub IsBefore : ℕ → Heaps → Granted → Guard → Type 0
-IsBefore size hs grant g = ((grant.is_new ≡ false) × (heap_at grant.place.heap hs ≡ Some g))
+IsBefore size hs grant g = ((grant.is_new ≡ false)
+    × ((was : Guard) × (heap_at grant.place.heap hs ≡ Some was) × IsGrown hs.limits grant.place.heap was g))
     ⊎ ((grant.is_new ≡ true) × (heap_at grant.place.heap hs ≡ None)
-    × ((IsUsual size hs × IsNew hs.limits.size hs.limits.max_allocs (hs.made + 1) g)
+    × ((IsUsual size hs × IsNew hs.limits.size hs.limits.first_allocs (hs.made + 1) g)
     ⊎ ((IsUsual size hs → ⊥) × IsNew size larger_limit (hs.made + 1) g)))
 
 -- a grant: a step of one heap, which all others do not see
@@ -159,7 +191,7 @@ abbrev pub refusal_words : Refusal → List ℕ
 refusal_words Empty = codes "the request is for no unit"
 refusal_words TooLarge = codes "the request is larger than any heap may be"
 refusal_words Full = codes "no heap has room, and no other may be made"
-refusal_words Memory = codes "no memory is left for another heap"
+refusal_words Memory = codes "no memory is left for another heap or for more nodes"
 
 -- the range of a ticket in a heap, where there is one
 abbrev pub range_in : Ticket → Option Guard → Option Range

@@ -7,8 +7,9 @@ use Rattle.offset_allocator.specs.View.{Handle, used_of}
 use Rattle.offset_guarded.specs.Guard.{Guard, ticket_at}
 use Rattle.offset_guarded.specs.declared.ticket.Ticket.{Ticket}
 use Rattle.offset_heaps.specs.declared.place.Place.{Place}
+use Rattle.offset_heaps.specs.declared.limits.Limits.{Limits}
 use Rattle.offset_heaps.specs.declared.place.Granted.{Granted}
-use Rattle.offset_heaps.specs.Heaps.{Heaps, heap_at, live_of, part, range_of, room_of, slot, total}
+use Rattle.offset_heaps.specs.Heaps.{Heaps, MustGrowIn, heap_at, live_of, part, range_of, room_of, slot, total}
 
 -- the units of a range, or 0 where there is none
 abbrev pub units_in : Option Range → ℕ
@@ -31,16 +32,17 @@ abbrev pub squares : Heaps → ℕ
 squares hs = total square_of hs.slots
 
 -- a heap other than `own` takes a range of `own`, which has `live` live units: it has room for the units and the blocks,
--- and at least as many live units
-pub record TakesUnits (own blocks units live : ℕ) (slots : List (Option Guard)) (k : ℕ) : Type 0 where
+-- and need not grow for them, and it has at least as many live units
+pub record TakesUnits (limits : Limits) (own blocks units live : ℕ) (slots : List (Option Guard)) (k : ℕ) : Type 0 where
   pub other : k ≢ own
   pub room : units ≤ room_of blocks (slot k slots)
+  pub stays : MustGrowIn limits k (slot k slots) → ⊥
   pub full : live ≤ part live_of (slot k slots)
 
 -- a heap takes the range of a place, from a multiple of align on
 abbrev pub TakesRange : Place → ℕ → Heaps → ℕ → Type 0
 TakesRange p align hs k = (1 ≤ units_of p hs)
-    × TakesUnits p.heap (blocks_needed align) (units_needed (units_of p hs) align) (live_at p.heap hs) hs.slots k
+    × TakesUnits hs.limits p.heap (blocks_needed align) (units_needed (units_of p hs) align) (live_at p.heap hs) hs.slots k
 
 -- it is the first one that does
 abbrev pub IsTaker : Place → ℕ → Heaps → ℕ → Type 0

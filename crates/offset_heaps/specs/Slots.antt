@@ -7,7 +7,8 @@ use Rattle.offset_allocator.specs.View.{bin_at}
 use Rattle.offset_guarded.specs.Guard.{Guard, HasSerialLeft, handle_in}
 use Rattle.offset_guarded.specs.Guard as guarded
 use Rattle.offset_guarded.specs.declared.ticket.Ticket.{Ticket}
-use Rattle.offset_heaps.specs.Heaps.{slot, range_in}
+use Rattle.offset_heaps.specs.declared.limits.Limits.{Limits}
+use Rattle.offset_heaps.specs.Heaps.{IsGrown, slot, range_in}
 
 -- a heap grants a request
 pub record Serves (size align : ℕ) (old new : Option Guard) (t : Ticket) : Type 0 where
@@ -19,6 +20,11 @@ pub record Serves (size align : ℕ) (old new : Option Guard) (t : Ticket) : Typ
   pub grants : guarded.Grants size before after t
   pub accesses : after.space.accesses ≤ before.space.accesses + 128
   pub aligned : t.offset % align ≡ 0
+
+-- a heap grows where it has to, before a grant
+abbrev pub GrowsIn : Limits → ℕ → Option Guard → Option Guard → Type 0
+GrowsIn limits k None new = new ≡ None
+GrowsIn limits k (Some g) new = (h : Guard) × (new ≡ Some h) × IsGrown limits k g h
 
 -- a heap has a free block for a request
 abbrev pub CanHoldIn : ℕ → Option Guard → Type 0

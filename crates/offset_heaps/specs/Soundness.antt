@@ -3,7 +3,7 @@ use Rattle.std.specs.Prelude.{◌≡◌, ℕ, ◌+◌, ◌^◌, ◌<◌, ◌≤�
 use Rattle.offset_guarded.specs.Guard.{Guard}
 use Rattle.offset_heaps.specs.declared.limits.Limits.{Limits}
 use Rattle.offset_heaps.specs.declared.index.Index.{Index}
-use Rattle.offset_heaps.specs.Heaps.{IsOfKind, is_empty, room_of, slot}
+use Rattle.offset_heaps.specs.Heaps.{IsFirstLimit, IsOfKind, is_empty, room_of, slot}
 use Rattle.offset_heaps.specs.Maxima.{cell}
 
 -- the key of a number that no heap has: 1 for a heap of the usual size, 2 for a larger one
@@ -42,6 +42,7 @@ pub record IsSound (max : ℕ) (slots : List (Option Guard)) (limits : Limits) (
   pub low : (bits : ℕ) → length slots ≤ 2 ^ bits → index.one.height ≤ bits
   pub limit_min : 4 ≤ limits.max_allocs
   pub limit_max : limits.max_allocs + 1 < max
+  pub limit_first : IsFirstLimit limits
   -- the realm of a heap is not that of one that is made later
   pub realms : (k : ℕ) → IfSome (slot k slots) (λ g. g.realm ≤ made)
   -- each heap is of the kind of its number

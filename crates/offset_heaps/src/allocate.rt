@@ -1,9 +1,9 @@
 //! Requests: which heap grants one, and when another heap is made for it. It changes one slot, and notes it
 //! in the index.
 ghost use Rattle.std.specs.Prelude.{ℕ, ◌≡◌, ◌↔◌, ◌+◌, ◌*◌, ◌%◌, ◌^◌, ◌<◌, ◌≤◌, ◌⊎◌, None, Some, Ok, Err};
-ghost use Rattle.std.specs.Prelude.{false, true, length, IsTrue, IfOk, IfErr, IfSome, MatchOption, OnErr};
+ghost use Rattle.std.specs.Prelude.{false, true, length, IsErr, IsTrue, IfOk, IfErr, IfSome, MatchOption, OnErr};
 ghost use Rattle.offset_allocator.specs.Requests.{blocks_needed, units_needed};
-ghost use Rattle.offset_heaps.specs.Slots.{IsBelow};
+ghost use Rattle.offset_heaps.specs.Slots.{Changes, GrowsIn, IsBelow};
 
 use crate::place::{Granted, Place};
 use crate::refusal::Refusal;
@@ -11,6 +11,7 @@ use crate::{HeapsOf, fresh};
 use offset_allocator::Tables;
 use offset_allocator::small_float::{uint_to_float_round_down, uint_to_float_round_up};
 use offset_guarded::{GuardedOf, Ticket};
+use std::alloc::AllocError;
 
 // A number, where it is below a limit.
 pub(crate) fn below(found: Option<u32>, limit: u32) -> Option<u32>
@@ -31,7 +32,7 @@ impl<T: Tables> HeapsOf<T> {
     ghost use Rattle.offset_heaps.specs.Heaps.{heap_at, range_of, KeepsOthers, Grants, IsFirstFit, IsNext};
     ghost use Rattle.offset_heaps.specs.Heaps.{IsSame, IsSpareLarger, IsSpareUsual, IsUsual, IsWhy, NoneFits};
     ghost use Rattle.offset_heaps.specs.Heaps.{TakesFewSteps, Adds, IsForRoom, IsOfKind, IsWhyNotMade};
-    ghost use Rattle.offset_heaps.specs.Heaps.{last_realm, numbers, room_of};
+    ghost use Rattle.offset_heaps.specs.Heaps.{MustGrowIn, last_realm, numbers, room_of};
 
     // The first heap that has room for a request.
     pub(crate) fn first_fit(&mut self, units: u64, align: u32) -> Option<u32>
@@ -82,12 +83,31 @@ impl<T: Tables> HeapsOf<T> {
         self.index.spare.first_at_least(2, &mut self.accesses)
     }
 
-    // Grants a request in the heap of a number, which has room for it.
+    // Doubles the node limit of the heap of a number, where it has to grow before a grant.
+    fn grow(&mut self, number: u32) -> Result<(), AllocError>
+        requires there { number < length self.old.slots }
+        ensures grows { IfOk result (λ _.
+            Changes number (GrowsIn self.old.limits number) self.old.slots self.new.slots) }
+        ensures rest { self.new ≡ record self.old { slots = self.new.slots; accesses = self.new.accesses } }
+        // It need not grow again, and has room for as much as before.
+        ensures stays { IfOk result (λ _. MustGrowIn self.old.limits number (heap_at number self.new) → ⊥) }
+        ensures room { IfOk result (λ _. (blocks : ℕ) → blocks ≤ 2
+            → room_of blocks (heap_at number self.new) ≡ room_of blocks (heap_at number self.old)) }
+        ensures must { IsErr result → MustGrowIn self.old.limits number (heap_at number self.old) }
+        ensures same { IsErr result → IsSame self.old self.new }
+        ensures steps { self.new.accesses ≡ self.old.accesses + 1 }
+    {
+        self.slots
+            .grow(self.alloc, number, self.limits, &mut self.accesses)
+    }
+
+    // Grants a request in the heap of a number, which has room for it and need not grow.
     pub(crate) fn grant_at(&mut self, number: u32, size: u32, align: u32) -> Granted
         requires there { number < length self.old.slots }
         requires some { 1 ≤ units_needed size align }
         requires alignment { 1 ≤ align }
         requires room { units_needed size align ≤ room_of (blocks_needed align) (heap_at number self.old) }
+        requires stays { MustGrowIn self.old.limits number (heap_at number self.old) → ⊥ }
         ensures grants { Grants size align self.old self.new result }
         ensures number { result.place.heap ≡ number }
         ensures found { result.is_new ≡ false }
@@ -105,6 +125,27 @@ impl<T: Tables> HeapsOf<T> {
                 ticket,
             },
             is_new: false,
+        }
+    }
+
+    // Grants a request in the first heap that has room for it, which grows where it has to.
+    fn grant_first(&mut self, number: u32, size: u32, align: u32) -> Result<Granted, Refusal>
+        requires there { number < length self.old.slots }
+        requires units { 1 ≤ size }
+        requires positive { 1 ≤ align }
+        requires first { IsFirstFit (blocks_needed align) (units_needed size align) number self.old }
+        ensures why { IfErr result (IsWhy size align self.old) }
+        ensures not_empty { result ≡ Err Refusal.Empty → ⊥ }
+        ensures same { OnErr result (IsSame self.old self.new) }
+        ensures found { IfOk result (λ g. (g.is_new ≡ false) × (g.place.heap ≡ number)) }
+        ensures grants { IfOk result (Grants size align self.old self.new) }
+        ensures aligned { IfOk result (λ g. g.place.ticket.offset % align ≡ 0) }
+        ensures steps { (bits : ℕ) → numbers self.old ≤ 2 ^ bits
+            → self.new.accesses ≤ self.old.accesses + 12 * bits + 11 }
+    {
+        match self.grow(number) {
+            Err(_) => Err(Refusal::Memory),
+            Ok(_) => Ok(self.grant_at(number, size, align)),
         }
     }
 
@@ -234,7 +275,7 @@ impl<T: Tables> HeapsOf<T> {
         }
         let units = size as u64 + align as u64 - 1;
         match self.first_fit(units, align) {
-            Some(number) => Ok(self.grant_at(number, size, align)),
+            Some(number) => self.grant_first(number, size, align),
             None => self.grant_new(size, align),
         }
     }
@@ -277,7 +318,11 @@ impl<T: Tables> HeapsOf<T> {
     /// If a fresh heap of the usual size has that, it is such a heap, with the first number below `most` that
     /// no heap has; else a larger heap of exactly `size` units, all of which are granted, with the first
     /// number from `most` on that no heap has, and with the node limit 4: it never has more than two live
-    /// ranges. Only then memory is requested.
+    /// ranges. A heap of the usual size begins with the node limit `first_allocs`. One that has room, but fewer
+    /// than five unused nodes, and a node limit below `max_allocs`, first has its limit doubled, as
+    /// `GuardedOf::raised` does it, to `max_allocs` at most: so a heap has room exactly where it would have room
+    /// under `max_allocs`: see `laws::room_is_that_of_the_largest_limit`. Only for a new heap and for more nodes
+    /// memory is requested.
     ///
     /// Where the request is refused, all is as it was, and the `Refusal` says why.
     ///

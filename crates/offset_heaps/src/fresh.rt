@@ -21,15 +21,20 @@ pub(crate) fn usual<T: Tables>(
     realm: u32,
     size: u32,
 ) -> Result<(Option<GuardedOf<T>>, Ticket), AllocError>
-    requires limit_min { 4 ≤ limits.max_allocs }
-    requires limit_max { limits.max_allocs + 1 < T.Index.MAX }
+    requires limit_min { 4 ≤ limits.first_allocs }
+    requires limit_max { limits.first_allocs + 1 < T.Index.MAX }
     requires some { 1 ≤ size }
     requires fits { size ≤ value (down limits.size) }
-    ensures grants { IfOk result (λ r. (g : Guard) × IsNew limits.size limits.max_allocs realm g
+    ensures grants { IfOk result (λ r. (g : Guard) × IsNew limits.size limits.first_allocs realm g
         × Serves size 1 (Some g) r.0 r.1) }
     ensures start { IfOk result (λ r. r.1.offset ≡ 0) }
 {
-    let mut slot = Some(GuardedOf::with_max_allocs(alloc, limits.size, limits.max_allocs, realm)?);
+    let mut slot = Some(GuardedOf::with_max_allocs(
+        alloc,
+        limits.size,
+        limits.first_allocs,
+        realm,
+    )?);
     let ticket = slots::grant_in(&mut slot, size, 1);
     Ok((slot, ticket))
 }

@@ -6,9 +6,9 @@ ghost use Rattle.offset_allocator.specs.Ranges.{AreDisjoint, Range};
 ghost use Rattle.offset_allocator.specs.Reporting.Reports.{IsReport};
 ghost use Rattle.offset_allocator.specs.Requests.{CanGrant, blocks_needed, units_needed};
 ghost use Rattle.offset_allocator.specs.declared.reports.StorageReport.{StorageReport};
-ghost use Rattle.offset_guarded.specs.Guard.{Guard, HasSerialLeft};
+ghost use Rattle.offset_guarded.specs.Guard.{Guard, HasSerialLeft, IsRaised};
 ghost use Rattle.offset_heaps.specs.Heaps.{Heaps, room, AreAlike, AreTotals, heap_at, numbers, range_of};
-ghost use Rattle.offset_heaps.specs.Heaps.{Grants, IsFirstFit, IsLive, IsNext, IsUsual, IsWhy, Puts};
+ghost use Rattle.offset_heaps.specs.Heaps.{Grants, IsFirstFit, IsLive, IsNext, IsUsual, IsWhy, MustGrowIn, Puts};
 ghost use Rattle.offset_heaps.specs.Heaps.{size_of, total};
 ghost use Rattle.offset_heaps.specs.Histories.{AreSteps, IsGone, IsStep, ResetsAll};
 ghost use Rattle.offset_heaps.specs.Numbering.{AreOfLive, MeetsPlaces, first_from, live_places, next_place};
@@ -62,13 +62,25 @@ pub fn room_is_granted<T: Tables>(heaps: &HeapsOf<T>, number: u32)
     }
 }
 
-/// At most one reason of a refusal holds of a request. None holds where a heap has room for it; and where
-/// another may be made for it, no other than that its memory was refused.
+/// A heap has room for exactly as much as it would have under the largest node limit, however small its own is:
+/// so which heap grants a request, and whether one does, does not depend on the limit that heaps begin with.
+pub fn room_is_that_of_the_largest_limit<T: Tables>(heaps: &HeapsOf<T>, number: u32)
+    requires { number < heaps.now.limits.most }
+    ensures { IfSome (heap_at number heaps.now) (λ g. (h : Guard) (blocks : ℕ) → blocks ≤ 2
+        → IsRaised heaps.now.limits.max_allocs g h → room blocks h ≡ room blocks g) }
+{
+    let _ = &heaps.made;
+}
+
+/// At most one reason of a refusal holds of a request. Where a heap has room for it, none holds but that memory
+/// was refused, and then the first such heap has to grow; and where another may be made for it, none but that
+/// its memory was refused.
 pub fn reasons_exclude_one_another()
     ensures one { (size align : ℕ) (hs : Heaps) (r s : Refusal) → IsWhy size align hs r
         → IsWhy size align hs s → r ≡ s }
     ensures found { (size align k : ℕ) (hs : Heaps) (r : Refusal) → 1 ≤ size
-        → IsFirstFit (blocks_needed align) (units_needed size align) k hs → IsWhy size align hs r → ⊥ }
+        → IsFirstFit (blocks_needed align) (units_needed size align) k hs → IsWhy size align hs r
+        → (r ≡ Memory) × MustGrowIn hs.limits k (heap_at k hs) }
     ensures made { (size align k : ℕ) (hs : Heaps) (r : Refusal) → 1 ≤ size
         → IsNext size k hs → IsWhy size align hs r → r ≡ Memory }
 {}
@@ -168,7 +180,7 @@ pub fn a_state_is_read_back<T: Tables>(heaps: &HeapsOf<T>)
 /// Heaps and a call decide the result, and the heaps that are left. Heaps are twins where their spaces are in
 /// the same state, and live names have the same serials, however many accesses were counted: of twins a call
 /// returns the same, places and tickets included, and leaves twins. Only where memory is refused to a request
-/// of one of them, the other may have a heap more.
+/// of one of them, the other may have a heap or nodes more.
 pub fn a_state_decides_each_step()
     ensures allocate { (size align : ℕ) (hs hs' ks ks' : Heaps) → size ≤ 4294967295 → IsWellFormed hs
         → AreTwins hs hs' → (r r' : Result Granted Refusal) → Allocates size align hs ks r

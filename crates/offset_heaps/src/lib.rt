@@ -7,7 +7,7 @@
 //! changes nothing.
 //!
 //! ```
-//! let limits = Limits { size: 1 << 24, max_allocs: 4096, most: 64, most_larger: 16 };
+//! let limits = Limits { size: 1 << 24, max_allocs: 65536, first_allocs: 64, most: 64, most_larger: 16 };
 //! let mut heaps = Heaps::<u32>::new(alloc, limits, 1)?;
 //! if let Ok(granted) = heaps.allocate(3000) {
 //!     // granted.is_new: make the buffer of number granted.place.heap
@@ -20,7 +20,7 @@
 #![tactic(auto)]
 
 ghost use Rattle.std.specs.Prelude.{ℕ, ◌≡◌, ◌↔◌, ◌+◌, ◌^◌, ◌<◌, ◌≤◌, None, IsSome, IsTrue, IfOk};
-ghost use Rattle.std.specs.Prelude.{false, true, length, option_copied, option_map, replicate};
+ghost use Rattle.std.specs.Prelude.{false, true, length, min, option_copied, option_map, replicate};
 ghost use Rattle.offset_allocator.specs.Ranges.{Range};
 ghost use Rattle.offset_heaps.specs.Heaps.{slot};
 ghost use Rattle.offset_heaps.specs.Slots.{ResetsIn};
@@ -136,13 +136,15 @@ impl<T: Tables> HeapsOf<T> {
     /// An error is returned only where an allocation failed; then nothing is made.
     ///
     /// ```
-    /// let limits = Limits { size: 1 << 24, max_allocs: 4096, most: 64, most_larger: 16 };
+    /// let limits = Limits { size: 1 << 24, max_allocs: 65536, first_allocs: 64, most: 64, most_larger: 16 };
     /// let heaps = Heaps::<u32>::new(alloc, limits, 1)?;
     /// assert_eq!(heaps.totals().heaps, 0);
     /// ```
     pub fn new(alloc: Global, limits: Limits, realm: u32) -> Result<Self, AllocError>
         requires limit_min { 4 ≤ limits.max_allocs }
         requires limit_max { limits.max_allocs + 1 < T.Index.MAX }
+        requires first_min { min 8 limits.max_allocs ≤ limits.first_allocs }
+        requires first_max { limits.first_allocs ≤ limits.max_allocs }
         requires numbers { limits.most + limits.most_larger < 2 ^ 32 }
         ensures slots { IfOk result (λ h. h.slots ≡ replicate (limits.most + limits.most_larger) None) }
         ensures rest { IfOk result (λ h. (h.limits ≡ limits) × (h.made ≡ 0) × (h.realm ≡ realm)

@@ -31,18 +31,28 @@ impl<T: Tables> HeapsOf<T> {
         requires some { 1 ≤ units }
         requires power { 1 ≤ align }
         ensures first { MatchOption result
-            ((k : ℕ) → TakesUnits own (blocks_needed align) units live self.old.slots k → ⊥)
-            (λ k. TakesUnits own (blocks_needed align) units live self.old.slots k
-            × ((j : ℕ) → j < k → TakesUnits own (blocks_needed align) units live self.old.slots j → ⊥)) }
+            ((k : ℕ) → TakesUnits self.old.limits own (blocks_needed align) units live self.old.slots k → ⊥)
+            (λ k. TakesUnits self.old.limits own (blocks_needed align) units live self.old.slots k
+            × ((j : ℕ) → j < k
+            → TakesUnits self.old.limits own (blocks_needed align) units live self.old.slots j → ⊥)) }
         ensures there { IfSome result (λ k. k < length self.old.slots) }
         ensures same { IsSame self.old self.new }
         ensures steps { (bits : ℕ) → numbers self.old ≤ 2 ^ bits
             → self.new.accesses ≤ self.old.accesses + numbers self.old + bits + 1 }
     {
         let from = self.first_fit(units, align)?;
-        let numbers = self.limits.most + self.limits.most_larger;
-        self.slots
-            .taker(from, numbers, own, units, align, live, &mut self.accesses)
+        let limits = self.limits;
+        let numbers = limits.most + limits.most_larger;
+        self.slots.taker(
+            from,
+            numbers,
+            limits,
+            own,
+            units,
+            align,
+            live,
+            &mut self.accesses,
+        )
     }
 
     /// Grants a second range of as many units as that of a live place, in another heap, and returns its
@@ -55,7 +65,7 @@ impl<T: Tables> HeapsOf<T> {
     /// release of its old range before the next one, come to an end, since the sum of the squares of the
     /// heaps' live units grows at each: see `laws::relocations_end`. With later releases a range may go to
     /// and fro: make one pass, free what it left, then begin the next. No heap is made, and no memory is
-    /// taken. The range is what `GuardedOf::allocate` grants there: for one at an alignment see
+    /// taken: a heap that would have to grow for it, as `Limits::first_allocs` says, takes no range. The range is what `GuardedOf::allocate` grants there: for one at an alignment see
     /// `relocate_aligned`.
     ///
     /// `None` is returned where no heap takes the range, and where the place is not live; then nothing

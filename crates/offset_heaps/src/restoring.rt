@@ -3,7 +3,7 @@ ghost use Rattle.std.specs.Prelude.{ℕ, ◌≡◌, ◌↔◌, ◌+◌, ◌*◌,
 ghost use Rattle.std.specs.Prelude.{Option, length};
 ghost use Rattle.offset_allocator.specs.Saving.StateFaults.{IfFault};
 ghost use Rattle.offset_guarded.specs.Guard.{Guard};
-ghost use Rattle.offset_heaps.specs.Heaps.{IsOfKind};
+ghost use Rattle.offset_heaps.specs.Heaps.{HasNodesLeft, IsOfKind};
 ghost use Rattle.offset_heaps.specs.State.{AreNone, AreRead, IsHeader, IsHeapAdmitted, IsHeapFormed};
 ghost use Rattle.offset_heaps.specs.State.{IsHeapRead, IsHeapState, IsNoState, IsRestored, IsWellFormed};
 ghost use Rattle.offset_heaps.specs.StateFaults.{IsFault, IsHeapFault, IsHeapsFault, IsNumbersFault};
@@ -14,6 +14,7 @@ use crate::fresh::LARGER_LIMIT;
 use crate::limits::Limits;
 use crate::slots::Slots;
 use crate::state::{FORM, StateFault, StateFaultKind, VERSION};
+use offset_allocator::laws::unused_nodes;
 use offset_allocator::{Accesses, NodeIndex, ReadError, Tables};
 use offset_guarded::GuardedOf;
 use offset_guarded::laws::a_state_is_read_back;
@@ -47,7 +48,7 @@ fn header_of<T: Tables>(
     ensures fault { IfErr result (λ f. IsNumbersFault T.Index.MAX most_heaps most_allocs bytes.now f.at f.kind) }
     ensures wrong { IsErr result → IsNoState T.Index.MAX most_heaps most_allocs bytes.now }
 {
-    if bytes.len() < 80 {
+    if bytes.len() < 88 {
         return fault(bytes.len(), StateFaultKind::Length);
     }
     if number(bytes, 0) != FORM || number(bytes, 1) != VERSION {
@@ -61,33 +62,38 @@ fn header_of<T: Tables>(
     if limit < 4 || limit > most_allocs as u64 || limit + 1 >= T::Index::MAX as u64 {
         return fault(24, StateFaultKind::Limits);
     }
-    let most = number(bytes, 4);
-    if most > most_heaps as u64 {
+    let first = number(bytes, 4);
+    if first < limit.min(8) || first > limit {
         return fault(32, StateFaultKind::Limits);
     }
-    let larger = number(bytes, 5);
-    if larger > most_heaps as u64 - most {
+    let most = number(bytes, 5);
+    if most > most_heaps as u64 {
         return fault(40, StateFaultKind::Limits);
     }
-    let made = number(bytes, 6);
-    if made > u32::MAX as u64 {
-        return fault(48, StateFaultKind::Counts);
+    let larger = number(bytes, 6);
+    if larger > most_heaps as u64 - most {
+        return fault(48, StateFaultKind::Limits);
     }
-    let realm = number(bytes, 7);
-    if realm > u32::MAX as u64 {
+    let made = number(bytes, 7);
+    if made > u32::MAX as u64 {
         return fault(56, StateFaultKind::Counts);
     }
+    let realm = number(bytes, 8);
+    if realm > u32::MAX as u64 {
+        return fault(64, StateFaultKind::Counts);
+    }
     let count = (most + larger) as usize;
-    if count > (bytes.len() - 80) / 8 {
+    if count > (bytes.len() - 88) / 8 {
         return fault(bytes.len(), StateFaultKind::Length);
     }
-    if checksum(bytes, 9 + count) != number(bytes, 9 + count) {
-        return fault(72 + 8 * count, StateFaultKind::Checksum);
+    if checksum(bytes, 10 + count) != number(bytes, 10 + count) {
+        return fault(80 + 8 * count, StateFaultKind::Checksum);
     }
     Ok(Header {
         limits: Limits {
             size: size as u32,
             max_allocs: limit as u32,
+            first_allocs: first as u32,
             most: most as u32,
             most_larger: larger as u32,
         },
@@ -96,13 +102,26 @@ fn header_of<T: Tables>(
     })
 }
 
-// Whether a heap has the size and the node limit of the kind of a number.
+// Whether a heap of the usual size has a node limit that the limits allow, and below the largest one as many unused
+// nodes as it has between two calls.
+fn has_nodes_left<T: Tables>(heap: &GuardedOf<T>, limits: Limits) -> bool
+    ensures { IsTrue result ↔ HasNodesLeft limits heap.now }
+{
+    let space = heap.allocator();
+    let limit = space.max_allocs();
+    let left = unused_nodes(space);
+    limit >= limits.first_allocs
+        && limit <= limits.max_allocs
+        && (limit == limits.max_allocs || left >= 3)
+}
+
+// Whether a heap has the size and a node limit of the kind of a number.
 fn is_of_kind<T: Tables>(heap: &GuardedOf<T>, number: u32, limits: Limits) -> bool
     ensures { IsTrue result ↔ IsOfKind limits number heap.now }
 {
     let space = heap.allocator();
     if number < limits.most {
-        space.size() == limits.size && space.max_allocs() == limits.max_allocs
+        space.size() == limits.size && has_nodes_left(heap, limits)
     } else {
         space.size() >= 1 && space.max_allocs() == LARGER_LIMIT
     }
@@ -164,7 +183,7 @@ fn read_slots<T: Tables>(
     made: u32,
     most_allocs: u32,
 ) -> Result<Result<Slots<T>, StateFault>, AllocError>
-    requires long { 80 + 8 * count ≤ length bytes.now }
+    requires long { 88 + 8 * count ≤ length bytes.now }
     ensures read { IfOk result (λ r. IfOk r (λ s. AreRead limits T.Index.MAX made most_allocs count
         bytes.now states.now s)) }
     ensures fault { IfOk result (λ r. IfErr r (λ f. IsHeapsFault limits T.Index.MAX made most_allocs count
@@ -172,14 +191,14 @@ fn read_slots<T: Tables>(
     ensures refused { IfOk result (λ r. IsErr r
         → AreNone limits T.Index.MAX made most_allocs count bytes.now states.now) }
 {
-    let start = 80 + 8 * count as usize;
+    let start = 88 + 8 * count as usize;
     let mut slots = Slots::with_room(alloc, count)?;
     for k in 0..count {
-        let from = number(bytes, 8 + k as usize);
-        let to = number(bytes, 9 + k as usize);
+        let from = number(bytes, 9 + k as usize);
+        let to = number(bytes, 10 + k as usize);
         if from > to || to > states.len() as u64 {
             return Ok(Err(StateFault {
-                at: 72 + 8 * k as usize,
+                at: 80 + 8 * k as usize,
                 kind: StateFaultKind::Place,
             }));
         }
@@ -254,16 +273,16 @@ impl<T: Tables> HeapsOf<T> {
         };
         let limits = header.limits;
         let count = limits.most + limits.most_larger;
-        let states = &bytes[80 + 8 * count as usize..];
-        if number(bytes, 8) != 0 {
+        let states = &bytes[88 + 8 * count as usize..];
+        if number(bytes, 9) != 0 {
             return Err(ReadError::Fault(StateFault {
-                at: 64,
+                at: 72,
                 kind: StateFaultKind::Place,
             }));
         }
-        if number(bytes, 8 + count as usize) != states.len() as u64 {
+        if number(bytes, 9 + count as usize) != states.len() as u64 {
             return Err(ReadError::Fault(StateFault {
-                at: 64 + 8 * count as usize,
+                at: 72 + 8 * count as usize,
                 kind: StateFaultKind::Place,
             }));
         }

@@ -1,7 +1,7 @@
 //! The heaps by their numbers: no other module reads or writes them. Each function counts the slots that it
 //! touches.
 ghost use Rattle.std.specs.Prelude.{◌≡◌, ◌↔◌, ◌+◌, ◌^◌, ◌<◌, ◌≤◌, IsTrue, IsSome, None, Some, false, length};
-ghost use Rattle.std.specs.Prelude.{IfOk, IfSome, MatchOption, is_some, option_copied, replicate};
+ghost use Rattle.std.specs.Prelude.{IfOk, IfSome, IsErr, MatchOption, is_some, option_copied, replicate};
 ghost use Rattle.std.specs.Prelude.{ℕ, slice_set, true};
 ghost use Rattle.std.specs.List.{FoldsTo};
 ghost use Rattle.offset_allocator.specs.Requests.{blocks_needed, units_needed};
@@ -10,15 +10,17 @@ ghost use Rattle.offset_guarded.specs.Guard.{Guard, HasSerialLeft};
 ghost use Rattle.offset_allocator.specs.Moving.Compacting.{IsCalledWith};
 ghost use Rattle.offset_heaps.specs.Changing.{AltersIn, CanResize, CompactsIn, HoldsIn, MakesRoomIn, Resizes};
 ghost use Rattle.offset_heaps.specs.Changing.{moves_in, wanted};
-ghost use Rattle.offset_heaps.specs.Heaps.{is_empty, live_of, part, range_in, room, room_of, slot};
+ghost use Rattle.offset_heaps.specs.Heaps.{MustGrow, MustGrowIn, is_empty, live_of, part, range_in, room, room_of};
+ghost use Rattle.offset_heaps.specs.Heaps.{slot};
 ghost use Rattle.offset_heaps.specs.Numbering.{IsHeapFrom, NoHeapFrom};
 ghost use Rattle.offset_heaps.specs.Relocating.{HasLive, IsEmptiest, NoneLive, TakesUnits, units_in};
-ghost use Rattle.offset_heaps.specs.Slots.{CanHoldIn, Changes, FreesIn, KeepsOthersIn};
+ghost use Rattle.offset_heaps.specs.Slots.{CanHoldIn, Changes, FreesIn, GrowsIn, KeepsOthersIn};
 ghost use Rattle.offset_heaps.specs.Slots.{IsMore, ResetsIn, Serves, ServesTight};
 
 use crate::index::{is_empty_heap, rooms};
+use crate::limits::Limits;
 use crate::resize::Resize;
-use offset_allocator::laws::is_well_formed;
+use offset_allocator::laws::{is_well_formed, unused_nodes};
 use offset_allocator::{Accesses, Move, RoomCost, Tables};
 use offset_guarded::{GuardedOf, Ticket};
 use std::alloc::{AllocError, Global};
@@ -46,6 +48,42 @@ fn room_at<T: Tables>(heap: &GuardedOf<T>, align: u32) -> u32
 {
     let (one, two) = rooms(Some(heap));
     if align == 1 { one } else { two }
+}
+
+// Whether the heap of a number has to grow before a grant: a grant adds two blocks at most, so after it at least
+// three nodes are unused, or the limit is the largest one. A report is then that of the largest limit.
+fn must_grow<T: Tables>(heap: &GuardedOf<T>, number: u32, limits: Limits) -> bool
+    ensures { IsTrue result ↔ MustGrow limits number heap.now }
+{
+    let space = heap.allocator();
+    number < limits.most && space.max_allocs() < limits.max_allocs && unused_nodes(space) < 5
+}
+
+// Doubles the node limit of the heap of a number, where it has to grow.
+fn grow_in<T: Tables>(
+    alloc: Global,
+    slot: &mut Option<GuardedOf<T>>,
+    number: u32,
+    limits: Limits,
+) -> Result<(), AllocError>
+    requires limit_max { limits.max_allocs + 1 < T.Index.MAX }
+    ensures grows { IfOk result (λ _. GrowsIn limits number slot.old slot.new) }
+    ensures must { IsErr result → MustGrowIn limits number slot.old }
+    ensures same { IsErr result → slot.new ≡ slot.old }
+{
+    if let Some(heap) = slot {
+        if must_grow(heap, number, limits) {
+            let limit = heap.allocator().max_allocs();
+            let most = limits.max_allocs;
+            let twice = if most - limit < limit {
+                most
+            } else {
+                2 * limit
+            };
+            *heap = heap.raised(alloc, twice)?;
+        }
+    }
+    Ok(())
 }
 
 /// Grants a request in a heap that has room for it.
@@ -220,6 +258,25 @@ impl<T: Tables> Slots<T> {
         self.heaps[number as usize] = heap;
     }
 
+    /// Doubles the node limit of the heap of a number, where it has to grow before a grant.
+    pub(crate) fn grow(
+        &mut self,
+        alloc: Global,
+        number: u32,
+        limits: Limits,
+        count: &mut Accesses,
+    ) -> Result<(), AllocError>
+        requires there { number < length self.old }
+        requires limit_max { limits.max_allocs + 1 < T.Index.MAX }
+        ensures grows { IfOk result (λ _. Changes number (GrowsIn limits number) self.old self.new) }
+        ensures must { IsErr result → MustGrowIn limits number (slot number self.old) }
+        ensures same { IsErr result → self.new ≡ self.old }
+        ensures accesses { count.new ≡ count.old + 1 }
+    {
+        count.tick();
+        grow_in(alloc, &mut self.heaps[number as usize], number, limits)
+    }
+
     /// Grants a request in the heap of a number, which has room for it.
     pub(crate) fn grant(
         &mut self,
@@ -371,6 +428,7 @@ impl<T: Tables> Slots<T> {
     fn takes(
         &self,
         number: u32,
+        limits: Limits,
         own: u32,
         units: u64,
         align: u32,
@@ -379,14 +437,18 @@ impl<T: Tables> Slots<T> {
     ) -> bool
         requires some { 1 ≤ units }
         requires power { 1 ≤ align }
-        ensures takes { IsTrue result ↔ TakesUnits own (blocks_needed align) units live self.now number }
+        ensures takes { IsTrue result
+            ↔ TakesUnits limits own (blocks_needed align) units live self.now number }
         ensures accesses { count.new ≡ count.old + 1 }
     {
         match self.at(number, count) {
             None => false,
             Some(heap) => {
                 let room = room_at(heap, align) as u64;
-                number != own && room >= units && heap.allocator().live_units() >= live
+                number != own
+                    && room >= units
+                    && heap.allocator().live_units() >= live
+                    && !must_grow(heap, number, limits)
             }
         }
     }
@@ -396,6 +458,7 @@ impl<T: Tables> Slots<T> {
         &self,
         from: u32,
         numbers: u32,
+        limits: Limits,
         own: u32,
         units: u64,
         align: u32,
@@ -407,13 +470,15 @@ impl<T: Tables> Slots<T> {
         requires from { from ≤ numbers }
         requires numbers { numbers ≤ length self.now }
         ensures first { MatchOption result
-            ((k : ℕ) → from ≤ k → k < numbers → TakesUnits own (blocks_needed align) units live self.now k → ⊥)
-            (λ k. (k < numbers) × TakesUnits own (blocks_needed align) units live self.now k
-            × ((j : ℕ) → from ≤ j → j < k → TakesUnits own (blocks_needed align) units live self.now j → ⊥)) }
+            ((k : ℕ) → from ≤ k → k < numbers
+            → TakesUnits limits own (blocks_needed align) units live self.now k → ⊥)
+            (λ k. (k < numbers) × TakesUnits limits own (blocks_needed align) units live self.now k
+            × ((j : ℕ) → from ≤ j → j < k
+            → TakesUnits limits own (blocks_needed align) units live self.now j → ⊥)) }
         ensures accesses { count.new ≤ count.old + numbers }
     {
         for number in from..numbers {
-            if self.takes(number, own, units, align, live, count) {
+            if self.takes(number, limits, own, units, align, live, count) {
                 return Some(number);
             }
         }

@@ -11,6 +11,7 @@ use std::test::Fail;
 const LIMITS: Limits = Limits {
     size: 100,
     max_allocs: 8,
+    first_allocs: 8,
     most: 2,
     most_larger: 2,
 };

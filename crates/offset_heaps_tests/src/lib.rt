@@ -4,6 +4,8 @@
 #[cfg(test)]
 mod asserts;
 #[cfg(test)]
+mod growing;
+#[cfg(test)]
 mod heaps;
 mod histories;
 #[cfg(test)]

@@ -89,6 +89,7 @@ fn aligned_relocation(rt: HostRuntime) -> Result<(), Fail> {
     let limits = Limits {
         size: 96,
         max_allocs: 8,
+        first_allocs: 8,
         most: 2,
         most_larger: 0,
     };
@@ -125,6 +126,7 @@ fn relocation(rt: HostRuntime) -> Result<(), Fail> {
     let limits = Limits {
         size: 96,
         max_allocs: 8,
+        first_allocs: 8,
         most: 3,
         most_larger: 0,
     };

@@ -28,114 +28,141 @@ struct Case {
 }
 
 // The limits, how many heaps were made, the realm, and the places: of one heap of the usual size, and of a
-// larger one that is not there. The state of the heap begins behind 8 * 12 bytes.
-const CASES: [Case; 20] = [
+// larger one that is not there. The state of the heap begins behind 8 * 13 bytes.
+const CASES: [Case; 25] = [
     Case {
-        numbers: &[HEAPS, 1, 100, 4, 1, 1, 1, 9, 0, 116, 116],
+        numbers: &[HEAPS, 2, 100, 4, 4, 1, 1, 1, 9, 0, 116, 116],
         start: 0,
         fault: None,
     },
     // it may be a larger heap, whose units are those of any request
     Case {
-        numbers: &[HEAPS, 1, 0xFFFF_FFFF, 5, 0, 2, 0xFFFF_FFFF, 0, 0, 0, 116],
+        numbers: &[HEAPS, 2, 0xFFFF_FFFF, 5, 5, 0, 2, 0xFFFF_FFFF, 0, 0, 0, 116],
         start: 0,
         fault: None,
     },
     Case {
-        numbers: &[HEAPS + 1, 1, 100, 4, 1, 1, 1, 9, 0, 116, 116],
+        numbers: &[HEAPS + 1, 2, 100, 4, 4, 1, 1, 1, 9, 0, 116, 116],
         start: 0,
         fault: Some((0, Form)),
     },
     Case {
-        numbers: &[HEAPS, 2, 100, 4, 1, 1, 1, 9, 0, 116, 116],
+        numbers: &[HEAPS, 1, 100, 4, 4, 1, 1, 1, 9, 0, 116, 116],
         start: 0,
         fault: Some((0, Form)),
     },
     Case {
-        numbers: &[HEAPS, 1, 0x1_0000_0000, 4, 1, 1, 1, 9, 0, 116, 116],
+        numbers: &[HEAPS, 2, 0x1_0000_0000, 4, 4, 1, 1, 1, 9, 0, 116, 116],
         start: 0,
         fault: Some((16, OfLimits)),
     },
     Case {
-        numbers: &[HEAPS, 1, 100, 3, 1, 1, 1, 9, 0, 116, 116],
+        numbers: &[HEAPS, 2, 100, 3, 3, 1, 1, 1, 9, 0, 116, 116],
         start: 0,
         fault: Some((24, OfLimits)),
     },
-    // a node limit of 6, and 41 numbers, are more than the caller admits
+    // a node limit of 21, and 41 numbers, are more than the caller admits
     Case {
-        numbers: &[HEAPS, 1, 100, 6, 1, 1, 1, 9, 0, 116, 116],
+        numbers: &[HEAPS, 2, 100, 21, 21, 1, 1, 1, 9, 0, 116, 116],
         start: 0,
         fault: Some((24, OfLimits)),
     },
     Case {
-        numbers: &[HEAPS, 1, 100, 4, 1, 40, 1, 9, 0, 116, 116],
+        numbers: &[HEAPS, 2, 100, 4, 4, 1, 40, 1, 9, 0, 116, 116],
+        start: 0,
+        fault: Some((48, OfLimits)),
+    },
+    Case {
+        numbers: &[HEAPS, 2, 100, 4, 4, u64::MAX, 2, 1, 9, 0, 116, 116],
         start: 0,
         fault: Some((40, OfLimits)),
     },
     Case {
-        numbers: &[HEAPS, 1, 100, 4, u64::MAX, 2, 1, 9, 0, 116, 116],
+        numbers: &[HEAPS, 2, 100, 4, 4, 1, 1, 1, 0x1_0000_0000, 0, 116, 116],
         start: 0,
-        fault: Some((32, OfLimits)),
+        fault: Some((64, Counts)),
+    },
+    // 220 bytes have 88 and those of 16 numbers, and not of 17
+    Case {
+        numbers: &[HEAPS, 2, 100, 4, 4, 1, 16, 1, 9, 0, 116, 116],
+        start: 0,
+        fault: Some((220, Length)),
     },
     Case {
-        numbers: &[HEAPS, 1, 100, 4, 1, 1, 1, 0x1_0000_0000, 0, 116, 116],
-        start: 0,
-        fault: Some((56, Counts)),
-    },
-    // 212 bytes have 80 and those of 16 numbers, and not of 17
-    Case {
-        numbers: &[HEAPS, 1, 100, 4, 1, 16, 1, 9, 0, 116, 116],
-        start: 0,
-        fault: Some((212, Length)),
-    },
-    Case {
-        numbers: &[HEAPS, 1, 100, 4, 1, 1, 1, 9, 0, 116, 116],
+        numbers: &[HEAPS, 2, 100, 4, 4, 1, 1, 1, 9, 0, 116, 116],
         start: 1,
-        fault: Some((88, Checksum)),
+        fault: Some((96, Checksum)),
     },
     // the heap has 100 units, and the node limit 4
     Case {
-        numbers: &[HEAPS, 1, 99, 4, 1, 1, 1, 9, 0, 116, 116],
+        numbers: &[HEAPS, 2, 99, 4, 4, 1, 1, 1, 9, 0, 116, 116],
         start: 0,
-        fault: Some((96, Size)),
+        fault: Some((104, Size)),
     },
     Case {
-        numbers: &[HEAPS, 1, 101, 4, 0, 2, 1, 9, 0, 116, 116],
+        numbers: &[HEAPS, 2, 101, 4, 4, 0, 2, 1, 9, 0, 116, 116],
         start: 0,
         fault: None,
     },
     Case {
-        numbers: &[HEAPS, 1, 100, 5, 1, 1, 1, 9, 0, 116, 116],
+        numbers: &[HEAPS, 2, 100, 5, 5, 1, 1, 1, 9, 0, 116, 116],
         start: 0,
-        fault: Some((96, Size)),
+        fault: Some((104, Size)),
+    },
+    // heaps may begin with the largest limit, or with at least 8 nodes and no more than the largest limit
+    Case {
+        numbers: &[HEAPS, 2, 100, 4, 5, 1, 1, 1, 9, 0, 116, 116],
+        start: 0,
+        fault: Some((32, OfLimits)),
+    },
+    Case {
+        numbers: &[HEAPS, 2, 100, 5, 4, 1, 1, 1, 9, 0, 116, 116],
+        start: 0,
+        fault: Some((32, OfLimits)),
+    },
+    Case {
+        numbers: &[HEAPS, 2, 100, 20, 7, 1, 1, 1, 9, 0, 116, 116],
+        start: 0,
+        fault: Some((32, OfLimits)),
+    },
+    // the heap has fewer nodes than one begins with, and may be a larger heap
+    Case {
+        numbers: &[HEAPS, 2, 100, 20, 8, 1, 1, 1, 9, 0, 116, 116],
+        start: 0,
+        fault: Some((104, Size)),
+    },
+    Case {
+        numbers: &[HEAPS, 2, 100, 20, 8, 0, 2, 1, 9, 0, 116, 116],
+        start: 0,
+        fault: None,
     },
     // the second number is that of a heap of the usual size too
     Case {
-        numbers: &[HEAPS, 1, 100, 5, 2, 0, 1, 9, 0, 0, 116],
+        numbers: &[HEAPS, 2, 100, 5, 5, 2, 0, 1, 9, 0, 0, 116],
         start: 0,
-        fault: Some((96, Size)),
+        fault: Some((104, Size)),
     },
     // a heap of the first realm, where none was made
     Case {
-        numbers: &[HEAPS, 1, 100, 4, 1, 1, 0, 9, 0, 116, 116],
+        numbers: &[HEAPS, 2, 100, 4, 4, 1, 1, 0, 9, 0, 116, 116],
         start: 0,
-        fault: Some((96 + 32, Realm)),
+        fault: Some((104 + 32, Realm)),
     },
     Case {
-        numbers: &[HEAPS, 1, 100, 4, 1, 1, 1, 9, 0, 117, 116],
-        start: 0,
-        fault: Some((72, OfPlace)),
-    },
-    Case {
-        numbers: &[HEAPS, 1, 100, 4, 1, 1, 1, 9, 0, 116, 115],
+        numbers: &[HEAPS, 2, 100, 4, 4, 1, 1, 1, 9, 0, 117, 116],
         start: 0,
         fault: Some((80, OfPlace)),
     },
+    Case {
+        numbers: &[HEAPS, 2, 100, 4, 4, 1, 1, 1, 9, 0, 116, 115],
+        start: 0,
+        fault: Some((88, OfPlace)),
+    },
     // 8 bytes are no state of a heap
     Case {
-        numbers: &[HEAPS, 1, 100, 4, 1, 1, 1, 9, 0, 8, 116],
+        numbers: &[HEAPS, 2, 100, 4, 4, 1, 1, 1, 9, 0, 8, 116],
         start: 0,
-        fault: Some((96 + 8, Heap(HeapFault::Length))),
+        fault: Some((104 + 8, Heap(HeapFault::Length))),
     },
 ];
 
@@ -183,7 +210,7 @@ fn state_of(rt: &impl Abort, alloc: Global, numbers: &[u64], start: u64) -> Vec<
 fn expect_faults<T: Tables>(rt: &impl Abort, alloc: Global) {
     for case in &CASES {
         let bytes = state_of(rt, alloc, case.numbers, case.start);
-        match HeapsOf::<T>::read_state(alloc, &bytes, 40, 5) {
+        match HeapsOf::<T>::read_state(alloc, &bytes, 40, 20) {
             Err(ReadError::Memory) => assert_that(rt, false),
             Err(ReadError::Fault(StateFault { at, kind })) => {
                 assert_same(rt, &Some((at, kind)), &case.fault)
@@ -216,7 +243,12 @@ fn expect_state<T: Tables>(rt: &impl Abort, alloc: Global, heaps: &mut HeapsOf<T
         assert_that(rt, false);
         return;
     };
-    let bytes = state_of(rt, alloc, &[HEAPS, 1, 100, 4, 1, 1, 1, 9, 0, 116, 116], 0);
+    let bytes = state_of(
+        rt,
+        alloc,
+        &[HEAPS, 2, 100, 4, 4, 1, 1, 1, 9, 0, 116, 116],
+        0,
+    );
     let written = heaps.write_state(alloc).expect(rt, "memory");
     assert_same(rt, &written.as_slice(), &bytes.as_slice());
     let mut copy = heaps.try_clone(alloc).expect(rt, "memory");
@@ -237,6 +269,7 @@ fn states(rt: HostRuntime) -> Result<(), Fail> {
     let limits = Limits {
         size: 100,
         max_allocs: 4,
+        first_allocs: 4,
         most: 1,
         most_larger: 1,
     };

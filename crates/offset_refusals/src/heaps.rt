@@ -9,8 +9,9 @@ use offset_script::Script;
 use offset_test_base::random::Random;
 use std::alloc::Global;
 
-// Room for four heaps of a script's size and node limit, and for three larger ones.
-fn made<T: Tables>(alloc: Global, script: &Script) -> Result<HeapsOf<T>, Failure> {
+// Room for four heaps of a script's size and node limit, which begin with at most `nodes` nodes, and for three
+// larger ones.
+fn made_from<T: Tables>(alloc: Global, script: &Script, nodes: u32) -> Result<HeapsOf<T>, Failure> {
     let limit = script.max_allocs;
     if limit < 4 || limit >= T::Index::MAX - 1 {
         return Err(Failure::Unfit);
@@ -18,10 +19,16 @@ fn made<T: Tables>(alloc: Global, script: &Script) -> Result<HeapsOf<T>, Failure
     let limits = Limits {
         size: script.size,
         max_allocs: limit,
+        first_allocs: limit.min(nodes.max(8)),
         most: 4,
         most_larger: 3,
     };
     Ok(HeapsOf::new(alloc, limits, 1)?)
+}
+
+// The same heaps, which begin with all nodes.
+fn made<T: Tables>(alloc: Global, script: &Script) -> Result<HeapsOf<T>, Failure> {
+    made_from(alloc, script, script.max_allocs)
 }
 
 /// Makes the heaps, none of which is there yet, and puts their number into the cells.
@@ -202,6 +209,50 @@ impl Work for MakeHeapsAndStore {
             Ok(read) => put_totals(cells, read.totals()),
             Err(fault) => put(cells, fault.at as u64),
         }
+        Ok(())
+    }
+}
+
+// Grants one unit, so often that a heap has as many nodes as it may have. Where memory is refused, all is as it
+// was.
+fn grow<T: Tables>(heaps: &mut HeapsOf<T>) -> Result<(), Failure> {
+    for _ in 0..heaps.limits().max_allocs.saturating_sub(4) {
+        let before = (heaps.totals(), node_limit(heaps));
+        match heaps.allocate(1) {
+            Ok(_) => {}
+            Err(Refusal::Memory) if (heaps.totals(), node_limit(heaps)) == before => {
+                return Err(Failure::OutOfMemory);
+            }
+            Err(_) => return Err(Failure::Unfit),
+        }
+    }
+    Ok(())
+}
+
+// The node limit of the first heap, or 0 where it is not there.
+fn node_limit<T: Tables>(heaps: &HeapsOf<T>) -> u32 {
+    match heaps.heap(0) {
+        None => 0,
+        Some(heap) => heap.allocator().max_allocs(),
+    }
+}
+
+/// Makes the heaps, of which each begins with 8 nodes, and lets one grow to all its nodes. It puts its node limit
+/// and the live units into the cells.
+pub struct MakeHeapsAndGrow;
+
+impl Work for MakeHeapsAndGrow {
+    fn run<T: Tables>(
+        &self,
+        alloc: Global,
+        script: &Script,
+        _kept: &mut [Kept<T::Index>],
+        cells: &mut Cells<'_>,
+    ) -> Result<(), Failure> {
+        let mut heaps = made_from::<T>(alloc, script, 8)?;
+        grow(&mut heaps)?;
+        put(cells, u64::from(node_limit(&heaps)));
+        put(cells, heaps.totals().live_units);
         Ok(())
     }
 }

@@ -22,7 +22,7 @@ mod scripts;
 mod tickets;
 
 use allocators::{MakeAndCall, MakeAndFill, MakeAndStore, MakeDefault, MakeLimited, Play};
-use heaps::{MakeHeaps, MakeHeapsAndCall, MakeHeapsAndStore};
+use heaps::{MakeHeaps, MakeHeapsAndCall, MakeHeapsAndGrow, MakeHeapsAndStore};
 use layouts::{Layout, Work, run_on};
 use lists::{PlayList, PlayTickets};
 use outcomes::code;
@@ -69,6 +69,7 @@ fn made_on(
         "guarded_store" => work_on(layout, &MakeGuardedAndStore, alloc, text, cells),
         "heaps" => work_on(layout, &MakeHeaps, alloc, text, cells),
         "heaps_calls" => work_on(layout, &MakeHeapsAndCall, alloc, text, cells),
+        "heaps_grow" => work_on(layout, &MakeHeapsAndGrow, alloc, text, cells),
         "heaps_store" => work_on(layout, &MakeHeapsAndStore, alloc, text, cells),
         _ => return None,
     })

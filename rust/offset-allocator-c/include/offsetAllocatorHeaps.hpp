@@ -1,6 +1,6 @@
 // Many heaps as one, over offset_allocator_heaps.h:
 //
-//     OffsetAllocator::Heaps heaps({1 << 24, 4096, 64, 16});
+//     OffsetAllocator::Heaps heaps = OffsetAllocator::Heaps::from({1 << 24, 65536, 64, 16}, 64);
 //     OffsetAllocator::Granted mesh = heaps.allocate(3000);
 //     if (mesh && mesh.isNew) ...    // make the buffer of number mesh.place.heap, or heaps.giveUp
 //     heaps.free(mesh.place);
@@ -56,6 +56,11 @@ public:
     // Where memory is out, or a limit is out of range, it has none: every request is refused.
     explicit Heaps(const HeapLimits &limits, uint32 realm = 0) noexcept
         : heaps(oah_new({limits.size, limits.maxAllocs, limits.most, limits.mostLarger}, realm)) {}
+
+    // As this, but heaps begin with the node limit firstAllocs, which is doubled as requests need, up to limits.maxAllocs.
+    static Heaps from(const HeapLimits &limits, uint32 firstAllocs, uint32 realm = 0) noexcept {
+        return Heaps(oah_new_from({limits.size, limits.maxAllocs, limits.most, limits.mostLarger}, firstAllocs, realm));
+    }
 
     // What is moved from has none; a move to itself changes nothing.
     Heaps(Heaps &&other) noexcept : heaps(other.heaps) { other.heaps = nullptr; }

@@ -189,10 +189,10 @@ public:
     std::FILE *file() const { return failed ? nullptr : out; }
     bool isFailed() const { return failed; }
 
-    // Writes a header, and the lines after which its space is as the one whose state begins at a place of bytes, as
+    // Writes a header, of at least so many nodes, and the lines after which its space is as the one whose state begins at a place of bytes, as
     // docs/STATES.md has it: its live ranges are granted at their places, each with the free block behind it, and then give that
     // back, the oldest free block of a bin first. Returns whether there are such lines.
-    bool begin(const Bytes &bytes, size_t at) {
+    bool begin(const Bytes &bytes, size_t at, uint32 nodes = 0) {
         struct Block {
             uint32 name, offset, size, given;
             size_t place;
@@ -200,7 +200,7 @@ public:
         };
         if (failed) return false;
         auto word = [&](size_t i) { return uint32(bytes.number(at + 4 * i, 4)); };
-        uint32 size = word(2), limit = word(3);
+        uint32 size = word(2), limit = std::max(word(3), nodes);
         size_t count = word(4), free = word(5);
         struct Place {
             uint32 name;
@@ -474,13 +474,15 @@ public:
         auto word = [&](size_t i) { return bytes.number(8 * i, 8); };
         usual = uint32(word(2));
         maxAllocs = uint32(word(3));
-        most = uint32(word(4));
-        all = most + uint32(word(5));
+        most = uint32(word(5));
+        all = most + uint32(word(6));
         bool hasHeaps = false;
         for (uint32 number = 0; number < all && !tape.isFailed(); number++)
-            if (word(8 + number) != word(9 + number)) {
-                size_t state = 8 * (size_t(all) + 10) + size_t(word(8 + number));
-                if (Grants *of = grants(number)) of->begin(*this, bytes, detail::spaceBehindTickets(bytes, state));
+            if (word(9 + number) != word(10 + number)) {
+                size_t state = 8 * (size_t(all) + 11) + size_t(word(9 + number));
+                // who plays it needs the largest limit that a heap of the usual size may grow to
+                uint32 nodes = number < most ? maxAllocs : 0;
+                if (Grants *of = grants(number)) of->begin(*this, bytes, detail::spaceBehindTickets(bytes, state), nodes);
                 hasHeaps = true;
             }
         if (hasHeaps) tape.mark("begun");
@@ -559,8 +561,8 @@ private:
         ~Grants() {
             for (size_t i = 0; i < names.size(); i++) std::free(names[i]);
         }
-        void begin(RecordedHeaps &of, const detail::Bytes &bytes, size_t at) {
-            detail::Tape::begin(bytes, at);
+        void begin(RecordedHeaps &of, const detail::Bytes &bytes, size_t at, uint32 nodes) {
+            detail::Tape::begin(bytes, at, nodes);
             if (isFailed()) of.tape.fail();
         }
         void forget() {

@@ -1,7 +1,7 @@
 /* Many heaps as one: ranges of as many buffers as are needed, each with a heap of its own.
  *
- *     oah_limits limits = {1 << 24, 4096, 64, 16};
- *     oah_heaps *heaps = oah_new(limits, 1);
+ *     oah_limits limits = {1 << 24, 65536, 64, 16};
+ *     oah_heaps *heaps = oah_new_from(limits, 64, 1);
  *     oah_granted mesh = oah_allocate(heaps, 3000);
  *     if (mesh.is_new) ...                  // make the buffer of number mesh.place.heap, or oah_give_up
  *     oah_offset_of(heaps, mesh.place);     // where the range begins in it
@@ -10,8 +10,8 @@
  *
  * Heaps of the usual size have the numbers below most, larger ones those from most on. Nothing is known of the buffers.
  * Every call takes any place: one that is stale, altered, made up, or of other heaps with another realm is refused by the
- * result, and nothing changes. No call takes memory but a request that makes a heap and oah_new, oah_clone, oah_write_state,
- * oah_read_state and oah_json. Any pointer to heaps may be null. Several threads may read at a time; none may read or write while
+ * result, and nothing changes. No call takes memory but a request that makes a heap, or for which one grows (oah_new_from), and
+ * oah_new, oah_new_from, oah_clone, oah_write_state, oah_read_state and oah_json. Any pointer to heaps may be null. Several threads may read at a time; none may read or write while
  * another writes. */
 #ifndef OFFSET_ALLOCATOR_HEAPS_H
 #define OFFSET_ALLOCATOR_HEAPS_H
@@ -25,9 +25,9 @@ extern "C" {
 /* Many heaps. */
 typedef struct oah_heaps oah_heaps;
 
-/* size: the units of a heap of the usual size. max_allocs: its node limit, 4 to 4294967293 (a larger heap has 4). most: how
- * many such heaps there may be at a time. most_larger: how many larger ones, each of the size of the request that it was
- * made for. */
+/* size: the units of a heap of the usual size. max_allocs: its node limit, 4 to 4294967293 (a larger heap has 4), or the
+ * largest that it may grow to (oah_new_from). most: how many such heaps there may be at a time. most_larger: how many larger
+ * ones, each of the size of the request that it was made for. */
 typedef struct oah_limits {
     uint32_t size;
     uint32_t max_allocs;
@@ -49,7 +49,7 @@ typedef enum oah_refusal {
     OAH_EMPTY = 1,     /* It is for no unit. */
     OAH_TOO_LARGE = 2, /* No heap has room, a fresh one would not have it, and there may be no larger ones. */
     OAH_FULL = 3,      /* No heap has room, and no other may be made for it. Free ranges, or drop empty heaps. */
-    OAH_MEMORY = 4,    /* No heap has room. Another one may be made, but its memory was refused. */
+    OAH_MEMORY = 4,    /* Memory was refused: for another heap where none has room, or for more nodes of the one that has. */
     OAH_BAD_CALL = 5   /* The heaps are null, or the alignment is 0. */
 } oah_refusal;
 
@@ -74,6 +74,12 @@ typedef struct oah_all {
 /* No heap, and memory for the numbers of all that may be made, some 1.2 KB each. `realm` is kept in places. Null where a
  * limit is out of range, there may be more than 4294967295 heaps, or memory is out. */
 oah_heaps *oah_new(oah_limits limits, uint32_t realm);
+
+/* As oah_new, where max_allocs is the largest node limit, and a heap of the usual size begins with the limit first_allocs,
+ * max_allocs itself or at least 8 and at most max_allocs: a heap takes memory for the nodes of its limit, and before a grant
+ * that finds fewer than five unused nodes the limit is doubled, up to max_allocs. Which request is granted, and where, is as
+ * with oah_new, but oah_relocate takes no memory: a heap that would have to grow takes no range. */
+oah_heaps *oah_new_from(oah_limits limits, uint32_t first_allocs, uint32_t realm);
 
 /* Frees the memory of all heaps. A null pointer is allowed. */
 void oah_drop(oah_heaps *heaps);

@@ -154,14 +154,21 @@ fn json(heaps: &Heaps) -> Result<memory::String, AllocError> {
     Ok(text)
 }
 
+// Heaps that begin with so many nodes, where the library admits these limits.
+fn from(limits: HeapLimits, first_allocs: u32, realm: u32) -> Option<Box<ManyHeaps>> {
+    let HeapLimits { size, max_allocs, most, most_larger } = limits;
+    let begins = (max_allocs.min(8)..=max_allocs).contains(&first_allocs);
+    if !begins || !(4..=u32::MAX - 2).contains(&max_allocs) || most.checked_add(most_larger).is_none() {
+        return None;
+    }
+    boxed(Heaps::new(Global, Limits { size, max_allocs, first_allocs, most, most_larger }, realm).ok()?)
+}
+
 exports! {
-    fn oah_new(limits: HeapLimits, realm: u32) -> Option<Box<ManyHeaps>> {
-        let HeapLimits { size, max_allocs, most, most_larger } = limits;
-        // the limits that the library admits
-        if !(4..=u32::MAX - 2).contains(&max_allocs) || most.checked_add(most_larger).is_none() {
-            return None;
-        }
-        boxed(Heaps::new(Global, Limits { size, max_allocs, most, most_larger }, realm).ok()?)
+    fn oah_new(limits: HeapLimits, realm: u32) -> Option<Box<ManyHeaps>> { from(limits, limits.max_allocs, realm) } else ();
+
+    fn oah_new_from(limits: HeapLimits, first_allocs: u32, realm: u32) -> Option<Box<ManyHeaps>> {
+        from(limits, first_allocs, realm)
     } else ();
 
     fn oah_drop(heaps: Option<Box<ManyHeaps>>) -> () { drop(heaps) } else ();
@@ -223,7 +230,7 @@ exports! {
     fn oah_units_of_heap([heaps: &ManyHeaps], number: u32) -> u32 { heaps.units_of_heap(number).unwrap_or(0) } else 0;
 
     fn oah_limits_of([heaps: &ManyHeaps],) -> HeapLimits {
-        let Limits { size, max_allocs, most, most_larger } = heaps.limits();
+        let Limits { size, max_allocs, most, most_larger, .. } = heaps.limits();
         HeapLimits { size, max_allocs, most, most_larger }
     } else HeapLimits { size: 0, max_allocs: 0, most: 0, most_larger: 0 };
 

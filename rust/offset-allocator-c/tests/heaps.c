@@ -130,15 +130,15 @@ static void states(void) {
     CHECK(oah_allocate(heaps, 60).is_new && oah_give_up(heaps, 1));
     oa_state *state = oah_write_state(heaps);
     /* one block is live and one is free, and each of 2 nodes was granted or may be: 48 and at most 16, and 32, 16 and 4 */
-    size_t own = oa_state_size(state) - 80 - 3 * 8;
+    size_t own = oa_state_size(state) - 88 - 3 * 8;
     CHECK(own == 48 + 8 * 2 + 32 + 2 * 8 + 4);
-    uint64_t numbers[] = {1397244239, 1, 100, 4, 2, 1, 2, 9, 0, own, own, own}, sum = 0;
-    for (int i = 0; i < 12; i++) {
+    uint64_t numbers[] = {1397244239, 2, 100, 4, 4, 2, 1, 2, 9, 0, own, own, own}, sum = 0;
+    for (int i = 0; i < 13; i++) {
         sum = sum * 1099511628211u + numbers[i];
         for (int j = 0; j < 8; j++) CHECK(oa_state_bytes(state)[8 * i + j] == (uint8_t) (numbers[i] >> 8 * j));
     }
-    for (int j = 0; j < 8; j++) CHECK(oa_state_bytes(state)[96 + j] == (uint8_t) (sum >> 8 * j));
-    CHECK(memcmp(oa_state_bytes(state) + 104, "OATK", 4) == 0);
+    for (int j = 0; j < 8; j++) CHECK(oa_state_bytes(state)[104 + j] == (uint8_t) (sum >> 8 * j));
+    CHECK(memcmp(oa_state_bytes(state) + 112, "OATK", 4) == 0);
     oah_heaps *copy = oah_clone(heaps);
     CHECK(copy && oah_is_live(copy, a) && oah_free(heaps, a) && oah_is_live(copy, a));
     oah_drop(heaps);
@@ -152,7 +152,7 @@ static void states(void) {
     CHECK(oah_free(read.heaps, a) && !oah_free(read.heaps, a));
     oah_drop(read.heaps);
     read = oah_read_state(state, 2, 4);
-    CHECK(!read.heaps && read.found == OA_BAD_LIMIT && read.at == 40);
+    CHECK(!read.heaps && read.found == OA_BAD_LIMIT && read.at == 48);
     read = oah_read_state(state, 3, 3);
     CHECK(!read.heaps && read.found == OA_BAD_LIMIT && read.at == 24);
     for (size_t i = 0; i < oa_state_size(state); i++) {
@@ -163,22 +163,23 @@ static void states(void) {
     }
     /* numbers that are wrong, with the checksum of them */
     static const struct { int place; uint64_t number; oa_found found; size_t at; } wrong[] = {
-        {0, 1397244240, OA_BAD_FORM, 0}, {1, 2, OA_BAD_FORM, 0}, {2, 1ull << 32, OA_BAD_LIMIT, 16},
-        {2, 99, OA_BAD_SIZE, 104}, {3, 5, OA_BAD_SIZE, 104}, {3, 3, OA_BAD_LIMIT, 24}, {4, 1ull << 63, OA_BAD_LIMIT, 32}, {5, 1001, OA_BAD_LIMIT, 40},
-        {6, 1ull << 32, OA_BAD_COUNTS, 48}, {6, 0, OA_BAD_REALM, 104 + 32}, {7, 1ull << 32, OA_BAD_COUNTS, 56},
-        {8, 1, OA_BAD_PLACE, 64}, {9, 1000, OA_BAD_PLACE, 72}, {9, 0, OA_BAD_PLACE, 0}, {11, 0, OA_BAD_PLACE, 88},
+        {0, 1397244240, OA_BAD_FORM, 0}, {1, 1, OA_BAD_FORM, 0}, {2, 1ull << 32, OA_BAD_LIMIT, 16},
+        {2, 99, OA_BAD_SIZE, 112}, {3, 5, OA_BAD_LIMIT, 32}, {3, 3, OA_BAD_LIMIT, 24}, {4, 5, OA_BAD_LIMIT, 32}, {4, 3, OA_BAD_LIMIT, 32},
+        {5, 1ull << 63, OA_BAD_LIMIT, 40}, {6, 1001, OA_BAD_LIMIT, 48},
+        {7, 1ull << 32, OA_BAD_COUNTS, 56}, {7, 0, OA_BAD_REALM, 112 + 32}, {8, 1ull << 32, OA_BAD_COUNTS, 64},
+        {9, 1, OA_BAD_PLACE, 72}, {10, 1000, OA_BAD_PLACE, 80}, {10, 0, OA_BAD_PLACE, 0}, {12, 0, OA_BAD_PLACE, 96},
     };
     for (size_t n = 0; n < sizeof wrong / sizeof *wrong; n++) {
         oa_state *changed = oa_state_new(oa_state_size(state));
         memcpy(oa_state_bytes(changed), oa_state_bytes(state), oa_state_size(state));
         sum = 0;
-        for (int i = 0; i < 13; i++) {
-            uint64_t number = i == 12 ? sum : i == wrong[n].place ? wrong[n].number : numbers[i];
+        for (int i = 0; i < 14; i++) {
+            uint64_t number = i == 13 ? sum : i == wrong[n].place ? wrong[n].number : numbers[i];
             sum = sum * 1099511628211u + number;
             for (int j = 0; j < 8; j++) oa_state_bytes(changed)[8 * i + j] = (uint8_t) (number >> 8 * j);
         }
         read = oah_read_state(changed, 1000, 1000);
-        if (wrong[n].place == 9 && wrong[n].number == 0) {
+        if (wrong[n].place == 10 && wrong[n].number == 0) {
             /* the bytes are those of heap 1 then */
             CHECK(read.found == OA_SPACE_READ && !oah_has(read.heaps, 0) && oah_has(read.heaps, 1) && !oah_is_live(read.heaps, a));
             oah_drop(read.heaps);
@@ -229,6 +230,35 @@ static void in_place(void) {
     oah_limits same = oah_limits_of(heaps);
     CHECK(same.size == 100 && same.max_allocs == 8 && same.most == 2 && same.most_larger == 2);
     oah_drop(heaps);
+}
+
+/* A heap begins with 8 nodes, which are doubled before a grant that finds fewer than five unused, up to 40; a larger heap has 4. */
+static void heaps_grow(void) {
+    oah_limits limits = {200, 40, 2, 1};
+    oah_heaps *heaps = oah_new_from(limits, 8, 9), *whole = oah_new_from(limits, 40, 9), *plain = oah_new(limits, 9);
+    CHECK(heaps && whole && plain);
+    CHECK(!oah_new_from(limits, 7, 9) && !oah_new_from(limits, 41, 9) && !oah_new_from((oah_limits){200, 7, 2, 1}, 6, 9));
+    uint32_t limit = 8, grown = 0;
+    for (uint32_t live = 1; live <= 38; live++) {
+        oah_granted one = oah_allocate(heaps, 1), same = oah_allocate(plain, 1);
+        CHECK(one.refusal == OAH_GRANTED && one.place.heap == 0 && one.is_new == (live == 1));
+        CHECK(!memcmp(&one.place, &same.place, sizeof one.place));
+        oa_totals found = oah_statistics(heaps, 0);
+        uint32_t now = found.live_ranges + found.free_blocks + found.unused_nodes;
+        if (now != limit) {
+            /* with one live range less and the free block at the end four nodes were unused */
+            CHECK(now == (limit == 32 ? 40 : 2 * limit) && live == limit - 4);
+            limit = now;
+            grown++;
+        }
+    }
+    CHECK(limit == 40 && grown == 3);
+    oah_granted next = oah_allocate(heaps, 1), large = oah_allocate(heaps, 201);
+    CHECK(next.is_new && next.place.heap == 1 && large.is_new && large.place.heap == 2);
+    CHECK(oah_statistics(heaps, 1).unused_nodes == 6 && oah_statistics(heaps, 2).unused_nodes == 3);
+    oah_drop(heaps);
+    oah_drop(whole);
+    oah_drop(plain);
 }
 
 static bool is_text(oa_text *text, const char *wanted) {
@@ -284,6 +314,7 @@ int main(void) {
     states();
     nulls();
     in_place();
+    heaps_grow();
     dumps();
     printf("C: %d checks of heaps pass\n", checks);
     return 0;

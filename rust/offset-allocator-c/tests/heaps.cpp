@@ -61,8 +61,12 @@ int main() {
     Heaps::Loaded loaded = Heaps::load(bytes.data(), bytes.size(), 6, 64);
     CHECK(loaded.found == OA_SPACE_READ && loaded.heaps.sizeOf(kept.place) == 7 && loaded.heaps.totals().heaps == 1);
     Heaps::Loaded lost = Heaps::load(bytes.data(), bytes.size() - 1, 6, 64);
-    CHECK(!lost.heaps && lost.found == OA_BAD_PLACE && lost.at == 64 + 8 * 6);
+    CHECK(!lost.heaps && lost.found == OA_BAD_PLACE && lost.at == 72 + 8 * 6);
     CHECK(Heaps::load(bytes.data(), bytes.size(), 5, 64).found == OA_BAD_LIMIT && !Heaps::load(nullptr, 0, 6, 64).heaps);
+    // heaps that begin with few nodes
+    Heaps few = Heaps::from({1024, 64, 4, 2}, 8);
+    for (int i = 0; i < 62; i++) CHECK(few.allocate(1).place.heap == 0);
+    CHECK(few.statistics(0).unusedNodes == 1 && few.allocate(1).isNew && !Heaps::from({1024, 64, 4, 2}, 7));
     // a page at an alignment fits a page
     Heaps pages({1024, 8, 1, 0});
     Granted page = pages.allocateAligned(1024, 256);

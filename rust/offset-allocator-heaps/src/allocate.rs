@@ -9,6 +9,7 @@ use crate::{HeapsOf, fresh};
 use offset_allocator::Tables;
 use offset_allocator::small_float::{uint_to_float_round_down, uint_to_float_round_up};
 use offset_guarded::{GuardedOf, Ticket};
+use crate::memory::AllocError;
 
 // A number, where it is below a limit.
 pub(crate) fn below(found: Option<u32>, limit: u32) -> Option<u32> {
@@ -50,7 +51,13 @@ impl<T: Tables> HeapsOf<T> {
         self.index.spare.first_at_least(2, &mut self.accesses)
     }
 
-    // Grants a request in the heap of a number, which has room for it.
+    // Doubles the node limit of the heap of a number, where it has to grow before a grant.
+    fn grow(&mut self, number: u32) -> Result<(), AllocError> {
+        self.slots
+            .grow(self.alloc, number, self.limits, &mut self.accesses)
+    }
+
+    // Grants a request in the heap of a number, which has room for it and need not grow.
     pub(crate) fn grant_at(&mut self, number: u32, size: u32, align: u32) -> Granted {
         let ticket = self.slots.grant(number, size, align, &mut self.accesses);
         self.index
@@ -62,6 +69,14 @@ impl<T: Tables> HeapsOf<T> {
                 ticket,
             },
             is_new: false,
+        }
+    }
+
+    // Grants a request in the first heap that has room for it, which grows where it has to.
+    fn grant_first(&mut self, number: u32, size: u32, align: u32) -> Result<Granted, Refusal> {
+        match self.grow(number) {
+            Err(_) => Err(Refusal::Memory),
+            Ok(_) => Ok(self.grant_at(number, size, align)),
         }
     }
 
@@ -127,7 +142,7 @@ impl<T: Tables> HeapsOf<T> {
         }
         let units = size as u64 + align as u64 - 1;
         match self.first_fit(units, align) {
-            Some(number) => Ok(self.grant_at(number, size, align)),
+            Some(number) => self.grant_first(number, size, align),
             None => self.grant_new(size, align),
         }
     }
@@ -140,7 +155,7 @@ impl<T: Tables> HeapsOf<T> {
     /// ```
     /// # use offset_allocator_heaps::*;
     /// # let alloc = Global;
-    /// let limits = Limits { size: 1000, max_allocs: 100, most: 2, most_larger: 1 };
+    /// let limits = Limits { size: 1000, max_allocs: 100, first_allocs: 8, most: 2, most_larger: 1 };
     /// let mut heaps = Heaps::<u32>::new(alloc, limits, 1)?;
     /// let mesh = heaps.allocate(300).unwrap();
     /// assert!(mesh.is_new);
@@ -160,7 +175,11 @@ impl<T: Tables> HeapsOf<T> {
     /// If a fresh heap of the usual size has that, it is such a heap, with the first number below `most` that
     /// no heap has; else a larger heap of exactly `size` units, all of which are granted, with the first
     /// number from `most` on that no heap has, and with the node limit 4: it never has more than two live
-    /// ranges. Only then memory is requested.
+    /// ranges. A heap of the usual size begins with the node limit `first_allocs`. One that has room, but fewer
+    /// than five unused nodes, and a node limit below `max_allocs`, first has its limit doubled, as
+    /// `GuardedOf::raised` does it, to `max_allocs` at most: so a heap has room exactly where it would have room
+    /// under `max_allocs`: see `laws::room_is_that_of_the_largest_limit`. Only for a new heap and for more nodes
+    /// memory is requested.
     ///
     /// Where the request is refused, all is as it was, and the `Refusal` says why.
     ///
@@ -171,7 +190,7 @@ impl<T: Tables> HeapsOf<T> {
     /// ```
     /// # use offset_allocator_heaps::*;
     /// # let alloc = Global;
-    /// let limits = Limits { size: 1000, max_allocs: 100, most: 2, most_larger: 1 };
+    /// let limits = Limits { size: 1000, max_allocs: 100, first_allocs: 8, most: 2, most_larger: 1 };
     /// let mut heaps = Heaps::<u32>::new(alloc, limits, 1)?;
     /// heaps.allocate(10).unwrap();
     /// let uniforms = heaps.allocate_aligned(300, 256).unwrap().place;

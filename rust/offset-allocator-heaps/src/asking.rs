@@ -63,7 +63,7 @@ impl<T: Tables> HeapsOf<T> {
     /// ```
     /// # use offset_allocator_heaps::*;
     /// # let alloc = Global;
-    /// let limits = Limits { size: 1000, max_allocs: 100, most: 2, most_larger: 1 };
+    /// let limits = Limits { size: 1000, max_allocs: 100, first_allocs: 8, most: 2, most_larger: 1 };
     /// let mut heaps = Heaps::<u32>::new(alloc, limits, 1)?;
     /// assert_eq!(heaps.refusal(300), None);
     /// assert_eq!(heaps.refusal(0), Some(Refusal::Empty));
@@ -86,7 +86,7 @@ impl<T: Tables> HeapsOf<T> {
     /// ```
     /// # use offset_allocator_heaps::*;
     /// # let alloc = Global;
-    /// let limits = Limits { size: 1000, max_allocs: 100, most: 2, most_larger: 1 };
+    /// let limits = Limits { size: 1000, max_allocs: 100, first_allocs: 8, most: 2, most_larger: 1 };
     /// let mut heaps = Heaps::<u32>::new(alloc, limits, 1)?;
     /// assert_eq!(heaps.refusal_aligned(900, 256), None);
     /// # Ok::<(), AllocError>(())

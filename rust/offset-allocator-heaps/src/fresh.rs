@@ -18,7 +18,12 @@ pub(crate) fn usual<T: Tables>(
     realm: u32,
     size: u32,
 ) -> Result<(Option<GuardedOf<T>>, Ticket), AllocError> {
-    let mut slot = Some(GuardedOf::with_max_allocs(alloc, limits.size, limits.max_allocs, realm)?);
+    let mut slot = Some(GuardedOf::with_max_allocs(
+        alloc,
+        limits.size,
+        limits.first_allocs,
+        realm,
+    )?);
     let ticket = slots::grant_in(&mut slot, size, 1);
     Ok((slot, ticket))
 }

@@ -11,7 +11,7 @@
 //! ```
 //! use offset_allocator_heaps::*;
 //! let alloc = Global;
-//! let limits = Limits { size: 1 << 24, max_allocs: 4096, most: 64, most_larger: 16 };
+//! let limits = Limits { size: 1 << 24, max_allocs: 65536, first_allocs: 64, most: 64, most_larger: 16 };
 //! let mut heaps = Heaps::<u32>::new(alloc, limits, 1)?;
 //! if let Ok(granted) = heaps.allocate(3000) {
 //!     // granted.is_new: make the buffer of number granted.place.heap
@@ -119,12 +119,13 @@ impl<T: Tables> HeapsOf<T> {
     /// # Panics
     ///
     /// It panics unless `max_allocs` is at least 4, and `max_allocs` is at most `NI::MAX - 2`, and
-    /// there are at most 4294967295 heaps.
+    /// first_allocs is at least 8, or `max_allocs`, and first_allocs is at most `max_allocs`, and there
+    /// are at most 4294967295 heaps.
     ///
     /// ```
     /// # use offset_allocator_heaps::*;
     /// # let alloc = Global;
-    /// let limits = Limits { size: 1 << 24, max_allocs: 4096, most: 64, most_larger: 16 };
+    /// let limits = Limits { size: 1 << 24, max_allocs: 65536, first_allocs: 64, most: 64, most_larger: 16 };
     /// let heaps = Heaps::<u32>::new(alloc, limits, 1)?;
     /// assert_eq!(heaps.totals().heaps, 0);
     /// # Ok::<(), AllocError>(())
@@ -133,6 +134,8 @@ impl<T: Tables> HeapsOf<T> {
     pub fn new(alloc: Global, limits: Limits, realm: u32) -> Result<Self, AllocError> {
         assert!(4 <= limits.max_allocs, "max_allocs must be at least 4");
         assert!(limits.max_allocs < <T::Index as offset_allocator::NodeIndex>::MAX - 1, "max_allocs must be at most NI::MAX - 2");
+        assert!(limits.max_allocs.min(8) <= limits.first_allocs, "first_allocs must be at least 8, or max_allocs");
+        assert!(limits.first_allocs <= limits.max_allocs, "first_allocs must be at most max_allocs");
         assert!(limits.most.checked_add(limits.most_larger).is_some(), "there may be at most 4294967295 heaps");
         let count = limits.most + limits.most_larger;
         let slots = Slots::with_room(alloc, count)?;
@@ -157,7 +160,7 @@ impl<T: Tables> HeapsOf<T> {
     /// ```
     /// # use offset_allocator_heaps::*;
     /// # let alloc = Global;
-    /// let limits = Limits { size: 1000, max_allocs: 100, most: 2, most_larger: 1 };
+    /// let limits = Limits { size: 1000, max_allocs: 100, first_allocs: 8, most: 2, most_larger: 1 };
     /// let mut heaps = Heaps::<u32>::new(alloc, limits, 1)?;
     /// assert_eq!(heaps.limits().most, 2);
     /// # Ok::<(), AllocError>(())
@@ -171,7 +174,7 @@ impl<T: Tables> HeapsOf<T> {
     /// ```
     /// # use offset_allocator_heaps::*;
     /// # let alloc = Global;
-    /// let limits = Limits { size: 1000, max_allocs: 100, most: 2, most_larger: 1 };
+    /// let limits = Limits { size: 1000, max_allocs: 100, first_allocs: 8, most: 2, most_larger: 1 };
     /// let mut heaps = Heaps::<u32>::new(alloc, limits, 1)?;
     /// assert_eq!(heaps.realm(), 1);
     /// # Ok::<(), AllocError>(())
@@ -186,7 +189,7 @@ impl<T: Tables> HeapsOf<T> {
     /// ```
     /// # use offset_allocator_heaps::*;
     /// # let alloc = Global;
-    /// let limits = Limits { size: 1000, max_allocs: 100, most: 2, most_larger: 1 };
+    /// let limits = Limits { size: 1000, max_allocs: 100, first_allocs: 8, most: 2, most_larger: 1 };
     /// let mut heaps = Heaps::<u32>::new(alloc, limits, 1)?;
     /// let mesh = heaps.allocate(300).unwrap().place;
     /// assert_eq!(heaps.heap(mesh.heap).unwrap().allocator().live_units(), 300);
@@ -211,7 +214,7 @@ impl<T: Tables> HeapsOf<T> {
     /// ```
     /// # use offset_allocator_heaps::*;
     /// # let alloc = Global;
-    /// let limits = Limits { size: 1000, max_allocs: 100, most: 2, most_larger: 1 };
+    /// let limits = Limits { size: 1000, max_allocs: 100, first_allocs: 8, most: 2, most_larger: 1 };
     /// let mut heaps = Heaps::<u32>::new(alloc, limits, 1)?;
     /// let mesh = heaps.allocate(300).unwrap().place;
     /// heaps.free(mesh);
@@ -230,7 +233,7 @@ impl<T: Tables> HeapsOf<T> {
     /// ```
     /// # use offset_allocator_heaps::*;
     /// # let alloc = Global;
-    /// let limits = Limits { size: 1000, max_allocs: 100, most: 2, most_larger: 1 };
+    /// let limits = Limits { size: 1000, max_allocs: 100, first_allocs: 8, most: 2, most_larger: 1 };
     /// let mut heaps = Heaps::<u32>::new(alloc, limits, 1)?;
     /// let mesh = heaps.allocate(300).unwrap().place;
     /// assert_eq!(heaps.size_of(mesh), Some(300));
@@ -249,7 +252,7 @@ impl<T: Tables> HeapsOf<T> {
     /// ```
     /// # use offset_allocator_heaps::*;
     /// # let alloc = Global;
-    /// let limits = Limits { size: 1000, max_allocs: 100, most: 2, most_larger: 1 };
+    /// let limits = Limits { size: 1000, max_allocs: 100, first_allocs: 8, most: 2, most_larger: 1 };
     /// let mut heaps = Heaps::<u32>::new(alloc, limits, 1)?;
     /// let mesh = heaps.allocate(300).unwrap().place;
     /// assert_eq!(heaps.offset_of(mesh), Some(0));
@@ -269,7 +272,7 @@ impl<T: Tables> HeapsOf<T> {
     /// ```
     /// # use offset_allocator_heaps::*;
     /// # let alloc = Global;
-    /// let limits = Limits { size: 1000, max_allocs: 100, most: 2, most_larger: 1 };
+    /// let limits = Limits { size: 1000, max_allocs: 100, first_allocs: 8, most: 2, most_larger: 1 };
     /// let mut heaps = Heaps::<u32>::new(alloc, limits, 1)?;
     /// let mesh = heaps.allocate(300).unwrap().place;
     /// assert!(heaps.free(mesh));
@@ -297,7 +300,7 @@ impl<T: Tables> HeapsOf<T> {
     /// ```
     /// # use offset_allocator_heaps::*;
     /// # let alloc = Global;
-    /// let limits = Limits { size: 1000, max_allocs: 100, most: 2, most_larger: 1 };
+    /// let limits = Limits { size: 1000, max_allocs: 100, first_allocs: 8, most: 2, most_larger: 1 };
     /// let mut heaps = Heaps::<u32>::new(alloc, limits, 1)?;
     /// let mesh = heaps.allocate(300).unwrap().place;
     /// heaps.reset();

@@ -16,7 +16,9 @@ pub enum Refusal {
     /// kind has a heap, or all 4294967295 realms are given. Its kind is the usual one where a fresh heap of
     /// the usual size would have room, and else a larger one. Free ranges, or drop empty heaps of that kind.
     Full,
-    /// No heap has room. Another one may be made, but its memory was refused.
+    /// Memory was refused: where no heap has room, that for another one, which may be made; where one has room,
+    /// that for more nodes of the first such, which has fewer than five unused nodes and a node limit below
+    /// `max_allocs`.
     Memory,
 }
 
@@ -26,7 +28,7 @@ impl fmt::Display for Refusal {
             Refusal::Empty => "the request is for no unit",
             Refusal::TooLarge => "the request is larger than any heap may be",
             Refusal::Full => "no heap has room, and no other may be made",
-            Refusal::Memory => "no memory is left for another heap",
+            Refusal::Memory => "no memory is left for another heap or for more nodes",
         };
         write!(f, "{words}")
     }

@@ -19,9 +19,18 @@ impl<T: Tables> HeapsOf<T> {
     // The first heap that takes a range of the heap `own`, which has `live` live units.
     fn taker(&mut self, own: u32, units: u64, align: u32, live: u32) -> Option<u32> {
         let from = self.first_fit(units, align)?;
-        let numbers = self.limits.most + self.limits.most_larger;
-        self.slots
-            .taker(from, numbers, own, units, align, live, &mut self.accesses)
+        let limits = self.limits;
+        let numbers = limits.most + limits.most_larger;
+        self.slots.taker(
+            from,
+            numbers,
+            limits,
+            own,
+            units,
+            align,
+            live,
+            &mut self.accesses,
+        )
     }
 
     /// Grants a second range of as many units as that of a live place, in another heap, and returns its
@@ -34,7 +43,7 @@ impl<T: Tables> HeapsOf<T> {
     /// release of its old range before the next one, come to an end, since the sum of the squares of the
     /// heaps' live units grows at each: see `laws::relocations_end`. With later releases a range may go to
     /// and fro: make one pass, free what it left, then begin the next. No heap is made, and no memory is
-    /// taken. The range is what `GuardedOf::allocate` grants there: for one at an alignment see
+    /// taken: a heap that would have to grow for it, as `Limits::first_allocs` says, takes no range. The range is what `GuardedOf::allocate` grants there: for one at an alignment see
     /// `relocate_aligned`.
     ///
     /// `None` is returned where no heap takes the range, and where the place is not live; then nothing
@@ -44,7 +53,7 @@ impl<T: Tables> HeapsOf<T> {
     /// ```
     /// # use offset_allocator_heaps::*;
     /// # let alloc = Global;
-    /// let limits = Limits { size: 1000, max_allocs: 100, most: 2, most_larger: 1 };
+    /// let limits = Limits { size: 1000, max_allocs: 100, first_allocs: 8, most: 2, most_larger: 1 };
     /// let mut heaps = Heaps::<u32>::new(alloc, limits, 1)?;
     /// heaps.allocate(500).unwrap();
     /// let old = heaps.allocate(400).unwrap().place;
@@ -69,7 +78,7 @@ impl<T: Tables> HeapsOf<T> {
     /// ```
     /// # use offset_allocator_heaps::*;
     /// # let alloc = Global;
-    /// let limits = Limits { size: 1000, max_allocs: 100, most: 2, most_larger: 1 };
+    /// let limits = Limits { size: 1000, max_allocs: 100, first_allocs: 8, most: 2, most_larger: 1 };
     /// let mut heaps = Heaps::<u32>::new(alloc, limits, 1)?;
     /// heaps.allocate(500).unwrap();
     /// let old = heaps.allocate(400).unwrap().place;
@@ -103,7 +112,7 @@ impl<T: Tables> HeapsOf<T> {
     /// ```
     /// # use offset_allocator_heaps::*;
     /// # let alloc = Global;
-    /// let limits = Limits { size: 1000, max_allocs: 100, most: 2, most_larger: 1 };
+    /// let limits = Limits { size: 1000, max_allocs: 100, first_allocs: 8, most: 2, most_larger: 1 };
     /// let mut heaps = Heaps::<u32>::new(alloc, limits, 1)?;
     /// assert_eq!(heaps.emptiest(), None);
     /// let mesh = heaps.allocate(300).unwrap().place;

@@ -4,7 +4,9 @@
 //! touches.
 
 use crate::index::{is_empty_heap, rooms};
+use crate::limits::Limits;
 use crate::resize::Resize;
+use offset_allocator::laws::unused_nodes;
 use offset_allocator::{Accesses, Move, RoomCost, Tables};
 use offset_guarded::{GuardedOf, Ticket};
 use crate::memory::Vec;
@@ -19,6 +21,35 @@ pub(crate) struct Slots<T: Tables> {
 fn room_at<T: Tables>(heap: &GuardedOf<T>, align: u32) -> u32 {
     let (one, two) = rooms(Some(heap));
     if align == 1 { one } else { two }
+}
+
+// Whether the heap of a number has to grow before a grant: a grant adds two blocks at most, so after it at least
+// three nodes are unused, or the limit is the largest one. A report is then that of the largest limit.
+fn must_grow<T: Tables>(heap: &GuardedOf<T>, number: u32, limits: Limits) -> bool {
+    let space = heap.allocator();
+    number < limits.most && space.max_allocs() < limits.max_allocs && unused_nodes(space) < 5
+}
+
+// Doubles the node limit of the heap of a number, where it has to grow.
+fn grow_in<T: Tables>(
+    alloc: Global,
+    slot: &mut Option<GuardedOf<T>>,
+    number: u32,
+    limits: Limits,
+) -> Result<(), AllocError> {
+    if let Some(heap) = slot {
+        if must_grow(heap, number, limits) {
+            let limit = heap.allocator().max_allocs();
+            let most = limits.max_allocs;
+            let twice = if most - limit < limit {
+                most
+            } else {
+                2 * limit
+            };
+            *heap = heap.raised(alloc, twice)?;
+        }
+    }
+    Ok(())
 }
 
 /// Grants a request in a heap that has room for it.
@@ -144,6 +175,18 @@ impl<T: Tables> Slots<T> {
         self.heaps[number as usize] = heap;
     }
 
+    /// Doubles the node limit of the heap of a number, where it has to grow before a grant.
+    pub(crate) fn grow(
+        &mut self,
+        alloc: Global,
+        number: u32,
+        limits: Limits,
+        count: &mut Accesses,
+    ) -> Result<(), AllocError> {
+        count.tick();
+        grow_in(alloc, &mut self.heaps[number as usize], number, limits)
+    }
+
     /// Grants a request in the heap of a number, which has room for it.
     pub(crate) fn grant(
         &mut self,
@@ -240,6 +283,7 @@ impl<T: Tables> Slots<T> {
     fn takes(
         &self,
         number: u32,
+        limits: Limits,
         own: u32,
         units: u64,
         align: u32,
@@ -250,7 +294,10 @@ impl<T: Tables> Slots<T> {
             None => false,
             Some(heap) => {
                 let room = room_at(heap, align) as u64;
-                number != own && room >= units && heap.allocator().live_units() >= live
+                number != own
+                    && room >= units
+                    && heap.allocator().live_units() >= live
+                    && !must_grow(heap, number, limits)
             }
         }
     }
@@ -260,6 +307,7 @@ impl<T: Tables> Slots<T> {
         &self,
         from: u32,
         numbers: u32,
+        limits: Limits,
         own: u32,
         units: u64,
         align: u32,
@@ -267,7 +315,7 @@ impl<T: Tables> Slots<T> {
         count: &mut Accesses,
     ) -> Option<u32> {
         for number in from..numbers {
-            if self.takes(number, own, units, align, live, count) {
+            if self.takes(number, limits, own, units, align, live, count) {
                 return Some(number);
             }
         }

@@ -46,10 +46,11 @@ fn key(p: Place) -> Key {
     (p.heap, p.realm, p.ticket.name, p.ticket.serial, p.ticket.realm)
 }
 
-// A heap: its units, and its live ranges by offset. Those of one offset, all but one of no units, do not occur: no
-// request is for 0 units.
+// A heap: its units, its node limit, and its live ranges by offset. Those of one offset, all but one of no units, do not
+// occur: no request is for 0 units.
 struct Heap {
     units: u32,
+    limit: u32,
     ranges: BTreeMap<u32, u32>,
 }
 
@@ -62,7 +63,7 @@ struct Run<T: Tables> {
     // the last places that were given
     given: Vec<Place>,
     made: u32,
-    counts: [u64; 10],
+    counts: [u64; 11],
     numbers: Numbers,
 }
 
@@ -78,17 +79,28 @@ impl<T: Tables> Run<T> {
             places: HashMap::new(),
             given: vec![nowhere; 64],
             made: 0,
-            counts: [0; 10],
+            counts: [0; 11],
             numbers: Numbers(state),
         }
     }
 
-    // What a heap's own report says of a request.
+    // The largest node limit of the heap of a number.
+    fn most_nodes(&self, number: usize) -> u32 {
+        if number < self.limits.most as usize { self.limits.max_allocs } else { 4 }
+    }
+
+    // What a heap's own report says of a request: its node limit does not count, but the largest that it may have.
     fn fits(&self, number: usize, units: u64, align: u32) -> bool {
         let Some(heap) = self.heaps.heap(number as u32) else { return false };
         let space = heap.allocator();
         let blocks = align.min(2);
-        space.block_count() + blocks < space.max_allocs() && units <= space.storage_report().largest_free_region as u64
+        space.block_count() + blocks < self.most_nodes(number) && units <= space.storage_report().largest_free_region as u64
+    }
+
+    // Whether a heap has fewer than five unused nodes, and may have more.
+    fn must_grow(&self, number: usize) -> bool {
+        let (Some(heap), Some(known)) = (self.heaps.heap(number as u32), &self.model[number]) else { return false };
+        known.limit < self.most_nodes(number) && heap.allocator().block_count() + 5 > known.limit
     }
 
     fn expected(&self, size: u32, align: u32) -> Result<(usize, bool), Refusal> {
@@ -112,6 +124,7 @@ impl<T: Tables> Run<T> {
 
     fn allocate(&mut self, size: u32, align: u32) {
         let expected = self.expected(size, align);
+        let grows = expected.is_ok_and(|(number, is_new)| !is_new && self.must_grow(number));
         let result = if align == 1 { self.heaps.allocate(size) } else { self.heaps.allocate_aligned(size, align) };
         match (expected, result) {
             (Err(why), Err(said)) => {
@@ -125,9 +138,16 @@ impl<T: Tables> Run<T> {
                     self.made += 1;
                     let usual = number < self.limits.most as usize;
                     let units = if usual { self.limits.size } else { size };
-                    self.model[number] = Some(Heap { units, ranges: BTreeMap::new() });
+                    let limit = if usual { self.limits.first_allocs } else { 4 };
+                    self.model[number] = Some(Heap { units, limit, ranges: BTreeMap::new() });
                     assert_eq!(place.ticket.realm, self.made);
                     self.counts[1 + !usual as usize] += 1;
+                }
+                if grows {
+                    let most = self.most_nodes(number);
+                    let heap = self.model[number].as_mut().unwrap();
+                    heap.limit = most.min(2 * heap.limit);
+                    self.counts[10] += 1;
                 }
                 self.grant(place, size, align);
                 self.counts[3] += 1;
@@ -139,6 +159,7 @@ impl<T: Tables> Run<T> {
     // A range that was granted in a heap that is there.
     fn grant(&mut self, place: Place, size: u32, align: u32) {
         let heap = self.model[place.heap as usize].as_mut().unwrap();
+        assert_eq!(self.heaps.heap(place.heap).unwrap().allocator().max_allocs(), heap.limit);
         let offset = place.ticket.offset;
         assert!(offset as u64 + size as u64 <= heap.units as u64);
         assert_eq!(offset % align, 0);
@@ -159,11 +180,11 @@ impl<T: Tables> Run<T> {
         self.model[number].iter().flat_map(|h| h.ranges.values()).map(|&n| n as u64).sum()
     }
 
-    // The first other heap that has room, and at least as many live units.
+    // The first other heap that has room and need not grow for it, and has at least as many live units.
     fn relocate(&mut self, place: Place, align: u32) -> Option<Place> {
         let live = self.live.get(&key(place)).copied();
         let own = place.heap as usize;
-        let takes = |n: usize, size: u32| n != own && self.fits(n, size as u64 + align as u64 - 1, align) && self.live_units(n) >= self.live_units(own);
+        let takes = |n: usize, size: u32| n != own && !self.must_grow(n) && self.fits(n, size as u64 + align as u64 - 1, align) && self.live_units(n) >= self.live_units(own);
         let expected = live.and_then(|(_, size)| (0..self.model.len()).find(|&n| takes(n, size)));
         let second = if align == 1 { self.heaps.relocate(place) } else { self.heaps.relocate_aligned(place, align) };
         assert_eq!(second.map(|p| p.heap as usize), expected);
@@ -365,15 +386,20 @@ impl<T: Tables> Run<T> {
 }
 
 fn runs<T: Tables>(calls: u64) {
-    let limits = |size, max_allocs, most, most_larger| Limits { size, max_allocs, most, most_larger };
-    // few nodes, so that heaps are full with one and with two blocks left; many heaps; no larger ones; none at all
-    for (limits, state) in [(limits(1_000, 8, 5, 3), 1), (limits(64, 4, 37, 11), 2), (limits(4_096, 60, 3, 0), 3), (limits(500, 20, 0, 4), 4)] {
+    let limits = |size, max_allocs, most, most_larger| Limits { size, max_allocs, first_allocs: max_allocs, most, most_larger };
+    let few = |limits, first_allocs| Limits { first_allocs, ..limits };
+    // few nodes, so that heaps are full with one and with two blocks left; many heaps; no larger ones; none at all; heaps that
+    // grow, at last to a limit that is no double
+    let all = [limits(1_000, 8, 5, 3), limits(64, 4, 37, 11), limits(4_096, 60, 3, 0), limits(500, 20, 0, 4)];
+    let growing = [few(limits(1_000, 100, 4, 2), 8), few(limits(600, 21, 5, 1), 9)];
+    for (limits, state) in all.into_iter().chain(growing).zip(1..) {
         let mut run = Run::<T>::new(limits, 0x9E37_79B9_7F4A_7C15 + state);
-        run.run(calls / 4);
-        println!("{limits:?}: {:?} refused, new, larger, granted, freed, dropped, given up, reset, relocated, emptied", run.counts);
+        run.run(calls / 6);
+        println!("{limits:?}: {:?} refused, new, larger, granted, freed, dropped, given up, reset, relocated, emptied, grown", run.counts);
         assert!(run.counts[0] > 0 && run.counts[3] > 0 && run.counts[4] > 0 && run.counts[6] > 0 && run.counts[7] > 0);
         assert!(run.counts[5] > 0, "an empty heap is dropped");
         assert!(run.counts[8] > 0 && run.counts[9] > 0, "a heap is emptied into others");
+        assert_eq!(run.counts[10] > 0, limits.first_allocs < limits.max_allocs);
         assert_eq!(run.counts[1] > 0, limits.most > 0);
         assert_eq!(run.counts[2] > 0, limits.most_larger > 0);
     }
@@ -396,7 +422,7 @@ fn two_million_random_calls() {
 // No heap may be made.
 #[test]
 fn no_heap() {
-    let limits = Limits { size: 100, max_allocs: 4, most: 0, most_larger: 0 };
+    let limits = Limits { size: 100, max_allocs: 4, first_allocs: 4, most: 0, most_larger: 0 };
     let mut heaps = Heaps::<u32>::new(Global, limits, 0).unwrap();
     assert_eq!(heaps.allocate(1), Err(Refusal::Full));
     assert_eq!(heaps.allocate(101), Err(Refusal::TooLarge));
@@ -410,7 +436,7 @@ fn no_heap() {
 // A larger heap is exactly as large as its request, and all of it is granted.
 #[test]
 fn larger_heaps() {
-    let limits = Limits { size: 1_000, max_allocs: 4, most: 1, most_larger: 2 };
+    let limits = Limits { size: 1_000, max_allocs: 4, first_allocs: 4, most: 1, most_larger: 2 };
     let mut heaps = Heaps::<u32>::new(Global, limits, 3).unwrap();
     // 960 is the largest size of a class below 1,000
     let page = heaps.allocate(960).unwrap();
@@ -435,7 +461,7 @@ fn larger_heaps() {
 // 2 u (b - a) + 2 u u at each, where u units go from a heap of a live units to one of b.
 #[test]
 fn a_range_comes_back() {
-    let limits = Limits { size: 16, max_allocs: 8, most: 3, most_larger: 0 };
+    let limits = Limits { size: 16, max_allocs: 8, first_allocs: 8, most: 3, most_larger: 0 };
     let mut heaps = Heaps::<u32>::new(Global, limits, 3).unwrap();
     let [r, a, gone, b, also, c] = [1, 4, 11, 5, 11, 10].map(|size| heaps.allocate(size).unwrap().place);
     assert_eq!([r, a, gone, b, also, c].map(|place| place.heap), [0, 0, 0, 1, 1, 2]);
@@ -458,7 +484,7 @@ fn a_range_comes_back() {
 // The first range of a heap begins at 0, a multiple of every alignment: a page at an alignment fits a page.
 #[test]
 fn aligned_pages() {
-    let limits = Limits { size: 1_024, max_allocs: 4, most: 2, most_larger: 0 };
+    let limits = Limits { size: 1_024, max_allocs: 4, first_allocs: 4, most: 2, most_larger: 0 };
     let mut heaps = Heaps::<u32>::new(Global, limits, 3).unwrap();
     let first = heaps.allocate_aligned(1_024, 256).unwrap();
     assert_eq!((first.place.heap, first.is_new, first.place.ticket.offset), (0, true, 0));
@@ -471,11 +497,23 @@ fn aligned_pages() {
 #[test]
 #[should_panic(expected = "max_allocs must be at least 4")]
 fn too_few_nodes() {
-    let _ = Heaps::<u32>::new(Global, Limits { size: 1, max_allocs: 3, most: 1, most_larger: 0 }, 0);
+    let _ = Heaps::<u32>::new(Global, Limits { size: 1, max_allocs: 3, first_allocs: 3, most: 1, most_larger: 0 }, 0);
+}
+
+#[test]
+#[should_panic(expected = "first_allocs must be at least 8, or max_allocs")]
+fn too_few_first_nodes() {
+    let _ = Heaps::<u32>::new(Global, Limits { size: 1, max_allocs: 100, first_allocs: 7, most: 1, most_larger: 0 }, 0);
+}
+
+#[test]
+#[should_panic(expected = "first_allocs must be at most max_allocs")]
+fn too_many_first_nodes() {
+    let _ = Heaps::<u32>::new(Global, Limits { size: 1, max_allocs: 9, first_allocs: 10, most: 1, most_larger: 0 }, 0);
 }
 
 #[test]
 #[should_panic(expected = "there may be at most 4294967295 heaps")]
 fn too_many_heaps() {
-    let _ = Heaps::<u32>::new(Global, Limits { size: 1, max_allocs: 4, most: u32::MAX, most_larger: 1 }, 0);
+    let _ = Heaps::<u32>::new(Global, Limits { size: 1, max_allocs: 4, first_allocs: 4, most: u32::MAX, most_larger: 1 }, 0);
 }

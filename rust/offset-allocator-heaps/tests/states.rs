@@ -28,8 +28,8 @@ fn count() -> u64 {
 // The numbers of 64 bits that a state begins with, without the checksum, and the bytes behind that: written here anew.
 fn parts(state: &[u8]) -> (Vec<u64>, Vec<u8>) {
     let number = |place: usize| u64::from_le_bytes(state[8 * place..8 * place + 8].try_into().unwrap());
-    let slots = (number(4) + number(5)) as usize;
-    ((0..9 + slots).map(number).collect(), state[80 + 8 * slots..].to_vec())
+    let slots = (number(5) + number(6)) as usize;
+    ((0..10 + slots).map(number).collect(), state[88 + 8 * slots..].to_vec())
 }
 
 fn joined(numbers: &[u64], rest: &[u8]) -> Vec<u8> {
@@ -76,9 +76,12 @@ impl<T: Tables<Index = u32>> Worked<T> {
 }
 
 fn worked<T: Tables<Index = u32>>(random: &mut Random) -> Worked<T> {
+    let max_allocs = 4 + random.below(36);
+    let least = max_allocs.min(8);
     let limits = Limits {
         size: random.below(1_500),
-        max_allocs: 4 + random.below(12),
+        max_allocs,
+        first_allocs: least + random.below(max_allocs - least + 1),
         most: random.below(6),
         most_larger: random.below(4),
     };
@@ -102,8 +105,8 @@ fn goes_on<T: Tables<Index = u32>>(seed: u64, rounds: u64) {
         // the numbers, as the calls so far have them, and the states of the heaps
         let limits = own.heaps.limits();
         let slots = limits.most + limits.most_larger;
-        let mut wanted = vec![0x5348_414f, 1, limits.size.into(), limits.max_allocs.into(), limits.most.into()];
-        wanted.extend([limits.most_larger.into(), own.made, own.heaps.realm().into(), 0]);
+        let mut wanted = vec![0x5348_414f, 2, limits.size.into(), limits.max_allocs.into(), limits.first_allocs.into()];
+        wanted.extend([limits.most.into(), limits.most_larger.into(), own.made, own.heaps.realm().into(), 0]);
         let mut states = Vec::new();
         for number in 0..slots {
             if let Some(heap) = own.heaps.heap(number) {
@@ -144,22 +147,23 @@ const MOST: u64 = 40;
 
 // What is wrong with the numbers before states of so many bytes, if anything is but the realm or the state of a heap.
 fn fault_of(numbers: &[u64], rest: usize) -> Option<(usize, StateFaultKind)> {
-    if (numbers[0], numbers[1]) != (1_397_244_239, 1) {
+    if (numbers[0], numbers[1]) != (1_397_244_239, 2) {
         return Some((0, StateFaultKind::Form));
     }
     let length = 8 * numbers.len() + 8 + rest;
     let bad = |place: usize, is_bad: bool, kind| is_bad.then_some((8 * place, kind));
-    let slots = numbers[4].wrapping_add(numbers[5]);
+    let slots = numbers[5].wrapping_add(numbers[6]);
     None.or_else(|| bad(2, numbers[2] >= 1 << 32, StateFaultKind::Limits))
         .or_else(|| bad(3, numbers[3] < 4 || numbers[3] > MOST, StateFaultKind::Limits))
-        .or_else(|| bad(4, numbers[4] > MOST, StateFaultKind::Limits))
-        .or_else(|| bad(5, numbers[5] > MOST || slots > MOST, StateFaultKind::Limits))
-        .or_else(|| bad(6, numbers[6] >= 1 << 32, StateFaultKind::Counts))
+        .or_else(|| bad(4, numbers[4] > numbers[3] || numbers[4] < 8 && numbers[4] != numbers[3], StateFaultKind::Limits))
+        .or_else(|| bad(5, numbers[5] > MOST, StateFaultKind::Limits))
+        .or_else(|| bad(6, numbers[6] > MOST || slots > MOST, StateFaultKind::Limits))
         .or_else(|| bad(7, numbers[7] >= 1 << 32, StateFaultKind::Counts))
-        .or_else(|| (slots > (length as u64 - 80) / 8).then_some((length, StateFaultKind::Length)))
-        .or_else(|| bad(9 + slots as usize, slots != numbers.len() as u64 - 9, StateFaultKind::Checksum))
-        .or_else(|| bad(8, numbers[8] != 0, StateFaultKind::Place))
-        .or_else(|| bad(8 + slots as usize, numbers[8 + slots as usize] != rest as u64, StateFaultKind::Place))
+        .or_else(|| bad(8, numbers[8] >= 1 << 32, StateFaultKind::Counts))
+        .or_else(|| (slots > (length as u64 - 88) / 8).then_some((length, StateFaultKind::Length)))
+        .or_else(|| bad(10 + slots as usize, slots != numbers.len() as u64 - 10, StateFaultKind::Checksum))
+        .or_else(|| bad(9, numbers[9] != 0, StateFaultKind::Place))
+        .or_else(|| bad(9 + slots as usize, numbers[9 + slots as usize] != rest as u64, StateFaultKind::Place))
 }
 
 // Changes some of the numbers.
@@ -172,12 +176,12 @@ fn change(numbers: &mut Vec<u64>, random: &mut Random) {
             2 => numbers[place] = numbers[place].wrapping_add(1),
             3 => numbers[place] = numbers[place].wrapping_sub(1),
             // the number of heaps that were made, and the realm
-            4 => numbers[6] = u64::from(random.below(90)),
-            5 => numbers[7] = u64::from(random.next() as u32),
+            4 => numbers[7] = u64::from(random.below(90)),
+            5 => numbers[8] = u64::from(random.next() as u32),
             // one larger heap more, which has no state, or two in another order
             6 => {
                 numbers.push(*numbers.last().unwrap());
-                numbers[5] = numbers[5].wrapping_add(1);
+                numbers[6] = numbers[6].wrapping_add(1);
             }
             _ => {
                 let other = random.below(numbers.len() as u32) as usize;
@@ -215,9 +219,9 @@ fn changed_states_are_read_or_refused() {
                 if kind == StateFaultKind::Size {
                     // at the start of a heap, and the limits were changed, or which heaps there are
                     let start = 8 * numbers.len() + 8;
-                    let slots = numbers.len() - 9;
-                    assert!((0..slots).any(|k| numbers[9 + k] > numbers[8 + k] && start as u64 + numbers[8 + k] == at as u64));
-                    assert!(numbers[2..6] != old[2..6] || numbers[8..] != old[8..]);
+                    let slots = numbers.len() - 10;
+                    assert!((0..slots).any(|k| numbers[10 + k] > numbers[9 + k] && start as u64 + numbers[9 + k] == at as u64));
+                    assert!(numbers[2..7] != old[2..7] || numbers[9..] != old[9..]);
                 }
                 *kinds.entry(format!("{kind:?}").split('(').next().unwrap().into()).or_default() += 1;
             }
@@ -225,14 +229,16 @@ fn changed_states_are_read_or_refused() {
                 read += 1;
                 assert_eq!(wanted, None, "{numbers:?}");
                 assert_eq!(written(&heaps), state);
-                let made = numbers[6];
+                let made = numbers[7];
                 let limits = heaps.limits();
                 for number in 0..limits.most + limits.most_larger {
                     let Some(heap) = heaps.heap(number) else { continue };
                     let (size, limit) = (heap.allocator().size(), heap.allocator().max_allocs());
                     assert!(u64::from(heap.realm()) <= made);
                     if number < limits.most {
-                        assert_eq!((size, limit), (limits.size, limits.max_allocs));
+                        assert_eq!(size, limits.size);
+                        assert!((limits.first_allocs..=limits.max_allocs).contains(&limit));
+                        assert!(limit == limits.max_allocs || heap.allocator().statistics().unused_nodes >= 3);
                     } else {
                         assert!(size > 0 && limit == 4);
                     }
@@ -276,7 +282,7 @@ fn changed_bytes_are_refused() {
             // what that heap alone is refused for, behind the heaps before it
             let (numbers, rest) = parts(&state);
             let start = last + 16;
-            let heap = (9..numbers.len()).find(|k| place < start + numbers[*k] as usize).unwrap();
+            let heap = (10..numbers.len()).find(|k| place < start + numbers[*k] as usize).unwrap();
             let (from, to) = (numbers[heap - 1] as usize, numbers[heap] as usize);
             let own = known(GuardedOf::<ByNode<u32>>::read_state(Global, &rest[from..to], 100)).err().unwrap();
             assert_eq!((fault.at, fault.kind), (start + from + own.at, StateFaultKind::Heap(own.kind)));
@@ -293,19 +299,19 @@ fn made_up_bytes_are_refused() {
         let length = random.below(200) as usize;
         let mut made: Vec<u8> = (0..length).map(|_| if random.below(3) == 0 { random.next() as u8 } else { 0 }).collect();
         if length >= 16 && random.below(2) == 0 {
-            made[..16].copy_from_slice(b"OAHS\0\0\0\0\x01\0\0\0\0\0\0\0");
+            made[..16].copy_from_slice(b"OAHS\0\0\0\0\x02\0\0\0\0\0\0\0");
         }
         assert!(known(Heaps::<u32>::read_state(Global, &made, u32::MAX, u32::MAX)).is_err());
     }
     // no limit is a number to request memory by before the caller admits it
-    let limits = Limits { size: 10, max_allocs: 100, most: 3, most_larger: 2 };
+    let limits = Limits { size: 10, max_allocs: 100, first_allocs: 100, most: 3, most_larger: 2 };
     let heaps = Heaps::<u32>::new(Global, limits, 7).unwrap();
     let state = written(&heaps);
     let fault = |most, allocs| known(Heaps::<u32>::read_state(Global, &state, most, allocs)).err();
     assert_eq!(fault(5, 100), None);
     assert_eq!(fault(5, 99), Some(StateFault { at: 24, kind: StateFaultKind::Limits }));
-    assert_eq!(fault(4, 100), Some(StateFault { at: 40, kind: StateFaultKind::Limits }));
-    assert_eq!(fault(2, 100), Some(StateFault { at: 32, kind: StateFaultKind::Limits }));
+    assert_eq!(fault(4, 100), Some(StateFault { at: 48, kind: StateFaultKind::Limits }));
+    assert_eq!(fault(2, 100), Some(StateFault { at: 40, kind: StateFaultKind::Limits }));
     let error: Box<dyn std::error::Error> = fault(2, 100).unwrap().into();
-    assert_eq!(error.to_string(), "limits that are not admitted, at byte 32");
+    assert_eq!(error.to_string(), "limits that are not admitted, at byte 40");
 }

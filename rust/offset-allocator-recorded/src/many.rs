@@ -128,7 +128,7 @@ impl<W: Write> Write for Part<W> {
 /// ```
 /// # use offset_allocator_recorded::*;
 /// # use offset_allocator_heaps::{Heaps, Limits};
-/// let limits = Limits { size: 1000, max_allocs: 16, most: 2, most_larger: 1 };
+/// let limits = Limits { size: 1000, max_allocs: 16, first_allocs: 16, most: 2, most_larger: 1 };
 /// let mut heaps = RecordedHeaps::new(Heaps::<u32>::new(Global, limits, 1).unwrap(), Vec::new()).unwrap();
 /// let rock = heaps.name("mesh: rock").allocate(300).unwrap();
 /// assert!(heaps.allocate(0).is_err());
@@ -170,12 +170,20 @@ impl<T: Tables, W: Write> RecordedHeaps<T, W> {
         }
     }
 
+    // The node limit of a heap that has this one now, as who plays the recording needs it: of a usual one the largest that it
+    // may grow to.
+    fn nodes(&self, number: u32, now: u32) -> u32 {
+        let limits = self.heaps.limits();
+        if number < limits.most { limits.max_allocs } else { now }
+    }
+
     // Writes the lines with which a heap begins.
     fn begin(&mut self, number: u32) {
         let Some(heap) = self.heaps.heap(number) else { return };
+        let nodes = self.nodes(number, heap.allocator().max_allocs());
         let mut numbers = Numbers::default();
         let tape = &mut self.tape;
-        if let Err(error) = numbers.begin(heap.allocator(), &mut |line| tape.write(format_args!("heap {number} {line}"))) {
+        if let Err(error) = numbers.begin(heap.allocator(), nodes, &mut |line| tape.write(format_args!("heap {number} {line}"))) {
             self.tape.fail(error);
         }
         self.grants.insert(number, (numbers, HashMap::new()));
@@ -271,8 +279,8 @@ impl<T: Tables, W: Write> RecordedHeaps<T, W> {
                 if granted.is_new {
                     if let Some(space) = self.heaps.heap(heap).map(|heap| heap.allocator()) {
                         let bits = bits_of::<T>();
-                        let (size, max_allocs) = (space.size(), space.max_allocs());
-                        self.tape.write(format_args!("heap {heap} space {size} nodes {max_allocs} index {bits}"));
+                        let (size, nodes) = (space.size(), self.nodes(heap, space.max_allocs()));
+                        self.tape.write(format_args!("heap {heap} space {size} nodes {nodes} index {bits}"));
                     }
                 }
                 // a fresh heap grants its first range at 0, a multiple of all; a larger one all its units

@@ -42,10 +42,12 @@ impl Numbers {
         name.and_then(|place| self.numbers.get(place as usize).copied()).unwrap_or(0)
     }
 
-    /// Writes a header, and the lines after which its space is as this one. Returns whether there are such lines.
+    /// Writes a header with this node limit, and the lines after which its space is as this one. Returns whether there are such
+    /// lines.
     pub(crate) fn begin<T: Tables>(
         &mut self,
         space: &AllocatorOf<T>,
+        nodes: u32,
         write: &mut impl FnMut(std::fmt::Arguments),
     ) -> io::Result<bool> {
         let begun = beginning(space).map_err(|why| match why {
@@ -57,7 +59,7 @@ impl Numbers {
         })?;
         *self = Numbers::default();
         let bits = bits_of::<T>();
-        write(format_args!("space {} nodes {} index {bits}", begun.size, space.max_allocs()));
+        write(format_args!("space {} nodes {nodes} index {bits}", begun.size));
         for step in &begun.steps {
             match step {
                 Step::At(name, offset, size) => {
@@ -97,7 +99,7 @@ impl<W: Write> Tape<W> {
             return;
         }
         let mut numbers = std::mem::take(&mut self.numbers);
-        let found = numbers.begin(space, &mut |line| self.write(line));
+        let found = numbers.begin(space, space.max_allocs(), &mut |line| self.write(line));
         self.numbers = numbers;
         match found {
             Ok(false) => (),

@@ -17,7 +17,7 @@ fn fault(text: &str) -> String {
 
 #[test]
 fn each_call_of_heaps_is_a_line() {
-    let limits = Limits { size: 1000, max_allocs: 16, most: 2, most_larger: 1 };
+    let limits = Limits { size: 1000, max_allocs: 16, first_allocs: 16, most: 2, most_larger: 1 };
     let mut heaps = RecordedHeaps::new(Heaps::<u16>::new(Global, limits, 1).unwrap(), Vec::new()).unwrap();
     let rock = heaps.name("mesh: rock\nand moss").allocate(300).unwrap();
     assert!(rock.is_new);
@@ -124,7 +124,7 @@ fn several_threads_write_whole_lines() {
 
 #[test]
 fn a_failure_ends_the_recording_alone() {
-    let limits = Limits { size: 1000, max_allocs: 16, most: 2, most_larger: 1 };
+    let limits = Limits { size: 1000, max_allocs: 16, first_allocs: 16, most: 2, most_larger: 1 };
     let mut room = [0u8; 60];
     let mut heaps = RecordedHeaps::new(Heaps::<u32>::new(Global, limits, 1).unwrap(), &mut room[..]).unwrap();
     assert!(heaps.allocate(300).is_ok() && heaps.failure().is_none());
@@ -147,7 +147,9 @@ impl Random {
 // Random calls on heaps; what each gave is answered when they are played. Half of them begin with heaps that there are.
 fn random_heaps<T: Tables>(seed: u64) -> (usize, usize) {
     let mut random = Random(seed);
-    let limits = Limits { size: 200 + random.below(2000), max_allocs: 4 + random.below(30), most: random.below(5), most_larger: random.below(4) };
+    let max_allocs = 4 + random.below(30);
+    let first_allocs = if seed % 3 == 0 { max_allocs.min(8) } else { max_allocs };
+    let limits = Limits { size: 200 + random.below(2000), max_allocs, first_allocs, most: random.below(5), most_larger: random.below(4) };
     let mut heaps = HeapsOf::<T>::new(Global, limits, 3).unwrap();
     let mut places: Vec<Place> = Vec::new();
     if seed % 2 == 0 {

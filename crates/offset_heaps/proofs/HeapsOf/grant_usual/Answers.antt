@@ -11,7 +11,7 @@ returns-in-Ok-clause-grants g c =
     let same = ap (λ (h : Heaps). length h.slots) c.self.view_is in
     let most = ap (λ (h : Heaps). h.limits.most) c.self.view_is in
     let there : c.args.number < length c.args.self.now.slots = omega arith in
-    let new = subst (λ (h : Heaps). IsNew h.limits.size h.limits.max_allocs (h.made + 1) w.0) c.self.view_is w.1 in
+    let new = subst (λ (h : Heaps). IsNew h.limits.size h.limits.first_allocs (h.made + 1) w.0) c.self.view_is w.1 in
     rw c.add.ensures.granted (granted_usual c.args.self.now c.add.new.self c.args.number c.args.size c.args.align c.in-Ok.slot c.in-Ok.ticket there c.add.ensures.heaps w.0 c.requires.spare
     c.requires.usual new w.2)
 
@@ -21,4 +21,4 @@ add-requires-clause-kind g c =
     let most = ap (λ (h : Heaps). h.limits.most) c.self.view_is in
     let low : c.args.number < c.self.inside.limits.most = omega (arith, c.requires.spare.0, most) in
     subst (λ (h : Heaps). IfSome c.in-Ok.slot (IsOfKind h.limits c.args.number)) c.self.view_is
-    (kind_usual c.self.inside.limits c.args.number (c.self.inside.made + 1) c.args.size 1 w.0 c.in-Ok.slot c.in-Ok.ticket low w.1 w.2)
+    (kind_usual c.self.inside.limits c.args.number (c.self.inside.made + 1) c.args.size 1 w.0 c.in-Ok.slot c.in-Ok.ticket low c.self.invariant.limit_first c.self.invariant.limit_min w.1 w.2)

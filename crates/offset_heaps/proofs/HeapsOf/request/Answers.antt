@@ -4,3 +4,7 @@ use Rattle.offset_heaps.proofs.HeapsOf.request.Goals as goal
 pub returns-in-None-clause-grants : goal.returns-in-None-clause-grants
 returns-in-None-clause-grants g c =
     granted_if_since c.args.size c.args.align c.args.self.now c.first_fit.new.self c.grant_new.new.self c.grant_new.result c.first_fit.ensures.same c.grant_new.ensures.grants
+
+pub returns-in-Some-clause-grants : goal.returns-in-Some-clause-grants
+returns-in-Some-clause-grants g c =
+    granted_if_since c.args.size c.args.align c.args.self.now c.first_fit.new.self c.grant_first.new.self c.grant_first.result c.first_fit.ensures.same c.grant_first.ensures.grants

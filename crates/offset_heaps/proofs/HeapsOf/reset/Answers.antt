@@ -15,8 +15,9 @@ invariant_of-self g c =
       low = λ bits enough. rw all.levels (is.low bits (subst (λ n. n ≤ 2 ^ bits) all.len enough));
       limit_min = is.limit_min;
       limit_max = is.limit_max;
+      limit_first = is.limit_first;
       realms = λ k. realm_reset c.self.inside.made (slot k c.self.inside.slots) (slot k c.reset_all.new.slots) (all.done k) (is.realms k);
-      kinds = λ k. kind_reset c.self.inside.limits k (slot k c.self.inside.slots) (slot k c.reset_all.new.slots) (all.done k) (is.kinds k);
+      kinds = λ k. kind_reset c.self.inside.limits k (slot k c.self.inside.slots) (slot k c.reset_all.new.slots) is.limit_first is.limit_min (all.done k) (is.kinds k);
     }
 
 pub returns-clause-heaps : goal.returns-clause-heaps

@@ -5,7 +5,7 @@ pub returns-clause-one : goal.returns-clause-one
 returns-clause-one c size align hs r s a b = one_reason size align hs r s a b
 
 pub returns-clause-found : goal.returns-clause-found
-returns-clause-found c size align k hs r some first why = none_found size align k hs r some first.0 why
+returns-clause-found c size align k hs r some first why = none_found size align k hs r some first why
 
 pub returns-clause-made : goal.returns-clause-made
 returns-clause-made c size align k hs r some next why = memory_alone size align k hs r some next why

@@ -4,6 +4,7 @@ use Rattle.offset_heaps.proofs.States.{parts}
 use Rattle.offset_heaps.proofs.restoring.header_of.Goals.{then-number-ne-FORM-via-then-number-ne-FORM, then-number-ne-FORM-via-else-number-ne-FORM+then-number-ne-VERSION}
 use Rattle.offset_heaps.proofs.restoring.header_of.Goals.{then-limit-lt4-via-then-limit-lt4, then-limit-lt4-via-else-limit-lt4+then-limit-most_allocs}
 use Rattle.offset_heaps.proofs.restoring.header_of.Goals.{then-limit-lt4-via-else-limit-lt4+else-limit-most_allocs+then-limit-MAX}
+use Rattle.offset_heaps.proofs.restoring.header_of.Goals.{then-first-min-via-then-first-min, then-first-min-via-else-first-min+then-first-limit}
 use Rattle.offset_heaps.proofs.restoring.header_of.Goals as goal
 
 pub returns-then-number-ne-FORM-clause-wrong : goal.returns-then-number-ne-FORM-clause-wrong
@@ -27,6 +28,17 @@ returns-then-limit-lt4-clause-wrong g c _ hs w adm st =
       | then-limit-lt4-via-then-limit-lt4 v ↦ omega (arith, v.if-limit-lt4, is, p.limit, w.limit)
       | then-limit-lt4-via-else-limit-lt4+then-limit-most_allocs v ↦ omega (arith, v.if-limit-most_allocs, is, p.limit, adm.limit.1)
       | then-limit-lt4-via-else-limit-lt4+else-limit-most_allocs+then-limit-MAX v ↦ omega (arith, v.if-limit-MAX, v.MAX.ensures, is, p.limit, adm.limit.0)
+    ]
+
+pub returns-then-first-min-clause-wrong : goal.returns-then-first-min-clause-wrong
+returns-then-first-min-clause-wrong g c _ hs w adm st =
+    let p = parts hs c.args.bytes.now st in
+    let is = c.number-first.ensures in
+    let most = c.number-limit.ensures in
+    let least = c.min.ensures in
+    elim c.then-first-min.branch [
+      | then-first-min-via-then-first-min v ↦ omega (arith, v.if-first-min, least, is, most, p.first, p.limit, w.first.0)
+      | then-first-min-via-else-first-min+then-first-limit v ↦ omega (arith, v.if-first-limit, is, most, p.first, p.limit, w.first.1)
     ]
 
 pub returns-then-most-most_heaps-clause-wrong : goal.returns-then-most-most_heaps-clause-wrong
@@ -60,4 +72,4 @@ returns-then-checksum-number-clause-wrong g c _ hs w adm st =
     let p = parts hs bs st in
     let count : length hs.slots ≡ c.number-most.result + c.number-larger.result = omega (arith, st.count, p.most, p.larger, c.number-most.ensures, c.number-larger.ensures) in
     c.if-checksum-number.true
-    (c.checksum.ensures ∙ subst (λ n. checksum_from 0 (numbers (9 + n) bs) ≡ number_at bs (9 + n)) count (sym p.sum) ∙ sym c.number-2.ensures)
+    (c.checksum.ensures ∙ subst (λ n. checksum_from 0 (numbers (10 + n) bs) ≡ number_at bs (10 + n)) count (sym p.sum) ∙ sym c.number-2.ensures)

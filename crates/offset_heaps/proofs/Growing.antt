@@ -1,0 +1,220 @@
+-- The node limit of a heap grows before a grant: what it has room for and what is live in it stay, and after the grant it
+-- has as many unused nodes as between two calls.
+use Rattle.std.proofs.Common.{◌≡◌, ℕ, zero, suc, ◌+◌, ◌*◌, ◌<◌, ◌≤◌, ◌⊎◌, min, true, false, List, [], ◌∷◌, ◌++◌, Option, Some, None, IfSome, Result, Ok, Err, IfOk, IsErr, length, length-append, slice_set, refl, sym, ap, ◌∙◌, subst, inl, inr, arith}
+use Rattle.std.proofs.lemmas.Bool.{cases_lt, lt-ltb}
+use Rattle.offset_allocator.specs.{Relations.Frees, Relations.Resets, Relations.Splits, View.Block, View.Handle, View.IsWellFormed, View.View, View.free_block, View.free_part, View.units}
+use Rattle.offset_allocator.proofs.Raised.{well_under}
+use Rattle.offset_guarded.specs.Guard.{Guard, IsRaised}
+use Rattle.offset_guarded.specs.Guard as guarded
+use Rattle.offset_guarded.specs.declared.ticket.Ticket.{Ticket}
+use Rattle.offset_heaps.specs.declared.index.Index.{Index}
+use Rattle.offset_heaps.specs.declared.limits.Limits.{Limits}
+use Rattle.offset_heaps.specs.Heaps.{HasNodesLeft, IsFirstLimit, IsGrown, IsOfKind, MustGrow, MustGrowIn, grown_limit, room, room_of, slot}
+use Rattle.offset_heaps.specs.{Slots.Changes, Slots.GrowsIn, Soundness.IsNoted, Soundness.IsSound, Soundness.empty_key, Soundness.spare_of}
+use Rattle.offset_heaps.proofs.{Numbers.slot_same, Sound.sound_put, Sound.wide_put}
+
+-- ---- how many blocks a call leaves
+part_small : (x n : ℕ) → length (free_part x n) ≤ 1
+part_small x zero = omega arith
+part_small x (suc n) = omega arith
+
+pub split_blocks : (needed n : ℕ) (at : ℕ → ℕ) (v w : View) (h : Handle) → Splits needed n at v w h → length w.blocks ≤ length v.blocks + 2
+split_blocks needed n at v w h s =
+    let own : Block = record s.block { size = n; used = true } in
+    let was = ap length s.blocks ∙ length-append s.before (s.block ∷ s.after) in
+    let now = ap (λ (z : View). length z.blocks) s.view ∙ length-append s.before (s.parts ++ s.after) in
+    let parts = length-append s.parts s.after in
+    let made = ap length s.made ∙ length-append (free_part s.padding_name s.padding) (own ∷ free_part s.remainder_name s.remainder) in
+    omega (arith, was, now, parts, made, part_small s.padding_name s.padding, part_small s.remainder_name s.remainder)
+
+pub freed_blocks : (x : ℕ) (v w : View) → Frees x v w → length w.blocks ≤ length v.blocks
+freed_blocks x v w f =
+    let old : List Block = f.left ++ (f.block ∷ f.right) in
+    let new : List Block = free_block x (units old) ∷ [] in
+    let was = ap length f.blocks ∙ length-append f.before (old ++ f.after) in
+    let now = ap (λ (z : View). length z.blocks) f.view ∙ length-append f.before (new ++ f.after) in
+    let both = length-append old f.after in
+    let own = length-append f.left (f.block ∷ f.right) in
+    let one = length-append new f.after in
+    omega (arith, was, now, both, own, one)
+
+pub reset_blocks : (v w : View) → Resets v w → length w.blocks ≡ 1
+reset_blocks v w r = ap (λ (z : View). length z.blocks) r.view
+
+-- ---- limits
+module _ (limits : Limits) (k : ℕ) where
+  -- a heap that need not grow keeps enough nodes unused after a grant
+  pub enough_left : (before after : Guard) → (MustGrow limits k before → ⊥) → length after.space.blocks ≤ length before.space.blocks + 2 → after.space.max_allocs ≡ before.space.max_allocs
+      → k < limits.most → HasNodesLeft limits before → min limits.max_allocs (length after.space.blocks + 3) ≤ after.space.max_allocs
+  enough_left before after stays few same usual has = elim (cases_lt before.space.max_allocs limits.max_allocs) [
+    | inr full ↦ omega (arith, full, same)
+    | inl below ↦ elim (cases_lt before.space.max_allocs (length before.space.blocks + 5)) [
+      | inl near ↦ absurd (stays (usual, below, near))
+      | inr far ↦ omega (arith, far, few, same)
+    ]
+  ]
+
+  -- so does one that has as many blocks or fewer
+  pub still_left : (before after : Guard) → length after.space.blocks ≤ length before.space.blocks → after.space.max_allocs ≡ before.space.max_allocs
+      → k < limits.most → HasNodesLeft limits before → min limits.max_allocs (length after.space.blocks + 3) ≤ after.space.max_allocs
+  still_left before after few same usual has = omega (arith, few, same, has.2)
+
+  -- one that is reset, or new
+  pub begun_left : (blocks limit : ℕ) → IsFirstLimit limits → 4 ≤ limits.max_allocs → blocks ≤ 3 → limits.first_allocs ≤ limit → min limits.max_allocs (blocks + 3) ≤ limit
+  begun_left blocks limit first least few begun = omega (arith, first.0, first.1, least, few, begun)
+
+  -- under the doubled limit a heap need not grow again
+  grown_far : (g : Guard) → IsFirstLimit limits → HasNodesLeft limits g → g.space.max_allocs < limits.max_allocs
+      → (grown_limit limits g ≡ limits.max_allocs) ⊎ (length g.space.blocks + 11 ≤ grown_limit limits g)
+  grown_far g first has below = elim (cases_lt (2 * g.space.max_allocs) limits.max_allocs) [
+    | inl twice ↦ inr (omega (arith, twice, below, first.0, first.1, has.0, has.2))
+    | inr most ↦ inl (omega (arith, most))
+  ]
+
+  pub grown_stays : (g h : Guard) → IsFirstLimit limits → (k < limits.most → HasNodesLeft limits g) → IsGrown limits k g h → MustGrow limits k h → ⊥
+  grown_stays g h first has (inr kept) must = kept.0 (subst (MustGrow limits k) kept.1 must)
+  grown_stays g h first has (inl grown) must =
+      let limit : h.space.max_allocs ≡ grown_limit limits g = ap (λ (z : Guard). z.space.max_allocs) grown.1 in
+      let blocks : length h.space.blocks ≡ length g.space.blocks = ap (λ (z : Guard). length z.space.blocks) grown.1 in
+      elim (grown_far g first (has must.0) grown.0.1) [
+        | inl most ↦ omega (arith, limit, most, must.1)
+        | inr far ↦ omega (arith, limit, blocks, far, must.2)
+      ]
+
+  pub grown_left : (g h : Guard) → IsFirstLimit limits → k < limits.most → HasNodesLeft limits g → IsGrown limits k g h → HasNodesLeft limits h
+  grown_left g h first usual has (inr kept) = subst (HasNodesLeft limits) (sym kept.1) has
+  grown_left g h first usual has (inl grown) =
+      let limit : h.space.max_allocs ≡ grown_limit limits g = ap (λ (z : Guard). z.space.max_allocs) grown.1 in
+      let blocks : length h.space.blocks ≡ length g.space.blocks = ap (λ (z : Guard). length z.space.blocks) grown.1 in
+      let below = grown.0.1 in (
+        omega (arith, limit, below, has.0, first.1),
+        omega (arith, limit),
+        elim (grown_far g first has below) [
+          | inl most ↦ omega (arith, limit, most)
+          | inr far ↦ omega (arith, limit, blocks, far)
+        ],
+      )
+
+  -- what does not depend on the limit
+  pub grown_same : {A : Type 0} (f : Guard → A) → ((limit : ℕ) (g : Guard) → f (record g { space = record g.space { max_allocs = limit; accesses = 0 } }) ≡ f g) → (g h : Guard)
+      → IsGrown limits k g h → f h ≡ f g
+  grown_same f same g h (inl up) = ap f up.1 ∙ same (grown_limit limits g) g
+  grown_same f same g h (inr kept) = ap f kept.1
+
+  pub grown_kind : (g h : Guard) → IsFirstLimit limits → IsGrown limits k g h → IsOfKind limits k g → IsOfKind limits k h
+  grown_kind g h first grown (inl usual) = inl (usual.0, grown_same (λ (z : Guard). z.space.size) (λ limit g. refl) g h grown ∙ usual.1, grown_left g h first usual.0 usual.2 grown)
+  grown_kind g h first (inl up) (inr larger) = absurd (omega (arith, up.0.0, larger.0))
+  grown_kind g h first (inr kept) (inr larger) = subst (IsOfKind limits k) (sym kept.1) (inr larger)
+
+  pub grown_realm : (g h : Guard) → IsGrown limits k g h → h.realm ≡ g.realm
+  grown_realm = grown_same (λ (z : Guard). z.realm) (λ limit g. refl)
+
+  pub grown_range : (t : Ticket) (g h : Guard) → IsGrown limits k g h → guarded.range_of t h ≡ guarded.range_of t g
+  grown_range t = grown_same (guarded.range_of t) (λ limit g. refl)
+
+  pub grown_formed : (g h : Guard) → IsGrown limits k g h → IsWellFormed g.space → IsWellFormed h.space
+  grown_formed g h (inr kept) w = subst (λ (z : Guard). IsWellFormed z.space) (sym kept.1) w
+  grown_formed g h (inl up) w =
+      let v = well_under g.space (grown_limit limits g) (omega (arith, up.0.1)) w in
+      let u : IsWellFormed (record g.space { max_allocs = grown_limit limits g; accesses = 0 }) = record {
+        some = v.some;
+        distinct = v.distinct;
+        below = v.below;
+        whole = v.whole;
+        fits = v.fits;
+        apart = v.apart;
+        classes = v.classes;
+        binned = v.binned;
+        room = v.room;
+        few_used = v.few_used;
+      } in
+      subst (λ (z : Guard). IsWellFormed z.space) (sym up.1) u
+
+-- ---- room
+-- with three unused nodes a heap has room for what it would have under any larger limit
+room_under : (limit blocks : ℕ) (g h : Guard) → blocks ≤ 2 → length g.space.blocks + 3 ≤ g.space.max_allocs → g.space.max_allocs ≤ limit → IsRaised limit g h → room blocks h ≡ room blocks g
+room_under limit blocks g h few left larger raised =
+    ap (room blocks) raised
+    ∙ rw (lt-ltb (length g.space.blocks + blocks) limit (omega (arith, few, left, larger)), lt-ltb (length g.space.blocks + blocks) g.space.max_allocs (omega (arith, few, left))) refl
+
+-- under the largest limit
+pub room_largest : (limits : Limits) (blocks : ℕ) (g h : Guard) → blocks ≤ 2 → HasNodesLeft limits g → IsRaised limits.max_allocs g h → room blocks h ≡ room blocks g
+room_largest limits blocks g h few has raised = elim (cases_lt g.space.max_allocs limits.max_allocs) [
+  | inl below ↦ room_under limits.max_allocs blocks g h few (omega (arith, below, has.2)) has.1 raised
+  | inr full ↦
+      let limit : g.space.max_allocs ≡ limits.max_allocs = omega (arith, full, has.1) in
+      ap (room blocks) raised ∙ ap (λ (m : ℕ). room blocks (record g { space = record g.space { max_allocs = m; accesses = 0 } })) (sym limit)
+]
+
+pub room_grown : (limits : Limits) (k blocks : ℕ) (g h : Guard) → blocks ≤ 2 → IsOfKind limits k g → IsGrown limits k g h → room blocks h ≡ room blocks g
+room_grown limits k blocks g h few kind (inr kept) = ap (room blocks) kept.1
+room_grown limits k blocks g h few (inr larger) (inl up) = absurd (omega (arith, up.0.0, larger.0))
+room_grown limits k blocks g h few (inl usual) (inl up) = room_under (grown_limit limits g) blocks g h few (omega (arith, up.0.1, usual.2.2)) (omega (arith, up.0.1)) up.1
+
+-- ---- the heap of a number
+pub must_in : (limits : Limits) (k : ℕ) (o : Option Guard) (g : Guard) → o ≡ Some g → MustGrow limits k g → MustGrowIn limits k o
+must_in limits k o g e must = subst (MustGrowIn limits k) (sym e) must
+
+usual_left : (limits : Limits) (k : ℕ) (g : Guard) → IsOfKind limits k g → k < limits.most → HasNodesLeft limits g
+usual_left limits k g (inl usual) l = usual.2
+usual_left limits k g (inr larger) l = absurd (omega (arith, larger.0, l))
+
+pub grows_none : (limits : Limits) (k : ℕ) (o : Option Guard) → IsFirstLimit limits → IfSome o (IsOfKind limits k) → (new : Option Guard) → GrowsIn limits k o new → MustGrowIn limits k new → ⊥
+grows_none limits k None first kind new grows must = absurd (subst (MustGrowIn limits k) grows must)
+grows_none limits k (Some g) first kind new grows must = grown_stays limits k g grows.0 first (usual_left limits k g kind) grows.2 (subst (MustGrowIn limits k) grows.1 must)
+
+pub grows_kind : (limits : Limits) (k : ℕ) (o new : Option Guard) → IsFirstLimit limits → IfSome o (IsOfKind limits k) → GrowsIn limits k o new → IfSome new (IsOfKind limits k)
+grows_kind limits k None new first kind grows = subst (λ p. IfSome p (IsOfKind limits k)) (sym grows) tt
+grows_kind limits k (Some g) new first kind grows = subst (λ p. IfSome p (IsOfKind limits k)) (sym grows.1) (grown_kind limits k g grows.0 first grows.2 kind)
+
+pub grows_realm : (limits : Limits) (made k : ℕ) (o new : Option Guard) → IfSome o (λ g. g.realm ≤ made) → GrowsIn limits k o new → IfSome new (λ g. g.realm ≤ made)
+grows_realm limits made k None new below grows = subst (λ p. IfSome p (λ g. g.realm ≤ made)) (sym grows) tt
+grows_realm limits made k (Some g) new below grows = subst (λ p. IfSome p (λ g. g.realm ≤ made)) (sym grows.1) (omega (arith, below, grown_realm limits k g grows.0 grows.2))
+
+pub grows_room : (limits : Limits) (k blocks : ℕ) (o new : Option Guard) → blocks ≤ 2 → IfSome o (IsOfKind limits k) → GrowsIn limits k o new → room_of blocks new ≡ room_of blocks o
+grows_room limits k blocks None new few kind grows = ap (room_of blocks) grows
+grows_room limits k blocks (Some g) new few kind grows = ap (room_of blocks) grows.1 ∙ room_grown limits k blocks g grows.0 few kind grows.2
+
+grows_keys : (limits : Limits) (k : ℕ) (o new : Option Guard) → GrowsIn limits k o new → (spare_of limits k new ≡ spare_of limits k o) × (empty_key new ≡ empty_key o)
+grows_keys limits k None new grows = (ap (spare_of limits k) grows, ap empty_key grows)
+grows_keys limits k (Some g) new grows = (ap (spare_of limits k) grows.1, ap empty_key grows.1 ∙ grown_same limits k (λ (z : Guard). empty_key (Some z)) (λ limit g. refl) g grows.0 grows.2)
+
+-- the index says the same of it
+pub grows_noted : (limits : Limits) (slots : List (Option Guard)) (index : Index) (k : ℕ) (new : Option Guard) → k < length slots → IfSome (slot k slots) (IsOfKind limits k)
+    → GrowsIn limits k (slot k slots) new → IsNoted limits slots index k → IsNoted limits (slice_set slots k new) index k
+grows_noted limits slots index k new there kind grows is =
+    let same = slot_same slots k new there in
+    let keys = grows_keys limits k (slot k slots) new grows in
+    record {
+      one = is.one ∙ sym (grows_room limits k 1 (slot k slots) new (omega arith) kind grows) ∙ ap (room_of 1) (sym same);
+      two = is.two ∙ sym (grows_room limits k 2 (slot k slots) new (omega arith) kind grows) ∙ ap (room_of 2) (sym same);
+      spare = is.spare ∙ sym keys.0 ∙ ap (spare_of limits k) (sym same);
+      empty = is.empty ∙ sym keys.1 ∙ ap empty_key (sym same);
+    }
+
+-- the heap of a number grows, or its memory is refused
+module _ {A E : Type 0} (max : ℕ) (slots now : List (Option Guard)) (limits : Limits) (made : ℕ) (index : Index) (k : ℕ) (there : k < length slots) (is : IsSound max slots limits made index) where
+  pub sound_grown : (r : Result A E) → IfOk r (λ _. Changes k (GrowsIn limits k) slots now) → (IsErr r → now ≡ slots) → IsSound max now limits made index
+  sound_grown (Err e) change same = subst (λ s. IsSound max s limits made index) (sym (same refl)) is
+  sound_grown (Ok u) change same = subst (λ s. IsSound max s limits made index) (sym change.slots)
+      (sound_put max slots limits made made index index k change.now is (omega arith) (grows_realm limits made k (slot k slots) change.now (is.realms k) change.by)
+      (grows_kind limits k (slot k slots) change.now is.limit_first (is.kinds k) change.by) there (wide_put slots index k change.now is.wide)
+      (grows_noted limits slots index k change.now there (is.kinds k) change.by (is.noted k)) (λ j n noted. noted) refl)
+
+  pub stays_grown : (r : Result A E) → IfOk r (λ _. Changes k (GrowsIn limits k) slots now) → IfOk r (λ _. MustGrowIn limits k (slot k now) → ⊥)
+  stays_grown (Err e) change = tt
+  stays_grown (Ok u) change = λ must.
+      grows_none limits k (slot k slots) is.limit_first (is.kinds k) change.now change.by
+      (subst (MustGrowIn limits k) (ap (slot k) change.slots ∙ slot_same slots k change.now there) must)
+
+  pub rooms_grown : (r : Result A E) → IfOk r (λ _. Changes k (GrowsIn limits k) slots now)
+      → IfOk r (λ _. (blocks : ℕ) → blocks ≤ 2 → room_of blocks (slot k now) ≡ room_of blocks (slot k slots))
+  rooms_grown (Err e) change = tt
+  rooms_grown (Ok u) change = λ blocks few.
+      ap (room_of blocks) (ap (slot k) change.slots ∙ slot_same slots k change.now there) ∙ grows_room limits k blocks (slot k slots) change.now few (is.kinds k) change.by
+
+-- the heap of a grant, as it was before
+pub set_twice : (slots : List (Option Guard)) (k : ℕ) (o new : Option Guard) → slice_set (slice_set slots k o) k new ≡ slice_set slots k new
+set_twice [] k o new = refl
+set_twice (s ∷ slots) zero o new = refl
+set_twice (s ∷ slots) (suc k) o new = ap (λ (l : List (Option Guard)). s ∷ l) (set_twice slots k o new)
