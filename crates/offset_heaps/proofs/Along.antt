@@ -17,7 +17,10 @@ first_past k hs past = ap (first_among k hs.realm) (drop_all k hs.slots past)
 -- the first one from a number on is in its heap, or else in those behind it
 pub first_step : (k : ℕ) (hs : Heaps) → first_from k hs ≡ option_or (first_place k hs.realm (heap_at k hs)) (first_from (k + 1) hs)
 first_step k hs = elim (cases_lt k (length hs.slots)) [
-  | inl l ↦ rw (add-one, drop-cons hs.slots k None l) refl
+  | inl l ↦
+      let e : suc k ≡ k + 1 = omega arith in
+      ap (first_among k hs.realm) (drop-cons hs.slots k None l)
+      ∙ ap (λ (j : ℕ). option_or (first_place k hs.realm (heap_at k hs)) (first_among (k + 1) hs.realm (drop j hs.slots))) e
   | inr past ↦ first_past k hs past ∙ sym (ap (λ o. option_or (first_place k hs.realm o) (first_from (k + 1) hs)) (slot_past hs.slots k past) ∙ first_past (k + 1) hs (omega arith))
 ]
 

@@ -75,7 +75,11 @@ apart true true false s = refl
 apart true false r s = refl
 apart false c r s = refl
 
-none_if : (b : Bool) → (if b then 0 else 0) ≡ 0
+skipped : (b : Bool) (n : ℕ) → 0 + (if b then n else 0) ≡ (if b then 0 + n else 0)
+skipped true n = refl
+skipped false n = refl
+
+none_if : (b : Bool) → ◌≡◌ {A = ℕ} (if b then 0 else 0) 0
 none_if true = refl
 none_if false = refl
 
@@ -102,6 +106,7 @@ module _ (p : Place) where
             ap₂ (λ (a b : ℕ). a + b)
             (ap (λ (t : Bool). one (nat_eq p.heap k && (nat_eq p.realm realm && (nat_eq p.ticket.realm g.realm && (nat_eq p.ticket.serial (serial_of x.name g) && t))))) (ne_eqb p.ticket.name x.name d)
             ∙ apart (nat_eq p.heap k) (nat_eq p.realm realm) (nat_eq p.ticket.realm g.realm) (nat_eq p.ticket.serial (serial_of x.name g))) rest
+            ∙ skipped (fits_in k realm g) n
             ∙ ap (λ (t : Bool). if fits_in k realm g then one t + n else 0) (sym (ne_eqb p.ticket.name x.name d))
       ]
 
@@ -157,4 +162,4 @@ module _ (p : Place) where
       tally_append hits (places_in k realm o) (places_from (k + 1) realm slots) ∙ omega (arith, here, rest)
 
 pub all_once : (hs : Heaps) → state.IsWellFormed hs → AreOfLive (live_places hs) hs
-all_once hs is p = place_once p p.heap 0 hs.realm hs.slots (known hs is).heaps refl
+all_once hs is p = place_once p p.heap 0 hs.realm hs.slots (known hs is).heaps (omega arith)

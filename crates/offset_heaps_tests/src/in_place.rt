@@ -3,7 +3,7 @@
 
 use crate::asserts::{assert_same, assert_that};
 use offset_allocator::{ByField, Tables};
-use offset_heaps::{Heaps, HeapsOf, Limits, Place, Refusal};
+use offset_heaps::{Heaps, HeapsOf, Limits, Place, Refusal, json_of};
 use std::process::Abort;
 use std::test::Fail;
 
@@ -204,5 +204,25 @@ fn compaction(rt: HostRuntime) -> Result<(), Fail> {
     expect_compaction(&rt, &mut by_node);
     let mut by_field: HeapsOf<ByField<u16>> = HeapsOf::new(rt.alloc(), LIMITS, 9)?;
     expect_compaction(&rt, &mut by_field);
+    Ok(())
+}
+
+#[test]
+fn heaps_as_json(rt: HostRuntime) -> Result<(), Fail> {
+    let mut heaps: Heaps = HeapsOf::new(rt.alloc(), LIMITS, 9)?;
+    let first = granted(&mut heaps, 100);
+    let large = granted(&mut heaps, 200);
+    let text = json_of(rt.alloc(), &heaps)?;
+    assert_same(&rt, &(first.heap, large.heap), &(2, 3));
+    assert_same(
+        &rt,
+        &text.as_str(),
+        &"{\"totals\":{\"heaps\":2,\"units\":300,\"live_units\":300,\"free_units\":0,\"largest_free_region\":0},\
+          \"heaps\":[{\"number\":2,\"space\":{\"size\":100,\"max_allocs\":4,\"live_ranges\":1,\"live_units\":100,\
+          \"free_blocks\":0,\"free_units\":0,\"largest_free_block\":0,\"largest_free_region\":0,\"unused_nodes\":3,\
+          \"blocks\":[{\"offset\":0,\"size\":100,\"name\":0}]}},{\"number\":3,\"space\":{\"size\":200,\"max_allocs\":4,\
+          \"live_ranges\":1,\"live_units\":200,\"free_blocks\":0,\"free_units\":0,\"largest_free_block\":0,\
+          \"largest_free_region\":0,\"unused_nodes\":3,\"blocks\":[{\"offset\":0,\"size\":200,\"name\":0}]}}]}",
+    );
     Ok(())
 }

@@ -3,8 +3,7 @@
 use core::ffi::c_void;
 use core::ptr::NonNull;
 
-use offset_allocator_heaps::{memory, AllocError, Global, Granted, Heaps, Limits, Place, ReadError, Refusal, StateFaultKind, Ticket};
-use offset_allocator_proved::json_of;
+use offset_allocator_heaps::{json_of, Global, Granted, Heaps, Limits, Place, ReadError, Refusal, StateFaultKind, Ticket};
 
 use crate::{
     boxed, calls, guarded_fault, room, short, text, totals, Callback, Found, Guard, Report, Room, State, Text, Totals, NO_REPORT, NO_SPACE,
@@ -134,24 +133,6 @@ fn read(state: &[u8], most_heaps: u32, most_allocs: u32) -> HeapsRead {
             heaps => HeapsRead { heaps, found: Found::Space, at: state.len() },
         },
     }
-}
-
-// All heaps as JSON, each as `json_of` writes it.
-fn json(heaps: &Heaps) -> Result<memory::String, AllocError> {
-    let mut text = memory::String::new(Global);
-    let offset_allocator_heaps::Totals { heaps: count, units, live_units, free_units, largest_free_region } = heaps.totals();
-    write!(text, "{{\"totals\":{{\"heaps\":{count},\"units\":{units},\"live_units\":{live_units}")?;
-    write!(text, ",\"free_units\":{free_units},\"largest_free_region\":{largest_free_region}}},\"heaps\":[")?;
-    let Limits { most, most_larger, .. } = heaps.limits();
-    let mut comma = "";
-    for number in 0..most + most_larger {
-        if let Some(heap) = heaps.heap(number) {
-            write!(text, "{comma}{{\"number\":{number},\"space\":{}}}", json_of(Global, heap.allocator())?)?;
-            comma = ",";
-        }
-    }
-    text.push_str("]}")?;
-    Ok(text)
 }
 
 // Heaps that begin with so many nodes, where the library admits these limits.
@@ -290,5 +271,5 @@ exports! {
         All { heaps, largest_free_region, units, live_units, free_units }
     } else NOTHING_AT_ALL;
 
-    fn oah_json([heaps: &ManyHeaps],) -> Option<Box<Text>> { text(json(heaps)) } else None;
+    fn oah_json([heaps: &ManyHeaps],) -> Option<Box<Text>> { text(json_of(Global, heaps)) } else None;
 }

@@ -47,6 +47,7 @@ mod beside;
 mod compacting;
 mod copying;
 mod drop;
+mod dumping;
 mod fresh;
 mod index;
 pub mod laws;
@@ -64,6 +65,7 @@ mod slots;
 mod state;
 mod totals;
 
+pub use dumping::json_of;
 use index::Index;
 pub use limits::Limits;
 pub use offset_allocator::ReadError;
