@@ -6,11 +6,12 @@ use Rattle.offset_allocator.specs.{Classes.up, Classes.value, Relations.SameStat
 use Rattle.offset_allocator.specs.declared.moves.room.RoomCost.{RoomCost}
 use Rattle.offset_allocator.proofs.{DecidedChanges.compacts_decided, DecidedChanges.grows_decided, DecidedChanges.shrinks_decided, Moving.DecidedRooms.noted_decided}
 use Rattle.offset_guarded.specs.Guard.{Guard, serial_of}
+use Rattle.offset_heaps.specs.declared.limits.Limits.{Limits}
 use Rattle.offset_heaps.specs.declared.place.Granted.{Granted}
 use Rattle.offset_heaps.specs.declared.place.Place.{Place}
 use Rattle.offset_heaps.specs.declared.refusal.Refusal.{Refusal}
 use Rattle.offset_heaps.specs.declared.refusal.Refusal.TheVariants.{Memory}
-use Rattle.offset_heaps.specs.Changing.{Wanted, Less, More, Alters, CompactsIn, MakesRoomIn, Resizes, ResizesSpace}
+use Rattle.offset_heaps.specs.Changing.{CanResizeAt, CanResizeIn, ResizesAt, Wanted, Less, More, Alters, CompactsIn, MakesRoomIn, Resizes, ResizesSpace}
 use Rattle.offset_heaps.specs.Heaps.{Heaps, Grants, IsFirstFit, IsNext, IsSame, IsWhy, NoneFits, Puts, heap_at, is_empty, empties, live_of, numbers, part, slot, AreTotals, free_of, largest_room}
 use Rattle.offset_heaps.specs.{Heaps.room_of, Heaps.size_of, Heaps.total, Histories.ResetsAll, State.quiet, Twins.AreTwins, Twins.IsTwin, Twins.IsTwinIn}
 use Rattle.offset_heaps.specs.declared.totals.Totals.{Totals}
@@ -106,22 +107,38 @@ alters_twins k P Q hs hs' ks ks' t a b twin =
 before_twins : (k : ℕ) (P Q : Guard → Guard → Type 0) (hs hs' ks ks' : Heaps) → AreTwins hs hs' → (a : Alters k P hs ks) → (b : Alters k Q hs' ks') → IsTwin a.before b.before
 before_twins k P Q hs hs' ks ks' t a b = some_twin a.before b.before (heap_at k hs) (heap_at k hs') a.heap b.heap (t.heaps k)
 
-space_decided : (how : Wanted) (x : ℕ) (v v' w w' : View) → IsWellFormed v → SameState v v' → (r r' : Bool) → ResizesSpace how x v w r → ResizesSpace how x v' w' r' → (r ≡ r') × SameState w w'
-space_decided (Less n) x v v' w w' known same r r' s s' = shrinks_decided x n v v' w w' known same r r' s s'
-space_decided (More n) x v v' w w' known same r r' s s' = grows_decided x n v v' w w' known same r r' s s'
+space_decided : (how : Wanted) (x : ℕ) (v v' w w' : View) → IsWellFormed v → SameState v v' → (r : Bool) → ResizesSpace how x v w r → ResizesSpace how x v' w' r → SameState w w'
+space_decided (Less n) x v v' w w' known same true s s' = (shrinks_decided x n v v' w w' known same true true s s').1
+space_decided (More n) x v v' w w' known same true s s' = (grows_decided x n v v' w w' known same true true s s').1
+space_decided how x v v' w w' known same false s s' =
+    s' ∙ ap (λ (z : View). record z { accesses = w'.accesses }) same ∙ ap (λ (z : View). record z { accesses = w'.accesses }) (sym s)
+
+can_twin : (limits : Limits) (k : ℕ) (how : Wanted) (x : ℕ) (g h : Guard) → IsTwin g h → CanResizeIn limits k how x (Some g) → CanResizeIn limits k how x (Some h)
+can_twin limits k (Less n) x g h t can = subst (λ (z : Guard). CanResizeIn limits k (Less n) x (Some z)) (sym (as_twin g h t)) can
+can_twin limits k (More n) x g h t can = subst (λ (z : Guard). CanResizeIn limits k (More n) x (Some z)) (sym (as_twin g h t)) can
+
+can_at : (how : Wanted) (p : Place) (hs ks : Heaps) → AreTwins hs ks → CanResizeAt how p hs → CanResizeAt how p ks
+can_at how p hs ks t can = subst (λ (l : Limits). CanResizeIn l p.heap how p.ticket.name (heap_at p.heap ks)) (sym t.limits) (go (heap_at p.heap hs) (heap_at p.heap ks) (t.heaps p.heap) can)
+  where
+    go : (o q : Option Guard) → IsTwinIn o q → CanResizeIn hs.limits p.heap how p.ticket.name o → CanResizeIn hs.limits p.heap how p.ticket.name q
+    go None q u can = absurd can
+    go (Some g) q u can = subst (CanResizeIn hs.limits p.heap how p.ticket.name) (sym u.1) (can_twin hs.limits p.heap how p.ticket.name g u.0 u.2 can)
+
+size_same : (how : Wanted) (p : Place) (d : Bool) (hs hs' ks ks' : Heaps) → state.IsWellFormed hs → AreTwins hs hs' → ResizesAt how p hs ks d → ResizesAt how p hs' ks' d → AreTwins ks ks'
+size_same how p d hs hs' ks ks' is t a b =
+    let P = Resizes how p.ticket d in
+    let before = before_twins p.heap P P hs hs' ks ks' t a b in
+    let one = space_decided how p.ticket.name a.before.space b.before.space a.after.space b.after.space (known_at hs (known hs is) p.heap a.before a.heap) before.space d a.by.step b.by.step in
+    alters_twins p.heap P P hs hs' ks ks' t a b (kept_twins a.before b.before a.after b.after before a.by.serials b.by.serials a.by.kept one)
 
 pub size_decided : (how : Wanted) (p : Place) (hs hs' ks ks' : Heaps) → state.IsWellFormed hs → AreTwins hs hs' → (r r' : Option Bool) → TakesSize how p hs ks r → TakesSize how p hs' ks' r' → (r ≡ r') × AreTwins ks ks'
 size_decided how p hs hs' ks ks' is t None None x y = (refl, same_twins hs hs' ks ks' t (x.gone refl) (y.gone refl))
 size_decided how p hs hs' ks ks' is t None (Some d) x y = absurd (let e : false ≡ true = x.live.1 (subst (λ o. is_some o ≡ true) (range_twins hs hs' t p) (y.live.0 refl)) in cc)
 size_decided how p hs hs' ks ks' is t (Some d) None x y = absurd (let e : false ≡ true = y.live.1 (subst (λ o. is_some o ≡ true) (sym (range_twins hs hs' t p)) (x.live.0 refl)) in cc)
-size_decided how p hs hs' ks ks' is t (Some d) (Some e) x y =
-    let P = Resizes how p.ticket d in
-    let Q = Resizes how p.ticket e in
-    let a = x.step in
-    let b = y.step in
-    let before = before_twins p.heap P Q hs hs' ks ks' t a b in
-    let one = space_decided how p.ticket.name a.before.space b.before.space a.after.space b.after.space (known_at hs (known hs is) p.heap a.before a.heap) before.space d e a.by.step b.by.step in
-    (ap Some one.0, alters_twins p.heap P Q hs hs' ks ks' t a b (kept_twins a.before b.before a.after b.after before a.by.serials b.by.serials a.by.kept one.1))
+size_decided how p hs hs' ks ks' is t (Some true) (Some false) x y = absurd (let e : false ≡ true = y.done.1 (can_at how p hs hs' t (x.done.0 refl)) in cc)
+size_decided how p hs hs' ks ks' is t (Some false) (Some true) x y = absurd (let e : false ≡ true = x.done.1 (can_at how p hs' hs (twins_sym hs hs' t) (y.done.0 refl)) in cc)
+size_decided how p hs hs' ks ks' is t (Some true) (Some true) x y = (refl, size_same how p true hs hs' ks ks' is t x.step y.step)
+size_decided how p hs hs' ks ks' is t (Some false) (Some false) x y = (refl, size_same how p false hs hs' ks ks' is t x.step y.step)
 
 pub packs_decided : (k : ℕ) (hs hs' ks ks' : Heaps) → AreTwins hs hs' → (r r' : Bool) → Packs k hs ks r → Packs k hs' ks' r' → (r ≡ r') × AreTwins ks ks'
 packs_decided k hs hs' ks ks' t false false x y = (refl, same_twins hs hs' ks ks' t (x.same refl) (y.same refl))

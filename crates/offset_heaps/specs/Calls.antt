@@ -3,7 +3,7 @@ use Rattle.std.specs.Prelude.{◌≡◌, ◌↔◌, ℕ, ◌<◌, ◌≤◌, Boo
 use Rattle.offset_allocator.specs.Moving.Compacting.{Move}
 use Rattle.offset_allocator.specs.Requests.{blocks_needed, units_needed}
 use Rattle.offset_allocator.specs.declared.moves.room.RoomCost.{RoomCost}
-use Rattle.offset_heaps.specs.Changing.{CompactsHeap, MakesRoomAt, ResizesAt, Wanted}
+use Rattle.offset_heaps.specs.Changing.{CanResizeAt, CompactsHeap, MakesRoomAt, ResizesAt, Wanted}
 use Rattle.offset_heaps.specs.declared.place.Granted.{Granted}
 use Rattle.offset_heaps.specs.declared.place.Place.{Place}
 use Rattle.offset_heaps.specs.declared.refusal.Refusal.{Refusal}
@@ -71,6 +71,7 @@ pub record GivesUp (k : ℕ) (hs ks : Heaps) (r : Bool) : Type 0 where
 -- `shrink` and `grow_in_place`
 pub record TakesSize (how : Wanted) (p : Place) (hs ks : Heaps) (r : Option Bool) : Type 0 where
   pub live : IsSome r ↔ IsLive p hs
+  pub done : IfSome r (λ d. IsTrue d ↔ CanResizeAt how p hs)
   pub gone : r ≡ None → IsSame hs ks
   pub step : IfSome r (ResizesAt how p hs ks)
 

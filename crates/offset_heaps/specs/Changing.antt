@@ -1,16 +1,18 @@
 -- What a call changes of one heap alone, in place: its ranges keep their places.
-use Rattle.std.specs.Prelude.{◌≡◌, ℕ, ◌+◌, ◌*◌, ◌≤◌, Bool, true, List, [], Option, None, Some, IfSome, is_some, length, option_map}
+use Rattle.std.specs.Prelude.{◌≡◌, ℕ, ◌+◌, ◌*◌, ◌<◌, ◌≤◌, Bool, true, false, List, [], Option, None, Some, IfSome, is_some, length, option_map}
 use Rattle.offset_allocator.specs.Classes.{up, value}
 use Rattle.offset_allocator.specs.Moving.Compacting.{Compacts, Move, moves}
 use Rattle.offset_allocator.specs.Moving.Room.{IsLeastCost, MakesRoom, ranges_of}
 use Rattle.offset_allocator.specs.Ranges.{Range}
 use Rattle.offset_allocator.specs.Requests.{CanGrant}
 use Rattle.offset_allocator.specs.declared.moves.room.RoomCost.{RoomCost}
+use Rattle.offset_allocator.specs.Relations.{SameState}
 use Rattle.offset_allocator.specs.Resizing as space
 use Rattle.offset_allocator.specs.View.{View}
 use Rattle.offset_guarded.specs.Guard.{Guard}
 use Rattle.offset_guarded.specs.Guard as guarded
 use Rattle.offset_guarded.specs.declared.ticket.Ticket.{Ticket}
+use Rattle.offset_heaps.specs.declared.limits.Limits.{Limits}
 use Rattle.offset_heaps.specs.declared.place.Place.{Place}
 use Rattle.offset_heaps.specs.declared.resize.Resize.{Resize}
 use Rattle.offset_heaps.specs.declared.resize.Resize.TheVariants.{Shrink, Grow}
@@ -31,11 +33,6 @@ pub record AltersIn (P : Guard → Guard → Type 0) (old new : Option Guard) : 
   pub was : old ≡ Some before
   pub is : new ≡ Some after
   pub by : P before after
-
--- P is true of the space of a heap, which is there
-abbrev pub HoldsIn : (View → Type 0) → Option Guard → Type 0
-HoldsIn P None = ⊥
-HoldsIn P (Some g) = P g.space
 
 -- a place is live exactly if it was
 abbrev pub KeepsLive : Heaps → Heaps → Type 0
@@ -64,14 +61,40 @@ abbrev pub CanResize : Wanted → ℕ → View → Type 0
 CanResize (Less n) x v = space.CanShrink x n v
 CanResize (More n) x v = space.CanGrow x n v
 
--- the step of a space, and whether it was done
+-- the step of a space, where it is done, and else it stays as it is
 abbrev pub ResizesSpace : Wanted → ℕ → View → View → Bool → Type 0
-ResizesSpace (Less n) x v w done = space.Shrinks x n v w done
-ResizesSpace (More n) x v w done = space.Grows x n v w done
+ResizesSpace how x v w false = SameState v w
+ResizesSpace (Less n) x v w true = space.Shrinks x n v w true
+ResizesSpace (More n) x v w true = space.Grows x n v w true
+
+-- whether it is to have at most as many
+abbrev pub is_less : Wanted → Bool
+is_less (Less n) = true
+is_less (More n) = false
+
+-- few nodes of a heap of the usual size are unused: fewer than four, where its node limit is below the largest one
+abbrev pub IsNear : Limits → ℕ → Guard → Type 0
+IsNear limits k g = (k < limits.most) × (g.space.max_allocs < limits.max_allocs) × (g.space.max_allocs < length g.space.blocks + 4)
+
+-- the nodes of a heap allow it: a range that becomes smaller may add a block
+abbrev pub HasNodesFor : Limits → ℕ → Wanted → Guard → Type 0
+HasNodesFor limits k (Less n) g = IsNear limits k g → ⊥
+HasNodesFor limits k (More n) g = Unit {0}
+
+-- how many blocks it may add
+abbrev pub blocks_more : Wanted → ℕ
+blocks_more (Less n) = 1
+blocks_more (More n) = 0
+
+-- the heap of a number, where there is one, can do it
+abbrev pub CanResizeIn : Limits → ℕ → Wanted → ℕ → Option Guard → Type 0
+CanResizeIn limits k how x None = ⊥
+CanResizeIn limits k how x (Some g) = CanResize how x g.space × HasNodesFor limits k how g
 
 -- the range of a ticket becomes smaller or larger in place, or stays as it is, where that can't be done
 pub record Resizes (how : Wanted) (t : Ticket) (done : Bool) (g h : Guard) : Type 0 where
   pub step : ResizesSpace how t.name g.space h.space done
+  pub blocks : length h.space.blocks ≤ length g.space.blocks + blocks_more how
   -- no serial changes, and no other ticket is live
   pub serials : guarded.KeepsSerials g h
   pub kept : guarded.KeepsLive g h
@@ -85,7 +108,7 @@ abbrev pub ResizesAt : Wanted → Place → Heaps → Heaps → Bool → Type 0
 ResizesAt how p hs ks done = Alters p.heap (Resizes how p.ticket done) hs ks
 
 abbrev pub CanResizeAt : Wanted → Place → Heaps → Type 0
-CanResizeAt how p hs = HoldsIn (CanResize how p.ticket.name) (heap_at p.heap hs)
+CanResizeAt how p hs = CanResizeIn hs.limits p.heap how p.ticket.name (heap_at p.heap hs)
 
 -- every place has as many units as it had, and no other is live
 abbrev pub KeepsSizes : Heaps → Heaps → Type 0

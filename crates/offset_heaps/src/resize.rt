@@ -1,7 +1,7 @@
 //! Ranges that become smaller or larger in place. It changes one slot, and notes it in the index.
 ghost use Rattle.std.specs.Prelude.{◌≡◌, ◌↔◌, None, Some, IfSome, IsSome, IsTrue, false, true};
 ghost use Rattle.offset_heaps.specs.Changing.{CanResizeAt, HasUnits, KeepsLive, Less, More, ResizesAt};
-ghost use Rattle.offset_heaps.specs.Changing.{units_wanted, wanted};
+ghost use Rattle.offset_heaps.specs.Changing.{is_less, units_wanted, wanted};
 ghost use Rattle.offset_heaps.specs.Twins.{AreTwins};
 
 use crate::HeapsOf;
@@ -15,6 +15,18 @@ pub(crate) enum Resize {
     Shrink(u32),
     /// At least as many.
     Grow(u32),
+}
+
+impl Resize {
+    /// Whether it is to have at most as many.
+    pub(crate) fn is_less(self) -> bool
+        ensures { result ≡ is_less (wanted self.entry) }
+    {
+        match self {
+            Resize::Shrink(_) => true,
+            Resize::Grow(_) => false,
+        }
+    }
 }
 
 impl<T: Tables> HeapsOf<T> {
@@ -37,7 +49,7 @@ impl<T: Tables> HeapsOf<T> {
         }
         let done = self
             .slots
-            .resize(place.heap, place.ticket, how, &mut self.accesses)?;
+            .resize(place.heap, self.limits, place.ticket, how, &mut self.accesses)?;
         self.index
             .note(&self.slots, place.heap, self.limits, &mut self.accesses);
         Some(done)
@@ -46,7 +58,8 @@ impl<T: Tables> HeapsOf<T> {
     /// Makes the range of a place smaller in place, as `GuardedOf::shrink` does in its heap, and returns
     /// whether it did; or `None` where the place is not live, and then nothing changes. `false` is returned
     /// where the range has fewer units, or the node limit of its heap is reached and the units that it gives
-    /// back have no free block after them; then all is as it was.
+    /// back have no free block after them, or fewer than four nodes are unused of a heap whose limit may still
+    /// be doubled: no memory is taken here; then all is as it was.
     ///
     /// ```
     /// let mesh = heaps.allocate(300).unwrap().place;

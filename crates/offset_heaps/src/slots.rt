@@ -6,9 +6,9 @@ ghost use Rattle.std.specs.Prelude.{ℕ, slice_set, true};
 ghost use Rattle.std.specs.List.{FoldsTo};
 ghost use Rattle.offset_allocator.specs.Requests.{blocks_needed, units_needed};
 ghost use Rattle.offset_allocator.specs.Tight.{CanHold};
-ghost use Rattle.offset_guarded.specs.Guard.{Guard, HasSerialLeft};
+ghost use Rattle.offset_guarded.specs.Guard.{Guard, HasSerialLeft, IsLive};
 ghost use Rattle.offset_allocator.specs.Moving.Compacting.{IsCalledWith};
-ghost use Rattle.offset_heaps.specs.Changing.{AltersIn, CanResize, CompactsIn, HoldsIn, MakesRoomIn, Resizes};
+ghost use Rattle.offset_heaps.specs.Changing.{AltersIn, CanResize, CanResizeIn, CompactsIn, IsNear, MakesRoomIn, Resizes};
 ghost use Rattle.offset_heaps.specs.Changing.{moves_in, wanted};
 ghost use Rattle.offset_heaps.specs.Heaps.{MustGrow, MustGrowIn, is_empty, live_of, part, range_in, room, room_of};
 ghost use Rattle.offset_heaps.specs.Heaps.{slot};
@@ -133,23 +133,51 @@ fn free_in<T: Tables>(slot: &mut Option<GuardedOf<T>>, ticket: Ticket) -> bool
     }
 }
 
+// Whether few nodes of the heap of a number are unused, so that a range that shrinks might leave too few.
+fn is_near<T: Tables>(heap: &GuardedOf<T>, number: u32, limits: Limits) -> bool
+    ensures { IsTrue result ↔ IsNear limits number heap.now }
+{
+    let space = heap.allocator();
+    number < limits.most && space.max_allocs() < limits.max_allocs && unused_nodes(space) < 4
+}
+
 // Makes the range of a ticket smaller or larger in place, where it is live.
+fn resize_heap<T: Tables>(heap: &mut GuardedOf<T>, ticket: Ticket, how: Resize) -> Option<bool>
+    ensures live { IsSome result ↔ IsLive ticket heap.old }
+    ensures done { IfSome result
+        (λ done. IsTrue done ↔ CanResize (wanted how) ticket.name heap.old.space) }
+    ensures change { IfSome result (λ done. Resizes (wanted how) ticket done heap.old heap.new) }
+    ensures same { result ≡ None → heap.new ≡ heap.old }
+{
+    is_well_formed(heap.allocator());
+    match how {
+        Resize::Shrink(size) => heap.shrink(ticket, size),
+        Resize::Grow(size) => heap.grow_in_place(ticket, size),
+    }
+}
+
+// The same, but that a range does not become smaller where few nodes are unused.
 fn resize_in<T: Tables>(
     slot: &mut Option<GuardedOf<T>>,
+    number: u32,
+    limits: Limits,
     ticket: Ticket,
     how: Resize,
 ) -> Option<bool>
     ensures live { IsSome result ↔ IsSome (range_in ticket slot.old) }
-    ensures done { IfSome result (λ done. IsTrue done ↔ HoldsIn (CanResize (wanted how) ticket.name) slot.old) }
+    ensures done { IfSome result
+        (λ done. IsTrue done ↔ CanResizeIn limits number (wanted how) ticket.name slot.old) }
     ensures change { IfSome result (λ done. AltersIn (Resizes (wanted how) ticket done) slot.old slot.new) }
     ensures same { result ≡ None → slot.new ≡ slot.old }
 {
     match slot {
         None => None,
-        Some(heap) => match how {
-            Resize::Shrink(size) => heap.shrink(ticket, size),
-            Resize::Grow(size) => heap.grow_in_place(ticket, size),
-        },
+        Some(heap) => {
+            if how.is_less() && is_near(heap, number, limits) {
+                return if heap.is_live(ticket) { Some(false) } else { None };
+            }
+            resize_heap(heap, ticket, how)
+        }
     }
 }
 
@@ -318,6 +346,7 @@ impl<T: Tables> Slots<T> {
     pub(crate) fn resize(
         &mut self,
         number: u32,
+        limits: Limits,
         ticket: Ticket,
         how: Resize,
         count: &mut Accesses,
@@ -325,7 +354,7 @@ impl<T: Tables> Slots<T> {
         ensures live { IsSome result ↔ IsSome (range_in ticket (slot number self.old)) }
         ensures there { IsSome result → number < length self.old }
         ensures done { IfSome result
-            (λ done. IsTrue done ↔ HoldsIn (CanResize (wanted how) ticket.name) (slot number self.old)) }
+            (λ done. IsTrue done ↔ CanResizeIn limits number (wanted how) ticket.name (slot number self.old)) }
         ensures change { IfSome result
             (λ done. Changes number (AltersIn (Resizes (wanted how) ticket done)) self.old self.new) }
         ensures same { result ≡ None → self.new ≡ self.old }
@@ -335,7 +364,7 @@ impl<T: Tables> Slots<T> {
         if number as usize >= self.heaps.len() {
             return None;
         }
-        resize_in(&mut self.heaps[number as usize], ticket, how)
+        resize_in(&mut self.heaps[number as usize], number, limits, ticket, how)
     }
 
     /// Slides every live range of the heap of a number to the front of its space.

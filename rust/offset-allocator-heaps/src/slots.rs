@@ -84,18 +84,36 @@ fn free_in<T: Tables>(slot: &mut Option<GuardedOf<T>>, ticket: Ticket) -> bool {
     }
 }
 
+// Whether few nodes of the heap of a number are unused, so that a range that shrinks might leave too few.
+fn is_near<T: Tables>(heap: &GuardedOf<T>, number: u32, limits: Limits) -> bool {
+    let space = heap.allocator();
+    number < limits.most && space.max_allocs() < limits.max_allocs && unused_nodes(space) < 4
+}
+
 // Makes the range of a ticket smaller or larger in place, where it is live.
+fn resize_heap<T: Tables>(heap: &mut GuardedOf<T>, ticket: Ticket, how: Resize) -> Option<bool> {
+    match how {
+        Resize::Shrink(size) => heap.shrink(ticket, size),
+        Resize::Grow(size) => heap.grow_in_place(ticket, size),
+    }
+}
+
+// The same, but that a range does not become smaller where few nodes are unused.
 fn resize_in<T: Tables>(
     slot: &mut Option<GuardedOf<T>>,
+    number: u32,
+    limits: Limits,
     ticket: Ticket,
     how: Resize,
 ) -> Option<bool> {
     match slot {
         None => None,
-        Some(heap) => match how {
-            Resize::Shrink(size) => heap.shrink(ticket, size),
-            Resize::Grow(size) => heap.grow_in_place(ticket, size),
-        },
+        Some(heap) => {
+            if how.is_less() && is_near(heap, number, limits) {
+                return if heap.is_live(ticket) { Some(false) } else { None };
+            }
+            resize_heap(heap, ticket, how)
+        }
     }
 }
 
@@ -213,6 +231,7 @@ impl<T: Tables> Slots<T> {
     pub(crate) fn resize(
         &mut self,
         number: u32,
+        limits: Limits,
         ticket: Ticket,
         how: Resize,
         count: &mut Accesses,
@@ -221,7 +240,7 @@ impl<T: Tables> Slots<T> {
         if number as usize >= self.heaps.len() {
             return None;
         }
-        resize_in(&mut self.heaps[number as usize], ticket, how)
+        resize_in(&mut self.heaps[number as usize], number, limits, ticket, how)
     }
 
     /// Slides every live range of the heap of a number to the front of its space.
