@@ -2,21 +2,25 @@
 use Rattle.std.proofs.Common.{[], ◌∷◌, map, suc}
 use Rattle.std.proofs.Common.{◌≡◌, ℕ, ◌+◌, ◌<◌, ◌≤◌, Bool, true, false, length, List, Option, Some, None, MatchOption, Result, Ok, Err, is_some, if◌then◌else◌, nat_eq, refl, sym, ap, ap₂, subst, subst₂, ◌∙◌, inl, inr, arith}
 use Rattle.std.proofs.lemmas.Bool.{cases_Bool, cases_eq, cases_lt}
-use Rattle.offset_allocator.specs.{Requests.blocks_needed, Requests.units_needed, View.used_of}
+use Rattle.offset_allocator.specs.{Classes.up, Classes.value, Relations.SameState, Requests.blocks_needed, Requests.units_needed, View.IsWellFormed, View.View, View.used_of}
+use Rattle.offset_allocator.specs.declared.moves.room.RoomCost.{RoomCost}
+use Rattle.offset_allocator.proofs.{DecidedChanges.compacts_decided, DecidedChanges.grows_decided, DecidedChanges.shrinks_decided, Moving.DecidedRooms.noted_decided}
 use Rattle.offset_guarded.specs.Guard.{Guard, serial_of}
+use Rattle.offset_heaps.specs.declared.limits.Limits.{Limits}
 use Rattle.offset_heaps.specs.declared.place.Granted.{Granted}
 use Rattle.offset_heaps.specs.declared.place.Place.{Place}
 use Rattle.offset_heaps.specs.declared.refusal.Refusal.{Refusal}
 use Rattle.offset_heaps.specs.declared.refusal.Refusal.TheVariants.{Memory}
+use Rattle.offset_heaps.specs.Changing.{CanResizeAt, CanResizeIn, ResizesAt, Wanted, Less, More, Alters, CompactsIn, MakesRoomIn, Resizes, ResizesSpace}
 use Rattle.offset_heaps.specs.Heaps.{Heaps, Grants, IsFirstFit, IsNext, IsSame, IsWhy, NoneFits, Puts, heap_at, is_empty, empties, live_of, numbers, part, slot, AreTotals, free_of, largest_room}
 use Rattle.offset_heaps.specs.{Heaps.room_of, Heaps.size_of, Heaps.total, Histories.ResetsAll, State.quiet, Twins.AreTwins, Twins.IsTwin, Twins.IsTwinIn}
 use Rattle.offset_heaps.specs.declared.totals.Totals.{Totals}
 use Rattle.offset_heaps.specs.Relocating.{HasLive, IsEmptiest, NoneLive, TakesRange, granted, live_at, units_in, units_of}
 use Rattle.offset_heaps.specs.State as state
 use Rattle.offset_heaps.proofs.{States.slot_quiet, Empties.empty_there, Grants.memory_alone, Grants.none_found, Grants.one_reason, Numbers.slot_there}
-use Rattle.offset_heaps.specs.Calls.{Allocates, TakesAll, Call, Allocate, Free, Relocate, Drop_empty, Drop_heap, Give_up, Reset, Drops, DropsEmpty, Frees, GivesUp, IsStarved, Relocates, Reply, Requested, Second, Dropped, Was_done, Takes}
+use Rattle.offset_heaps.specs.Calls.{Allocates, TakesAll, Call, Allocate, Free, Relocate, Drop_empty, Drop_heap, Give_up, Reset, Resize, Compact_heap, Make_room, Drops, DropsEmpty, Frees, GivesUp, IsStarved, Relocates, Reply, Requested, Second, Dropped, Was_done, Resized, Room_made, Takes, TakesRoom, TakesSize, Packs, Notes}
 use Rattle.offset_heaps.proofs.Decided.{first_twins, grants_decided, known, known_at, must_in_twins, next_twins, none_fit_twins, one_first, one_fit, one_next, why_twins}
-use Rattle.offset_heaps.proofs.Twins.{as_twin, free_twins, option_twin, put_twins, range_twins, reset_twins, room_twins, some_twin, total_twins, twins_sym}
+use Rattle.offset_heaps.proofs.Twins.{as_twin, free_twins, kept_twins, none_twins, option_twin, put_twins, range_twins, reset_twins, room_twins, slid_twins, some_twin, total_twins, twins_sym}
 
 -- ---- what calls leave
 same_twins : (hs hs' ks ks' : Heaps) → AreTwins hs hs' → IsSame hs ks → IsSame hs' ks' → AreTwins ks ks'
@@ -31,7 +35,7 @@ puts_twins k o o' hs hs' ks ks' t there there' now e f = subst₂ AreTwins (sym 
 })
 
 -- ---- requests
-refused : (size align : ℕ) (hs : Heaps) (why : Refusal) (g : Granted) → (size ≡ 0 → ⊥) → IsWhy size align hs why → (why ≡ Memory → ⊥)
+pub refused : (size align : ℕ) (hs : Heaps) (why : Refusal) (g : Granted) → (size ≡ 0 → ⊥) → IsWhy size align hs why → (why ≡ Memory → ⊥)
     → (g.is_new ≡ false → IsFirstFit (blocks_needed align) (units_needed size align) g.place.heap hs) → (g.is_new ≡ true → IsNext size g.place.heap hs) → ⊥
 refused size align hs why g some w other found made =
     let one : 1 ≤ size = elim (cases_eq size 0) [ inl e ↦ absurd (some e) | inr d ↦ omega (arith, d) ] in
@@ -92,6 +96,80 @@ free_decided p hs hs' ks ks' is t true true x y =
           (k.after, refl, after) f.heaps k.heaps,
     )
 
+-- ---- ranges and heaps that are changed in place
+some_twins : (hs ks : Heaps) → AreTwins hs ks → (k : ℕ) → is_some (heap_at k ks) ≡ is_some (heap_at k hs)
+some_twins hs ks t k = option_twin is_some (heap_at k hs) (heap_at k ks) (λ g h u. refl) (t.heaps k)
+
+alters_twins : (k : ℕ) (P Q : Guard → Guard → Type 0) (hs hs' ks ks' : Heaps) → AreTwins hs hs' → (a : Alters k P hs ks) → (b : Alters k Q hs' ks') → IsTwin a.after b.after → AreTwins ks ks'
+alters_twins k P Q hs hs' ks ks' t a b twin =
+    puts_twins k (Some a.after) (Some b.after) hs hs' ks ks' t (slot_there hs.slots k (ap is_some a.heap)) (slot_there hs'.slots k (ap is_some b.heap)) (b.after, refl, twin) a.heaps b.heaps
+
+before_twins : (k : ℕ) (P Q : Guard → Guard → Type 0) (hs hs' ks ks' : Heaps) → AreTwins hs hs' → (a : Alters k P hs ks) → (b : Alters k Q hs' ks') → IsTwin a.before b.before
+before_twins k P Q hs hs' ks ks' t a b = some_twin a.before b.before (heap_at k hs) (heap_at k hs') a.heap b.heap (t.heaps k)
+
+space_decided : (how : Wanted) (x : ℕ) (v v' w w' : View) → IsWellFormed v → SameState v v' → (r : Bool) → ResizesSpace how x v w r → ResizesSpace how x v' w' r → SameState w w'
+space_decided (Less n) x v v' w w' known same true s s' = (shrinks_decided x n v v' w w' known same true true s s').1
+space_decided (More n) x v v' w w' known same true s s' = (grows_decided x n v v' w w' known same true true s s').1
+space_decided how x v v' w w' known same false s s' =
+    s' ∙ ap (λ (z : View). record z { accesses = w'.accesses }) same ∙ ap (λ (z : View). record z { accesses = w'.accesses }) (sym s)
+
+can_twin : (limits : Limits) (k : ℕ) (how : Wanted) (x : ℕ) (g h : Guard) → IsTwin g h → CanResizeIn limits k how x (Some g) → CanResizeIn limits k how x (Some h)
+can_twin limits k (Less n) x g h t can = subst (λ (z : Guard). CanResizeIn limits k (Less n) x (Some z)) (sym (as_twin g h t)) can
+can_twin limits k (More n) x g h t can = subst (λ (z : Guard). CanResizeIn limits k (More n) x (Some z)) (sym (as_twin g h t)) can
+
+can_at : (how : Wanted) (p : Place) (hs ks : Heaps) → AreTwins hs ks → CanResizeAt how p hs → CanResizeAt how p ks
+can_at how p hs ks t can = subst (λ (l : Limits). CanResizeIn l p.heap how p.ticket.name (heap_at p.heap ks)) (sym t.limits) (go (heap_at p.heap hs) (heap_at p.heap ks) (t.heaps p.heap) can)
+  where
+    go : (o q : Option Guard) → IsTwinIn o q → CanResizeIn hs.limits p.heap how p.ticket.name o → CanResizeIn hs.limits p.heap how p.ticket.name q
+    go None q u can = absurd can
+    go (Some g) q u can = subst (CanResizeIn hs.limits p.heap how p.ticket.name) (sym u.1) (can_twin hs.limits p.heap how p.ticket.name g u.0 u.2 can)
+
+size_same : (how : Wanted) (p : Place) (d : Bool) (hs hs' ks ks' : Heaps) → state.IsWellFormed hs → AreTwins hs hs' → ResizesAt how p hs ks d → ResizesAt how p hs' ks' d → AreTwins ks ks'
+size_same how p d hs hs' ks ks' is t a b =
+    let P = Resizes how p.ticket d in
+    let before = before_twins p.heap P P hs hs' ks ks' t a b in
+    let one = space_decided how p.ticket.name a.before.space b.before.space a.after.space b.after.space (known_at hs (known hs is) p.heap a.before a.heap) before.space d a.by.step b.by.step in
+    alters_twins p.heap P P hs hs' ks ks' t a b (kept_twins a.before b.before a.after b.after before a.by.serials b.by.serials a.by.kept one)
+
+pub size_decided : (how : Wanted) (p : Place) (hs hs' ks ks' : Heaps) → state.IsWellFormed hs → AreTwins hs hs' → (r r' : Option Bool) → TakesSize how p hs ks r → TakesSize how p hs' ks' r' → (r ≡ r') × AreTwins ks ks'
+size_decided how p hs hs' ks ks' is t None None x y = (refl, same_twins hs hs' ks ks' t (x.gone refl) (y.gone refl))
+size_decided how p hs hs' ks ks' is t None (Some d) x y = absurd (let e : false ≡ true = x.live.1 (subst (λ o. is_some o ≡ true) (range_twins hs hs' t p) (y.live.0 refl)) in cc)
+size_decided how p hs hs' ks ks' is t (Some d) None x y = absurd (let e : false ≡ true = y.live.1 (subst (λ o. is_some o ≡ true) (sym (range_twins hs hs' t p)) (x.live.0 refl)) in cc)
+size_decided how p hs hs' ks ks' is t (Some true) (Some false) x y = absurd (let e : false ≡ true = y.done.1 (can_at how p hs hs' t (x.done.0 refl)) in cc)
+size_decided how p hs hs' ks ks' is t (Some false) (Some true) x y = absurd (let e : false ≡ true = x.done.1 (can_at how p hs' hs (twins_sym hs hs' t) (y.done.0 refl)) in cc)
+size_decided how p hs hs' ks ks' is t (Some true) (Some true) x y = (refl, size_same how p true hs hs' ks ks' is t x.step y.step)
+size_decided how p hs hs' ks ks' is t (Some false) (Some false) x y = (refl, size_same how p false hs hs' ks ks' is t x.step y.step)
+
+pub packs_decided : (k : ℕ) (hs hs' ks ks' : Heaps) → AreTwins hs hs' → (r r' : Bool) → Packs k hs ks r → Packs k hs' ks' r' → (r ≡ r') × AreTwins ks ks'
+packs_decided k hs hs' ks ks' t false false x y = (refl, same_twins hs hs' ks ks' t (x.same refl) (y.same refl))
+packs_decided k hs hs' ks ks' t true false x y = absurd (let e : false ≡ true = y.done.1 (some_twins hs hs' t k ∙ x.done.0 refl) in cc)
+packs_decided k hs hs' ks ks' t false true x y = absurd (let e : false ≡ true = x.done.1 (sym (some_twins hs hs' t k) ∙ y.done.0 refl) in cc)
+packs_decided k hs hs' ks ks' t true true x y =
+    let a = x.step refl in
+    let b = y.step refl in
+    let before = before_twins k CompactsIn CompactsIn hs hs' ks ks' t a b in
+    let after = compacts_decided a.before.space b.before.space a.after.space b.after.space before.space a.by.step b.by.step in
+    (refl, alters_twins k CompactsIn CompactsIn hs hs' ks ks' t a b (slid_twins a.before b.before a.after b.after before a.by.serials b.by.serials a.by.sizes after))
+
+pub room_decided : (k size : ℕ) (hs hs' ks ks' : Heaps) → state.IsWellFormed hs → AreTwins hs hs' → (r r' : Option RoomCost) → TakesRoom k size hs ks r → TakesRoom k size hs' ks' r' → (r ≡ r') × AreTwins ks ks'
+room_decided k size hs hs' ks ks' is t r r' x y = go (heap_at k hs) refl
+  where
+    go : (o : Option Guard) → heap_at k hs ≡ o → (r ≡ r') × AreTwins ks ks'
+    go None e =
+        let a = x.none e in
+        let b = y.none (none_twins hs hs' t k e) in
+        (a.1 ∙ sym b.1, same_twins hs hs' ks ks' t a.0 b.0)
+    go (Some g) e =
+        let m = x.step (ap is_some e) in
+        let n = y.step (some_twins hs hs' t k ∙ ap is_some e) in
+        let P = MakesRoomIn Notes size [] r m.0 in
+        let Q = MakesRoomIn Notes size [] r' n.0 in
+        let a = m.1 in
+        let b = n.1 in
+        let before = before_twins k P Q hs hs' ks ks' t a b in
+        let one = noted_decided (value (up size)) a.before.space b.before.space a.after.space b.after.space (known_at hs (known hs is) k a.before a.heap) before.space r r' m.0 n.0 a.by.cost b.by.cost a.by.step b.by.step in
+        (one.0, alters_twins k P Q hs hs' ks ks' t a b (slid_twins a.before b.before a.after b.after before a.by.serials b.by.serials a.by.sizes one.2))
+
 -- ---- second ranges
 module _ (p : Place) (hs ks : Heaps) (t : AreTwins hs ks) where
   units_twins : units_of p ks ≡ units_of p hs
@@ -133,9 +211,6 @@ empties_twins hs ks t =
 
 gone_twins : (k : ℕ) (hs hs' ks ks' : Heaps) → AreTwins hs hs' → is_some (heap_at k hs) ≡ true → is_some (heap_at k hs') ≡ true → Puts k None hs ks → Puts k None hs' ks' → AreTwins ks ks'
 gone_twins k hs hs' ks ks' t there there' e f = puts_twins k None None hs hs' ks ks' t (slot_there hs.slots k there) (slot_there hs'.slots k there') refl e f
-
-some_twins : (hs ks : Heaps) → AreTwins hs ks → (k : ℕ) → is_some (heap_at k ks) ≡ is_some (heap_at k hs)
-some_twins hs ks t k = option_twin is_some (heap_at k hs) (heap_at k ks) (λ g h u. refl) (t.heaps k)
 
 pub drops_decided : (k : ℕ) (hs hs' ks ks' : Heaps) → AreTwins hs hs' → (r r' : Bool) → Drops k hs ks r → Drops k hs' ks' r' → (r ≡ r') × AreTwins ks ks'
 drops_decided k hs hs' ks ks' t false false x y = (refl, same_twins hs hs' ks ks' t (x.same refl) (y.same refl))
@@ -246,6 +321,9 @@ takes_decided (Drop_empty keep) hs hs' ks ks' is t r r' x y m n = let e = drops_
 takes_decided (Drop_heap k) hs hs' ks ks' is t r r' x y m n = let e = drops_decided k hs hs' ks ks' t x.0 y.0 x.2 y.2 in (x.1 ∙ ap Was_done e.0 ∙ sym y.1, e.1)
 takes_decided (Give_up k) hs hs' ks ks' is t r r' x y m n = let e = gives_up_decided k hs hs' ks ks' t x.0 y.0 x.2 y.2 in (x.1 ∙ ap Was_done e.0 ∙ sym y.1, e.1)
 takes_decided Reset hs hs' ks ks' is t r r' x y m n = (x.0 ∙ sym y.0, resets_decided hs hs' ks ks' is t x.1 y.1)
+takes_decided (Resize how p) hs hs' ks ks' is t r r' x y m n = let e = size_decided how p hs hs' ks ks' is t x.0 y.0 x.2 y.2 in (x.1 ∙ ap Resized e.0 ∙ sym y.1, e.1)
+takes_decided (Compact_heap k) hs hs' ks ks' is t r r' x y m n = let e = packs_decided k hs hs' ks ks' t x.0 y.0 x.2 y.2 in (x.1 ∙ ap Was_done e.0 ∙ sym y.1, e.1)
+takes_decided (Make_room k size) hs hs' ks ks' is t r r' x y m n = let e = room_decided k size hs hs' ks ks' is t x.0 y.0 x.2 y.2 in (x.1 ∙ ap Room_made e.0 ∙ sym y.1, e.1)
 
 pub taken_decided : (cs : List Call) (hs hs' ks ks' : Heaps) → state.IsWellFormed hs → AreTwins hs hs' → (rs rs' : List Reply) → TakesAll hs cs rs ks → TakesAll hs' cs rs' ks' → (rs ≡ rs') × AreTwins ks ks'
 taken_decided [] hs hs' ks ks' is t [] [] x y = (refl, subst₂ AreTwins (sym x) (sym y) t)

@@ -7,7 +7,7 @@ use Rattle.offset_guarded.specs.Guard.{Guard}
 use Rattle.offset_heaps.specs.declared.place.Granted.{Granted}
 use Rattle.offset_heaps.specs.declared.place.Place.{Place}
 use Rattle.offset_heaps.specs.Heaps.{Heaps, FreesIn, Grants, IsBefore, IsLive, IsSame, Puts, heap_at, range_in, range_of, slot}
-use Rattle.offset_heaps.specs.{Histories.AreSteps, Histories.IsGone, Histories.IsStep, Histories.ResetsAll, Slots.ResetsIn}
+use Rattle.offset_heaps.specs.{Histories.AreSteps, Histories.IsGone, Histories.IsStep, Histories.Keeps, Histories.ResetsAll, Slots.ResetsIn}
 use Rattle.offset_heaps.proofs.Growing.{grown_realm}
 use Rattle.offset_heaps.proofs.{Numbers.slot_other, Numbers.slot_past, Numbers.slot_same, Numbers.slot_set, Places.none_if}
 
@@ -64,6 +64,16 @@ free_keeps p q hs ks f gone = record {
   ]);
 }
 
+alter_keeps : (p : Place) (k : ℕ) (hs ks : Heaps) → Keeps k hs ks → IsGone p hs → IsGone p ks
+alter_keeps p k hs ks f gone = record {
+  made = subst (λ n. p.ticket.realm ≤ n) (sym (ap (λ (h : Heaps). h.made) f.heaps)) gone.made;
+  other = subst (λ s. Lacks p.ticket.realm (slot p.heap s)) (sym (ap (λ (h : Heaps). h.slots) f.heaps)) (elim (cases_lt k (length hs.slots)) [
+    | inl there ↦ put_lacks p.ticket.realm k p.heap hs.slots (Some f.after) there gone.other
+        (λ e. same_realm p.ticket.realm (heap_at p.heap hs) f.before f.after (ap (λ k. heap_at k hs) e ∙ f.heap) f.by gone.other)
+    | inr past ↦ absurd (let none : slot k hs.slots ≡ None = slot_past hs.slots k past in let some = f.heap in cc)
+  ]);
+}
+
 drop_keeps : (p : Place) (k : ℕ) (hs ks : Heaps) → Puts k None hs ks → IsGone p hs → IsGone p ks
 drop_keeps p k hs ks puts gone = record {
   made = subst (λ n. p.ticket.realm ≤ n) (sym (ap (λ (h : Heaps). h.made) puts)) gone.made;
@@ -92,7 +102,8 @@ stays_gone p hs ks gone (inl same) = same_keeps p hs ks same gone
 stays_gone p hs ks gone (inr (inl grant)) = grant_keeps p grant.0 grant.1 hs ks grant.2 grant.3 gone
 stays_gone p hs ks gone (inr (inr (inl free))) = free_keeps p free.0 hs ks free.1 gone
 stays_gone p hs ks gone (inr (inr (inr (inl drop)))) = drop_keeps p drop.0 hs ks drop.1 gone
-stays_gone p hs ks gone (inr (inr (inr (inr reset)))) = reset_keeps p hs ks reset gone
+stays_gone p hs ks gone (inr (inr (inr (inr (inl reset))))) = reset_keeps p hs ks reset gone
+stays_gone p hs ks gone (inr (inr (inr (inr (inr alter))))) = alter_keeps p alter.0 hs ks alter.1 gone
 
 -- no place of it is live
 gone_range : (p : Place) (o : Option Guard) → Lacks p.ticket.realm o → range_in p.ticket o ≡ None

@@ -7,7 +7,7 @@ use Rattle.offset_heaps.specs.declared.limits.Limits.{Limits}
 use Rattle.offset_heaps.specs.{Heaps.IsFirstLimit, Heaps.IsNew, Heaps.IsOfKind, Heaps.larger_limit, Slots.Serves, Slots.ServesTight}
 use Rattle.offset_heaps.proofs.{Growing.begun_left, Growing.split_blocks, Rooms.some_same, Sound.kind_kept}
 
-size_tight : (n : ℕ) (v w : View) (h : Handle) → AlignsTight n 1 v w (Some h) → w.size ≡ v.size
+pub size_tight : (n : ℕ) (v w : View) (h : Handle) → AlignsTight n 1 v w (Some h) → w.size ≡ v.size
 size_tight n v w h (inl a) = ap (λ (v : View). v.size) a.1.view
 size_tight n v w h (inr f) = ap (λ (v : View). v.size) f.1.1.3.view
 

@@ -1,5 +1,5 @@
 -- Heaps that no answer tells apart: what calls read of them is the same, and so is what a change of one heap leaves.
-use Rattle.std.proofs.Common.{◌≡◌, ◌≢◌, ℕ, suc, ◌+◌, ◌<◌, ◌⊎◌, Bool, true, false, ◌&&◌, length, List, [], ◌∷◌, Option, Some, None, IfSome, IsSome, slice_set, if◌then◌else◌, nat_eq, refl, sym, ap, ap₂}
+use Rattle.std.proofs.Common.{◌≡◌, ◌≢◌, ℕ, suc, ◌+◌, ◌<◌, ◌⊎◌, Bool, true, false, ◌&&◌, length, List, [], ◌∷◌, Option, Some, None, IfSome, IsSome, is_some, option_map, slice_set, if◌then◌else◌, nat_eq, refl, sym, ap, ap₂}
 use Rattle.std.proofs.Common.{subst, ◌∙◌, inl, inr, arith, eq-eqb}
 use Rattle.std.proofs.lemmas.Bool.{cases_eq}
 use Rattle.offset_allocator.specs.{Ranges.Range, Relations.SameState, View.View, View.Handle, View.IsWellFormed}
@@ -136,6 +136,41 @@ reset_one g g' h h' known twin f f' e e' none = record {
   given = ap (λ (z : Guard). z.given) e' ∙ twin.given ∙ sym (ap (λ (z : Guard). z.given) e);
   realm = ap (λ (z : Guard). z.realm) e' ∙ twin.realm ∙ sym (ap (λ (z : Guard). z.realm) e);
 }
+
+-- ---- a change in place
+-- with the serials that were, and no other live ticket
+pub kept_twins : (g g' h h' : Guard) → IsTwin g g' → guarded.KeepsSerials g h → guarded.KeepsSerials g' h' → guarded.KeepsLive g h → SameState h.space h'.space → IsTwin h h'
+kept_twins g g' h h' twin s s' kept same = record {
+  space = same;
+  serials = λ x live. s'.cells x ∙ twin.serials x (was x live) ∙ sym (s.cells x);
+  given = s'.given ∙ twin.given ∙ sym s.given;
+  realm = s'.realm ∙ twin.realm ∙ sym s.realm;
+}
+  where
+    one_ticket : (x : ℕ) → ticket_of x h ≡ ticket_of x g
+    one_ticket x = ap₂ (λ (n r : ℕ). let t : Ticket = record { offset = 0; name = x; serial = n; realm = r } in t) (s.cells x) s.realm
+
+    was : (x : ℕ) → named.IsLive x h.space → named.IsLive x g.space
+    was x live =
+        let here : is_some (guarded.range_of (ticket_of x h) h) ≡ true = ap is_some (own_range x h) ∙ live in
+        ap is_some (sym (own_range x g)) ∙ ap (λ t. is_some (guarded.range_of t g)) (sym (one_ticket x)) ∙ sym (kept (ticket_of x h)) ∙ here
+
+-- no serial changes, and each ticket has as many units as it had
+pub slid_twins : (g g' h h' : Guard) → IsTwin g g' → h ≡ record g { space = h.space } → h' ≡ record g' { space = h'.space } → guarded.KeepsSizes g h → SameState h.space h'.space → IsTwin h h'
+slid_twins g g' h h' twin e e' sizes same = kept_twins g g' h h' twin (serials g h e) (serials g' h' e') (λ t. sized (guarded.range_of t h) (guarded.range_of t g) (sizes t)) same
+  where
+    serials : (g h : Guard) → h ≡ record g { space = h.space } → guarded.KeepsSerials g h
+    serials g h e = record {
+      cells = λ x. ap (λ (z : Guard). serial_of x z) e;
+      given = ap (λ (z : Guard). z.given) e;
+      realm = ap (λ (z : Guard). z.realm) e;
+    }
+
+    sized : (o p : Option Range) → option_map (λ (r : Range). r.size) o ≡ option_map (λ (r : Range). r.size) p → is_some o ≡ is_some p
+    sized None None e = refl
+    sized None (Some r) e = absurd (cc)
+    sized (Some r) None e = absurd (cc)
+    sized (Some r) (Some s) e = refl
 
 pub some_twin : (g h : Guard) (o p : Option Guard) → o ≡ Some g → p ≡ Some h → IsTwinIn o p → IsTwin g h
 some_twin g h o p e f t =

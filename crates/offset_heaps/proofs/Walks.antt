@@ -1,16 +1,17 @@
 -- The live ranges of a heap, by their places.
 use Rattle.std.proofs.Common.{◌≡◌, ℕ, Option, Some, None, option_map, refl, sym, ap, ◌∙◌}
-use Rattle.offset_allocator.specs.{Reporting.Beside.last_live, Reporting.Beside.live_before, View.Handle}
+use Rattle.offset_allocator.specs.{Reporting.Beside.first_live, Reporting.Beside.last_live, Reporting.Beside.live_after, Reporting.Beside.live_before, View.Handle}
 use Rattle.offset_guarded.specs.Guard.{Guard, ticket_at}
 use Rattle.offset_guarded.specs.declared.ticket.Ticket.{Ticket}
 use Rattle.offset_heaps.specs.declared.place.Place.{Place}
+use Rattle.offset_heaps.specs.Numbering.{first_place, place_after}
 use Rattle.offset_heaps.specs.Relocating.{last_place, place_before, place_in}
 
 -- the place of a ticket
 abbrev pub placed : ℕ → ℕ → Ticket → Place
 placed k realm t = record { heap = k; realm = realm; ticket = t }
 
-fused : (k realm : ℕ) (g : Guard) (x : Option Handle) → option_map (placed k realm) (option_map (λ (h : Handle). ticket_at h g) x) ≡ option_map (place_in k realm g) x
+pub fused : (k realm : ℕ) (g : Guard) (x : Option Handle) → option_map (placed k realm) (option_map (λ (h : Handle). ticket_at h g) x) ≡ option_map (place_in k realm g) x
 fused k realm g None = refl
 fused k realm g (Some h) = refl
 
@@ -22,6 +23,15 @@ pub before_of : (k realm : ℕ) (u : Ticket) (g : Guard) (o : Option Guard) (t :
     → t ≡ option_map (λ (h : Handle). ticket_at h g) (live_before u.name g.space) → r ≡ option_map (placed k realm) t → r ≡ place_before k realm u o
 before_of k realm u g o t r there is made =
     made ∙ ap (option_map (placed k realm)) is ∙ fused k realm g (live_before u.name g.space) ∙ sym (ap (place_before k realm u) there)
+
+pub first_of : (k realm : ℕ) (g : Guard) (o : Option Guard) (t : Option Ticket) (r : Option Place) → o ≡ Some g → t ≡ option_map (λ (h : Handle). ticket_at h g) (first_live g.space)
+    → r ≡ option_map (placed k realm) t → r ≡ first_place k realm o
+first_of k realm g o t r there is made = made ∙ ap (option_map (placed k realm)) is ∙ fused k realm g (first_live g.space) ∙ sym (ap (first_place k realm) there)
+
+pub after_of : (k realm : ℕ) (u : Ticket) (g : Guard) (o : Option Guard) (t : Option Ticket) (r : Option Place) → o ≡ Some g
+    → t ≡ option_map (λ (h : Handle). ticket_at h g) (live_after u.name g.space) → r ≡ option_map (placed k realm) t → r ≡ place_after k realm u o
+after_of k realm u g o t r there is made =
+    made ∙ ap (option_map (placed k realm)) is ∙ fused k realm g (live_after u.name g.space) ∙ sym (ap (place_after k realm u) there)
 
 pub none_of : (k realm : ℕ) (t : Option Ticket) (r : Option Place) → t ≡ None → r ≡ option_map (placed k realm) t → r ≡ None
 none_of k realm t r none made = made ∙ ap (option_map (placed k realm)) none

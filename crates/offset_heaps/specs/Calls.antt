@@ -1,6 +1,9 @@
 -- Calls, their results and what they leave: of the contract of each call the clauses of the same names.
-use Rattle.std.specs.Prelude.{◌≡◌, ◌↔◌, ℕ, ◌<◌, ◌≤◌, Bool, true, false, List, [], ◌∷◌, Option, None, Some, IfSome, IsSome, IsTrue, Result, Err, IfOk, IfErr, OnErr}
+use Rattle.std.specs.Prelude.{◌≡◌, ◌↔◌, ℕ, ◌<◌, ◌≤◌, Bool, true, false, List, [], ◌∷◌, ◌++◌, Option, None, Some, IfSome, IsSome, IsTrue, Result, Err, IfOk, IfErr, OnErr}
+use Rattle.offset_allocator.specs.Moving.Compacting.{Move}
 use Rattle.offset_allocator.specs.Requests.{blocks_needed, units_needed}
+use Rattle.offset_allocator.specs.declared.moves.room.RoomCost.{RoomCost}
+use Rattle.offset_heaps.specs.Changing.{CanResizeAt, CompactsHeap, MakesRoomAt, ResizesAt, Wanted}
 use Rattle.offset_heaps.specs.declared.place.Granted.{Granted}
 use Rattle.offset_heaps.specs.declared.place.Place.{Place}
 use Rattle.offset_heaps.specs.declared.refusal.Refusal.{Refusal}
@@ -65,6 +68,28 @@ pub record GivesUp (k : ℕ) (hs ks : Heaps) (r : Bool) : Type 0 where
   pub same : r ≡ false → IsSame hs ks
   pub heaps : r ≡ true → Puts k None hs ks
 
+-- `shrink` and `grow_in_place`
+pub record TakesSize (how : Wanted) (p : Place) (hs ks : Heaps) (r : Option Bool) : Type 0 where
+  pub live : IsSome r ↔ IsLive p hs
+  pub done : IfSome r (λ d. IsTrue d ↔ CanResizeAt how p hs)
+  pub gone : r ≡ None → IsSame hs ks
+  pub step : IfSome r (ResizesAt how p hs ks)
+
+-- `compact_heap`
+pub record Packs (k : ℕ) (hs ks : Heaps) (r : Bool) : Type 0 where
+  pub done : IsTrue r ↔ IsSome (heap_at k hs)
+  pub same : r ≡ false → IsSame hs ks
+  pub step : r ≡ true → CompactsHeap k hs ks
+
+-- moves in their order
+abbrev pub Notes : List Move → Move → List Move → Type 0
+Notes xs x ys = ys ≡ xs ++ x ∷ []
+
+-- `make_room`, by the moves of some ranges
+pub record TakesRoom (k size : ℕ) (hs ks : Heaps) (r : Option RoomCost) : Type 0 where
+  pub none : heap_at k hs ≡ None → IsSame hs ks × (r ≡ None)
+  pub step : IsSome (heap_at k hs) → (xs : List Move) × MakesRoomAt Notes k size hs [] r ks xs
+
 -- a call that may change heaps
 pub data Call : Type 0 where
   -- a request, by its size and alignment
@@ -75,6 +100,10 @@ pub data Call : Type 0 where
   Drop_heap : ℕ → Call
   Give_up : ℕ → Call
   Reset : Call
+  Resize : Wanted → Place → Call
+  Compact_heap : ℕ → Call
+  -- room for so many units in the heap of a number
+  Make_room : ℕ → ℕ → Call
 
 -- the result of a call
 pub data Reply : Type 0 where
@@ -83,6 +112,8 @@ pub data Reply : Type 0 where
   Dropped : Option ℕ → Reply
   Was_done : Bool → Reply
   Nothing : Reply
+  Resized : Option Bool → Reply
+  Room_made : Option RoomCost → Reply
 
 -- a call is taken: what it leaves, and its result. The units of a request have 32 bits
 abbrev pub Takes : Call → Heaps → Heaps → Reply → Type 0
@@ -93,6 +124,9 @@ Takes (Drop_empty keep) hs ks reply = (r : Option ℕ) × (reply ≡ Dropped r) 
 Takes (Drop_heap k) hs ks reply = (r : Bool) × (reply ≡ Was_done r) × Drops k hs ks r
 Takes (Give_up k) hs ks reply = (r : Bool) × (reply ≡ Was_done r) × GivesUp k hs ks r
 Takes Reset hs ks reply = (reply ≡ Nothing) × ResetsAll hs ks
+Takes (Resize how p) hs ks reply = (r : Option Bool) × (reply ≡ Resized r) × TakesSize how p hs ks r
+Takes (Compact_heap k) hs ks reply = (r : Bool) × (reply ≡ Was_done r) × Packs k hs ks r
+Takes (Make_room k size) hs ks reply = (r : Option RoomCost) × (reply ≡ Room_made r) × TakesRoom k size hs ks r
 
 -- a request was refused for want of memory
 abbrev pub IsStarved : Reply → Type 0

@@ -2,6 +2,7 @@
 use Rattle.std.specs.Prelude.{◌≡◌, ◌≢◌, ℕ, ◌≤◌, ◌⊎◌, List, [], ◌∷◌, None, IfSome}
 use Rattle.offset_heaps.specs.declared.place.Granted.{Granted}
 use Rattle.offset_heaps.specs.declared.place.Place.{Place}
+use Rattle.offset_heaps.specs.Changing.{Alters}
 use Rattle.offset_heaps.specs.Heaps.{Heaps, FreesIn, Grants, IsSame, Puts, heap_at}
 use Rattle.offset_heaps.specs.Slots.{ResetsIn}
 
@@ -10,13 +11,18 @@ pub record ResetsAll (hs ks : Heaps) : Type 0 where
   pub heaps : (k : ℕ) → ResetsIn (heap_at k hs) (heap_at k ks)
   pub rest : ks ≡ record hs { slots = ks.slots; accesses = ks.accesses }
 
--- what one call leaves: all as it was, a grant, a range freed, a heap dropped, or all reset
+-- the heap of a number is changed in place, and keeps its realm
+abbrev pub Keeps : ℕ → Heaps → Heaps → Type 0
+Keeps k hs ks = Alters k (λ g h. h.realm ≡ g.realm) hs ks
+
+-- what one call leaves: all as it was, a grant, a range freed, a heap dropped, all reset, or a heap changed in place
 abbrev pub IsStep : Heaps → Heaps → Type 0
 IsStep hs ks = IsSame hs ks
     ⊎ ((size align : ℕ) × (grant : Granted) × Grants size align hs ks grant)
     ⊎ ((p : Place) × FreesIn p hs ks)
     ⊎ ((k : ℕ) × Puts k None hs ks)
     ⊎ ResetsAll hs ks
+    ⊎ ((k : ℕ) × Keeps k hs ks)
 
 -- what some calls leave, one after another
 abbrev pub AreSteps : Heaps → List Heaps → Type 0

@@ -1,7 +1,11 @@
+pub mod Asking
 pub mod Calls
+pub mod Changing
+pub mod Dumping
 pub mod Heaps
 pub mod Histories
 pub mod Maxima
+pub mod Numbering
 pub mod Relocating
 pub mod Slots
 pub mod Soundness

@@ -14,7 +14,7 @@ use offset_guarded::{GuardedOf, Ticket};
 use std::alloc::AllocError;
 
 // A number, where it is below a limit.
-fn below(found: Option<u32>, limit: u32) -> Option<u32>
+pub(crate) fn below(found: Option<u32>, limit: u32) -> Option<u32>
     ensures { IsBelow limit found result }
 {
     match found {
@@ -49,7 +49,7 @@ impl<T: Tables> HeapsOf<T> {
     }
 
     // Whether a fresh heap of the usual size has that many units for a request.
-    fn is_usual(&self, size: u32) -> bool
+    pub(crate) fn is_usual(&self, size: u32) -> bool
         ensures { IsTrue result ↔ IsUsual size self.now }
     {
         let all = self.limits.size;

@@ -2,6 +2,7 @@
 ghost use Rattle.std.specs.Prelude.{◌≡◌, None, option_map};
 ghost use Rattle.offset_guarded.specs.declared.ticket.Ticket.{Ticket};
 ghost use Rattle.offset_heaps.specs.Heaps.{IsLive, heap_at};
+ghost use Rattle.offset_heaps.specs.Numbering.{first_place, place_after};
 ghost use Rattle.offset_heaps.specs.Relocating.{last_place, place_before};
 
 use crate::HeapsOf;
@@ -25,6 +26,24 @@ impl<T: Tables> HeapsOf<T> {
                 realm: self.realm,
                 ticket,
             }),
+        }
+    }
+
+    /// The place of the live range that is the first one in the heap of a number, or `None` where nothing is
+    /// live in it, or the number has no heap. From it on, `live_after` walks all live ranges of the heap; they
+    /// may be freed on the way, after the next one is asked for.
+    ///
+    /// ```
+    /// let mesh = heaps.allocate(300).unwrap().place;
+    /// heaps.allocate(100).unwrap();
+    /// assert_eq!(heaps.first_live(mesh.heap), Some(mesh));
+    /// ```
+    pub fn first_live(&self, heap: u32) -> Option<Place>
+        ensures { result ≡ first_place heap self.now.realm (heap_at heap self.now) }
+    {
+        match self.heap(heap) {
+            None => None,
+            Some(guarded) => self.place_at(heap, guarded.first_live()),
         }
     }
 
@@ -62,6 +81,25 @@ impl<T: Tables> HeapsOf<T> {
         match self.heap_of(place) {
             None => None,
             Some(guarded) => self.place_at(place.heap, guarded.live_before(place.ticket)),
+        }
+    }
+
+    /// The place of the live range directly after that of a place in its heap. `None` where there is none, or
+    /// where the place is not live. `place_after` goes on in the next heap.
+    ///
+    /// ```
+    /// let mesh = heaps.allocate(300).unwrap().place;
+    /// let texture = heaps.allocate(100).unwrap().place;
+    /// assert_eq!(heaps.live_after(mesh), Some(texture));
+    /// ```
+    pub fn live_after(&self, place: Place) -> Option<Place>
+        ensures after { IsLive place self.now → result
+            ≡ place_after place.heap self.now.realm place.ticket (heap_at place.heap self.now) }
+        ensures gone { (IsLive place self.now → ⊥) → result ≡ None }
+    {
+        match self.heap_of(place) {
+            None => None,
+            Some(guarded) => self.place_at(place.heap, guarded.live_after(place.ticket)),
         }
     }
 }

@@ -1,6 +1,6 @@
 //! Laws: what holds of all heaps. Its functions do nothing.
 ghost use Rattle.std.specs.Prelude.{ℕ, List, ◌≡◌, ◌↔◌, ◌+◌, ◌-◌, ◌*◌, ◌<◌, ◌≤◌, ◌∷◌, None, Some, IfSome, length};
-ghost use Rattle.std.specs.Prelude.{Bool, Err, MatchOption, Option, Result};
+ghost use Rattle.std.specs.Prelude.{Bool, Err, IfErr, MatchOption, Option, Result, option_map, true};
 ghost use Rattle.std.specs.List.{AllByRecursion};
 ghost use Rattle.offset_allocator.specs.Ranges.{AreDisjoint, Range};
 ghost use Rattle.offset_allocator.specs.Reporting.Reports.{IsReport};
@@ -8,14 +8,19 @@ ghost use Rattle.offset_allocator.specs.Requests.{CanGrant, blocks_needed, units
 ghost use Rattle.offset_allocator.specs.declared.reports.StorageReport.{StorageReport};
 ghost use Rattle.offset_guarded.specs.Guard.{Guard, HasSerialLeft, IsRaised};
 ghost use Rattle.offset_heaps.specs.Heaps.{Heaps, room, AreAlike, AreTotals, heap_at, numbers, range_of};
-ghost use Rattle.offset_heaps.specs.Heaps.{IsFirstFit, IsLive, IsNext, IsWhy, MustGrowIn, Puts, size_of, total};
+ghost use Rattle.offset_heaps.specs.Heaps.{Grants, IsFirstFit, IsLive, IsNext, IsUsual, IsWhy, MustGrowIn, Puts};
+ghost use Rattle.offset_heaps.specs.Heaps.{size_of, total};
 ghost use Rattle.offset_heaps.specs.Histories.{AreSteps, IsGone, IsStep, ResetsAll};
+ghost use Rattle.offset_heaps.specs.Numbering.{AreOfLive, MeetsPlaces, first_from, live_places, next_place};
 ghost use Rattle.offset_heaps.specs.State.{IsCopy, IsStateOf, IsWellFormed, SameHeaps};
 ghost use Rattle.offset_heaps.specs.Relocating.{IsEmptiest, NoneLive, last_place, place_before};
 ghost use Rattle.offset_heaps.specs.Relocating.{live_at, squares, units_of};
 ghost use Rattle.offset_heaps.specs.Twins.{AreTwins};
 ghost use Rattle.offset_heaps.specs.Calls.{Allocates, TakesAll, Call, Drops, DropsEmpty, Frees, GivesUp};
-ghost use Rattle.offset_heaps.specs.Calls.{GoAll, Goes, Relocates, Reply};
+ghost use Rattle.offset_heaps.specs.Calls.{GoAll, Goes, Packs, Relocates, Reply, TakesRoom, TakesSize};
+ghost use Rattle.offset_heaps.specs.Asking.{IsRefusedFor, IsServed};
+ghost use Rattle.offset_heaps.specs.Changing.{Wanted};
+ghost use Rattle.offset_allocator.specs.declared.moves.room.RoomCost.{RoomCost};
 ghost use Rattle.offset_heaps.specs.declared.place.Granted.{Granted};
 ghost use Rattle.offset_heaps.specs.declared.place.Place.{Place};
 ghost use Rattle.offset_heaps.specs.declared.refusal.Refusal.{Refusal};
@@ -23,6 +28,8 @@ ghost use Rattle.offset_heaps.specs.declared.totals.Totals.{Totals};
 ghost use Rattle.offset_heaps.specs.declared.refusal.Refusal.TheVariants.{Memory};
 
 use crate::HeapsOf;
+pub use crate::asking::refusal_aligned_counted;
+pub use crate::numbering::{first_heap_counted, heap_after_counted};
 pub use crate::relocate::emptiest_counted;
 use offset_allocator::Tables;
 use offset_allocator::laws::{is_well_formed, ranges_are_disjoint};
@@ -78,6 +85,23 @@ pub fn reasons_exclude_one_another()
         → IsNext size k hs → IsWhy size align hs r → r ≡ Memory }
 {}
 
+/// What `refusal_aligned` says is what the same request is answered then: refused for this reason, or granted,
+/// or refused its memory. So `refusal` and `allocate`, with the alignment 1.
+pub fn refusals_are_foretold()
+    ensures { (size align : ℕ) (hs ks : Heaps) (why : Option Refusal) (r : Result Granted Refusal)
+        → MatchOption why (IsServed size align hs) (IsRefusedFor size align hs) → Allocates size align hs ks r
+        → MatchOption why (IfErr r (λ w. w ≡ Memory)) (λ w. r ≡ Err w) }
+{}
+
+/// A heap that is made for a request has the units of the limits where the request is usual, and else those
+/// of the request: what `units_of_heap` returns after it.
+pub fn new_heaps_have_their_units()
+    ensures usual { (size align : ℕ) (hs ks : Heaps) (g : Granted) → Grants size align hs ks g
+        → g.is_new ≡ true → IsUsual size hs → option_map size_of (heap_at g.place.heap ks) ≡ Some hs.limits.size }
+    ensures larger { (size align : ℕ) (hs ks : Heaps) (g : Granted) → Grants size align hs ks g
+        → g.is_new ≡ true → (IsUsual size hs → ⊥) → option_map size_of (heap_at g.place.heap ks) ≡ Some size }
+{}
+
 /// There is a slot for each number, and no heap has a realm that a later one will have: theirs are above
 /// `made`.
 pub fn realms_are_given<T: Tables>(heaps: &HeapsOf<T>)
@@ -112,6 +136,16 @@ pub fn relocations_end()
     ensures ends { (ps : List Place) (hs ks : Heaps) → IsWellFormed hs → GoAll hs ps ks
         → squares hs + 2 * length ps ≤ total (λ g. size_of g * size_of g) hs.slots }
 {}
+
+/// A walk from `first_place` on by `place_after` meets the places of all live ranges, by the numbers of their
+/// heaps, and in a heap in space order: each live place once, and no other. It looks at each slot.
+pub fn each_live_place_is_met_once<T: Tables>(heaps: &HeapsOf<T>)
+    ensures walk { MeetsPlaces (λ p. next_place p heaps.now) (first_from 0 heaps.now)
+        (live_places heaps.now) }
+    ensures once { AreOfLive (live_places heaps.now) heaps.now }
+{
+    a_state_is_read_back(heaps);
+}
 
 // How many heaps were made.
 fn made<T: Tables>(heaps: &HeapsOf<T>) -> u32
@@ -165,6 +199,14 @@ pub fn a_state_decides_each_step()
         → GivesUp k hs ks r → GivesUp k hs' ks' r' → (r ≡ r') × AreTwins ks ks' }
     ensures reset { (hs hs' ks ks' : Heaps) → IsWellFormed hs → AreTwins hs hs' → ResetsAll hs ks
         → ResetsAll hs' ks' → AreTwins ks ks' }
+    ensures resize { (how : Wanted) (p : Place) (hs hs' ks ks' : Heaps) → IsWellFormed hs → AreTwins hs hs'
+        → (r r' : Option Bool) → TakesSize how p hs ks r → TakesSize how p hs' ks' r'
+        → (r ≡ r') × AreTwins ks ks' }
+    ensures compact_heap { (k : ℕ) (hs hs' ks ks' : Heaps) → AreTwins hs hs' → (r r' : Bool)
+        → Packs k hs ks r → Packs k hs' ks' r' → (r ≡ r') × AreTwins ks ks' }
+    ensures make_room { (k size : ℕ) (hs hs' ks ks' : Heaps) → IsWellFormed hs → AreTwins hs hs'
+        → (r r' : Option RoomCost) → TakesRoom k size hs ks r → TakesRoom k size hs' ks' r'
+        → (r ≡ r') × AreTwins ks ks' }
     ensures range { (hs hs' : Heaps) (p : Place) → AreTwins hs hs' → range_of p hs' ≡ range_of p hs }
     ensures emptiest { (hs hs' : Heaps) → AreTwins hs hs' → (r r' : Option ℕ)
         → MatchOption r (NoneLive (numbers hs) hs.slots) (IsEmptiest (numbers hs) hs.slots)

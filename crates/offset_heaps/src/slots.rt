@@ -1,21 +1,27 @@
 //! The heaps by their numbers: no other module reads or writes them. Each function counts the slots that it
 //! touches.
 ghost use Rattle.std.specs.Prelude.{◌≡◌, ◌↔◌, ◌+◌, ◌^◌, ◌<◌, ◌≤◌, IsTrue, IsSome, None, Some, false, length};
-ghost use Rattle.std.specs.Prelude.{IfOk, IsErr, MatchOption, is_some, option_copied, replicate};
+ghost use Rattle.std.specs.Prelude.{IfOk, IfSome, IsErr, MatchOption, is_some, option_copied, replicate};
 ghost use Rattle.std.specs.Prelude.{ℕ, slice_set, true};
+ghost use Rattle.std.specs.List.{FoldsTo};
 ghost use Rattle.offset_allocator.specs.Requests.{blocks_needed, units_needed};
 ghost use Rattle.offset_allocator.specs.Tight.{CanHold};
-ghost use Rattle.offset_guarded.specs.Guard.{Guard, HasSerialLeft};
+ghost use Rattle.offset_guarded.specs.Guard.{Guard, HasSerialLeft, IsLive};
+ghost use Rattle.offset_allocator.specs.Moving.Compacting.{IsCalledWith};
+ghost use Rattle.offset_heaps.specs.Changing.{AltersIn, CanResize, CanResizeIn, CompactsIn, IsNear, MakesRoomIn, Resizes};
+ghost use Rattle.offset_heaps.specs.Changing.{moves_in, wanted};
 ghost use Rattle.offset_heaps.specs.Heaps.{MustGrow, MustGrowIn, is_empty, live_of, part, range_in, room, room_of};
 ghost use Rattle.offset_heaps.specs.Heaps.{slot};
+ghost use Rattle.offset_heaps.specs.Numbering.{IsHeapFrom, NoHeapFrom};
 ghost use Rattle.offset_heaps.specs.Relocating.{HasLive, IsEmptiest, NoneLive, TakesUnits, units_in};
 ghost use Rattle.offset_heaps.specs.Slots.{CanHoldIn, Changes, FreesIn, GrowsIn, KeepsOthersIn};
 ghost use Rattle.offset_heaps.specs.Slots.{IsMore, ResetsIn, Serves, ServesTight};
 
 use crate::index::{is_empty_heap, rooms};
 use crate::limits::Limits;
+use crate::resize::Resize;
 use offset_allocator::laws::{is_well_formed, unused_nodes};
-use offset_allocator::{Accesses, Tables};
+use offset_allocator::{Accesses, Move, RoomCost, Tables};
 use offset_guarded::{GuardedOf, Ticket};
 use std::alloc::{AllocError, Global};
 use std::marker::Model;
@@ -124,6 +130,86 @@ fn free_in<T: Tables>(slot: &mut Option<GuardedOf<T>>, ticket: Ticket) -> bool
     match slot {
         Some(heap) => heap.free(ticket),
         None => false,
+    }
+}
+
+// Whether few nodes of the heap of a number are unused, so that a range that shrinks might leave too few.
+fn is_near<T: Tables>(heap: &GuardedOf<T>, number: u32, limits: Limits) -> bool
+    ensures { IsTrue result ↔ IsNear limits number heap.now }
+{
+    let space = heap.allocator();
+    number < limits.most && space.max_allocs() < limits.max_allocs && unused_nodes(space) < 4
+}
+
+// Makes the range of a ticket smaller or larger in place, where it is live.
+fn resize_heap<T: Tables>(heap: &mut GuardedOf<T>, ticket: Ticket, how: Resize) -> Option<bool>
+    ensures live { IsSome result ↔ IsLive ticket heap.old }
+    ensures done { IfSome result
+        (λ done. IsTrue done ↔ CanResize (wanted how) ticket.name heap.old.space) }
+    ensures change { IfSome result (λ done. Resizes (wanted how) ticket done heap.old heap.new) }
+    ensures same { result ≡ None → heap.new ≡ heap.old }
+{
+    is_well_formed(heap.allocator());
+    match how {
+        Resize::Shrink(size) => heap.shrink(ticket, size),
+        Resize::Grow(size) => heap.grow_in_place(ticket, size),
+    }
+}
+
+// The same, but that a range does not become smaller where few nodes are unused.
+fn resize_in<T: Tables>(
+    slot: &mut Option<GuardedOf<T>>,
+    number: u32,
+    limits: Limits,
+    ticket: Ticket,
+    how: Resize,
+) -> Option<bool>
+    ensures live { IsSome result ↔ IsSome (range_in ticket slot.old) }
+    ensures done { IfSome result
+        (λ done. IsTrue done ↔ CanResizeIn limits number (wanted how) ticket.name slot.old) }
+    ensures change { IfSome result (λ done. AltersIn (Resizes (wanted how) ticket done) slot.old slot.new) }
+    ensures same { result ≡ None → slot.new ≡ slot.old }
+{
+    match slot {
+        None => None,
+        Some(heap) => {
+            if how.is_less() && is_near(heap, number, limits) {
+                return if heap.is_live(ticket) { Some(false) } else { None };
+            }
+            resize_heap(heap, ticket, how)
+        }
+    }
+}
+
+// Slides every live range of a heap to the front of its space.
+fn compact_in<T: Tables, F: FnMut(Move<T::Index>)>(slot: &mut Option<GuardedOf<T>>, moved: &mut F)
+    requires there { IsSome slot.old }
+    requires callable { F.IsAlwaysCallable moved.old }
+    ensures change { AltersIn CompactsIn slot.old slot.new }
+    ensures moved { FoldsTo (IsCalledWith T.Index.NonMax.number (λ f range g. F.step f range tt g))
+        moved.old (moves_in slot.old) moved.new }
+{
+    match slot {
+        Some(heap) => heap.compact(moved),
+        None => unreachable!(),
+    }
+}
+
+// Makes room for a request in a heap.
+fn make_room_in<T: Tables, F: FnMut(Move<T::Index>)>(
+    slot: &mut Option<GuardedOf<T>>,
+    size: u32,
+    moved: &mut F,
+) -> Option<RoomCost>
+    requires there { IsSome slot.old }
+    requires callable { F.IsAlwaysCallable moved.old }
+    ensures { AltersIn (MakesRoomIn
+        (IsCalledWith T.Index.NonMax.number (λ f range g. F.step f range tt g)) size moved.old result moved.new)
+        slot.old slot.new }
+{
+    match slot {
+        Some(heap) => heap.make_room(size, moved),
+        None => unreachable!(),
     }
 }
 
@@ -255,6 +341,69 @@ impl<T: Tables> Slots<T> {
         free_in(&mut self.heaps[number as usize], ticket)
     }
 
+    /// Makes the range of a ticket smaller or larger in place in the heap of a number, where it is live, and
+    /// returns whether it did.
+    pub(crate) fn resize(
+        &mut self,
+        number: u32,
+        limits: Limits,
+        ticket: Ticket,
+        how: Resize,
+        count: &mut Accesses,
+    ) -> Option<bool>
+        ensures live { IsSome result ↔ IsSome (range_in ticket (slot number self.old)) }
+        ensures there { IsSome result → number < length self.old }
+        ensures done { IfSome result
+            (λ done. IsTrue done ↔ CanResizeIn limits number (wanted how) ticket.name (slot number self.old)) }
+        ensures change { IfSome result
+            (λ done. Changes number (AltersIn (Resizes (wanted how) ticket done)) self.old self.new) }
+        ensures same { result ≡ None → self.new ≡ self.old }
+        ensures accesses { count.new ≡ count.old + 1 }
+    {
+        count.tick();
+        if number as usize >= self.heaps.len() {
+            return None;
+        }
+        resize_in(&mut self.heaps[number as usize], number, limits, ticket, how)
+    }
+
+    /// Slides every live range of the heap of a number to the front of its space.
+    pub(crate) fn compact<F: FnMut(Move<T::Index>)>(
+        &mut self,
+        number: u32,
+        moved: &mut F,
+        count: &mut Accesses,
+    )
+        requires there { IsSome (slot number self.old) }
+        requires callable { F.IsAlwaysCallable moved.old }
+        ensures change { Changes number (AltersIn CompactsIn) self.old self.new }
+        ensures moved { FoldsTo (IsCalledWith T.Index.NonMax.number (λ f range g. F.step f range tt g))
+            moved.old (moves_in (slot number self.old)) moved.new }
+        ensures accesses { count.new ≡ count.old + 1 }
+    {
+        count.tick();
+        compact_in(&mut self.heaps[number as usize], moved);
+    }
+
+    /// Makes room for a request in the heap of a number.
+    pub(crate) fn make_room<F: FnMut(Move<T::Index>)>(
+        &mut self,
+        number: u32,
+        size: u32,
+        moved: &mut F,
+        count: &mut Accesses,
+    ) -> Option<RoomCost>
+        requires there { IsSome (slot number self.old) }
+        requires callable { F.IsAlwaysCallable moved.old }
+        ensures change { Changes number (AltersIn (MakesRoomIn
+            (IsCalledWith T.Index.NonMax.number (λ f range g. F.step f range tt g)) size
+            moved.old result moved.new)) self.old self.new }
+        ensures accesses { count.new ≡ count.old + 1 }
+    {
+        count.tick();
+        make_room_in(&mut self.heaps[number as usize], size, moved)
+    }
+
     /// Makes the space of the heap of a number one free block again.
     pub(crate) fn reset(&mut self, number: u32, count: &mut Accesses)
         requires { number < length self.old }
@@ -263,6 +412,22 @@ impl<T: Tables> Slots<T> {
     {
         count.tick();
         reset_in(&mut self.heaps[number as usize]);
+    }
+
+    /// The first number, from one on, that has a heap.
+    pub(crate) fn heap_from(&self, start: u32, numbers: u32, count: &mut Accesses) -> Option<u32>
+        requires start { start ≤ numbers }
+        requires numbers { length self.now ≡ numbers }
+        ensures first { MatchOption result (NoHeapFrom start self.now) (IsHeapFrom start self.now) }
+        ensures there { IfSome result (λ k. k < numbers) }
+        ensures accesses { count.new ≤ count.old + numbers }
+    {
+        for number in start..numbers {
+            if self.has(number, count) {
+                return Some(number);
+            }
+        }
+        None
     }
 
     /// Whether the heap of a number has no live range.

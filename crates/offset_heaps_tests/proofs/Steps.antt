@@ -1,10 +1,14 @@
 -- What each call leaves is a step of a history.
-use Rattle.std.proofs.Common.{◌≡◌, ℕ, Bool, true, false, Result, Ok, Err, IfOk, Option, Some, None, IfSome, refl, inl, inr}
+use Rattle.std.proofs.Common.{◌≡◌, ℕ, Bool, true, false, Result, Ok, Err, IfOk, Option, Some, None, IfSome, IsSome, is_some, ap, refl, inl, inr}
 use Rattle.std.specs.Prelude.{OnErr}
 use Rattle.offset_heaps.specs.declared.place.Granted.{Granted}
 use Rattle.offset_heaps.specs.declared.place.Place.{Place}
 use Rattle.offset_heaps.specs.declared.refusal.Refusal.{Refusal}
-use Rattle.offset_heaps.specs.Heaps.{Heaps, FreesIn, Grants, IsSame, Puts}
+use Rattle.offset_heaps.specs.Heaps.{Heaps, FreesIn, Grants, IsSame, Puts, heap_at}
+use Rattle.offset_allocator.specs.Moving.Compacting.{Move}
+use Rattle.offset_allocator.specs.declared.moves.room.RoomCost.{RoomCost}
+use Rattle.offset_guarded.specs.Guard.{Guard}
+use Rattle.offset_heaps.specs.Changing.{CompactsHeap, MakesRoomAt, ResizesAt, Wanted}
 use Rattle.offset_heaps.specs.Histories.{IsStep}
 use Rattle.offset_heaps.specs.Relocating.{granted}
 
@@ -28,3 +32,24 @@ module _ (hs ks : Heaps) where
   pub drops_one : (r : Option ℕ) → (r ≡ None → IsSame hs ks) → IfSome r (λ k. Puts k None hs ks) → IsStep hs ks
   drops_one None same step = inl (same refl)
   drops_one (Some k) same step = inr (inr (inr (inl (k, step))))
+
+  pub resizes : (how : Wanted) (p : Place) (r : Option Bool) → (r ≡ None → IsSame hs ks) → IfSome r (ResizesAt how p hs ks) → IsStep hs ks
+  resizes how p None same step = inl (same refl)
+  resizes how p (Some d) same step =
+      inr (inr (inr (inr (inr (p.heap, record { before = step.before; after = step.after; heap = step.heap; by = step.by.serials.realm; heaps = step.heaps })))))
+
+  pub packs : (k : ℕ) (b : Bool) → (b ≡ false → IsSame hs ks) → (b ≡ true → CompactsHeap k hs ks) → IsStep hs ks
+  packs k false same step = inl (same refl)
+  packs k true same step =
+      let s = step refl in
+      inr (inr (inr (inr (inr (k, record { before = s.before; after = s.after; heap = s.heap; by = ap (λ (g : Guard). g.realm) s.by.serials; heaps = s.heaps })))))
+
+  pub rooms : {F : Type 0} (R : F → Move → F → Type 0) (k size : ℕ) (f : F) (c : Option RoomCost) (g : F) → (heap_at k hs ≡ None → IsSame hs ks)
+      → (IsSome (heap_at k hs) → MakesRoomAt R k size hs f c ks g) → IsStep hs ks
+  rooms R k size f c g none step = go (heap_at k hs) refl
+    where
+      go : (o : Option Guard) → heap_at k hs ≡ o → IsStep hs ks
+      go None e = inl (none e)
+      go (Some b) e =
+          let s = step (ap is_some e) in
+          inr (inr (inr (inr (inr (k, record { before = s.before; after = s.after; heap = s.heap; by = ap (λ (g : Guard). g.realm) s.by.serials; heaps = s.heaps })))))

@@ -4,6 +4,7 @@
 ghost use Rattle.offset_heaps.specs.Heaps.{IsLive};
 ghost use Rattle.offset_heaps.specs.Histories.{IsGone, IsStep};
 
+use offset_allocator::Move;
 use offset_heaps::laws::dropped_heaps_stay_dropped;
 use offset_heaps::{Heaps, Place};
 
@@ -19,6 +20,10 @@ pub enum Change {
     DropHeap(u32),
     GiveUp(u32),
     Reset,
+    Shrink(Place, u32),
+    GrowInPlace(Place, u32),
+    CompactHeap(u32),
+    MakeRoom(u32, u32),
 }
 
 fn allocate(heaps: &mut Heaps, size: u32)
@@ -75,6 +80,30 @@ fn reset(heaps: &mut Heaps)
     heaps.reset();
 }
 
+fn shrink(heaps: &mut Heaps, place: Place, size: u32)
+    ensures { IsStep heaps.old heaps.new }
+{
+    let _ = heaps.shrink(place, size);
+}
+
+fn grow_in_place(heaps: &mut Heaps, place: Place, size: u32)
+    ensures { IsStep heaps.old heaps.new }
+{
+    let _ = heaps.grow_in_place(place, size);
+}
+
+fn compact_heap(heaps: &mut Heaps, number: u32)
+    ensures { IsStep heaps.old heaps.new }
+{
+    let _ = heaps.compact_heap(number, &mut |_range: Move<u32>| ());
+}
+
+fn make_room(heaps: &mut Heaps, number: u32, size: u32)
+    ensures { IsStep heaps.old heaps.new }
+{
+    let _ = heaps.make_room(number, size, &mut |_range: Move<u32>| ());
+}
+
 /// Makes a call.
 pub fn make(heaps: &mut Heaps, change: Change)
     ensures { IsStep heaps.old heaps.new }
@@ -89,6 +118,10 @@ pub fn make(heaps: &mut Heaps, change: Change)
         Change::DropHeap(number) => drop_heap(heaps, number),
         Change::GiveUp(number) => give_up(heaps, number),
         Change::Reset => reset(heaps),
+        Change::Shrink(place, size) => shrink(heaps, place, size),
+        Change::GrowInPlace(place, size) => grow_in_place(heaps, place, size),
+        Change::CompactHeap(number) => compact_heap(heaps, number),
+        Change::MakeRoom(number, size) => make_room(heaps, number, size),
     }
 }
 

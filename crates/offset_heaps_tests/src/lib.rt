@@ -9,6 +9,8 @@ mod growing;
 mod heaps;
 mod histories;
 #[cfg(test)]
+mod in_place;
+#[cfg(test)]
 mod relocating;
 #[cfg(test)]
 mod states;

@@ -2,9 +2,12 @@
 //! functions: they are proved.
 
 ghost use Rattle.std.specs.Prelude.{◌≤◌};
-ghost use Rattle.offset_heaps.specs.Calls.{Allocates, Drops, DropsEmpty, Frees, GivesUp, Relocates};
+ghost use Rattle.offset_heaps.specs.Calls.{Allocates, Drops, DropsEmpty, Frees, GivesUp, Packs, Relocates};
+ghost use Rattle.offset_heaps.specs.Calls.{TakesRoom, TakesSize};
 ghost use Rattle.offset_heaps.specs.Histories.{ResetsAll};
+ghost use Rattle.offset_heaps.specs.Changing.{Less, More};
 
+use offset_allocator::{Move, RoomCost};
 use offset_heaps::{Granted, Heaps, Place, Refusal};
 
 /// Makes a request.
@@ -70,4 +73,39 @@ pub fn reset(heaps: &mut Heaps)
     ensures { ResetsAll heaps.old heaps.new }
 {
     heaps.reset();
+}
+
+/// Makes a range smaller in place.
+pub fn shrink(heaps: &mut Heaps, place: Place, size: u32) -> Option<bool>
+    ensures { TakesSize (Less size) place heaps.old heaps.new result }
+{
+    heaps.shrink(place, size)
+}
+
+/// Makes a range larger in place.
+pub fn grow_in_place(heaps: &mut Heaps, place: Place, size: u32) -> Option<bool>
+    ensures { TakesSize (More size) place heaps.old heaps.new result }
+{
+    heaps.grow_in_place(place, size)
+}
+
+/// Compacts a heap.
+pub fn compact_heap<F: FnMut(Move<u32>)>(heaps: &mut Heaps, number: u32, moved: &mut F) -> bool
+    requires { F.IsAlwaysCallable moved.old }
+    ensures { Packs number heaps.old heaps.new result }
+{
+    heaps.compact_heap(number, moved)
+}
+
+/// Makes room for a request in a heap.
+pub fn make_room<F: FnMut(Move<u32>)>(
+    heaps: &mut Heaps,
+    number: u32,
+    size: u32,
+    moved: &mut F,
+) -> Option<RoomCost>
+    requires { F.IsAlwaysCallable moved.old }
+    ensures { TakesRoom number size heaps.old heaps.new result }
+{
+    heaps.make_room(number, size, moved)
 }

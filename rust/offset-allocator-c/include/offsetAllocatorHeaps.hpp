@@ -117,6 +117,43 @@ public:
     Place lastLive(uint32 number) const { return of(oah_last_live(heaps, number)); }
     Place liveBefore(const Place &place) const { return of(oah_live_before(heaps, in(place))); }
 
+    // The live ranges of a heap from the first on, and those of all heaps, by their numbers.
+    Place firstLive(uint32 number) const { return of(oah_first_live(heaps, number)); }
+    Place liveAfter(const Place &place) const { return of(oah_live_after(heaps, in(place))); }
+    Place firstPlace() const { return of(oah_first_place(heaps)); }
+    Place placeAfter(const Place &place) const { return of(oah_place_after(heaps, in(place))); }
+
+    // The numbers that have heaps, or NO_SPACE, and what the buffer of one needs, or 0.
+    uint32 firstHeap() const { return oah_first_heap(heaps); }
+    uint32 heapAfter(uint32 number) const { return oah_heap_after(heaps, number); }
+    uint32 unitsOfHeap(uint32 number) const { return oah_units_of_heap(heaps, number); }
+
+    HeapLimits limits() const {
+        oah_limits are = oah_limits_of(heaps);
+        return {are.size, are.max_allocs, are.most, are.most_larger};
+    }
+
+    bool shrink(const Place &place, uint32 size) { return oah_shrink(heaps, in(place), size); }
+    bool growInPlace(const Place &place, uint32 size) { return oah_grow_in_place(heaps, in(place), size); }
+
+    // Why a request would be refused now; granted, if memory for another heap is given.
+    HeapRefusal why(uint32 size) const { return HeapRefusal(oah_why(heaps, size)); }
+    HeapRefusal whyAligned(uint32 size, uint32 align) const { return HeapRefusal(oah_why_aligned(heaps, size, align)); }
+
+    // As those of GuardedAllocator, in the heap of a number; the first says whether there is one.
+    template <class F> bool compactHeap(uint32 number, F &&moved) {
+        detail::Calling<F> each(moved);
+        const bool done = oah_compact_heap(heaps, number, detail::Calling<F>::moved, &each);
+        each.finish();
+        return done;
+    }
+    template <class F> RoomCost makeRoom(uint32 number, uint32 size, F &&moved) {
+        detail::Calling<F> each(moved);
+        RoomCost cost = detail::of(oah_make_room(heaps, number, size, detail::Calling<F>::moved, &each));
+        each.finish();
+        return cost;
+    }
+
     bool giveUp(uint32 number) { return oah_give_up(heaps, number); }
 
     // Drops empty heaps, the last first, until at most `keep` are empty, and calls dropped(number) for each.

@@ -162,6 +162,50 @@ uint32_t oah_emptiest(const oah_heaps *heaps);
 oah_place oah_last_live(const oah_heaps *heaps, uint32_t number);
 oah_place oah_live_before(const oah_heaps *heaps, oah_place place);
 
+/* The first live range of the heap of a number, and the one directly after that of a place, as the two before. */
+oah_place oah_first_live(const oah_heaps *heaps, uint32_t number);
+oah_place oah_live_after(const oah_heaps *heaps, oah_place place);
+
+/* The first live range of all heaps, by their numbers, and the one after that of a place: in its heap, or else the first one
+ * of the heaps behind it. So each is met once:
+ *
+ *     for (oah_place at = oah_first_place(heaps), next; at.ticket.serial; at = next) {
+ *         next = oah_place_after(heaps, at);
+ *         ...                            // at may be freed here
+ *     }
+ *
+ * The serial is 0 where there is none, or the place is not live. Cost: the numbers up to that of its heap are read. */
+oah_place oah_first_place(const oah_heaps *heaps);
+oah_place oah_place_after(const oah_heaps *heaps, oah_place place);
+
+/* The first number that has a heap, and the first after `number`, which may be any; OA_NO_SPACE where there is none, or for
+ * null. Cost: the numbers up to it are read. */
+uint32_t oah_first_heap(const oah_heaps *heaps);
+uint32_t oah_heap_after(const oah_heaps *heaps, uint32_t number);
+
+/* The units of the heap of a number: what the buffer of a new heap needs. 0 where the number has none. */
+uint32_t oah_units_of_heap(const oah_heaps *heaps, uint32_t number);
+
+/* The limits, as oah_new was given them, or the heaps had them that were read; all 0 for null. */
+oah_limits oah_limits_of(const oah_heaps *heaps);
+
+/* As oag_shrink and oag_grow_in_place, in the heap of a place: true if done. False, and nothing changes, also where the place
+ * is not live. */
+bool oah_shrink(oah_heaps *heaps, oah_place place, uint32_t size);
+bool oah_grow_in_place(oah_heaps *heaps, oah_place place, uint32_t size);
+
+/* What oah_allocate and oah_allocate_aligned would refuse a request for now: OAH_GRANTED where it would be granted, if memory
+ * for another heap is given; never OAH_MEMORY. Cost: some steps for each bit of the numbers. */
+oah_refusal oah_why(const oah_heaps *heaps, uint32_t size);
+oah_refusal oah_why_aligned(const oah_heaps *heaps, uint32_t size, uint32_t align);
+
+/* As oag_compact, of the heap of a number: true if there is one. Every place stays live; a range that moves begins at
+ * oah_offset_of from then on. The moves are within the buffer of that number. */
+bool oah_compact_heap(oah_heaps *heaps, uint32_t number, void (*moved)(void *user, oa_move range), void *user);
+
+/* As oag_make_room, in the heap of a number. oah_allocate takes the first heap that has room. */
+oa_room oah_make_room(oah_heaps *heaps, uint32_t number, uint32_t size, void (*moved)(void *user, oa_move range), void *user);
+
 /* Takes back the heap of a number, with all that it granted. True if there was one. No place of it is ever live again. */
 bool oah_give_up(oah_heaps *heaps, uint32_t number);
 

@@ -1,9 +1,14 @@
 //! The C interface of `offset-allocator-heaps`. `include/offset_allocator_heaps.h` documents each function.
 
-use offset_allocator_heaps::{memory, AllocError, Global, Granted, Heaps, Limits, Place, ReadError, Refusal, StateFaultKind, Ticket};
-use offset_allocator_proved::json_of;
+use core::ffi::c_void;
+use core::ptr::NonNull;
 
-use crate::{boxed, guarded_fault, short, text, totals, Found, Guard, Report, State, Text, Totals, NO_REPORT, NO_SPACE, NO_TICKET};
+use offset_allocator_heaps::{json_of, Global, Granted, Heaps, Limits, Place, ReadError, Refusal, StateFaultKind, Ticket};
+
+use crate::{
+    boxed, calls, guarded_fault, room, short, text, totals, Callback, Found, Guard, Report, Room, State, Text, Totals, NO_REPORT, NO_SPACE,
+    NO_TICKET,
+};
 
 /// Many heaps, as C holds them.
 pub type ManyHeaps = [Heaps; 1];
@@ -80,15 +85,21 @@ fn at(found: Option<Place>) -> At {
     })
 }
 
+fn why(refusal: Option<Refusal>) -> Why {
+    match refusal {
+        None => Why::Granted,
+        Some(Refusal::Empty) => Why::Empty,
+        Some(Refusal::TooLarge) => Why::TooLarge,
+        Some(Refusal::Full) => Why::Full,
+        Some(Refusal::Memory) => Why::Memory,
+    }
+}
+
 fn answer(result: Result<Granted, Refusal>) -> Answer {
-    let refusal = match result {
-        Ok(Granted { place, is_new }) => return Answer { place: at(Some(place)), is_new, refusal: Why::Granted },
-        Err(Refusal::Empty) => Why::Empty,
-        Err(Refusal::TooLarge) => Why::TooLarge,
-        Err(Refusal::Full) => Why::Full,
-        Err(Refusal::Memory) => Why::Memory,
-    };
-    Answer { place: NOWHERE, is_new: false, refusal }
+    match result {
+        Ok(Granted { place, is_new }) => Answer { place: at(Some(place)), is_new, refusal: Why::Granted },
+        Err(refusal) => Answer { place: NOWHERE, is_new: false, refusal: why(Some(refusal)) },
+    }
 }
 
 // No call reads the offset of a ticket.
@@ -122,24 +133,6 @@ fn read(state: &[u8], most_heaps: u32, most_allocs: u32) -> HeapsRead {
             heaps => HeapsRead { heaps, found: Found::Space, at: state.len() },
         },
     }
-}
-
-// All heaps as JSON, each as `json_of` writes it.
-fn json(heaps: &Heaps) -> Result<memory::String, AllocError> {
-    let mut text = memory::String::new(Global);
-    let offset_allocator_heaps::Totals { heaps: count, units, live_units, free_units, largest_free_region } = heaps.totals();
-    write!(text, "{{\"totals\":{{\"heaps\":{count},\"units\":{units},\"live_units\":{live_units}")?;
-    write!(text, ",\"free_units\":{free_units},\"largest_free_region\":{largest_free_region}}},\"heaps\":[")?;
-    let Limits { most, most_larger, .. } = heaps.limits();
-    let mut comma = "";
-    for number in 0..most + most_larger {
-        if let Some(heap) = heaps.heap(number) {
-            write!(text, "{comma}{{\"number\":{number},\"space\":{}}}", json_of(Global, heap.allocator())?)?;
-            comma = ",";
-        }
-    }
-    text.push_str("]}")?;
-    Ok(text)
 }
 
 // Heaps that begin with so many nodes, where the library admits these limits.
@@ -201,6 +194,60 @@ exports! {
 
     fn oah_live_before([heaps: &ManyHeaps], from: At) -> At { at(heaps.live_before(place(from))) } else NOWHERE;
 
+    fn oah_first_live([heaps: &ManyHeaps], number: u32) -> At { at(heaps.first_live(number)) } else NOWHERE;
+
+    fn oah_live_after([heaps: &ManyHeaps], from: At) -> At { at(heaps.live_after(place(from))) } else NOWHERE;
+
+    fn oah_first_place([heaps: &ManyHeaps],) -> At { at(heaps.first_place()) } else NOWHERE;
+
+    fn oah_place_after([heaps: &ManyHeaps], from: At) -> At { at(heaps.place_after(place(from))) } else NOWHERE;
+
+    fn oah_first_heap([heaps: &ManyHeaps],) -> u32 { heaps.first_heap().unwrap_or(NO_SPACE) } else NO_SPACE;
+
+    fn oah_heap_after([heaps: &ManyHeaps], number: u32) -> u32 {
+        heaps.heap_after(number).unwrap_or(NO_SPACE)
+    } else NO_SPACE;
+
+    fn oah_units_of_heap([heaps: &ManyHeaps], number: u32) -> u32 { heaps.units_of_heap(number).unwrap_or(0) } else 0;
+
+    fn oah_limits_of([heaps: &ManyHeaps],) -> HeapLimits {
+        let Limits { size, max_allocs, most, most_larger, .. } = heaps.limits();
+        HeapLimits { size, max_allocs, most, most_larger }
+    } else HeapLimits { size: 0, max_allocs: 0, most: 0, most_larger: 0 };
+
+    fn oah_shrink([heaps: &mut ManyHeaps], at: At, size: u32) -> bool {
+        heaps.shrink(place(at), size).unwrap_or(false)
+    } else false;
+
+    fn oah_grow_in_place([heaps: &mut ManyHeaps], at: At, size: u32) -> bool {
+        heaps.grow_in_place(place(at), size).unwrap_or(false)
+    } else false;
+
+    fn oah_why([heaps: &ManyHeaps], size: u32) -> Why { why(heaps.refusal(size)) } else Why::BadCall;
+
+    fn oah_why_aligned([heaps: &ManyHeaps], size: u32, align: u32) -> Why {
+        if align != 0 { why(heaps.refusal_aligned(size, align)) } else { Why::BadCall }
+    } else Why::BadCall;
+
+    fn oah_compact_heap(
+        [heaps: &mut ManyHeaps],
+        number: u32,
+        moved: Option<Callback>,
+        user: Option<NonNull<c_void>>
+    ) -> bool {
+        heaps.compact_heap(number, &mut calls(moved, user))
+    } else false;
+
+    fn oah_make_room(
+        [heaps: &mut ManyHeaps],
+        number: u32,
+        size: u32,
+        moved: Option<Callback>,
+        user: Option<NonNull<c_void>>
+    ) -> Room {
+        room(heaps.make_room(number, size, &mut calls(moved, user)))
+    } else Room::default();
+
     fn oah_give_up([heaps: &mut ManyHeaps], number: u32) -> bool { heaps.give_up(number) } else false;
 
     fn oah_drop_empty([heaps: &mut ManyHeaps], keep: u32) -> u32 {
@@ -224,5 +271,5 @@ exports! {
         All { heaps, largest_free_region, units, live_units, free_units }
     } else NOTHING_AT_ALL;
 
-    fn oah_json([heaps: &ManyHeaps],) -> Option<Box<Text>> { text(json(heaps)) } else None;
+    fn oah_json([heaps: &ManyHeaps],) -> Option<Box<Text>> { text(json_of(Global, heaps)) } else None;
 }

@@ -198,6 +198,40 @@ static void states(void) {
     oag_drop(one);
 }
 
+static uint32_t units_moved;
+
+static void note_move(void *user, oa_move range) {
+    (void) user;
+    units_moved += range.size;
+}
+
+/* Sizes of ranges, walks, what would be refused, and heaps that are compacted. */
+static void in_place(void) {
+    oah_limits limits = {100, 8, 2, 2};
+    oah_heaps *heaps = oah_new(limits, 9);
+    CHECK(oah_first_heap(heaps) == OA_NO_SPACE && !oah_first_place(heaps).ticket.serial);
+    oah_place a = oah_allocate(heaps, 60).place, b = oah_allocate(heaps, 30).place;
+    oah_place gone = oah_allocate(heaps, 150).place, large = oah_allocate(heaps, 120).place;
+    CHECK(oah_units_of_heap(heaps, 0) == 100 && oah_units_of_heap(heaps, 3) == 120 && oah_units_of_heap(heaps, 1) == 0);
+    CHECK(oah_why(heaps, 121) == OAH_FULL && oah_why(heaps, 60) == OAH_GRANTED && oah_why(heaps, 0) == OAH_EMPTY);
+    CHECK(oah_why_aligned(heaps, 60, 256) == OAH_GRANTED && oah_why_aligned(heaps, 60, 0) == OAH_BAD_CALL);
+    CHECK(oah_give_up(heaps, gone.heap) && oah_why(heaps, 121) == OAH_GRANTED);
+    CHECK(oah_first_heap(heaps) == 0 && oah_heap_after(heaps, 0) == 3 && oah_heap_after(heaps, 3) == OA_NO_SPACE);
+    oah_place first = oah_first_place(heaps), next = oah_place_after(heaps, first), last = oah_place_after(heaps, next);
+    CHECK(first.ticket.serial == a.ticket.serial && next.ticket.serial == b.ticket.serial && last.heap == large.heap);
+    CHECK(!oah_place_after(heaps, last).ticket.serial && oah_first_live(heaps, 3).heap == 3 && !oah_live_after(heaps, b).ticket.serial);
+    CHECK(oah_live_after(heaps, a).ticket.serial == b.ticket.serial);
+    CHECK(oah_grow_in_place(heaps, b, 40) && !oah_grow_in_place(heaps, b, 41) && oah_shrink(heaps, a, 40) && !oah_shrink(heaps, a, 41));
+    CHECK(!oah_shrink(heaps, gone, 1) && oah_size_of(heaps, a) == 40 && oah_size_of(heaps, b) == 40);
+    CHECK(!oah_compact_heap(heaps, 1, note_move, NULL) && oah_compact_heap(heaps, 0, note_move, NULL) && units_moved == 40);
+    CHECK(oah_offset_of(heaps, b) == 40 && oah_free(heaps, a));
+    CHECK(oah_make_room(heaps, 0, 56, note_move, NULL).possible && units_moved == 80 && oah_offset_of(heaps, b) == 0);
+    CHECK(!oah_make_room(heaps, 0, 101, NULL, NULL).possible && !oah_make_room(heaps, 9, 1, NULL, NULL).possible);
+    oah_limits same = oah_limits_of(heaps);
+    CHECK(same.size == 100 && same.max_allocs == 8 && same.most == 2 && same.most_larger == 2);
+    oah_drop(heaps);
+}
+
 /* A heap begins with 8 nodes, which are doubled before a grant that finds fewer than five unused, up to 40; a larger heap has 4. */
 static void heaps_grow(void) {
     oah_limits limits = {200, 40, 2, 1};
@@ -263,6 +297,11 @@ static void nulls(void) {
     CHECK(oah_offset_of(NULL, none.place) == OA_NO_SPACE && !oah_give_up(NULL, 0) && !oah_drop_heap(NULL, 0) && oah_drop_empty(NULL, 0) == OA_NO_SPACE);
     CHECK(!oah_has(NULL, 0) && !oah_storage_report(NULL, 0).total_free_space && !oah_statistics(NULL, 0).free_units);
     CHECK(oah_totals(NULL).heaps == 0);
+    CHECK(oah_first_heap(NULL) == OA_NO_SPACE && oah_heap_after(NULL, 0) == OA_NO_SPACE && oah_units_of_heap(NULL, 0) == 0);
+    CHECK(!oah_first_place(NULL).ticket.serial && !oah_place_after(NULL, none.place).ticket.serial && !oah_first_live(NULL, 0).ticket.serial);
+    CHECK(!oah_live_after(NULL, none.place).ticket.serial && oah_limits_of(NULL).size == 0 && oah_why(NULL, 1) == OAH_BAD_CALL);
+    CHECK(oah_why_aligned(NULL, 1, 1) == OAH_BAD_CALL && !oah_shrink(NULL, none.place, 0) && !oah_grow_in_place(NULL, none.place, 0));
+    CHECK(!oah_compact_heap(NULL, 0, NULL, NULL) && !oah_make_room(NULL, 0, 0, NULL, NULL).possible);
     oah_reset(NULL);
     oah_drop(NULL);
 }
@@ -274,6 +313,7 @@ int main(void) {
     relocates_aligned();
     states();
     nulls();
+    in_place();
     heaps_grow();
     dumps();
     printf("C: %d checks of heaps pass\n", checks);

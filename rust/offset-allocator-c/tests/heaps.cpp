@@ -92,6 +92,17 @@ int main() {
     Place aligned = pair.relocateAligned(uniforms, 16);
     CHECK(aligned.heap == 0 && pair.offsetOf(aligned) == 80 && pair.relocateAligned(uniforms, 0).ticket.serial == 0);
     // number 1 was dropped
+    Heaps changed({100, 8, 2, 2}, 1);
+    Place low = changed.allocate(60).place, high = changed.allocate(30).place, big = changed.allocate(120).place;
+    CHECK(changed.firstHeap() == 0 && changed.heapAfter(0) == 2 && changed.unitsOfHeap(2) == 120 && changed.limits().mostLarger == 2);
+    CHECK(changed.firstPlace() == low && changed.placeAfter(low) == high && changed.placeAfter(high) == big);
+    CHECK(changed.firstLive(0) == low && changed.liveAfter(low) == high && changed.liveAfter(high).ticket.serial == 0);
+    CHECK(changed.growInPlace(high, 40) && !changed.growInPlace(high, 41) && changed.shrink(low, 40) && changed.sizeOf(low) == 40);
+    CHECK(changed.why(121) == HeapRefusal::granted && changed.whyAligned(1, 0) == HeapRefusal::badCall && changed.why(0) == HeapRefusal::empty);
+    uint32 units = 0;
+    CHECK(changed.compactHeap(0, [&](const Move &move) { units += move.size; }) && units == 40 && changed.offsetOf(high) == 40);
+    CHECK(changed.free(low) && changed.makeRoom(0, 56, [&](const Move &move) { units += move.size; }).possible && units == 80);
+
     Heaps dumped({100, 8, 3, 0}, 1);
     Place one = dumped.allocate(96).place, other = dumped.allocate(96).place, third = dumped.allocate(60).place;
     CHECK(third.heap == 2 && dumped.free(one) && dumped.free(other) && dumped.dropHeap(1));

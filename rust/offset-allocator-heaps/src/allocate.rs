@@ -12,7 +12,7 @@ use offset_guarded::{GuardedOf, Ticket};
 use crate::memory::AllocError;
 
 // A number, where it is below a limit.
-fn below(found: Option<u32>, limit: u32) -> Option<u32> {
+pub(crate) fn below(found: Option<u32>, limit: u32) -> Option<u32> {
     match found {
         None => None,
         Some(number) => {
@@ -31,7 +31,7 @@ impl<T: Tables> HeapsOf<T> {
     }
 
     // Whether a fresh heap of the usual size has that many units for a request.
-    fn is_usual(&self, size: u32) -> bool {
+    pub(crate) fn is_usual(&self, size: u32) -> bool {
         let all = self.limits.size;
         let class = uint_to_float_round_down(all);
         if size > all {

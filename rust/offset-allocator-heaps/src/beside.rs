@@ -20,6 +20,27 @@ impl<T: Tables> HeapsOf<T> {
         }
     }
 
+    /// The place of the live range that is the first one in the heap of a number, or `None` where nothing is
+    /// live in it, or the number has no heap. From it on, `live_after` walks all live ranges of the heap; they
+    /// may be freed on the way, after the next one is asked for.
+    ///
+    /// ```
+    /// # use offset_allocator_heaps::*;
+    /// # let alloc = Global;
+    /// let limits = Limits { size: 1000, max_allocs: 100, first_allocs: 8, most: 2, most_larger: 1 };
+    /// let mut heaps = Heaps::<u32>::new(alloc, limits, 1)?;
+    /// let mesh = heaps.allocate(300).unwrap().place;
+    /// heaps.allocate(100).unwrap();
+    /// assert_eq!(heaps.first_live(mesh.heap), Some(mesh));
+    /// # Ok::<(), AllocError>(())
+    /// ```
+    pub fn first_live(&self, heap: u32) -> Option<Place> {
+        match self.heap(heap) {
+            None => None,
+            Some(guarded) => self.place_at(heap, guarded.first_live()),
+        }
+    }
+
     /// The place of the live range that is the last one in the heap of a number, or `None` where nothing is
     /// live in it, or the number has no heap. From it on, `live_before` walks all live ranges of the heap;
     /// they may be freed on the way, after the next one is asked for.
@@ -58,6 +79,26 @@ impl<T: Tables> HeapsOf<T> {
         match self.heap_of(place) {
             None => None,
             Some(guarded) => self.place_at(place.heap, guarded.live_before(place.ticket)),
+        }
+    }
+
+    /// The place of the live range directly after that of a place in its heap. `None` where there is none, or
+    /// where the place is not live. `place_after` goes on in the next heap.
+    ///
+    /// ```
+    /// # use offset_allocator_heaps::*;
+    /// # let alloc = Global;
+    /// let limits = Limits { size: 1000, max_allocs: 100, first_allocs: 8, most: 2, most_larger: 1 };
+    /// let mut heaps = Heaps::<u32>::new(alloc, limits, 1)?;
+    /// let mesh = heaps.allocate(300).unwrap().place;
+    /// let texture = heaps.allocate(100).unwrap().place;
+    /// assert_eq!(heaps.live_after(mesh), Some(texture));
+    /// # Ok::<(), AllocError>(())
+    /// ```
+    pub fn live_after(&self, place: Place) -> Option<Place> {
+        match self.heap_of(place) {
+            None => None,
+            Some(guarded) => self.place_at(place.heap, guarded.live_after(place.ticket)),
         }
     }
 }

@@ -9,7 +9,7 @@ use crate::maxima::{Maxima, levels_for};
 use crate::slots::Slots;
 use offset_allocator::laws::unused_nodes;
 use offset_allocator::{Accesses, Tables};
-use offset_guarded::{GuardedOf, Refusal};
+use offset_guarded::GuardedOf;
 use crate::memory::{AllocError, Global};
 
 /// Four keys of each number: the largest requests that its heap grants where it may add one and two blocks,
@@ -21,14 +21,9 @@ pub(crate) struct Index {
     pub(crate) empty: Marks,
 }
 
-// Whether a serial is left for one more grant. A request that is larger than the space costs the least to
-// refuse.
+// Whether a serial is left for one more grant.
 fn has_serial_left<T: Tables>(heap: &GuardedOf<T>) -> bool {
-    match heap.refusal(u32::MAX) {
-        Some(Refusal::Serials) => false,
-        Some(Refusal::Allocator(_)) => true,
-        None => true,
-    }
+    !heap.is_spent()
 }
 
 /// The largest requests that a heap grants where it may add one block, and two, or 0.

@@ -2,4 +2,6 @@
 
 //! Laws: what holds of all heaps. Its functions do nothing.
 
+pub use crate::asking::refusal_aligned_counted;
+pub use crate::numbering::{first_heap_counted, heap_after_counted};
 pub use crate::relocate::emptiest_counted;

@@ -5,8 +5,9 @@
 
 use crate::index::{is_empty_heap, rooms};
 use crate::limits::Limits;
+use crate::resize::Resize;
 use offset_allocator::laws::unused_nodes;
-use offset_allocator::{Accesses, Tables};
+use offset_allocator::{Accesses, Move, RoomCost, Tables};
 use offset_guarded::{GuardedOf, Ticket};
 use crate::memory::Vec;
 use crate::memory::{AllocError, Global};
@@ -80,6 +81,59 @@ fn free_in<T: Tables>(slot: &mut Option<GuardedOf<T>>, ticket: Ticket) -> bool {
     match slot {
         Some(heap) => heap.free(ticket),
         None => false,
+    }
+}
+
+// Whether few nodes of the heap of a number are unused, so that a range that shrinks might leave too few.
+fn is_near<T: Tables>(heap: &GuardedOf<T>, number: u32, limits: Limits) -> bool {
+    let space = heap.allocator();
+    number < limits.most && space.max_allocs() < limits.max_allocs && unused_nodes(space) < 4
+}
+
+// Makes the range of a ticket smaller or larger in place, where it is live.
+fn resize_heap<T: Tables>(heap: &mut GuardedOf<T>, ticket: Ticket, how: Resize) -> Option<bool> {
+    match how {
+        Resize::Shrink(size) => heap.shrink(ticket, size),
+        Resize::Grow(size) => heap.grow_in_place(ticket, size),
+    }
+}
+
+// The same, but that a range does not become smaller where few nodes are unused.
+fn resize_in<T: Tables>(
+    slot: &mut Option<GuardedOf<T>>,
+    number: u32,
+    limits: Limits,
+    ticket: Ticket,
+    how: Resize,
+) -> Option<bool> {
+    match slot {
+        None => None,
+        Some(heap) => {
+            if how.is_less() && is_near(heap, number, limits) {
+                return if heap.is_live(ticket) { Some(false) } else { None };
+            }
+            resize_heap(heap, ticket, how)
+        }
+    }
+}
+
+// Slides every live range of a heap to the front of its space.
+fn compact_in<T: Tables, F: FnMut(Move<T::Index>)>(slot: &mut Option<GuardedOf<T>>, moved: &mut F) {
+    match slot {
+        Some(heap) => heap.compact(moved),
+        None => unreachable!(),
+    }
+}
+
+// Makes room for a request in a heap.
+fn make_room_in<T: Tables, F: FnMut(Move<T::Index>)>(
+    slot: &mut Option<GuardedOf<T>>,
+    size: u32,
+    moved: &mut F,
+) -> Option<RoomCost> {
+    match slot {
+        Some(heap) => heap.make_room(size, moved),
+        None => unreachable!(),
     }
 }
 
@@ -172,10 +226,60 @@ impl<T: Tables> Slots<T> {
         free_in(&mut self.heaps[number as usize], ticket)
     }
 
+    /// Makes the range of a ticket smaller or larger in place in the heap of a number, where it is live, and
+    /// returns whether it did.
+    pub(crate) fn resize(
+        &mut self,
+        number: u32,
+        limits: Limits,
+        ticket: Ticket,
+        how: Resize,
+        count: &mut Accesses,
+    ) -> Option<bool> {
+        count.tick();
+        if number as usize >= self.heaps.len() {
+            return None;
+        }
+        resize_in(&mut self.heaps[number as usize], number, limits, ticket, how)
+    }
+
+    /// Slides every live range of the heap of a number to the front of its space.
+    pub(crate) fn compact<F: FnMut(Move<T::Index>)>(
+        &mut self,
+        number: u32,
+        moved: &mut F,
+        count: &mut Accesses,
+    ) {
+        count.tick();
+        compact_in(&mut self.heaps[number as usize], moved);
+    }
+
+    /// Makes room for a request in the heap of a number.
+    pub(crate) fn make_room<F: FnMut(Move<T::Index>)>(
+        &mut self,
+        number: u32,
+        size: u32,
+        moved: &mut F,
+        count: &mut Accesses,
+    ) -> Option<RoomCost> {
+        count.tick();
+        make_room_in(&mut self.heaps[number as usize], size, moved)
+    }
+
     /// Makes the space of the heap of a number one free block again.
     pub(crate) fn reset(&mut self, number: u32, count: &mut Accesses) {
         count.tick();
         reset_in(&mut self.heaps[number as usize]);
+    }
+
+    /// The first number, from one on, that has a heap.
+    pub(crate) fn heap_from(&self, start: u32, numbers: u32, count: &mut Accesses) -> Option<u32> {
+        for number in start..numbers {
+            if self.has(number, count) {
+                return Some(number);
+            }
+        }
+        None
     }
 
     /// Whether the heap of a number has no live range.

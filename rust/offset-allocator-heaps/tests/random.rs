@@ -124,6 +124,8 @@ impl<T: Tables> Run<T> {
 
     fn allocate(&mut self, size: u32, align: u32) {
         let expected = self.expected(size, align);
+        let foretold = if align == 1 { self.heaps.refusal(size) } else { self.heaps.refusal_aligned(size, align) };
+        assert_eq!(foretold, expected.err());
         let grows = expected.is_ok_and(|(number, is_new)| !is_new && self.must_grow(number));
         let result = if align == 1 { self.heaps.allocate(size) } else { self.heaps.allocate_aligned(size, align) };
         match (expected, result) {
@@ -245,6 +247,79 @@ impl<T: Tables> Run<T> {
             _ => {}
         }
         place
+    }
+
+    // A range becomes smaller or larger in place, where the free units behind it, or the nodes, allow it.
+    fn resize(&mut self) {
+        let place = self.place();
+        let live = self.live.get(&key(place)).copied();
+        let (at, size) = live.unwrap_or((0, 1));
+        let wanted = size / 2 + self.numbers.below(size as u64 + 2) as u32;
+        let behind = live.map(|_| {
+            let heap = self.model[place.heap as usize].as_ref().unwrap();
+            heap.ranges.range(at + 1..).next().map_or(heap.units, |(&next, _)| next) - at - size
+        });
+        let space = |heaps: &HeapsOf<T>| heaps.heap(place.heap).map(|heap| (heap.allocator().block_count(), heap.allocator().max_allocs()));
+        let nodes = space(&self.heaps).is_some_and(|(blocks, limit)| blocks + 1 < limit);
+        let shrinks = behind.map(|free| wanted == size || (wanted < size && (free > 0 || nodes)));
+        let grows = behind.map(|free| (size..=size + free).contains(&wanted));
+        let (expected, found) = if self.numbers.below(2) == 0 {
+            (shrinks, self.heaps.shrink(place, wanted))
+        } else {
+            (grows, self.heaps.grow_in_place(place, wanted))
+        };
+        assert_eq!(found, expected);
+        if found == Some(true) {
+            self.model[place.heap as usize].as_mut().unwrap().ranges.insert(at, wanted);
+            self.live.insert(key(place), (at, wanted));
+        }
+        self.ask(place);
+    }
+
+    // The ranges of a heap slide together, all or as few units as make room.
+    fn slide(&mut self) {
+        let number = self.numbers.below(self.model.len() as u64 + 2) as u32;
+        let there = self.model.get(number as usize).is_some_and(|h| h.is_some());
+        let mut moves = vec![];
+        let mut note = |it: offset_allocator::Move<T::Index>| moves.push((it.from, it.to, it.size));
+        if self.numbers.below(2) == 0 {
+            assert_eq!(self.heaps.compact_heap(number, &mut note), there);
+        } else {
+            let size = 1 + self.numbers.below(self.limits.size as u64) as u32;
+            let cost = self.heaps.heap(number).and_then(|heap| heap.allocator().room_cost(size));
+            assert_eq!(self.heaps.make_room(number, size, &mut note), cost);
+            assert_eq!((moves.len() as u64, moves.iter().map(|m| m.2 as u64).sum()), cost.map_or((0, 0), |c| (c.ranges as u64, c.units as u64)));
+        }
+        for &(from, to, size) in &moves {
+            let heap = self.model[number as usize].as_mut().unwrap();
+            assert!(to < from && heap.ranges.remove(&from) == Some(size));
+            assert!(heap.ranges.range(..from).next_back().is_none_or(|(&at, &units)| at + units <= to));
+            heap.ranges.insert(to, size);
+            let moved = *self.live.iter().find(|(key, range)| key.0 == number && range.0 == from).unwrap().0;
+            self.live.insert(moved, (to, size));
+            let place = self.places[&moved];
+            self.places.insert(moved, Place { ticket: offset_allocator_heaps::Ticket { offset: to, ..place.ticket }, ..place });
+        }
+        self.walk(number);
+    }
+
+    // All heaps, and all live ranges.
+    fn walk_all(&self) {
+        let (mut heaps, mut next) = (vec![], self.heaps.first_heap());
+        while let Some(number) = next {
+            heaps.push((number as usize, self.heaps.units_of_heap(number).unwrap()));
+            next = self.heaps.heap_after(number);
+        }
+        let there = |(n, h): (usize, &Option<Heap>)| h.as_ref().map(|h| (n, h.units));
+        assert_eq!(heaps, self.model.iter().enumerate().filter_map(there).collect::<Vec<_>>());
+        let (mut found, mut next) = (vec![], self.heaps.first_place());
+        while let Some(place) = next {
+            assert_eq!(self.live[&key(place)].0, place.ticket.offset);
+            found.push((place.heap as usize, place.ticket.offset));
+            next = self.heaps.place_after(place);
+        }
+        let ranges = |(n, h): (usize, &Option<Heap>)| h.iter().flat_map(|h| h.ranges.keys()).map(|&at| (n, at)).collect::<Vec<_>>();
+        assert_eq!(found, self.model.iter().enumerate().flat_map(ranges).collect::<Vec<_>>());
     }
 
     // Frees all ranges of a heap.
@@ -374,7 +449,12 @@ impl<T: Tables> Run<T> {
                     self.model.iter_mut().flatten().for_each(|h| h.ranges.clear());
                     self.counts[7] += 1;
                 }
-                _ => self.totals(),
+                _ => {
+                    self.totals();
+                    self.resize();
+                    self.slide();
+                    self.walk_all();
+                }
             }
             if call % 64 == 0 {
                 for place in self.given.clone() {

@@ -1,0 +1,281 @@
+-- After a change of one heap, in place.
+use Rattle.std.proofs.Common.{◌≡◌, ℕ, ◌<◌, Bool, true, false, length, List, [], ◌∷◌, ◌++◌, Option, Some, None, slice_set, refl, sym, ap, subst, ◌∙◌, inl, inr, arith}
+use Rattle.std.proofs.Common.{zero, suc, ◌+◌, ◌≤◌, IfSome, if◌then◌else◌, length-append, min, sum}
+use Rattle.std.proofs.lemmas.Bool.{cases_Bool, cases_eq, cases_lt}
+use Rattle.std.proofs.lemmas.List.{append_assoc, append-nil}
+use Rattle.std.specs.List.{FoldsTo}
+use Rattle.offset_allocator.specs.{Classes.up, Classes.value, Moving.Compacting.Compacts, Moving.Compacting.Move, Moving.Compacting.first_free, Moving.Compacting.gathered, Moving.Compacting.live, Moving.Compacting.moves, Moving.Room.MakesRoom, Moving.Room.SlidesRun, View.Block, View.free_block, View.free_sizes, View.units}
+use Rattle.offset_allocator.specs.Ranges.{Range}
+use Rattle.offset_allocator.specs.declared.moves.room.RoomCost.{RoomCost}
+use Rattle.offset_allocator.specs.View.{View}
+use Rattle.offset_allocator.specs.Relations.{SameState}
+use Rattle.offset_allocator.specs.Resizing as space
+use Rattle.offset_allocator.specs.Resizing.{Resizes as Resized}
+use Rattle.offset_allocator.specs.{Ranges.size_of, View.IsWellFormed, View.free_part, View.size_at, View.used_block}
+use Rattle.offset_allocator.proofs.{Holding.place_there, Reading.size_is}
+use Rattle.offset_guarded.specs.Guard.{Guard}
+use Rattle.offset_guarded.specs.Guard as guarded
+use Rattle.offset_guarded.specs.declared.ticket.Ticket.{Ticket}
+use Rattle.offset_heaps.specs.declared.limits.Limits.{Limits}
+use Rattle.offset_heaps.specs.declared.place.Place.{Place}
+use Rattle.offset_heaps.specs.Changing.{HasNodesFor, blocks_more, Wanted, Less, More, Alters, AltersIn, HasUnits, MakesRoomAt, MakesRoomIn, Resizes, ResizesSpace}
+use Rattle.offset_heaps.specs.Calls.{Notes}
+use Rattle.offset_heaps.specs.Heaps.{HasNodesLeft, Heaps, KeepsOthers, Puts, heap_at, range_in, range_of, slot}
+use Rattle.offset_heaps.specs.{Slots.Changes, Twins.AreTwins, Twins.IsTwin, Twins.IsTwinIn}
+use Rattle.offset_heaps.proofs.Numbers.{slot_other, slot_same}
+use Rattle.offset_heaps.proofs.Places.{other_realm, put_keeps, put_others, same_realm}
+use Rattle.offset_heaps.proofs.Twins.{own_twin, twin_some}
+
+module _ (k : ℕ) (P : Guard → Guard → Type 0) (hs ks : Heaps) (change : Changes k (AltersIn P) hs.slots ks.slots)
+    (rest : ks ≡ record hs { slots = ks.slots; accesses = ks.accesses }) where
+  puts : Puts k change.now hs ks
+  puts = rest ∙ ap (λ s. record hs { slots = s; accesses = ks.accesses }) change.slots
+
+  pub altered : Alters k P hs ks
+  altered = let by = change.by in record {
+    before = by.before;
+    after = by.after;
+    heap = by.was;
+    by = by.by;
+    heaps = subst (λ o. Puts k o hs ks) by.is puts;
+  }
+
+module _ (k : ℕ) (P : Guard → Guard → Type 0) (hs ks : Heaps) (there : k < length hs.slots) (a : Alters k P hs ks) where
+  pub altered_slots : ks.slots ≡ slice_set hs.slots k (Some a.after)
+  altered_slots = ap (λ (h : Heaps). h.slots) a.heaps
+
+  pub altered_realm : ks.realm ≡ hs.realm
+  altered_realm = ap (λ (h : Heaps). h.realm) a.heaps
+
+  now : heap_at k ks ≡ Some a.after
+  now = ap (slot k) altered_slots ∙ slot_same hs.slots k (Some a.after) there
+
+  -- what is kept of each ticket is kept of each place
+  pub kept_of_places : {A : Type 0} (f : Option Range → A) → ((t : Ticket) → f (guarded.range_of t a.after) ≡ f (guarded.range_of t a.before)) → (p : Place) → f (range_of p ks) ≡ f (range_of p hs)
+  kept_of_places f same p = elim (cases_eq p.heap k) [
+    | inr n ↦ ap f (put_others hs ks k (Some a.after) altered_slots altered_realm p n)
+    | inl here ↦ elim (cases_eq p.realm hs.realm) [
+      | inr other ↦ ap f (other_realm p ks (λ e. other (e ∙ altered_realm)) ∙ sym (other_realm p hs other))
+      | inl own ↦
+          ap f (same_realm p ks (own ∙ sym altered_realm) ∙ ap (λ j. range_in p.ticket (heap_at j ks)) here ∙ ap (range_in p.ticket) now)
+          ∙ same p.ticket
+          ∙ ap f (sym (same_realm p hs own ∙ ap (λ j. range_in p.ticket (heap_at j hs)) here ∙ ap (range_in p.ticket) a.heap))
+    ]
+  ]
+
+  -- heaps that no answer tells apart
+  pub alike : IsTwin a.before a.after → AreTwins hs ks
+  alike twin = record {
+    limits = ap (λ (h : Heaps). h.limits) a.heaps;
+    made = ap (λ (h : Heaps). h.made) a.heaps;
+    realm = altered_realm;
+    heaps = λ j. elim (cases_eq j k) [
+      | inl e ↦ rw e (twin_some a.before a.after (heap_at k hs) (heap_at k ks) a.heap now twin)
+      | inr d ↦ subst (IsTwinIn (heap_at j hs)) (sym (ap (slot j) altered_slots ∙ slot_other hs.slots k j (Some a.after) d)) (own (heap_at j hs))
+    ];
+  }
+    where
+      own : (o : Option Guard) → IsTwinIn o o
+      own None = refl
+      own (Some g) = (g, refl, own_twin g)
+
+-- the units of the range of a place
+pub units_kept : (p : Place) (n : ℕ) (P : Guard → Guard → Type 0) (hs ks : Heaps) → p.heap < length hs.slots → (a : Alters p.heap P hs ks) → p.realm ≡ hs.realm
+    → guarded.HasUnits p.ticket n a.before a.after → HasUnits p n hs ks
+units_kept p n P hs ks there a own units r e =
+    same_realm p ks (own ∙ sym (altered_realm p.heap P hs ks there a))
+    ∙ ap (range_in p.ticket) (ap (slot p.heap) (altered_slots p.heap P hs ks there a) ∙ slot_same hs.slots p.heap (Some a.after) there)
+    ∙ units r (sym (ap (range_in p.ticket) a.heap) ∙ sym (same_realm p hs own) ∙ e)
+
+-- where it is not done, the heap is as it was
+pub same_space : (how : Wanted) (x : ℕ) (v w : View) → ResizesSpace how x v w false → SameState v w
+same_space how x v w s = s
+
+pub undone_twin : (how : Wanted) (t : Ticket) (g h : Guard) → Resizes how t false g h → IsTwin g h
+undone_twin how t g h r = record {
+  space = same_space how t.name g.space h.space r.step;
+  serials = λ x live. r.serials.cells x;
+  given = r.serials.given;
+  realm = r.serials.realm;
+}
+
+-- a range in place changes no size and no node limit of the space
+pub same_limits : (how : Wanted) (x : ℕ) (v w : View) (done : Bool) → ResizesSpace how x v w done → (w.size ≡ v.size) × (w.max_allocs ≡ v.max_allocs)
+same_limits (Less n) x v w true (inl s) = (ap (λ (z : View). z.size) s.1, ap (λ (z : View). z.max_allocs) s.1)
+same_limits (Less n) x v w true (inr s) = (ap (λ (z : View). z.size) s.2.view, ap (λ (z : View). z.max_allocs) s.2.view)
+same_limits (More n) x v w true (inl s) = (ap (λ (z : View). z.size) s.1, ap (λ (z : View). z.max_allocs) s.1)
+same_limits (More n) x v w true (inr s) = (ap (λ (z : View). z.size) s.2.view, ap (λ (z : View). z.max_allocs) s.2.view)
+same_limits how x v w false s = (ap (λ (z : View). z.size) s, ap (λ (z : View). z.max_allocs) s)
+
+-- every other place has the range that it had
+pub others_kept : (p : Place) (P : Guard → Guard → Type 0) (hs ks : Heaps) → p.heap < length hs.slots → (a : Alters p.heap P hs ks) → p.realm ≡ hs.realm
+    → guarded.KeepsOthers p.ticket a.before a.after → KeepsOthers p hs ks
+others_kept p P hs ks there a own kept = put_keeps hs ks p.heap (Some a.after) (altered_slots p.heap P hs ks there a) (altered_realm p.heap P hs ks there a) there p refl own
+    (λ u apart. kept u apart ∙ sym (ap (range_in u) a.heap))
+
+-- room that is made changes neither
+pub room_limits : {F : Type 0} (R : F → Move → F → Type 0) (size : ℕ) (f : F) (c : Option RoomCost) (f' : F) (g h : Guard) → MakesRoomIn R size f c f' g h
+    → (h.space.size ≡ g.space.size) × (h.space.max_allocs ≡ g.space.max_allocs)
+room_limits R size f c f' g h m = made R (value (up size)) g.space f c h.space f' m.step
+  where
+    made : {F : Type 0} (R : F → Move → F → Type 0) (want : ℕ) (v : View) (f : F) (c : Option RoomCost) (w : View) (f' : F) → MakesRoom R want v f c w f'
+        → (w.size ≡ v.size) × (w.max_allocs ≡ v.max_allocs)
+    made R want v f None w f' s = (ap (λ (z : View). z.size) s.0, ap (λ (z : View). z.max_allocs) s.0)
+    made R want v f (Some c) w f' s = elim (cases_lt 0 c.ranges) [
+      | inl l ↦ let e = (s.1 l).0.view in (ap (λ (z : View). z.size) e, ap (λ (z : View). z.max_allocs) e)
+      | inr l ↦ let e = (s.0 (omega (arith, l))).0 in (ap (λ (z : View). z.size) e, ap (λ (z : View). z.max_allocs) e)
+    ]
+
+-- whatever a closure does, there are the moves that it is called with
+notes_all : (ys xs : List Move) → FoldsTo Notes ys xs (ys ++ xs)
+notes_all ys [] = sym (append-nil ys)
+notes_all ys (x ∷ xs) = (ys ++ x ∷ [], refl, subst (λ z. FoldsTo Notes (ys ++ x ∷ []) xs z) (append_assoc ys (x ∷ []) xs) (notes_all (ys ++ x ∷ []) xs))
+
+noted : {F : Type 0} (R : F → Move → F → Type 0) (want : ℕ) (v : View) (f : F) (c : Option RoomCost) (w : View) (g : F) → MakesRoom R want v f c w g → (xs : List Move) × MakesRoom Notes want v [] c w xs
+noted R want v f None w g s = ([], (s.0, refl))
+noted R want v f (Some c) w g s = elim (cases_lt 0 c.ranges) [
+  | inl l ↦
+      let e = s.1 l in
+      let xs = moves (units e.0.front) (units e.0.front) e.0.run in
+      (xs, (λ z. absurd (omega (arith, l, z)), λ _. (e.0, e.1, notes_all [] xs)))
+  | inr l ↦ let e = s.0 (omega (arith, l)) in ([], (λ _. (e.0, refl), λ m. absurd (omega (arith, l, m))))
+]
+
+pub noted_room : {F : Type 0} (R : F → Move → F → Type 0) (k size : ℕ) (hs : Heaps) (f : F) (c : Option RoomCost) (ks : Heaps) (g : F) → MakesRoomAt R k size hs f c ks g
+    → (xs : List Move) × MakesRoomAt Notes k size hs [] c ks xs
+noted_room R k size hs f c ks g a =
+    let m = a.by in
+    let n = noted R (value (up size)) a.before.space f c a.after.space g m.step in (
+      n.0,
+      record {
+        before = a.before;
+        after = a.after;
+        heap = a.heap;
+        by = record { cost = m.cost; step = n.1; granted = m.granted; serials = m.serials; sizes = m.sizes; accesses = m.accesses };
+        heaps = a.heaps;
+      },
+    )
+
+-- ---- how many blocks are left
+live_free : (bs : List Block) → length (live bs) + length (free_sizes bs) ≡ length bs
+live_free [] = refl
+live_free (b ∷ bs) =
+    let rest = live_free bs in
+    elim (cases_Bool b.used) [
+      | inl u ↦ rw u (omega (arith, rest))
+      | inr f ↦ rw f (omega (arith, rest))
+    ]
+
+gathered_few : (x : ℕ) (ns : List ℕ) → length (gathered x ns) ≤ length ns
+gathered_few x [] = omega arith
+gathered_few x (n ∷ ns) = omega arith
+
+pub compacted_blocks : (v w : View) → Compacts v w → length w.blocks ≤ length v.blocks
+compacted_blocks v w c =
+    let now = ap (λ (z : View). length z.blocks) c.view ∙ length-append (live v.blocks) (gathered c.name (free_sizes v.blocks)) in
+    omega (arith, now, live_free v.blocks, gathered_few c.name (free_sizes v.blocks))
+
+some_free : (bs : List Block) (x : ℕ) → first_free bs ≡ Some x → 1 ≤ length (free_sizes bs)
+some_free [] x e = absurd (cc)
+some_free (b ∷ bs) x e = elim (cases_Bool b.used) [
+  | inl u ↦ rw u (some_free bs x (rw u at e))
+  | inr f ↦ rw f (omega arith)
+]
+
+slid_blocks : (want : ℕ) (v w : View) → SlidesRun want v w → length w.blocks ≤ length v.blocks
+slid_blocks want v w s =
+    let new : List Block = live s.run ++ free_block s.name (sum (free_sizes s.run)) ∷ [] in
+    let was = ap length s.is ∙ length-append s.front (s.run ++ s.back) in
+    let now = ap (λ (z : View). length z.blocks) s.view ∙ length-append s.front (new ++ s.back) in
+    omega (arith, was, now, length-append s.run s.back, length-append new s.back, length-append (live s.run) (free_block s.name (sum (free_sizes s.run)) ∷ []), live_free s.run, some_free s.run s.name s.first)
+
+pub room_blocks : {F : Type 0} (R : F → Move → F → Type 0) (size : ℕ) (f : F) (c : Option RoomCost) (f' : F) (g h : Guard) → MakesRoomIn R size f c f' g h
+    → length h.space.blocks ≤ length g.space.blocks
+room_blocks R size f c f' g h m = made R (value (up size)) g.space f c h.space f' m.step
+  where
+    made : {F : Type 0} (R : F → Move → F → Type 0) (want : ℕ) (v : View) (f : F) (c : Option RoomCost) (w : View) (f' : F) → MakesRoom R want v f c w f' → length w.blocks ≤ length v.blocks
+    made R want v f None w f' s = omega (arith, ap (λ (z : View). length z.blocks) s.0)
+    made R want v f (Some c) w f' s = elim (cases_lt 0 c.ranges) [
+      | inl l ↦ slid_blocks want v w (s.1 l).0
+      | inr l ↦ omega (arith, ap (λ (z : View). length z.blocks) (s.0 (omega (arith, l))).0)
+    ]
+
+-- a heap keeps enough nodes unused, where it has them for this
+pub resized_left : (limits : Limits) (k : ℕ) (how : Wanted) (g h : Guard) → HasNodesFor limits k how g → length h.space.blocks ≤ length g.space.blocks + blocks_more how
+    → h.space.max_allocs ≡ g.space.max_allocs → k < limits.most → HasNodesLeft limits g → min limits.max_allocs (length h.space.blocks + 3) ≤ h.space.max_allocs
+resized_left limits k (More n) g h can few same usual has = omega (arith, few, same, has.2)
+resized_left limits k (Less n) g h can few same usual has = elim (cases_lt g.space.max_allocs limits.max_allocs) [
+  | inr full ↦ omega (arith, full, same)
+  | inl below ↦ elim (cases_lt g.space.max_allocs (length g.space.blocks + 4)) [
+    | inl near ↦ absurd (can (usual, below, near))
+    | inr far ↦ omega (arith, far, few, same)
+  ]
+]
+
+-- ---- a range that becomes smaller or larger
+part_few : (x n : ℕ) → length (free_part x n) ≤ 1
+part_few x zero = omega arith
+part_few x (suc n) = omega arith
+
+resized_few : (x n : ℕ) (v w : View) → (f : Resized x n v w) → (length w.blocks ≤ length v.blocks + 1) × (1 ≤ length f.next → length w.blocks ≤ length v.blocks)
+resized_few x n v w f =
+    let part = free_part f.name f.left in
+    let was = ap length f.blocks ∙ length-append f.before ((f.block ∷ f.next) ++ f.after) in
+    let now = ap (λ (z : View). length z.blocks) f.view ∙ length-append f.before ((used_block x n ∷ part) ++ f.after) in
+    let old = length-append (f.block ∷ f.next) f.after in
+    let new = length-append (used_block x n ∷ part) f.after in
+    let few = part_few f.name f.left in
+    (omega (arith, was, now, old, new, few), λ some. omega (arith, was, now, old, new, few, some))
+
+-- the size that the block has
+own_size : (x n : ℕ) (v w : View) → IsWellFormed v → (f : Resized x n v w) → size_of x v ≡ f.block.size
+own_size x n v w known f =
+    size_is x v ∙ ap size_at (place_there v known (record { before = f.before; block = f.block; after = f.next ++ f.after }) x f.blocks f.named) ∙ ap (λ (u : Bool). if u then f.block.size else 0) f.used
+
+shrunk_few : (x n : ℕ) (v w : View) (done : Bool) → space.Shrinks x n v w done → length w.blocks ≤ length v.blocks + 1
+shrunk_few x n v w true (inl s) = omega (arith, ap (λ (z : View). length z.blocks) s.1)
+shrunk_few x n v w true (inr s) = (resized_few x n v w s.2).0
+shrunk_few x n v w false s = omega (arith, ap (λ (z : View). length z.blocks) s.1)
+
+grown_few : (x n : ℕ) (v w : View) (done : Bool) → IsWellFormed v → space.Grows x n v w done → length w.blocks ≤ length v.blocks + 0
+grown_few x n v w true known (inl s) = omega (arith, ap (λ (z : View). length z.blocks) s.1)
+grown_few x n v w true known (inr s) = let l = (resized_few x n v w s.2).1 (some s.2.next s.2.whole) in omega (arith, l)
+  where
+    some : (next : List Block) → n + s.2.left ≡ units (s.2.block ∷ next) → 1 ≤ length next
+    some [] whole = absurd (omega (arith, whole, s.0, own_size x n v w known s.2))
+    some (b ∷ next) whole = omega arith
+grown_few x n v w false known s = omega (arith, ap (λ (z : View). length z.blocks) s.1)
+
+shrunk_space : (x n : ℕ) (v w : View) (done : Bool) → space.Shrinks x n v w done → ResizesSpace (Less n) x v w done
+shrunk_space x n v w true s = s
+shrunk_space x n v w false s = s.1
+
+grown_space : (x n : ℕ) (v w : View) (done : Bool) → space.Grows x n v w done → ResizesSpace (More n) x v w done
+grown_space x n v w true s = s
+grown_space x n v w false s = s.1
+
+module _ (t : Ticket) (n : ℕ) (g h : Guard) (known : IsWellFormed g.space) (serials : guarded.KeepsSerials g h) (kept : guarded.KeepsLive g h) (others : guarded.KeepsOthers t g h)
+    (few : h.space.accesses ≤ g.space.accesses + 128) where
+  pub shrunk : (r : Option Bool) → IfSome r (space.Shrinks t.name n g.space h.space) → (r ≡ Some true → guarded.HasUnits t n g h) → IfSome r (λ done. Resizes (Less n) t done g h)
+  shrunk None s range = tt
+  shrunk (Some done) s range = record {
+    step = shrunk_space t.name n g.space h.space done s;
+    blocks = shrunk_few t.name n g.space h.space done s;
+    serials = serials;
+    kept = kept;
+    range = λ e. range (ap Some e);
+    others = others;
+    accesses = few;
+  }
+
+  pub enlarged : (r : Option Bool) → IfSome r (space.Grows t.name n g.space h.space) → (r ≡ Some true → guarded.HasUnits t n g h) → IfSome r (λ done. Resizes (More n) t done g h)
+  enlarged None s range = tt
+  enlarged (Some done) s range = record {
+    step = grown_space t.name n g.space h.space done s;
+    blocks = grown_few t.name n g.space h.space done known s;
+    serials = serials;
+    kept = kept;
+    range = λ e. range (ap Some e);
+    others = others;
+    accesses = few;
+  }

@@ -1,0 +1,143 @@
+-- What a call changes of one heap alone, in place: its ranges keep their places.
+use Rattle.std.specs.Prelude.{◌≡◌, ℕ, ◌+◌, ◌*◌, ◌<◌, ◌≤◌, Bool, true, false, List, [], Option, None, Some, IfSome, is_some, length, option_map}
+use Rattle.offset_allocator.specs.Classes.{up, value}
+use Rattle.offset_allocator.specs.Moving.Compacting.{Compacts, Move, moves}
+use Rattle.offset_allocator.specs.Moving.Room.{IsLeastCost, MakesRoom, ranges_of}
+use Rattle.offset_allocator.specs.Ranges.{Range}
+use Rattle.offset_allocator.specs.Requests.{CanGrant}
+use Rattle.offset_allocator.specs.declared.moves.room.RoomCost.{RoomCost}
+use Rattle.offset_allocator.specs.Relations.{SameState}
+use Rattle.offset_allocator.specs.Resizing as space
+use Rattle.offset_allocator.specs.View.{View}
+use Rattle.offset_guarded.specs.Guard.{Guard}
+use Rattle.offset_guarded.specs.Guard as guarded
+use Rattle.offset_guarded.specs.declared.ticket.Ticket.{Ticket}
+use Rattle.offset_heaps.specs.declared.limits.Limits.{Limits}
+use Rattle.offset_heaps.specs.declared.place.Place.{Place}
+use Rattle.offset_heaps.specs.declared.resize.Resize.{Resize}
+use Rattle.offset_heaps.specs.declared.resize.Resize.TheVariants.{Shrink, Grow}
+use Rattle.offset_heaps.specs.Heaps.{Heaps, Puts, heap_at, range_of}
+
+-- the heap of a number, which is there, is another one now, and all else stays
+pub record Alters (k : ℕ) (P : Guard → Guard → Type 0) (hs ks : Heaps) : Type 0 where
+  pub before : Guard
+  pub after : Guard
+  pub heap : heap_at k hs ≡ Some before
+  pub by : P before after
+  pub heaps : Puts k (Some after) hs ks
+
+-- the same of one slot
+pub record AltersIn (P : Guard → Guard → Type 0) (old new : Option Guard) : Type 0 where
+  pub before : Guard
+  pub after : Guard
+  pub was : old ≡ Some before
+  pub is : new ≡ Some after
+  pub by : P before after
+
+-- a place is live exactly if it was
+abbrev pub KeepsLive : Heaps → Heaps → Type 0
+KeepsLive hs ks = (p : Place) → is_some (range_of p ks) ≡ is_some (range_of p hs)
+
+-- a place has n units after the call, from the same offset on
+abbrev pub HasUnits : Place → ℕ → Heaps → Heaps → Type 0
+HasUnits p n hs ks = (r : Range) → range_of p hs ≡ Some r → range_of p ks ≡ Some (record r { size = n })
+
+-- how many units a range is to have in place: at most as many as it has, or at least
+pub data Wanted : Type 0 where
+  Less : ℕ → Wanted
+  More : ℕ → Wanted
+
+-- what is wanted of a call
+abbrev pub wanted : Resize → Wanted
+wanted (Shrink n) = Less n
+wanted (Grow n) = More n
+
+abbrev pub units_wanted : Wanted → ℕ
+units_wanted (Less n) = n
+units_wanted (More n) = n
+
+-- a space can do it
+abbrev pub CanResize : Wanted → ℕ → View → Type 0
+CanResize (Less n) x v = space.CanShrink x n v
+CanResize (More n) x v = space.CanGrow x n v
+
+-- the step of a space, where it is done, and else it stays as it is
+abbrev pub ResizesSpace : Wanted → ℕ → View → View → Bool → Type 0
+ResizesSpace how x v w false = SameState v w
+ResizesSpace (Less n) x v w true = space.Shrinks x n v w true
+ResizesSpace (More n) x v w true = space.Grows x n v w true
+
+-- whether it is to have at most as many
+abbrev pub is_less : Wanted → Bool
+is_less (Less n) = true
+is_less (More n) = false
+
+-- few nodes of a heap of the usual size are unused: fewer than four, where its node limit is below the largest one
+abbrev pub IsNear : Limits → ℕ → Guard → Type 0
+IsNear limits k g = (k < limits.most) × (g.space.max_allocs < limits.max_allocs) × (g.space.max_allocs < length g.space.blocks + 4)
+
+-- the nodes of a heap allow it: a range that becomes smaller may add a block
+abbrev pub HasNodesFor : Limits → ℕ → Wanted → Guard → Type 0
+HasNodesFor limits k (Less n) g = IsNear limits k g → ⊥
+HasNodesFor limits k (More n) g = Unit {0}
+
+-- how many blocks it may add
+abbrev pub blocks_more : Wanted → ℕ
+blocks_more (Less n) = 1
+blocks_more (More n) = 0
+
+-- the heap of a number, where there is one, can do it
+abbrev pub CanResizeIn : Limits → ℕ → Wanted → ℕ → Option Guard → Type 0
+CanResizeIn limits k how x None = ⊥
+CanResizeIn limits k how x (Some g) = CanResize how x g.space × HasNodesFor limits k how g
+
+-- the range of a ticket becomes smaller or larger in place, or stays as it is, where that can't be done
+pub record Resizes (how : Wanted) (t : Ticket) (done : Bool) (g h : Guard) : Type 0 where
+  pub step : ResizesSpace how t.name g.space h.space done
+  pub blocks : length h.space.blocks ≤ length g.space.blocks + blocks_more how
+  -- no serial changes, and no other ticket is live
+  pub serials : guarded.KeepsSerials g h
+  pub kept : guarded.KeepsLive g h
+  -- the range has so many units, from its first one on, and every other ticket the range that it had
+  pub range : done ≡ true → guarded.HasUnits t (units_wanted how) g h
+  pub others : guarded.KeepsOthers t g h
+  pub accesses : h.space.accesses ≤ g.space.accesses + 128
+
+-- the range of a place
+abbrev pub ResizesAt : Wanted → Place → Heaps → Heaps → Bool → Type 0
+ResizesAt how p hs ks done = Alters p.heap (Resizes how p.ticket done) hs ks
+
+abbrev pub CanResizeAt : Wanted → Place → Heaps → Type 0
+CanResizeAt how p hs = CanResizeIn hs.limits p.heap how p.ticket.name (heap_at p.heap hs)
+
+-- every place has as many units as it had, and no other is live
+abbrev pub KeepsSizes : Heaps → Heaps → Type 0
+KeepsSizes hs ks = (p : Place) → option_map (λ (r : Range). r.size) (range_of p ks) ≡ option_map (λ (r : Range). r.size) (range_of p hs)
+
+-- the moves of a heap that is compacted
+abbrev pub moves_in : Option Guard → List Move
+moves_in None = []
+moves_in (Some g) = moves 0 0 g.space.blocks
+
+-- all live ranges of a heap slide to the front
+pub record CompactsIn (g h : Guard) : Type 0 where
+  pub step : Compacts g.space h.space
+  pub serials : h ≡ record g { space = h.space }
+  pub sizes : guarded.KeepsSizes g h
+  pub accesses : h.space.accesses ≤ g.space.accesses + 10 * length g.space.blocks + 384
+
+abbrev pub CompactsHeap : ℕ → Heaps → Heaps → Type 0
+CompactsHeap k hs ks = Alters k CompactsIn hs ks
+
+-- room for a request is made in a heap, at a cost: a closure is called with the moves
+pub record MakesRoomIn {F : Type 0} (R : F → Move → F → Type 0) (size : ℕ) (f : F) (c : Option RoomCost) (f' : F) (g h : Guard) : Type 0 where
+  pub cost : IsLeastCost (value (up size)) g.space.blocks c
+  pub step : MakesRoom R (value (up size)) g.space f c h.space f'
+  -- where ranges had to move, the space can grant the request then
+  pub granted : IfSome c (λ c. 1 ≤ c.ranges → CanGrant 1 size h.space)
+  pub serials : h ≡ record g { space = h.space }
+  pub sizes : guarded.KeepsSizes g h
+  pub accesses : h.space.accesses ≤ g.space.accesses + 6 * length g.space.blocks + 40 * ranges_of c + 20
+
+abbrev pub MakesRoomAt : {F : Type 0} → (F → Move → F → Type 0) → ℕ → ℕ → Heaps → F → Option RoomCost → Heaps → F → Type 0
+MakesRoomAt R k size hs f c ks f' = Alters k (MakesRoomIn R size f c f') hs ks

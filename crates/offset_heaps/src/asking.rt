@@ -1,0 +1,94 @@
+//! Why a request would be refused now, without asking. It changes nothing.
+ghost use Rattle.std.specs.Prelude.{ℕ, ◌≡◌, ◌+◌, ◌*◌, ◌^◌, ◌<◌, ◌≤◌, IfSome, IsSome, MatchOption, None};
+ghost use Rattle.offset_heaps.specs.Heaps.{last_realm, numbers};
+ghost use Rattle.offset_heaps.specs.Asking.{IsRefusedFor, IsServed, IsWhyNone};
+
+use crate::HeapsOf;
+use crate::allocate::below;
+use crate::refusal::Refusal;
+use offset_allocator::{Accesses, Tables};
+
+/// As `refusal_aligned` of `Heaps`. The count grows by some for each bit of the numbers.
+pub fn refusal_aligned_counted<T: Tables>(
+    heaps: &HeapsOf<T>,
+    size: u32,
+    align: u32,
+    count: &mut Accesses,
+) -> Option<Refusal>
+    requires alignment { 1 ≤ align }
+    ensures why { MatchOption result (IsServed size align heaps.now) (IsRefusedFor size align heaps.now) }
+    ensures accesses { (bits : ℕ) → numbers heaps.now ≤ 2 ^ bits → count.new ≤ count.old + 2 * bits + 2 }
+{
+    if size == 0 {
+        return Some(Refusal::Empty);
+    }
+    let units = size as u64 + align as u64 - 1;
+    if heaps.index.first_fit(units, align, count).is_some() {
+        return None;
+    }
+    heaps.why_none(size, count)
+}
+
+impl<T: Tables> HeapsOf<T> {
+    // Full, where there is no spare number, or no realm is left.
+    fn why_not_made(&self, spare: Option<u32>) -> Option<Refusal>
+        ensures full { IfSome result
+            (λ why. (why ≡ Refusal.Full) × (IsSome spare → self.now.made ≡ last_realm)) }
+        ensures left { result ≡ None → IsSome spare × (self.now.made < last_realm) }
+    {
+        match spare {
+            None => Some(Refusal::Full),
+            Some(_) => {
+                if self.made == u32::MAX {
+                    return Some(Refusal::Full);
+                }
+                None
+            }
+        }
+    }
+
+    // Why no heap is made for a request that none has room for.
+    fn why_none(&self, size: u32, count: &mut Accesses) -> Option<Refusal>
+        ensures why { IsWhyNone size self.now result }
+        ensures accesses { (bits : ℕ) → numbers self.now ≤ 2 ^ bits → count.new ≤ count.old + bits + 1 }
+    {
+        if self.is_usual(size) {
+            let found = self.index.spare.first_at_least(1, count);
+            return self.why_not_made(below(found, self.limits.most));
+        }
+        if self.limits.most_larger == 0 {
+            return Some(Refusal::TooLarge);
+        }
+        let found = self.index.spare.first_at_least(2, count);
+        self.why_not_made(found)
+    }
+
+    /// Why `allocate(size)` would be refused now, or `None` where it would be granted, if memory for another
+    /// heap is given: what `refusal_aligned(size, 1)` returns.
+    ///
+    /// ```
+    /// assert_eq!(heaps.refusal(300), None);
+    /// assert_eq!(heaps.refusal(0), Some(Refusal::Empty));
+    /// ```
+    pub fn refusal(&self, size: u32) -> Option<Refusal>
+        ensures { MatchOption result (IsServed size 1 self.now) (IsRefusedFor size 1 self.now) }
+    {
+        self.refusal_aligned(size, 1)
+    }
+
+    /// Why `allocate_aligned(size, align)` would be refused now, or `None` where it would be granted: a heap has
+    /// room for it, or another may be made for it, whose memory alone may be refused. It is never `Memory`.
+    /// See `laws::refusals_are_foretold`.
+    ///
+    /// It takes some steps for each bit of the numbers, and touches no heap.
+    ///
+    /// ```
+    /// assert_eq!(heaps.refusal_aligned(900, 256), None);
+    /// ```
+    pub fn refusal_aligned(&self, size: u32, align: u32) -> Option<Refusal>
+        requires alignment { 1 ≤ align }
+        ensures { MatchOption result (IsServed size align self.now) (IsRefusedFor size align self.now) }
+    {
+        refusal_aligned_counted(self, size, align, &mut Accesses::new())
+    }
+}

@@ -1,0 +1,80 @@
+// Printed by rust/erase from crates/offset_heaps/src/resize.rt: change it there.
+
+//! Ranges that become smaller or larger in place. It changes one slot, and notes it in the index.
+
+use crate::HeapsOf;
+use crate::place::Place;
+use offset_allocator::Tables;
+
+/// What the size of a range is to become: that many units, at most as many as it has, or at least.
+#[derive(Clone, Copy)]
+pub(crate) enum Resize {
+    /// At most as many.
+    Shrink(u32),
+    /// At least as many.
+    Grow(u32),
+}
+
+impl Resize {
+    /// Whether it is to have at most as many.
+    pub(crate) fn is_less(self) -> bool {
+        match self {
+            Resize::Shrink(_) => true,
+            Resize::Grow(_) => false,
+        }
+    }
+}
+
+impl<T: Tables> HeapsOf<T> {
+    // Makes the range of a place smaller or larger in place.
+    fn resize(&mut self, place: Place, how: Resize) -> Option<bool> {
+        if place.realm != self.realm {
+            return None;
+        }
+        let done = self
+            .slots
+            .resize(place.heap, self.limits, place.ticket, how, &mut self.accesses)?;
+        self.index
+            .note(&self.slots, place.heap, self.limits, &mut self.accesses);
+        Some(done)
+    }
+
+    /// Makes the range of a place smaller in place, as `GuardedOf::shrink` does in its heap, and returns
+    /// whether it did; or `None` where the place is not live, and then nothing changes. `false` is returned
+    /// where the range has fewer units, or the node limit of its heap is reached and the units that it gives
+    /// back have no free block after them, or fewer than four nodes are unused of a heap whose limit may still
+    /// be doubled: no memory is taken here; then all is as it was.
+    ///
+    /// ```
+    /// # use offset_allocator_heaps::*;
+    /// # let alloc = Global;
+    /// let limits = Limits { size: 1000, max_allocs: 100, first_allocs: 8, most: 2, most_larger: 1 };
+    /// let mut heaps = Heaps::<u32>::new(alloc, limits, 1)?;
+    /// let mesh = heaps.allocate(300).unwrap().place;
+    /// assert_eq!(heaps.shrink(mesh, 200), Some(true));
+    /// assert_eq!(heaps.size_of(mesh), Some(200));
+    /// # Ok::<(), AllocError>(())
+    /// ```
+    pub fn shrink(&mut self, place: Place, size: u32) -> Option<bool> {
+        self.resize(place, Resize::Shrink(size))
+    }
+
+    /// Makes the range of a place larger in place, as `GuardedOf::grow_in_place` does in its heap, and
+    /// returns whether it did; or `None` where the place is not live, and then nothing changes. `false` is
+    /// returned where the range has more units, or the free block directly after it has too few; then all is
+    /// as it was.
+    ///
+    /// ```
+    /// # use offset_allocator_heaps::*;
+    /// # let alloc = Global;
+    /// let limits = Limits { size: 1000, max_allocs: 100, first_allocs: 8, most: 2, most_larger: 1 };
+    /// let mut heaps = Heaps::<u32>::new(alloc, limits, 1)?;
+    /// let mesh = heaps.allocate(300).unwrap().place;
+    /// assert_eq!(heaps.grow_in_place(mesh, 400), Some(true));
+    /// assert_eq!(heaps.grow_in_place(mesh, 1001), Some(false));
+    /// # Ok::<(), AllocError>(())
+    /// ```
+    pub fn grow_in_place(&mut self, place: Place, size: u32) -> Option<bool> {
+        self.resize(place, Resize::Grow(size))
+    }
+}
