@@ -11,8 +11,8 @@ use Rattle.offset_allocator.specs.View.{View}
 use Rattle.offset_allocator.specs.Relations.{SameState}
 use Rattle.offset_allocator.specs.Resizing as space
 use Rattle.offset_allocator.specs.Resizing.{Resizes as Resized}
-use Rattle.offset_allocator.specs.{Ranges.size_of, View.IsWellFormed, View.free_part, View.size_at, View.used_block}
-use Rattle.offset_allocator.proofs.{Holding.place_there, Reading.size_is}
+use Rattle.offset_allocator.specs.{Ranges.size_of, View.IsWellFormed, View.free_part, View.used_block}
+use Rattle.offset_allocator.proofs.{Holding.place_there, Reading.size_at, Reading.size_is}
 use Rattle.offset_guarded.specs.Guard.{Guard}
 use Rattle.offset_guarded.specs.Guard as guarded
 use Rattle.offset_guarded.specs.declared.ticket.Ticket.{Ticket}

@@ -20,7 +20,7 @@ pub(crate) enum Resize {
 impl Resize {
     /// Whether it is to have at most as many.
     pub(crate) fn is_less(self) -> bool
-        ensures { result ≡ is_less (wanted self.entry) }
+        ensures { result ≡ is_less (wanted self) }
     {
         match self {
             Resize::Shrink(_) => true,
@@ -47,9 +47,13 @@ impl<T: Tables> HeapsOf<T> {
         if place.realm != self.realm {
             return None;
         }
-        let done = self
-            .slots
-            .resize(place.heap, self.limits, place.ticket, how, &mut self.accesses)?;
+        let done = self.slots.resize(
+            place.heap,
+            self.limits,
+            place.ticket,
+            how,
+            &mut self.accesses,
+        )?;
         self.index
             .note(&self.slots, place.heap, self.limits, &mut self.accesses);
         Some(done)
