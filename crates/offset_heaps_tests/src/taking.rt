@@ -90,22 +90,15 @@ pub fn grow_in_place(heaps: &mut Heaps, place: Place, size: u32) -> Option<bool>
 }
 
 /// Compacts a heap.
-pub fn compact_heap<F: FnMut(Move<u32>)>(heaps: &mut Heaps, number: u32, moved: &mut F) -> bool
-    requires { F.IsAlwaysCallable moved.old }
+pub fn compact_heap(heaps: &mut Heaps, number: u32) -> bool
     ensures { Packs number heaps.old heaps.new result }
 {
-    heaps.compact_heap(number, moved)
+    heaps.compact_heap(number, &mut |_range: Move<u32>| ())
 }
 
 /// Makes room for a request in a heap.
-pub fn make_room<F: FnMut(Move<u32>)>(
-    heaps: &mut Heaps,
-    number: u32,
-    size: u32,
-    moved: &mut F,
-) -> Option<RoomCost>
-    requires { F.IsAlwaysCallable moved.old }
+pub fn make_room(heaps: &mut Heaps, number: u32, size: u32) -> Option<RoomCost>
     ensures { TakesRoom number size heaps.old heaps.new result }
 {
-    heaps.make_room(number, size, moved)
+    heaps.make_room(number, size, &mut |_range: Move<u32>| ())
 }

@@ -2,7 +2,7 @@ use Rattle.offset_heaps.proofs.Changes.{noted_room}
 use Rattle.offset_heaps_tests.proofs.taking.make_room.Goals as goal
 
 pub returns : goal.returns
-returns g c =
+returns c =
     let is = c.make_room.ensures in
     record {
       none = λ e. ((is.none e).0, (is.none e).2);
