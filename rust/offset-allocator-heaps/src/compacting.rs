@@ -20,15 +20,15 @@ impl<T: Tables> HeapsOf<T> {
     /// let hole = heaps.allocate(300).unwrap().place;
     /// let mesh = heaps.allocate(100).unwrap().place;
     /// heaps.free(hole);
-    /// heaps.compact_heap(0, &mut |it| assert_eq!((it.from, it.to, it.size), (300, 0, 100)));
+    /// heaps.compact_heap(0, |it| assert_eq!((it.from, it.to, it.size), (300, 0, 100)));
     /// assert_eq!(heaps.offset_of(mesh), Some(0));
     /// # Ok::<(), AllocError>(())
     /// ```
-    pub fn compact_heap<F: FnMut(Move<T::Index>)>(&mut self, number: u32, moved: &mut F) -> bool {
+    pub fn compact_heap<F: FnMut(Move<T::Index>)>(&mut self, number: u32, mut moved: F) -> bool {
         if !self.slots.has(number, &mut self.accesses) {
             return false;
         }
-        self.slots.compact(number, moved, &mut self.accesses);
+        self.slots.compact(number, &mut moved, &mut self.accesses);
         self.index
             .note(&self.slots, number, self.limits, &mut self.accesses);
         true
@@ -51,7 +51,7 @@ impl<T: Tables> HeapsOf<T> {
     /// let hole = heaps.allocate(300).unwrap().place;
     /// heaps.allocate(100).unwrap();
     /// heaps.free(hole);
-    /// heaps.make_room(0, 800, &mut |it| assert_eq!((it.from, it.to, it.size), (300, 0, 100)));
+    /// heaps.make_room(0, 800, |it| assert_eq!((it.from, it.to, it.size), (300, 0, 100)));
     /// assert_eq!(heaps.allocate(800).unwrap().place.heap, 0);
     /// # Ok::<(), AllocError>(())
     /// ```
@@ -59,14 +59,14 @@ impl<T: Tables> HeapsOf<T> {
         &mut self,
         number: u32,
         size: u32,
-        moved: &mut F,
+        mut moved: F,
     ) -> Option<RoomCost> {
         if !self.slots.has(number, &mut self.accesses) {
             return None;
         }
         let cost = self
             .slots
-            .make_room(number, size, moved, &mut self.accesses);
+            .make_room(number, size, &mut moved, &mut self.accesses);
         self.index
             .note(&self.slots, number, self.limits, &mut self.accesses);
         cost

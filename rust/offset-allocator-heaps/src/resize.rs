@@ -31,9 +31,13 @@ impl<T: Tables> HeapsOf<T> {
         if place.realm != self.realm {
             return None;
         }
-        let done = self
-            .slots
-            .resize(place.heap, self.limits, place.ticket, how, &mut self.accesses)?;
+        let done = self.slots.resize(
+            place.heap,
+            self.limits,
+            place.ticket,
+            how,
+            &mut self.accesses,
+        )?;
         self.index
             .note(&self.slots, place.heap, self.limits, &mut self.accesses);
         Some(done)

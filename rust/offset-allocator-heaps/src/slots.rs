@@ -110,7 +110,11 @@ fn resize_in<T: Tables>(
         None => None,
         Some(heap) => {
             if how.is_less() && is_near(heap, number, limits) {
-                return if heap.is_live(ticket) { Some(false) } else { None };
+                return if heap.is_live(ticket) {
+                    Some(false)
+                } else {
+                    None
+                };
             }
             resize_heap(heap, ticket, how)
         }
@@ -240,7 +244,13 @@ impl<T: Tables> Slots<T> {
         if number as usize >= self.heaps.len() {
             return None;
         }
-        resize_in(&mut self.heaps[number as usize], number, limits, ticket, how)
+        resize_in(
+            &mut self.heaps[number as usize],
+            number,
+            limits,
+            ticket,
+            how,
+        )
     }
 
     /// Slides every live range of the heap of a number to the front of its space.
