@@ -583,6 +583,31 @@ public:
     // The second range is a request of the heap that takes it, with the name of the first, and where that was.
     Place relocate(const Place &place) { return relocated(place, 1); }
     Place relocateAligned(const Place &place, uint32 align) { return relocated(place, align); }
+    // Written where it is done: who plays it has the most nodes that the heap may grow to.
+    bool shrink(const Place &place, uint32 size) {
+        uint32 number = numberOf(place);
+        bool isDone = heaps.shrink(place, size);
+        if (isDone) tape.write("heap %u shrink %u %u\n", place.heap, number, size);
+        return isDone;
+    }
+    bool growInPlace(const Place &place, uint32 size) {
+        uint32 number = numberOf(place);
+        bool isDone = heaps.growInPlace(place, size);
+        if (isDone) tape.write("heap %u grow %u %u\n", place.heap, number, size);
+        return isDone;
+    }
+    // Of a number that has no heap nothing is written.
+    template <class F> bool compactHeap(uint32 number, F &&moved) {
+        bool isDone = heaps.compactHeap(number, std::forward<F>(moved));
+        if (isDone) tape.write("heap %u compact\n", number);
+        return isDone;
+    }
+    template <class F> RoomCost makeRoom(uint32 number, uint32 size, F &&moved) {
+        bool has = heaps.has(number);
+        RoomCost cost = heaps.makeRoom(number, size, std::forward<F>(moved));
+        if (has) tape.write("heap %u room %u\n", number, size);
+        return cost;
+    }
     template <class F> void dropEmpty(uint32 keep, F &&dropped) {
         heaps.dropEmpty(keep, [&](uint32 number) {
             tape.write("heap %u drop\n", number);

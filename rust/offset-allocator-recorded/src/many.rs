@@ -4,7 +4,7 @@ use crate::tape::{bits_of, in_one_line, Numbers, Tape};
 use crate::{word_of, Recorded};
 use offset_allocator_guarded::GuardedOf;
 use offset_allocator_heaps::{Granted, HeapsOf, Place, Refusal};
-use offset_allocator_proved::{AllocatorOf, Tables};
+use offset_allocator_proved::{AllocatorOf, Move, RoomCost, Tables};
 use std::collections::HashMap;
 use std::io::{self, Write};
 use std::ops::Deref;
@@ -363,6 +363,48 @@ impl<T: Tables, W: Write> RecordedHeaps<T, W> {
             }
         }
         found
+    }
+
+    // Writes a change of the size of a live range where it was done. One that was not may be refused for the nodes that its
+    // heap has now, and whoever plays it has the most that it may grow to.
+    fn resized(&mut self, place: Place, number: u32, word: &str, size: u32, done: Option<bool>) -> Option<bool> {
+        if done == Some(true) {
+            self.tape.write(format_args!("heap {} {word} {number} {size}", place.heap));
+        }
+        done
+    }
+
+    /// `HeapsOf::shrink`. Where it is not done nothing is written.
+    pub fn shrink(&mut self, place: Place, size: u32) -> Option<bool> {
+        let number = self.number(place);
+        let done = self.heaps.shrink(place, size);
+        self.resized(place, number, "shrink", size, done)
+    }
+
+    /// `HeapsOf::grow_in_place`. Where it is not done nothing is written.
+    pub fn grow_in_place(&mut self, place: Place, size: u32) -> Option<bool> {
+        let number = self.number(place);
+        let done = self.heaps.grow_in_place(place, size);
+        self.resized(place, number, "grow", size, done)
+    }
+
+    /// `HeapsOf::compact_heap`. Of a number that has no heap nothing is written.
+    pub fn compact_heap<F: FnMut(Move<T::Index>)>(&mut self, number: u32, moved: F) -> bool {
+        let is_done = self.heaps.compact_heap(number, moved);
+        if is_done {
+            self.tape.write(format_args!("heap {number} compact"));
+        }
+        is_done
+    }
+
+    /// `HeapsOf::make_room`. Of a number that has no heap nothing is written.
+    pub fn make_room<F: FnMut(Move<T::Index>)>(&mut self, number: u32, size: u32, moved: F) -> Option<RoomCost> {
+        let has = self.heaps.heap(number).is_some();
+        let cost = self.heaps.make_room(number, size, moved);
+        if has {
+            self.tape.write(format_args!("heap {number} room {size}"));
+        }
+        cost
     }
 
     /// `HeapsOf::drop_empty`.
