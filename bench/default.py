@@ -12,7 +12,7 @@ BUILDS = [(profile, sites) for profile in PROFILES for sites in SITES]
 # the programs, in the order in which they take turns
 PROGRAMS = [(side, *build) for build in BUILDS for side in SIDES]
 # the turns, and the fewest; no further one is begun for a workload after so many seconds
-TURNS, LEAST, ENOUGH = int(os.environ.get("TURNS", 10)), 5, 20
+TURNS, LEAST, ENOUGH = int(os.environ.get("TURNS", 30)), 5, 45
 # the most steps of a recorded program that are counted
 COUNTED = 200_000
 # the names of the workloads that are not recorded programs, and the most of the original's time that each may take
