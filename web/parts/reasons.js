@@ -4,13 +4,13 @@ const inEnglish = new Intl.NumberFormat('en'), whole = n => inEnglish.format(n);
 const counted = (n, one, more = one + 's') => `${whole(n)} ${n === 1 ? one : more}`;
 // A size in bytes, where it is known how many a unit has.
 const BYTES = ['B', 'KiB', 'MiB', 'GiB', 'TiB', 'PiB'];
-const inBytes = n => {
-  let v = n * S.unit, i = 0;
+const inBytes = (n, unit = S.unit) => {
+  let v = n * unit, i = 0;
   // what is rounded to 1,024 is one of the next
   while (i < 5 && Math.round(v) >= 1024) { v /= 1024; i++; }
   return `${i && v < 100 ? v.toFixed(v < 10 ? 2 : 1) : whole(Math.round(v))} ${BYTES[i]}`; };
-const sized = n => S.unit ? inBytes(n) : whole(n);
-const units = n => counted(n, 'unit') + (S.unit ? ` (${inBytes(n)})` : '');
+const sized = (n, unit = S.unit) => unit ? inBytes(n, unit) : whole(n);
+const units = (n, unit = S.unit) => counted(n, 'unit') + (unit ? ` (${inBytes(n, unit)})` : '');
 // An offset in bytes, exactly: in the largest unit of which it has whole sixteenths.
 const atBytes = n => {
   let v = n * S.unit, i = 0;

@@ -45,7 +45,7 @@ async function load(bytes, name, title, part = 0) {
   if (!run) { if (S.run) $('trace').value = S.name; return false; }
   leave();
   const before = { ...S };
-  Object.assign(S, { run, base: run, name, title, bytes, part, past: [], ahead: [], grant: 0, zoom: null, find: null, life: null, unit: run.file.unit || (S.unit === S.run?.file?.unit ? 0 : S.unit) });
+  Object.assign(S, { run, base: run, name, title, bytes, part, past: [], ahead: [], grant: 0, zoom: null, find: null, life: null, unit: unitIn(run.file, run.part) || (S.run?.file && S.unit === unitIn(S.run.file, S.run.part) ? 0 : S.unit) });
   say('');
   // another run takes nothing away: calls that were added come back by a click
   if (before.run !== before.base) say(`Your calls in ${before.title} are left.`, false, [['Back to them', () => {

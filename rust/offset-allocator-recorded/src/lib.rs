@@ -49,7 +49,7 @@ impl<A, W: Write> Recorded<A, W> {
         self
     }
 
-    /// How many bytes a unit has, for the page: a mark.
+    /// How many bytes a unit has, for the page: a mark. Of a heap of a `Recording` it is of that heap alone.
     pub fn unit(&mut self, bytes: u32) {
         self.tape.mark(format_args!("unit {bytes}"));
     }

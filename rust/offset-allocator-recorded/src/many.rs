@@ -134,6 +134,12 @@ impl<W: Write> Write for Part<W> {
         let mut shared = self.out.lock().unwrap_or_else(|broken| broken.into_inner());
         let is_said = !self.is_new && shared.thread == self.thread;
         let mut all = if is_said { Vec::new() } else { self.thread.clone() };
+        // a unit is that of this heap
+        let of = format!(" heap {}\n", self.heap);
+        let (text, end) = match line.strip_suffix(b"\n") {
+            Some(text) if line.starts_with(b"#! unit ") => (text, of.as_bytes()),
+            _ => (line, &b""[..]),
+        };
         // a name stays that of the next request
         if !is_mark {
             all.append(&mut self.held);
@@ -141,7 +147,8 @@ impl<W: Write> Write for Part<W> {
                 write!(all, "heap {} ", self.heap)?;
             }
         }
-        all.extend_from_slice(line);
+        all.extend_from_slice(text);
+        all.extend_from_slice(end);
         shared.out.write_all(&all)?;
         if !is_said && !self.thread.is_empty() {
             shared.thread.clone_from(&self.thread);
@@ -229,7 +236,7 @@ impl<T: Tables, W: Write> RecordedHeaps<T, W> {
         self
     }
 
-    /// How many bytes a unit has, for the page: a mark.
+    /// How many bytes a unit of all heaps has, for the page: a mark.
     pub fn unit(&mut self, bytes: u32) {
         self.tape.mark(format_args!("unit {bytes}"));
     }
