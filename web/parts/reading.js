@@ -9,7 +9,7 @@ const CALLS = [['alloc', 'n'], ['align', 'na'], ['free', 'k'], ['size', 'k'], ['
   ['tight', 'na'], ['room', 'n'], ['room', 'nas'], ['relocate', 'k'], ['relocate', 'ka'], ['retract', 'd'], ['offset', 'k'],
   ['where', 'n'], ['where', 'na'], ['first', ''], ['last', ''], ['before', 'k'], ['after', 'k'], ['cost', 'n'], ['cost', 'nas'],
   ['why alloc', 'n'], ['why align', 'na'], ['why tight', 'n'], ['why tight', 'na'], ['at', 'dn']];
-const NAMES = CALLS.map(c => c[0]), KINDS = CALLS.map(c => c[1]), OP = { free: 2, compact: 10, within: 12, tight: 13, tightAligned: 14, room: 15, retract: 19, at: 33 };
+const NAMES = CALLS.map(c => c[0]), KINDS = CALLS.map(c => c[1]), OP = { free: 2, compact: 10, within: 12, tight: 13, tightAligned: 14, room: 15, relocate: 17, relocateAligned: 18, retract: 19, whyAlloc: 29, whyAlign: 30, at: 33 };
 const isOnGrant = op => KINDS[op][0] === 'k', isTight = op => op === OP.tight || op === OP.tightAligned;
 const isRelocation = op => NAMES[op] === 'relocate', isSlide = op => ['compact', 'room'].includes(NAMES[op]);
 const said = (op, ...of) => [NAMES[op], ...of.slice(0, KINDS[op].length)].join(' ');

@@ -221,7 +221,7 @@ async function link() {
   try { await navigator.clipboard.writeText(location.href); say(`The link to this state is copied: ${size}.${long}`); }
   catch { say(`The link to this state is in the address bar: ${size}.${long}`); }
 }
-const ADDED = [...Array(11).keys(), OP.tight, OP.tightAligned, OP.room, OP.retract, OP.at];
+const ADDED = [...Array(11).keys(), OP.tight, OP.tightAligned, OP.room, OP.relocate, OP.relocateAligned, OP.retract, OP.at], ALIGNED = [1, OP.tightAligned, OP.relocateAligned];
 const numbersOf = text => text.split('.').map(x => { if (!/^\d{1,10}$/.test(x) || Number(x) > LARGEST) throw Error(); return Number(x); });
 const oneOf = text => { const n = numbersOf(text); if (n.length !== 1) throw Error(); return n[0]; };
 async function restore() {
@@ -237,7 +237,7 @@ async function restore() {
     if (q.get('c')) {
       const kept = oneOf(q.get('kept') || ''), c = numbersOf(q.get('c')), edits = [];
       for (let i = 0; i < c.length; i += 3) {
-        if (i + 2 >= c.length || !ADDED.includes(c[i]) || ((c[i] === 1 || c[i] === OP.tightAligned) && c[i + 2] < 1)) throw Error();
+        if (i + 2 >= c.length || !ADDED.includes(c[i]) || (ALIGNED.includes(c[i]) && c[i + 2] < 1)) throw Error();
         edits.push(c.slice(i, i + 3)); }
       if (kept > S.base.count) throw Error();
       S.run = await during('Playing', work => S.base.branch(kept, edits, work)) || S.run; showNames();
