@@ -374,6 +374,10 @@ public:
     void name(const char *text) {
         if (out && text) detail::Tape(out).comment(text);
     }
+    // Marks of the whole file, as those of one of its heaps: call them once, not for each heap.
+    void frameEnd() { detail::Tape(out).mark("frame"); }
+    void time(uint64_t nanoseconds) { detail::Tape(out).mark("time", nanoseconds); }
+    void mark(const char *text) { detail::Tape(out).markText(text); }
     Recording(const Recording &) = delete;
     Recording &operator=(const Recording &) = delete;
 
@@ -409,7 +413,8 @@ public:
     void name(const char *text) { tape.comment(text); }
     // Marks, which change no answer, and between which the page shows what lives: a frame's end, a time in nanoseconds from a
     // begin of the program's, the number of the thread of the calls from here on, and a text of the program's. And how many bytes a
-    // unit has; of a heap of a Recording it is of that heap alone.
+    // unit has; of a heap of a Recording it is of that heap alone. frameEnd, time and mark are of the whole file: call them on one
+    // heap of a Recording alone, or on that.
     void frameEnd() { tape.mark("frame"); }
     void unit(uint32 bytes) { tape.unit(bytes); }
     void time(uint64_t nanoseconds) { tape.mark("time", nanoseconds); }
