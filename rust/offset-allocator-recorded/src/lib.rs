@@ -15,7 +15,7 @@ mod playing;
 mod reading;
 mod tape;
 
-pub use drawing::{course, draw, draw_heap};
+pub use drawing::{course, draw, draw_heap, draw_one, Drawn};
 pub use many::{Part, Recording, RecordedHeaps};
 pub use offset_allocator_guarded::{GuardedOf, Ticket};
 pub use offset_allocator_heaps::HeapsOf;
