@@ -138,7 +138,7 @@ def are_found(b):
     same(b.run("return $('whytitle').textContent"), "Row 14: alloc 300 is refused", "the refusal")
     same(b.run("return [...$('facts').children].map(e => e.textContent)"),
          ["no free block is large enough until the space is compacted", "asked: 300 units; rounded up to class 50: 320 units",
-          "largest free block: 100 units; free in all: 500 units; largest request granted now: 96 units", "blocks: 10 of at most 31"],
+          "largest free block: 100 units; free in all: 500 units; largest request granted now: 96 units, since requests are rounded up", "blocks: 10 of at most 31"],
          "size, class, largest free block, and why")
     same(b.run("return [...$('helps').children].map(e => e.textContent)"),
          ["compact: after it the request is granted", "220 units more space (extend 220): then it is granted",

@@ -55,7 +55,7 @@ async function surveyed(file, bytes, work) {
 function drawHeap(row, i) {
   const { file } = S.run, of = file.parts[i], { seen } = of, unit = unitOf(file, i);
   cell(row, nameOfPart(file, i), 'h', nameOfPart(file, i)); cell(row, sized(seen.size, unit), 'u'); cell(row, `${whole(seen.live)}, ${sized(seen.units, unit)}`, 'u'); cell(row, sized(seen.most, unit), 'u');
-  cell(row, whole(of.lines.length), 'n'); cell(row, seen.refused ? whole(seen.refused) : '', 'n bad'); cell(row, of.end || '', 'e');
+  cell(row, whole(of.lines.length), 'n'); cell(row, seen.refused ? whole(seen.refused) : '', seen.refused ? 'n bad first' : 'n bad', seen.refused ? 'Opens it at its first refusal' : ''); cell(row, of.end || '', 'e');
   const c = document.createElement('canvas'); c.className = 'strip'; row.append(c);
   if (i === S.part) row.classList.add('now');
   requestAnimationFrame(() => {
@@ -85,7 +85,7 @@ function showHeaps() {
   const left = addedUp(file, parts.map((of, i) => [i, of.seen.units]).filter(([, n]) => n)) || 'of units that differ, and are not added up';
   tell('heapshead', file.isMany ? `${counted(parts.length, 'heap')} in this file` : `${counted(parts.length, 'space')} in this file, one after the other`);
   tell('heapsum', `Shown below: ${nameOfPart(file, S.part)}. Live at the end in all: ${counted(file.left, 'range')}, ${left}.` +
-    (file.refused ? ` ${counted(file.refused, 'request')} that no heap granted.` : ''));
+    (file.refused ? ` ${counted(file.refused, 'request')} that no heap granted.` : '') + (S.run !== S.base ? ' The rows are of the original, without your calls.' : ''));
   // rows are made again only where what they show is another
   const key = [S.part, S.unit, colors().bg, $('heaps').clientWidth].join();
   L.heaps.chosen = S.part;
@@ -120,17 +120,18 @@ function showUngranted(i) {
   say(`Line ${whole(other.line)}: ${what}: ${why}. Then there ${there.length === 1 ? 'was' : 'were'} ${counted(there.length, 'heap')}${free ? `, with ${free} free in all` : ''}` +
     (best ? `; the largest request that one granted was ${units(best.largest, unitOf(file, best.j))}, of ${nameOfPart(file, best.j)}` : '') + '.', false, best ? [['Open it', () => openPart(best.j, other.line)]] : []);
 }
-// Opens another part, at the time of the file that is shown, or at a line.
-async function openPart(i, line = lineAt(S.run, S.p)) {
+// Opens another part, at the time of the file that is shown, at a line, or at its first refusal.
+async function openPart(i, line = lineAt(S.run, S.p), isAtRefusal = false) {
   stop();
-  if (i === S.part) return jump(rowAtLine(S.run, line));
+  if (i === S.part) return jump(isAtRefusal && S.run.refusals.length ? S.run.refusals[0] : rowAtLine(S.run, line));
   const { file } = S.run, of = file.parts[i];
   const run = await during('Playing', work => of.run().survey(work));
   if (!run) return null;
   leave();
   Object.assign(run, { file, part: of });
   Object.assign(S, { run, base: run, part: i, past: [], ahead: [], grant: 0, free: undefined, zoom: null, life: null, find: null, unit: file.units.size ? unitIn(file, of) : S.unit });
-  dropOther(); showNames(); await look(); go(rowAtLine(run, line)); enter();
+  dropOther(); showNames(); await look(); go(isAtRefusal ? run.refusals[0] : rowAtLine(run, line)); enter();
+  say(`${nameOfPart(file, i)}, at ${isAtRefusal ? 'its first refusal' : `line ${whole(line)} of the file, the time that was shown${run.refusals.length ? '. The number of its refusals opens it at the first' : ''}`}.`);
   return null;
 }
 const rowAtLine = (run, line) => firstOf(run.lines.length, i => run.lines[i] > line);

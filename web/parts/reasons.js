@@ -103,7 +103,7 @@ function* asked(out, run, p, n, align, before, size) {
   const aligned = align > 1 ? ` at a multiple of ${amount(align)}, so a block for ${amount(need)}` : '';
   out.facts.push(`asked: ${units(n)}${aligned}; rounded up to class ${c}: ` +
     (c < BINS ? units(value) : 'more than any block has'));
-  out.facts.push(`largest free block: ${units(big)}; free in all: ${units(all)}; largest request granted now: ${units(largest)}`);
+  out.facts.push(`largest free block: ${units(big)}; free in all: ${units(all)}; largest request granted now: ${units(largest)}${largest > 0 && largest < big ? ', since requests are rounded up' : ''}`);
   out.facts.push(`blocks: ${whole(count)} of at most ${whole(limit - 1)}`);
   if (yield* granted(run, p, [[10], call])) out.help('compact: after it the request is granted', [[10], out.call]);
   const more = value - before.tail;

@@ -61,6 +61,7 @@ function showNames() {
   own.textContent = S.name === 'own' ? S.title : OWN;
   for (const o of $('trace').options) o.textContent = o.textContent.replace(/ \(yours, from row .*\)$/, '');
   $('trace').value = S.name;
+  if (S.name !== 'own' || S.title !== $('file').files[0]?.name) $('file').value = '';
   document.title = `${S.title}${S.run.file && isSeveral(S.run.file) ? `, ${nameOfPart(S.run.file, S.part)}` : ''} – offset_allocator`;
   const b = S.run !== S.base;
   $('branch').hidden = !b && !S.past.length && !S.ahead.length;
