@@ -347,6 +347,17 @@ def relocations_are_explained(b):
     (_, _, facts, helps), = explanations(b, "\n".join([head, *textures, "relocate 6"]) + "\n")
     same([facts[:2], helps[0]], [["too few nodes are left", "grant 6 has 128 units, at 208"], "more nodes alone would not do: no free block before it is large enough"],
          "one that lacks a node, and a place")
+    # of two free blocks of 100 units, one before grant 3 and one after it, the newest is taken
+    for order in ((1, 4), (4, 1)):
+        lines = ["alloc 100", "alloc 50", "alloc 90", "tight 100", *(f"free {k}" for k in order), "shrink 2 40"]
+        head = "space 340 nodes 6 index 32"
+        (_, _, facts, helps), = explanations(b, "\n".join([head, *lines, "relocate 3"]) + "\n")
+        same([facts[0], helps[0]], ["too few nodes are left", "a limit of 7 nodes (it is 6) may do: of two free blocks that serve it, one after it, the newest is taken"], "one that more nodes may help")
+        same(is_done(head.replace("nodes 6", "nodes 7"), [*lines, "relocate 3"]), order == (4, 1), "and do where the newest is before it")
+    # a block that no space has
+    (_, _, facts, helps), = explanations(b, "space 500 nodes 9 index 32\nalloc 100\nalloc 50\nfree 1\nrelocate 2 4294967295\n")
+    same([facts[1], facts[2].split("; ")[1]], ["no free block before it is large enough: this is how emptying the end stops", "rounded up to class 240: more than any block has"],
+         "one at a multiple of more than there is")
     # 300 units at 0 are free, and 350 at the end; 300 are rounded up to 320
     meshes, head = ["alloc 300", "alloc 50", "alloc 300", "free 1"], "space 1000 nodes 32 index 32"
     (_, _, facts, helps), = explanations(b, "\n".join([head, *meshes, "relocate 3"]) + "\n")
