@@ -372,4 +372,85 @@ def dumps(b):
         same(b.run("return [S.name, S.run.count, S.title]"), before, "changes nothing")
 
 
-ALL = [heaps_are_rows, rows_of_heaps_fit, sizes_fit, faulty_heaps, a_space_that_there_was, between_marks, refused_at_a_place, two_files, dumps]
+UNITS = """# meshes
+heap 0 space 6000 nodes 64 index 32
+#! unit 32 heap 0
+# textures
+heap 1 space 512 nodes 16 index 32
+#! unit 65536 heap 1
+heap 0 alloc 1024
+heap 1 alloc 16
+none alloc 9000 full
+"""
+
+
+def each_heap_has_its_unit(b):
+    """Two heaps whose units have other sizes."""
+    shown = "return [S.unit, $('unit').value, $('reports').textContent.split(':')[0], $('heapsum').textContent.split(': ').at(-1).split(' 1 request')[0]]"
+    # the units of rows are in the cells of size, of what is live, and of the most
+    cells = "return [...document.querySelectorAll('#heaprows .row')].map(r => [...r.querySelectorAll('.u')].map(c => c.textContent))"
+    ours = [["188 KiB", "1, 32.0 KiB", "32.0 KiB"], ["32.0 MiB", "1, 1.00 MiB", "1.00 MiB"]]
+    b.open()
+    give(b, UNITS, "units.script")
+    same([b.run(shown), b.run(cells)], [[32, "32", "6,000 units (188 KiB)", "2 ranges, 1.03 MiB."], ours], "each heap is shown in its own unit, and the sum in bytes")
+    b.run("return openPart(1)")
+    same([b.run(shown), b.run(cells)], [[65536, "65536", "512 units (32.0 MiB)", "2 ranges, 1.03 MiB."], ours], "also where the other is open")
+    b.run("return writeText(S.run, new Work('Writing')).then(text => window.written = text)")
+    same(b.run("return written.split('\\n').slice(0, 2)"), ["space 512 nodes 16 index 32", "#! unit 65536"], "what is saved of it has its unit")
+    b.run("showUngranted(0)")
+    same(b.run("return $('told').textContent.split('Then ')[1]"), "there were 2 heaps, with 31.2 MiB free in all; the largest request that one granted was 480 units (30.0 MiB), of heap 1 “textures”.",
+         "of a request that no heap granted the largest is that in bytes")
+    # without the unit of the first, and with one of all
+    give(b, UNITS.replace("#! unit 32 heap 0\n", ""), "one.script")
+    same([b.run(shown)[0], b.run(shown)[3], b.run(cells)[0][0]], [0, "2 ranges, of units that differ, and are not added up.", "6,000"], "where one is not known nothing is added up")
+    give(b, UNITS.replace(" heap 0\n", "\n").replace(" heap 1\n", "\n"), "before.script")
+    same([b.run(shown), b.run(cells)[0][0]], [[65536, "65536", "6,000 units (375 MiB)", "2 ranges, 1,040 units (65.0 MiB)."], "375 MiB"], "a mark without a heap is of all")
+
+
+REFUSING = """# meshes
+heap 0 space 1000 nodes 64 index 32
+# textures
+heap 1 space 100 nodes 16 index 32
+heap 0 alloc 100
+heap 1 alloc 16
+heap 1 alloc 500
+heap 0 alloc 100
+heap 0 alloc 2000
+heap 1 alloc 16
+heap 1 alloc 600
+"""
+
+
+def another_heap_is_opened(b):
+    """By the number of its refusals at the first of them, else at the time that is shown."""
+    clicked = "document.querySelectorAll('#heaprows .row')[arguments[0]].querySelector(arguments[1]).click(); return new Promise(r => setTimeout(() => r([S.part, S.p, $('told').textContent]), 300))"
+    b.open()
+    give(b, REFUSING, "refusing.script")
+    to(b, 1)
+    same(b.run(clicked, 1, ".h"), [1, 0, "heap 1 “textures”, at line 5 of the file, the time that was shown. The number of its refusals opens it at the first."], "at the time that was shown")
+    same(b.run(clicked, 1, ".first"), [1, 2, b.run("return $('told').textContent")], "the one that is open, at its first refusal")
+    same(b.run(clicked, 0, ".first"), [0, 3, "heap 0 “meshes”, at its first refusal."], "another by its refusals")
+    b.run("$('helps').querySelector('button').click()")
+    until(b, "S.run !== S.base", "help")
+    holds(b.run("return $('heapsum').textContent").endswith(" The rows are of the original, without your calls."), "the rows are of the original")
+    b.click("#undo")
+    until(b, "S.run === S.base", "undo")
+    holds("original" not in b.run("return $('heapsum').textContent"), "as what is shown")
+
+
+def a_dropped_file_is_named(b):
+    """The control for a file has the name of the one that is shown, also where it was dropped."""
+    named = "return [...$('file').files].map(f => f.name)"
+    b.open()
+    b.run("const t = new DataTransfer(); t.items.add(new File([arguments[0]], 'dropped.script')); "
+          "document.body.dispatchEvent(new DragEvent('drop', { dataTransfer: t, bubbles: true, cancelable: true }))", REFUSING)
+    until(b, "S.title === 'dropped.script'", "the file")
+    same(b.run(named), ["dropped.script"], "a file that was dropped")
+    give(b, UNITS, "given.script")
+    same(b.run(named), ["given.script"], "one that was given")
+    b.run("$('trace').value = 'levels'; return $('trace').onchange()")
+    same([b.run(named), b.run("return S.name")], [[], "levels"], "of another run it has none")
+
+
+ALL = [heaps_are_rows, rows_of_heaps_fit, sizes_fit, faulty_heaps, a_space_that_there_was, between_marks, refused_at_a_place, two_files, dumps, each_heap_has_its_unit,
+       another_heap_is_opened, a_dropped_file_is_named]

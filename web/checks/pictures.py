@@ -69,4 +69,21 @@ def pictures_of_many_sizes(b):
         holds(b.run("return S.saved !== null") and took < 1000, f"a picture of {count:,} extensions takes less than 1 s", took)
 
 
-ALL = [half_is_half, every_life_is_painted, pictures_of_many_sizes]
+# four ranges of one age
+ROWS_OF_ONE = "space 400 nodes 16 index 32\n" + "alloc 96\n" * 4 + "report\n" * 40
+EDGES = """const found = []; let was = false;
+  for (let y = 0; y < h; y++) { const a = g.getImageData(x, y, 1, 1).data, is = a[3] > 100 && a[0] < 200; if (is !== was) found.push(is); was = is; }
+  return found.filter(is => is).length"""
+
+
+def neighbours_have_a_line(b):
+    """Ranges of one colour are told apart, in the lives and in the saved picture."""
+    b.open()
+    give(b, ROWS_OF_ONE, "rows.script")
+    b.run(DRAWN)
+    to(b, 44)
+    same(b.run("const c = $('life'), g = c.getContext('2d'), x = Math.round(0.6 * c.width), h = c.height - 16 * devicePixelRatio; " + EDGES), 4, "four ranges in the lives")
+    same(saved(b, "const x = 600, h = 400; for (let y = 0; y < 44; y++) g.clearRect(0, y, 1000, 1); " + EDGES), 4, "and in the saved picture")
+
+
+ALL = [half_is_half, neighbours_have_a_line, every_life_is_painted, pictures_of_many_sizes]

@@ -57,6 +57,10 @@ def tried(head, before, call, helps, what):
         if name == kind and "in its place" not in said and ("is more" in what or "is fewer" in what):
             other = {"grow": "shrink", "shrink": "grow"}[kind]
             assert not is_done(head, [*before, f"{other} {numbers[0]} {numbers[1]}"]), what
+    if name == "relocate":
+        for text in (text for text in helps if text.startswith("release")):
+            grants = re.findall(r"grant (\d+) ", text)
+            assert "more" in text or is_done(head, [*before, *(f"free {k}" for k in grants), call]), (what, text)
     if "no alignment" in said:
         assert is_done(head, [*before, f"alloc {numbers[0]}"]), what
     if name == "extend":
@@ -134,7 +138,7 @@ def are_found(b):
     same(b.run("return $('whytitle').textContent"), "Row 14: alloc 300 is refused", "the refusal")
     same(b.run("return [...$('facts').children].map(e => e.textContent)"),
          ["no free block is large enough until the space is compacted", "asked: 300 units; rounded up to class 50: 320 units",
-          "largest free block: 100 units; free in all: 500 units; largest request granted now: 96 units", "blocks: 10 of at most 31"],
+          "largest free block: 100 units; free in all: 500 units; largest request granted now: 96 units, since requests are rounded up", "blocks: 10 of at most 31"],
          "size, class, largest free block, and why")
     same(b.run("return [...$('helps').children].map(e => e.textContent)"),
          ["compact: after it the request is granted", "220 units more space (extend 220): then it is granted",
@@ -203,8 +207,8 @@ def others_are_explained(b):
                                                          "release 1 range of 60 units, from 0 to 60 (dashed): grant 1 of 60 units; then it is granted"]],
           ["room 41 is refused", ["free in all: 40 units; no moves make a block of them that serves alloc 41", "blocks: 2 of at most 15"],
            ["4 units more space (extend 4): then room is made"]],
-          ["relocate 1 is refused", ["grant 1 has 60 units, at 0", "no second range of as many is granted before it; blocks: 2 of at most 15"],
-           ["nothing that was tried: a space that began larger, or other calls before"]]], "refusals of other calls; a question is refused nothing")
+          ["relocate 1 is refused", ["grant 1 has 60 units, at 0", "it begins where the space begins: no place is before it", "blocks: 2 of at most 15"],
+           ["nothing that was tried would have helped"]]], "refusals of other calls; a question is refused nothing")
     # 1 live, 3 free, 6 live: a step of 2 leaves 1 and gives up 2, for which a fourth block is missing
     found = explanations(b, "space 10 nodes 4 index 32\nalloc 4\nalloc 6\nfree 1\nalloc 1\ncompact 2\ncompact 2 0 9 9\n")
     same([[title, facts, helps] for _, title, facts, helps in found],
@@ -327,5 +331,52 @@ def gone_is_told(b):
     same(b.run("return $('facts').textContent"), "no grant has the number 7 there", "a number of no grant")
 
 
-ALL = [are_found, the_first_run_has_a_refusal, others_are_explained, are_marked, helps_help, tight_is_named, smaller_is_smaller, extension_lacks_a_node, gone_is_told,
+def relocations_are_explained(b):
+    """A second range that is refused for nodes, for room, and because the block that is taken is after the first."""
+    b.open()
+    # free are 64 units from 0 on, 48 from 112 on, 16 from 192 on, which the two of 2 units are taken of, and 176 at the end: 9 blocks
+    textures = ["alloc 64", "alloc 48", "alloc 48", "alloc 32", "alloc 16", "alloc 128", "free 1", "free 3", "free 5", "alloc 2", "alloc 2"]
+    head = "space 512 nodes 10 index 32"
+    (_, title, facts, helps), = explanations(b, "\n".join([head, *textures, "relocate 4"]) + "\n")
+    same([title, facts, helps[0]], ["Row 12: relocate 4 is refused", ["too few nodes are left", "grant 4 has 32 units, at 160", "asked: 32 units; rounded up to class 24: 32 units; "
+          "largest free block before it: 64 units", "blocks: 9 of at most 9"], "more nodes: a limit of 11 (it is 10), where the calls before stay the same"], "one that lacks a node")
+    tried(head, textures, "relocate 4", helps, "one that lacks a node")
+    b.run("go(12); [...document.querySelectorAll('#helps button')].find(e => e.textContent.startsWith('more nodes')).click()")
+    until(b, "S.other", "the run with more nodes")
+    same(b.run("return [S.other.as[1], S.other.rows.includes(12)]"), [11, True], "which a run with more nodes shows")
+    (_, _, facts, helps), = explanations(b, "\n".join([head, *textures, "relocate 6"]) + "\n")
+    same([facts[:2], helps[0]], [["too few nodes are left", "grant 6 has 128 units, at 208"], "more nodes alone would not do: no free block before it is large enough"],
+         "one that lacks a node, and a place")
+    # of two free blocks of 100 units, one before grant 3 and one after it, the newest is taken
+    for order in ((1, 4), (4, 1)):
+        lines = ["alloc 100", "alloc 50", "alloc 90", "tight 100", *(f"free {k}" for k in order), "shrink 2 40"]
+        head = "space 340 nodes 6 index 32"
+        (_, _, facts, helps), = explanations(b, "\n".join([head, *lines, "relocate 3"]) + "\n")
+        same([facts[0], helps[0]], ["too few nodes are left", "a limit of 7 nodes (it is 6) may do: of two free blocks that serve it, one after it, the newest is taken"], "one that more nodes may help")
+        same(is_done(head.replace("nodes 6", "nodes 7"), [*lines, "relocate 3"]), order == (4, 1), "and do where the newest is before it")
+    # a block that no space has
+    (_, _, facts, helps), = explanations(b, "space 500 nodes 9 index 32\nalloc 100\nalloc 50\nfree 1\nrelocate 2 4294967295\n")
+    same([facts[1], facts[2].split("; ")[1]], ["no free block before it is large enough: this is how emptying the end stops", "rounded up to class 240: more than any block has"],
+         "one at a multiple of more than there is")
+    # 300 units at 0 are free, and 350 at the end; 300 are rounded up to 320
+    meshes, head = ["alloc 300", "alloc 50", "alloc 300", "free 1"], "space 1000 nodes 32 index 32"
+    (_, _, facts, helps), = explanations(b, "\n".join([head, *meshes, "relocate 3"]) + "\n")
+    same([facts, helps], [["grant 3 has 300 units, at 350", "no free block before it is large enough: this is how emptying the end stops",
+                           "asked: 300 units; rounded up to class 50: 320 units; largest free block before it: 300 units", "blocks: 4 of at most 31"],
+                          ["release 1 range of 50 units, from 300 to 350 (dashed): grant 2 of 50 units; then it is granted",
+                           "another range: alloc 300 is granted; copy, then free 3"]], "one that lacks room before it, and what would have to go")
+    tried(head, meshes, "relocate 3", helps, "one that lacks room")
+    b.run("go(5); [...document.querySelectorAll('#helps button')].find(e => e.textContent.startsWith('release')).click()")
+    until(b, "S.run !== S.base", "release")
+    same(b.run("return [S.run.count, answered(S.run, S.p - 1)]"), [6, recorded("\n".join([head, *meshes, "free 2", "relocate 3"]) + "\n")[0].splitlines()[-1]], "which is shown")
+    b.run("return link()")
+    b.run("history.replaceState(null, '', location.href); return restore()")
+    same(b.run("return [$('fault').textContent, answered(S.run, S.p - 1)]"), ["", "grant 4 at 0"], "and has a link")
+    # 300 units at 0 are free, and 260 at the end, of the class of the 256 to which 250 are rounded up
+    meshes = ["alloc 300", "alloc 50", "alloc 250", "alloc 140", "free 1"]
+    (_, _, facts, helps), = explanations(b, "\n".join([head, *meshes, "relocate 3"]) + "\n")
+    holds("takes another, after it" in facts[1] and helps == ["another range: alloc 250 is granted; copy, then free 3"], "one whose block would be after it", [facts, helps])
+
+
+ALL = [are_found, relocations_are_explained, the_first_run_has_a_refusal, others_are_explained, are_marked, helps_help, tight_is_named, smaller_is_smaller, extension_lacks_a_node, gone_is_told,
        what_would_have_to_go, helps_are_shown]

@@ -17,7 +17,7 @@ function toggle() {
 const to = p => { stop(); go(p); };
 L.calls = new List('calls', drawCall, i => jump(callAt(i)));
 L.ranges = new List('ranges', drawRange, i => { const b = rangeAt(i); pointer = null; chosenIs(b); jump(S.run.born.list[b.k]); });
-L.heaps = new List('heaprows', drawHeap, i => openPart(i));
+L.heaps = new List('heaprows', drawHeap, (i, name) => openPart(i, undefined, name?.includes('first')));
 L.others = new List('others', drawOther, showUngranted);
 for (const by of Object.keys(SORTS)) {
   const b = document.createElement('button'); b.textContent = by; b.dataset.by = by;
@@ -61,9 +61,13 @@ const takeFile = async f => {
 function takeFrom(event, given) {
   const file = given.files[0], text = given.getData('text/plain');
   if (file || text) event.preventDefault();
+  // the control says which file it is
+  if (file && event.type === 'drop') $('file').files = given.files;
   if (file) takeFile(file); else if (text) take(new TextEncoder().encode(text), OWN);
 }
-$('file').onchange = async () => { const f = $('file').files[0]; if (f) await takeFile(f); $('file').value = ''; };
+$('file').onchange = async () => { const f = $('file').files[0]; if (f) await takeFile(f); };
+// so the same file may be chosen again
+$('file').onclick = () => { $('file').value = ''; };
 $('xfile').onchange = async () => {
   const f = $('xfile').files[0];
   if (!f) return;

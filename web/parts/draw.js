@@ -133,6 +133,8 @@ function ticks(run, from, to, w) {
 // The lives of all ranges, drawn once for each size of the window and scheme of colours, in turns: what is missing comes
 // with the next frames, as long as `at` returns a position.
 const TURN = 12;
+// Between neighbours, which may have one colour, a line is left where there is room for it: what is larger than this has a pixel less.
+const ROOM = 4, lineLeft = (from, to) => to - from > ROOM ? 1 : 0;
 function drawLives(id, run, at, isTurn = false) {
   const p = at();
   if (p === null) return;
@@ -152,7 +154,7 @@ function drawLives(id, run, at, isTurn = false) {
       for (const end = Math.min(run.lifeCount, s.next + 1000); s.next < end; s.next++) {
         const l = LIFE * s.next, o = all[l + O], end = o + all[l + N], from = all[l + FROM], to = Math.min(all[l + TO], n), age = ageOf(run.lived(s.next, n));
         if (from < p1 && to > p0 && o <= o1 && end >= o0)
-          s.drawn.add(ink ? ink(s.next, age) : age, Math.max(0, x(from)), Math.max(0, y(end)), Math.min(wide, x(to)), Math.min(high, y(o)));
+          s.drawn.add(ink ? ink(s.next, age) : age, Math.max(0, x(from)), Math.max(0, y(end) + lineLeft(y(end), y(o))), Math.min(wide, x(to) - lineLeft(x(from), x(to))), Math.min(high, y(o)));
       }
     }
     s.isDone = s.line >= high;

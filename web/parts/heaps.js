@@ -3,6 +3,14 @@ const STEPS = 120, WHY_NOT = ['the request is for no unit', 'the request is larg
 const nameOfPart = (file, i) => {
   const { heap, title, head } = file.parts[i], same = file.parts.slice(0, i).filter(of => of.heap === heap).length;
   return (heap === null ? (same ? `limit ${whole(head[1])}` : 'as it began') : `heap ${whole(heap)}` + (same ? ` (${whole(same + 1)})` : '')) + (title ? ` “${title}”` : ''); };
+// How many bytes a unit of a part has. Where no heap has its own, all have the one that is shown.
+const unitOf = (file, i) => i === S.part || !file.units.size ? S.unit : unitIn(file, file.parts[i]);
+// Units of several parts, each with its part: added up where all have one unit, else in bytes where each is known, else not.
+function addedUp(file, list) {
+  const each = list.map(([i, n]) => [n, unitOf(file, i)]), [, unit] = each[0] || [0, S.unit], sum = f => each.reduce((all, [n, of]) => all + f(n, of), 0);
+  if (each.every(([, of]) => of === unit)) return units(sum(n => n), unit);
+  return each.every(([, of]) => of) ? inBytes(sum((n, of) => n * of), 1) : '';
+}
 const isSeveral = file => file.parts.length > 1 || file.isMany;
 // The ranges of a part that takes the place of another have the names that they had there: its first lines say where they are.
 function carryNames(of) {
@@ -45,9 +53,9 @@ async function surveyed(file, bytes, work) {
   }
 }
 function drawHeap(row, i) {
-  const { file } = S.run, of = file.parts[i], { seen } = of;
-  cell(row, nameOfPart(file, i), 'h', nameOfPart(file, i)); cell(row, sized(seen.size), 'u'); cell(row, `${whole(seen.live)}, ${sized(seen.units)}`, 'u'); cell(row, sized(seen.most), 'u');
-  cell(row, whole(of.lines.length), 'n'); cell(row, seen.refused ? whole(seen.refused) : '', 'n bad'); cell(row, of.end || '', 'e');
+  const { file } = S.run, of = file.parts[i], { seen } = of, unit = unitOf(file, i);
+  cell(row, nameOfPart(file, i), 'h', nameOfPart(file, i)); cell(row, sized(seen.size, unit), 'u'); cell(row, `${whole(seen.live)}, ${sized(seen.units, unit)}`, 'u'); cell(row, sized(seen.most, unit), 'u');
+  cell(row, whole(of.lines.length), 'n'); cell(row, seen.refused ? whole(seen.refused) : '', seen.refused ? 'n bad first' : 'n bad', seen.refused ? 'Opens it at its first refusal' : ''); cell(row, of.end || '', 'e');
   const c = document.createElement('canvas'); c.className = 'strip'; row.append(c);
   if (i === S.part) row.classList.add('now');
   requestAnimationFrame(() => {
@@ -73,10 +81,11 @@ function showHeaps() {
   $('heaps').hidden = !isShown;
   if (!isShown) return;
   const { parts, others } = file;
-  file.refused ??= others.filter(o => o.kind === OTHER.refused).length; file.left ??= [parts.reduce((sum, of) => sum + of.seen.live, 0), parts.reduce((sum, of) => sum + of.seen.units, 0)];
+  file.refused ??= others.filter(o => o.kind === OTHER.refused).length; file.left ??= parts.reduce((sum, of) => sum + of.seen.live, 0);
+  const left = addedUp(file, parts.map((of, i) => [i, of.seen.units]).filter(([, n]) => n)) || 'of units that differ, and are not added up';
   tell('heapshead', file.isMany ? `${counted(parts.length, 'heap')} in this file` : `${counted(parts.length, 'space')} in this file, one after the other`);
-  tell('heapsum', `Shown below: ${nameOfPart(file, S.part)}. Live at the end in all: ${counted(file.left[0], 'range')}, ${units(file.left[1])}.` +
-    (file.refused ? ` ${counted(file.refused, 'request')} that no heap granted.` : ''));
+  tell('heapsum', `Shown below: ${nameOfPart(file, S.part)}. Live at the end in all: ${counted(file.left, 'range')}, ${left}.` +
+    (file.refused ? ` ${counted(file.refused, 'request')} that no heap granted.` : '') + (S.run !== S.base ? ' The rows are of the original, without your calls.' : ''));
   // rows are made again only where what they show is another
   const key = [S.part, S.unit, colors().bg, $('heaps').clientWidth].join();
   L.heaps.chosen = S.part;
@@ -105,21 +114,24 @@ function showUngranted(i) {
     there.push({ j, free: size - (p ? of.used[p - 1] : 0), largest: p ? of.largest[p - 1] : valueOf(classOf(size)) });
   }
   jump(rowAtLine(S.run, other.line));
-  const best = there.reduce((b, h) => !b || h.largest > b.largest ? h : b, null), free = there.reduce((sum, h) => sum + h.free, 0);
-  say(`Line ${whole(other.line)}: ${what}: ${why}. Then there ${there.length === 1 ? 'was' : 'were'} ${counted(there.length, 'heap')}, with ${units(free)} free in all` +
-    (best ? `; the largest request that one granted was ${units(best.largest)}, of ${nameOfPart(file, best.j)}` : '') + '.', false, best ? [['Open it', () => openPart(best.j, other.line)]] : []);
+  // where units differ, the largest is that in bytes
+  const isMixed = file.units.size > 0, inAll = h => h.largest * (isMixed ? unitOf(file, h.j) || 1 : 1);
+  const best = there.reduce((b, h) => !b || inAll(h) > inAll(b) ? h : b, null), free = addedUp(file, there.map(h => [h.j, h.free]));
+  say(`Line ${whole(other.line)}: ${what}: ${why}. Then there ${there.length === 1 ? 'was' : 'were'} ${counted(there.length, 'heap')}${free ? `, with ${free} free in all` : ''}` +
+    (best ? `; the largest request that one granted was ${units(best.largest, unitOf(file, best.j))}, of ${nameOfPart(file, best.j)}` : '') + '.', false, best ? [['Open it', () => openPart(best.j, other.line)]] : []);
 }
-// Opens another part, at the time of the file that is shown, or at a line.
-async function openPart(i, line = lineAt(S.run, S.p)) {
+// Opens another part, at the time of the file that is shown, at a line, or at its first refusal.
+async function openPart(i, line = lineAt(S.run, S.p), isAtRefusal = false) {
   stop();
-  if (i === S.part) return jump(rowAtLine(S.run, line));
+  if (i === S.part) return jump(isAtRefusal && S.run.refusals.length ? S.run.refusals[0] : rowAtLine(S.run, line));
   const { file } = S.run, of = file.parts[i];
   const run = await during('Playing', work => of.run().survey(work));
   if (!run) return null;
   leave();
   Object.assign(run, { file, part: of });
-  Object.assign(S, { run, base: run, part: i, past: [], ahead: [], grant: 0, free: undefined, zoom: null, life: null, find: null });
-  dropOther(); showNames(); await look(); go(rowAtLine(run, line)); enter();
+  Object.assign(S, { run, base: run, part: i, past: [], ahead: [], grant: 0, free: undefined, zoom: null, life: null, find: null, unit: file.units.size ? unitIn(file, of) : S.unit });
+  dropOther(); showNames(); await look(); go(isAtRefusal ? run.refusals[0] : rowAtLine(run, line)); enter();
+  say(`${nameOfPart(file, i)}, at ${isAtRefusal ? 'its first refusal' : `line ${whole(line)} of the file, the time that was shown${run.refusals.length ? '. The number of its refusals opens it at the first' : ''}`}.`);
   return null;
 }
 const rowAtLine = (run, line) => firstOf(run.lines.length, i => run.lines[i] > line);

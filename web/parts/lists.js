@@ -1,14 +1,14 @@
 // The lists: calls and answers, live ranges, sizes, size classes. Only the rows that are visible are made.
 const LINE = 22, MOST_HEIGHT = 8e6;
 class List {
-  // draw(element, row) fills a row; pick(row) is called where one is chosen.
+  // draw(element, row) fills a row; pick(row, className) is called where one is chosen, by a click on what has the classes.
   constructor(id, draw, pick) {
     Object.assign(this, { box: $(id), draw, pick, count: 0, chosen: -1, first: 0 });
     this.sheet = document.createElement('div'); this.sheet.className = 'sheet';
     this.box.append(this.sheet);
     this.box.tabIndex = 0; this.box.setAttribute('role', 'listbox');
     this.box.onscroll = () => this.paint();
-    this.box.onclick = event => { const row = event.target.closest('[data-row]'); if (row) this.choose(Number(row.dataset.row), true); };
+    this.box.onclick = event => { const row = event.target.closest('[data-row]'); if (row) this.choose(Number(row.dataset.row), true, event.target); };
     this.box.onkeydown = event => {
       const step = { ArrowDown: 1, ArrowUp: -1 }[event.key];
       if (step) { event.preventDefault(); this.choose(Math.max(0, Math.min(this.count - 1, this.chosen + step)), false); this.show(this.chosen); }
@@ -25,7 +25,7 @@ class List {
     if (at < top || at + LINE > top + h) this.box.scrollTop = Math.max(0, (at - h / 2) / Math.max(1, this.rate));
     this.paint();
   }
-  choose(row, go) { this.chosen = row; this.paint(); if (go && row >= 0) this.pick(row); }
+  choose(row, go, at = this.box) { this.chosen = row; const { className } = at; this.paint(); if (go && row >= 0) this.pick(row, className); }
   paint() {
     const first = Math.max(0, Math.min(this.count - 1, Math.floor(this.box.scrollTop * this.rate / LINE)));
     const rows = [];

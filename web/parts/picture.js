@@ -3,13 +3,13 @@
 async function pictured(run, w, h, work) {
   const n = run.count + 1, c = colors(), left = 52, top = 44, right = w - 8, middle = Math.round(h * 0.72), low = h - 22, high = middle + 34;
   const safe = t => t.replace(/[\u0000-\u001f\u007f-\u009f\ufffe\uffff]/g, '').replace(/[&<>]/g, s => ({ '&': '&amp;', '<': '&lt;', '>': '&gt;' })[s]), fixed = v => String(Math.round(v * 10) / 10);
-  const x = p => fixed(left + p / n * (right - left)), y = o => fixed(top + (1 - o / run.top) * (middle - top));
+  const x = p => fixed(left + p / n * (right - left)), height = o => top + (1 - o / run.top) * (middle - top), y = o => fixed(height(o));
   const text = (at, px, anchor, words, more = '') => `<text x='${px}' y='${at}' text-anchor='${anchor}'${more}>${safe(words)}</text>`;
   // a range thinner than a pixel is no path, which might not be painted, but counts in a picture by what it covers
   const lives = c.ages.map(() => []), thin = new Coverage(2 * (right - left), 2 * (middle - top), c.ages);
   for (let l = 0; l < run.lifeCount; l++) {
     const { o, n: u, from, to: end } = run.life(l), age = ageOf(run.lived(l, n)), to = Math.min(end, n);
-    if (u / run.top * (middle - top) >= 1 && (to - from) / n * (right - left) >= 1) lives[age].push(`M${x(from)} ${y(o + u)}H${x(to)}V${y(o)}H${x(from)}z`);
+    if (u / run.top * (middle - top) >= 1 && (to - from) / n * (right - left) >= 1) lives[age].push(`M${x(from)} ${fixed(height(o + u) + lineLeft(height(o + u), height(o)))}H${x(to)}V${y(o)}H${x(from)}z`);
     else thin.add(age, from / n * thin.wide, (1 - (o + u) / run.top) * thin.high, to / n * thin.wide, (1 - o / run.top) * thin.high);
     if (l % 4096 === 0) await work.turn(l, run.lifeCount);
   }

@@ -9,7 +9,7 @@ const CALLS = [['alloc', 'n'], ['align', 'na'], ['free', 'k'], ['size', 'k'], ['
   ['tight', 'na'], ['room', 'n'], ['room', 'nas'], ['relocate', 'k'], ['relocate', 'ka'], ['retract', 'd'], ['offset', 'k'],
   ['where', 'n'], ['where', 'na'], ['first', ''], ['last', ''], ['before', 'k'], ['after', 'k'], ['cost', 'n'], ['cost', 'nas'],
   ['why alloc', 'n'], ['why align', 'na'], ['why tight', 'n'], ['why tight', 'na'], ['at', 'dn']];
-const NAMES = CALLS.map(c => c[0]), KINDS = CALLS.map(c => c[1]), OP = { free: 2, compact: 10, within: 12, tight: 13, tightAligned: 14, room: 15, retract: 19, at: 33 };
+const NAMES = CALLS.map(c => c[0]), KINDS = CALLS.map(c => c[1]), OP = { free: 2, compact: 10, within: 12, tight: 13, tightAligned: 14, room: 15, relocate: 17, relocateAligned: 18, retract: 19, whyAlloc: 29, whyAlign: 30, at: 33 };
 const isOnGrant = op => KINDS[op][0] === 'k', isTight = op => op === OP.tight || op === OP.tightAligned;
 const isRelocation = op => NAMES[op] === 'relocate', isSlide = op => ['compact', 'room'].includes(NAMES[op]);
 const said = (op, ...of) => [NAMES[op], ...of.slice(0, KINDS[op].length)].join(' ');
@@ -53,7 +53,7 @@ class Part {
   run(m) { return new Run(this.head, this.calls, this.names, this.lines, m); }
 }
 async function readText(bytes, work) {
-  const m = new Module(), decoder = new TextDecoder(), one = new Map(), file = { parts: [], marks: [], others: [], isMany: false, lines: 0, unit: 0 }, open = new Map();
+  const m = new Module(), decoder = new TextDecoder(), one = new Map(), file = { parts: [], marks: [], others: [], isMany: false, lines: 0, unit: 0, units: new Map() }, open = new Map();
   const bad = line => new Fault(`line ${line}: bad command`, line, ...spanOf(bytes, line));
   let at = 0, part = 0;
   do {
@@ -96,7 +96,11 @@ async function readText(bytes, work) {
       } else if (kind === OTHER.giveUp) {
         const of = open.get(heap);
         if (of) { of.to = line; of.end = 'given up'; open.delete(heap); }
-      } else if (kind === OTHER.mark && /^unit \d{1,10}$/.test(word)) file.unit = Math.min(LARGEST, Number(word.slice(5)));
+      } else if (kind === OTHER.mark && /^unit \d{1,10}( heap \d{1,10})?$/.test(word)) {
+        const [, bytes, , of] = word.split(' '), unit = Math.min(LARGEST, Number(bytes));
+        // without a heap it is of all
+        if (of) file.units.set(Number(of), unit); else { file.unit = unit; file.units.clear(); }
+      }
       else if (kind === OTHER.mark) file.marks.push(marked(file.marks.at(-1), line, word));
       else { file.isMany = true; file.others.push({ line, kind, n: rows[i + 1], a: rows[i + 2], why: rows[i + 3], name: word }); }
     }
@@ -141,9 +145,12 @@ function mended(given) {
   if (!bytes.includes(10)) return bytes.subarray(from).map(b => b === 13 ? 10 : b);
   return bytes.subarray(from).filter((b, i, all) => b !== 13 || (all[i + 1] !== 10 && i + 1 < all.length));
 }
+// How many bytes a unit of a heap has, as the file says; or 0.
+const unitIn = (file, { heap }) => file.units.get(heap) ?? file.unit;
 // The text of calls: what reads as them again.
 async function writeText(run, work) {
-  const parts = [`space ${run.head[0]} nodes ${run.head[1]} index ${run.head[2]}\n${run.file?.unit ? `#! unit ${run.file.unit}\n` : ''}`], flags = flagsOf(run);
+  const unit = run.file ? unitIn(run.file, run.part) : 0, flags = flagsOf(run);
+  const parts = [`space ${run.head[0]} nodes ${run.head[1]} index ${run.head[2]}\n${unit ? `#! unit ${unit}\n` : ''}`];
   for (let i = 0, mark = 0; i <= run.count; i++) {
     for (; mark < flags.length && flags[mark] <= i; mark++) if (run.file.marks[mark].line > run.part.from) parts.push(`#! ${run.file.marks[mark].text}\n`);
     if (i === run.count) break;

@@ -4,13 +4,13 @@ const inEnglish = new Intl.NumberFormat('en'), whole = n => inEnglish.format(n);
 const counted = (n, one, more = one + 's') => `${whole(n)} ${n === 1 ? one : more}`;
 // A size in bytes, where it is known how many a unit has.
 const BYTES = ['B', 'KiB', 'MiB', 'GiB', 'TiB', 'PiB'];
-const inBytes = n => {
-  let v = n * S.unit, i = 0;
+const inBytes = (n, unit = S.unit) => {
+  let v = n * unit, i = 0;
   // what is rounded to 1,024 is one of the next
   while (i < 5 && Math.round(v) >= 1024) { v /= 1024; i++; }
   return `${i && v < 100 ? v.toFixed(v < 10 ? 2 : 1) : whole(Math.round(v))} ${BYTES[i]}`; };
-const sized = n => S.unit ? inBytes(n) : whole(n);
-const units = n => counted(n, 'unit') + (S.unit ? ` (${inBytes(n)})` : '');
+const sized = (n, unit = S.unit) => unit ? inBytes(n, unit) : whole(n);
+const units = (n, unit = S.unit) => counted(n, 'unit') + (unit ? ` (${inBytes(n, unit)})` : '');
 // An offset in bytes, exactly: in the largest unit of which it has whole sixteenths.
 const atBytes = n => {
   let v = n * S.unit, i = 0;
@@ -38,7 +38,7 @@ function* explain(run, p) {
   else if (name === 'compact') yield* unslid(out, run, p);
   else if (name === 'relocate') yield* unmoved(out, run, p, a, before);
   else yield* resized(out, run, p, op, a, b, before, size);
-  if (!out.helps.length) out.help('nothing that was tried: a space that began larger, or other calls before');
+  if (!out.helps.length) out.help('nothing that was tried would have helped');
   return out;
 }
 const MOST_NAMED = 4, UNDONE = [ANSWER.refused, ANSWER.gone];
@@ -51,6 +51,12 @@ function* granted(run, p, calls) {
   for (const c of calls) { yield; kind = m.play(Uint32Array.from(filled(c)))[0]; moved = moved || m.moved(); }
   yield;
   return UNDONE.includes(kind) ? null : moved;
+}
+// The answer to a question there, or null where the space is too large to be copied.
+function* questioned(run, p, call) {
+  if (run.m.size() > 1 << 28) return null;
+  while (run.nearer(p - 1)) yield;
+  return run.copied().play(Uint32Array.from(filled(call)));
 }
 // The neighbouring ranges of the fewest units, and of those the fewest, whose release leaves a free block that fits, from a unit to
 // another: the first of them and the one after the last.
@@ -65,8 +71,8 @@ function cheapest(view, fits) {
   return best;
 }
 // What would have to go for a request: ranges that are moved together, or released. `need` are the units of the block that it asks
-// for, and `fits` says where it is served.
-function* evicted(out, run, p, before, need, fits) {
+// for, and `fits` says where it is served. The range of the grant `kept` stays where it is, and for it none is moved.
+function* evicted(out, run, p, before, need, fits, isOut = run.row(p - 1)[7] === 1, kept = 0) {
   const list = ranges => ranges.slice(0, MOST_NAMED).map(b => `${named(run, b.k)} of ${units(b.n)}`).join(', ') +
     (ranges.length > MOST_NAMED ? `, and ${whole(ranges.length - MOST_NAMED)} more` : '');
   const one = (what, ranges, calls, style) => {
@@ -74,11 +80,11 @@ function* evicted(out, run, p, before, need, fits) {
     out.help(`${what} ${counted(ranges.length, 'range')} of ${units(ranges.reduce((s, b) => s + b.n, 0))}, from ${place(first.o)} to ${place(end)} (${style}): ` +
       `${list(ranges)}; then it is granted`, calls, { outline: [first.o, end - first.o, style === 'dashed'] });
   };
-  const room = [OP.room, need], moved = need <= LARGEST ? yield* granted(run, p, [room, out.call]) : null;
+  const room = [OP.room, need], moved = need <= LARGEST && !kept ? yield* granted(run, p, [room, out.call]) : null;
   if (moved?.length) one('move', [...moved].filter((_, i) => i % 2 === 0).map(k => run.rangeOf(k, p - 1)), [room, out.call], 'outlined');
   // at the node limit a release between free blocks gives up nodes
-  const isShort = run.row(p - 1)[7] === 1 && before.anyFree((o, n) => fits(o, o + n)), free = i => (before.before(i) > 0) + (before.before(i + 1) > 0);
-  const places = isShort ? [1, 2].map(least => [...before.n.keys()].filter(i => free(i) >= least).sort((i, j) => before.n[i] - before.n[j])[0]).filter(i => i !== undefined)
+  const isShort = isOut && before.anyFree((o, n) => fits(o, o + n)), free = i => (before.before(i) > 0) + (before.before(i + 1) > 0);
+  const places = isShort ? [1, 2].map(least => [...before.n.keys()].filter(i => free(i) >= least && before.at(i).k !== kept).sort((i, j) => before.n[i] - before.n[j])[0]).filter(i => i !== undefined)
     .map(i => ({ from: i, to: i + 1 })) : [cheapest(before, fits)].filter(run => run);
   for (const { from, to } of places) {
     const ranges = Array.from({ length: to - from }, (_, i) => before.at(from + i)), calls = [...ranges.map(b => [OP.free, b.k]), out.call];
@@ -97,7 +103,7 @@ function* asked(out, run, p, n, align, before, size) {
   const aligned = align > 1 ? ` at a multiple of ${amount(align)}, so a block for ${amount(need)}` : '';
   out.facts.push(`asked: ${units(n)}${aligned}; rounded up to class ${c}: ` +
     (c < BINS ? units(value) : 'more than any block has'));
-  out.facts.push(`largest free block: ${units(big)}; free in all: ${units(all)}; largest request granted now: ${units(largest)}`);
+  out.facts.push(`largest free block: ${units(big)}; free in all: ${units(all)}; largest request granted now: ${units(largest)}${largest > 0 && largest < big ? ', since requests are rounded up' : ''}`);
   out.facts.push(`blocks: ${whole(count)} of at most ${whole(limit - 1)}`);
   if (yield* granted(run, p, [[10], call])) out.help('compact: after it the request is granted', [[10], out.call]);
   const more = value - before.tail;
@@ -179,12 +185,32 @@ function* unslid(out, run, p) {
   out.help(`more nodes: a limit of ${whole(run.head[1] + 1)}`, null, { nodes: run.head[1] + 1 });
   if (yield* granted(run, p, [[OP.compact], run.call(p - 1)])) out.help('compact: after it nothing is left to slide', [[OP.compact]]);
 }
+// A second range takes the block that a request of as many units takes, where that is before the first one.
 function* unmoved(out, run, p, k, before) {
-  const block = before.of(k);
+  const block = before.of(k), [op, , a] = run.call(p - 1), align = op === OP.relocateAligned ? a : 1;
   if (!block) return;
-  out.facts.push(`${named(run, k)} has ${units(block.n)}, at ${place(block.o)}`);
-  out.facts.push(`no second range of as many is granted before it; blocks: ${blocksOf(run, p)}`);
-  if (yield* granted(run, p, [[0, block.n]])) out.help(`another range: alloc ${block.n} is granted; copy, then free ${k}`, [[0, block.n], [OP.free, k]]);
+  const { n, o } = block, need = n + align - 1, count = run.row(p - 1)[6], limit = run.head[1], c = roundedUp(Math.min(LARGEST, need)), value = valueOf(c);
+  const answer = need > LARGEST ? null : yield* questioned(run, p, align > 1 ? [OP.whyAlign, n, align] : [OP.whyAlloc, n]);
+  const isOut = answer ? answer[3] === 1 : count >= limit - 1, fits = (from, to) => to - from >= value && to <= o;
+  // the block that is taken is of the least class that serves, and of these the newest
+  let least = BINS, largest = 0;
+  before.anyFree((at, room) => { if (room >= value) least = Math.min(least, classOf(room)); if (at < o) largest = Math.max(largest, room); return false; });
+  const [isBefore, isAfter] = [true, false].map(side => before.anyFree((at, room) => room >= value && classOf(room) === least && at < o === side));
+  const lacks = 'no free block before it is large enough', hasRoom = largest >= value && need <= LARGEST;
+  if (isOut && o > 0) out.facts.push(REASONS[1]);
+  out.facts.push(`${named(run, k)} has ${units(n)}, at ${place(o)}`);
+  if (o === 0) out.facts.push('it begins where the space begins: no place is before it');
+  else if (!hasRoom) out.facts.push(`${lacks}: this is how emptying the end stops`);
+  else if (!isOut) out.facts.push('a free block before it is large enough, but a request of as many units takes another, after it: of the least size class that serves, the newest');
+  if (o > 0) out.facts.push(`asked: ${units(n)}${align > 1 ? ` at a multiple of ${amount(align)}, so a block for ${amount(need)}` : ''}; ` +
+    `rounded up to class ${c}: ${c < BINS && need <= LARGEST ? units(value) : 'more than any block has'}; largest free block before it: ${units(largest)}`);
+  out.facts.push(`blocks: ${blocksOf(run, p)}`);
+  const nodes = count + (align > 1 ? 3 : 2);
+  if (isOut && hasRoom && isBefore && !isAfter) out.help(`more nodes: a limit of ${whole(nodes)} (it is ${whole(limit)}), where the calls before stay the same`, null, { nodes });
+  else if (isOut && hasRoom && isBefore) out.help(`a limit of ${whole(nodes)} nodes (it is ${whole(limit)}) may do: of two free blocks that serve it, one after it, the newest is taken`, null, { nodes });
+  else if (isOut && o > 0) out.help(`more nodes alone would not do: ${hasRoom ? 'the free block that is taken is after it' : lacks}`);
+  if (o > 0 && need <= LARGEST && c < BINS) yield* evicted(out, run, p, before, need, fits, isOut, k);
+  if (yield* granted(run, p, [[0, block.n]])) out.help(`another range: alloc ${n} is granted; copy, then free ${k}`, [[0, n], [OP.free, k]]);
 }
 function* extended(out, run, p, more, before, size) {
   if (size + more > LARGEST) {

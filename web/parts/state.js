@@ -45,7 +45,7 @@ async function load(bytes, name, title, part = 0) {
   if (!run) { if (S.run) $('trace').value = S.name; return false; }
   leave();
   const before = { ...S };
-  Object.assign(S, { run, base: run, name, title, bytes, part, past: [], ahead: [], grant: 0, zoom: null, find: null, life: null, unit: run.file.unit || (S.unit === S.run?.file?.unit ? 0 : S.unit) });
+  Object.assign(S, { run, base: run, name, title, bytes, part, past: [], ahead: [], grant: 0, zoom: null, find: null, life: null, unit: unitIn(run.file, run.part) || (S.run?.file && S.unit === unitIn(S.run.file, S.run.part) ? 0 : S.unit) });
   say('');
   // another run takes nothing away: calls that were added come back by a click
   if (before.run !== before.base) say(`Your calls in ${before.title} are left.`, false, [['Back to them', () => {
@@ -61,6 +61,7 @@ function showNames() {
   own.textContent = S.name === 'own' ? S.title : OWN;
   for (const o of $('trace').options) o.textContent = o.textContent.replace(/ \(yours, from row .*\)$/, '');
   $('trace').value = S.name;
+  if (S.name !== 'own' || S.title !== $('file').files[0]?.name) $('file').value = '';
   document.title = `${S.title}${S.run.file && isSeveral(S.run.file) ? `, ${nameOfPart(S.run.file, S.part)}` : ''} – offset_allocator`;
   const b = S.run !== S.base;
   $('branch').hidden = !b && !S.past.length && !S.ahead.length;
@@ -221,7 +222,7 @@ async function link() {
   try { await navigator.clipboard.writeText(location.href); say(`The link to this state is copied: ${size}.${long}`); }
   catch { say(`The link to this state is in the address bar: ${size}.${long}`); }
 }
-const ADDED = [...Array(11).keys(), OP.tight, OP.tightAligned, OP.room, OP.retract, OP.at];
+const ADDED = [...Array(11).keys(), OP.tight, OP.tightAligned, OP.room, OP.relocate, OP.relocateAligned, OP.retract, OP.at], ALIGNED = [1, OP.tightAligned, OP.relocateAligned];
 const numbersOf = text => text.split('.').map(x => { if (!/^\d{1,10}$/.test(x) || Number(x) > LARGEST) throw Error(); return Number(x); });
 const oneOf = text => { const n = numbersOf(text); if (n.length !== 1) throw Error(); return n[0]; };
 async function restore() {
@@ -237,7 +238,7 @@ async function restore() {
     if (q.get('c')) {
       const kept = oneOf(q.get('kept') || ''), c = numbersOf(q.get('c')), edits = [];
       for (let i = 0; i < c.length; i += 3) {
-        if (i + 2 >= c.length || !ADDED.includes(c[i]) || ((c[i] === 1 || c[i] === OP.tightAligned) && c[i + 2] < 1)) throw Error();
+        if (i + 2 >= c.length || !ADDED.includes(c[i]) || (ALIGNED.includes(c[i]) && c[i + 2] < 1)) throw Error();
         edits.push(c.slice(i, i + 3)); }
       if (kept > S.base.count) throw Error();
       S.run = await during('Playing', work => S.base.branch(kept, edits, work)) || S.run; showNames();

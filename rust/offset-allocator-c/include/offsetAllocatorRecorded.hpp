@@ -220,6 +220,13 @@ public:
         putThread();
         failed = failed || std::fprintf(out, "#! %s %llu\n", what, static_cast<unsigned long long>(number)) < 0 || std::fflush(out) != 0;
     }
+    // How many bytes a unit has: of one heap of many that is of this heap.
+    void unit(uint32 bytes) {
+        if (heap == NO_HEAP) return mark("unit", bytes);
+        if (failed) return;
+        putThread();
+        failed = failed || std::fprintf(out, "#! unit %u heap %u\n", static_cast<unsigned>(bytes), static_cast<unsigned>(heap)) < 0 || std::fflush(out) != 0;
+    }
     // The thread of the calls from here on. That of one heap of many is held until its next line, and comes again where a line of
     // another thread is between.
     void thread(uint64_t number) {
@@ -367,6 +374,10 @@ public:
     void name(const char *text) {
         if (out && text) detail::Tape(out).comment(text);
     }
+    // Marks of the whole file, as those of one of its heaps: call them once, not for each heap.
+    void frameEnd() { detail::Tape(out).mark("frame"); }
+    void time(uint64_t nanoseconds) { detail::Tape(out).mark("time", nanoseconds); }
+    void mark(const char *text) { detail::Tape(out).markText(text); }
     Recording(const Recording &) = delete;
     Recording &operator=(const Recording &) = delete;
 
@@ -402,9 +413,10 @@ public:
     void name(const char *text) { tape.comment(text); }
     // Marks, which change no answer, and between which the page shows what lives: a frame's end, a time in nanoseconds from a
     // begin of the program's, the number of the thread of the calls from here on, and a text of the program's. And how many bytes a
-    // unit has.
+    // unit has; of a heap of a Recording it is of that heap alone. frameEnd, time and mark are of the whole file: call them on one
+    // heap of a Recording alone, or on that.
     void frameEnd() { tape.mark("frame"); }
-    void unit(uint32 bytes) { tape.mark("unit", bytes); }
+    void unit(uint32 bytes) { tape.unit(bytes); }
     void time(uint64_t nanoseconds) { tape.mark("time", nanoseconds); }
     void thread(uint64_t number) { tape.thread(number); }
     void mark(const char *text) {
@@ -559,7 +571,7 @@ public:
         next = copied(text);
     }
     void frameEnd() { tape.mark("frame"); }
-    void unit(uint32 bytes) { tape.mark("unit", bytes); }
+    void unit(uint32 bytes) { tape.unit(bytes); }
     void time(uint64_t nanoseconds) { tape.mark("time", nanoseconds); }
     void thread(uint64_t number) { tape.thread(number); }
     void mark(const char *text) {

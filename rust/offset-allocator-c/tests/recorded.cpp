@@ -155,12 +155,17 @@ static void several(const std::string &path) {
     Recorded<GuardedAllocator> third(recording, 9, 8, 5);
     check(third->realm() == 5, "the realm");
     meshes.name("mesh\nrock");
+    meshes.unit(32);
+    textures.unit(65536);
+    recording.frameEnd();
+    recording.time(18446744073709551615u);
+    recording.mark("a\nlevel");
     textures.frameEnd();
     textures.name("lost");
     check(textures.allocateAligned(1, 0).offset == Allocation::NO_SPACE, "no alignment");
     check(textures.allocate(5).offset == 0 && meshes.allocate(20), "requests");
     check(meshes.raiseLimit(9) && meshes.makeRoom(70, [](Move) {}).possible, "room");
-    check(of(file, path) == "heap 0 space 100 nodes 8 index 32\n# the textures\nheap 1 space 50 nodes 8 index 32\nheap 2 space 9 nodes 8 index 32\n#! frame\n# lost\n\n"
+    check(of(file, path) == "heap 0 space 100 nodes 8 index 32\n# the textures\nheap 1 space 50 nodes 8 index 32\nheap 2 space 9 nodes 8 index 32\n#! unit 32 heap 0\n#! unit 65536 heap 1\n#! frame\n#! time 18446744073709551615\n#! mark a level\n#! frame\n# lost\n\n"
           "heap 1 alloc 5\n# mesh rock\nheap 0 alloc 20\nheap 0 space 100 nodes 9 index 32\nheap 0 at 0 100\nheap 0 shrink 1 20\n#! begun\nheap 0 room 70\n",
           "one file");
 }

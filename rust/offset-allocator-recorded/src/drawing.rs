@@ -245,8 +245,23 @@ impl Held {
     }
 }
 
+// What was followed: a course where there is one, of which heap, and which heaps there were.
+struct Followed {
+    found: Option<Named>,
+    heap: Option<u32>,
+    heaps: std::vec::Vec<u32>,
+    lines: u32,
+}
+
+impl Followed {
+    // A recording without the heap is one of no calls.
+    fn whole(self) -> Result<Named, RunFault> {
+        self.found.ok_or(RunFault::from(ScriptFault::BadHeader(self.lines)))
+    }
+}
+
 // Follows the recording of one space, or that of one heap of many: the one of this number, or the first.
-fn follow(from: impl BufRead, heap: Option<u32>) -> Result<Named, RunFault> {
+fn follow(from: impl BufRead, heap: Option<u32>) -> Result<Followed, RunFault> {
     let mut lines = Lines::new(from);
     let (mut held, mut heap, mut calls, mut is_gone) = (Held::None, heap, 0, false);
     let mut names = BTreeMap::new();
@@ -291,11 +306,8 @@ fn follow(from: impl BufRead, heap: Option<u32>) -> Result<Named, RunFault> {
             }
         }
     }
-    match held.end(calls) {
-        Some(course) => Ok(Named { course, names }),
-        // no heap of a recording has the number: it is one of no calls
-        None => Err(RunFault::from(ScriptFault::BadHeader(lines.line()))),
-    }
+    let found = held.end(calls).map(|course| Named { course, names });
+    Ok(Followed { found, heap, heaps: lines.heaps().iter().copied().collect(), lines: lines.line() })
 }
 
 /// The course of a recording: all that a picture shows of it. Of refused calls it has those that pictures have words for. Of
@@ -306,7 +318,7 @@ fn follow(from: impl BufRead, heap: Option<u32>) -> Result<Named, RunFault> {
 /// all, so that none looks younger. Where another space takes the place of one, the lives of that one end, and its grants
 /// are numbered on.
 pub fn course(from: impl BufRead) -> Result<Course, RunFault> {
-    Ok(follow(from, None)?.course)
+    Ok(follow(from, None)?.whole()?.course)
 }
 
 // A text in SVG: no mark-up, and no character that XML 1.0 forbids.
@@ -356,7 +368,38 @@ pub fn draw(title: &str, from: impl BufRead) -> Result<String, RunFault> {
 
 /// The picture of the heap of this number of a recording of many, or of the first one that it has.
 pub fn draw_heap(title: &str, from: impl BufRead, heap: Option<u32>) -> Result<String, RunFault> {
-    let found = follow(from, heap)?;
+    drawn(title, &follow(from, heap)?.whole()?)
+}
+
+fn drawn(title: &str, found: &Named) -> Result<String, RunFault> {
     let picture: String = offset_pictures::picture_of(Global, title, &found.course)?.into();
     Ok(if found.names.is_empty() { picture } else { with_names(&picture, &found.names) })
+}
+
+/// A picture of a recording, and of what it is.
+#[derive(Clone, PartialEq, Debug)]
+pub struct Drawn {
+    /// The picture, as SVG; none where no heap of the recording has the number that was asked for.
+    pub picture: Option<String>,
+    /// The heap that was drawn, or asked for; none of a recording of one space.
+    pub heap: Option<u32>,
+    /// The numbers of all heaps of the recording, the least first; none of a recording of one space.
+    pub heaps: std::vec::Vec<u32>,
+}
+
+/// As `draw_heap`, and says which heaps there are; to ask for a heap that there is not is no fault.
+///
+/// ```
+/// # use offset_allocator_recorded::*;
+/// let text = "heap 0 space 9 nodes 9 index 32\nheap 1 space 9 nodes 9 index 32\n";
+/// let drawn = draw_one("t", text.as_bytes(), Some(2)).unwrap();
+/// assert_eq!((drawn.picture, drawn.heaps), (None, vec![0, 1]));
+/// ```
+pub fn draw_one(title: &str, from: impl BufRead, heap: Option<u32>) -> Result<Drawn, RunFault> {
+    let Followed { found, heap, heaps, lines } = follow(from, heap)?;
+    if found.is_none() && heaps.is_empty() {
+        return Err(RunFault::from(ScriptFault::BadHeader(lines)));
+    }
+    let picture = found.map(|found| drawn(title, &found)).transpose()?;
+    Ok(Drawn { picture, heap: if heaps.is_empty() { None } else { heap }, heaps })
 }

@@ -15,7 +15,7 @@ mod playing;
 mod reading;
 mod tape;
 
-pub use drawing::{course, draw, draw_heap};
+pub use drawing::{course, draw, draw_heap, draw_one, Drawn};
 pub use many::{Part, Recording, RecordedHeaps};
 pub use offset_allocator_guarded::{GuardedOf, Ticket};
 pub use offset_allocator_heaps::HeapsOf;
@@ -49,17 +49,18 @@ impl<A, W: Write> Recorded<A, W> {
         self
     }
 
-    /// How many bytes a unit has, for the page: a mark.
+    /// How many bytes a unit has, for the page: a mark. Of a heap of a `Recording` it is of that heap alone.
     pub fn unit(&mut self, bytes: u32) {
         self.tape.mark(format_args!("unit {bytes}"));
     }
 
-    /// A frame ends here: a mark, which changes no answer. The page shows what lives from one mark to another.
+    /// A frame ends here: a mark, which changes no answer. The page shows what lives from one mark to another. It is of the whole
+    /// file: of several heaps of a `Recording` call it on one alone, or on that.
     pub fn frame_end(&mut self) {
         self.tape.mark(format_args!("frame"));
     }
 
-    /// A time, in nanoseconds from a begin of the caller's: a mark.
+    /// A time, in nanoseconds from a begin of the caller's: a mark of the whole file.
     pub fn time(&mut self, nanoseconds: u64) {
         self.tape.mark(format_args!("time {nanoseconds}"));
     }
@@ -69,7 +70,7 @@ impl<A, W: Write> Recorded<A, W> {
         self.tape.mark(format_args!("thread {number}"));
     }
 
-    /// A mark with a text of the caller's, such as the name of a level. Line ends become spaces.
+    /// A mark of the whole file with a text of the caller's, such as the name of a level. Line ends become spaces.
     pub fn mark(&mut self, text: &str) {
         self.tape.mark(format_args!("mark {}", tape::in_one_line(text)));
     }

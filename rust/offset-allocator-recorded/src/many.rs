@@ -13,7 +13,8 @@ use std::sync::{Arc, Mutex};
 /// A recording of several allocators of the program's own, each of which is a heap with a number, from 0 on.
 ///
 /// The parts may be on several threads: a line, with its name, is written at once. `thread` of a part is of the calls of its own
-/// heap: where a line of another thread has come between, the mark is written again.
+/// heap: where a line of another thread has come between, the mark is written again. `frame_end`, `time` and `mark` of a part are
+/// of the whole file, as those here: call them once, not for each part.
 ///
 /// ```
 /// # use offset_allocator_recorded::*;
@@ -55,6 +56,37 @@ impl<W: Write> Recording<W> {
     pub fn name(&mut self, name: &str) -> &mut Self {
         self.name = format!("# {}\n", in_one_line(name)).into_bytes();
         self
+    }
+
+    /// A frame ends here: a mark of the whole file, as `Recorded::frame_end` of one of its heaps makes. An error is that of the
+    /// writer; the recording goes on.
+    ///
+    /// ```
+    /// # use offset_allocator_recorded::*;
+    /// let mut recording = Recording::new(Vec::new());
+    /// recording.frame_end().unwrap();
+    /// recording.time(20).unwrap();
+    /// recording.mark("level 2").unwrap();
+    /// assert_eq!(recording.finish().unwrap(), b"#! frame\n#! time 20\n#! mark level 2\n");
+    /// ```
+    pub fn frame_end(&mut self) -> io::Result<()> {
+        self.put(format_args!("frame"))
+    }
+
+    /// A time, in nanoseconds from a begin of the caller's: a mark of the whole file, with the errors of `frame_end`.
+    pub fn time(&mut self, nanoseconds: u64) -> io::Result<()> {
+        self.put(format_args!("time {nanoseconds}"))
+    }
+
+    /// A mark of the whole file with a text of the caller's, with the errors of `frame_end`. Line ends become spaces.
+    pub fn mark(&mut self, text: &str) -> io::Result<()> {
+        self.put(format_args!("mark {}", in_one_line(text)))
+    }
+
+    fn put(&self, text: std::fmt::Arguments) -> io::Result<()> {
+        let mut shared = self.out.lock().unwrap_or_else(|broken| broken.into_inner());
+        shared.out.write_all(format!("#! {text}\n").as_bytes())?;
+        shared.out.flush()
     }
 
     // the writer of the next heap
@@ -134,6 +166,12 @@ impl<W: Write> Write for Part<W> {
         let mut shared = self.out.lock().unwrap_or_else(|broken| broken.into_inner());
         let is_said = !self.is_new && shared.thread == self.thread;
         let mut all = if is_said { Vec::new() } else { self.thread.clone() };
+        // a unit is that of this heap
+        let of = format!(" heap {}\n", self.heap);
+        let (text, end) = match line.strip_suffix(b"\n") {
+            Some(text) if line.starts_with(b"#! unit ") => (text, of.as_bytes()),
+            _ => (line, &b""[..]),
+        };
         // a name stays that of the next request
         if !is_mark {
             all.append(&mut self.held);
@@ -141,7 +179,8 @@ impl<W: Write> Write for Part<W> {
                 write!(all, "heap {} ", self.heap)?;
             }
         }
-        all.extend_from_slice(line);
+        all.extend_from_slice(text);
+        all.extend_from_slice(end);
         shared.out.write_all(&all)?;
         if !is_said && !self.thread.is_empty() {
             shared.thread.clone_from(&self.thread);
@@ -229,7 +268,7 @@ impl<T: Tables, W: Write> RecordedHeaps<T, W> {
         self
     }
 
-    /// How many bytes a unit has, for the page: a mark.
+    /// How many bytes a unit of all heaps has, for the page: a mark.
     pub fn unit(&mut self, bytes: u32) {
         self.tape.mark(format_args!("unit {bytes}"));
     }

@@ -314,6 +314,11 @@ impl<R: BufRead> Lines<R> {
         self.reader.line()
     }
 
+    /// The heaps that have begun so far.
+    pub(crate) fn heaps(&self) -> &BTreeSet<u32> {
+        &self.reader.heaps
+    }
+
     /// Its name, as `Reader::name` has it.
     pub fn name(&self) -> &[u8] {
         self.reader.name()

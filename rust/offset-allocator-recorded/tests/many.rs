@@ -195,6 +195,30 @@ fn each_heap_has_the_thread_of_its_own_calls() {
 }
 
 #[test]
+fn each_heap_has_its_own_unit_and_the_file_its_marks() {
+    let mut recording = Recording::new(Vec::new());
+    let mut meshes = recording.guarded(Guarded::<u32>::with_max_allocs(Global, 100, 8, 1).unwrap()).unwrap();
+    let mut textures = recording.guarded(Guarded::<u32>::with_max_allocs(Global, 50, 8, 2).unwrap()).unwrap();
+    meshes.unit(32);
+    textures.thread(7);
+    textures.name("texture");
+    textures.unit(65536);
+    // a mark of the recording leaves the name that of the next request
+    recording.frame_end().unwrap();
+    recording.time(9).unwrap();
+    recording.mark("a\nlevel").unwrap();
+    textures.allocate(5);
+    drop((meshes, textures));
+    let text = String::from_utf8(recording.finish().unwrap()).unwrap();
+    assert_eq!(
+        text,
+        "heap 0 space 100 nodes 8 index 32\nheap 1 space 50 nodes 8 index 32\n#! unit 32 heap 0\n#! thread 7\n#! unit 65536 heap 1\n\
+         #! frame\n#! time 9\n#! mark a level\n# texture\nheap 1 alloc 5\n"
+    );
+    assert_eq!(answers(&text), ["heap 1 grant 1 at 0"]);
+}
+
+#[test]
 fn a_recording_that_is_finished_too_early_goes_on() {
     let mut recording = Recording::new(Vec::new());
     let mut meshes = recording.guarded(Guarded::<u32>::with_max_allocs(Global, 100, 8, 1).unwrap()).unwrap();
