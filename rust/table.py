@@ -94,6 +94,8 @@ LINTS = {
         "clippy::question_mark": "a step of a proof stands before the return, and is left out here",
         "clippy::manual_find": "a loop over places needs no closure, whose calls would need a proof",
         "clippy::manual_map": "a `match` needs no closure, whose calls would need a proof",
+        "clippy::mem_replace_option_with_none": "one function for both, whose contract the proof has",
+        "clippy::mem_replace_option_with_some": "the same",
     },
     "offset_heaps": {
         "clippy::len_zero": "the proof speaks of the length, which no call hides",

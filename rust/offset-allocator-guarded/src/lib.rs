@@ -24,6 +24,8 @@
 #![expect(clippy::question_mark)] // a step of a proof stands before the return, and is left out here
 #![expect(clippy::manual_find)] // a loop over places needs no closure, whose calls would need a proof
 #![expect(clippy::manual_map)] // a `match` needs no closure, whose calls would need a proof
+#![expect(clippy::mem_replace_option_with_none)] // one function for both, whose contract the proof has
+#![expect(clippy::mem_replace_option_with_some)] // the same
 
 mod traits;
 
