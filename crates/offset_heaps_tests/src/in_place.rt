@@ -1,9 +1,8 @@
-//! What is asked of heaps and changed in place: units, walks, sizes of ranges, refusals that are foretold, and
-//! heaps that are compacted.
+//! What is asked of heaps and changed in place: units, walks, sizes of ranges, and all as JSON.
 
 use crate::asserts::{assert_same, assert_that};
 use offset_allocator::{ByField, Tables};
-use offset_heaps::{Heaps, HeapsOf, Limits, Place, Refusal, json_of};
+use offset_heaps::{Heaps, HeapsOf, Limits, Place, json_of};
 use std::process::Abort;
 use std::test::Fail;
 
@@ -132,50 +131,6 @@ fn expect_sizes<T: Tables>(rt: &impl Abort, heaps: &mut HeapsOf<T>) {
     );
 }
 
-// What is foretold is what a request is answered then.
-fn expect_foretold<T: Tables>(rt: &impl Abort, heaps: &mut HeapsOf<T>, size: u32, align: u32) {
-    let foretold = heaps.refusal_aligned(size, align);
-    match heaps.allocate_aligned(size, align) {
-        Ok(_) => assert_same(rt, &foretold, &None),
-        Err(why) => assert_same(rt, &foretold, &Some(why)),
-    }
-}
-
-fn expect_refusals<T: Tables>(rt: &impl Abort, heaps: &mut HeapsOf<T>) {
-    assert_same(rt, &heaps.refusal(0), &Some(Refusal::Empty));
-    for size in [60, 40, 60, 97, 97, 97, 0, 36, 4] {
-        expect_foretold(rt, heaps, size, 1);
-        expect_foretold(rt, heaps, size, 32);
-    }
-    assert_same(rt, &heaps.refusal(97), &Some(Refusal::Full));
-}
-
-// A heap is compacted, and room is made in it, which is noted: the moves are those of that heap.
-fn expect_compaction<T: Tables>(rt: &impl Abort, heaps: &mut HeapsOf<T>) {
-    let first = granted(heaps, 30);
-    let a = granted(heaps, 20);
-    let hole = granted(heaps, 20);
-    let b = granted(heaps, 20);
-    assert_that(rt, heaps.free(first));
-    assert_that(rt, heaps.free(hole));
-    let mut units = 0u64;
-    assert_that(rt, heaps.compact_heap(0, &mut |it| units += it.size as u64));
-    assert_same(
-        rt,
-        &(heaps.offset_of(a), heaps.offset_of(b)),
-        &(Some(0), Some(20)),
-    );
-    assert_that(rt, !heaps.compact_heap(1, &mut |_| ()));
-    assert_that(rt, !heaps.compact_heap(9, &mut |_| ()));
-    assert_same(rt, &granted(heaps, 60).heap, &0);
-    assert_that(rt, heaps.free(a));
-    // 20 units before b, none behind the 60
-    assert_same(rt, &heaps.make_room(0, 21, &mut |_| ()), &None);
-    assert_same(rt, &heaps.make_room(7, 1, &mut |_| ()), &None);
-    let cost = heaps.make_room(0, 20, &mut |_| ());
-    assert_that(rt, cost.is_some());
-}
-
 #[test]
 fn in_place(rt: HostRuntime) -> Result<(), Fail> {
     let mut by_node: Heaps = HeapsOf::new(rt.alloc(), LIMITS, 9)?;
@@ -186,24 +141,6 @@ fn in_place(rt: HostRuntime) -> Result<(), Fail> {
     expect_walks(&rt, &mut by_field);
     let mut by_field: HeapsOf<ByField<u16>> = HeapsOf::new(rt.alloc(), LIMITS, 9)?;
     expect_sizes(&rt, &mut by_field);
-    Ok(())
-}
-
-#[test]
-fn foretold(rt: HostRuntime) -> Result<(), Fail> {
-    let mut by_node: Heaps = HeapsOf::new(rt.alloc(), LIMITS, 9)?;
-    expect_refusals(&rt, &mut by_node);
-    let mut by_field: HeapsOf<ByField<u16>> = HeapsOf::new(rt.alloc(), LIMITS, 9)?;
-    expect_refusals(&rt, &mut by_field);
-    Ok(())
-}
-
-#[test]
-fn compaction(rt: HostRuntime) -> Result<(), Fail> {
-    let mut by_node: Heaps = HeapsOf::new(rt.alloc(), LIMITS, 9)?;
-    expect_compaction(&rt, &mut by_node);
-    let mut by_field: HeapsOf<ByField<u16>> = HeapsOf::new(rt.alloc(), LIMITS, 9)?;
-    expect_compaction(&rt, &mut by_field);
     Ok(())
 }
 
