@@ -174,10 +174,11 @@ impl Check<'_> {
         let report = Outcome::new(ANSWERED, report);
         self.fail_each(LIMITED.on(layout), header, 0, &report);
         self.fail_each_as_by_node(CALLS, layout, header, 0);
-        // a copy requests as much again, and one under a larger limit for that
+        // a copy requests as much again, and one under a larger limit for that; values of 40 bytes with their tickets are four
+        // at first, and then as many as names up to the second ticket's
         let guarded = guarded_requests(layout, nodes, bits);
         let raised = guarded_requests(layout, limit_above(nodes, bits), bits);
-        let all = [guarded.clone(), guarded, raised].concat();
+        let all = [guarded.clone(), guarded, raised, vec![4 * 40, 1001 * 40]].concat();
         self.expect_requests(GUARDED.on(layout), header, &all);
         self.fail_each_as_by_node(GUARDED, layout, header, 0);
         self.stored(layout, header, &tables, (nodes, bits));
