@@ -88,6 +88,33 @@ def names_and_commands(b):
         same(b.run("return $('fault').textContent"), f"bad.script, line 2: bad command: “{bad}”", "a faulty recording")
 
 
+def names_after_grants(b):
+    """A mark may name a grant after it, in place of a name that it had; before it, or without a number, it names none."""
+    named = "return [...Array(S.run.born.length).keys()].slice(1).map(k => S.run.nameOf(k))"
+    text = "space 100 nodes 32 index 16\n#! name 1 early\nalloc 10\n# texture: sky\nalloc 20\nalloc 5\nalloc 6\n#! name 1 mesh: rock\n#! frame\n" \
+        "#! name 2  texture: clouds \n#! name 3 a\n#! name 3 b\n#! name 5 early\n#! name 0 zero\n#! name x y\n#! heap 0 name 4 other\nfree 2\nalloc 7\n"
+    b.open()
+    give(b, text, "named.script")
+    same(b.run(named), ["mesh: rock", "texture: clouds", "b", "", ""], "the names")
+    same(b.run("return S.run.file.marks.map(m => m.text)"), ["frame", "name x y"], "what names a grant is no mark of the page")
+    b.run("go(2)")
+    b.click("#act-compact")
+    same(b.run(named), ["mesh: rock", "texture: clouds"], "after a call that was added")
+    b.run("S.saved = null")
+    b.click("#export")
+    until(b, "S.saved", "the edited text")
+    same(b.run("return S.saved.text()"), "space 100 nodes 32 index 16\n# mesh: rock\nalloc 10\n# texture: clouds\nalloc 20\ncompact\n", "an edited recording has them")
+    begun = "heap 1 at 0 10\nheap 1 at 10 90\nheap 1 shrink 2 5\n"
+    text = f"heap 0 space 100 nodes 9 index 32\nheap 1 space 100 nodes 9 index 32\n{begun}#! heap 1 name 2 two\n#! name 1 none\n#! heap 0 name 1 none\n" \
+        f"heap 0 alloc 5\nheap 1 space 100 nodes 20 index 32\n{begun}#! heap 1 name 1 one\n"
+    for part, names in ((0, [""]), (1, ["", "two"]), (2, ["one", "two"])):
+        b.open()
+        give(b, text, "heaps.script")
+        b.run("openPart(arguments[0])", part)
+        until(b, f"S.part === {part}", "another part")
+        same(b.run(named), names, f"the names of part {part}")
+
+
 def form(line):
     """The words of a line, and how many numbers are after them."""
     words = [word for word in line.split() if word.islower()]
@@ -194,4 +221,4 @@ def links_keep_the_view(b):
         same([b.run("return $('fault').textContent.startsWith('The link is faulty')"), b.run("return [S.p, S.zoom]")], [True, [9000, None]], "a faulty link: " + bad)
 
 
-ALL = [long_ones, names_and_commands, each_line_is_played, five_minutes, links_keep_edits, links_keep_the_view]
+ALL = [long_ones, names_and_commands, names_after_grants, each_line_is_played, five_minutes, links_keep_edits, links_keep_the_view]

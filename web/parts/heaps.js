@@ -37,6 +37,7 @@ async function surveyed(file, bytes, work) {
     for (const { p, line, next } of of.drops) if (next !== null && run.begunAt(p) === run.endedAt(p)) throw new Fault(`line ${next}: bad command`, next, ...spanOf(bytes, next));
     // a drop is refused where something is live
     if (of.end === 'dropped' && run.begunAt(of.drops.at(-1).p) !== run.endedAt(of.drops.at(-1).p)) { of.end = ''; of.to = null; to = last; }
+    run.takeNames();
     if (of.end === 'replaced') {
       // a range is the last life of its grant
       of.named = new Map();

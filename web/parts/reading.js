@@ -48,9 +48,9 @@ function inOrder(count, key) {
 // A part is the recording of one space: of one heap of many, or of what takes the place of the one before.
 class Part {
   constructor(heap, head, from, title) {
-    Object.assign(this, { heap, head, from, title, calls: new Growing(Uint32Array, 64 * WIDE), lines: new Growing(Uint32Array, 64), names: new Map(), drops: [], to: null, end: '', before: null });
+    Object.assign(this, { heap, head, from, title, calls: new Growing(Uint32Array, 64 * WIDE), lines: new Growing(Uint32Array, 64), names: new Map(), given: [], drops: [], to: null, end: '', before: null });
   }
-  run(m) { return new Run(this.head, this.calls, this.names, this.lines, m); }
+  run(m) { return Object.assign(new Run(this.head, this.calls, this.names, this.lines, m), { given: this.given }); }
 }
 async function readText(bytes, work) {
   const m = new Module(), decoder = new TextDecoder(), one = new Map(), file = { parts: [], marks: [], others: [], isMany: false, lines: 0, unit: 0, units: new Map() }, open = new Map();
@@ -101,7 +101,12 @@ async function readText(bytes, work) {
         // without a heap it is of all
         if (of) file.units.set(Number(of), unit); else { file.unit = unit; file.units.clear(); }
       }
-      else if (kind === OTHER.mark) file.marks.push(marked(file.marks.at(-1), line, word));
+      else if (kind === OTHER.mark && /^(heap \d{1,10} )?name \d{1,10} ./.test(word)) {
+        // the name of a grant, after it; of many heaps it says of which
+        const [, heap, k, name] = /^(?:heap (\d+) )?name (\d+) +(.*)$/s.exec(word), of = file.isMany === (heap !== undefined) ? open.get(Number(heap || 0)) : null;
+        if (!one.has(name)) one.set(name, name);
+        if (of) of.given.push([Number(k), one.get(name), of.lines.length]);
+      } else if (kind === OTHER.mark) file.marks.push(marked(file.marks.at(-1), line, word));
       else { file.isMany = true; file.others.push({ line, kind, n: rows[i + 1], a: rows[i + 2], why: rows[i + 3], name: word }); }
     }
     at = end; part = 1;

@@ -98,7 +98,7 @@ function picked(source, old, others) {
 // `scale`: how many units of the run beside it one of its units is.
 class Run {
   constructor(head, calls, names, lines, m = new Module()) {
-    Object.assign(this, { head, names, lines, count: 0, at: 0, held: null, m, marks: [], kept: 0, edits: [], named: Infinity, scale: 1 });
+    Object.assign(this, { head, names, lines, count: 0, at: 0, held: null, m, marks: [], kept: 0, edits: [], named: Infinity, given: [], scale: 1 });
     this.calls = new Growing(Uint32Array, 0);
     this.calls.list = calls; this.calls.length = calls.length;
     this.rows = new Growing(Uint32Array, 8 * this.all + 8);
@@ -121,8 +121,11 @@ class Run {
       this.step(Math.min(512, this.all - this.count));
       await work.turn(this.count, this.all);
     }
+    this.takeNames();
     return this.remember(work);
   }
+  // What a mark names, after its grant, is named from its request on.
+  takeNames() { for (const [k, name, p] of this.given) if (k && k < this.born.length && this.born.list[k] <= p) this.names.set(this.born.list[k] - 1, name); }
   // Keeps for some positions what is live there, at most so many lives in all.
   async remember(work) {
     const step = Math.ceil(Math.max(4096, this.peak / 4, this.lifeCount / MOST_INDEXED * this.peak));

@@ -1,17 +1,6 @@
-//! Tests of many heaps.
+//! What callers of many heaps prove by the contracts alone: that each call is one of those that the laws speak of, and that
+//! any calls, one after another, make no place live again whose heap is gone.
 #![tactic(auto)]
 
-#[cfg(test)]
-mod asserts;
-#[cfg(test)]
-mod growing;
-#[cfg(test)]
-mod heaps;
 mod histories;
-#[cfg(test)]
-mod in_place;
-#[cfg(test)]
-mod relocating;
-#[cfg(test)]
-mod states;
 mod taking;

@@ -227,6 +227,16 @@ public:
         putThread();
         failed = failed || std::fprintf(out, "#! unit %u heap %u\n", static_cast<unsigned>(bytes), static_cast<unsigned>(heap)) < 0 || std::fflush(out) != 0;
     }
+    // The grant of a number has a name: a mark.
+    void nameGrant(uint32 number, const char *text) {
+        if (failed || !number || !text || !*text) return;
+        putThread();
+        if (heap == NO_HEAP) failed = failed || std::fprintf(out, "#! name %u ", static_cast<unsigned>(number)) < 0;
+        else failed = failed || std::fprintf(out, "#! heap %u name %u ", static_cast<unsigned>(heap), static_cast<unsigned>(number)) < 0;
+        if (failed) return;
+        put("", text);
+        failed = failed || std::fflush(out) != 0;
+    }
     // The thread of the calls from here on. That of one heap of many is held until its next line, and comes again where a line of
     // another thread is between.
     void thread(uint64_t number) {
@@ -411,6 +421,9 @@ public:
     // The name of the next request, for who reads the recording: a comment before it. Line ends become spaces; no text is no
     // name.
     void name(const char *text) { tape.comment(text); }
+    // The name of a live range, given after its grant, in place of one that it had: a mark. So one line, where the program puts a
+    // handle into a table of its own, names each range. For a handle that is not live, or without text, nothing is written.
+    void nameLive(Handle handle, const char *text) { tape.nameGrant(number(handle), text); }
     // Marks, which change no answer, and between which the page shows what lives: a frame's end, a time in nanoseconds from a
     // begin of the program's, the number of the thread of the calls from here on, and a text of the program's. And how many bytes a
     // unit has; of a heap of a Recording it is of that heap alone. frameEnd, time and mark are of the whole file: call them on one
@@ -570,6 +583,14 @@ public:
         std::free(next);
         next = copied(text);
     }
+    // As nameLive of Recorded.
+    void nameLive(const Place &place, const char *text) {
+        uint32 number = numberOf(place);
+        if (!number || !text || !*text) return;
+        Grants *of = held[place.heap];
+        of->nameGrant(number, text);
+        if (of->isFailed() || !of->named(place.ticket.name, copied(text))) tape.fail();
+    }
     void frameEnd() { tape.mark("frame"); }
     void unit(uint32 bytes) { tape.unit(bytes); }
     void time(uint64_t nanoseconds) { tape.mark("time", nanoseconds); }
@@ -669,7 +690,12 @@ private:
             }
         }
         bool granted(uint32 name, char *text) {
-            if (!numbers.grant(name) || !names.reserve(size_t(name) + 1)) {
+            if (numbers.grant(name)) return named(name, text);
+            std::free(text);
+            return false;
+        }
+        bool named(uint32 name, char *text) {
+            if (!names.reserve(size_t(name) + 1)) {
                 std::free(text);
                 return false;
             }

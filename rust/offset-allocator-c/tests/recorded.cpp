@@ -146,6 +146,56 @@ static void beginnings(const std::string &path) {
     check(!Recorded<Allocator>(std::fopen("/dev/null", "w"), std::move(empty)).isFailed(), "a whole space");
 }
 
+// Names that ranges get after their grants.
+static void named(const std::string &path) {
+    std::FILE *file = std::fopen(path.c_str(), "w");
+    {
+        GuardedAllocator space(100, 16, 7);
+        Ticket first = space.allocate(10);
+        Recorded<GuardedAllocator> heap(file, std::move(space));
+        Ticket second = heap.allocate(20);
+        heap.nameLive(first, "mesh: rock\nand moss");
+        heap.nameLive(second, "second");
+        check(heap.free(second), "freed");
+        heap.nameLive(second, "gone");
+        heap.nameLive(first, nullptr);
+        heap.nameLive(first, "");
+        heap.nameLive(first, "rock");
+        check(!heap.isFailed(), "named");
+    }
+    check(of(file, path) == "space 100 nodes 16 index 32\nat 0 100\nshrink 1 10\n#! begun\nalloc 20\n#! name 1 mesh: rock and moss\n#! name 2 second\nfree 2\n#! name 1 rock\n", "the names");
+    file = std::fopen(path.c_str(), "w");
+    {
+        Recording recording(file);
+        Recorded<GuardedAllocator> meshes(recording, 100, 8);
+        Recorded<Allocator> textures(recording, 50, 8);
+        Allocation texture = textures.allocate(5);
+        meshes.allocate(6);
+        textures.thread(2);
+        textures.name("the next");
+        textures.nameLive(texture, "texture");
+        textures.allocate(7);
+    }
+    check(of(file, path) == "heap 0 space 100 nodes 8 index 32\nheap 1 space 50 nodes 8 index 32\nheap 1 alloc 5\nheap 0 alloc 6\n#! thread 2\n#! heap 1 name 1 texture\n"
+          "# the next\nheap 1 alloc 7\n", "of one of several");
+    file = std::fopen(path.c_str(), "w");
+    {
+        RecordedHeaps heaps(file, {100, 16, 2, 0}, 1);
+        Place rock = heaps.allocate(60).place, moss = heaps.allocate(30).place;
+        heaps.name("sky");
+        Place sky = heaps.allocate(90).place;
+        heaps.nameLive(rock, "rock");
+        heaps.nameLive(moss, "moss");
+        heaps.nameLive(moss, "moss,\nwet");
+        heaps.nameLive(moss, nullptr);
+        check(heaps.free(rock), "freed");
+        heaps.nameLive(rock, "gone");
+        check(sky.heap == 1 && heaps.shrink(moss, 5) && heaps.relocate(moss).heap == 1 && !heaps.isFailed(), "relocated");
+    }
+    check(of(file, path) == "heap 0 space 100 nodes 16 index 32\nheap 0 alloc 60\nheap 0 alloc 30\nheap 1 space 100 nodes 16 index 32\n# sky\nheap 1 alloc 90\n#! heap 0 name 1 rock\n"
+          "#! heap 0 name 2 moss\n#! heap 0 name 2 moss, wet\nheap 0 free 1\nheap 0 shrink 2 5\n# moss, wet (of grant 2, heap 0)\nheap 1 alloc 5\n", "of many heaps");
+}
+
 static void several(const std::string &path) {
     std::FILE *file = std::fopen(path.c_str(), "w");
     Recording recording(file);
@@ -401,6 +451,7 @@ int main(int, char **arguments) {
     std::string folder = arguments[1];
     byHand(folder + "/hand.script");
     beginnings(folder + "/begun.script");
+    named(folder + "/named.script");
     several(folder + "/several.script");
     threads(folder + "/threads.script");
     manyHeaps(folder + "/many.script");

@@ -1,6 +1,6 @@
 //! Draws recordings: follows the space call by call, for what a picture shows.
 
-use crate::reading::{Header, HeapLine, Line, Lines};
+use crate::reading::{named, Header, HeapLine, Line, Lines};
 use offset_allocator_memory::Vec;
 use offset_allocator_proved::{NodeIndex, Refusal};
 use offset_calls::{Call, CallPlayer, Reply};
@@ -227,6 +227,16 @@ impl Held {
         }
     }
 
+    /// The number in the course of the grant of this number of the space that is followed, where there was one.
+    fn number(&self, k: u32) -> Option<u64> {
+        let (before, count) = match self {
+            Held::None => return None,
+            Held::Narrow(following) => (following.before, following.grants.len()),
+            Held::Wide(following) => (following.before, following.grants.len()),
+        };
+        (k >= 1 && k as usize <= count).then_some(before + u64::from(k))
+    }
+
     /// The names of live grants, by the offsets of their ranges.
     fn names(&self, names: &BTreeMap<u64, std::string::String>) -> BTreeMap<u32, std::string::String> {
         match self {
@@ -267,8 +277,18 @@ fn follow(from: impl BufRead, heap: Option<u32>) -> Result<Followed, RunFault> {
     let mut names = BTreeMap::new();
     // those of ranges of the space before, while the first lines say where they are
     let mut before = BTreeMap::new();
-    while let Some(line) = lines.next_line()? {
+    while let Some(line) = lines.next_or_mark()? {
         let line = match line {
+            Line::Mark => {
+                // of a recording of many heaps it has to say of which
+                if let Some((of, k, name)) = named(lines.mark()) {
+                    let is_here = if lines.heaps().is_empty() { of.is_none() } else { of.is_some() && of == heap };
+                    if let (true, Some(number)) = (is_here, held.number(k)) {
+                        names.insert(number, std::string::String::from_utf8_lossy(name).into_owned());
+                    }
+                }
+                continue;
+            }
             Line::Header(header) => HeapLine::Header(header),
             Line::Call(call) => HeapLine::Call(call),
             Line::Heap(number, line) if *heap.get_or_insert(number) == number => line,

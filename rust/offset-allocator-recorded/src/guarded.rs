@@ -2,7 +2,7 @@
 
 use crate::tape::Tape;
 use crate::Recorded;
-use offset_allocator_guarded::{GuardedOf, Ticket};
+use offset_allocator_guarded::{Beside, GuardedOf, Ticket};
 use offset_allocator_proved::{AllocError, Global, Move, Progress, RoomCost, Tables};
 use std::io::{self, Write};
 
@@ -17,6 +17,50 @@ impl<T: Tables, W: Write> Recorded<GuardedOf<T>, W> {
     // The number of the grant of a ticket: 0, which no grant has, where the ticket is not live.
     fn number(&self, ticket: Ticket) -> u32 {
         self.tape.number(self.space.is_live(ticket).then_some(ticket.name))
+    }
+
+    /// The name of a live range, given after its grant, in place of one that it had: a mark. Line ends become spaces. Where the
+    /// ticket is not live, or the text has blanks alone, nothing is written.
+    ///
+    /// ```
+    /// # use offset_allocator_recorded::*;
+    /// # use offset_allocator_guarded::Guarded;
+    /// let mut heap = Recorded::guarded(Guarded::<u32>::with_max_allocs(Global, 1000, 16, 1).unwrap(), Vec::new()).unwrap();
+    /// let rock = heap.allocate(100).unwrap();
+    /// heap.name_live(rock, "mesh: rock");
+    /// assert_eq!(heap.finish().1.unwrap(), b"space 1000 nodes 16 index 32\nalloc 100\n#! name 1 mesh: rock\n");
+    /// ```
+    pub fn name_live(&mut self, ticket: Ticket, name: &str) {
+        let number = self.number(ticket);
+        if number != 0 {
+            self.tape.name_live(ticket.name, number, name);
+        }
+    }
+
+    /// Names each live range that has no name yet by the value that a table of the program's has beside its ticket: so what
+    /// names its ranges there needs no `name` before its requests. Call it where names are to be seen, as at the end of each
+    /// frame, and before the values of ranges that are freed are taken; and once, of a space that had live ranges, where the
+    /// recording begins. It looks at each value, and writes a line, as `name_live` does, for each range that it names.
+    ///
+    /// ```
+    /// # use offset_allocator_recorded::*;
+    /// # use offset_allocator_guarded::Guarded;
+    /// struct Mesh { name: String }
+    /// let mut heap = Recorded::guarded(Guarded::<u32>::with_max_allocs(Global, 1000, 16, 1).unwrap(), Vec::new()).unwrap();
+    /// let mut meshes = Beside::new(Global);
+    /// let rock = heap.allocate(100).unwrap();
+    /// assert!(meshes.put(rock, Mesh { name: "mesh: rock".to_owned() }).is_ok());
+    /// heap.name_all(&meshes, |mesh| &mesh.name);
+    /// // it has its name, and gets no other line
+    /// heap.name_all(&meshes, |mesh| &mesh.name);
+    /// assert_eq!(heap.finish().1.unwrap(), b"space 1000 nodes 16 index 32\nalloc 100\n#! name 1 mesh: rock\n");
+    /// ```
+    pub fn name_all<V>(&mut self, beside: &Beside<V>, name: impl Fn(&V) -> &str) {
+        for (ticket, value) in beside.leaks().iter().flatten() {
+            if !self.tape.is_named(ticket.name) {
+                self.name_live(*ticket, name(value));
+            }
+        }
     }
 
     /// `GuardedOf::allocate`.

@@ -17,7 +17,7 @@ mod tape;
 
 pub use drawing::{course, draw, draw_heap, draw_one, Drawn};
 pub use many::{Part, Recording, RecordedHeaps};
-pub use offset_allocator_guarded::{GuardedOf, Ticket};
+pub use offset_allocator_guarded::{Beside, GuardedOf, Ticket};
 pub use offset_allocator_heaps::HeapsOf;
 pub use offset_allocator_proved::{AllocError, Allocation, AllocatorOf, Global, Move, Progress, RoomCost, Tables};
 pub use offset_calls::{Call, CallPlayer, Reply};
@@ -36,7 +36,8 @@ use tape::Tape;
 /// and flushed before the call is made: so a crash, of the call too, keeps it. A file needs no buffer of its own.
 ///
 /// The first failure of `out` ends the recording, and not the program: calls go on, `failure` has the error, and
-/// `finish` returns it. A recording takes 4 to 8 bytes of memory for each node that was granted, and those of a line.
+/// `finish` returns it. A recording takes 4 to 8 bytes of memory for each node that was granted, 1 or 2 more where some have
+/// names, and those of a line.
 pub struct Recorded<A, W: Write> {
     space: A,
     tape: Tape<W>,

@@ -2,7 +2,7 @@
 
 use crate::tape::{bits_of, in_one_line, Numbers, Tape};
 use crate::{word_of, Recorded};
-use offset_allocator_guarded::GuardedOf;
+use offset_allocator_guarded::{Beside, GuardedOf};
 use offset_allocator_heaps::{Granted, HeapsOf, Place, Refusal};
 use offset_allocator_proved::{AllocatorOf, Move, RoomCost, Tables};
 use std::collections::HashMap;
@@ -166,11 +166,18 @@ impl<W: Write> Write for Part<W> {
         let mut shared = self.out.lock().unwrap_or_else(|broken| broken.into_inner());
         let is_said = !self.is_new && shared.thread == self.thread;
         let mut all = if is_said { Vec::new() } else { self.thread.clone() };
-        // a unit is that of this heap
+        // a unit, and the name of a grant, are those of this heap
         let of = format!(" heap {}\n", self.heap);
         let (text, end) = match line.strip_suffix(b"\n") {
             Some(text) if line.starts_with(b"#! unit ") => (text, of.as_bytes()),
             _ => (line, &b""[..]),
+        };
+        let text = match text.strip_prefix(b"#! ") {
+            Some(rest) if rest.starts_with(b"name ") => {
+                write!(all, "#! heap {} ", self.heap)?;
+                rest
+            }
+            _ => text,
         };
         // a name stays that of the next request
         if !is_mark {
@@ -291,6 +298,47 @@ impl<T: Tables, W: Write> RecordedHeaps<T, W> {
     /// A mark with a text of the caller's. Line ends become spaces.
     pub fn mark(&mut self, text: &str) {
         self.tape.mark(format_args!("mark {}", in_one_line(text)));
+    }
+
+    /// The name of a live range, given after its grant, in place of one that it had: a mark, as `Recorded::name_live` makes.
+    /// Where the place is not live, or the text has blanks alone, nothing is written.
+    pub fn name_live(&mut self, place: Place, name: &str) {
+        let (number, heap, name) = (self.number(place), place.heap, in_one_line(name));
+        if number == 0 || name.trim_ascii().is_empty() || self.tape.failure().is_some() {
+            return;
+        }
+        self.tape.mark(format_args!("heap {heap} name {number} {name}"));
+        if let Some((_, names)) = self.grants.get_mut(&heap) {
+            if names.try_reserve(1).is_err() {
+                return self.tape.fail(io::ErrorKind::OutOfMemory.into());
+            }
+            names.insert(place.ticket.name, name);
+        }
+    }
+
+    /// Names each live range of the heap of a number that has no name yet by the value that a table of the program's, one for
+    /// each heap, has beside its ticket, as `Recorded::name_all` does.
+    ///
+    /// ```
+    /// # use offset_allocator_recorded::*;
+    /// # use offset_allocator_heaps::{Heaps, Limits};
+    /// let limits = Limits { size: 1000, max_allocs: 16, first_allocs: 16, most: 2, most_larger: 1 };
+    /// let mut heaps = RecordedHeaps::new(Heaps::<u32>::new(Global, limits, 1).unwrap(), Vec::new()).unwrap();
+    /// let mut meshes = Beside::new(Global);
+    /// let rock = heaps.allocate(300).unwrap().place;
+    /// assert!(meshes.put(rock.ticket, "mesh: rock").is_ok());
+    /// heaps.name_all(rock.heap, &meshes, |name| name);
+    /// let text = String::from_utf8(heaps.finish().1.unwrap()).unwrap();
+    /// assert_eq!(text, "heap 0 space 1000 nodes 16 index 32\nheap 0 alloc 300\n#! heap 0 name 1 mesh: rock\n");
+    /// ```
+    pub fn name_all<V>(&mut self, heap: u32, beside: &Beside<V>, name: impl Fn(&V) -> &str) {
+        let realm = self.heaps.realm();
+        for (ticket, value) in beside.leaks().iter().flatten() {
+            let is_named = self.grants.get(&heap).is_some_and(|grants| grants.1.contains_key(&ticket.name));
+            if !is_named {
+                self.name_live(Place { heap, realm, ticket: *ticket }, name(value));
+            }
+        }
     }
 
     // The number of the grant of a place: 0, which no grant has, where it is not live.

@@ -163,6 +163,18 @@ enum Kind {
     Many,
 }
 
+/// The name that the text of a mark gives to a grant, where it does: of which of many heaps it is, its number, and the name.
+pub(crate) fn named(mark: &[u8]) -> Option<(Option<u32>, u32, &[u8])> {
+    let (heap, rest) = match of_heap(mark) {
+        None => (None, mark),
+        Some((heap, rest)) => (Some(heap), rest),
+    };
+    let rest = rest.strip_prefix(b"name ")?;
+    let end = rest.iter().position(|b| *b == b' ')?;
+    let name = rest[end + 1..].trim_ascii();
+    (!name.is_empty()).then_some((heap, number(&rest[..end])?, name))
+}
+
 /// Takes the lines of a recording one by one, without their ends, and counts them from 1.
 #[derive(Default)]
 pub struct Reader {
@@ -292,6 +304,16 @@ impl<R: BufRead> Lines<R> {
     /// The next line that is no comment, or `None` at the end.
     pub fn next_line(&mut self) -> Result<Option<Line>, RunFault> {
         loop {
+            match self.next_or_mark()? {
+                Some(Line::Mark) => (),
+                line => return Ok(line),
+            }
+        }
+    }
+
+    /// The next line that is no comment, or a mark; `None` at the end.
+    pub(crate) fn next_or_mark(&mut self) -> Result<Option<Line>, RunFault> {
+        loop {
             self.line.clear();
             match self.from.read_until(b'\n', &mut self.line) {
                 Ok(0) => return self.reader.end(self.is_whole).map(|()| None).map_err(RunFault::from),
@@ -303,7 +325,7 @@ impl<R: BufRead> Lines<R> {
                 self.line.pop();
             }
             match self.reader.take(&self.line)? {
-                Line::Other | Line::Mark => (),
+                Line::Other => (),
                 line => return Ok(Some(line)),
             }
         }
@@ -312,6 +334,11 @@ impl<R: BufRead> Lines<R> {
     /// The number of the last line that was read.
     pub fn line(&self) -> u32 {
         self.reader.line()
+    }
+
+    /// The text of the last line, which is a mark.
+    pub(crate) fn mark(&self) -> &[u8] {
+        self.line.strip_prefix(b"#!").unwrap_or(b"").trim_ascii()
     }
 
     /// The heaps that have begun so far.

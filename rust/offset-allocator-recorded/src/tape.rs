@@ -9,32 +9,53 @@ pub(crate) struct Tape<W: Write> {
     failure: Option<io::Error>,
     // one line, put together first: so a crash leaves no part of one where `out` writes it at once
     line: Vec<u8>,
-    // whether the last line is a name
+    // whether the last line is a name, and whether the last one that is no mark had one before it
     named: bool,
+    had_name: bool,
     numbers: Numbers,
+}
+
+// Sets the item of a name in a list, which grows. An error where memory is out.
+fn set<I: Copy + Default>(list: &mut Vec<I>, name: u32, item: I) -> io::Result<()> {
+    let place = name as usize;
+    if place >= list.len() {
+        if list.try_reserve(place + 1 - list.len()).is_err() {
+            return Err(io::ErrorKind::OutOfMemory.into());
+        }
+        list.resize(place + 1, I::default());
+    }
+    list[place] = item;
+    Ok(())
 }
 
 /// The numbers of grants, by the names of their blocks.
 #[derive(Default)]
 pub(crate) struct Numbers {
-    // the number of the grant that had a name last, 0 for none
+    // the number of the grant that had a name last, 0 for none; and whether the recording has a name of its own for it
     numbers: Vec<u32>,
+    named: Vec<bool>,
     grants: u32,
 }
 
 impl Numbers {
     /// The next grant has this name. An error where memory is out.
     pub(crate) fn grant(&mut self, name: u32) -> io::Result<u32> {
-        let place = name as usize;
-        if place >= self.numbers.len() {
-            if self.numbers.try_reserve(place + 1 - self.numbers.len()).is_err() {
-                return Err(io::ErrorKind::OutOfMemory.into());
-            }
-            self.numbers.resize(place + 1, 0);
-        }
+        set(&mut self.numbers, name, self.grants.saturating_add(1))?;
         self.grants = self.grants.saturating_add(1);
-        self.numbers[place] = self.grants;
         Ok(self.grants)
+    }
+
+    /// Whether the grant of this name has one of its own in the recording. An error where memory is out.
+    pub(crate) fn set_named(&mut self, name: u32, is_named: bool) -> io::Result<()> {
+        // what has none needs no place
+        if !is_named && name as usize >= self.named.len() {
+            return Ok(());
+        }
+        set(&mut self.named, name, is_named)
+    }
+
+    pub(crate) fn is_named(&self, name: u32) -> bool {
+        self.named.get(name as usize).is_some_and(|named| *named)
     }
 
     /// The number of the grant of this live name, or 0, which is of no grant.
@@ -57,7 +78,8 @@ impl Numbers {
             ),
             NoBeginning::Memory => io::ErrorKind::OutOfMemory.into(),
         })?;
-        *self = Numbers::default();
+        // a space with a larger limit has the names of its blocks, and the readers of the recording their own
+        *self = Numbers { named: std::mem::take(&mut self.named), ..Numbers::default() };
         let bits = bits_of::<T>();
         write(format_args!("space {} nodes {nodes} index {bits}", begun.size));
         for step in &begun.steps {
@@ -90,7 +112,7 @@ impl<W: Write> Tape<W> {
     }
 
     pub(crate) fn new(out: W) -> Self {
-        Tape { out, failure: None, line: Vec::new(), named: false, numbers: Numbers::default() }
+        Tape { out, failure: None, line: Vec::new(), named: false, had_name: false, numbers: Numbers::default() }
     }
 
     /// Another space takes the place of the one before.
@@ -121,7 +143,7 @@ impl<W: Write> Tape<W> {
         if self.failure.is_some() {
             return;
         }
-        self.named = false;
+        self.had_name = std::mem::take(&mut self.named);
         self.line.clear();
         let found = self.line.write_fmt(line).and_then(|()| {
             self.line.push(b'\n');
@@ -156,9 +178,26 @@ impl<W: Write> Tape<W> {
         if self.failure.is_some() {
             return;
         }
-        if let Err(error) = self.numbers.grant(name) {
+        let found = self.numbers.grant(name).and_then(|_| self.numbers.set_named(name, self.had_name));
+        if let Err(error) = found {
             self.fail(error);
         }
+    }
+
+    /// The live grant of this name and number has a name: a mark. One of blanks alone is none.
+    pub(crate) fn name_live(&mut self, name: u32, number: u32, text: &str) {
+        if self.failure.is_some() || text.trim_ascii().is_empty() {
+            return;
+        }
+        self.mark(format_args!("name {number} {}", in_one_line(text)));
+        if let Err(error) = self.numbers.set_named(name, true) {
+            self.fail(error);
+        }
+    }
+
+    /// Whether the live grant of this name has one in the recording.
+    pub(crate) fn is_named(&self, name: u32) -> bool {
+        self.numbers.is_named(name)
     }
 
     /// The number of the grant of this live name, or 0, which is of no grant.

@@ -1,16 +1,12 @@
 //! The state of many heaps: its bytes, each fault of its numbers, and that the same places are live in heaps
 //! that were read or copied.
 
-use crate::asserts::{assert_same, assert_that};
-use offset_allocator::{ByField, ByNode, ReadError, Tables};
+use super::{granted, in_each_layout, limits, new};
+use offset_allocator::{Global, ReadError, Tables};
+use offset_allocator_heaps::StateFaultKind::{Checksum, Counts, Form, Heap, Length, Place as OfPlace, Realm, Size};
+use offset_allocator_heaps::StateFaultKind::Limits as OfLimits;
+use offset_allocator_heaps::{HeapsOf, Place, StateFault, StateFaultKind};
 use offset_guarded::StateFaultKind as HeapFault;
-use offset_heaps::StateFaultKind::{
-    Checksum, Counts, Form, Heap, Length, Limits as OfLimits, Place as OfPlace, Realm, Size,
-};
-use offset_heaps::{Heaps, HeapsOf, Limits, Place, StateFault, StateFaultKind};
-use std::alloc::Global;
-use std::process::Abort;
-use std::test::Fail;
 
 // The first numbers of the states: "OAHS", "OATK" and "OAST".
 const HEAPS: u64 = 0x5348_414F;
@@ -166,118 +162,77 @@ const CASES: [Case; 25] = [
     },
 ];
 
-fn add_numbers(rt: &impl Abort, bytes: &mut Vec<u8>, numbers: &[u64], start: u64) {
+// Numbers of 64 bits, and their checksum, which begins with `start`.
+fn add_numbers(bytes: &mut Vec<u8>, numbers: &[u64], start: u64) {
     let mut sum = start;
     for number in numbers {
-        bytes
-            .extend_from_slice(&number.to_le_bytes())
-            .expect(rt, "memory");
+        bytes.extend_from_slice(&number.to_le_bytes());
         sum = sum.wrapping_mul(1_099_511_628_211).wrapping_add(*number);
     }
-    bytes
-        .extend_from_slice(&sum.to_le_bytes())
-        .expect(rt, "memory");
+    bytes.extend_from_slice(&sum.to_le_bytes());
 }
 
-fn add_words(rt: &impl Abort, bytes: &mut Vec<u8>, words: &[u32]) {
+fn add_words(bytes: &mut Vec<u8>, words: &[u32]) {
     let mut sum = 0u32;
     for word in words {
-        bytes
-            .extend_from_slice(&word.to_le_bytes())
-            .expect(rt, "memory");
+        bytes.extend_from_slice(&word.to_le_bytes());
         sum = sum.wrapping_mul(16_777_619).wrapping_add(*word);
     }
-    bytes
-        .extend_from_slice(&sum.to_le_bytes())
-        .expect(rt, "memory");
+    bytes.extend_from_slice(&sum.to_le_bytes());
 }
 
 // These numbers, and a heap of 100 units with the first realm: a free block of 40 with the name 1 is at the
 // end, behind a used one of 60 with the name 0, which has the first serial.
-fn state_of(rt: &impl Abort, alloc: Global, numbers: &[u64], start: u64) -> Vec<u8> {
-    let mut bytes = Vec::new(alloc);
-    add_numbers(rt, &mut bytes, numbers, start);
-    add_numbers(rt, &mut bytes, &[TICKETS, 1, 2, 1, 1, 1, 0], 0);
-    add_words(
-        rt,
-        &mut bytes,
-        &[SPACE, 1, 100, 4, 2, 1, 0, 1, 40, 0, 60, 1],
-    );
+fn state_of(numbers: &[u64], start: u64) -> Vec<u8> {
+    let mut bytes = Vec::new();
+    add_numbers(&mut bytes, numbers, start);
+    add_numbers(&mut bytes, &[TICKETS, 1, 2, 1, 1, 1, 0], 0);
+    add_words(&mut bytes, &[SPACE, 1, 100, 4, 2, 1, 0, 1, 40, 0, 60, 1]);
     bytes
 }
 
 // What is wrong with each case; what is read is written back.
-fn expect_faults<T: Tables>(rt: &impl Abort, alloc: Global) {
+fn expect_faults<T: Tables>() {
     for case in &CASES {
-        let bytes = state_of(rt, alloc, case.numbers, case.start);
-        match HeapsOf::<T>::read_state(alloc, &bytes, 40, 20) {
-            Err(ReadError::Memory) => assert_that(rt, false),
-            Err(ReadError::Fault(StateFault { at, kind })) => {
-                assert_same(rt, &Some((at, kind)), &case.fault)
-            }
+        let bytes = state_of(case.numbers, case.start);
+        match HeapsOf::<T>::read_state(Global, &bytes, 40, 20) {
+            Err(ReadError::Memory) => panic!("memory"),
+            Err(ReadError::Fault(StateFault { at, kind })) => assert_eq!(Some((at, kind)), case.fault, "{:?}", case.numbers),
             Ok(heaps) => {
-                assert_same(rt, &None, &case.fault);
-                let written = heaps.write_state(alloc).expect(rt, "memory");
-                assert_same(rt, &written.as_slice(), &bytes.as_slice());
+                assert_eq!(None, case.fault, "{:?}", case.numbers);
+                let written = heaps.write_state(Global).expect("memory");
+                assert_eq!(&*written, &*bytes);
             }
         }
     }
 }
 
 // The place of the used block is live, and the next heap has the second realm.
-fn expect_place<T: Tables>(rt: &impl Abort, heaps: &mut HeapsOf<T>, place: Place) {
-    assert_same(rt, &heaps.size_of(place), &Some(60));
-    assert_same(rt, &heaps.totals().free_units, &40);
-    match heaps.allocate(97) {
-        Err(_) => assert_that(rt, false),
-        Ok(granted) => {
-            assert_same(rt, &granted.place.heap, &1);
-            assert_same(rt, &granted.place.ticket.realm, &2);
-        }
-    }
-    assert_that(rt, heaps.free(place));
+fn expect_place<T: Tables>(heaps: &mut HeapsOf<T>, place: Place) {
+    assert_eq!(heaps.size_of(place), Some(60));
+    assert_eq!(heaps.totals().free_units, 40);
+    let next = granted(heaps, 97);
+    assert_eq!(next.heap, 1);
+    assert_eq!(next.ticket.realm, 2);
+    assert!(heaps.free(place));
 }
 
-fn expect_state<T: Tables>(rt: &impl Abort, alloc: Global, heaps: &mut HeapsOf<T>) {
-    let Ok(granted) = heaps.allocate(60) else {
-        assert_that(rt, false);
-        return;
-    };
-    let bytes = state_of(
-        rt,
-        alloc,
-        &[HEAPS, 2, 100, 4, 4, 1, 1, 1, 9, 0, 116, 116],
-        0,
-    );
-    let written = heaps.write_state(alloc).expect(rt, "memory");
-    assert_same(rt, &written.as_slice(), &bytes.as_slice());
-    let mut copy = heaps.try_clone(alloc).expect(rt, "memory");
-    expect_place(rt, &mut copy, granted.place);
-    match HeapsOf::<T>::read_state(alloc, &bytes, 2, 4) {
-        Err(_) => assert_that(rt, false),
-        Ok(read) => {
-            let mut read = read;
-            expect_place(rt, &mut read, granted.place);
-        }
-    }
+fn expect_state<T: Tables>() {
+    let heaps: &mut HeapsOf<T> = &mut new(limits(100, 4, 4, 1, 1));
+    let place = granted(heaps, 60);
+    let bytes = state_of(CASES[0].numbers, 0);
+    let written = heaps.write_state(Global).expect("memory");
+    assert_eq!(&*written, &*bytes);
+    let mut copy = heaps.try_clone(Global).expect("memory");
+    expect_place(&mut copy, place);
+    let mut read = HeapsOf::<T>::read_state(Global, &bytes, 2, 4).unwrap_or_else(|_| panic!("it is read"));
+    expect_place(&mut read, place);
     // neither was a step of these
-    expect_place(rt, heaps, granted.place);
+    expect_place(heaps, place);
 }
 
 #[test]
-fn states(rt: HostRuntime) -> Result<(), Fail> {
-    let limits = Limits {
-        size: 100,
-        max_allocs: 4,
-        first_allocs: 4,
-        most: 1,
-        most_larger: 1,
-    };
-    let mut by_node: Heaps = HeapsOf::new(rt.alloc(), limits, 9)?;
-    expect_state(&rt, rt.alloc(), &mut by_node);
-    expect_faults::<ByNode<u32>>(&rt, rt.alloc());
-    let mut by_field: HeapsOf<ByField<u16>> = HeapsOf::new(rt.alloc(), limits, 9)?;
-    expect_state(&rt, rt.alloc(), &mut by_field);
-    expect_faults::<ByField<u16>>(&rt, rt.alloc());
-    Ok(())
+fn states() {
+    in_each_layout!(expect_state);
+    in_each_layout!(expect_faults);
 }
